@@ -1,0 +1,4 @@
+use Rattle.tl_outside.proofs.memory_store.MemoryStoreStore.take.Goals as goal
+
+pub bytes-whole-requires : goal.bytes-whole-requires
+bytes-whole-requires c = (c.args.self.now.within c.unwrap.result c.unwrap.ensures).0

@@ -1,0 +1,14 @@
+use Rattle.std.proofs.Common.{length, ◌-◌, ◌≡◌, ◌≤◌, take}
+use Rattle.std.specs.Io.KnownBytes.{append_known}
+use Rattle.tl_outside.proofs.writing.write_whole.Given as goal
+
+-- the sink has what was done so far, and has counted no fault away
+abbrev pub invariant-puts : goal.invariant-puts
+invariant-puts g l = record {
+  within : l.done ≤ length l.bytes;
+  bytes : g.K.Sink.bytes l.out ≡ append_known (g.K.Sink.bytes l.initial.out) (take l.done l.bytes);
+  later : g.K.Sink.faults l.initial.out ≤ g.K.Sink.faults l.out;
+}
+
+abbrev pub decreases-puts : goal.decreases-puts
+decreases-puts g l = length l.bytes - l.done

@@ -1,0 +1,129 @@
+// Files in memory, with their names.
+ghost use Rattle.std.specs.Prelude.{◌≡◌, ◌<◌, [], ◌∷◌, ◌++◌, None, Some, length, cond, is_ok, map, MatchOption, IfOk};
+ghost use Rattle.std.specs.FinMap as dict;
+ghost use Rattle.tl_outside.specs.FileList.{files_of, bytes_at};
+ghost use Rattle.tl_outside.specs.NamedFile.{pair_of};
+
+use std::alloc::{AllocError, Global};
+use std::marker::Model;
+use tl_terms::NoMemory;
+
+#[derive(Drop)]
+struct NamedFile {
+    name: String,
+    bytes: Vec<u8>,
+}
+
+/// A list of files, which contracts see as a list of names and bytes.
+#[derive(Drop)]
+pub struct FileList {
+    alloc: Global,
+    files: Vec<NamedFile>,
+}
+
+impl Model for FileList {
+    ghost use Rattle.std.specs.Prelude.{List, ℕ, map};
+
+    ghost Value = { List (List ℕ × List ℕ) };
+
+    ghost use Rattle.tl_outside.specs.NamedFile.{pair_of};
+
+    ghost view = { λ a. map pair_of a.files.items };
+}
+
+// The place of the first file of this name.
+fn place_of(files: &[NamedFile], name: &str) -> Option<usize>
+    ensures { MatchOption result
+        (dict.get (files_of (map pair_of files.now)) name.now ≡ None)
+        (λ index. (index < length files.now) × (dict.get (files_of (map pair_of files.now)) name.now ≡ Some (bytes_at (map pair_of files.now) index))) }
+{
+    for (index, file) in files.iter().enumerate() {
+        if name == file.name.as_str() {
+            return Some(index);
+        }
+    }
+    None
+}
+
+fn named(alloc: Global, name: &str, bytes: &[u8]) -> Result<NamedFile, AllocError>
+    ensures { IfOk result (λ file. pair_of file ≡ (name.now, bytes.now)) }
+{
+    Ok(NamedFile {
+        name: String::from_str(alloc, name)?,
+        bytes: bytes.to_vec(alloc)?,
+    })
+}
+
+impl FileList {
+    /// No file. It takes no memory.
+    pub fn new(alloc: Global) -> FileList
+        ensures { result ≡ [] }
+    {
+        FileList {
+            alloc,
+            files: Vec::new(alloc),
+        }
+    }
+
+    /// Adds a file at the end. After a refusal the list is as before.
+    /// Under a name that comes twice, a store has the first file.
+    pub fn add(&mut self, name: &str, bytes: &[u8]) -> Result<(), NoMemory>
+        ensures { self.new ≡ cond (is_ok result) (self.old ++ (name.now, bytes.now) ∷ []) self.old }
+    {
+        let file = named(self.alloc, name, bytes)?;
+        match self.files.push(file) {
+            Ok(()) => Ok(()),
+            Err(_) => Err(NoMemory),
+        }
+    }
+
+    // The place of the first file of this name.
+    pub(crate) fn place(&self, name: &str) -> Option<usize>
+        ensures { MatchOption result
+            (dict.get (files_of self.now) name.now ≡ None)
+            (λ index. (index < length self.now) × (dict.get (files_of self.now) name.now ≡ Some (bytes_at self.now index))) }
+    {
+        place_of(&self.files, name)
+    }
+
+    // The bytes of the file at this place.
+    pub(crate) fn bytes(&self, index: usize) -> &[u8]
+        requires { index < length self.now }
+        ensures { result.now ≡ bytes_at self.now index }
+    {
+        self.files[index].bytes.as_slice()
+    }
+}
+
+#[cfg(test)]
+mod tests {
+    use super::*;
+    use std::test::Fail;
+
+    #[test]
+    fn adds_files(rt: HostRuntime) -> Result<(), Fail> {
+        let mut files = FileList::new(rt.alloc());
+        files.add("a", b"one")?;
+        files.add("b", b"")?;
+        files.add("a", b"two")?;
+        let rows: [(&str, Option<&str>); 4] = [
+            ("a", Some("one")),
+            ("b", Some("")),
+            ("", None),
+            ("ab", None),
+        ];
+        for (name, bytes) in rows {
+            match files.place(name) {
+                Some(index) => {
+                    assert_eq!(rt;
+                        Some(files.bytes(index)),
+                        bytes.map(|text| text.as_bytes()),
+                        "{name}"
+                    );
+                }
+                None => assert_eq!(rt; bytes, None, "{name}"),
+            }
+        }
+        Ok(())
+    }
+}

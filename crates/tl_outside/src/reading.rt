@@ -1,0 +1,134 @@
+// A file as a whole.
+ghost use Rattle.std.specs.Prelude.{◌≡◌, ◌+◌, ◌^◌, ◌<◌, ◌≤◌, length, IfOk, OnOk, IsErrOf, ◌⊎◌};
+ghost use Rattle.tl_outside.specs.Causes.{Rose};
+ghost use Rattle.tl_outside.specs.Told.{told_file, Lacks, IsContent, IsLonger};
+ghost use Rattle.tl_outside.specs.declared.reading.ReadFault.TheVariants as fault;
+
+use crate::{Failed, Store};
+use std::alloc::{AllocError, Global};
+use tl_terms::Bytes;
+
+/// Why a file was not read.
+#[derive(Clone, Copy, Debug, PartialEq, Eq)]
+pub enum ReadFault {
+    /// A call of the store failed: the file is not there, or the store counted a fault.
+    Failed,
+    /// The file has more bytes than the limit.
+    TooLong,
+    /// Want of memory for the bytes.
+    NoMemory,
+}
+
+impl From<Failed> for ReadFault {
+    ghost from_gives = { λ _ e. e ≡ fault.Failed };
+
+    fn from(_: Failed) -> Self {
+        ReadFault::Failed
+    }
+}
+
+impl From<AllocError> for ReadFault {
+    ghost from_gives = { λ _ e. e ≡ fault.NoMemory };
+
+    fn from(_: AllocError) -> Self {
+        ReadFault::NoMemory
+    }
+}
+
+// How many bytes one call of `take` has room for at most.
+const PIECE: usize = 4096;
+
+/// The bytes of the file of this name, of which there may be as many as the limit says.
+/// It calls `begin` once, and takes no more than one byte past the limit.
+pub fn read_whole<S: Store>(
+    alloc: Global,
+    store: &mut S,
+    name: &str,
+    limit: usize,
+) -> Result<Bytes, ReadFault>
+    requires { limit < 2 ^ 62 }
+    ensures content { IfOk result (λ bytes. IsContent (S.files store.old) name.now bytes) }
+    ensures count { IfOk result (λ bytes. (length bytes ≡ S.taken store.new) × (length bytes ≤ limit)) }
+    ensures too_long { IsErrOf result ReadFault.TooLong → (S.taken store.new ≡ limit + 1)
+        × IsLonger (S.files store.old) name.now limit }
+    ensures failed { IsErrOf result ReadFault.Failed → Lacks (S.files store.old) name.now ⊎ Rose (S.faults store.old) (S.faults store.new) }
+    ensures whole { OnOk result (S.whole store.new ≡ told_file (S.files store.old) name.now) }
+    ensures whole_too_long { IsErrOf result ReadFault.TooLong → S.whole store.new ≡ told_file (S.files store.old) name.now }
+    ensures files { S.files store.new ≡ S.files store.old }
+    ensures begun { S.begun store.new ≤ S.begun store.old + 1 }
+    ensures later { S.faults store.old ≤ S.faults store.new }
+{
+    store.begin(name)?;
+    let mut bytes = Bytes::new(alloc);
+    let mut room = [0; PIECE];
+    'takes: while bytes.len() <= limit {
+        let want = room.len().min(limit + 1 - bytes.len());
+        let piece = &mut room[..want];
+        let count = store.take(piece)?;
+        if count == 0 {
+            return Ok(bytes);
+        }
+        bytes.extend(&piece[..count])?;
+    }
+    Err(ReadFault::TooLong)
+}
+
+#[cfg(test)]
+mod tests {
+    use super::*;
+    use crate::{FileList, MemoryStore, Numbers};
+    use std::test::Fail;
+
+    // 75 bytes. Where one `take` gives at most 64, two calls give all of them, and a third none.
+    const TEXT: &[u8] =
+        b"The quick brown fox jumps over the lazy dog, and the dog sleeps on and on.\n";
+
+    // Call 0 is `begin`, and calls 1 to 3 are `take`.
+    #[test]
+    fn reads_whole_files(rt: HostRuntime) -> Result<(), Fail> {
+        let rows: [(&str, u16, u32, Option<ReadFault>); 10] = [
+            ("text", 76, 4, None),
+            ("text", 75, 4, None),
+            ("text", 74, 4, Some(ReadFault::TooLong)),
+            ("text", 0, 4, Some(ReadFault::TooLong)),
+            ("text", 75, 0, Some(ReadFault::Failed)),
+            ("text", 75, 1, Some(ReadFault::Failed)),
+            ("text", 75, 2, Some(ReadFault::Failed)),
+            ("text", 75, 3, Some(ReadFault::Failed)),
+            ("text", 74, 3, Some(ReadFault::TooLong)),
+            ("other", 75, 4, Some(ReadFault::Failed)),
+        ];
+        for (name, limit, fail, fault) in rows {
+            let mut files = FileList::new(rt.alloc());
+            files.add("empty", b"")?;
+            files.add("text", TEXT)?;
+            let mut fails = Numbers::new(rt.alloc());
+            fails.push(fail)?;
+            let mut store = MemoryStore::new(files, 64, fails);
+            match read_whole(rt.alloc(), &mut store, name, usize::from(limit)) {
+                Ok(bytes) => {
+                    assert_eq!(rt; fault, None, "{name} within {limit}, fault at {fail}");
+                    assert_eq!(rt; bytes.as_slice(), TEXT);
+                }
+                Err(found) => {
+                    assert_eq!(rt;
+                        Some(found),
+                        fault,
+                        "{name} within {limit}, fault at {fail}"
+                    );
+                }
+            }
+        }
+        Ok(())
+    }
+
+    #[test]
+    fn reads_an_empty_file(rt: HostRuntime) -> Result<(), Fail> {
+        let mut files = FileList::new(rt.alloc());
+        files.add("empty", b"")?;
+        let mut store = MemoryStore::new(files, 64, Numbers::new(rt.alloc()));
+        let bytes = read_whole(rt.alloc(), &mut store, "empty", 0)?;
+        assert_eq!(rt; bytes.len(), 0);
+        Ok(())
+    }
+}

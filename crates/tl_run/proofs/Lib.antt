@@ -1,0 +1,14 @@
+pub mod FormTrees
+pub mod ItemShapes
+pub mod SymbolsIn
+pub mod Stands
+pub mod Broken
+pub mod Later
+pub mod Written
+pub mod PlainWorlds
+pub mod Changes
+pub mod PlainSteps
+pub mod Execution
+pub mod PlainGoals
+pub mod PlanLength
+pub mod ReadSoFar

@@ -1,0 +1,30 @@
+-- Refused files.
+use Rattle.std.specs.Prelude.{ℕ, List, ◌++◌, codes}
+use Rattle.std.specs.Fmt.{decimal}
+use Rattle.tl_run.specs.declared.stop.Broken.{Broken}
+use Rattle.tl_run.specs.declared.stop.Broken.TheVariants.{BadByte, StrayClose, Unclosed, TooDeep, BigInteger, TooLong, NotPlain}
+
+-- the number of a rule
+abbrev pub rule_number : Broken → ℕ
+rule_number (BadByte at) = 1
+rule_number (StrayClose at) = 2
+rule_number (Unclosed at) = 3
+rule_number (TooDeep at) = 4
+rule_number (BigInteger at) = 5
+rule_number TooLong = 6
+rule_number NotPlain = 9
+
+-- the offset that is reported with a rule
+abbrev pub refusal_offset : Broken → ℕ
+refusal_offset (BadByte at) = at
+refusal_offset (StrayClose at) = at
+refusal_offset (Unclosed at) = at
+refusal_offset (TooDeep at) = at
+refusal_offset (BigInteger at) = at
+refusal_offset TooLong = 4194304
+refusal_offset NotPlain = 0
+
+-- the line of a refusal
+abbrev pub refusal_text : ℕ → Broken → List ℕ
+refusal_text number broken =
+    codes "; refused file " ++ (decimal number ++ (codes " rule " ++ (decimal (rule_number broken) ++ (codes " at " ++ (decimal (refusal_offset broken) ++ codes "\n")))))

@@ -1,0 +1,15 @@
+-- The exit statuses of the program.
+use Rattle.std.specs.Prelude.{ℕ}
+use Rattle.tl_run.specs.declared.status.Status.{Status}
+use Rattle.tl_run.specs.declared.status.Status.TheVariants.{Yes, No, Spent, Refused, Range, ReadFault, WriteFault, NoMemory, Usage}
+
+abbrev pub status_number : Status → ℕ
+status_number Yes = 0
+status_number No = 1
+status_number Spent = 2
+status_number Refused = 3
+status_number Range = 4
+status_number ReadFault = 5
+status_number WriteFault = 6
+status_number NoMemory = 7
+status_number Usage = 8

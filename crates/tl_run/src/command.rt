@@ -1,0 +1,59 @@
+// A run as a whole.
+ghost use Rattle.std.specs.Prelude.{◌≡◌, ◌-◌, ◌↔◌, ◌⊎◌, map, [], codes};
+ghost use Rattle.std.specs.String.{string_bytes};
+ghost use Rattle.std.specs.Io.KnownBytes.{append_known};
+ghost use Rattle.tl_outside.specs.Causes.{Rose};
+ghost use Rattle.tl_run.specs.Answers.{HoldAcceptedPlan, Writes};
+ghost use Rattle.tl_run.specs.Turns.{LacksInTurn};
+ghost use Rattle.tl_run.specs.Words.{check, no_command, command_in, files_named};
+
+use crate::answer::{Fault, answer_of};
+use crate::status::Status;
+use crate::words::{Command, FileNames, command_of};
+use std::alloc::Global;
+use tl_outside::{Sink, Store, write_whole};
+
+/// Runs the command `check`.
+fn run_check<S: Store, K: Sink>(
+    alloc: Global,
+    files: FileNames<'_>,
+    store: &mut S,
+    out: &mut K,
+) -> Status
+    ensures lawful { result ≡ Status.Usage → ⊥ }
+    ensures read_fault { result ≡ Status.ReadFault →
+        LacksInTurn (S.files store.old) [] (files_named (check files.entry.domain.now files.entry.problem.now files.entry.plan.now)) ⊎ Rose (S.faults store.old) (S.faults store.new) }
+    ensures write_fault { result ≡ Status.WriteFault → Rose (K.faults out.old) (K.faults out.new) }
+    ensures valid { result ≡ Status.Yes → HoldAcceptedPlan (S.files store.old) (files_named (check files.entry.domain.now files.entry.problem.now files.entry.plan.now)) }
+    ensures valid_line { result ≡ Status.Yes → K.bytes out.new ≡ append_known (K.bytes out.old) (codes "; valid\n") }
+    ensures written { Writes (S.files store.old) (files_named (check files.entry.domain.now files.entry.problem.now files.entry.plan.now))
+        (record { whole = S.whole store.new; count = S.begun store.new - S.begun store.old }) (K.bytes out.old) (K.bytes out.new) result }
+{
+    match answer_of(alloc, store, files) {
+        Ok(answer) => match write_whole(out, answer.text.as_bytes()) {
+            Ok(()) => answer.status,
+            Err(_) => Status::WriteFault,
+        },
+        Err(Fault::Read) => Status::ReadFault,
+        Err(Fault::NoMemory) => Status::NoMemory,
+    }
+}
+
+/// Runs the command of these words, which are those after the program's name.
+pub fn run<S: Store, K: Sink>(alloc: Global, words: &[String], store: &mut S, out: &mut K) -> Status
+    ensures usage { (result ≡ Status.Usage) ↔ (command_in (map string_bytes words.now) ≡ no_command) }
+    ensures usage_store { result ≡ Status.Usage → store.new ≡ store.old }
+    ensures usage_out { result ≡ Status.Usage → out.new ≡ out.old }
+    ensures read_fault { result ≡ Status.ReadFault →
+        LacksInTurn (S.files store.old) [] (files_named (command_in (map string_bytes words.now))) ⊎ Rose (S.faults store.old) (S.faults store.new) }
+    ensures write_fault { result ≡ Status.WriteFault → Rose (K.faults out.old) (K.faults out.new) }
+    ensures valid { result ≡ Status.Yes → HoldAcceptedPlan (S.files store.old) (files_named (command_in (map string_bytes words.now))) }
+    ensures valid_line { result ≡ Status.Yes → K.bytes out.new ≡ append_known (K.bytes out.old) (codes "; valid\n") }
+    ensures written { Writes (S.files store.old) (files_named (command_in (map string_bytes words.now)))
+        (record { whole = S.whole store.new; count = S.begun store.new - S.begun store.old }) (K.bytes out.old) (K.bytes out.new) result }
+{
+    match command_of(words) {
+        Command::Check(files) => run_check(alloc, files, store, out),
+        Command::Unknown => Status::Usage,
+    }
+}

@@ -1,0 +1,14 @@
+pub mod TreeOf
+pub mod Ranges
+pub mod TokenBytes
+pub mod Integers
+pub mod Starts
+pub mod Spelled
+pub mod Nesting
+pub mod Symbols
+pub mod Steps
+pub mod Depths
+pub mod Clean
+pub mod Once
+pub mod OneFault
+pub mod Refusals

@@ -1,0 +1,13 @@
+use Rattle.std.proofs.Common.{◌≡◌, rules, tests, sym}
+use Rattle.std.proofs.lemmas.Iterator.{YieldsList-from_slice}
+use Rattle.std.proofs.lemmas.Iterator.Search.{all_from_yields_List}
+use Rattle.std.specs.Char.{is_ascii_digit}
+use Rattle.std.specs.List.{list_all}
+use Rattle.tl_sexpr.proofs.Integers.{numeral_by_test}
+use Rattle.tl_sexpr.proofs.token.is_numeral.Goals as goal
+
+pub returns-then-not-is_empty : goal.returns-then-not-is_empty
+returns-then-not-is_empty c =
+    let text = c.args.text.now in
+    let all : c.all.result ≡ list_all is_ascii_digit text = all_from_yields_List is_ascii_digit _ _ c.all.result c.all.ensures.ran (YieldsList-from_slice text cc) (λ x b q k. search (rules, tests)) in
+    numeral_by_test text c.all.result all (sym c.if-not-is_empty.ensures)

@@ -1,0 +1,5 @@
+pub mod Tree
+pub mod Bytes
+pub mod Spelling
+pub mod Reading
+pub mod Faults

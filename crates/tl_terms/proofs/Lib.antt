@@ -1,0 +1,4 @@
+pub mod WorldLaws
+pub mod StepLaws
+pub mod Texts
+pub mod Plain

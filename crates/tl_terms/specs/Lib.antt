@@ -1,0 +1,11 @@
+pub mod Texts
+pub mod Trees
+pub mod World
+pub mod Assignment
+pub mod Terms
+pub mod Bounds
+pub mod Truth
+pub mod Run
+pub mod Effects
+pub mod Step
+pub mod Acceptance

@@ -1,0 +1,63 @@
+-- Runs, and the truth of formulas along them.
+use Rattle.std.specs.Prelude.{ℕ, suc, ◌-◌, ◌%◌, ◌<◌, ◌≤◌, ◌⊎◌, List, [], ◌∷◌, length, slice_index_or, cond, IsTrue, nat_lt}
+use Rattle.tl_terms.specs.Trees.{FormulaTree, FormulaTrees, verum, falsum, atom, defined, compare, goal_fact, goal_place, negation, conjunction, disjunction, for_all, for_some, next, always, eventually, until, no_formula, more_formulas}
+use Rattle.tl_terms.specs.World.{World}
+use Rattle.tl_terms.specs.Assignment.{Assignment, no_values, bind}
+use Rattle.tl_terms.specs.Bounds.{tuples}
+use Rattle.tl_terms.specs.Truth.{Situation, state_true, PlainDefinition, situation_in}
+
+-- P holds of each of the list
+abbrev pub Each : {A : Type 0} → (A → Type 0) → List A → Type 0
+Each P [] = Unit {0}
+Each P (x ∷ xs) = P x × Each P xs
+
+-- P holds of one of the list
+abbrev pub One : {A : Type 0} → (A → Type 0) → List A → Type 0
+One P [] = ⊥
+One P (x ∷ xs) = P x ⊎ One P xs
+
+-- the situation at each position
+abbrev pub Situations : Type 0
+Situations = ℕ → Situation
+
+-- the formula holds at position i; one of state alone is read in the situation there (Bacchus and Kabanza 2000, first-order linear temporal logic)
+unfoldable mutual
+  pub Holds : Situations → Assignment → FormulaTree → ℕ → Type 0
+  Holds r e verum i = Unit {0}
+  Holds r e falsum i = ⊥
+  Holds r e (atom p ts) i = IsTrue (state_true (r i) e (atom p ts))
+  Holds r e (defined p ts) i = IsTrue (state_true (r i) e (defined p ts))
+  Holds r e (compare c x y) i = IsTrue (state_true (r i) e (compare c x y))
+  Holds r e (goal_fact p xs) i = IsTrue (state_true (r i) e (goal_fact p xs))
+  Holds r e (goal_place f xs x) i = IsTrue (state_true (r i) e (goal_place f xs x))
+  Holds r e (negation f) i = Holds r e f i → ⊥
+  Holds r e (conjunction fs) i = HoldAll r e fs i
+  Holds r e (disjunction fs) i = HoldsOne r e fs i
+  Holds r e (for_all ss b f) i = Each (λ t. Holds r (bind ss t e) f i) (tuples (r i).world (r i).goal e ss b)
+  Holds r e (for_some ss b f) i = One (λ t. Holds r (bind ss t e) f i) (tuples (r i).world (r i).goal e ss b)
+  Holds r e (next f) i = Holds r e f (suc i)
+  Holds r e (always f) i = (j : ℕ) → i ≤ j → Holds r e f j
+  Holds r e (eventually f) i = (j : ℕ) × (i ≤ j) × Holds r e f j
+  Holds r e (until f g) i = (j : ℕ) × (i ≤ j) × Holds r e g j × ((k : ℕ) → i ≤ k → k < j → Holds r e f k)
+
+  pub HoldAll : Situations → Assignment → FormulaTrees → ℕ → Type 0
+  HoldAll r e no_formula i = Unit {0}
+  HoldAll r e (more_formulas f fs) i = Holds r e f i × HoldAll r e fs i
+
+  pub HoldsOne : Situations → Assignment → FormulaTrees → ℕ → Type 0
+  HoldsOne r e no_formula i = ⊥
+  HoldsOne r e (more_formulas f fs) i = Holds r e f i ⊎ HoldsOne r e fs i
+
+-- a finite list of worlds, and a list of one or more_formulas that is repeated for ever after it
+pub record Run : Type 0 where
+  pub stem : List World
+  pub first : World
+  pub rest : List World
+
+-- the world at a position
+unfoldable pub state_at : Run → ℕ → World
+state_at r i = cond (nat_lt i (length r.stem)) (slice_index_or r.stem i r.first) (slice_index_or (r.first ∷ r.rest) ((i - length r.stem) % suc (length r.rest)) r.first)
+
+-- the formula holds at position i of the run, under the goal and the definitions
+unfoldable pub Satisfies : World → List PlainDefinition → Run → ℕ → FormulaTree → Type 0
+Satisfies g ds r i f = Holds (λ j. situation_in (state_at r j) g ds) no_values f i

@@ -1,0 +1,126 @@
+-- The step that an action makes from a world to the next.
+use Rattle.std.specs.Prelude.{ℕ, List, [], ◌∷◌, ◌++◌, flat_map, length, slice_get, Bool, true, false, cond, not, ◌&&◌, ◌||◌, ◌==◌, Option, Some, None}
+use Rattle.std.specs.List.{list_all}
+use Rattle.std.specs.FinSet as set
+use Rattle.std.specs.FinMap as dict
+use Rattle.std.specs.Ordering.{is_eq}
+use Rattle.tl_terms.specs.declared.value.Value.{Value}
+use Rattle.tl_terms.specs.declared.variable.Var.{Var}
+use Rattle.tl_terms.specs.declared.bound.Bound.{Bound}
+use Rattle.tl_terms.specs.declared.action.Action.{Action}
+use Rattle.tl_terms.specs.Trees.{FormulaTree}
+use Rattle.tl_terms.specs.Effects.{EffectTree, EffectTrees, add, del, assign, when, each, no_effect, more_effects}
+use Rattle.tl_terms.specs.World.{World, Key, key_cmp, value_cmp}
+use Rattle.tl_terms.specs.Assignment.{Assignment, no_values, bind}
+use Rattle.tl_terms.specs.Terms.{term_value, term_values}
+use Rattle.tl_terms.specs.Bounds.{bound_true, tuples}
+use Rattle.tl_terms.specs.Truth.{Situation, state_true, PlainDefinition, situation_in}
+
+-- an operator with its parameters, their bounds, its precondition and its effects
+pub record PlainOperator : Type 0 where
+  pub params : List Var
+  pub bounds : List Bound
+  pub pre : FormulaTree
+  pub effects : EffectTrees
+
+-- all that the meaning of a plan depends on: what a domain file and a problem file give together
+pub record PlainProblem : Type 0 where
+  pub first : World
+  pub goal : World
+  pub definitions : List PlainDefinition
+  pub operators : List PlainOperator
+  pub control : FormulaTree
+
+-- one instance of an effect, with the meanings of its terms
+pub data EffectInstance : Type 0 where
+  adds : ℕ → Option (List Value) → EffectInstance
+  dels : ℕ → Option (List Value) → EffectInstance
+  sets : ℕ → Option (List Value) → Option Value → EffectInstance
+
+-- the instances of an effect; all its conditions, bounds and terms are read in one situation
+unfoldable mutual
+  pub effect_instances : Situation → Assignment → EffectTree → List EffectInstance
+  effect_instances s e (add p ts) = adds p (term_values s.world e ts) ∷ []
+  effect_instances s e (del p ts) = dels p (term_values s.world e ts) ∷ []
+  effect_instances s e (assign f ts t) = sets f (term_values s.world e ts) (term_value s.world e t) ∷ []
+  effect_instances s e (when f es) = cond (state_true s e f) (all_instances s e es) []
+  effect_instances s e (each vs b es) = flat_map (λ t. all_instances s (bind vs t e) es) (tuples s.world s.goal e vs b)
+
+  pub all_instances : Situation → Assignment → EffectTrees → List EffectInstance
+  all_instances s e no_effect = []
+  all_instances s e (more_effects x xs) = effect_instances s e x ++ all_instances s e xs
+
+-- all arguments, and the value that is set, are defined
+abbrev pub is_defined : EffectInstance → Bool
+is_defined (adds p (Some vs)) = true
+is_defined (dels p (Some vs)) = true
+is_defined (sets f (Some vs) (Some v)) = true
+is_defined _ = false
+
+-- the fact that an instance adds
+abbrev pub added : EffectInstance → List Key
+added (adds p (Some vs)) = (p, vs) ∷ []
+added _ = []
+
+-- the fact that an instance deletes
+abbrev pub deleted : EffectInstance → List Key
+deleted (dels p (Some vs)) = (p, vs) ∷ []
+deleted _ = []
+
+-- the place that an instance sets, with its value
+abbrev pub given : EffectInstance → List (Key × Value)
+given (sets f (Some vs) (Some v)) = ((f, vs), v) ∷ []
+given _ = []
+
+-- the two do not give one place different values
+abbrev pub agree : Key × Value → Key × Value → Bool
+agree a b = not (is_eq (key_cmp a.0 b.0)) || is_eq (value_cmp a.1 b.1)
+
+-- no two of them give one place different values
+abbrev pub no_clash : List (Key × Value) → Bool
+no_clash ps = list_all (λ a. list_all (agree a) ps) ps
+
+-- the set without these
+abbrev pub without_all : set.FinSet key_cmp → List Key → set.FinSet key_cmp
+without_all s [] = s
+without_all s (k ∷ ks) = set.remove (without_all s ks) k
+
+-- the set with these
+abbrev pub with_all : set.FinSet key_cmp → List Key → set.FinSet key_cmp
+with_all s [] = s
+with_all s (k ∷ ks) = set.insert (with_all s ks) k
+
+-- the map with these values
+abbrev pub overwritten : dict.FinMap key_cmp Value → List (Key × Value) → dict.FinMap key_cmp Value
+overwritten m [] = m
+overwritten m (p ∷ ps) = dict.insert (overwritten m ps) p.0 p.1
+
+-- the facts without the deleted ones and with the added ones, so that a fact which is both is there; the places overwritten by the set ones
+unfoldable pub changed : World → List EffectInstance → World
+changed w cs = record {
+  facts = with_all (without_all w.facts (flat_map deleted cs)) (flat_map added cs);
+  places = overwritten w.places (flat_map given cs);
+}
+
+-- a world of the problem
+unfoldable pub situation_of : PlainProblem → World → Situation
+situation_of p w = situation_in w p.goal p.definitions
+
+-- the operator is given these arguments in w: its bounds, its precondition, and then its effects
+unfoldable pub applied : PlainProblem → World → PlainOperator → List Value → Option World
+applied p w o vs =
+    let s = situation_of p w in
+    let e = bind o.params vs no_values in
+    let cs = all_instances s e o.effects in
+    cond ((length vs == length o.params) && (list_all (bound_true w p.goal e) o.bounds && (state_true s e o.pre && (list_all is_defined cs && no_clash (flat_map given cs)))))
+    (Some (changed w cs))
+    None
+
+-- the operator is applied, where it exists
+abbrev pub applied_if : PlainProblem → World → List Value → Option PlainOperator → Option World
+applied_if p w vs None = None
+applied_if p w vs (Some o) = applied p w o vs
+
+-- the world after the action, where it is executable in w
+unfoldable pub step : PlainProblem → World → Action → Option World
+step p w a = applied_if p w a.args (slice_get p.operators a.op)

@@ -1,0 +1,51 @@
+-- A world is a finite set of facts and a finite map of places, under the closed-world assumption.
+use Rattle.std.specs.Prelude.{map, ℕ, List, [], ◌∷◌, ◌++◌, flat_map, Bool, Option}
+use Rattle.std.specs.declared.cmp.Ordering.{Ordering}
+use Rattle.std.specs.Ordering.{nat_cmp, int_cmp, on, then_cmp}
+use Rattle.std.specs.declared.cmp.Ordering.TheVariants.{Less, Greater}
+use Rattle.std.specs.Cmp.Lexicographic.{slice_cmp}
+use Rattle.std.specs.FinSet as set
+use Rattle.std.specs.FinMap as dict
+use Rattle.tl_terms.specs.declared.value.Value.{Value}
+use Rattle.tl_terms.specs.declared.value.Value.TheVariants.{Int, Sym}
+
+-- a predicate with its values, or a function with its values, each by its position in the domain's list
+abbrev pub Key : Type 0
+Key = ℕ × List Value
+
+-- the order of values: integers first, by value, and then symbols, by number
+abbrev pub value_cmp : Value → Value → Ordering
+value_cmp (Int a) (Int b) = int_cmp a b
+value_cmp (Int a) (Sym b) = Less
+value_cmp (Sym a) (Int b) = Greater
+value_cmp (Sym a) (Sym b) = nat_cmp a b
+
+-- by predicate or function, and then by the values from left to right
+abbrev pub key_cmp : Key → Key → Ordering
+key_cmp = then_cmp (on (λ k. k.0) nat_cmp) (on (λ k. k.1) (slice_cmp value_cmp))
+
+-- the facts that are true, and the values of the places that have one
+pub record World : Type 0 where
+  pub facts : set.FinSet key_cmp
+  pub places : dict.FinMap key_cmp Value
+
+-- whether the fact is in the world
+abbrev pub has_fact : World → Key → Bool
+has_fact w k = set.contains w.facts k
+
+-- the value of the place, where it has one
+abbrev pub value_at : World → Key → Option Value
+value_at w k = dict.get w.places k
+
+-- all values that stand in the world
+abbrev pub values_in : World → List Value
+values_in w = flat_map (λ k. k.1) (set.items w.facts) ++ flat_map (λ e. e.1 ∷ e.0.1) (dict.entries w.places)
+
+-- each with nothing beside it
+abbrev pub marked : List Value → List (Value × Unit {0})
+marked [] = []
+marked (v ∷ vs) = (v, tt) ∷ marked vs
+
+-- the values of the two worlds, in their order, each once: the keys of a finite map
+unfoldable pub values_of : World → World → List Value
+values_of w g = map (λ e. e.0) (dict.entries (dict.from_entries {R = value_cmp} (marked (values_in w ++ values_in g))))

@@ -1,0 +1,173 @@
+// The list type that all plain lists are names of.
+ghost use Rattle.std.specs.Cmp.Lexicographic.{pointwise, slice_cmp, slice_partial_cmp, lists_per, lists_equiv, lists_total, lists_po, lists_agrees, lists_ties};
+ghost use Rattle.std.specs.Hash as fed;
+ghost use Rattle.std.specs.Hash.{items_Alike};
+ghost use Rattle.std.specs.Prelude.{◌≡◌, List, [], ◌∷◌, ◌++◌, IfOk, cond, is_ok, length, ◌==◌};
+
+use std::alloc::{AllocError, Global};
+use std::cmp::Ordering;
+use std::hash::{Hash, Hasher};
+use std::marker::Model;
+
+/// A list, which contracts see as the list of its items.
+#[derive(Drop)]
+pub struct Items<T> {
+    items: Vec<T>,
+}
+
+/// A list of bytes.
+pub type Bytes = Items<u8>;
+
+/// A list of numbers of 32 bits.
+pub type Numbers32 = Items<u32>;
+
+impl<T> Model for Items<T> {
+    ghost use Rattle.std.specs.Prelude.{List};
+
+    ghost Value = { List T };
+
+    ghost view = { λ a. a.items.items };
+}
+
+impl<T> Items<T> {
+    /// The empty list. It takes no memory.
+    pub fn new(alloc: Global) -> Items<T>
+        ensures { result ≡ [] }
+    {
+        Items {
+            items: Vec::new(alloc),
+        }
+    }
+
+    /// The items in their order. It takes no memory.
+    pub fn as_slice(&self) -> &[T]
+        ensures { result.now ≡ self.now }
+    {
+        self.items.as_slice()
+    }
+
+    /// How many items there are.
+    pub fn len(&self) -> usize
+        ensures { result ≡ length self.now }
+    {
+        self.items.len()
+    }
+
+    /// Whether there is no item.
+    pub fn is_empty(&self) -> bool
+        ensures { result ≡ (length self.now == 0) }
+    {
+        self.items.is_empty()
+    }
+}
+
+impl<T: Drop> Items<T> {
+    /// Adds an item at the end. A refused call drops the item and leaves the list as it was.
+    pub fn push(&mut self, item: T) -> Result<(), AllocError>
+        ensures { self.new ≡ cond (is_ok result) (self.old ++ item ∷ []) self.old }
+    {
+        self.items.push(item)?;
+        Ok(())
+    }
+}
+
+impl<T: Copy> Items<T> {
+    /// Adds items at the end. A refused call leaves the list as it was.
+    pub fn extend(&mut self, more: &[T]) -> Result<(), AllocError>
+        ensures { self.new ≡ cond (is_ok result) (self.old ++ more.now) self.old }
+    {
+        self.items.extend_from_slice(more)?;
+        Ok(())
+    }
+
+    /// The same list again.
+    pub fn copy(&self, alloc: Global) -> Result<Items<T>, AllocError>
+        ensures same { IfOk result (λ copy. copy ≡ self.now) }
+    {
+        let items = Vec::from_slice(alloc, self.items.as_slice())?;
+        Ok(Items { items })
+    }
+}
+
+impl<T: PartialEq> PartialEq for Items<T> {
+    ghost eq = { λ x y. pointwise T.eq x y };
+
+    ghost laws = { lists_per T.laws };
+
+    fn eq(&self, other: &Items<T>) -> bool {
+        self.items == other.items
+    }
+}
+
+impl<T: Eq> Eq for Items<T> {
+    ghost laws = { lists_equiv T.Eq.laws };
+}
+
+impl<T: PartialOrd> PartialOrd for Items<T> {
+    ghost partial_cmp = { λ x y. slice_partial_cmp T.partial_cmp x y };
+
+    ghost laws = { lists_po T.PartialOrd.laws };
+
+    fn partial_cmp(&self, other: &Items<T>) -> Option<Ordering> {
+        self.items.partial_cmp(&other.items)
+    }
+}
+
+impl<T: Ord> Ord for Items<T> {
+    ghost cmp = { λ x y. slice_cmp T.cmp x y };
+
+    ghost total = { lists_total T.total };
+
+    ghost matches_partial_cmp = { λ x y. lists_agrees T.matches_partial_cmp x y };
+
+    ghost matches_eq = { λ x y. lists_ties T.cmp T.matches_eq x y };
+
+    fn cmp(&self, other: &Items<T>) -> Ordering {
+        self.items.cmp(&other.items)
+    }
+}
+
+impl<T: Hash> Hash for Items<T> {
+    ghost hash_input = { λ x. fed.slice T.hash_input x };
+
+    ghost respects_eq = { (items_Alike (record { fed = T.respects_eq })).fed };
+
+    fn hash<H: Hasher>(&self, state: &mut H) {
+        self.items.hash(state);
+    }
+}
+
+#[cfg(test)]
+mod tests {
+    use crate::{Action, Bytes, Numbers32, Value, Values};
+    use std::test::Fail;
+
+    #[test]
+    fn lists_keep_what_they_are_given(rt: HostRuntime) -> Result<(), Fail> {
+        let alloc = rt.alloc();
+        let mut numbers = Numbers32::new(alloc);
+        assert!(rt; numbers.is_empty());
+        numbers.push(1)?;
+        numbers.push(2)?;
+        assert_eq!(rt; numbers.as_slice(), [1, 2].as_slice());
+        assert_eq!(rt; numbers.len(), 2);
+        let mut bytes = Bytes::new(alloc);
+        bytes.extend(b"ab")?;
+        bytes.extend(b"c")?;
+        assert_eq!(rt; bytes.as_slice(), b"abc".as_slice());
+        Ok(())
+    }
+
+    #[test]
+    fn copies_are_equal(rt: HostRuntime) -> Result<(), Fail> {
+        let alloc = rt.alloc();
+        let mut args = Values::new(alloc);
+        args.push(Value::Int(-1))?;
+        args.push(Value::Sym(7))?;
+        let copy = args.copy(alloc)?;
+        let press = Action { op: 3, args };
+        let same = Action { op: 3, args: copy };
+        assert!(rt; press == same);
+        Ok(())
+    }
+}

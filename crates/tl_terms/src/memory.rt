@@ -1,0 +1,13 @@
+// Want of memory.
+
+use std::alloc::AllocError;
+
+/// Want of memory. It is the one answer that no clause ties to a cause.
+#[derive(Clone, Copy, Debug, PartialEq, Eq)]
+pub struct NoMemory;
+
+impl From<AllocError> for NoMemory {
+    fn from(_: AllocError) -> Self {
+        NoMemory
+    }
+}
