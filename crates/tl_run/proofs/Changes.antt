@@ -6,7 +6,7 @@ use Rattle.std.proofs.lemmas.List.{take_more, append-nil}
 use Rattle.tl_terms.specs.declared.value.Value.{Value}
 use Rattle.tl_terms.specs.declared.fact.Fact.{Fact}
 use Rattle.tl_terms.specs.Terms.{term_value, term_values, prepend}
-use Rattle.tl_terms.specs.Truth.{Situation}
+use Rattle.tl_terms.specs.Situation.{Situation}
 use Rattle.tl_terms.specs.Assignment.{Assignment}
 use Rattle.tl_terms.specs.World.{World, Key, key_cmp, has_fact, value_at}
 use Rattle.tl_terms.specs.Step.{EffectInstance, adds, dels, effect_instances, all_instances, is_defined, added, deleted, given, changed}

@@ -5,7 +5,8 @@ use Rattle.std.proofs.lemmas.Option.{slice_get-get_or}
 use Rattle.tl_terms.specs.declared.action.Action.{Action}
 use Rattle.tl_terms.specs.World.{World}
 use Rattle.tl_terms.specs.Run.{Satisfies, Holds}
-use Rattle.tl_terms.specs.Step.{PlainProblem, step}
+use Rattle.tl_terms.specs.Problem.{PlainProblem}
+use Rattle.tl_terms.specs.Step.{step}
 use Rattle.tl_terms.specs.Acceptance.{states_from, then_states, last_of, meets_goal, run_of, IsAccepted}
 use Rattle.tl_run.specs.declared.plain.domain.GroundDomain.{GroundDomain}
 use Rattle.tl_run.specs.declared.plain.problem.GroundProblem.{GroundProblem}
@@ -80,33 +81,33 @@ fails_at d p plan n w a number so_far within is stops counted =
       stops = ap (λ (v : World). step (problem_meaning d p) v a) leads.ends ∙ stops;
     }
 
-goal-problem_meaning : (d : GroundDomain) (p : GroundProblem) → (problem_meaning d p).goal ≡ world_of p.goal
+goals-problem_meaning : (d : GroundDomain) (p : GroundProblem) (w : World) → meets_goal w ((problem_meaning d p).goal) ((problem_meaning d p).avoid) ≡ meets_goal w (world_of p.goal) (world_of [])
 unfolding problem_meaning
-goal-problem_meaning d p = refl
+goals-problem_meaning d p w = refl
 
-obeys-verum : (d : GroundDomain) (p : GroundProblem) (from : World) (after : List World) → Satisfies ((problem_meaning d p).goal) ((problem_meaning d p).definitions) (run_of from after) 0 ((problem_meaning d p).control)
+obeys-verum : (d : GroundDomain) (p : GroundProblem) (from : World) (after : List World) → Satisfies (problem_meaning d p) (run_of from after) 0 ((problem_meaning d p).control)
 unfolding problem_meaning Satisfies Holds
 obeys-verum d p from after = tt
 
 pub accepted : (d : GroundDomain) (p : GroundProblem) (plan : List Action) (n : ℕ) (w : World)
-    → Reaches d p plan n w → length plan ≤ n → meets_goal w (world_of p.goal) ≡ true → IsAccepted (problem_meaning d p) plan
+    → Reaches d p plan n w → length plan ≤ n → meets_goal w (world_of p.goal) (world_of []) ≡ true → IsAccepted (problem_meaning d p) plan
 accepted d p plan n w so_far whole met =
     let leads = Leads-from_state (problem_meaning d p) ((problem_meaning d p).first) plan w (ap (state_after (problem_meaning d p) (Some ((problem_meaning d p).first))) (sym (take_all n plan whole)) ∙ so_far) in
     record {
       from = (problem_meaning d p).first;
       after = leads.after;
       executes = leads.executes;
-      reaches = ap (λ (v : World). meets_goal v ((problem_meaning d p).goal)) leads.ends ∙ ap (meets_goal w) (goal-problem_meaning d p) ∙ met;
+      reaches = ap (λ (v : World). meets_goal v ((problem_meaning d p).goal) ((problem_meaning d p).avoid)) leads.ends ∙ (goals-problem_meaning d p w ∙ met);
       obeys = obeys-verum d p ((problem_meaning d p).first) leads.after;
     }
 
 pub missed : (d : GroundDomain) (p : GroundProblem) (plan : List Action) (n : ℕ) (w : World)
-    → Reaches d p plan n w → length plan ≤ n → meets_goal w (world_of p.goal) ≡ false → MissesGoal (problem_meaning d p) plan
+    → Reaches d p plan n w → length plan ≤ n → meets_goal w (world_of p.goal) (world_of []) ≡ false → MissesGoal (problem_meaning d p) plan
 missed d p plan n w so_far whole met =
     let leads = Leads-from_state (problem_meaning d p) ((problem_meaning d p).first) plan w (ap (state_after (problem_meaning d p) (Some ((problem_meaning d p).first))) (sym (take_all n plan whole)) ∙ so_far) in
     record {
       from = (problem_meaning d p).first;
       after = leads.after;
       executes = leads.executes;
-      misses = ap (λ (v : World). meets_goal v ((problem_meaning d p).goal)) leads.ends ∙ ap (meets_goal w) (goal-problem_meaning d p) ∙ met;
+      misses = ap (λ (v : World). meets_goal v ((problem_meaning d p).goal) ((problem_meaning d p).avoid)) leads.ends ∙ (goals-problem_meaning d p w ∙ met);
     }

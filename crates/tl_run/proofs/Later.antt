@@ -20,7 +20,7 @@ stops_here files before name bytes names begun start now number (Breaks broken) 
 stops_here files before name bytes names begun start now number file.NoMemory place whole few content breaks = tt
 
 -- what holds at a turn, weakened
-in_turn_weaker : (files : Option Files) (before names : List (List ℕ)) (P Q : List (List ℕ) → List ℕ → Type 0) → ((passed : List (List ℕ)) (name : List ℕ) → P passed name → Q passed name) → InTurn files before names P → InTurn files before names Q
+pub in_turn_weaker : (files : Option Files) (before names : List (List ℕ)) (P Q : List (List ℕ) → List ℕ → Type 0) → ((passed : List (List ℕ)) (name : List ℕ) → P passed name → Q passed name) → InTurn files before names P → InTurn files before names Q
 in_turn_weaker files before [] P Q h turn = turn
 in_turn_weaker files before (name ∷ names) P Q h (inl p) = inl (h before name p)
 in_turn_weaker files before (name ∷ names) P Q h (inr r) = inr (r.0, r.1, r.2, in_turn_weaker files (before ++ r.0 ∷ []) names P Q h r.3)

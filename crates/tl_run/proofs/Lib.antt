@@ -4,7 +4,6 @@ pub mod SymbolsIn
 pub mod Stands
 pub mod Broken
 pub mod Later
-pub mod Written
 pub mod PlainWorlds
 pub mod Changes
 pub mod PlainSteps
@@ -12,3 +11,5 @@ pub mod Execution
 pub mod PlainGoals
 pub mod PlanLength
 pub mod ReadSoFar
+pub mod Exclusive
+pub mod Refused

@@ -1,5 +1,5 @@
 -- The goal of a plain problem.
-use Rattle.std.proofs.Common.{◌≡◌, Bool, true, false, ◌&&◌, ◌||◌, true≢false, List, [], ◌∷◌, map, length, ap, sym, refl, ◌∙◌, arith}
+use Rattle.std.proofs.Common.{◌≡◌, Bool, true, false, not, ◌&&◌, ◌||◌, true≢false, List, [], ◌∷◌, map, length, ap, sym, refl, ◌∙◌, arith}
 use Rattle.std.specs.List.{list_any, list_all}
 use Rattle.std.specs.Cmp.{Equal-is, tied_itself}
 use Rattle.std.specs.Ordering.{eq_by_cmp}
@@ -12,7 +12,7 @@ use Rattle.tl_terms.specs.declared.value.Value.{Value}
 use Rattle.tl_terms.specs.declared.fact.Fact.{Fact}
 use Rattle.tl_terms.specs.World.{World, Key, key_cmp, has_fact, value_at}
 use Rattle.tl_terms.specs.Acceptance.{is_value, meets_goal}
-use Rattle.tl_terms.proofs.WorldLaws.{key_total, key_ties}
+use Rattle.tl_terms.specs.TotalOrders.{key_total, key_ties}
 use Rattle.tl_run.specs.Meaning.{key_of, world_of}
 
 -- every key of the list passes
@@ -61,13 +61,20 @@ unfolding world_of
 no_places fs = no_items _ (sym (dict.len-entries (world_of fs).places) ∙ dict.len-empty key_cmp Value)
 
 -- a goal of facts alone is met where each of them is in the world
-pub meets_goal-facts : (w : World) (goal : List Fact) → meets_goal w (world_of goal) ≡ list_all (λ f. has_fact w (key_of f)) goal
+pub meets_goal-facts : (w : World) (goal : List Fact) → meets_goal w (world_of goal) (world_of []) ≡ list_all (λ f. has_fact w (key_of f)) goal
 unfolding meets_goal
 meets_goal-facts w goal =
-    ap (λ (b : Bool). b && list_all (λ (e : Key × Value). is_value (value_at w e.0) e.1) (dict.entries (world_of goal).places)) (list_all-same (has_fact w) (set.items (world_of goal).facts) (map key_of goal) (items-same goal) ∙ list_all-map (has_fact w) key_of goal)
-    ∙ ap (λ (es : List (Key × Value)). list_all (λ f. has_fact w (key_of f)) goal && list_all (λ (e : Key × Value). is_value (value_at w e.0) e.1) es) (no_places goal)
+    ap (λ (b : Bool). b && (places (dict.entries (world_of goal).places) && avoided (set.items (world_of []).facts))) (list_all-same (has_fact w) (set.items (world_of goal).facts) (map key_of goal) (items-same goal) ∙ list_all-map (has_fact w) key_of goal)
+    ∙ ap (λ (es : List (Key × Value)). list_all (λ f. has_fact w (key_of f)) goal && (places es && avoided (set.items (world_of []).facts))) (no_places goal)
+    ∙ ap (λ (b : Bool). list_all (λ f. has_fact w (key_of f)) goal && b) (list_all-same (λ k. not (has_fact w k)) (set.items (world_of []).facts) [] (items-same []))
     ∙ right (list_all (λ f. has_fact w (key_of f)) goal)
   where
     right : (a : Bool) → (a && true) ≡ a
     right true = refl
     right false = refl
+
+    places : List (Key × Value) → Bool
+    places es = list_all (λ (e : Key × Value). is_value (value_at w e.0) e.1) es
+
+    avoided : List Key → Bool
+    avoided ks = list_all (λ (k : Key). not (has_fact w k)) ks

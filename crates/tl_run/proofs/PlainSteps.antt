@@ -6,11 +6,13 @@ use Rattle.std.proofs.lemmas.Option.{slice_get-map}
 use Rattle.tl_terms.specs.declared.value.Value.{Value}
 use Rattle.tl_terms.specs.declared.fact.Fact.{Fact}
 use Rattle.tl_terms.specs.declared.action.Action.{Action}
-use Rattle.tl_terms.specs.Truth.{Situation, state_true, situation_in}
+use Rattle.tl_terms.specs.Situation.{Situation}
+use Rattle.tl_terms.specs.Truth.{state_true}
+use Rattle.tl_terms.specs.Definitions.{situation_of}
 use Rattle.tl_terms.specs.Assignment.{Assignment, no_values}
 use Rattle.tl_terms.specs.Bounds.{fact_in}
 use Rattle.tl_terms.specs.World.{World, Key}
-use Rattle.tl_terms.specs.Step.{EffectInstance, all_instances, is_defined, no_clash, given, changed, situation_of, applied, applied_if, step}
+use Rattle.tl_terms.specs.Step.{EffectInstance, all_instances, is_defined, no_clash, given, changed, applied, applied_if, step}
 use Rattle.tl_run.specs.declared.plain.effects.GroundEffect.{GroundEffect}
 use Rattle.tl_run.specs.declared.plain.operators.GroundOperator.{GroundOperator}
 use Rattle.tl_run.specs.declared.plain.domain.GroundDomain.{GroundDomain}
@@ -30,7 +32,7 @@ abbrev pub plain_situation : GroundDomain → GroundProblem → World → Situat
 plain_situation d p w = situation_of (problem_meaning d p) w
 
 pub world-plain_situation : (d : GroundDomain) (p : GroundProblem) (w : World) → (plain_situation d p w).world ≡ w
-unfolding situation_of situation_in
+unfolding situation_of
 world-plain_situation d p w = refl
 
 -- a plain operator without arguments is applied where its precondition holds

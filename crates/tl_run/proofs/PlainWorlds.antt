@@ -9,7 +9,8 @@ use Rattle.std.proofs.lemmas.List.{take_more}
 use Rattle.tl_terms.specs.declared.value.Value.{Value}
 use Rattle.tl_terms.specs.declared.fact.Fact.{Fact}
 use Rattle.tl_terms.specs.World.{World, Key, key_cmp, has_fact, value_at}
-use Rattle.tl_terms.proofs.WorldLaws.{key_total, key_ties, same_world}
+use Rattle.tl_terms.specs.TotalOrders.{key_total, key_ties}
+use Rattle.tl_terms.proofs.WorldLaws.{same_world}
 use Rattle.tl_terms.proofs.Plain.{fact_eq, fact_eq-key}
 use Rattle.tl_run.specs.Meaning.{key_of, world_of}
 

@@ -64,3 +64,11 @@ FaultsInTurn files names before now fault.NoMemory = ⊤
 -- the files of these names stand for a problem and a plan, and the plan is accepted
 abbrev pub HoldAcceptedPlan : Option Files → List (List ℕ) → Type 0
 HoldAcceptedPlan files names = AllPass files [] names (Judges Valid)
+
+-- where a file is refused with this line, the run writes it, unless reading or writing fails or memory is wanting
+abbrev pub AnswersRefusal : Option (List ℕ) → Option (List ℕ) → List ℕ → Status → Type 0
+AnswersRefusal old new text Refused = new ≡ append_known old text
+AnswersRefusal old new text ReadFault = ⊤
+AnswersRefusal old new text WriteFault = ⊤
+AnswersRefusal old new text NoMemory = ⊤
+AnswersRefusal old new text status = ⊥

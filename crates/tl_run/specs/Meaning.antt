@@ -7,7 +7,7 @@ use Rattle.tl_terms.specs.declared.fact.Fact.{Fact}
 use Rattle.tl_terms.specs.Trees.{TermTrees, value, no_term, more_terms, FormulaTree, verum, atom}
 use Rattle.tl_terms.specs.Effects.{EffectTree, EffectTrees, add, del, no_effect, more_effects}
 use Rattle.tl_terms.specs.World.{World, Key}
-use Rattle.tl_terms.specs.Step.{PlainOperator, PlainProblem}
+use Rattle.tl_terms.specs.Problem.{PlainOperator, PlainProblem}
 use Rattle.tl_run.specs.declared.plain.effects.GroundEffect.{GroundEffect}
 use Rattle.tl_run.specs.declared.plain.effects.GroundEffect.TheVariants.{Add, Delete}
 use Rattle.tl_run.specs.declared.plain.operators.GroundOperator.{GroundOperator}
@@ -51,6 +51,7 @@ unfoldable pub problem_meaning : GroundDomain → GroundProblem → PlainProblem
 problem_meaning d p = record {
   first = world_of p.init;
   goal = world_of p.goal;
+  avoid = world_of [];
   definitions = [];
   operators = map operator_meaning d.operators;
   control = verum;

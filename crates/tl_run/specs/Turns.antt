@@ -29,6 +29,11 @@ pub record Begun : Type 0 where
   pub whole : Option (List ℕ)
   pub count : ℕ
 
+-- after these contents, the file of this number breaks this rule in its turn
+abbrev pub BreaksInTurn : Option Files → List (List ℕ) → List (List ℕ) → ℕ → Broken → Type 0
+BreaksInTurn files before names number broken =
+    InTurn files before names (λ passed name. (number ≡ length passed + 1) × ((bytes : List ℕ) × IsContent files name bytes × Breaks passed bytes broken))
+
 -- after these contents, the file of this number breaks this rule, and no later one was begun
 abbrev pub RefusesInTurn : Option Files → List (List ℕ) → List (List ℕ) → Begun → ℕ → Broken → Type 0
 RefusesInTurn files before names begun number broken =

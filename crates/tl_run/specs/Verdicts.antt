@@ -2,7 +2,8 @@
 use Rattle.std.specs.Prelude.{◌≡◌, ℕ, ◌+◌, List, ◌∷◌, take, slice_get, false, Some, None}
 use Rattle.tl_terms.specs.declared.action.Action.{Action}
 use Rattle.tl_terms.specs.World.{World}
-use Rattle.tl_terms.specs.Step.{PlainProblem, step}
+use Rattle.tl_terms.specs.Problem.{PlainProblem}
+use Rattle.tl_terms.specs.Step.{step}
 use Rattle.tl_terms.specs.Acceptance.{states, last_of, meets_goal, IsAccepted}
 use Rattle.tl_run.specs.declared.verdict.Verdict.{Verdict}
 use Rattle.tl_run.specs.declared.verdict.Verdict.TheVariants.{Valid, NotExecutable, GoalUnmet}
@@ -23,7 +24,7 @@ pub record MissesGoal (p : PlainProblem) (plan : List Action) : Type 0 where
   pub from : World
   pub after : List World
   pub executes : states p plan ≡ Some (from ∷ after)
-  pub misses : meets_goal (last_of from after) p.goal ≡ false
+  pub misses : meets_goal (last_of from after) p.goal p.avoid ≡ false
 
 -- the verdict is the one of this plan
 abbrev pub IsVerdict : PlainProblem → List Action → Verdict → Type 0

@@ -1,10 +1,13 @@
 // A run as a whole.
-ghost use Rattle.std.specs.Prelude.{◌≡◌, ◌-◌, ◌↔◌, ◌⊎◌, map, [], codes};
+ghost use Rattle.std.specs.Prelude.{◌≡◌, ◌-◌, ◌↔◌, ◌⊎◌, ℕ, Some, map, [], codes};
 ghost use Rattle.std.specs.String.{string_bytes};
 ghost use Rattle.std.specs.Io.KnownBytes.{append_known};
 ghost use Rattle.tl_outside.specs.Causes.{Rose};
-ghost use Rattle.tl_run.specs.Answers.{HoldAcceptedPlan, Writes};
-ghost use Rattle.tl_run.specs.Turns.{LacksInTurn};
+ghost use Rattle.tl_outside.specs.Told.{Files};
+ghost use Rattle.tl_run.specs.Answers.{AnswersRefusal, HoldAcceptedPlan, Writes};
+ghost use Rattle.tl_run.specs.Refusals.{refusal_text};
+ghost use Rattle.tl_run.specs.Turns.{BreaksInTurn, LacksInTurn};
+ghost use Rattle.tl_run.specs.declared.stop.Broken.{Broken};
 ghost use Rattle.tl_run.specs.Words.{check, no_command, command_in, files_named};
 
 use crate::answer::{Fault, answer_of};
@@ -26,6 +29,9 @@ fn run_check<S: Store, K: Sink>(
     ensures write_fault { result ≡ Status.WriteFault → Rose (K.faults out.old) (K.faults out.new) }
     ensures valid { result ≡ Status.Yes → HoldAcceptedPlan (S.files store.old) (files_named (check files.entry.domain.now files.entry.problem.now files.entry.plan.now)) }
     ensures valid_line { result ≡ Status.Yes → K.bytes out.new ≡ append_known (K.bytes out.old) (codes "; valid\n") }
+    ensures refuses { (told : Files) (number : ℕ) (broken : Broken) → S.files store.old ≡ Some told
+        → BreaksInTurn (Some told) [] (files_named (check files.entry.domain.now files.entry.problem.now files.entry.plan.now)) number broken
+        → AnswersRefusal (K.bytes out.old) (K.bytes out.new) (refusal_text number broken) result }
     ensures written { Writes (S.files store.old) (files_named (check files.entry.domain.now files.entry.problem.now files.entry.plan.now))
         (record { whole = S.whole store.new; count = S.begun store.new - S.begun store.old }) (K.bytes out.old) (K.bytes out.new) result }
 {
@@ -49,6 +55,11 @@ pub fn run<S: Store, K: Sink>(alloc: Global, words: &[String], store: &mut S, ou
     ensures write_fault { result ≡ Status.WriteFault → Rose (K.faults out.old) (K.faults out.new) }
     ensures valid { result ≡ Status.Yes → HoldAcceptedPlan (S.files store.old) (files_named (command_in (map string_bytes words.now))) }
     ensures valid_line { result ≡ Status.Yes → K.bytes out.new ≡ append_known (K.bytes out.old) (codes "; valid\n") }
+
+    // Where the store tells its files and one of them breaks a rule in its turn, nothing but that refusal is written.
+    ensures refuses { (told : Files) (number : ℕ) (broken : Broken) → S.files store.old ≡ Some told
+        → BreaksInTurn (Some told) [] (files_named (command_in (map string_bytes words.now))) number broken
+        → AnswersRefusal (K.bytes out.old) (K.bytes out.new) (refusal_text number broken) result }
     ensures written { Writes (S.files store.old) (files_named (command_in (map string_bytes words.now)))
         (record { whole = S.whole store.new; count = S.begun store.new - S.begun store.old }) (K.bytes out.old) (K.bytes out.new) result }
 {

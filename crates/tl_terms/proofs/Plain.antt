@@ -9,7 +9,7 @@ use Rattle.tl_terms.specs.declared.fact.Fact.{Fact}
 use Rattle.tl_terms.specs.contracts.value.ValuePartialEq.TheImpl as value_impl
 use Rattle.tl_terms.specs.contracts.fact.FactPartialEq.TheImpl as fact_impl
 use Rattle.tl_terms.specs.World.{Key, key_cmp}
-use Rattle.tl_terms.proofs.WorldLaws.{key_total, key_ties}
+use Rattle.tl_terms.specs.TotalOrders.{key_total, key_ties}
 
 -- the test holds exactly where the two are the same
 abbrev pub Tells : {A : Type 0} → (A → A → Bool) → Type 0

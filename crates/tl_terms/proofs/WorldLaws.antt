@@ -1,56 +1,9 @@
 -- Worlds are compared by what they hold.
-use Rattle.std.specs.Prelude.{◌≡◌, refl}
-use Rattle.std.proofs.Common.{Less, Equal, Greater, ap}
-use Rattle.std.specs.Ordering.{nat_cmp, ordering_reverse, ordering_then}
-use Rattle.std.specs.Cmp.{IsTotalOrder, nat_cmp_total, int_cmp_total, then_total, on_total}
-use Rattle.std.specs.Cmp.Lexicographic.{slice_cmp, lists_total}
+use Rattle.std.specs.Prelude.{◌≡◌}
 use Rattle.std.specs.FinSet as set
 use Rattle.std.specs.FinMap as dict
-use Rattle.tl_terms.specs.declared.value.Value.{Value}
-use Rattle.tl_terms.specs.declared.value.Value.TheVariants.{Int, Sym}
-use Rattle.tl_terms.specs.World.{World, Key, key_cmp, value_cmp, has_fact, value_at}
-
-pub value_total : IsTotalOrder value_cmp
-value_total = record { antisymm = back; trans = along; congr = alike }
-  where
-    back : (x y : Value) → value_cmp x y ≡ ordering_reverse (value_cmp y x)
-    back (Int a) (Int b) = int_cmp_total.antisymm a b
-    back (Int a) (Sym b) = refl
-    back (Sym a) (Int b) = refl
-    back (Sym a) (Sym b) = nat_cmp_total.antisymm a b
-
-    along : (x y z : Value) → value_cmp x y ≡ Less → value_cmp y z ≡ Less → value_cmp x z ≡ Less
-    along (Int a) (Int b) (Int c) p q = int_cmp_total.trans a b c p q
-    along (Int a) (Int b) (Sym c) p q = refl
-    along (Int a) (Sym b) (Int c) p q = cc
-    along (Int a) (Sym b) (Sym c) p q = refl
-    along (Sym a) (Int b) z p q = cc
-    along (Sym a) (Sym b) (Int c) p q = cc
-    along (Sym a) (Sym b) (Sym c) p q = nat_cmp_total.trans a b c p q
-
-    alike : (x y z : Value) → value_cmp x y ≡ Equal → value_cmp x z ≡ value_cmp y z
-    alike (Int a) (Int b) (Int c) p = int_cmp_total.congr a b c p
-    alike (Int a) (Int b) (Sym c) p = refl
-    alike (Int a) (Sym b) z p = cc
-    alike (Sym a) (Int b) z p = cc
-    alike (Sym a) (Sym b) (Int c) p = refl
-    alike (Sym a) (Sym b) (Sym c) p = nat_cmp_total.congr a b c p
-
-pub key_total : IsTotalOrder key_cmp
-key_total = then_total (on_total (λ (k : Key). k.0) nat_cmp_total) (on_total (λ (k : Key). k.1) (lists_total value_total))
-
-pub value_ties : set.IsAntisymmetric value_cmp
-value_ties (Int a) (Int b) e = ap Int (set.int_cmp-IsAntisymmetric a b e)
-value_ties (Int a) (Sym b) e = cc
-value_ties (Sym a) (Int b) e = cc
-value_ties (Sym a) (Sym b) e = ap Sym (set.nat_cmp-IsAntisymmetric a b e)
-
-pub key_ties : set.IsAntisymmetric key_cmp
-key_ties x y e = (elim (nat_cmp x.0 y.0) as (λ r. nat_cmp x.0 y.0 ≡ r → ordering_then r (slice_cmp value_cmp x.1 y.1) ≡ Equal → x ≡ y) [
-  | Less ↦ λ p q. cc
-  | Equal ↦ λ p q. let a = set.nat_cmp-IsAntisymmetric x.0 y.0 p in let b = set.slice_cmp-IsAntisymmetric value_ties x.1 y.1 q in λ i. (a i, b i)
-  | Greater ↦ λ p q. cc
-]) refl e
+use Rattle.tl_terms.specs.World.{World, Key, has_fact, value_at}
+use Rattle.tl_terms.specs.TotalOrders.{key_total, key_ties}
 
 -- two worlds with the same facts and the same values of places are one
 pub same_world : (v w : World) → ((k : Key) → has_fact v k ≡ has_fact w k) → ((k : Key) → value_at v k ≡ value_at w k) → v ≡ w

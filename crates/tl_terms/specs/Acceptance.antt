@@ -1,5 +1,5 @@
 -- The states of a plan, and the plans that are accepted.
-use Rattle.std.specs.Prelude.{◌≡◌, List, [], ◌∷◌, Bool, false, ◌&&◌, Option, Some, None, IsTrue}
+use Rattle.std.specs.Prelude.{◌≡◌, List, [], ◌∷◌, Bool, false, not, ◌&&◌, Option, Some, None, IsTrue}
 use Rattle.std.specs.List.{list_all}
 use Rattle.std.specs.FinSet as set
 use Rattle.std.specs.FinMap as dict
@@ -8,7 +8,8 @@ use Rattle.tl_terms.specs.declared.value.Value.{Value}
 use Rattle.tl_terms.specs.declared.action.Action.{Action}
 use Rattle.tl_terms.specs.World.{World, value_cmp, has_fact, value_at}
 use Rattle.tl_terms.specs.Run.{Run, Satisfies}
-use Rattle.tl_terms.specs.Step.{PlainProblem, step}
+use Rattle.tl_terms.specs.Problem.{PlainProblem}
+use Rattle.tl_terms.specs.Step.{step}
 
 -- the world before the others, where they exist
 abbrev pub then_states : World → Option (List World) → Option (List World)
@@ -30,9 +31,9 @@ abbrev pub is_value : Option Value → Value → Bool
 is_value (Some v) u = is_eq (value_cmp v u)
 is_value None u = false
 
--- every fact of the goal is in the world, and every place of the goal has its value there
-unfoldable pub meets_goal : World → World → Bool
-meets_goal w g = list_all (has_fact w) (set.items g.facts) && list_all (λ k. is_value (value_at w k.0) k.1) (dict.entries g.places)
+-- every fact of the goal is in the world, every place of the goal has its value there, and no fact to avoid is in the world
+unfoldable pub meets_goal : World → World → World → Bool
+meets_goal w goal avoid = list_all (has_fact w) (set.items goal.facts) && (list_all (λ k. is_value (value_at w k.0) k.1) (dict.entries goal.places) && list_all (λ k. not (has_fact w k)) (set.items avoid.facts))
 
 -- the last of a world and those after it
 abbrev pub last_of : World → List World → World
@@ -48,10 +49,10 @@ all_but_last w (v ∷ ws) = w ∷ all_but_last v ws
 abbrev pub run_of : World → List World → Run
 run_of w ws = record { stem = all_but_last w ws; first = last_of w ws; rest = [] }
 
--- the plan executes, the goal is met in its last state, and the control formula holds along its states, the last of them repeated for ever
+-- the plan executes, the goal is met in its last state, and the control formula holds along its states, the last of them repeated for ever (Bacchus and Kabanza 2000)
 pub record IsAccepted (p : PlainProblem) (plan : List Action) : Type 0 where
   pub from : World
   pub after : List World
   pub executes : states p plan ≡ Some (from ∷ after)
-  pub reaches : IsTrue (meets_goal (last_of from after) p.goal)
-  pub obeys : Satisfies p.goal p.definitions (run_of from after) 0 p.control
+  pub reaches : IsTrue (meets_goal (last_of from after) p.goal p.avoid)
+  pub obeys : Satisfies p (run_of from after) 0 p.control

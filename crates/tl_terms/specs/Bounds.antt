@@ -8,6 +8,7 @@ use Rattle.tl_terms.specs.declared.variable.Arg.TheVariants as arg
 use Rattle.tl_terms.specs.declared.bound.Bound.{Bound}
 use Rattle.tl_terms.specs.declared.bound.Bound.TheVariants as bound
 use Rattle.tl_terms.specs.World.{World, value_cmp, has_fact, values_of}
+use Rattle.tl_terms.specs.Situation.{Situation}
 use Rattle.tl_terms.specs.Assignment.{Assignment, bind}
 use Rattle.tl_terms.specs.Terms.{prepend, place_value}
 
@@ -31,18 +32,19 @@ abbrev pub same_value : Option Value → Option Value → Bool
 same_value (Some a) (Some b) = is_eq (value_cmp a b)
 same_value _ _ = false
 
--- the bound is true in the world w, or, where it is a `goal`, of the goal list g
-unfoldable pub bound_true : World → World → Assignment → Bound → Bool
-bound_true w g e (bound.Fact p xs) = fact_in w p (arg_values e xs)
-bound_true w g e (bound.Place f xs x) = same_value (place_value w f (arg_values e xs)) (arg_value e x)
-bound_true w g e (bound.GoalFact p xs) = fact_in g p (arg_values e xs)
-bound_true w g e (bound.GoalPlace f xs x) = same_value (place_value g f (arg_values e xs)) (arg_value e x)
+-- the bound is true: of the world, or, under `goal`, of the goal list
+unfoldable pub bound_true : Situation → Assignment → Bound → Bool
+bound_true s e (bound.Fact p xs) = fact_in s.world p (arg_values e xs)
+bound_true s e (bound.Place f xs x) = same_value (place_value s.world f (arg_values e xs)) (arg_value e x)
+bound_true s e (bound.GoalFact p xs) = fact_in s.goal p (arg_values e xs)
+bound_true s e (bound.GoalPlace f xs x) = same_value (place_value s.goal f (arg_values e xs)) (arg_value e x)
+bound_true s e (bound.GoalNot p xs) = fact_in s.avoid p (arg_values e xs)
 
 -- all lists of n of the values, in lexicographic order
 unfoldable pub tuples_of : List Value → ℕ → List (List Value)
 tuples_of vs zero = [] ∷ []
 tuples_of vs (suc n) = flat_map (λ v. map (λ t. v ∷ t) (tuples_of vs n)) vs
 
--- the tuples that make the bound true, in their order
-unfoldable pub tuples : World → World → Assignment → List Var → Bound → List (List Value)
-tuples w g e ss b = filter (λ t. bound_true w g (bind ss t e) b) (tuples_of (values_of w g) (length ss))
+-- the tuples that make the bound true, in their order (Bacchus and Kabanza 2000, bounded quantification)
+unfoldable pub tuples : Situation → Assignment → List Var → Bound → List (List Value)
+tuples s e ss b = filter (λ t. bound_true s (bind ss t e) b) (tuples_of (values_of (s.world ∷ s.goal ∷ s.avoid ∷ [])) (length ss))

@@ -1,26 +1,20 @@
 -- Runs, and the truth of formulas along them.
-use Rattle.std.specs.Prelude.{ℕ, suc, ◌-◌, ◌%◌, ◌<◌, ◌≤◌, ◌⊎◌, List, [], ◌∷◌, length, slice_index_or, cond, IsTrue, nat_lt}
-use Rattle.tl_terms.specs.Trees.{FormulaTree, FormulaTrees, verum, falsum, atom, defined, compare, goal_fact, goal_place, negation, conjunction, disjunction, for_all, for_some, next, always, eventually, until, no_formula, more_formulas}
+use Rattle.std.specs.Prelude.{◌≡◌, ℕ, suc, ◌+◌, ◌-◌, ◌%◌, ◌<◌, ◌≤◌, ◌⊎◌, List, [], ◌∷◌, length, slice_index_or, cond, IsTrue, nat_lt}
+use Rattle.tl_terms.specs.Lists.{Each, One}
+use Rattle.tl_terms.specs.Trees.{FormulaTree, FormulaTrees, verum, falsum, atom, defined, compare, goal_fact, goal_place, goal_not, negation, conjunction, disjunction, for_all, for_some, next, always, eventually, until, within, during, no_formula, more_formulas}
 use Rattle.tl_terms.specs.World.{World}
+use Rattle.tl_terms.specs.Problem.{PlainProblem}
+use Rattle.tl_terms.specs.Situation.{Situation}
 use Rattle.tl_terms.specs.Assignment.{Assignment, no_values, bind}
 use Rattle.tl_terms.specs.Bounds.{tuples}
-use Rattle.tl_terms.specs.Truth.{Situation, state_true, PlainDefinition, situation_in}
-
--- P holds of each of the list
-abbrev pub Each : {A : Type 0} → (A → Type 0) → List A → Type 0
-Each P [] = Unit {0}
-Each P (x ∷ xs) = P x × Each P xs
-
--- P holds of one of the list
-abbrev pub One : {A : Type 0} → (A → Type 0) → List A → Type 0
-One P [] = ⊥
-One P (x ∷ xs) = P x ⊎ One P xs
+use Rattle.tl_terms.specs.Truth.{state_true}
+use Rattle.tl_terms.specs.Definitions.{situation_of}
 
 -- the situation at each position
 abbrev pub Situations : Type 0
 Situations = ℕ → Situation
 
--- the formula holds at position i; one of state alone is read in the situation there (Bacchus and Kabanza 2000, first-order linear temporal logic)
+-- the formula holds at position i (linear temporal logic, Pnueli 1977; with bounded quantifiers, Bacchus and Kabanza 2000); a basic formula is read in the situation there
 unfoldable mutual
   pub Holds : Situations → Assignment → FormulaTree → ℕ → Type 0
   Holds r e verum i = Unit {0}
@@ -30,15 +24,18 @@ unfoldable mutual
   Holds r e (compare c x y) i = IsTrue (state_true (r i) e (compare c x y))
   Holds r e (goal_fact p xs) i = IsTrue (state_true (r i) e (goal_fact p xs))
   Holds r e (goal_place f xs x) i = IsTrue (state_true (r i) e (goal_place f xs x))
+  Holds r e (goal_not p xs) i = IsTrue (state_true (r i) e (goal_not p xs))
   Holds r e (negation f) i = Holds r e f i → ⊥
   Holds r e (conjunction fs) i = HoldAll r e fs i
   Holds r e (disjunction fs) i = HoldsOne r e fs i
-  Holds r e (for_all ss b f) i = Each (λ t. Holds r (bind ss t e) f i) (tuples (r i).world (r i).goal e ss b)
-  Holds r e (for_some ss b f) i = One (λ t. Holds r (bind ss t e) f i) (tuples (r i).world (r i).goal e ss b)
+  Holds r e (for_all ss b f) i = Each (λ t. Holds r (bind ss t e) f i) (tuples (r i) e ss b)
+  Holds r e (for_some ss b f) i = One (λ t. Holds r (bind ss t e) f i) (tuples (r i) e ss b)
   Holds r e (next f) i = Holds r e f (suc i)
   Holds r e (always f) i = (j : ℕ) → i ≤ j → Holds r e f j
   Holds r e (eventually f) i = (j : ℕ) × (i ≤ j) × Holds r e f j
   Holds r e (until f g) i = (j : ℕ) × (i ≤ j) × Holds r e g j × ((k : ℕ) → i ≤ k → k < j → Holds r e f k)
+  Holds r e (within n f) i = (j : ℕ) × (i ≤ j) × (j ≤ i + n) × Holds r e f j
+  Holds r e (during n f) i = (j : ℕ) → i ≤ j → j ≤ i + n → Holds r e f j
 
   pub HoldAll : Situations → Assignment → FormulaTrees → ℕ → Type 0
   HoldAll r e no_formula i = Unit {0}
@@ -48,7 +45,7 @@ unfoldable mutual
   HoldsOne r e no_formula i = ⊥
   HoldsOne r e (more_formulas f fs) i = Holds r e f i ⊎ HoldsOne r e fs i
 
--- a finite list of worlds, and a list of one or more_formulas that is repeated for ever after it
+-- a lasso (Sistla and Clarke 1985): a finite list of worlds, the stem, and a loop of one or more worlds, `first` and `rest`, that is repeated for ever after it
 pub record Run : Type 0 where
   pub stem : List World
   pub first : World
@@ -58,6 +55,19 @@ pub record Run : Type 0 where
 unfoldable pub state_at : Run → ℕ → World
 state_at r i = cond (nat_lt i (length r.stem)) (slice_index_or r.stem i r.first) (slice_index_or (r.first ∷ r.rest) ((i - length r.stem) % suc (length r.rest)) r.first)
 
--- the formula holds at position i of the run, under the goal and the definitions
-unfoldable pub Satisfies : World → List PlainDefinition → Run → ℕ → FormulaTree → Type 0
-Satisfies g ds r i f = Holds (λ j. situation_in (state_at r j) g ds) no_values f i
+-- the situation at each position of the run
+abbrev pub situations_of : PlainProblem → Run → Situations
+situations_of p r i = situation_of p (state_at r i)
+
+-- the formula holds at position i of the run, under the goal list and the definitions of the problem
+unfoldable pub Satisfies : PlainProblem → Run → ℕ → FormulaTree → Type 0
+Satisfies p r i f = Holds (situations_of p r) no_values f i
+
+-- the run that repeats one world for ever
+abbrev pub idle_run : World → Run
+idle_run w = record { stem = []; first = w; rest = [] }
+
+-- the run has these worlds from position i on
+abbrev pub Begins : Run → ℕ → List World → Type 0
+Begins r i [] = Unit {0}
+Begins r i (w ∷ ws) = (state_at r i ≡ w) × Begins r (suc i) ws

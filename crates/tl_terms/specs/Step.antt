@@ -1,35 +1,20 @@
--- The step that an action makes from a world to the next.
+-- The step that an action makes from a world to the next (ADL, Pednault 1989).
 use Rattle.std.specs.Prelude.{ℕ, List, [], ◌∷◌, ◌++◌, flat_map, length, slice_get, Bool, true, false, cond, not, ◌&&◌, ◌||◌, ◌==◌, Option, Some, None}
 use Rattle.std.specs.List.{list_all}
 use Rattle.std.specs.FinSet as set
 use Rattle.std.specs.FinMap as dict
 use Rattle.std.specs.Ordering.{is_eq}
 use Rattle.tl_terms.specs.declared.value.Value.{Value}
-use Rattle.tl_terms.specs.declared.variable.Var.{Var}
-use Rattle.tl_terms.specs.declared.bound.Bound.{Bound}
 use Rattle.tl_terms.specs.declared.action.Action.{Action}
-use Rattle.tl_terms.specs.Trees.{FormulaTree}
+use Rattle.tl_terms.specs.Problem.{PlainOperator, PlainProblem}
+use Rattle.tl_terms.specs.Situation.{Situation}
 use Rattle.tl_terms.specs.Effects.{EffectTree, EffectTrees, add, del, assign, when, each, no_effect, more_effects}
 use Rattle.tl_terms.specs.World.{World, Key, key_cmp, value_cmp}
 use Rattle.tl_terms.specs.Assignment.{Assignment, no_values, bind}
 use Rattle.tl_terms.specs.Terms.{term_value, term_values}
 use Rattle.tl_terms.specs.Bounds.{bound_true, tuples}
-use Rattle.tl_terms.specs.Truth.{Situation, state_true, PlainDefinition, situation_in}
-
--- an operator with its parameters, their bounds, its precondition and its effects
-pub record PlainOperator : Type 0 where
-  pub params : List Var
-  pub bounds : List Bound
-  pub pre : FormulaTree
-  pub effects : EffectTrees
-
--- all that the meaning of a plan depends on: what a domain file and a problem file give together
-pub record PlainProblem : Type 0 where
-  pub first : World
-  pub goal : World
-  pub definitions : List PlainDefinition
-  pub operators : List PlainOperator
-  pub control : FormulaTree
+use Rattle.tl_terms.specs.Truth.{state_true}
+use Rattle.tl_terms.specs.Definitions.{situation_of}
 
 -- one instance of an effect, with the meanings of its terms
 pub data EffectInstance : Type 0 where
@@ -44,7 +29,7 @@ unfoldable mutual
   effect_instances s e (del p ts) = dels p (term_values s.world e ts) ∷ []
   effect_instances s e (assign f ts t) = sets f (term_values s.world e ts) (term_value s.world e t) ∷ []
   effect_instances s e (when f es) = cond (state_true s e f) (all_instances s e es) []
-  effect_instances s e (each vs b es) = flat_map (λ t. all_instances s (bind vs t e) es) (tuples s.world s.goal e vs b)
+  effect_instances s e (each vs b es) = flat_map (λ t. all_instances s (bind vs t e) es) (tuples s e vs b)
 
   pub all_instances : Situation → Assignment → EffectTrees → List EffectInstance
   all_instances s e no_effect = []
@@ -102,17 +87,13 @@ changed w cs = record {
   places = overwritten w.places (flat_map given cs);
 }
 
--- a world of the problem
-unfoldable pub situation_of : PlainProblem → World → Situation
-situation_of p w = situation_in w p.goal p.definitions
-
 -- the operator is given these arguments in w: its bounds, its precondition, and then its effects
 unfoldable pub applied : PlainProblem → World → PlainOperator → List Value → Option World
 applied p w o vs =
     let s = situation_of p w in
     let e = bind o.params vs no_values in
     let cs = all_instances s e o.effects in
-    cond ((length vs == length o.params) && (list_all (bound_true w p.goal e) o.bounds && (state_true s e o.pre && (list_all is_defined cs && no_clash (flat_map given cs)))))
+    cond ((length vs == length o.params) && (list_all (bound_true s e) o.bounds && (state_true s e o.pre && (list_all is_defined cs && no_clash (flat_map given cs)))))
     (Some (changed w cs))
     None
 

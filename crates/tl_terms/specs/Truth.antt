@@ -1,20 +1,15 @@
 -- The truth of state formulas in a world.
-use Rattle.std.specs.Prelude.{ℕ, List, [], ◌∷◌, ◌++◌, fold, slice_get, Bool, true, false, not, ◌&&◌, ◌||◌, Option, Some, None, ℤ, int_lt, int_le}
+use Rattle.std.specs.Prelude.{ℕ, List, Bool, true, false, not, ◌&&◌, ◌||◌, Option, Some, None, ℤ, int_lt, int_le}
 use Rattle.std.specs.List.{list_any, list_all}
 use Rattle.tl_terms.specs.declared.value.Value.{Value}
 use Rattle.tl_terms.specs.declared.value.Value.TheVariants.{Int}
-use Rattle.tl_terms.specs.declared.variable.Var.{Var}
 use Rattle.tl_terms.specs.declared.value.Cmp.{Cmp}
 use Rattle.tl_terms.specs.declared.value.Cmp.TheVariants as cmp
-use Rattle.tl_terms.specs.Trees.{FormulaTree, FormulaTrees, verum, falsum, atom, defined, compare, goal_fact, goal_place, negation, conjunction, disjunction, for_all, for_some, next, always, eventually, until, no_formula, more_formulas}
-use Rattle.tl_terms.specs.World.{World}
-use Rattle.tl_terms.specs.Assignment.{Assignment, no_values, bind}
+use Rattle.tl_terms.specs.Trees.{FormulaTree, FormulaTrees, verum, falsum, atom, defined, compare, goal_fact, goal_place, goal_not, negation, conjunction, disjunction, for_all, for_some, next, always, eventually, until, within, during, no_formula, more_formulas}
+use Rattle.tl_terms.specs.Situation.{Situation, Table}
+use Rattle.tl_terms.specs.Assignment.{Assignment, bind}
 use Rattle.tl_terms.specs.Terms.{term_value, term_values, place_value}
 use Rattle.tl_terms.specs.Bounds.{arg_value, arg_values, fact_in, same_value, tuples}
-
--- whether a defined atom is true of its values
-abbrev pub Table : Type 0
-Table = ℕ → List Value → Bool
 
 -- the arguments are defined, and the definition holds of them
 abbrev pub defined_true : Table → ℕ → Option (List Value) → Bool
@@ -39,13 +34,7 @@ abbrev pub compared : Cmp → Option Value → Option Value → Bool
 compared cmp.Eq a b = same_value a b
 compared c a b = both_integers c a b
 
--- where a formula is read: the world, the goal, and what the definitions say of the world
-pub record Situation : Type 0 where
-  pub world : World
-  pub goal : World
-  pub table : Table
-
--- the truth of a state formula; temporal words do not stand in one
+-- the truth of a state formula under the closed-world assumption; no temporal word stands in one
 unfoldable mutual
   pub state_true : Situation → Assignment → FormulaTree → Bool
   state_true s e verum = true
@@ -55,15 +44,18 @@ unfoldable mutual
   state_true s e (compare c x y) = compared c (term_value s.world e x) (term_value s.world e y)
   state_true s e (goal_fact p xs) = fact_in s.goal p (arg_values e xs)
   state_true s e (goal_place f xs x) = same_value (place_value s.goal f (arg_values e xs)) (arg_value e x)
+  state_true s e (goal_not p xs) = fact_in s.avoid p (arg_values e xs)
   state_true s e (negation f) = not (state_true s e f)
   state_true s e (conjunction fs) = all_true s e fs
   state_true s e (disjunction fs) = one_true s e fs
-  state_true s e (for_all ss b f) = list_all (λ t. state_true s (bind ss t e) f) (tuples s.world s.goal e ss b)
-  state_true s e (for_some ss b f) = list_any (λ t. state_true s (bind ss t e) f) (tuples s.world s.goal e ss b)
+  state_true s e (for_all ss b f) = list_all (λ t. state_true s (bind ss t e) f) (tuples s e ss b)
+  state_true s e (for_some ss b f) = list_any (λ t. state_true s (bind ss t e) f) (tuples s e ss b)
   state_true s e (next f) = false
   state_true s e (always f) = false
   state_true s e (eventually f) = false
   state_true s e (until f g) = false
+  state_true s e (within k f) = false
+  state_true s e (during k f) = false
 
   pub all_true : Situation → Assignment → FormulaTrees → Bool
   all_true s e no_formula = true
@@ -73,24 +65,29 @@ unfoldable mutual
   one_true s e no_formula = false
   one_true s e (more_formulas f fs) = state_true s e f || one_true s e fs
 
--- a defined predicate
-pub record PlainDefinition : Type 0 where
-  pub params : List Var
-  pub body : FormulaTree
+-- no temporal word stands in the formula
+abbrev mutual
+  pub IsState : FormulaTree → Type 0
+  IsState verum = Unit {0}
+  IsState falsum = Unit {0}
+  IsState (atom p ts) = Unit {0}
+  IsState (defined p ts) = Unit {0}
+  IsState (compare c x y) = Unit {0}
+  IsState (goal_fact p xs) = Unit {0}
+  IsState (goal_place f xs x) = Unit {0}
+  IsState (goal_not p xs) = Unit {0}
+  IsState (negation f) = IsState f
+  IsState (conjunction fs) = AreState fs
+  IsState (disjunction fs) = AreState fs
+  IsState (for_all ss b f) = IsState f
+  IsState (for_some ss b f) = IsState f
+  IsState (next f) = ⊥
+  IsState (always f) = ⊥
+  IsState (eventually f) = ⊥
+  IsState (until f g) = ⊥
+  IsState (within n f) = ⊥
+  IsState (during n f) = ⊥
 
--- what the test says, where there is one
-abbrev pub asked : Option (List Value → Bool) → List Value → Bool
-asked (Some p) vs = p vs
-asked None vs = false
-
--- the definitions by their positions
-abbrev pub table_of : List (List Value → Bool) → Table
-table_of ps p vs = asked (slice_get ps p) vs
-
--- what the definitions say, each one over those before it
-unfoldable pub predicates : World → World → List PlainDefinition → List (List Value → Bool)
-predicates w g ds = fold (λ ps d. ps ++ (λ vs. state_true (record { world = w; goal = g; table = table_of ps }) (bind d.params vs no_values) d.body) ∷ []) [] ds
-
--- a world under a goal and definitions
-unfoldable pub situation_in : World → World → List PlainDefinition → Situation
-situation_in w g ds = record { world = w; goal = g; table = table_of (predicates w g ds) }
+  pub AreState : FormulaTrees → Type 0
+  AreState no_formula = Unit {0}
+  AreState (more_formulas f fs) = IsState f × AreState fs

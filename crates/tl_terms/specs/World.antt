@@ -1,4 +1,4 @@
--- A world is a finite set of facts and a finite map of places, under the closed-world assumption.
+-- A world is a finite set of facts and a finite map of places, under the closed-world assumption (Reiter 1978).
 use Rattle.std.specs.Prelude.{map, ℕ, List, [], ◌∷◌, ◌++◌, flat_map, Bool, Option}
 use Rattle.std.specs.declared.cmp.Ordering.{Ordering}
 use Rattle.std.specs.Ordering.{nat_cmp, int_cmp, on, then_cmp}
@@ -24,7 +24,7 @@ value_cmp (Sym a) (Sym b) = nat_cmp a b
 abbrev pub key_cmp : Key → Key → Ordering
 key_cmp = then_cmp (on (λ k. k.0) nat_cmp) (on (λ k. k.1) (slice_cmp value_cmp))
 
--- the facts that are true, and the values of the places that have one
+-- the facts that are true, and the values of the places that have one; what is not there is false or undefined
 pub record World : Type 0 where
   pub facts : set.FinSet key_cmp
   pub places : dict.FinMap key_cmp Value
@@ -46,6 +46,6 @@ abbrev pub marked : List Value → List (Value × Unit {0})
 marked [] = []
 marked (v ∷ vs) = (v, tt) ∷ marked vs
 
--- the values of the two worlds, in their order, each once: the keys of a finite map
-unfoldable pub values_of : World → World → List Value
-values_of w g = map (λ e. e.0) (dict.entries (dict.from_entries {R = value_cmp} (marked (values_in w ++ values_in g))))
+-- the values of the worlds, in their order, each once: the keys of a finite map
+unfoldable pub values_of : List World → List Value
+values_of ws = map (λ e. e.0) (dict.entries (dict.from_entries {R = value_cmp} (marked (flat_map values_in ws))))

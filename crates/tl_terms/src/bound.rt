@@ -15,6 +15,8 @@ pub enum Bound {
     GoalFact(u32, Args),
     /// The goal list gives the place this value.
     GoalPlace(u32, Args, Arg),
+    /// The goal list has the negated fact.
+    GoalNot(u32, Args),
 }
 
 /// A list of bounds.

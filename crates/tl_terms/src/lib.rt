@@ -6,8 +6,9 @@
 //! - `value`, `variable`, `bound`: what stands in facts and formulas.
 //! - `declared`: what a domain declares.
 //! - `fact`, `action`: ground facts, and the steps of a plan.
+//! - `laws`: what is proved of the definitions.
 //!
-//! The definitions of worlds, truth, steps, runs and accepted plans stand in `specs/`, one topic a file.
+//! The definitions of worlds, truth, steps, runs, accepted plans, progression, search nodes and what an evaluation looks at stand in `specs/`, one topic a file.
 #![tactic(auto)]
 
 mod action;
@@ -15,6 +16,7 @@ mod bound;
 mod declared;
 mod fact;
 mod items;
+pub mod laws;
 mod memory;
 mod names;
 mod value;

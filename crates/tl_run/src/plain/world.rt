@@ -2,7 +2,7 @@
 ghost use Rattle.std.specs.Prelude.{◌≡◌, [], ◌∷◌, ◌++◌, not, filter, option_map, IfOk, OnOk};
 ghost use Rattle.std.specs.List.{list_any};
 ghost use Rattle.tl_terms.specs.World.{has_fact};
-ghost use Rattle.tl_terms.specs.Truth.{Situation};
+ghost use Rattle.tl_terms.specs.Situation.{Situation};
 ghost use Rattle.tl_terms.specs.Assignment.{Assignment};
 ghost use Rattle.tl_terms.specs.Acceptance.{meets_goal};
 ghost use Rattle.tl_terms.specs.Step.{all_instances, changed, step};
@@ -84,7 +84,7 @@ impl GroundWorld {
 
     /// Whether all facts of a goal are true.
     pub(crate) fn meets(&self, goal: &[Fact]) -> bool
-        ensures { result ≡ meets_goal (world_of self.now) (world_of goal.now) }
+        ensures { result ≡ meets_goal (world_of self.now) (world_of goal.now) (world_of []) }
     {
         goal.iter().all(|fact| self.has(fact))
     }

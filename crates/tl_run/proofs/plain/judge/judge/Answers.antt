@@ -1,4 +1,4 @@
-use Rattle.std.proofs.Common.{◌∙◌, ap, sym, refl, option_map, ◌+◌}
+use Rattle.std.proofs.Common.{[], ◌∙◌, ap, sym, refl, option_map, ◌+◌}
 use Rattle.tl_terms.specs.Acceptance.{meets_goal}
 use Rattle.tl_run.specs.Meaning.{world_of}
 use Rattle.tl_run.proofs.Execution.{reaches_first, reaches_next, fails_at, accepted, missed}
@@ -20,9 +20,9 @@ returns-in-None c =
 pub returns-then-meets : goal.returns-then-meets
 returns-then-meets c =
     accepted c.args.domain.now c.args.problem.now c.args.plan.now c.loop-place.place (world_of c.loop-place.world)
-    c.loop-place.invariant c.loop-place-test.false (sym (c.if-meets.ensures ∙ ap (λ fs. meets_goal (world_of c.loop-place.world) (world_of fs)) c.as_slice-2.ensures))
+    c.loop-place.invariant c.loop-place-test.false (sym (c.if-meets.ensures ∙ ap (λ fs. meets_goal (world_of c.loop-place.world) (world_of fs) (world_of [])) c.as_slice-2.ensures))
 
 pub returns : goal.returns
 returns c =
     missed c.args.domain.now c.args.problem.now c.args.plan.now c.loop-place.place (world_of c.loop-place.world)
-    c.loop-place.invariant c.loop-place-test.false (sym (c.if-meets.ensures ∙ ap (λ fs. meets_goal (world_of c.loop-place.world) (world_of fs)) c.as_slice-2.ensures))
+    c.loop-place.invariant c.loop-place-test.false (sym (c.if-meets.ensures ∙ ap (λ fs. meets_goal (world_of c.loop-place.world) (world_of fs) (world_of [])) c.as_slice-2.ensures))
