@@ -15,11 +15,11 @@ use Rattle.tl_terms.specs.TotalOrders.{key_total, key_ties}
 abbrev pub Tells : {A : Type 0} → (A → A → Bool) → Type 0
 Tells {A} e = (x y : A) → Decides (e x y) (x ≡ y)
 
-both : (a b : Bool) → (a && b) ≡ true → (a ≡ true) × (b ≡ true)
+pub both : (a b : Bool) → (a && b) ≡ true → (a ≡ true) × (b ≡ true)
 both true b h = (refl, h)
 both false b h = absurd (true≢false (sym h))
 
-with_both : {a b : Bool} → a ≡ true → b ≡ true → (a && b) ≡ true
+pub with_both : {a b : Bool} → a ≡ true → b ≡ true → (a && b) ≡ true
 with_both {a} {b} h k = subst (λ c. (c && b) ≡ true) (sym h) k
 
 pub list-tells : {A : Type 0} (e : A → A → Bool) → Tells e → Tells (pointwise e)

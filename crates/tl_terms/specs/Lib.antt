@@ -2,6 +2,11 @@ pub mod Texts
 pub mod Lists
 pub mod Trees
 pub mod Effects
+pub mod Settled
+pub mod TreeOfTerm
+pub mod TreeOfFormula
+pub mod TreeOfEffect
+pub mod Basic
 pub mod World
 pub mod TotalOrders
 pub mod Problem
@@ -18,6 +23,7 @@ pub mod Step
 pub mod Acceptance
 pub mod Same
 pub mod Substitution
+pub mod Bindings
 pub mod Simplification
 pub mod Progression
 pub mod Pairs

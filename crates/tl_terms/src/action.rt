@@ -1,6 +1,9 @@
 // Actions, of which a plan is a list.
 
-use crate::{Items, Values};
+ghost use Rattle.std.specs.Prelude.{◌≡◌, IfOk};
+
+use crate::{Items, NoMemory, Values};
+use std::alloc::Global;
 
 /// An operator, by its position in the domain's list, with a value for each parameter.
 #[derive(PartialEq, Eq, Hash, Drop)]
@@ -13,3 +16,13 @@ pub struct Action {
 
 /// A plan, or another list of actions.
 pub type Actions = Items<Action>;
+
+impl Action {
+    /// The same action again. It fails for want of memory alone.
+    pub fn copy(&self, alloc: Global) -> Result<Action, NoMemory>
+        ensures same { IfOk result (λ copy. copy ≡ self.now) }
+    {
+        let args = self.args.copy(alloc)?;
+        Ok(Action { op: self.op, args })
+    }
+}

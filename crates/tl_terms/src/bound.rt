@@ -1,6 +1,9 @@
 // Bounds of quantified variables and of parameters.
 
-use crate::{Arg, Args, Items};
+ghost use Rattle.std.specs.Prelude.{◌≡◌, IfOk};
+
+use crate::{Arg, Args, Items, NoMemory};
+use std::alloc::Global;
 
 /// A condition that has finitely many tuples (Bacchus and Kabanza 2000, bounded quantification).
 ///
@@ -21,3 +24,33 @@ pub enum Bound {
 
 /// A list of bounds.
 pub type Bounds = Items<Bound>;
+
+impl Bound {
+    /// The same bound again. It fails for want of memory alone.
+    pub fn copy(&self, alloc: Global) -> Result<Bound, NoMemory>
+        ensures same { IfOk result (λ copy. copy ≡ self.now) }
+    {
+        match self {
+            Bound::Fact(pred, args) => {
+                let args = args.copy(alloc)?;
+                Ok(Bound::Fact(*pred, args))
+            }
+            Bound::Place(fun, args, value) => {
+                let args = args.copy(alloc)?;
+                Ok(Bound::Place(*fun, args, *value))
+            }
+            Bound::GoalFact(pred, args) => {
+                let args = args.copy(alloc)?;
+                Ok(Bound::GoalFact(*pred, args))
+            }
+            Bound::GoalPlace(fun, args, value) => {
+                let args = args.copy(alloc)?;
+                Ok(Bound::GoalPlace(*fun, args, *value))
+            }
+            Bound::GoalNot(pred, args) => {
+                let args = args.copy(alloc)?;
+                Ok(Bound::GoalNot(*pred, args))
+            }
+        }
+    }
+}

@@ -4,6 +4,7 @@ ghost use Rattle.std.specs.Hash as fed;
 ghost use Rattle.std.specs.Hash.{items_Alike};
 ghost use Rattle.std.specs.Prelude.{◌≡◌, List, [], ◌∷◌, ◌++◌, IfOk, cond, is_ok, length, ◌==◌};
 
+use crate::NoMemory;
 use std::alloc::{AllocError, Global};
 use std::cmp::Ordering;
 use std::hash::{Hash, Hasher};
@@ -80,8 +81,8 @@ impl<T: Copy> Items<T> {
         Ok(())
     }
 
-    /// The same list again.
-    pub fn copy(&self, alloc: Global) -> Result<Items<T>, AllocError>
+    /// The same list again. It fails for want of memory alone.
+    pub fn copy(&self, alloc: Global) -> Result<Items<T>, NoMemory>
         ensures same { IfOk result (λ copy. copy ≡ self.now) }
     {
         let items = Vec::from_slice(alloc, self.items.as_slice())?;
@@ -164,10 +165,9 @@ mod tests {
         let mut args = Values::new(alloc);
         args.push(Value::Int(-1))?;
         args.push(Value::Sym(7))?;
-        let copy = args.copy(alloc)?;
         let press = Action { op: 3, args };
-        let same = Action { op: 3, args: copy };
-        assert!(rt; press == same);
+        let copy = press.copy(alloc)?;
+        assert!(rt; copy == press);
         Ok(())
     }
 }

@@ -2,6 +2,8 @@
 ghost use Rattle.std.specs.Prelude.{◌≡◌, ◌-◌, ◌<◌, ◌^◌, ℕ, [], ◌∷◌, ◌++◌, length, slice_get, IfOk, OnErr, OnOk, IsOk, IsSome};
 ghost use Rattle.tl_terms.specs.Texts.{with_text, number_of, AreDistinct};
 
+mod settled;
+
 use crate::NoMemory;
 use std::alloc::{AllocError, Global};
 use std::collections::HashMap;

@@ -1,6 +1,9 @@
 // Values, and what is done with them in terms and comparisons.
+ghost use Rattle.std.specs.Prelude.{◌≡◌};
+ghost use Rattle.tl_terms.specs.World.{value_cmp};
 
 use crate::Items;
+use std::cmp::Ordering;
 
 /// An integer of 64 bits, or a symbol by the number of its name.
 ///
@@ -11,6 +14,15 @@ pub enum Value {
     Int(i64),
     /// A symbol, by its name's number.
     Sym(u32),
+}
+
+impl Value {
+    /// How the two stand in value order. The derived order is the same, and is what compares lists of values and facts.
+    pub fn order(self, other: Value) -> Ordering
+        ensures { result ≡ value_cmp self other }
+    {
+        self.cmp(&other)
+    }
 }
 
 /// A list of values.

@@ -13,7 +13,7 @@ ghost use Rattle.tl_run.specs.declared.plain.problem.GroundProblem.{GroundProble
 use crate::plain::domain::GroundDomain;
 use crate::plain::effects::GroundEffect;
 use crate::plain::operators::GroundOperator;
-use std::alloc::{AllocError, Global};
+use std::alloc::Global;
 use std::marker::Model;
 use tl_terms::{Action, Fact, NoMemory};
 
@@ -90,7 +90,7 @@ impl GroundWorld {
     }
 
     /// Makes the fact true.
-    fn add(&mut self, alloc: Global, fact: &Fact) -> Result<(), AllocError>
+    fn add(&mut self, alloc: Global, fact: &Fact) -> Result<(), NoMemory>
         ensures { OnOk result (world_of self.new ≡ world_of (fact.now ∷ self.old)) }
     {
         if self.has(fact) {
@@ -105,7 +105,7 @@ impl GroundWorld {
     }
 
     /// Makes the facts true that the effects add.
-    fn add_all(&mut self, alloc: Global, effects: &[GroundEffect]) -> Result<(), AllocError>
+    fn add_all(&mut self, alloc: Global, effects: &[GroundEffect]) -> Result<(), NoMemory>
         ensures { OnOk result (world_of self.new ≡ world_of (added_facts effects.now ++ self.old)) }
     {
         for effect in effects {
