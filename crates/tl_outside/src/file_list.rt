@@ -6,7 +6,7 @@ ghost use Rattle.tl_outside.specs.NamedFile.{pair_of};
 
 use std::alloc::{AllocError, Global};
 use std::marker::Model;
-use tl_terms::NoMemory;
+use tl_syntax::NoMemory;
 
 #[derive(Drop)]
 struct NamedFile {

@@ -8,7 +8,7 @@ ghost use Rattle.tl_outside.specs.Script.{counted};
 use crate::script::Script;
 use crate::{Failed, Numbers, Sink};
 use std::alloc::Global;
-use tl_terms::NoMemory;
+use tl_syntax::NoMemory;
 
 /// Room in memory for bytes. Calls of `put` are numbered from 0.
 /// A call fails, as a fault, where its number is among those given, or where bytes come and no room is left.

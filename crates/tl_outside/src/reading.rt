@@ -6,7 +6,7 @@ ghost use Rattle.tl_outside.specs.declared.reading.ReadFault.TheVariants as faul
 
 use crate::{Failed, Store};
 use std::alloc::{AllocError, Global};
-use tl_terms::Bytes;
+use tl_syntax::Bytes;
 
 /// Why a file was not read.
 #[derive(Clone, Copy, Debug, PartialEq, Eq)]

@@ -2,7 +2,7 @@
 ghost use Rattle.std.specs.Prelude.{◌≡◌, ◌≤◌, []};
 ghost use Rattle.tl_outside.specs.Script.{fails_at, counted};
 
-use tl_terms::Items;
+use tl_syntax::Items;
 
 /// The numbers of the calls that fail. Their order does not matter, nor does a number that comes twice.
 pub type Numbers = Items<u32>;

@@ -3,12 +3,13 @@ use Rattle.std.proofs.Common.{◌≡◌, ℕ, true, not, ◌&&◌, ◌||◌, Lis
 use Rattle.std.specs.List.{list_any, list_all, flat_map}
 use Rattle.std.specs.Ordering.{eq_by_cmp}
 use Rattle.std.proofs.lemmas.List.{take_more, append-nil}
-use Rattle.tl_terms.specs.declared.value.Value.{Value}
-use Rattle.tl_terms.specs.declared.fact.Fact.{Fact}
+use Rattle.tl_syntax.specs.declared.value.Value.{Value}
+use Rattle.tl_syntax.specs.declared.fact.Fact.{Fact}
 use Rattle.tl_terms.specs.Terms.{term_value, term_values, prepend}
 use Rattle.tl_terms.specs.Situation.{Situation}
-use Rattle.tl_terms.specs.Assignment.{Assignment}
-use Rattle.tl_terms.specs.World.{World, Key, key_cmp, has_fact, value_at}
+use Rattle.tl_syntax.specs.Assignment.{Assignment}
+use Rattle.tl_syntax.specs.Keys.{Key, key_cmp}
+use Rattle.tl_terms.specs.World.{World, has_fact, value_at}
 use Rattle.tl_terms.specs.Step.{EffectInstance, adds, dels, effect_instances, all_instances, is_defined, added, deleted, given, changed}
 use Rattle.tl_terms.proofs.WorldLaws.{same_world}
 use Rattle.tl_terms.proofs.StepLaws.{given_or, has_fact-changed, value_at-changed}

@@ -8,11 +8,12 @@ use Rattle.std.specs.FinMap as dict
 use Rattle.std.proofs.lemmas.Bool.{and_parts, and_from}
 use Rattle.std.proofs.lemmas.Bool.Decides.{same_from_decides}
 use Rattle.std.proofs.lemmas.List.Folds.{list_all-map}
-use Rattle.tl_terms.specs.declared.value.Value.{Value}
-use Rattle.tl_terms.specs.declared.fact.Fact.{Fact}
-use Rattle.tl_terms.specs.World.{World, Key, key_cmp, has_fact, value_at}
+use Rattle.tl_syntax.specs.declared.value.Value.{Value}
+use Rattle.tl_syntax.specs.declared.fact.Fact.{Fact}
+use Rattle.tl_syntax.specs.Keys.{Key, key_cmp}
+use Rattle.tl_terms.specs.World.{World, has_fact, value_at}
 use Rattle.tl_terms.specs.Acceptance.{is_value, meets_goal}
-use Rattle.tl_terms.specs.TotalOrders.{key_total, key_ties}
+use Rattle.tl_syntax.specs.TotalOrders.{key_total, key_ties}
 use Rattle.tl_run.specs.Meaning.{key_of, world_of}
 
 -- every key of the list passes

@@ -3,15 +3,16 @@ use Rattle.std.proofs.Common.{◌≡◌, ◌==◌, ℕ, suc, Bool, true, false, 
 use Rattle.std.specs.List.{list_all, flat_map}
 use Rattle.std.proofs.lemmas.Bool.{ne_eqb}
 use Rattle.std.proofs.lemmas.Option.{slice_get-map}
-use Rattle.tl_terms.specs.declared.value.Value.{Value}
-use Rattle.tl_terms.specs.declared.fact.Fact.{Fact}
-use Rattle.tl_terms.specs.declared.action.Action.{Action}
+use Rattle.tl_syntax.specs.declared.value.Value.{Value}
+use Rattle.tl_syntax.specs.declared.fact.Fact.{Fact}
+use Rattle.tl_syntax.specs.declared.action.Action.{Action}
 use Rattle.tl_terms.specs.Situation.{Situation}
 use Rattle.tl_terms.specs.Truth.{state_true}
 use Rattle.tl_terms.specs.Definitions.{situation_of}
-use Rattle.tl_terms.specs.Assignment.{Assignment, no_values}
+use Rattle.tl_syntax.specs.Assignment.{Assignment, no_values}
 use Rattle.tl_terms.specs.Bounds.{fact_in}
-use Rattle.tl_terms.specs.World.{World, Key}
+use Rattle.tl_syntax.specs.Keys.{Key}
+use Rattle.tl_terms.specs.World.{World}
 use Rattle.tl_terms.specs.Step.{EffectInstance, all_instances, is_defined, no_clash, given, changed, applied, applied_if, step}
 use Rattle.tl_run.specs.declared.plain.effects.GroundEffect.{GroundEffect}
 use Rattle.tl_run.specs.declared.plain.operators.GroundOperator.{GroundOperator}

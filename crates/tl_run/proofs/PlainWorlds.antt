@@ -6,12 +6,13 @@ use Rattle.std.specs.FinSet as set
 use Rattle.std.specs.FinMap as dict
 use Rattle.std.specs.Ordering.{eq_by_cmp}
 use Rattle.std.proofs.lemmas.List.{take_more}
-use Rattle.tl_terms.specs.declared.value.Value.{Value}
-use Rattle.tl_terms.specs.declared.fact.Fact.{Fact}
-use Rattle.tl_terms.specs.World.{World, Key, key_cmp, has_fact, value_at}
-use Rattle.tl_terms.specs.TotalOrders.{key_total, key_ties}
+use Rattle.tl_syntax.specs.declared.value.Value.{Value}
+use Rattle.tl_syntax.specs.declared.fact.Fact.{Fact}
+use Rattle.tl_syntax.specs.Keys.{Key, key_cmp}
+use Rattle.tl_terms.specs.World.{World, has_fact, value_at}
+use Rattle.tl_syntax.specs.TotalOrders.{key_total, key_ties}
 use Rattle.tl_terms.proofs.WorldLaws.{same_world}
-use Rattle.tl_terms.proofs.Plain.{fact_eq, fact_eq-key}
+use Rattle.tl_syntax.proofs.Plain.{fact_eq, fact_eq-key}
 use Rattle.tl_run.specs.Meaning.{key_of, world_of}
 
 -- whether the key is that of one of the facts

@@ -8,7 +8,7 @@ use Rattle.tl_sexpr.specs.Spelling.{symbols_in, symbols_in_all}
 use Rattle.tl_sexpr.proofs.TreeOf.{trees-Forms}
 use Rattle.std.specs.List.{list_any}
 use Rattle.std.specs.Str.{bytes_eq}
-use Rattle.tl_terms.specs.Texts.{with_text}
+use Rattle.tl_syntax.specs.Texts.{with_text}
 use Rattle.tl_run.specs.Forms.{names_with, names_with_all}
 
 -- how many forms stand in a form, itself among them, and in forms

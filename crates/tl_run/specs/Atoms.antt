@@ -3,11 +3,11 @@ use Rattle.std.specs.Prelude.{ℕ, ℤ, List, [], ◌∷◌, length, Option, Som
 use Rattle.std.specs.List.{position}
 use Rattle.std.specs.Option.{option_map_or}
 use Rattle.tl_sexpr.specs.Tree.{FormTree}
-use Rattle.tl_terms.specs.declared.value.Value.{Value}
-use Rattle.tl_terms.specs.declared.value.Value.TheVariants.{Int, Sym}
-use Rattle.tl_terms.specs.declared.declared.Declared.{Declared}
-use Rattle.tl_terms.specs.declared.fact.Fact.{Fact}
-use Rattle.tl_terms.specs.Texts.{number_of}
+use Rattle.tl_syntax.specs.declared.value.Value.{Value}
+use Rattle.tl_syntax.specs.declared.value.Value.TheVariants.{Int, Sym}
+use Rattle.tl_syntax.specs.declared.declared.Declared.{Declared}
+use Rattle.tl_syntax.specs.declared.fact.Fact.{Fact}
+use Rattle.tl_syntax.specs.Texts.{number_of}
 use Rattle.tl_run.specs.Forms.{text_of, integer_of, elements_of, is_variable}
 use Rattle.tl_run.specs.Each.{each_of}
 

@@ -2,7 +2,7 @@
 use Rattle.std.specs.Prelude.{ℕ, ◌<◌, ◌≤◌, List, [], ◌∷◌, length}
 use Rattle.tl_sexpr.specs.Faults.{IsFaultOf}
 use Rattle.tl_sexpr.specs.declared.fault.TextFault.TheVariants as fault
-use Rattle.tl_terms.specs.declared.action.Action.{Action}
+use Rattle.tl_syntax.specs.declared.action.Action.{Action}
 use Rattle.tl_run.specs.declared.plain.domain.GroundDomain.{GroundDomain}
 use Rattle.tl_run.specs.declared.plain.problem.GroundProblem.{GroundProblem}
 use Rattle.tl_run.specs.declared.stop.Broken.{Broken}

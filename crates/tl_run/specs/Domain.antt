@@ -1,7 +1,7 @@
 -- What a plain domain file stands for.
 use Rattle.std.specs.Prelude.{ℕ, List, [], ◌∷◌, ◌++◌, length, ◌≤◌, Option, Some, None, ◌&&◌, nat_lt, if◌then◌else◌, is_some, option_and_then, codes}
 use Rattle.tl_sexpr.specs.Tree.{FormTree}
-use Rattle.tl_terms.specs.declared.declared.Declared.{Declared}
+use Rattle.tl_syntax.specs.declared.declared.Declared.{Declared}
 use Rattle.tl_run.specs.declared.plain.operators.GroundOperator.{GroundOperator}
 use Rattle.tl_run.specs.declared.plain.domain.GroundDomain.{GroundDomain}
 use Rattle.tl_run.specs.Forms.{elements_of, is_word}

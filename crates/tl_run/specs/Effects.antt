@@ -1,8 +1,8 @@
 -- The effects and the precondition of a plain operator.
 use Rattle.std.specs.Prelude.{ℕ, List, [], ◌∷◌, Option, None, if◌then◌else◌, option_map, option_and_then, codes}
 use Rattle.tl_sexpr.specs.Tree.{FormTree}
-use Rattle.tl_terms.specs.declared.declared.Declared.{Declared}
-use Rattle.tl_terms.specs.declared.fact.Fact.{Fact}
+use Rattle.tl_syntax.specs.declared.declared.Declared.{Declared}
+use Rattle.tl_syntax.specs.declared.fact.Fact.{Fact}
 use Rattle.tl_run.specs.declared.plain.effects.GroundEffect.{GroundEffect}
 use Rattle.tl_run.specs.declared.plain.effects.GroundEffect.TheVariants.{Add, Delete}
 use Rattle.tl_run.specs.Forms.{elements_of, is_word}

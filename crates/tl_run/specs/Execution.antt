@@ -1,9 +1,10 @@
 -- What plain operators do to lists of facts.
 use Rattle.std.specs.Prelude.{List, [], ◌∷◌, Bool, true, false, Option, Some, None, ◌==◌, length, slice_get, if◌then◌else◌}
 use Rattle.std.specs.Ordering.{eq_by_cmp}
-use Rattle.tl_terms.specs.declared.fact.Fact.{Fact}
-use Rattle.tl_terms.specs.declared.action.Action.{Action}
-use Rattle.tl_terms.specs.World.{World, Key, key_cmp, has_fact}
+use Rattle.tl_syntax.specs.declared.fact.Fact.{Fact}
+use Rattle.tl_syntax.specs.declared.action.Action.{Action}
+use Rattle.tl_syntax.specs.Keys.{Key, key_cmp}
+use Rattle.tl_terms.specs.World.{World, has_fact}
 use Rattle.tl_run.specs.declared.plain.effects.GroundEffect.{GroundEffect}
 use Rattle.tl_run.specs.declared.plain.effects.GroundEffect.TheVariants.{Add, Delete}
 use Rattle.tl_run.specs.declared.plain.operators.GroundOperator.{GroundOperator}

@@ -5,7 +5,7 @@ use Rattle.tl_sexpr.specs.Spelling.{Spells}
 use Rattle.tl_sexpr.specs.Faults.{IsFaultOf}
 use Rattle.tl_sexpr.specs.declared.fault.TextFault.{TextFault}
 use Rattle.tl_sexpr.specs.declared.fault.TextFault.TheVariants as text
-use Rattle.tl_terms.specs.declared.action.Action.{Action}
+use Rattle.tl_syntax.specs.declared.action.Action.{Action}
 use Rattle.tl_run.specs.declared.plain.domain.GroundDomain.{GroundDomain}
 use Rattle.tl_run.specs.declared.plain.problem.GroundProblem.{GroundProblem}
 use Rattle.tl_run.specs.declared.stop.Broken.TheVariants as broken

@@ -4,7 +4,7 @@ use Rattle.std.specs.List.{list_any}
 use Rattle.std.specs.Option.{option_map_or}
 use Rattle.std.specs.Str.{bytes_eq}
 use Rattle.tl_sexpr.specs.Tree.{FormTree, FormTrees, symbol, integer, list, no_form, more_forms}
-use Rattle.tl_terms.specs.Texts.{with_text}
+use Rattle.tl_syntax.specs.Texts.{with_text}
 
 -- forms as a list
 abbrev pub forms_in : FormTrees → List FormTree

@@ -2,11 +2,12 @@
 use Rattle.std.specs.Prelude.{List, [], ◌∷◌, Option, Some, None, map}
 use Rattle.std.specs.FinSet as set
 use Rattle.std.specs.FinMap as dict
-use Rattle.tl_terms.specs.declared.value.Value.{Value}
-use Rattle.tl_terms.specs.declared.fact.Fact.{Fact}
-use Rattle.tl_terms.specs.Trees.{TermTrees, value, no_term, more_terms, FormulaTree, verum, atom}
-use Rattle.tl_terms.specs.Effects.{EffectTree, EffectTrees, add, del, no_effect, more_effects}
-use Rattle.tl_terms.specs.World.{World, Key}
+use Rattle.tl_syntax.specs.declared.value.Value.{Value}
+use Rattle.tl_syntax.specs.declared.fact.Fact.{Fact}
+use Rattle.tl_syntax.specs.Trees.{TermTrees, value, no_term, more_terms, FormulaTree, verum, atom}
+use Rattle.tl_syntax.specs.Effects.{EffectTree, EffectTrees, add, del, no_effect, more_effects}
+use Rattle.tl_syntax.specs.Keys.{Key}
+use Rattle.tl_terms.specs.World.{World}
 use Rattle.tl_terms.specs.Problem.{PlainOperator, PlainProblem}
 use Rattle.tl_run.specs.declared.plain.effects.GroundEffect.{GroundEffect}
 use Rattle.tl_run.specs.declared.plain.effects.GroundEffect.TheVariants.{Add, Delete}

@@ -2,8 +2,8 @@
 use Rattle.std.specs.Prelude.{ℕ, List, [], ◌∷◌, Option, Some, None, ◌==◌, if◌then◌else◌, is_some, option_map, option_and_then}
 use Rattle.std.specs.List.{position}
 use Rattle.tl_sexpr.specs.Tree.{FormTree}
-use Rattle.tl_terms.specs.declared.declared.Declared.{Declared}
-use Rattle.tl_terms.specs.declared.fact.Fact.{Fact}
+use Rattle.tl_syntax.specs.declared.declared.Declared.{Declared}
+use Rattle.tl_syntax.specs.declared.fact.Fact.{Fact}
 use Rattle.tl_run.specs.declared.plain.effects.GroundEffect.{GroundEffect}
 use Rattle.tl_run.specs.declared.plain.operators.GroundOperator.{GroundOperator}
 use Rattle.tl_run.specs.Forms.{elements_of}

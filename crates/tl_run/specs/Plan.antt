@@ -1,7 +1,7 @@
 -- What a plain plan file stands for.
 use Rattle.std.specs.Prelude.{ℕ, List, [], length, Option, None, nat_le, if◌then◌else◌, option_map, option_and_then}
 use Rattle.tl_sexpr.specs.Tree.{FormTree}
-use Rattle.tl_terms.specs.declared.action.Action.{Action}
+use Rattle.tl_syntax.specs.declared.action.Action.{Action}
 use Rattle.tl_run.specs.declared.plain.operators.GroundOperator.{GroundOperator}
 use Rattle.tl_run.specs.Forms.{elements_of}
 use Rattle.tl_run.specs.Operators.{operator_at, head_in}

@@ -1,7 +1,7 @@
 -- Declared predicates.
 use Rattle.std.specs.Prelude.{ℕ, ℤ, pos, negsuc, List, Option, Some, None, ◌||◌, nat_lt, if◌then◌else◌, is_some, option_and_then}
 use Rattle.tl_sexpr.specs.Tree.{FormTree}
-use Rattle.tl_terms.specs.declared.declared.Declared.{Declared}
+use Rattle.tl_syntax.specs.declared.declared.Declared.{Declared}
 use Rattle.tl_run.specs.Forms.{integer_of, is_reserved_word}
 use Rattle.tl_run.specs.Atoms.{name_of, declared_at}
 

@@ -1,8 +1,8 @@
 -- What a plain problem file stands for.
 use Rattle.std.specs.Prelude.{ℕ, List, [], ◌∷◌, length, Option, Some, None, ◌&&◌, nat_le, if◌then◌else◌, is_some, option_and_then, codes}
 use Rattle.tl_sexpr.specs.Tree.{FormTree}
-use Rattle.tl_terms.specs.declared.declared.Declared.{Declared}
-use Rattle.tl_terms.specs.declared.fact.Fact.{Fact}
+use Rattle.tl_syntax.specs.declared.declared.Declared.{Declared}
+use Rattle.tl_syntax.specs.declared.fact.Fact.{Fact}
 use Rattle.tl_run.specs.declared.plain.problem.GroundProblem.{GroundProblem}
 use Rattle.tl_run.specs.Forms.{elements_of, is_word}
 use Rattle.tl_run.specs.Atoms.{name_of, atom_of}

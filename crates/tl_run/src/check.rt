@@ -15,7 +15,7 @@ use crate::verdict::Verdict;
 use crate::words::FileNames;
 use std::alloc::Global;
 use tl_outside::Store;
-use tl_terms::Names;
+use tl_syntax::Names;
 
 /// What a domain file and a problem file stand for.
 #[derive(Drop)]

@@ -6,7 +6,7 @@ ghost use Rattle.tl_run.specs.Turns.{StopsAt};
 use crate::stop::{Broken, Stop};
 use std::alloc::Global;
 use tl_outside::{ReadFault, Store, read_whole};
-use tl_terms::Bytes;
+use tl_syntax::Bytes;
 
 /// The greatest length of a file, in bytes.
 const LIMIT: usize = 4_194_304;

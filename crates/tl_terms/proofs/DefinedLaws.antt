@@ -4,21 +4,21 @@ use Rattle.std.specs.List.{list_any, list_all}
 use mathlib.Core.Path.{fun_ext}
 use native.Mathlib.Decide.{dec_lt}
 use borrow.Author.Tests.{eq-eqb, ne_eqb}
-use Rattle.tl_terms.specs.Assignment.{Assignment, no_values, bind}
+use Rattle.tl_syntax.specs.Assignment.{Assignment, no_values, bind}
 use Rattle.tl_terms.specs.Bounds.{bound_true, tuples_of, tuples}
 use Rattle.tl_terms.specs.Definitions.{Tests, asked, table_of, situation_under, true_at_level, with_definition, tests_of, situation_of}
 use Rattle.tl_terms.specs.LawsDefinitions.{own_or_outer, body_at_level}
-use Rattle.tl_terms.specs.Named.{IsNamingBelow, AreNamingBelow}
+use Rattle.tl_syntax.specs.Named.{IsNamingBelow, AreNamingBelow}
 use Rattle.tl_terms.specs.Problem.{PlainDefinition, PlainProblem}
 use Rattle.tl_terms.specs.Situation.{Table}
 use Rattle.tl_terms.specs.Terms.{term_values}
-use Rattle.tl_terms.specs.Trees.{FormulaTree, verum, falsum, atom, defined, compare, goal_fact, goal_place, goal_not, negation, conjunction, disjunction, for_all, for_some, next, always, eventually, until, within, during, FormulaTrees, no_formula, more_formulas}
+use Rattle.tl_syntax.specs.Trees.{FormulaTree, verum, falsum, atom, defined, compare, goal_fact, goal_place, goal_not, negation, conjunction, disjunction, for_all, for_some, next, always, eventually, until, within, during, FormulaTrees, no_formula, more_formulas}
 use Rattle.tl_terms.specs.Truth.{defined_true, state_true, all_true, one_true}
 use Rattle.tl_terms.specs.World.{World, values_of}
-use Rattle.tl_terms.specs.declared.value.Value.{Value}
-use Rattle.tl_terms.specs.declared.variable.Var.{Var}
-use Rattle.tl_terms.specs.declared.bound.Bound.{Bound}
-use Rattle.tl_terms.specs.declared.bound.Bound.TheVariants as bound
+use Rattle.tl_syntax.specs.declared.value.Value.{Value}
+use Rattle.tl_syntax.specs.declared.variable.Var.{Var}
+use Rattle.tl_syntax.specs.declared.bound.Bound.{Bound}
+use Rattle.tl_syntax.specs.declared.bound.Bound.TheVariants as bound
 
 -- bounds do not see the table
 bound-table : (w g a : World) (s t : Table) (e : Assignment) (b : Bound)

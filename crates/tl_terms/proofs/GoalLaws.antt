@@ -4,10 +4,11 @@ use Rattle.std.specs.FinSet as set
 use Rattle.std.specs.FinMap as dict
 use Rattle.tl_terms.specs.Acceptance.{is_value, meets_goal}
 use Rattle.tl_terms.specs.LawsGoal.{MeetsGoal}
-use Rattle.tl_terms.specs.World.{Key, World, has_fact, value_at}
+use Rattle.tl_syntax.specs.Keys.{Key}
+use Rattle.tl_terms.specs.World.{World, has_fact, value_at}
 use Rattle.tl_terms.proofs.KeyLaws.{value-is, value-itself, fact-among, place-among}
-use Rattle.tl_terms.proofs.ListLaws.{iff-trans, iff-sym, and-iff, not-iff, all-iff, Each-Among}
-use Rattle.tl_terms.specs.declared.value.Value.{Value}
+use Rattle.tl_syntax.proofs.ListLaws.{iff-trans, iff-sym, and-iff, not-iff, all-iff, Each-Among}
+use Rattle.tl_syntax.specs.declared.value.Value.{Value}
 
 is_value-iff : (o : Option Value) (v : Value) → (o ≡ Some v) ↔ (is_value o v ≡ true)
 is_value-iff None v = (λ e. let z : ⊥ = cc in absurd z, λ e. absurd (true≢false (sym e)))

@@ -1,18 +1,18 @@
 -- On the run that repeats one world for ever, a formula holds exactly where it is idly true.
 use Rattle.std.proofs.Common.{◌≡◌, ℕ, suc, ◌↔◌, true, true≢false, refl, sym, ap, arith}
-use Rattle.tl_terms.specs.Assignment.{Assignment, no_values, bind}
+use Rattle.tl_syntax.specs.Assignment.{Assignment, no_values, bind}
 use Rattle.tl_terms.specs.Bounds.{tuples}
 use Rattle.tl_terms.specs.Definitions.{situation_of}
 use Rattle.tl_terms.specs.Idle.{idle_true, idle_all, idle_one}
 use Rattle.tl_terms.specs.LawsIdle.{IdleWords}
-use Rattle.tl_terms.specs.Lists.{Each, One}
+use Rattle.tl_syntax.specs.Lists.{Each, One}
 use Rattle.tl_terms.specs.Problem.{PlainProblem}
 use Rattle.tl_terms.specs.Run.{Situations, Holds, HoldAll, HoldsOne, situations_of, Satisfies, idle_run}
 use Rattle.tl_terms.specs.Situation.{Situation}
-use Rattle.tl_terms.specs.Trees.{FormulaTree, verum, falsum, atom, defined, compare, goal_fact, goal_place, goal_not, negation, conjunction, disjunction, for_all, for_some, next, always, eventually, until, within, during, FormulaTrees, no_formula, more_formulas}
+use Rattle.tl_syntax.specs.Trees.{FormulaTree, verum, falsum, atom, defined, compare, goal_fact, goal_place, goal_not, negation, conjunction, disjunction, for_all, for_some, next, always, eventually, until, within, during, FormulaTrees, no_formula, more_formulas}
 use Rattle.tl_terms.specs.Truth.{state_true}
 use Rattle.tl_terms.specs.World.{World}
-use Rattle.tl_terms.proofs.ListLaws.{iff-trans, iff-path, and-iff, or-iff, not-iff, all-iff, any-iff}
+use Rattle.tl_syntax.proofs.ListLaws.{iff-trans, iff-path, and-iff, or-iff, not-iff, all-iff, any-iff}
 use Rattle.tl_terms.proofs.PlanLaws.{state-idle}
 
 module _ (r : Situations) (s : Situation) (still : (j : ℕ) → r j ≡ s) where

@@ -5,12 +5,13 @@ use Rattle.std.specs.FinSet as set
 use Rattle.std.specs.FinMap as dict
 use Rattle.std.specs.Ordering.{eq_by_cmp, is_eq}
 use Rattle.std.specs.Cmp.{tied_itself, Equal-is}
-use Rattle.tl_terms.specs.Lists.{Among, Rises}
-use Rattle.tl_terms.specs.TotalOrders.{value_total, key_total, value_ties, key_ties}
-use Rattle.tl_terms.specs.World.{Key, value_cmp, key_cmp, World, has_fact, value_at}
-use Rattle.tl_terms.proofs.ListLaws.{iff-trans, iff-path, or-iff, Each-Among}
+use Rattle.tl_syntax.specs.Lists.{Among, Rises}
+use Rattle.tl_syntax.specs.TotalOrders.{value_total, key_total, value_ties, key_ties}
+use Rattle.tl_syntax.specs.Keys.{Key, value_cmp, key_cmp}
+use Rattle.tl_terms.specs.World.{World, has_fact, value_at}
+use Rattle.tl_syntax.proofs.ListLaws.{iff-trans, iff-path, or-iff, Each-Among}
 use Rattle.tl_terms.proofs.TuplesRise.{keys-rise}
-use Rattle.tl_terms.specs.declared.value.Value.{Value}
+use Rattle.tl_syntax.specs.declared.value.Value.{Value}
 
 pub key-is : (k x : Key) → eq_by_cmp key_cmp k x ≡ true → x ≡ k
 key-is k x q = sym (key_ties k x ((Equal-is (key_cmp k x)).0 q))

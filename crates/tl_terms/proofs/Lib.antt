@@ -1,8 +1,3 @@
-pub mod Texts
-pub mod Places
-pub mod InOrder
-pub mod SettledTexts
-pub mod ListLaws
 pub mod KeyLaws
 pub mod WorldLaws
 pub mod GoalLaws
@@ -21,11 +16,3 @@ pub mod IdleLaws
 pub mod StepLaws
 pub mod OrderLaws
 pub mod QuantifierExamples
-pub mod Plain
-pub mod PartsSame
-pub mod TermTrees
-pub mod FormulaTrees
-pub mod EffectTrees
-pub mod TermSame
-pub mod FormulaSame
-pub mod Bindings

@@ -2,15 +2,15 @@
 use Rattle.std.specs.Prelude.{IsSome, is_some}
 use Rattle.std.proofs.Common.{◌≢◌, ◌↔◌, true≢false, subst, ◌≡◌, List, [], ◌∷◌, ◌++◌, Option, Some, None, refl, sym, ap, ◌∙◌}
 use Rattle.tl_terms.specs.Acceptance.{then_states, states_from, states, last_of}
-use Rattle.tl_terms.specs.Assignment.{no_values}
+use Rattle.tl_syntax.specs.Assignment.{no_values}
 use Rattle.tl_terms.specs.Definitions.{situation_of}
 use Rattle.tl_terms.specs.Pairs.{residual, Pair, pair_after, pair_of, IsOpen}
 use Rattle.tl_terms.specs.Problem.{PlainProblem}
 use Rattle.tl_terms.specs.Progression.{progressed}
 use Rattle.tl_terms.specs.Step.{step}
-use Rattle.tl_terms.specs.Trees.{FormulaTree, falsum}
+use Rattle.tl_syntax.specs.Trees.{FormulaTree, falsum}
 use Rattle.tl_terms.specs.World.{World}
-use Rattle.tl_terms.specs.declared.action.Action.{Action}
+use Rattle.tl_syntax.specs.declared.action.Action.{Action}
 
 -- the pair that comes of a world, where there is one, with what comes in
 abbrev go : PlainProblem → FormulaTree → Option World → List Action → Option Pair

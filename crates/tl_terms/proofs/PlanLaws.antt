@@ -3,20 +3,20 @@ use Rattle.std.proofs.Common.{Option, None, ◌≡◌, ℕ, zero, suc, ◌+◌, 
 use borrow.Author.Tests.{le-ltb, lt-ltb}
 use native.Mathlib.Decide.{dec_lt}
 use Rattle.tl_terms.specs.Acceptance.{states, last_of, all_but_last, run_of, IsAccepted}
-use Rattle.tl_terms.specs.Assignment.{Assignment, no_values, bind}
+use Rattle.tl_syntax.specs.Assignment.{Assignment, no_values, bind}
 use Rattle.tl_terms.specs.Bounds.{tuples}
 use Rattle.tl_terms.specs.Definitions.{situation_of}
-use Rattle.tl_terms.specs.Lists.{Each, One}
+use Rattle.tl_syntax.specs.Lists.{Each, One}
 use Rattle.tl_terms.specs.Pairs.{residual, Pair, pair_after, pair_of, IsPairAccepted}
 use Rattle.tl_terms.specs.Problem.{PlainProblem}
 use Rattle.tl_terms.specs.Progression.{progressed}
 use Rattle.tl_terms.specs.Run.{Situations, Holds, HoldAll, HoldsOne, Run, state_at, situations_of, Satisfies, idle_run, Begins}
-use Rattle.tl_terms.specs.Trees.{FormulaTree, verum, falsum, atom, defined, compare, goal_fact, goal_place, goal_not, negation, conjunction, disjunction, for_all, for_some, next, always, eventually, until, within, during, FormulaTrees, no_formula, more_formulas}
+use Rattle.tl_syntax.specs.Trees.{FormulaTree, verum, falsum, atom, defined, compare, goal_fact, goal_place, goal_not, negation, conjunction, disjunction, for_all, for_some, next, always, eventually, until, within, during, FormulaTrees, no_formula, more_formulas}
 use Rattle.tl_terms.specs.Truth.{state_true}
 use Rattle.tl_terms.specs.World.{World}
-use Rattle.tl_terms.proofs.ListLaws.{iff-trans, iff-path, Each-map, One-map}
+use Rattle.tl_syntax.proofs.ListLaws.{iff-trans, iff-path, Each-map, One-map}
 use Rattle.tl_terms.proofs.RunLaws.{progression-Satisfies}
-use Rattle.tl_terms.specs.declared.action.Action.{Action}
+use Rattle.tl_syntax.specs.declared.action.Action.{Action}
 
 -- ---- a formula sees only the states from its position on
 

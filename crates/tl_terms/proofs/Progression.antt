@@ -1,19 +1,19 @@
 -- The progression lemma.
 use Rattle.std.proofs.Common.{◌≡◌, ℕ, zero, suc, ◌≤◌, ◌⊎◌, ◌↔◌, List, [], ◌∷◌, map, Bool, true, false, true≢false, refl, sym, subst, inl, inr, arith}
 use native.Mathlib.Decide.{dec_lt}
-use Rattle.tl_terms.specs.Assignment.{Assignment, no_values, bind}
+use Rattle.tl_syntax.specs.Assignment.{Assignment, no_values, bind}
 use Rattle.tl_terms.specs.Bounds.{tuples}
-use Rattle.tl_terms.specs.Lists.{Each, One}
+use Rattle.tl_syntax.specs.Lists.{Each, One}
 use Rattle.tl_terms.specs.Progression.{constant, progressed, progressed_all}
 use Rattle.tl_terms.specs.Run.{Situations, Holds, HoldAll, HoldsOne}
 use Rattle.tl_terms.specs.Simplification.{simplified_and}
-use Rattle.tl_terms.specs.Substitution.{substituted}
-use Rattle.tl_terms.specs.Trees.{FormulaTree, verum, falsum, atom, defined, compare, goal_fact, goal_place, goal_not, negation, conjunction, disjunction, for_all, for_some, next, always, eventually, until, within, during, FormulaTrees, no_formula, more_formulas}
+use Rattle.tl_syntax.specs.Substitution.{substituted}
+use Rattle.tl_syntax.specs.Trees.{FormulaTree, verum, falsum, atom, defined, compare, goal_fact, goal_place, goal_not, negation, conjunction, disjunction, for_all, for_some, next, always, eventually, until, within, during, FormulaTrees, no_formula, more_formulas}
 use Rattle.tl_terms.specs.Truth.{state_true}
 use Rattle.tl_terms.proofs.SubstitutedHolds.{Holds-substituted-no_values}
-use Rattle.tl_terms.proofs.ListLaws.{iff-trans, iff-sym, Each-map, One-map, Each-over, One-over}
+use Rattle.tl_syntax.proofs.ListLaws.{iff-trans, iff-sym, Each-map, One-map, Each-over, One-over}
 use Rattle.tl_terms.proofs.Simplification.{simplified_and-holds, simplified_or-holds, simplified_not-holds}
-use Rattle.tl_terms.specs.declared.value.Value.{Value}
+use Rattle.tl_syntax.specs.declared.value.Value.{Value}
 
 split : (i j : ℕ) → i ≤ j → (i ≡ j) ⊎ (suc i ≤ j)
 split i j q = elim (dec_lt i j) [ yes h ↦ inr h | no h ↦ inl (omega arith) ]

@@ -4,28 +4,29 @@ use Rattle.std.specs.Ordering.{eq_by_cmp}
 use Rattle.std.specs.Cmp.{IsTotalOrder, tied_itself}
 use Rattle.std.specs.Cmp.Lexicographic.{slice_cmp, lists_total}
 use Rattle.tl_terms.specs.Acceptance.{meets_goal}
-use Rattle.tl_terms.specs.Assignment.{no_values, bind}
+use Rattle.tl_syntax.specs.Assignment.{no_values, bind}
 use Rattle.tl_terms.specs.Bounds.{bound_true, tuples}
 use Rattle.tl_terms.specs.Examples.{world, nothing, alone, has_fact-world, value_at-world, same-other, on, only_on}
-use Rattle.tl_terms.specs.Lists.{Among, Rises}
+use Rattle.tl_syntax.specs.Lists.{Among, Rises}
 use Rattle.tl_terms.specs.Progression.{progressed}
 use Rattle.tl_terms.specs.Simplification.{and_parts, without_repeats, simplified_and}
-use Rattle.tl_terms.specs.Substitution.{substituted_term, substituted}
-use Rattle.tl_terms.specs.TotalOrders.{value_total}
-use Rattle.tl_terms.specs.Trees.{variable, no_term, more_terms, FormulaTree, verum, falsum, atom, conjunction, for_all, for_some, next, always, formulas_of_list}
+use Rattle.tl_syntax.specs.Substitution.{substituted_term, substituted}
+use Rattle.tl_syntax.specs.TotalOrders.{value_total}
+use Rattle.tl_syntax.specs.Trees.{variable, no_term, more_terms, FormulaTree, verum, falsum, atom, conjunction, for_all, for_some, next, always, formulas_of_list}
 use Rattle.tl_terms.specs.Truth.{state_true}
-use Rattle.tl_terms.specs.World.{Key, value_cmp, key_cmp, World, has_fact}
+use Rattle.tl_syntax.specs.Keys.{Key, value_cmp, key_cmp}
+use Rattle.tl_terms.specs.World.{World, has_fact}
 use Rattle.tl_terms.proofs.GoalLaws.{goal-by-membership}
 use Rattle.tl_terms.proofs.KeyLaws.{key-is, key-itself}
-use Rattle.tl_terms.proofs.ListLaws.{iff-trans}
+use Rattle.tl_syntax.proofs.ListLaws.{iff-trans}
 use Rattle.tl_terms.proofs.Tuples.{all-tuples}
 use Rattle.tl_terms.proofs.TuplesRise.{tuples-rise}
-use Rattle.tl_terms.specs.declared.value.Value.{Value}
-use Rattle.tl_terms.specs.declared.variable.Var.{Var}
-use Rattle.tl_terms.specs.declared.bound.Bound.{Bound}
-use Rattle.tl_terms.specs.declared.value.Value.TheVariants.{Sym}
-use Rattle.tl_terms.specs.declared.variable.Arg.TheVariants as arg
-use Rattle.tl_terms.specs.declared.bound.Bound.TheVariants as bound
+use Rattle.tl_syntax.specs.declared.value.Value.{Value}
+use Rattle.tl_syntax.specs.declared.variable.Var.{Var}
+use Rattle.tl_syntax.specs.declared.bound.Bound.{Bound}
+use Rattle.tl_syntax.specs.declared.value.Value.TheVariants.{Sym}
+use Rattle.tl_syntax.specs.declared.variable.Arg.TheVariants as arg
+use Rattle.tl_syntax.specs.declared.bound.Bound.TheVariants as bound
 
 -- a list without members is empty
 no_member : {A : Type 0} (xs : List A) → ((x : A) → Among x xs → ⊥) → xs ≡ []

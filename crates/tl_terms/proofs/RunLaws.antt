@@ -4,7 +4,7 @@ use Rattle.std.specs.List.{list_any, list_all}
 use borrow.Author.Tests.{le-ltb}
 use native.Mathlib.Nat.{add-mod_right}
 use mathlib.Core.Path.{fun_ext}
-use Rattle.tl_terms.specs.Assignment.{Assignment, no_values, bind}
+use Rattle.tl_syntax.specs.Assignment.{Assignment, no_values, bind}
 use Rattle.tl_terms.specs.Bounds.{tuples}
 use Rattle.tl_terms.specs.Definitions.{situation_of}
 use Rattle.tl_terms.specs.Problem.{PlainProblem}
@@ -12,13 +12,14 @@ use Rattle.tl_terms.specs.Progression.{constant, progressed, progressed_all}
 use Rattle.tl_terms.specs.Run.{Situations, Holds, HoldAll, HoldsOne, Run, state_at, situations_of, Satisfies}
 use Rattle.tl_terms.specs.Simplification.{and_parts, or_parts, is_verum, is_falsum, without_repeats, conjunction_of, disjunction_of, simplified_and, simplified_or, simplified_not}
 use Rattle.tl_terms.specs.Situation.{Situation}
-use Rattle.tl_terms.specs.Trees.{FormulaTree, verum, falsum, atom, defined, compare, goal_fact, goal_place, goal_not, negation, conjunction, disjunction, for_all, for_some, next, always, eventually, until, within, during, FormulaTrees, no_formula, more_formulas, formulas_of_list}
-use Rattle.tl_terms.specs.Truth.{state_true, all_true, one_true, IsState, AreState}
+use Rattle.tl_syntax.specs.Trees.{FormulaTree, verum, falsum, atom, defined, compare, goal_fact, goal_place, goal_not, negation, conjunction, disjunction, for_all, for_some, next, always, eventually, until, within, during, FormulaTrees, no_formula, more_formulas, formulas_of_list}
+use Rattle.tl_syntax.specs.StateFormulas.{IsState, AreState}
+use Rattle.tl_terms.specs.Truth.{state_true, all_true, one_true}
 use Rattle.tl_terms.proofs.Lasso.{decided}
 use Rattle.tl_terms.proofs.Progression.{progression}
-use Rattle.tl_terms.proofs.ListLaws.{iff-trans, and-iff, or-iff, not-iff, all-iff, any-iff}
+use Rattle.tl_syntax.proofs.ListLaws.{iff-trans, and-iff, or-iff, not-iff, all-iff, any-iff}
 use Rattle.tl_terms.proofs.Simplification.{formulas_of_list-All, formulas_of_list-One, simplified_and-holds, simplified_or-holds, simplified_not-holds}
-use Rattle.tl_terms.specs.declared.value.Value.{Value}
+use Rattle.tl_syntax.specs.declared.value.Value.{Value}
 
 past : (r : Run) (j : ℕ) → length r.stem ≤ j → state_at r j ≡ slice_index_or (r.first ∷ r.rest) ((j - length r.stem) % suc (length r.rest)) r.first
 unfolding state_at

@@ -1,13 +1,13 @@
 -- What simplified_and, simplified_or and simplified_not make holds where the conjunction, the disjunction and the negation do.
 use Rattle.std.proofs.Common.{◌≡◌, ℕ, ◌⊎◌, ◌↔◌, List, [], ◌∷◌, flat_map, filter, true, false, cond, not, true≢false, refl, sym, subst, inl, inr}
 use Rattle.std.specs.List.{list_any}
-use Rattle.tl_terms.specs.Assignment.{Assignment}
-use Rattle.tl_terms.specs.Lists.{Each, One}
+use Rattle.tl_syntax.specs.Assignment.{Assignment}
+use Rattle.tl_syntax.specs.Lists.{Each, One}
 use Rattle.tl_terms.specs.Run.{Situations, Holds, HoldAll, HoldsOne}
-use Rattle.tl_terms.specs.Same.{formula_discrete}
+use Rattle.tl_syntax.specs.Same.{formula_discrete}
 use Rattle.tl_terms.specs.Simplification.{is_yes, same_formula, and_parts, and_parts_all, or_parts, or_parts_all, is_verum, is_falsum, without_repeats, conjunction_of, disjunction_of, simplified_and, simplified_or, simplified_not}
-use Rattle.tl_terms.specs.Trees.{FormulaTree, verum, falsum, atom, defined, compare, goal_fact, goal_place, goal_not, negation, conjunction, disjunction, for_all, for_some, next, always, eventually, until, within, during, FormulaTrees, no_formula, more_formulas, formulas_of_list}
-use Rattle.tl_terms.proofs.ListLaws.{Each-append, One-append, Each-drop, One-drop, Each-refuted, One-certain, One-filter, One-split}
+use Rattle.tl_syntax.specs.Trees.{FormulaTree, verum, falsum, atom, defined, compare, goal_fact, goal_place, goal_not, negation, conjunction, disjunction, for_all, for_some, next, always, eventually, until, within, during, FormulaTrees, no_formula, more_formulas, formulas_of_list}
+use Rattle.tl_syntax.proofs.ListLaws.{Each-append, One-append, Each-drop, One-drop, Each-refuted, One-certain, One-filter, One-split}
 
 -- a formula that is tested equal is the same_formula
 pub same_formula-is : (f g : FormulaTree) → same_formula f g ≡ true → f ≡ g

@@ -5,22 +5,23 @@ use Rattle.std.specs.List.{list_any, list_all}
 use Rattle.std.specs.FinSet as set
 use Rattle.std.specs.FinMap as dict
 use Rattle.std.specs.Ordering.{eq_by_cmp, is_eq}
-use Rattle.tl_terms.specs.Assignment.{Assignment, no_values, bind}
+use Rattle.tl_syntax.specs.Assignment.{Assignment, no_values, bind}
 use Rattle.tl_terms.specs.Bounds.{bound_true}
 use Rattle.tl_terms.specs.Definitions.{situation_of}
 use Rattle.tl_terms.specs.LawsStep.{IsChange, IsStep}
-use Rattle.tl_terms.specs.Lists.{Each, Among}
+use Rattle.tl_syntax.specs.Lists.{Each, Among}
 use Rattle.tl_terms.specs.Problem.{PlainOperator, PlainProblem}
 use Rattle.tl_terms.specs.Situation.{Situation}
 use Rattle.tl_terms.specs.Step.{EffectInstance, all_instances, is_defined, added, deleted, given, agree, no_clash, without_all, with_all, overwritten, changed, applied, applied_if, step}
-use Rattle.tl_terms.specs.TotalOrders.{key_total}
+use Rattle.tl_syntax.specs.TotalOrders.{key_total}
 use Rattle.tl_terms.specs.Truth.{state_true}
-use Rattle.tl_terms.specs.World.{Key, value_cmp, key_cmp, World, has_fact, value_at}
+use Rattle.tl_syntax.specs.Keys.{Key, value_cmp, key_cmp}
+use Rattle.tl_terms.specs.World.{World, has_fact, value_at}
 use Rattle.tl_terms.proofs.KeyLaws.{key-is, key-itself, value-is, value-itself, key-among}
-use Rattle.tl_terms.proofs.ListLaws.{iff-trans, iff-path, iff-sym, One-flat, one_out, one_in, and-iff, or-iff, not-iff, all-iff, Each-Among, same_test}
+use Rattle.tl_syntax.proofs.ListLaws.{iff-trans, iff-path, iff-sym, One-flat, one_out, one_in, and-iff, or-iff, not-iff, all-iff, Each-Among, same_test}
 use Rattle.tl_terms.proofs.WorldLaws.{same_world}
-use Rattle.tl_terms.specs.declared.value.Value.{Value}
-use Rattle.tl_terms.specs.declared.action.Action.{Action}
+use Rattle.tl_syntax.specs.declared.value.Value.{Value}
+use Rattle.tl_syntax.specs.declared.action.Action.{Action}
 
 contains-with_all : (s : set.FinSet key_cmp) (ks : List Key) (q : Key) → set.contains (with_all s ks) q ≡ (list_any (eq_by_cmp key_cmp q) ks || set.contains s q)
 contains-with_all s [] q = refl

@@ -1,23 +1,23 @@
 -- A formula with values put in holds where it holds under them.
 use Rattle.std.proofs.Common.{◌≡◌, ℕ, suc, ◌↔◌, List, [], ◌∷◌, filter, length, Bool, true, false, cond, ◌==◌, Option, Some, None, refl, ap, ap₂, ◌∙◌, inl, inr}
 use mathlib.Core.Path.{fun_ext}
-use Rattle.tl_terms.specs.Assignment.{Assignment, no_values, bind}
+use Rattle.tl_syntax.specs.Assignment.{Assignment, no_values, bind}
 use Rattle.tl_terms.specs.Bounds.{arg_value, arg_values, fact_in, same_value, bound_true, tuples_of, tuples}
-use Rattle.tl_terms.specs.Lists.{Each, One}
+use Rattle.tl_syntax.specs.Lists.{Each, One}
 use Rattle.tl_terms.specs.Run.{Situations, Holds, HoldAll, HoldsOne}
 use Rattle.tl_terms.specs.Situation.{Situation}
-use Rattle.tl_terms.specs.Substitution.{or_else, over, without, value_or_arg, substituted_arg, substituted_args, substituted_bound, value_or_term, substituted_term, substituted_terms, substituted, substituted_all}
+use Rattle.tl_syntax.specs.Substitution.{or_else, over, without, value_or_arg, substituted_arg, substituted_args, substituted_bound, value_or_term, substituted_term, substituted_terms, substituted, substituted_all}
 use Rattle.tl_terms.specs.Terms.{apply_op, prepend, place_value, term_value, term_values}
-use Rattle.tl_terms.specs.Trees.{TermTree, variable, value, place, arith, TermTrees, no_term, more_terms, FormulaTree, verum, falsum, atom, defined, compare, goal_fact, goal_place, goal_not, negation, conjunction, disjunction, for_all, for_some, next, always, eventually, until, within, during, FormulaTrees, no_formula, more_formulas}
+use Rattle.tl_syntax.specs.Trees.{TermTree, variable, value, place, arith, TermTrees, no_term, more_terms, FormulaTree, verum, falsum, atom, defined, compare, goal_fact, goal_place, goal_not, negation, conjunction, disjunction, for_all, for_some, next, always, eventually, until, within, during, FormulaTrees, no_formula, more_formulas}
 use Rattle.tl_terms.specs.Truth.{defined_true, compared, state_true}
 use Rattle.tl_terms.specs.World.{World, values_of}
-use Rattle.tl_terms.proofs.ListLaws.{iff-trans, iff-path, Each-map, One-map}
-use Rattle.tl_terms.specs.declared.value.Value.{Value}
-use Rattle.tl_terms.specs.declared.variable.Var.{Var}
-use Rattle.tl_terms.specs.declared.variable.Arg.{Arg}
-use Rattle.tl_terms.specs.declared.bound.Bound.{Bound}
-use Rattle.tl_terms.specs.declared.variable.Arg.TheVariants as arg
-use Rattle.tl_terms.specs.declared.bound.Bound.TheVariants as bound
+use Rattle.tl_syntax.proofs.ListLaws.{iff-trans, iff-path, Each-map, One-map}
+use Rattle.tl_syntax.specs.declared.value.Value.{Value}
+use Rattle.tl_syntax.specs.declared.variable.Var.{Var}
+use Rattle.tl_syntax.specs.declared.variable.Arg.{Arg}
+use Rattle.tl_syntax.specs.declared.bound.Bound.{Bound}
+use Rattle.tl_syntax.specs.declared.variable.Arg.TheVariants as arg
+use Rattle.tl_syntax.specs.declared.bound.Bound.TheVariants as bound
 
 abbrev pub IsBasic : FormulaTree → Type 0
 IsBasic (atom p ts) = Unit {0}

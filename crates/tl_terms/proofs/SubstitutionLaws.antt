@@ -2,27 +2,27 @@
 use Rattle.std.proofs.Common.{◌≡◌, ℕ, zero, suc, ◌↔◌, List, [], ◌∷◌, map, Bool, true, false, cond, not, ◌==◌, ◌&&◌, ◌||◌, Some, None, refl, sym, ap, ap₂, ◌∙◌}
 use Rattle.std.specs.List.{list_any, list_all}
 use mathlib.Core.Path.{fun_ext}
-use Rattle.tl_terms.specs.Assignment.{Assignment, no_values, bind}
+use Rattle.tl_syntax.specs.Assignment.{Assignment, no_values, bind}
 use Rattle.tl_terms.specs.Bounds.{tuples}
 use Rattle.tl_terms.specs.LawsProgression.{ProgressesByTheTable}
 use Rattle.tl_terms.specs.LawsSubstitution.{QuantifiersAreTrueByInstances, QuantifiersHoldByInstances, QuantifiersProgressByInstances, MeansTheSameSubstituted}
-use Rattle.tl_terms.specs.Lists.{Each, One}
+use Rattle.tl_syntax.specs.Lists.{Each, One}
 use Rattle.tl_terms.specs.Problem.{PlainProblem}
 use Rattle.tl_terms.specs.Progression.{constant, progressed, progressed_all}
 use Rattle.tl_terms.specs.Run.{Situations, Holds, Run, situations_of, Satisfies}
 use Rattle.tl_terms.specs.Simplification.{simplified_and, simplified_or, simplified_not}
 use Rattle.tl_terms.specs.Situation.{Situation}
-use Rattle.tl_terms.specs.Substitution.{or_else, over, without, value_or_arg, substituted_arg, substituted_args, substituted_bound, value_or_term, substituted_term, substituted_terms, substituted, substituted_all}
-use Rattle.tl_terms.specs.Trees.{TermTree, variable, value, place, arith, TermTrees, no_term, more_terms, FormulaTree, verum, falsum, atom, defined, compare, goal_fact, goal_place, goal_not, negation, conjunction, disjunction, for_all, for_some, next, always, eventually, until, within, during, FormulaTrees, no_formula, more_formulas}
+use Rattle.tl_syntax.specs.Substitution.{or_else, over, without, value_or_arg, substituted_arg, substituted_args, substituted_bound, value_or_term, substituted_term, substituted_terms, substituted, substituted_all}
+use Rattle.tl_syntax.specs.Trees.{TermTree, variable, value, place, arith, TermTrees, no_term, more_terms, FormulaTree, verum, falsum, atom, defined, compare, goal_fact, goal_place, goal_not, negation, conjunction, disjunction, for_all, for_some, next, always, eventually, until, within, during, FormulaTrees, no_formula, more_formulas}
 use Rattle.tl_terms.specs.Truth.{state_true, all_true, one_true}
-use Rattle.tl_terms.proofs.ListLaws.{Each-map, One-map}
+use Rattle.tl_syntax.proofs.ListLaws.{Each-map, One-map}
 use Rattle.tl_terms.proofs.SubstitutedHolds.{over-no_values, bind-over, basic-substituted, tuples-substituted, Holds-substituted, Holds-substituted-no_values}
-use Rattle.tl_terms.specs.declared.value.Value.{Value}
-use Rattle.tl_terms.specs.declared.variable.Var.{Var}
-use Rattle.tl_terms.specs.declared.variable.Arg.{Arg}
-use Rattle.tl_terms.specs.declared.bound.Bound.{Bound}
-use Rattle.tl_terms.specs.declared.variable.Arg.TheVariants as arg
-use Rattle.tl_terms.specs.declared.bound.Bound.TheVariants as bound
+use Rattle.tl_syntax.specs.declared.value.Value.{Value}
+use Rattle.tl_syntax.specs.declared.variable.Var.{Var}
+use Rattle.tl_syntax.specs.declared.variable.Arg.{Arg}
+use Rattle.tl_syntax.specs.declared.bound.Bound.{Bound}
+use Rattle.tl_syntax.specs.declared.variable.Arg.TheVariants as arg
+use Rattle.tl_syntax.specs.declared.bound.Bound.TheVariants as bound
 
 -- ---- truth
 

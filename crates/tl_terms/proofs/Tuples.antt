@@ -5,22 +5,23 @@ use Rattle.std.specs.FinSet as set
 use Rattle.std.specs.FinMap as dict
 use Rattle.std.specs.Ordering.{eq_by_cmp, is_eq}
 use Rattle.std.specs.Cmp.{tied_itself, Equal-is}
-use Rattle.tl_terms.specs.Assignment.{Assignment, bind}
-use Rattle.tl_terms.specs.BoundVariables.{args_of, IsVariable, OccurIn, DifferInSlot}
+use Rattle.tl_syntax.specs.Assignment.{Assignment, bind}
+use Rattle.tl_syntax.specs.BoundVariables.{args_of, IsVariable, OccurIn, DifferInSlot}
 use Rattle.tl_terms.specs.Bounds.{arg_value, arg_values, fact_in, same_value, bound_true, tuples_of, tuples}
-use Rattle.tl_terms.specs.Lists.{Each, One, Among}
+use Rattle.tl_syntax.specs.Lists.{Each, One, Among}
 use Rattle.tl_terms.specs.Situation.{Situation}
 use Rattle.tl_terms.specs.Terms.{prepend, place_value}
-use Rattle.tl_terms.specs.TotalOrders.{value_total, value_ties}
-use Rattle.tl_terms.specs.World.{Key, value_cmp, World, has_fact, value_at, values_in, marked, values_of}
+use Rattle.tl_syntax.specs.TotalOrders.{value_total, value_ties}
+use Rattle.tl_syntax.specs.Keys.{Key, value_cmp}
+use Rattle.tl_terms.specs.World.{World, has_fact, value_at, values_in, marked, values_of}
 use Rattle.tl_terms.proofs.KeyLaws.{key-among, entry_of}
-use Rattle.tl_terms.proofs.ListLaws.{One-over, One-append, One-flat, one_out, one_in, Among-filter}
-use Rattle.tl_terms.specs.declared.value.Value.{Value}
-use Rattle.tl_terms.specs.declared.variable.Var.{Var}
-use Rattle.tl_terms.specs.declared.variable.Arg.{Arg}
-use Rattle.tl_terms.specs.declared.bound.Bound.{Bound}
-use Rattle.tl_terms.specs.declared.variable.Arg.TheVariants as arg
-use Rattle.tl_terms.specs.declared.bound.Bound.TheVariants as bound
+use Rattle.tl_syntax.proofs.ListLaws.{One-over, One-append, One-flat, one_out, one_in, Among-filter}
+use Rattle.tl_syntax.specs.declared.value.Value.{Value}
+use Rattle.tl_syntax.specs.declared.variable.Var.{Var}
+use Rattle.tl_syntax.specs.declared.variable.Arg.{Arg}
+use Rattle.tl_syntax.specs.declared.bound.Bound.{Bound}
+use Rattle.tl_syntax.specs.declared.variable.Arg.TheVariants as arg
+use Rattle.tl_syntax.specs.declared.bound.Bound.TheVariants as bound
 
 -- ---- all lists of n of the values
 

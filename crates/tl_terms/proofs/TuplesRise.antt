@@ -5,15 +5,16 @@ use Rattle.std.specs.FinMap as dict
 use Rattle.std.specs.Ordering.{ordering_then, is_lt}
 use Rattle.std.specs.Cmp.{tied_itself}
 use Rattle.std.specs.Cmp.Lexicographic.{slice_cmp}
-use Rattle.tl_terms.specs.Assignment.{Assignment, bind}
+use Rattle.tl_syntax.specs.Assignment.{Assignment, bind}
 use Rattle.tl_terms.specs.Bounds.{bound_true, tuples_of, tuples}
-use Rattle.tl_terms.specs.Lists.{Each, Rises}
+use Rattle.tl_syntax.specs.Lists.{Each, Rises}
 use Rattle.tl_terms.specs.Situation.{Situation}
-use Rattle.tl_terms.specs.TotalOrders.{value_total}
-use Rattle.tl_terms.specs.World.{value_cmp, World, values_in, marked, values_of}
-use Rattle.tl_terms.specs.declared.value.Value.{Value}
-use Rattle.tl_terms.specs.declared.variable.Var.{Var}
-use Rattle.tl_terms.specs.declared.bound.Bound.{Bound}
+use Rattle.tl_syntax.specs.TotalOrders.{value_total}
+use Rattle.tl_syntax.specs.Keys.{value_cmp}
+use Rattle.tl_terms.specs.World.{World, values_in, marked, values_of}
+use Rattle.tl_syntax.specs.declared.value.Value.{Value}
+use Rattle.tl_syntax.specs.declared.variable.Var.{Var}
+use Rattle.tl_syntax.specs.declared.bound.Bound.{Bound}
 
 module _ {A : Type 0} (R : A → A → Ordering) where
   Each-filter : (P : A → Type 0) (p : A → Bool) (xs : List A) → Each P xs → Each P (filter p xs)

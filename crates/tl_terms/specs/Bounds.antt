@@ -1,15 +1,16 @@
 -- The truth of bounds, and the tuples of quantified variables.
 use Rattle.std.specs.Prelude.{ℕ, zero, suc, List, [], ◌∷◌, map, flat_map, filter, length, Bool, false, Option, Some, None}
 use Rattle.std.specs.Ordering.{is_eq}
-use Rattle.tl_terms.specs.declared.value.Value.{Value}
-use Rattle.tl_terms.specs.declared.variable.Var.{Var}
-use Rattle.tl_terms.specs.declared.variable.Arg.{Arg}
-use Rattle.tl_terms.specs.declared.variable.Arg.TheVariants as arg
-use Rattle.tl_terms.specs.declared.bound.Bound.{Bound}
-use Rattle.tl_terms.specs.declared.bound.Bound.TheVariants as bound
-use Rattle.tl_terms.specs.World.{World, value_cmp, has_fact, values_of}
+use Rattle.tl_syntax.specs.declared.value.Value.{Value}
+use Rattle.tl_syntax.specs.declared.variable.Var.{Var}
+use Rattle.tl_syntax.specs.declared.variable.Arg.{Arg}
+use Rattle.tl_syntax.specs.declared.variable.Arg.TheVariants as arg
+use Rattle.tl_syntax.specs.declared.bound.Bound.{Bound}
+use Rattle.tl_syntax.specs.declared.bound.Bound.TheVariants as bound
+use Rattle.tl_syntax.specs.Keys.{value_cmp}
+use Rattle.tl_terms.specs.World.{World, has_fact, values_of}
 use Rattle.tl_terms.specs.Situation.{Situation}
-use Rattle.tl_terms.specs.Assignment.{Assignment, bind}
+use Rattle.tl_syntax.specs.Assignment.{Assignment, bind}
 use Rattle.tl_terms.specs.Terms.{prepend, place_value}
 
 -- the value of an argument, where it has one

@@ -1,10 +1,10 @@
 -- What the defined predicates say of a world.
 use Rattle.std.specs.Prelude.{ℕ, zero, suc, List, [], ◌∷◌, ◌++◌, fold, slice_get, Bool, false, Option, Some, None}
-use Rattle.tl_terms.specs.declared.value.Value.{Value}
+use Rattle.tl_syntax.specs.declared.value.Value.{Value}
 use Rattle.tl_terms.specs.Problem.{PlainDefinition, PlainProblem}
 use Rattle.tl_terms.specs.World.{World}
 use Rattle.tl_terms.specs.Situation.{Situation, Table}
-use Rattle.tl_terms.specs.Assignment.{no_values, bind}
+use Rattle.tl_syntax.specs.Assignment.{no_values, bind}
 use Rattle.tl_terms.specs.Truth.{state_true}
 
 -- a test of values for each definition, by their positions

@@ -7,10 +7,10 @@ use borrow.Author.Tests.{le-ltb}
 use Rattle.std.specs.FinSet as set
 use Rattle.std.specs.FinMap as dict
 use Rattle.std.specs.Ordering.{eq_by_cmp}
-use Rattle.tl_terms.specs.Assignment.{Assignment, no_values}
+use Rattle.tl_syntax.specs.Assignment.{Assignment, no_values}
 use Rattle.tl_terms.specs.Bounds.{same_value}
 use Rattle.tl_terms.specs.Definitions.{true_at_level, tests_of, situation_of}
-use Rattle.tl_terms.specs.Effects.{EffectTree, add, del, assign, EffectTrees, no_effect, more_effects}
+use Rattle.tl_syntax.specs.Effects.{EffectTree, add, del, assign, EffectTrees, no_effect, more_effects}
 use Rattle.tl_terms.specs.Idle.{idle_true}
 use Rattle.tl_terms.specs.Looked.{looked_in_term, LookedTable, looked_in_state, looked_in_basics, looked_by_progressing, looked_by_idling}
 use Rattle.tl_terms.specs.Operations.{Operation, IsPastRange}
@@ -18,21 +18,22 @@ use Rattle.tl_terms.specs.Orders.{plan_cmp}
 use Rattle.tl_terms.specs.Problem.{PlainProblem}
 use Rattle.tl_terms.specs.Progression.{progressed}
 use Rattle.tl_terms.specs.Run.{Holds, Run, state_at, Satisfies}
-use Rattle.tl_terms.specs.Same.{formula_discrete}
+use Rattle.tl_syntax.specs.Same.{formula_discrete}
 use Rattle.tl_terms.specs.Simplification.{is_yes, same_formula, and_parts, or_parts, without_repeats, simplified_and, simplified_or, simplified_not}
 use Rattle.tl_terms.specs.Situation.{Situation}
 use Rattle.tl_terms.specs.Step.{adds, dels, sets, effect_instances, changed, applied, step}
-use Rattle.tl_terms.specs.Substitution.{substituted_term, substituted}
+use Rattle.tl_syntax.specs.Substitution.{substituted_term, substituted}
 use Rattle.tl_terms.specs.Terms.{term_value}
-use Rattle.tl_terms.specs.TotalOrders.{key_total}
-use Rattle.tl_terms.specs.Trees.{TermTree, value, place, no_term, more_terms, FormulaTree, verum, falsum, atom, defined, compare, negation, conjunction, disjunction, next, always, eventually, until, within, during, no_formula, formulas_of_list, arith}
+use Rattle.tl_syntax.specs.TotalOrders.{key_total}
+use Rattle.tl_syntax.specs.Trees.{TermTree, value, place, no_term, more_terms, FormulaTree, verum, falsum, atom, defined, compare, negation, conjunction, disjunction, next, always, eventually, until, within, during, no_formula, formulas_of_list, arith}
 use Rattle.tl_terms.specs.Truth.{state_true}
-use Rattle.tl_terms.specs.World.{Key, value_cmp, key_cmp, World, has_fact, value_at}
-use Rattle.tl_terms.specs.declared.value.Value.{Value}
-use Rattle.tl_terms.specs.declared.action.Action.{Action}
-use Rattle.tl_terms.specs.declared.value.Value.TheVariants.{Int, Sym}
-use Rattle.tl_terms.specs.declared.value.Op.TheVariants.{Plus}
-use Rattle.tl_terms.specs.declared.value.Cmp.TheVariants as cmp
+use Rattle.tl_syntax.specs.Keys.{Key, value_cmp, key_cmp}
+use Rattle.tl_terms.specs.World.{World, has_fact, value_at}
+use Rattle.tl_syntax.specs.declared.value.Value.{Value}
+use Rattle.tl_syntax.specs.declared.action.Action.{Action}
+use Rattle.tl_syntax.specs.declared.value.Value.TheVariants.{Int, Sym}
+use Rattle.tl_syntax.specs.declared.value.Op.TheVariants.{Plus}
+use Rattle.tl_syntax.specs.declared.value.Cmp.TheVariants as cmp
 
 -- ---- what the examples stand on
 

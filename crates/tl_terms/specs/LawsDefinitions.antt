@@ -1,12 +1,12 @@
 -- What a defined atom means.
 use Rattle.std.specs.Prelude.{◌≡◌, ◌<◌, ℕ, zero, suc, List, cond, ◌==◌, slice_get, Bool, false, Some}
-use Rattle.tl_terms.specs.declared.value.Value.{Value}
+use Rattle.tl_syntax.specs.declared.value.Value.{Value}
 use Rattle.tl_terms.specs.Problem.{PlainDefinition, PlainProblem}
 use Rattle.tl_terms.specs.World.{World}
 use Rattle.tl_terms.specs.Situation.{Table}
-use Rattle.tl_terms.specs.Assignment.{no_values, bind}
+use Rattle.tl_syntax.specs.Assignment.{no_values, bind}
 use Rattle.tl_terms.specs.Truth.{state_true}
-use Rattle.tl_terms.specs.Named.{IsNamingBelow}
+use Rattle.tl_syntax.specs.Named.{IsNamingBelow}
 use Rattle.tl_terms.specs.Definitions.{situation_of}
 
 -- definition n means this, and every other one what it means elsewhere

@@ -1,7 +1,8 @@
 -- The goal test in the words of membership.
 use Rattle.std.specs.Prelude.{◌≡◌, ◌↔◌, Some, IsTrue}
-use Rattle.tl_terms.specs.declared.value.Value.{Value}
-use Rattle.tl_terms.specs.World.{World, Key, has_fact, value_at}
+use Rattle.tl_syntax.specs.declared.value.Value.{Value}
+use Rattle.tl_syntax.specs.Keys.{Key}
+use Rattle.tl_terms.specs.World.{World, has_fact, value_at}
 use Rattle.tl_terms.specs.Acceptance.{meets_goal}
 
 -- each fact of the goal is in the world, each place of the goal has its value there, and no fact to avoid is there

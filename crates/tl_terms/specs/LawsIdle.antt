@@ -1,9 +1,9 @@
 -- What formulas mean where one world is repeated for ever.
 use Rattle.std.specs.Prelude.{◌↔◌, ℕ, IsTrue}
-use Rattle.tl_terms.specs.Trees.{FormulaTree, next, always, eventually, until, within, during}
+use Rattle.tl_syntax.specs.Trees.{FormulaTree, next, always, eventually, until, within, during}
 use Rattle.tl_terms.specs.World.{World}
 use Rattle.tl_terms.specs.Problem.{PlainProblem}
-use Rattle.tl_terms.specs.Assignment.{no_values}
+use Rattle.tl_syntax.specs.Assignment.{no_values}
 use Rattle.tl_terms.specs.Definitions.{situation_of}
 use Rattle.tl_terms.specs.Run.{Satisfies, idle_run}
 use Rattle.tl_terms.specs.Idle.{idle_true}

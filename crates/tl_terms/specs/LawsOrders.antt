@@ -3,8 +3,8 @@ use Rattle.std.specs.Prelude.{◌≡◌, List, ◌∷◌, ◌++◌}
 use Rattle.std.specs.declared.cmp.Ordering.{Ordering}
 use Rattle.std.specs.declared.cmp.Ordering.TheVariants.{Less, Equal}
 use Rattle.std.specs.Cmp.{IsTotalOrder}
-use Rattle.tl_terms.specs.declared.action.Action.{Action}
-use Rattle.tl_terms.specs.World.{value_cmp, key_cmp}
+use Rattle.tl_syntax.specs.declared.action.Action.{Action}
+use Rattle.tl_syntax.specs.Keys.{value_cmp, key_cmp}
 use Rattle.tl_terms.specs.Orders.{action_cmp, plan_cmp}
 
 -- a total order in which only the same things are equal

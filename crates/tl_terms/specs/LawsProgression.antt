@@ -1,12 +1,13 @@
 -- Progression, residuals and accepted plans.
 use Rattle.std.specs.Prelude.{◌≡◌, ◌≢◌, ◌↔◌, ℕ, suc, List, [], ◌∷◌, ◌++◌, length, Some, IsTrue}
-use Rattle.tl_terms.specs.declared.action.Action.{Action}
-use Rattle.tl_terms.specs.Trees.{FormulaTree, falsum, negation, conjunction, disjunction, next, always, eventually, until, within, during, formulas_of_list}
+use Rattle.tl_syntax.specs.declared.action.Action.{Action}
+use Rattle.tl_syntax.specs.Trees.{FormulaTree, falsum, negation, conjunction, disjunction, next, always, eventually, until, within, during, formulas_of_list}
 use Rattle.tl_terms.specs.World.{World}
 use Rattle.tl_terms.specs.Problem.{PlainProblem}
 use Rattle.tl_terms.specs.Situation.{Situation}
-use Rattle.tl_terms.specs.Assignment.{Assignment, no_values}
-use Rattle.tl_terms.specs.Truth.{state_true, IsState}
+use Rattle.tl_syntax.specs.Assignment.{Assignment, no_values}
+use Rattle.tl_syntax.specs.StateFormulas.{IsState}
+use Rattle.tl_terms.specs.Truth.{state_true}
 use Rattle.tl_terms.specs.Definitions.{situation_of}
 use Rattle.tl_terms.specs.Run.{Run, state_at, Begins, Satisfies}
 use Rattle.tl_terms.specs.Acceptance.{IsAccepted}

@@ -1,6 +1,6 @@
 -- Satisfaction on runs.
 use Rattle.std.specs.Prelude.{ℕ}
-use Rattle.tl_terms.specs.Trees.{FormulaTree}
+use Rattle.tl_syntax.specs.Trees.{FormulaTree}
 use Rattle.tl_terms.specs.Problem.{PlainProblem}
 use Rattle.tl_terms.specs.Run.{Run, Satisfies}
 

@@ -1,11 +1,12 @@
 -- A step in the words of membership.
 use Rattle.std.specs.Prelude.{◌≡◌, ◌↔◌, ◌⊎◌, List, flat_map, length, slice_get, Some, IsTrue}
-use Rattle.tl_terms.specs.declared.value.Value.{Value}
-use Rattle.tl_terms.specs.declared.action.Action.{Action}
-use Rattle.tl_terms.specs.Lists.{Each, Among}
+use Rattle.tl_syntax.specs.declared.value.Value.{Value}
+use Rattle.tl_syntax.specs.declared.action.Action.{Action}
+use Rattle.tl_syntax.specs.Lists.{Each, Among}
 use Rattle.tl_terms.specs.Problem.{PlainOperator, PlainProblem}
-use Rattle.tl_terms.specs.World.{World, Key, has_fact, value_at}
-use Rattle.tl_terms.specs.Assignment.{Assignment, no_values, bind}
+use Rattle.tl_syntax.specs.Keys.{Key}
+use Rattle.tl_terms.specs.World.{World, has_fact, value_at}
+use Rattle.tl_syntax.specs.Assignment.{Assignment, no_values, bind}
 use Rattle.tl_terms.specs.Bounds.{bound_true}
 use Rattle.tl_terms.specs.Truth.{state_true}
 use Rattle.tl_terms.specs.Definitions.{situation_of}

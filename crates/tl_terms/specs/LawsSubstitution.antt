@@ -1,19 +1,19 @@
 -- Formulas with values put in.
 use Rattle.std.specs.Prelude.{◌≡◌, ◌↔◌, ℕ, List, map}
 use Rattle.std.specs.List.{list_any, list_all}
-use Rattle.tl_terms.specs.declared.value.Value.{Value}
-use Rattle.tl_terms.specs.declared.variable.Var.{Var}
-use Rattle.tl_terms.specs.declared.bound.Bound.{Bound}
-use Rattle.tl_terms.specs.Lists.{Each, One}
-use Rattle.tl_terms.specs.Trees.{FormulaTree, for_all, for_some}
+use Rattle.tl_syntax.specs.declared.value.Value.{Value}
+use Rattle.tl_syntax.specs.declared.variable.Var.{Var}
+use Rattle.tl_syntax.specs.declared.bound.Bound.{Bound}
+use Rattle.tl_syntax.specs.Lists.{Each, One}
+use Rattle.tl_syntax.specs.Trees.{FormulaTree, for_all, for_some}
 use Rattle.tl_terms.specs.Situation.{Situation}
-use Rattle.tl_terms.specs.Assignment.{Assignment, no_values, bind}
+use Rattle.tl_syntax.specs.Assignment.{Assignment, no_values, bind}
 use Rattle.tl_terms.specs.Bounds.{tuples}
 use Rattle.tl_terms.specs.Truth.{state_true}
 use Rattle.tl_terms.specs.Problem.{PlainProblem}
 use Rattle.tl_terms.specs.Definitions.{situation_of}
 use Rattle.tl_terms.specs.Run.{Situations, Holds, Run, state_at, Satisfies}
-use Rattle.tl_terms.specs.Substitution.{over, substituted}
+use Rattle.tl_syntax.specs.Substitution.{over, substituted}
 use Rattle.tl_terms.specs.Simplification.{simplified_and, simplified_or}
 use Rattle.tl_terms.specs.Progression.{progressed}
 

@@ -1,18 +1,18 @@
 -- The operations that are looked at, from left to right until the truth is decided.
 use Rattle.std.specs.Prelude.{ℕ, zero, suc, List, [], ◌∷◌, ◌++◌, map, flat_map, length, take, slice_get, Bool, true, false, cond, not, ◌&&◌, ◌==◌, Option, Some, None, is_some}
 use Rattle.std.specs.List.{list_all}
-use Rattle.tl_terms.specs.declared.value.Value.{Value}
-use Rattle.tl_terms.specs.declared.value.Value.TheVariants.{Int}
-use Rattle.tl_terms.specs.declared.value.Op.{Op}
-use Rattle.tl_terms.specs.declared.value.Cmp.{Cmp}
-use Rattle.tl_terms.specs.declared.value.Cmp.TheVariants as cmp
-use Rattle.tl_terms.specs.declared.action.Action.{Action}
-use Rattle.tl_terms.specs.Trees.{TermTree, TermTrees, variable, value, place, arith, no_term, more_terms, FormulaTree, FormulaTrees, verum, falsum, atom, defined, compare, goal_fact, goal_place, goal_not, negation, conjunction, disjunction, for_all, for_some, next, always, eventually, until, within, during, no_formula, more_formulas}
-use Rattle.tl_terms.specs.Effects.{EffectTree, EffectTrees, add, del, assign, when, each, no_effect, more_effects}
+use Rattle.tl_syntax.specs.declared.value.Value.{Value}
+use Rattle.tl_syntax.specs.declared.value.Value.TheVariants.{Int}
+use Rattle.tl_syntax.specs.declared.value.Op.{Op}
+use Rattle.tl_syntax.specs.declared.value.Cmp.{Cmp}
+use Rattle.tl_syntax.specs.declared.value.Cmp.TheVariants as cmp
+use Rattle.tl_syntax.specs.declared.action.Action.{Action}
+use Rattle.tl_syntax.specs.Trees.{TermTree, TermTrees, variable, value, place, arith, no_term, more_terms, FormulaTree, FormulaTrees, verum, falsum, atom, defined, compare, goal_fact, goal_place, goal_not, negation, conjunction, disjunction, for_all, for_some, next, always, eventually, until, within, during, no_formula, more_formulas}
+use Rattle.tl_syntax.specs.Effects.{EffectTree, EffectTrees, add, del, assign, when, each, no_effect, more_effects}
 use Rattle.tl_terms.specs.Problem.{PlainDefinition, PlainOperator, PlainProblem}
 use Rattle.tl_terms.specs.World.{World}
 use Rattle.tl_terms.specs.Situation.{Situation}
-use Rattle.tl_terms.specs.Assignment.{Assignment, no_values, bind}
+use Rattle.tl_syntax.specs.Assignment.{Assignment, no_values, bind}
 use Rattle.tl_terms.specs.Terms.{term_value, term_values}
 use Rattle.tl_terms.specs.Bounds.{bound_true, tuples}
 use Rattle.tl_terms.specs.Truth.{state_true}

@@ -1,6 +1,6 @@
 -- Operations of terms, and those whose result does not fit 64 bits.
 use Rattle.std.specs.Prelude.{ℕ, ◌^◌, ◌-◌, ◌&&◌, Bool, IsTrue, ℤ, pos, neg_ℤ, int_le}
-use Rattle.tl_terms.specs.declared.value.Op.{Op}
+use Rattle.tl_syntax.specs.declared.value.Op.{Op}
 use Rattle.tl_terms.specs.Terms.{exact}
 
 -- one operation on two integers, with the offset of its form

@@ -3,8 +3,8 @@ use Rattle.std.specs.Prelude.{List}
 use Rattle.std.specs.declared.cmp.Ordering.{Ordering}
 use Rattle.std.specs.Ordering.{nat_cmp, on, then_cmp}
 use Rattle.std.specs.Cmp.Lexicographic.{slice_cmp}
-use Rattle.tl_terms.specs.declared.action.Action.{Action}
-use Rattle.tl_terms.specs.World.{value_cmp}
+use Rattle.tl_syntax.specs.declared.action.Action.{Action}
+use Rattle.tl_syntax.specs.Keys.{value_cmp}
 
 -- by operator in the domain's order, and then by the arguments from left to right
 abbrev pub action_cmp : Action → Action → Ordering

@@ -1,10 +1,10 @@
 -- Residuals, and the search nodes of paths: pairs of a world and a formula.
 use Rattle.std.specs.Prelude.{◌≡◌, ◌≢◌, List, [], ◌∷◌, ◌++◌, Option, Some, None, IsSome, IsTrue}
-use Rattle.tl_terms.specs.declared.action.Action.{Action}
-use Rattle.tl_terms.specs.Trees.{FormulaTree, falsum}
+use Rattle.tl_syntax.specs.declared.action.Action.{Action}
+use Rattle.tl_syntax.specs.Trees.{FormulaTree, falsum}
 use Rattle.tl_terms.specs.World.{World}
 use Rattle.tl_terms.specs.Problem.{PlainProblem}
-use Rattle.tl_terms.specs.Assignment.{no_values}
+use Rattle.tl_syntax.specs.Assignment.{no_values}
 use Rattle.tl_terms.specs.Definitions.{situation_of}
 use Rattle.tl_terms.specs.Run.{Satisfies, idle_run}
 use Rattle.tl_terms.specs.Acceptance.{states, last_of, meets_goal}

@@ -1,7 +1,7 @@
 -- Distances, and paths that repeat no pair.
 use Rattle.std.specs.Prelude.{◌≡◌, ◌≢◌, ◌≤◌, ℕ, List, ◌++◌, length, Some, IsSome}
 use Rattle.std.specs.declared.cmp.Ordering.TheVariants.{Less}
-use Rattle.tl_terms.specs.declared.action.Action.{Action}
+use Rattle.tl_syntax.specs.declared.action.Action.{Action}
 use Rattle.tl_terms.specs.Problem.{PlainProblem}
 use Rattle.tl_terms.specs.Acceptance.{IsAccepted}
 use Rattle.tl_terms.specs.Orders.{plan_cmp}

@@ -1,9 +1,9 @@
 -- What a domain file and a problem file give together.
 use Rattle.std.specs.Prelude.{ℕ, List}
-use Rattle.tl_terms.specs.declared.variable.Var.{Var}
-use Rattle.tl_terms.specs.declared.bound.Bound.{Bound}
-use Rattle.tl_terms.specs.Trees.{FormulaTree}
-use Rattle.tl_terms.specs.Effects.{EffectTrees}
+use Rattle.tl_syntax.specs.declared.variable.Var.{Var}
+use Rattle.tl_syntax.specs.declared.bound.Bound.{Bound}
+use Rattle.tl_syntax.specs.Trees.{FormulaTree}
+use Rattle.tl_syntax.specs.Effects.{EffectTrees}
 use Rattle.tl_terms.specs.World.{World}
 
 -- a defined predicate (Bacchus and Kabanza 2000); its body may name itself, down to the number of levels

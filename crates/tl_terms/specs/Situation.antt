@@ -1,6 +1,6 @@
 -- Where a formula is read.
 use Rattle.std.specs.Prelude.{ℕ, List, Bool}
-use Rattle.tl_terms.specs.declared.value.Value.{Value}
+use Rattle.tl_syntax.specs.declared.value.Value.{Value}
 use Rattle.tl_terms.specs.World.{World}
 
 -- whether the definition of that number is true of the values

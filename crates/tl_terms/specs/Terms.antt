@@ -1,12 +1,12 @@
 -- The meaning of terms in a world, in whole numbers of any size.
 use Rattle.std.specs.Prelude.{ℕ, List, [], ◌∷◌, Option, Some, None, ℤ, ◌+ℤ◌, ◌-ℤ◌, ◌*ℤ◌}
-use Rattle.tl_terms.specs.declared.value.Value.{Value}
-use Rattle.tl_terms.specs.declared.value.Value.TheVariants.{Int}
-use Rattle.tl_terms.specs.declared.value.Op.{Op}
-use Rattle.tl_terms.specs.declared.value.Op.TheVariants.{Plus, Minus, Times}
-use Rattle.tl_terms.specs.Trees.{TermTree, TermTrees, variable, value, place, arith, no_term, more_terms}
+use Rattle.tl_syntax.specs.declared.value.Value.{Value}
+use Rattle.tl_syntax.specs.declared.value.Value.TheVariants.{Int}
+use Rattle.tl_syntax.specs.declared.value.Op.{Op}
+use Rattle.tl_syntax.specs.declared.value.Op.TheVariants.{Plus, Minus, Times}
+use Rattle.tl_syntax.specs.Trees.{TermTree, TermTrees, variable, value, place, arith, no_term, more_terms}
 use Rattle.tl_terms.specs.World.{World, value_at}
-use Rattle.tl_terms.specs.Assignment.{Assignment}
+use Rattle.tl_syntax.specs.Assignment.{Assignment}
 
 -- the exact result of the operation
 abbrev pub exact : Op → ℤ → ℤ → ℤ

@@ -1,13 +1,13 @@
 -- The truth of state formulas in a world.
 use Rattle.std.specs.Prelude.{ℕ, List, Bool, true, false, not, ◌&&◌, ◌||◌, Option, Some, None, ℤ, int_lt, int_le}
 use Rattle.std.specs.List.{list_any, list_all}
-use Rattle.tl_terms.specs.declared.value.Value.{Value}
-use Rattle.tl_terms.specs.declared.value.Value.TheVariants.{Int}
-use Rattle.tl_terms.specs.declared.value.Cmp.{Cmp}
-use Rattle.tl_terms.specs.declared.value.Cmp.TheVariants as cmp
-use Rattle.tl_terms.specs.Trees.{FormulaTree, FormulaTrees, verum, falsum, atom, defined, compare, goal_fact, goal_place, goal_not, negation, conjunction, disjunction, for_all, for_some, next, always, eventually, until, within, during, no_formula, more_formulas}
+use Rattle.tl_syntax.specs.declared.value.Value.{Value}
+use Rattle.tl_syntax.specs.declared.value.Value.TheVariants.{Int}
+use Rattle.tl_syntax.specs.declared.value.Cmp.{Cmp}
+use Rattle.tl_syntax.specs.declared.value.Cmp.TheVariants as cmp
+use Rattle.tl_syntax.specs.Trees.{FormulaTree, FormulaTrees, verum, falsum, atom, defined, compare, goal_fact, goal_place, goal_not, negation, conjunction, disjunction, for_all, for_some, next, always, eventually, until, within, during, no_formula, more_formulas}
 use Rattle.tl_terms.specs.Situation.{Situation, Table}
-use Rattle.tl_terms.specs.Assignment.{Assignment, bind}
+use Rattle.tl_syntax.specs.Assignment.{Assignment, bind}
 use Rattle.tl_terms.specs.Terms.{term_value, term_values, place_value}
 use Rattle.tl_terms.specs.Bounds.{arg_value, arg_values, fact_in, same_value, tuples}
 
@@ -64,30 +64,3 @@ unfoldable mutual
   pub one_true : Situation → Assignment → FormulaTrees → Bool
   one_true s e no_formula = false
   one_true s e (more_formulas f fs) = state_true s e f || one_true s e fs
-
--- no temporal word stands in the formula
-abbrev mutual
-  pub IsState : FormulaTree → Type 0
-  IsState verum = Unit {0}
-  IsState falsum = Unit {0}
-  IsState (atom p ts) = Unit {0}
-  IsState (defined p ts) = Unit {0}
-  IsState (compare c x y) = Unit {0}
-  IsState (goal_fact p xs) = Unit {0}
-  IsState (goal_place f xs x) = Unit {0}
-  IsState (goal_not p xs) = Unit {0}
-  IsState (negation f) = IsState f
-  IsState (conjunction fs) = AreState fs
-  IsState (disjunction fs) = AreState fs
-  IsState (for_all ss b f) = IsState f
-  IsState (for_some ss b f) = IsState f
-  IsState (next f) = ⊥
-  IsState (always f) = ⊥
-  IsState (eventually f) = ⊥
-  IsState (until f g) = ⊥
-  IsState (within n f) = ⊥
-  IsState (during n f) = ⊥
-
-  pub AreState : FormulaTrees → Type 0
-  AreState no_formula = Unit {0}
-  AreState (more_formulas f fs) = IsState f × AreState fs

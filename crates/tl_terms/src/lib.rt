@@ -1,57 +1,19 @@
-//! The things that a planning problem is made of, and what they mean.
+//! What planning problems mean.
 //!
-//! - `memory`: want of memory.
-//! - `names`: the table of names.
 //! - `steps`: a count of steps that takes no bytes.
-//! - `items`: the one list type, of which every list here is a name.
-//! - `value`, `variable`, `bound`: what stands in facts and formulas.
-//! - `declared`: what a domain declares.
-//! - `term`, `formula`, `effect`: the trees, which hold themselves; `specs/` has their plain trees.
-//! - `substitution`: formulas and bounds with values put in.
-//! - `definition`, `operator`, `domain`: what a domain file gives.
-//! - `fact`, `place_value`, `action`: ground facts, places with their values, and the steps of a plan.
 //! - `laws`: what is proved of the definitions.
 //!
 //! The definitions of worlds, truth, steps, runs, accepted plans, progression, search nodes and what an evaluation looks at stand in `specs/`, one topic a file.
+//! The types that problems are written in stand in `tl_syntax` and are given again here.
 #![tactic(auto)]
 
-mod action;
-mod bound;
-mod declared;
-mod definition;
-mod domain;
-mod effect;
-mod fact;
-mod formula;
-mod items;
 pub mod laws;
-mod memory;
-mod names;
-mod operator;
-mod place_value;
 mod steps;
-mod substitution;
-mod term;
-#[cfg(test)]
-mod tree_tests;
-mod value;
-mod variable;
 
-pub use action::{Action, Actions};
-pub use bound::{Bound, Bounds};
-pub use declared::{Declared, Declareds};
-pub use definition::{Definition, Definitions};
-pub use domain::Domain;
-pub use effect::{Effect, Effects};
-pub use fact::{Fact, Facts};
-pub use formula::{Formula, Formulas};
-pub use items::{Bytes, Items, Numbers32};
-pub use memory::NoMemory;
-pub use names::Names;
-pub use operator::{Operator, Operators};
-pub use place_value::{PlaceValue, PlaceValues};
 pub use steps::Steps;
-pub use substitution::{subst, subst_bound};
-pub use term::{Term, Terms};
-pub use value::{Cmp, Op, Value, Values};
-pub use variable::{Arg, Args, Var, Vars};
+pub use tl_syntax::{
+    Action, Actions, Arg, Args, Bound, Bounds, Bytes, Cmp, Declared, Declareds, Definition,
+    Definitions, Domain, Effect, Effects, Fact, Facts, Formula, Formulas, Items, Names, NoMemory,
+    Numbers32, Op, Operator, Operators, PlaceValue, PlaceValues, Term, Terms, Value, Values, Var,
+    Vars, subst, subst_bound,
+};

@@ -10,7 +10,7 @@ use crate::plain::forms::{elements, integer, symbol};
 use crate::plain::unread::Unread;
 use std::alloc::Global;
 use tl_sexpr::Form;
-use tl_terms::{Declared, Fact, Facts, Names, Value, Values};
+use tl_syntax::{Declared, Fact, Facts, Names, Value, Values};
 
 /// The number of a name.
 pub(crate) fn name_number(names: &Names, form: &Form) -> Option<u32>

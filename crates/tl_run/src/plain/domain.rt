@@ -13,7 +13,7 @@ use crate::plain::predicates::predicate;
 use crate::plain::unread::Unread;
 use std::alloc::Global;
 use tl_sexpr::Form;
-use tl_terms::{Declareds, Items, Names};
+use tl_syntax::{Declareds, Items, Names};
 
 /// What a plain domain file declares.
 #[derive(Drop)]

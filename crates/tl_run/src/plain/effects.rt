@@ -10,7 +10,7 @@ use crate::plain::forms::{elements, is_word};
 use crate::plain::unread::Unread;
 use std::alloc::Global;
 use tl_sexpr::Form;
-use tl_terms::{Declared, Fact, Items, Names};
+use tl_syntax::{Declared, Fact, Items, Names};
 
 /// An effect without variables.
 #[derive(Drop)]

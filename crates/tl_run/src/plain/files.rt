@@ -14,7 +14,7 @@ use crate::plain::unread::Unread;
 use crate::stop::Broken;
 use std::alloc::Global;
 use tl_sexpr::{Forms, TextFault, read_forms};
-use tl_terms::{Actions, Names, NoMemory};
+use tl_syntax::{Actions, Names, NoMemory};
 
 /// Why a file was not read.
 #[derive(Clone, Copy, Debug, PartialEq, Eq)]

@@ -8,7 +8,7 @@ use crate::plain::problem::GroundProblem;
 use crate::plain::world::GroundWorld;
 use crate::verdict::Verdict;
 use std::alloc::Global;
-use tl_terms::{Action, NoMemory};
+use tl_syntax::{Action, NoMemory};
 
 /// The verdict on a plan. An action whose operator does not exist, or that has arguments, is not executable.
 pub(crate) fn judge(

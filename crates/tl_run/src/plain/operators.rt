@@ -11,7 +11,7 @@ use crate::plain::forms::elements;
 use crate::plain::unread::Unread;
 use std::alloc::Global;
 use tl_sexpr::Form;
-use tl_terms::{Declared, Fact, Items, Names};
+use tl_syntax::{Declared, Fact, Items, Names};
 
 /// An operator without parameters.
 #[derive(Drop)]

@@ -10,7 +10,7 @@ use crate::plain::operators::{GroundOperator, name_of_head, operator_position};
 use crate::plain::unread::Unread;
 use std::alloc::Global;
 use tl_sexpr::Form;
-use tl_terms::{Action, Actions, Names, Values};
+use tl_syntax::{Action, Actions, Names, Values};
 
 /// The action that a form `(NAME)` writes.
 fn action(alloc: Global, names: &Names, operators: &[GroundOperator], form: &Form) -> Option<Action>

@@ -8,7 +8,7 @@ ghost use Rattle.tl_run.specs.Predicates.{arity_in, new_predicate_name, predicat
 use crate::plain::atoms::{name_number, position_of};
 use crate::plain::forms::{integer, is_reserved_word};
 use tl_sexpr::Form;
-use tl_terms::{Declared, Names};
+use tl_syntax::{Declared, Names};
 
 /// An arity, from 0 to 8.
 fn arity(number: i64) -> Option<u32>

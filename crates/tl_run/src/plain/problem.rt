@@ -9,7 +9,7 @@ use crate::plain::forms::{elements, is_word};
 use crate::plain::unread::Unread;
 use std::alloc::Global;
 use tl_sexpr::Form;
-use tl_terms::{Declared, Facts, Names};
+use tl_syntax::{Declared, Facts, Names};
 
 /// What a plain problem file states.
 #[derive(Drop)]

@@ -5,7 +5,7 @@ ghost use Rattle.tl_sexpr.specs.Tree.{tree_of, trees_of};
 ghost use Rattle.tl_run.specs.Forms.{names_with, names_with_all};
 
 use tl_sexpr::{Form, Forms};
-use tl_terms::{Names, NoMemory};
+use tl_syntax::{Names, NoMemory};
 
 /// Adds the symbols of a form, in reading order.
 #[cycle(add_symbols)]

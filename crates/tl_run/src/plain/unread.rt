@@ -3,7 +3,7 @@ ghost use Rattle.std.specs.Prelude.{◌≡◌};
 ghost use Rattle.tl_run.specs.declared.plain.unread.Unread.TheVariants as unread;
 
 use std::alloc::AllocError;
-use tl_terms::NoMemory;
+use tl_syntax::NoMemory;
 
 /// Why a file was not read.
 #[derive(Clone, Copy, Debug, PartialEq, Eq)]

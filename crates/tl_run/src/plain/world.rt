@@ -3,7 +3,7 @@ ghost use Rattle.std.specs.Prelude.{◌≡◌, [], ◌∷◌, ◌++◌, not, fil
 ghost use Rattle.std.specs.List.{list_any};
 ghost use Rattle.tl_terms.specs.World.{has_fact};
 ghost use Rattle.tl_terms.specs.Situation.{Situation};
-ghost use Rattle.tl_terms.specs.Assignment.{Assignment};
+ghost use Rattle.tl_syntax.specs.Assignment.{Assignment};
 ghost use Rattle.tl_terms.specs.Acceptance.{meets_goal};
 ghost use Rattle.tl_terms.specs.Step.{all_instances, changed, step};
 ghost use Rattle.tl_run.specs.Meaning.{key_of, world_of, effect_trees, problem_meaning};
@@ -15,7 +15,7 @@ use crate::plain::effects::GroundEffect;
 use crate::plain::operators::GroundOperator;
 use std::alloc::Global;
 use std::marker::Model;
-use tl_terms::{Action, Fact, NoMemory};
+use tl_syntax::{Action, Fact, NoMemory};
 
 /// The facts that are true, each once. Contracts see the list of them, in any order.
 #[derive(Drop)]
@@ -25,7 +25,7 @@ pub(crate) struct GroundWorld {
 
 impl Model for GroundWorld {
     ghost use Rattle.std.specs.Prelude.{List};
-    ghost use Rattle.tl_terms.specs.declared.fact.Fact.{Fact};
+    ghost use Rattle.tl_syntax.specs.declared.fact.Fact.{Fact};
 
     ghost Value = { List Fact };
 

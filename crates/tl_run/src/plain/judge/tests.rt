@@ -9,7 +9,7 @@ use crate::verdict::Verdict;
 use std::alloc::{AllocError, Global};
 use std::process::Abort;
 use std::test::Fail;
-use tl_terms::{Action, Actions, Declareds, Fact, Facts, Items, Value, Values};
+use tl_syntax::{Action, Actions, Declareds, Fact, Facts, Items, Value, Values};
 
 /// The fact of predicate 0 with this one argument.
 fn fact(alloc: Global, number: i64) -> Result<Fact, AllocError> {

@@ -1,0 +1,13 @@
+pub mod Texts
+pub mod Places
+pub mod InOrder
+pub mod SettledTexts
+pub mod ListLaws
+pub mod Plain
+pub mod PartsSame
+pub mod TermTrees
+pub mod FormulaTrees
+pub mod EffectTrees
+pub mod TermSame
+pub mod FormulaSame
+pub mod Bindings

@@ -1,0 +1,300 @@
+// Formulas, and lists of them.
+ghost use Rattle.std.specs.Prelude.{◌≡◌, ◌↔◌, [], ◌∷◌, ◌++◌, true, IfOk, OnOk, OnErr};
+ghost use Rattle.tl_syntax.specs.Basic.{is_basic};
+ghost use Rattle.tl_syntax.specs.Bindings.{assignment_of};
+ghost use Rattle.tl_syntax.specs.Substitution.{substituted, substituted_all};
+ghost use Rattle.tl_syntax.specs.TreeOfFormula.{formulas_in, tree_of_formula, tree_of_formulas};
+
+use crate::substitution::{
+    Binding, arg_with_values, args_with_values, bindings_below, bound_with_values,
+};
+use crate::{Arg, Args, Bound, Cmp, NoMemory, Term, Terms, Vars};
+use std::alloc::{AllocError, Global};
+
+/// A formula of first-order linear temporal logic with bounded quantifiers and a goal modality (Bacchus and Kabanza 2000).
+///
+/// Predicates, functions and definitions are named by their position in the domain's list.
+/// `(implies F G)` has no variant: it is the disjunction of the negated F and G.
+/// The derived equality is that of the plain trees, slots and offsets included.
+#[cycle(formula)]
+#[derive(PartialEq, Eq, Hash, Drop)]
+pub enum Formula {
+    /// The constant true.
+    True,
+    /// The constant false.
+    False,
+    /// The fact is in the world.
+    Atom(u32, Terms),
+    /// The body of a definition holds of the arguments.
+    Defined(u32, Terms),
+    /// The two terms stand in this comparison.
+    Compare(Cmp, Term, Term),
+    /// The fact is in the goal list.
+    GoalFact(u32, Args),
+    /// The goal list gives the place this value.
+    GoalPlace(u32, Args, Arg),
+    /// The goal list has the negated fact.
+    GoalNot(u32, Args),
+    /// The formula does not hold.
+    Not(Box<Formula>),
+    /// All formulas hold.
+    And(Formulas),
+    /// Some formula holds.
+    Or(Formulas),
+    /// The formula holds for every tuple of the bound.
+    ForAll(Vars, Bound, Box<Formula>),
+    /// The formula holds for some tuple of the bound.
+    Exists(Vars, Bound, Box<Formula>),
+    /// The formula holds in the next state.
+    Next(Box<Formula>),
+    /// The formula holds from now on.
+    Always(Box<Formula>),
+    /// The formula holds now or later.
+    Eventually(Box<Formula>),
+    /// The second formula holds now or later, and the first one until then.
+    Until(Box<Formula>, Box<Formula>),
+    /// The formula holds now or at one of this number of states that follow.
+    Within(u32, Box<Formula>),
+    /// The formula holds now and at each of this number of states that follow. It is written `for`.
+    During(u32, Box<Formula>),
+}
+
+/// A list of formulas.
+#[cycle(formula)]
+#[derive(PartialEq, Eq, Hash, Drop)]
+pub struct Formulas {
+    items: Vec<Formula>,
+}
+
+impl Formulas {
+    /// The empty list. It takes no memory.
+    pub fn new(alloc: Global) -> Formulas
+        ensures { formulas_in result ≡ [] }
+    {
+        Formulas {
+            items: Vec::new(alloc),
+        }
+    }
+
+    /// The formulas in their order. It takes no memory.
+    pub fn as_slice(&self) -> &[Formula]
+        ensures { result.now ≡ formulas_in self.now }
+    {
+        self.items.as_slice()
+    }
+
+    /// Adds a formula at the end. A refused call drops the formula.
+    pub fn push(&mut self, item: Formula) -> Result<(), AllocError>
+        ensures added { OnOk result (formulas_in self.new ≡ formulas_in self.old ++ item ∷ []) }
+        ensures unchanged { OnErr result (formulas_in self.new ≡ formulas_in self.old) }
+    {
+        self.items.push(item)?;
+        Ok(())
+    }
+
+    /// The same list again. It fails for want of memory alone.
+    #[cycle(copy_formula)]
+    pub fn copy(&self, alloc: Global) -> Result<Formulas, NoMemory>
+        ensures same { IfOk result (λ copy. tree_of_formulas copy ≡ tree_of_formulas self.now) }
+    {
+        let mut out = Formulas {
+            items: Vec::new(alloc),
+        };
+        for formula in self.items.iter() {
+            let one = formula.copy(alloc)?;
+            out.items.push(one)?;
+        }
+        Ok(out)
+    }
+
+    /// The list with the values put in for free variables. It fails for want of memory alone.
+    #[cycle(put_in_formulas)]
+    pub(crate) fn with_values(
+        &self,
+        alloc: Global,
+        bindings: &[Binding],
+    ) -> Result<Formulas, NoMemory>
+        ensures substituted { IfOk result (λ out. tree_of_formulas out ≡ substituted_all (assignment_of bindings.now) (tree_of_formulas self.now)) }
+    {
+        let mut out = Formulas {
+            items: Vec::new(alloc),
+        };
+        for formula in self.items.iter() {
+            let one = formula.with_values(alloc, bindings)?;
+            out.items.push(one)?;
+        }
+        Ok(out)
+    }
+
+    /// Whether the two lists are the same: the derived equality tells exactly the plain trees apart.
+    pub fn is_same(&self, list: &Formulas) -> bool
+        ensures same { (result ≡ true) ↔ (tree_of_formulas self.now ≡ tree_of_formulas list.now) }
+    {
+        self == list
+    }
+}
+
+impl Formula {
+    /// The same formula again. It fails for want of memory alone.
+    #[cycle(copy_formula)]
+    #[tactic(auto, using(crate::proofs::FormulaTrees::formula_trees))]
+    pub fn copy(&self, alloc: Global) -> Result<Formula, NoMemory>
+        ensures same { IfOk result (λ copy. tree_of_formula copy ≡ tree_of_formula self.now) }
+    {
+        match self {
+            Formula::True => Ok(Formula::True),
+            Formula::False => Ok(Formula::False),
+            Formula::Atom(p, args) => Ok(Formula::Atom(*p, args.copy(alloc)?)),
+            Formula::Defined(p, args) => Ok(Formula::Defined(*p, args.copy(alloc)?)),
+            Formula::Compare(cmp, left, right) => {
+                let left = left.copy(alloc)?;
+                let right = right.copy(alloc)?;
+                Ok(Formula::Compare(*cmp, left, right))
+            }
+            Formula::GoalFact(p, args) => Ok(Formula::GoalFact(*p, args.copy(alloc)?)),
+            Formula::GoalPlace(f, args, x) => Ok(Formula::GoalPlace(*f, args.copy(alloc)?, *x)),
+            Formula::GoalNot(p, args) => Ok(Formula::GoalNot(*p, args.copy(alloc)?)),
+            Formula::Not(f) => Ok(Formula::Not(Box::new(alloc, f.copy(alloc)?)?)),
+            Formula::And(parts) => Ok(Formula::And(parts.copy(alloc)?)),
+            Formula::Or(parts) => Ok(Formula::Or(parts.copy(alloc)?)),
+            Formula::ForAll(vars, bound, f) => {
+                let vars = vars.copy(alloc)?;
+                let bound = bound.copy(alloc)?;
+                let f = Box::new(alloc, f.copy(alloc)?)?;
+                Ok(Formula::ForAll(vars, bound, f))
+            }
+            Formula::Exists(vars, bound, f) => {
+                let vars = vars.copy(alloc)?;
+                let bound = bound.copy(alloc)?;
+                let f = Box::new(alloc, f.copy(alloc)?)?;
+                Ok(Formula::Exists(vars, bound, f))
+            }
+            Formula::Next(f) => Ok(Formula::Next(Box::new(alloc, f.copy(alloc)?)?)),
+            Formula::Always(f) => Ok(Formula::Always(Box::new(alloc, f.copy(alloc)?)?)),
+            Formula::Eventually(f) => Ok(Formula::Eventually(Box::new(alloc, f.copy(alloc)?)?)),
+            Formula::Until(f, g) => {
+                let f = Box::new(alloc, f.copy(alloc)?)?;
+                let g = Box::new(alloc, g.copy(alloc)?)?;
+                Ok(Formula::Until(f, g))
+            }
+            Formula::Within(n, f) => Ok(Formula::Within(*n, Box::new(alloc, f.copy(alloc)?)?)),
+            Formula::During(n, f) => Ok(Formula::During(*n, Box::new(alloc, f.copy(alloc)?)?)),
+        }
+    }
+
+    /// The formula with the values put in for free variables. It fails for want of memory alone.
+    #[cycle(put_in_formulas)]
+    #[tactic(auto, using(crate::proofs::FormulaTrees::formula_trees, crate::proofs::Bindings::assignment_below), unfolding(crate::specs::Substitution::substituted))]
+    pub(crate) fn with_values(
+        &self,
+        alloc: Global,
+        bindings: &[Binding],
+    ) -> Result<Formula, NoMemory>
+        ensures substituted { IfOk result (λ out. tree_of_formula out ≡ substituted (assignment_of bindings.now) (tree_of_formula self.now)) }
+    {
+        match self {
+            Formula::True => Ok(Formula::True),
+            Formula::False => Ok(Formula::False),
+            Formula::Atom(p, args) => Ok(Formula::Atom(*p, args.with_values(alloc, bindings)?)),
+            Formula::Defined(p, args) => {
+                Ok(Formula::Defined(*p, args.with_values(alloc, bindings)?))
+            }
+            Formula::Compare(cmp, left, right) => {
+                let left = left.with_values(alloc, bindings)?;
+                let right = right.with_values(alloc, bindings)?;
+                Ok(Formula::Compare(*cmp, left, right))
+            }
+            Formula::GoalFact(p, args) => {
+                Ok(Formula::GoalFact(*p, args_with_values(alloc, args, bindings)?))
+            }
+            Formula::GoalPlace(f, args, x) => {
+                let args = args_with_values(alloc, args, bindings)?;
+                let x = arg_with_values(*x, bindings);
+                Ok(Formula::GoalPlace(*f, args, x))
+            }
+            Formula::GoalNot(p, args) => {
+                Ok(Formula::GoalNot(*p, args_with_values(alloc, args, bindings)?))
+            }
+            Formula::Not(f) => {
+                let f = Box::new(alloc, f.with_values(alloc, bindings)?)?;
+                Ok(Formula::Not(f))
+            }
+            Formula::And(parts) => Ok(Formula::And(parts.with_values(alloc, bindings)?)),
+            Formula::Or(parts) => Ok(Formula::Or(parts.with_values(alloc, bindings)?)),
+            Formula::ForAll(vars, bound, f) => {
+                let below = bindings_below(alloc, vars, bindings)?;
+                let vars = vars.copy(alloc)?;
+                let bound = bound_with_values(alloc, bound, below.as_slice())?;
+                let f = Box::new(alloc, f.with_values(alloc, below.as_slice())?)?;
+                Ok(Formula::ForAll(vars, bound, f))
+            }
+            Formula::Exists(vars, bound, f) => {
+                let below = bindings_below(alloc, vars, bindings)?;
+                let vars = vars.copy(alloc)?;
+                let bound = bound_with_values(alloc, bound, below.as_slice())?;
+                let f = Box::new(alloc, f.with_values(alloc, below.as_slice())?)?;
+                Ok(Formula::Exists(vars, bound, f))
+            }
+            Formula::Next(f) => {
+                let f = Box::new(alloc, f.with_values(alloc, bindings)?)?;
+                Ok(Formula::Next(f))
+            }
+            Formula::Always(f) => {
+                let f = Box::new(alloc, f.with_values(alloc, bindings)?)?;
+                Ok(Formula::Always(f))
+            }
+            Formula::Eventually(f) => {
+                let f = Box::new(alloc, f.with_values(alloc, bindings)?)?;
+                Ok(Formula::Eventually(f))
+            }
+            Formula::Until(f, g) => {
+                let f = Box::new(alloc, f.with_values(alloc, bindings)?)?;
+                let g = Box::new(alloc, g.with_values(alloc, bindings)?)?;
+                Ok(Formula::Until(f, g))
+            }
+            Formula::Within(n, f) => {
+                let f = Box::new(alloc, f.with_values(alloc, bindings)?)?;
+                Ok(Formula::Within(*n, f))
+            }
+            Formula::During(n, f) => {
+                let f = Box::new(alloc, f.with_values(alloc, bindings)?)?;
+                Ok(Formula::During(*n, f))
+            }
+        }
+    }
+
+    /// Whether the two formulas are the same: the derived equality tells exactly the plain trees apart.
+    pub fn is_same(&self, other: &Formula) -> bool
+        ensures same { (result ≡ true) ↔ (tree_of_formula self.now ≡ tree_of_formula other.now) }
+    {
+        self == other
+    }
+
+    /// Whether the formula has no formula below it and is no constant. It takes no memory.
+    #[tactic(auto, using(crate::proofs::FormulaTrees::formula_trees))]
+    pub fn is_basic(&self) -> bool
+        ensures { result ≡ is_basic (tree_of_formula self.now) }
+    {
+        match self {
+            Formula::Atom(_, _) => true,
+            Formula::Defined(_, _) => true,
+            Formula::Compare(_, _, _) => true,
+            Formula::GoalFact(_, _) => true,
+            Formula::GoalPlace(_, _, _) => true,
+            Formula::GoalNot(_, _) => true,
+            Formula::True => false,
+            Formula::False => false,
+            Formula::Not(_) => false,
+            Formula::And(_) => false,
+            Formula::Or(_) => false,
+            Formula::ForAll(_, _, _) => false,
+            Formula::Exists(_, _, _) => false,
+            Formula::Next(_) => false,
+            Formula::Always(_) => false,
+            Formula::Eventually(_) => false,
+            Formula::Until(_, _) => false,
+            Formula::Within(_, _) => false,
+            Formula::During(_, _) => false,
+        }
+    }
+}

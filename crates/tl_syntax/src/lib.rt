@@ -1,0 +1,52 @@
+//! What planning problems are written in: names, lists, and trees.
+//!
+//! - `memory`: want of memory.
+//! - `names`: the table of names.
+//! - `items`: the one list type, of which every list here is a name.
+//! - `value`, `variable`, `bound`: what stands in facts and formulas.
+//! - `declared`: what a domain declares.
+//! - `term`, `formula`, `effect`: the trees, which hold themselves; `specs/` has their plain trees.
+//! - `substitution`: formulas and bounds with values put in.
+//! - `definition`, `operator`, `domain`: what a domain file gives.
+//! - `fact`, `place_value`, `action`: ground facts, places with their values, and the steps of a plan.
+//!
+//! What all of it means stands in the crate above, `tl_terms`, which gives these types again.
+#![tactic(auto)]
+
+mod action;
+mod bound;
+mod declared;
+mod definition;
+mod domain;
+mod effect;
+mod fact;
+mod formula;
+mod items;
+mod memory;
+mod names;
+mod operator;
+mod place_value;
+mod substitution;
+mod term;
+#[cfg(test)]
+mod tree_tests;
+mod value;
+mod variable;
+
+pub use action::{Action, Actions};
+pub use bound::{Bound, Bounds};
+pub use declared::{Declared, Declareds};
+pub use definition::{Definition, Definitions};
+pub use domain::Domain;
+pub use effect::{Effect, Effects};
+pub use fact::{Fact, Facts};
+pub use formula::{Formula, Formulas};
+pub use items::{Bytes, Items, Numbers32};
+pub use memory::NoMemory;
+pub use names::Names;
+pub use operator::{Operator, Operators};
+pub use place_value::{PlaceValue, PlaceValues};
+pub use substitution::{subst, subst_bound};
+pub use term::{Term, Terms};
+pub use value::{Cmp, Op, Value, Values};
+pub use variable::{Arg, Args, Var, Vars};
