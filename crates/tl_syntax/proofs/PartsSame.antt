@@ -18,6 +18,11 @@ use Rattle.tl_syntax.specs.contracts.variable.ArgPartialEq.TheImpl as arg_impl
 use Rattle.tl_syntax.specs.contracts.value.OpPartialEq.TheImpl as op_impl
 use Rattle.tl_syntax.specs.contracts.value.CmpPartialEq.TheImpl as cmp_impl
 use Rattle.tl_syntax.specs.contracts.bound.BoundPartialEq.TheImpl as bound_impl
+use Rattle.tl_syntax.specs.declared.place_value.PlaceValue.{PlaceValue}
+use Rattle.tl_syntax.specs.declared.action.Action.{Action}
+use Rattle.tl_syntax.specs.contracts.value.ValuePartialEq.TheImpl as value_impl
+use Rattle.tl_syntax.specs.contracts.place_value.PlaceValuePartialEq.TheImpl as place_value_impl
+use Rattle.tl_syntax.specs.contracts.action.ActionPartialEq.TheImpl as action_impl
 use Rattle.tl_syntax.proofs.Plain.{Tells, both, with_both, list-tells, value-tells}
 
 pub nat-tells : Tells nat_eq
@@ -82,3 +87,24 @@ bound-tells (bound.GoalNot p xs) (bound.GoalNot q ys) = (
   λ e. with_both (eq-eqb p q (let k : p ≡ q = cc in k)) ((list-tells A arg-tells xs ys).1 (let k : xs ≡ ys = cc in k)),
 )
 bound-tells u v = (λ h. absurd (true≢false (sym h)), λ e. absurd (let k : ⊥ = cc in k))
+
+-- the derived test of two values
+abbrev V : Value → Value → Bool
+V = (value_impl.ghosts).eq
+
+pub place_value-tells : Tells (place_value_impl.ghosts).eq
+place_value-tells x y = (
+  λ h. let k = both (nat_eq x.fun y.fun) (pointwise V x.args y.args && V x.value y.value) h in let l = both (pointwise V x.args y.args) (V x.value y.value) k.1 in
+      let a = eqb-true x.fun y.fun k.0 in let b = (list-tells V value-tells x.args y.args).0 l.0 in let c = (value-tells x.value y.value).0 l.1 in
+      λ i. record { fun = a i; args = b i; value = c i },
+  λ e. with_both (eq-eqb x.fun y.fun (ap (λ (p : PlaceValue). p.fun) e))
+      (with_both ((list-tells V value-tells x.args y.args).1 (ap (λ (p : PlaceValue). p.args) e)) ((value-tells x.value y.value).1 (ap (λ (p : PlaceValue). p.value) e))),
+)
+
+pub action-tells : Tells (action_impl.ghosts).eq
+action-tells x y = (
+  λ h. let k = both (nat_eq x.op y.op) (pointwise V x.args y.args) h in
+      let a = eqb-true x.op y.op k.0 in let b = (list-tells V value-tells x.args y.args).0 k.1 in
+      λ i. record { op = a i; args = b i },
+  λ e. with_both (eq-eqb x.op y.op (ap (λ (p : Action). p.op) e)) ((list-tells V value-tells x.args y.args).1 (ap (λ (p : Action). p.args) e)),
+)

@@ -16,3 +16,4 @@ pub mod Named
 pub mod Same
 pub mod Substitution
 pub mod Bindings
+pub mod DerivedTests

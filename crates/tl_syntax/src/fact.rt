@@ -1,7 +1,6 @@
 // Ground facts.
 
 ghost use Rattle.std.specs.Prelude.{◌≡◌, IfOk};
-ghost use Rattle.tl_syntax.specs.Keys.{key_cmp};
 
 use crate::{Items, NoMemory, Values};
 use std::alloc::Global;
@@ -20,6 +19,8 @@ pub struct Fact {
 pub type Facts = Items<Fact>;
 
 impl Fact {
+    ghost use Rattle.tl_syntax.specs.Keys.{fact_cmp};
+
     /// The same fact again. It fails for want of memory alone.
     pub fn copy(&self, alloc: Global) -> Result<Fact, NoMemory>
         ensures same { IfOk result (λ copy. copy ≡ self.now) }
@@ -33,7 +34,7 @@ impl Fact {
 
     /// How the two stand by predicate and then by arguments in value order. The derived order is the same.
     pub fn order(&self, other: &Fact) -> Ordering
-        ensures { result ≡ key_cmp (self.now.pred, self.now.args) (other.now.pred, other.now.args) }
+        ensures { result ≡ fact_cmp self.now other.now }
     {
         self.cmp(other)
     }

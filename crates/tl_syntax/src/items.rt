@@ -22,6 +22,9 @@ pub type Bytes = Items<u8>;
 /// A list of numbers of 32 bits.
 pub type Numbers32 = Items<u32>;
 
+/// A list of numbers of things that are kept in a table.
+pub type Ids = Items<usize>;
+
 impl<T> Model for Items<T> {
     ghost use Rattle.std.specs.Prelude.{List};
 

@@ -9,6 +9,7 @@
 //! - `substitution`: formulas and bounds with values put in.
 //! - `definition`, `operator`, `domain`: what a domain file gives.
 //! - `fact`, `place_value`, `action`: ground facts, places with their values, and the steps of a plan.
+//! - `laws`: what the derived tests of equality and the derived orders say.
 //!
 //! What all of it means stands in the crate above, `tl_terms`, which gives these types again.
 #![tactic(auto)]
@@ -22,6 +23,7 @@ mod effect;
 mod fact;
 mod formula;
 mod items;
+pub mod laws;
 mod memory;
 mod names;
 mod operator;
@@ -41,7 +43,7 @@ pub use domain::Domain;
 pub use effect::{Effect, Effects};
 pub use fact::{Fact, Facts};
 pub use formula::{Formula, Formulas};
-pub use items::{Bytes, Items, Numbers32};
+pub use items::{Bytes, Ids, Items, Numbers32};
 pub use memory::NoMemory;
 pub use names::Names;
 pub use operator::{Operator, Operators};
