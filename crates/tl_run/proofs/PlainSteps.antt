@@ -11,9 +11,9 @@ use Rattle.tl_terms.specs.Truth.{state_true}
 use Rattle.tl_terms.specs.Definitions.{situation_of}
 use Rattle.tl_syntax.specs.Assignment.{Assignment, no_values}
 use Rattle.tl_terms.specs.Bounds.{fact_in}
-use Rattle.tl_syntax.specs.Keys.{Key}
+use Rattle.tl_syntax.specs.Keys.{Key, no_clash}
 use Rattle.tl_terms.specs.World.{World}
-use Rattle.tl_terms.specs.Step.{EffectInstance, all_instances, is_defined, no_clash, given, changed, applied, applied_if, step}
+use Rattle.tl_terms.specs.Step.{EffectInstance, all_instances, is_defined, given, changed, applied, applied_if, step}
 use Rattle.tl_run.specs.declared.plain.effects.GroundEffect.{GroundEffect}
 use Rattle.tl_run.specs.declared.plain.operators.GroundOperator.{GroundOperator}
 use Rattle.tl_run.specs.declared.plain.domain.GroundDomain.{GroundDomain}

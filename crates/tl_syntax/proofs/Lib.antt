@@ -11,3 +11,5 @@ pub mod EffectTrees
 pub mod TermSame
 pub mod FormulaSame
 pub mod Bindings
+pub mod SubstitutedFits
+pub mod SubstitutedLeaves

@@ -1,6 +1,7 @@
 -- How the variables of a quantifier stand in its bound.
-use Rattle.std.specs.Prelude.{◌≡◌, List, [], ◌∷◌}
-use Rattle.tl_syntax.specs.Lists.{Each, One}
+use Rattle.std.specs.Prelude.{◌≡◌, ◌==◌, List, [], ◌∷◌, Bool, false, IsTrue}
+use Rattle.std.specs.List.{list_any}
+use Rattle.tl_syntax.specs.Lists.{Each}
 use Rattle.tl_syntax.specs.declared.variable.Var.{Var}
 use Rattle.tl_syntax.specs.declared.variable.Arg.{Arg}
 use Rattle.tl_syntax.specs.declared.variable.Arg.TheVariants as arg
@@ -16,13 +17,17 @@ args_of (bound.GoalPlace f xs x) = x ∷ xs
 args_of (bound.GoalNot p xs) = xs
 
 -- the argument is the variable
-abbrev pub IsVariable : Var → Arg → Type 0
-IsVariable s (arg.Var u) = u.slot ≡ s.slot
-IsVariable s (arg.Val v) = ⊥
+abbrev pub is_variable : Var → Arg → Bool
+is_variable s (arg.Var u) = u.slot == s.slot
+is_variable s (arg.Val v) = false
+
+-- the variable stands in the bound
+abbrev pub stands_in : Var → Bound → Bool
+stands_in s b = list_any (is_variable s) (args_of b)
 
 -- each variable stands in the bound
 abbrev pub OccurIn : List Var → Bound → Type 0
-OccurIn ss b = Each (λ s. One (IsVariable s) (args_of b)) ss
+OccurIn ss b = Each (λ s. IsTrue (stands_in s b)) ss
 
 -- no two variables have one slot
 abbrev pub DifferInSlot : List Var → Type 0

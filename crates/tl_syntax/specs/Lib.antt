@@ -12,8 +12,15 @@ pub mod Keys
 pub mod TotalOrders
 pub mod Assignment
 pub mod BoundVariables
+pub mod DefinitionNames
 pub mod Named
 pub mod Same
 pub mod Substitution
 pub mod Bindings
 pub mod DerivedTests
+pub mod Signature
+pub mod FreeVariables
+pub mod Fits
+pub mod Kept
+pub mod KeptOnce
+pub mod SubstitutionKeeps

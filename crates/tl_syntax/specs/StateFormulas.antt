@@ -1,4 +1,5 @@
 -- Formulas that are read in one state.
+use Rattle.tl_syntax.specs.Effects.{EffectTree, EffectTrees, add, del, assign, when, each, no_effect, more_effects}
 use Rattle.tl_syntax.specs.Trees.{FormulaTree, FormulaTrees, verum, falsum, atom, defined, compare, goal_fact, goal_place, goal_not, negation, conjunction, disjunction, for_all, for_some, next, always, eventually, until, within, during, no_formula, more_formulas}
 
 -- no temporal word stands in the formula
@@ -27,3 +28,16 @@ abbrev mutual
   pub AreState : FormulaTrees → Type 0
   AreState no_formula = Unit {0}
   AreState (more_formulas f fs) = IsState f × AreState fs
+
+-- no temporal word stands in the conditions of an effect, or of a list of effects
+abbrev mutual
+  pub EffectIsState : EffectTree → Type 0
+  EffectIsState (add p ts) = Unit {0}
+  EffectIsState (del p ts) = Unit {0}
+  EffectIsState (assign f ts t) = Unit {0}
+  EffectIsState (when f es) = IsState f × EffectsAreState es
+  EffectIsState (each ss b es) = EffectsAreState es
+
+  pub EffectsAreState : EffectTrees → Type 0
+  EffectsAreState no_effect = Unit {0}
+  EffectsAreState (more_effects e es) = EffectIsState e × EffectsAreState es

@@ -9,6 +9,7 @@
 //! - `substitution`: formulas and bounds with values put in.
 //! - `definition`, `operator`, `domain`: what a domain file gives.
 //! - `fact`, `place_value`, `action`: ground facts, places with their values, and the steps of a plan.
+//! - `problem`: a domain with the initial world and the goal, and what their type keeps.
 //! - `laws`: what the derived tests of equality and the derived orders say.
 //!
 //! What all of it means stands in the crate above, `tl_terms`, which gives these types again.
@@ -28,6 +29,7 @@ mod memory;
 mod names;
 mod operator;
 mod place_value;
+mod problem;
 mod substitution;
 mod term;
 #[cfg(test)]
@@ -48,6 +50,7 @@ pub use memory::NoMemory;
 pub use names::Names;
 pub use operator::{Operator, Operators};
 pub use place_value::{PlaceValue, PlaceValues};
+pub use problem::Problem;
 pub use substitution::{subst, subst_bound};
 pub use term::{Term, Terms};
 pub use value::{Cmp, Op, Value, Values};

@@ -1,5 +1,6 @@
 // The table of names.
 ghost use Rattle.std.specs.Prelude.{◌≡◌, ◌-◌, ◌<◌, ◌^◌, ℕ, [], ◌∷◌, ◌++◌, length, slice_get, IfOk, OnErr, OnOk, IsOk, IsSome};
+ghost use Rattle.std.specs.Rc.{rc_str_bytes};
 ghost use Rattle.tl_syntax.specs.Texts.{with_text, number_of, AreDistinct};
 
 mod settled;
@@ -70,7 +71,7 @@ impl Names {
         }
     }
 
-    // Puts a new text at the end.
+    // Puts a copy of a new text at the end.
     fn append(&mut self, text: &str) -> Result<u32, AllocError>
         requires new { number_of self.old text.now ≡ None }
         requires room { length self.old < 2 ^ 32 - 1 }
@@ -78,11 +79,22 @@ impl Names {
         ensures number { IfOk result (λ n. n ≡ length self.old) }
         ensures refused { OnErr result (self.new ≡ self.old) }
     {
-        let key = RcStr::from_str(self.alloc, text)?;
-        let shared = key.clone()?;
+        let shared = RcStr::from_str(self.alloc, text)?;
+        self.append_shared(shared)
+    }
+
+    // Puts a new text at the end, which is shared and not copied.
+    fn append_shared(&mut self, text: RcStr) -> Result<u32, AllocError>
+        requires new { number_of self.old (rc_str_bytes text) ≡ None }
+        requires room { length self.old < 2 ^ 32 - 1 }
+        ensures added { OnOk result (self.new ≡ self.old ++ rc_str_bytes text ∷ []) }
+        ensures number { IfOk result (λ n. n ≡ length self.old) }
+        ensures refused { OnErr result (self.new ≡ self.old) }
+    {
+        let shared = text.clone()?;
         self.texts.reserve(1)?;
         let number = self.texts.len() as u32;
-        self.numbers.insert(key, number)?;
+        self.numbers.insert(text, number)?;
         self.texts.push_reserved(shared);
         Ok(number)
     }

@@ -147,3 +147,45 @@ fn substitution_fills_bounds(rt: HostRuntime) -> Result<(), Fail> {
     assert!(rt; found == Bound::Fact(0, given));
     Ok(())
 }
+
+// `(not (not .. F))`, with `not` this many times
+fn negated(alloc: Global, times: u32, mut f: Formula) -> Result<Formula, NoMemory> {
+    for _ in 0..times {
+        f = Formula::Not(Box::new(alloc, f)?);
+    }
+    Ok(f)
+}
+
+// `(+ (+ .. 1) 1)`, with `+` this many times
+fn sums(alloc: Global, times: u32, mut term: Term) -> Result<Term, NoMemory> {
+    for at in 0..times {
+        let one = Box::new(alloc, Term::Val(Value::Int(1)))?;
+        term = Term::Arith(Op::Plus, Box::new(alloc, term)?, one, at);
+    }
+    Ok(term)
+}
+
+#[test]
+fn walks_reach_the_deepest_trees_of_a_file(rt: HostRuntime) -> Result<(), Fail> {
+    let alloc = rt.alloc();
+    let v = variable(0);
+    let mut vars = Vars::new(alloc);
+    vars.push(v)?;
+    let mut values = Values::new(alloc);
+    values.push(Value::Int(7))?;
+    assert!(rt; vars.len() == values.len());
+    for (nots, ups) in [(98, 0), (0, 97), (49, 48)] {
+        let before = negated(alloc, nots, press(alloc, sums(alloc, ups, Term::Var(v))?)?)?;
+        let after = negated(
+            alloc,
+            nots,
+            press(alloc, sums(alloc, ups, Term::Val(Value::Int(7)))?)?,
+        )?;
+        let copy = before.copy(alloc)?;
+        assert!(rt; copy.is_same(&before));
+        let found = subst(alloc, &before, &vars, values.as_slice())?;
+        assert!(rt; found.is_same(&after));
+        assert!(rt; !found.is_same(&before));
+    }
+    Ok(())
+}

@@ -8,7 +8,7 @@ use Rattle.tl_syntax.specs.Assignment.{Assignment, no_values, bind}
 use Rattle.tl_terms.specs.Bounds.{bound_true, tuples_of, tuples}
 use Rattle.tl_terms.specs.Definitions.{Tests, asked, table_of, situation_under, true_at_level, with_definition, tests_of, situation_of}
 use Rattle.tl_terms.specs.LawsDefinitions.{own_or_outer, body_at_level}
-use Rattle.tl_syntax.specs.Named.{IsNamingBelow, AreNamingBelow}
+use Rattle.tl_syntax.specs.DefinitionNames.{IsNamingBelow, AreNamingBelow}
 use Rattle.tl_terms.specs.Problem.{PlainDefinition, PlainProblem}
 use Rattle.tl_terms.specs.Situation.{Table}
 use Rattle.tl_terms.specs.Terms.{term_values}

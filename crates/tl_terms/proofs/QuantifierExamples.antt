@@ -63,7 +63,7 @@ of_one w (v ∷ []) = (λ h. (v, refl, h.1), λ h. (refl, subst (λ u. has_fact 
 of_one w (v ∷ (u ∷ t)) = (λ h. absurd (let q : ⊥ = omega numbers in q), λ h. let q : ⊥ = cc in absurd q)
 
 tuples-of_one : (w : World) (t : List Value) → Among t (tuples (alone w) no_values (x ∷ []) on_x) ↔ ((v : Value) × (t ≡ v ∷ []) × (has_fact w (0, v ∷ []) ≡ true))
-tuples-of_one w t = iff-trans (all-tuples (alone w) no_values (x ∷ []) on_x (tt, tt) (inl refl, tt) t) (of_one w t)
+tuples-of_one w t = iff-trans (all-tuples (alone w) no_values (x ∷ []) on_x (tt, tt) (refl, tt) t) (of_one w t)
 
 -- in a world without facts the bound has no tuple
 tuples-nothing : tuples (alone nothing) no_values (x ∷ []) on_x ≡ []

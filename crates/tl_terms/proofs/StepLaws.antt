@@ -12,10 +12,10 @@ use Rattle.tl_terms.specs.LawsStep.{IsChange, IsStep}
 use Rattle.tl_syntax.specs.Lists.{Each, Among}
 use Rattle.tl_terms.specs.Problem.{PlainOperator, PlainProblem}
 use Rattle.tl_terms.specs.Situation.{Situation}
-use Rattle.tl_terms.specs.Step.{EffectInstance, all_instances, is_defined, added, deleted, given, agree, no_clash, without_all, with_all, overwritten, changed, applied, applied_if, step}
+use Rattle.tl_terms.specs.Step.{EffectInstance, all_instances, is_defined, added, deleted, given, without_all, with_all, overwritten, changed, applied, applied_if, step}
+use Rattle.tl_syntax.specs.Keys.{agree, no_clash, Key, value_cmp, key_cmp}
 use Rattle.tl_syntax.specs.TotalOrders.{key_total}
 use Rattle.tl_terms.specs.Truth.{state_true}
-use Rattle.tl_syntax.specs.Keys.{Key, value_cmp, key_cmp}
 use Rattle.tl_terms.specs.World.{World, has_fact, value_at}
 use Rattle.tl_terms.proofs.KeyLaws.{key-is, key-itself, value-is, value-itself, key-among}
 use Rattle.tl_syntax.proofs.ListLaws.{iff-trans, iff-path, iff-sym, One-flat, one_out, one_in, and-iff, or-iff, not-iff, all-iff, Each-Among, same_test}

@@ -1,12 +1,13 @@
 -- The tuples of a bound are all those that make it true.
-use Rattle.std.proofs.Common.{is_some, ◌≡◌, ℕ, zero, suc, ◌⊎◌, ◌↔◌, List, [], ◌∷◌, map, flat_map, length, true, false, cond, true≢false, Some, None, refl, sym, ap, ◌∙◌, subst, inl, inr, arith}
-use borrow.Author.Tests.{eq-eqb, ne_eqb}
+use Rattle.std.proofs.Common.{is_some, ◌≡◌, ℕ, zero, suc, ◌⊎◌, ◌↔◌, List, [], ◌∷◌, map, flat_map, length, true, false, cond, ◌||◌, true≢false, Some, None, refl, sym, ap, ◌∙◌, subst, inl, inr, arith}
+use borrow.Author.Tests.{eq-eqb, eqb-true, ne_eqb}
+use Rattle.std.specs.List.{list_any}
 use Rattle.std.specs.FinSet as set
 use Rattle.std.specs.FinMap as dict
 use Rattle.std.specs.Ordering.{eq_by_cmp, is_eq}
 use Rattle.std.specs.Cmp.{tied_itself, Equal-is}
 use Rattle.tl_syntax.specs.Assignment.{Assignment, bind}
-use Rattle.tl_syntax.specs.BoundVariables.{args_of, IsVariable, OccurIn, DifferInSlot}
+use Rattle.tl_syntax.specs.BoundVariables.{args_of, is_variable, stands_in, OccurIn, DifferInSlot}
 use Rattle.tl_terms.specs.Bounds.{arg_value, arg_values, fact_in, same_value, bound_true, tuples_of, tuples}
 use Rattle.tl_syntax.specs.Lists.{Each, One, Among}
 use Rattle.tl_terms.specs.Situation.{Situation}
@@ -148,9 +149,9 @@ bound-values s e (bound.GoalFact p xs) h a m v q = in_one s v (inr (inl (fact-bo
 bound-values s e (bound.GoalPlace f xs x) h a m v q = in_one s v (inr (inl (place-bound s.goal e f xs x h a m v q)))
 bound-values s e (bound.GoalNot p xs) h a m v q = in_one s v (inr (inr (inl (fact-bound s.avoid e p xs h a m v q))))
 
-names-value : (e : Assignment) (s : Var) (a : Arg) → IsVariable s a → (v : Value) → e s.slot ≡ Some v → arg_value e a ≡ Some v
-names-value e s (arg.Var u) n v h = ap e n ∙ h
-names-value e s (arg.Val u) n v h = absurd n
+names-value : (e : Assignment) (s : Var) (a : Arg) → is_variable s a ≡ true → (v : Value) → e s.slot ≡ Some v → arg_value e a ≡ Some v
+names-value e s (arg.Var u) n v h = ap e (eqb-true u.slot s.slot n) ∙ h
+names-value e s (arg.Val u) n v h = absurd (true≢false (sym n))
 
 -- each value of the tuple is that of its variable
 tuple-values : (ss : List Var) (t : List Value) (e : Assignment) (P : Value → Type 0) → length t ≡ length ss → DifferInSlot ss
@@ -167,9 +168,17 @@ tuple-values (s ∷ ss) (v ∷ t) e P n d h = (
     apart [] k u m = absurd m
     apart (x ∷ us) k u m = elim m [ inl e ↦ λ q. k.0 (ap (λ (z : Var). z.slot) e ∙ q) | inr c ↦ apart us k.1 u c ]
 
-occurs-of : (ss us : List Var) (b : Bound) → Each (λ s. One (IsVariable s) (args_of b)) us → (s : Var) → Among s us → One (IsVariable s) (args_of b)
-occurs-of ss [] b o s m = absurd m
-occurs-of ss (u ∷ us) b o s m = elim m [ inl e ↦ subst (λ z. One (IsVariable z) (args_of b)) e o.0 | inr k ↦ occurs-of ss us b o.1 s k ]
+occurs-of : (us : List Var) (b : Bound) → OccurIn us b → (s : Var) → Among s us → stands_in s b ≡ true
+occurs-of [] b o s m = absurd m
+occurs-of (u ∷ us) b o s m = elim m [ inl e ↦ subst (λ z. stands_in z b ≡ true) e o.0 | inr k ↦ occurs-of us b o.1 s k ]
+
+-- where a test holds of one of the list, some item passes it
+one-of : (s : Var) (xs : List Arg) → list_any (is_variable s) xs ≡ true → One (λ a. is_variable s a ≡ true) xs
+one-of s [] h = absurd (true≢false (sym h))
+one-of s (x ∷ xs) h = (elim (is_variable s x) as (λ b. is_variable s x ≡ b → (b || list_any (is_variable s) xs) ≡ true → is_variable s x ≡ true ⊎ One (λ a. is_variable s a ≡ true) xs) [
+  | true ↦ λ q k. inl q
+  | false ↦ λ q k. inr (one-of s xs k)
+]) refl h
 
 -- THE TUPLES OF A BOUND are exactly the tuples, of any values, that make it true
 pub all-tuples : (s : Situation) (e : Assignment) (ss : List Var) (b : Bound) → DifferInSlot ss → OccurIn ss b → (t : List Value)
@@ -180,7 +189,7 @@ all-tuples s e ss b d o t = (
     (
       h.0,
       tuple-values ss t e (λ v. Among v (values_of (worlds_of s))) h.0 d
-          (λ u m v q. let n = one_out (IsVariable u) (args_of b) (occurs-of ss ss b o u m) in bound-values s (bind ss t e) b h.1 n.0 n.1.0 v (names-value (bind ss t e) u n.0 n.1.1 v q)),
+          (λ u m v q. let n = one_out (λ a. is_variable u a ≡ true) (args_of b) (one-of u (args_of b) (occurs-of ss b o u m)) in bound-values s (bind ss t e) b h.1 n.0 n.1.0 v (names-value (bind ss t e) u n.0 n.1.1 v q)),
     ),
     h.1,
   ),

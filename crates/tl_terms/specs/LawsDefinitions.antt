@@ -6,7 +6,7 @@ use Rattle.tl_terms.specs.World.{World}
 use Rattle.tl_terms.specs.Situation.{Table}
 use Rattle.tl_syntax.specs.Assignment.{no_values, bind}
 use Rattle.tl_terms.specs.Truth.{state_true}
-use Rattle.tl_syntax.specs.Named.{IsNamingBelow}
+use Rattle.tl_syntax.specs.DefinitionNames.{IsNamingBelow}
 use Rattle.tl_terms.specs.Definitions.{situation_of}
 
 -- definition n means this, and every other one what it means elsewhere

@@ -4,13 +4,13 @@ use Rattle.tl_syntax.specs.declared.value.Value.{Value}
 use Rattle.tl_syntax.specs.declared.action.Action.{Action}
 use Rattle.tl_syntax.specs.Lists.{Each, Among}
 use Rattle.tl_terms.specs.Problem.{PlainOperator, PlainProblem}
-use Rattle.tl_syntax.specs.Keys.{Key}
+use Rattle.tl_syntax.specs.Keys.{Key, no_clash}
 use Rattle.tl_terms.specs.World.{World, has_fact, value_at}
 use Rattle.tl_syntax.specs.Assignment.{Assignment, no_values, bind}
 use Rattle.tl_terms.specs.Bounds.{bound_true}
 use Rattle.tl_terms.specs.Truth.{state_true}
 use Rattle.tl_terms.specs.Definitions.{situation_of}
-use Rattle.tl_terms.specs.Step.{EffectInstance, all_instances, is_defined, added, deleted, given, no_clash, changed, step}
+use Rattle.tl_terms.specs.Step.{EffectInstance, all_instances, is_defined, added, deleted, given, changed, step}
 
 -- the instances of effects lead from w to v: each is defined, no place is set to two values, each fact is there that is added, or was there and is not deleted, each place that is set has its value, and every other place is as it was
 pub record IsChange (w : World) (cs : List EffectInstance) (v : World) : Type 0 where

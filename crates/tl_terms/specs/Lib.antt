@@ -1,5 +1,6 @@
 pub mod World
 pub mod Problem
+pub mod ProblemMeaning
 pub mod Situation
 pub mod Terms
 pub mod Bounds

@@ -1,15 +1,14 @@
 -- The step that an action makes from a world to the next (ADL, Pednault 1989).
-use Rattle.std.specs.Prelude.{ℕ, List, [], ◌∷◌, ◌++◌, flat_map, length, slice_get, Bool, true, false, cond, not, ◌&&◌, ◌||◌, ◌==◌, Option, Some, None}
+use Rattle.std.specs.Prelude.{ℕ, List, [], ◌∷◌, ◌++◌, flat_map, length, slice_get, Bool, true, false, cond, ◌&&◌, ◌==◌, Option, Some, None}
 use Rattle.std.specs.List.{list_all}
 use Rattle.std.specs.FinSet as set
 use Rattle.std.specs.FinMap as dict
-use Rattle.std.specs.Ordering.{is_eq}
 use Rattle.tl_syntax.specs.declared.value.Value.{Value}
 use Rattle.tl_syntax.specs.declared.action.Action.{Action}
 use Rattle.tl_terms.specs.Problem.{PlainOperator, PlainProblem}
 use Rattle.tl_terms.specs.Situation.{Situation}
 use Rattle.tl_syntax.specs.Effects.{EffectTree, EffectTrees, add, del, assign, when, each, no_effect, more_effects}
-use Rattle.tl_syntax.specs.Keys.{Key, key_cmp, value_cmp}
+use Rattle.tl_syntax.specs.Keys.{Key, key_cmp, no_clash}
 use Rattle.tl_terms.specs.World.{World}
 use Rattle.tl_syntax.specs.Assignment.{Assignment, no_values, bind}
 use Rattle.tl_terms.specs.Terms.{term_value, term_values}
@@ -57,14 +56,6 @@ deleted _ = []
 abbrev pub given : EffectInstance → List (Key × Value)
 given (sets f (Some vs) (Some v)) = ((f, vs), v) ∷ []
 given _ = []
-
--- the two do not give one place different values
-abbrev pub agree : Key × Value → Key × Value → Bool
-agree a b = not (is_eq (key_cmp a.0 b.0)) || is_eq (value_cmp a.1 b.1)
-
--- no two of them give one place different values
-abbrev pub no_clash : List (Key × Value) → Bool
-no_clash ps = list_all (λ a. list_all (agree a) ps) ps
 
 -- the set without these
 abbrev pub without_all : set.FinSet key_cmp → List Key → set.FinSet key_cmp

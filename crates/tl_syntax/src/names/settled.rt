@@ -1,8 +1,8 @@
 // The table in the order of its texts.
-ghost use Rattle.std.specs.Prelude.{◌≡◌, ◌-◌, ◌<◌, ◌^◌, [], ◌∷◌, ◌++◌, length, IfOk, OnErr, OnOk, IsPermutation, IsSorted, None};
+ghost use Rattle.std.specs.Prelude.{◌≡◌, ◌<◌, ◌^◌, length, IfOk, IsPermutation, IsSorted};
 ghost use Rattle.std.specs.Rc.{rc_str_bytes};
 ghost use Rattle.tl_syntax.specs.Settled.{IsInOrder, Renumbers, Differ, AreCounted, AreBelow, GivesPlaces, entry_cmp, texts_in, numbers_in};
-ghost use Rattle.tl_syntax.specs.Texts.{AreDistinct, number_of};
+ghost use Rattle.tl_syntax.specs.Texts.{AreDistinct};
 
 use crate::{Names, NoMemory, Numbers32};
 use std::alloc::{AllocError, Global};
@@ -38,21 +38,6 @@ impl Names {
             entries.push((text.clone()?, number as u32))?;
         }
         Ok(entries)
-    }
-
-    // Puts a new text at the end, which is shared and not copied.
-    fn append_shared(&mut self, text: RcStr) -> Result<(), AllocError>
-        requires new { number_of self.old (rc_str_bytes text) ≡ None }
-        requires room { length self.old < 2 ^ 32 - 1 }
-        ensures added { OnOk result (self.new ≡ self.old ++ rc_str_bytes text ∷ []) }
-        ensures refused { OnErr result (self.new ≡ self.old) }
-    {
-        let shared = text.clone()?;
-        self.texts.reserve(1)?;
-        let number = self.texts.len() as u32;
-        self.numbers.insert(text, number)?;
-        self.texts.push_reserved(shared);
-        Ok(())
     }
 }
 

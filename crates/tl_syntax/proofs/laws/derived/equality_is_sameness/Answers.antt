@@ -1,7 +1,7 @@
 use Rattle.tl_syntax.proofs.Plain.{list-tells, value-tells, fact-tells}
 use Rattle.tl_syntax.proofs.PartsSame.{op-tells, cmp-tells, var-tells, arg-tells, bound-tells, place_value-tells, action-tells}
 use Rattle.tl_syntax.specs.DerivedTests.{value_eq, var_eq, arg_eq}
-use Rattle.tl_syntax.proofs.laws.equality_is_sameness.Goals as goal
+use Rattle.tl_syntax.proofs.laws.derived.equality_is_sameness.Goals as goal
 
 pub returns : goal.returns
 returns c = record {
