@@ -1,0 +1,9 @@
+pub mod Search
+pub mod Lookup
+pub mod Order
+pub mod Group
+pub mod Alike
+pub mod Edits
+pub mod Step
+pub mod Change
+pub mod Lent

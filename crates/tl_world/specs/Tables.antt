@@ -1,0 +1,28 @@
+-- The fields of a world as plain tables.
+use Rattle.std.specs.Prelude.{ℕ, List, map}
+use Rattle.tl_syntax.specs.declared.value.Value.{Value}
+use Rattle.tl_world.specs.declared.named.Named.{Named}
+use Rattle.tl_world.specs.declared.table.PlaceRow.{PlaceRow}
+pub use Rattle.tl_world.specs.Plain.{row_cmp, PlainRows, PlainTables, keyed, entries_of, AreRows, EachInOrder, InOrder, set_of, map_of}
+
+abbrev pub fact_row : List Value → List Value × Unit {0}
+fact_row r = (r, tt)
+
+abbrev pub place_row : PlaceRow → List Value × Value
+place_row r = (r.args, r.value)
+
+abbrev pub fact_table : Named (List Value) → ℕ × PlainRows (Unit {0})
+fact_table t = (t.name, map fact_row t.rows.value)
+
+abbrev pub place_table : Named PlaceRow → ℕ × PlainRows Value
+place_table t = (t.name, map place_row t.rows.value)
+
+abbrev pub fact_tables : List (Named (List Value)) → PlainTables (Unit {0})
+fact_tables = map fact_table
+
+abbrev pub place_tables : List (Named PlaceRow) → PlainTables Value
+place_tables = map place_table
+
+-- a table by its number and its rows
+abbrev pub plain_of : {R : Type 0} → Named R → ℕ × List R
+plain_of t = (t.name, t.rows.value)

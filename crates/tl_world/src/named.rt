@@ -1,0 +1,38 @@
+// Tables by the number of their predicate or function.
+ghost use Rattle.std.specs.List.Sorted.{IsBinarySearchResult, IsSearchInRange};
+ghost use Rattle.std.specs.Ordering.{nat_cmp};
+ghost use Rattle.std.specs.Prelude.{◌≡◌, length, map, IfOk};
+ghost use Rattle.tl_world.specs.Tables.{plain_of};
+
+use crate::Table;
+use std::alloc::Global;
+use std::rc::Rc;
+use tl_syntax::NoMemory;
+
+/// A table with the number of its predicate or function.
+#[derive(PartialEq, Eq, Hash, Drop)]
+pub(crate) struct Named<R> {
+    pub(crate) name: u32,
+    pub(crate) rows: Rc<Table<R>>,
+}
+
+/// The place of the table with this number, or the place at which it would stand.
+pub(crate) fn find_table<R>(tables: &[Named<R>], name: u32) -> Result<usize, usize>
+    ensures range { IsSearchInRange result (length tables.now) }
+    ensures place { IsBinarySearchResult (λ t. nat_cmp t.name name) tables.now result }
+{
+    tables.binary_search_by_key(&name, |t| t.name)
+}
+
+/// The same tables, shared.
+pub(crate) fn share<R: Drop>(alloc: Global, tables: &[Named<R>]) -> Result<Vec<Named<R>>, NoMemory>
+    ensures same { IfOk result (λ v. map plain_of v.items ≡ map plain_of tables.now) }
+{
+    let mut out = Vec::new(alloc);
+    for t in tables {
+        let rows = t.rows.clone()?;
+        let one = Named { name: t.name, rows };
+        out.push(one)?;
+    }
+    Ok(out)
+}

@@ -1,0 +1,178 @@
+// Worlds, their look-ups and their changes.
+ghost use Rattle.std.specs.Prelude.{◌≡◌, ◌↔◌, ◌<◌, List, map, length, true, false, Some, None, IfNone, IfSome, IfOk};
+ghost use Rattle.tl_syntax.specs.Keys.{Key, fact_key};
+ghost use Rattle.tl_syntax.specs.Lists.{Among, Rises};
+ghost use Rattle.tl_terms.specs.Step.{with_all, without_all, overwritten};
+ghost use Rattle.tl_terms.specs.World.{has_fact, value_at};
+ghost use Rattle.tl_world.specs.Entry.{place_entry};
+ghost use Rattle.tl_world.specs.Same.{world_eq, world-tells, tells-partial, tells-equivalence, world_fed, world-alike};
+ghost use Rattle.tl_world.specs.Tables.{row_cmp, place_row};
+
+use crate::facts::{find_row, with_fact, without};
+use crate::named::{Named, find_table, share};
+use crate::places::{find_place, with_place};
+use crate::{PlaceRow, PlaceRows, Rows};
+use std::alloc::Global;
+use std::hash::{Hash, Hasher};
+use std::marker::Model;
+use tl_syntax::{Fact, NoMemory, PlaceValue, Value, Values};
+
+/// A set of facts and a finite map of places.
+#[derive(Drop)]
+pub struct World {
+    facts: Vec<Named<Values>>,
+    places: Vec<Named<PlaceRow>>,
+}
+
+impl Model for World {
+    ghost use Rattle.tl_terms.specs.World.{World as PlainWorld};
+    ghost use Rattle.tl_world.specs.View.{coded_world};
+
+    ghost Value = { PlainWorld };
+
+    ghost coded = { coded_world };
+
+    ghost use Rattle.tl_world.specs.Tables.{InOrder, fact_tables, place_tables, set_of, map_of};
+
+    ghost view = { λ w. record { facts = set_of (fact_tables w.facts.items); places = map_of (place_tables w.places.items) } };
+
+    ghost invariant = { λ w. InOrder (fact_tables w.facts.items) × InOrder (place_tables w.places.items) };
+}
+
+impl PartialEq for World {
+    ghost eq = { λ v w. world_eq v w };
+
+    ghost laws = { tells-partial world_eq world-tells };
+
+    fn eq(&self, other: &World) -> bool {
+        self.facts == other.facts && self.places == other.places
+    }
+}
+
+impl Eq for World {
+    ghost laws = { tells-equivalence world_eq world-tells };
+}
+
+impl Hash for World {
+    ghost hash_input = { λ w. world_fed w };
+
+    ghost respects_eq = { world-alike.fed };
+
+    fn hash<H: Hasher>(&self, state: &mut H) {
+        self.facts.hash(state);
+        self.places.hash(state);
+    }
+}
+
+impl World {
+    /// The world with no fact and no place that has a value. It takes no memory.
+    pub fn new(alloc: Global) -> World
+        ensures facts { (k : Key) → has_fact result k ≡ false }
+        ensures places { (k : Key) → value_at result k ≡ None }
+    {
+        World {
+            facts: Vec::new(alloc),
+            places: Vec::new(alloc),
+        }
+    }
+
+    /// Whether the fact of the predicate `pred` with these arguments is in the world. It takes no memory.
+    pub fn holds(&self, pred: u32, args: &[Value]) -> bool
+        ensures { result ≡ has_fact self.now (pred, args.now) }
+    {
+        match find_table(self.facts.as_slice(), pred) {
+            Ok(i) => {
+                let t = &self.facts[i];
+                let found = find_row(t.rows.as_slice(), args);
+                found.is_ok()
+            }
+            Err(_) => false,
+        }
+    }
+
+    /// The value of the place of the function `fun` with these arguments: None exactly where it has none. It takes no memory.
+    pub fn value(&self, fun: u32, args: &[Value]) -> Option<Value>
+        ensures { result ≡ value_at self.now (fun, args.now) }
+    {
+        match find_table(self.places.as_slice(), fun) {
+            Ok(i) => {
+                let t = &self.places[i];
+                let rows = t.rows.as_slice();
+                match find_place(rows, args) {
+                    Ok(k) => Some(rows[k].value),
+                    Err(_) => None,
+                }
+            }
+            Err(_) => None,
+        }
+    }
+
+    /// The arguments of the facts of the predicate `pred`, each once, in lexicographic value order: None exactly where there is no such fact.
+    /// It takes no memory.
+    pub fn rows(&self, pred: u32) -> Option<&Rows>
+        ensures none { IfNone result ((a : List _) → has_fact self.now (pred, a) ≡ false) }
+        ensures facts { IfSome result (λ r. (a : List _) → Among a r.now ↔ (has_fact self.now (pred, a) ≡ true)) }
+        ensures order { IfSome result (λ r. Rises row_cmp r.now) }
+        ensures filled { IfSome result (λ r. 0 < length r.now) }
+    {
+        match find_table(self.facts.as_slice(), pred) {
+            Ok(i) => {
+                let t = &self.facts[i];
+                Some(t.rows.as_ref())
+            }
+            Err(_) => None,
+        }
+    }
+
+    /// The places of the function `fun` with their values, by the lexicographic value order of their arguments: None exactly where no place of `fun` has a value.
+    /// It takes no memory.
+    pub fn places(&self, fun: u32) -> Option<&PlaceRows>
+        ensures none { IfNone result ((a : List _) → value_at self.now (fun, a) ≡ None) }
+        ensures places { IfSome result (λ r. (a : List _) (v : _) → Among (a, v) (map place_row r.now) ↔ (value_at self.now (fun, a) ≡ Some v)) }
+        ensures order { IfSome result (λ r. Rises row_cmp (map (λ p. p.args) r.now)) }
+        ensures filled { IfSome result (λ r. 0 < length r.now) }
+    {
+        match find_table(self.places.as_slice(), fun) {
+            Ok(i) => {
+                let t = &self.places[i];
+                Some(t.rows.as_ref())
+            }
+            Err(_) => None,
+        }
+    }
+
+    /// This world without the facts of `dels`, with those of `adds`, and with the values of `sets`; of two values for one place the earlier counts.
+    /// This world stays as it is. Tables that no list names are shared, and the others are copied once. It fails for want of memory alone.
+    pub fn changed(
+        &self,
+        alloc: Global,
+        dels: &[Fact],
+        adds: &[Fact],
+        sets: &[PlaceValue],
+    ) -> Result<World, NoMemory>
+        ensures facts { IfOk result (λ w. w.facts ≡ with_all (without_all self.now.facts (map fact_key dels.now)) (map fact_key adds.now)) }
+        ensures places { IfOk result (λ w. w.places ≡ overwritten self.now.places (map place_entry sets.now)) }
+    {
+        let mut facts = share(alloc, self.facts.as_slice())?;
+        let mut places = share(alloc, self.places.as_slice())?;
+        let mut i = dels.len();
+        while i > 0 {
+            i -= 1;
+            let d = &dels[i];
+            without(alloc, &mut facts, d.pred, d.args.as_slice())?;
+        }
+        let mut j = adds.len();
+        while j > 0 {
+            j -= 1;
+            let a = &adds[j];
+            with_fact(alloc, &mut facts, a.pred, &a.args)?;
+        }
+        let mut k = sets.len();
+        while k > 0 {
+            k -= 1;
+            let p = &sets[k];
+            with_place(alloc, &mut places, p.fun, &p.args, p.value)?;
+        }
+        Ok(World { facts, places })
+    }
+}
