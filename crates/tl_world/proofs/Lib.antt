@@ -7,3 +7,11 @@ pub mod Edits
 pub mod Step
 pub mod Change
 pub mod Lent
+pub mod Matching
+pub mod Least
+pub mod Filled
+pub mod Fronts
+pub mod Skipping
+pub mod WholeRows
+pub mod Chains
+pub mod Truths

@@ -3,3 +3,8 @@ pub mod Plain
 pub mod Tables
 pub mod Same
 pub mod Entry
+pub mod Patterns
+pub mod Next
+pub mod Fits
+pub mod Least
+pub mod Front

@@ -1,5 +1,5 @@
 -- The fields of a world as plain tables.
-use Rattle.std.specs.Prelude.{ℕ, List, map}
+use Rattle.std.specs.Prelude.{ℕ, List, [], ◌∷◌, ◌++◌, map}
 use Rattle.tl_syntax.specs.declared.value.Value.{Value}
 use Rattle.tl_world.specs.declared.named.Named.{Named}
 use Rattle.tl_world.specs.declared.table.PlaceRow.{PlaceRow}
@@ -10,6 +10,10 @@ fact_row r = (r, tt)
 
 abbrev pub place_row : PlaceRow → List Value × Value
 place_row r = (r.args, r.value)
+
+-- the arguments of the place and then its value
+abbrev pub whole_row : PlaceRow → List Value
+whole_row r = r.args ++ r.value ∷ []
 
 abbrev pub fact_table : Named (List Value) → ℕ × PlainRows (Unit {0})
 fact_table t = (t.name, map fact_row t.rows.value)

@@ -3,14 +3,23 @@
 //! - `table`: the rows of one predicate or function, as a world lends them.
 //! - `named`: a table with the number of its predicate or function, shared between worlds.
 //! - `facts`, `places`: the tables of facts and of places, and edits of them.
-//! - `world`: the world itself, with its look-ups and its changes.
+//! - `world`: the world itself, with its look-ups, its matches and its changes.
+//! - `pattern`: patterns of facts and of places, and the tuples that make them true.
+//! - `laws`: what is proved of the matches of a pattern.
+//! - `row_match`, `front`, `next`: the tuple of one row, the leading values of a row, and the least tuple of a table.
 #![tactic(auto)]
 
 mod facts;
+mod front;
+pub mod laws;
 mod named;
+mod next;
+mod pattern;
 mod places;
+mod row_match;
 mod table;
 mod world;
 
+pub use pattern::{Match, Part, Pattern};
 pub use table::{PlaceRow, PlaceRows, Rows, Table};
 pub use world::World;

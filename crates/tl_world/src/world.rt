@@ -1,17 +1,23 @@
 // Worlds, their look-ups and their changes.
-ghost use Rattle.std.specs.Prelude.{◌≡◌, ◌↔◌, ◌<◌, List, map, length, true, false, Some, None, IfNone, IfSome, IfOk};
+ghost use Rattle.std.specs.Option.{option_map};
+ghost use Rattle.std.specs.Prelude.{◌≡◌, ◌↔◌, ◌<◌, ◌≤◌, ◌&&◌, ℕ, List, map, length, true, false, Some, None, IfNone, IfSome, IfOk};
 ghost use Rattle.tl_syntax.specs.Keys.{Key, fact_key};
 ghost use Rattle.tl_syntax.specs.Lists.{Among, Rises};
 ghost use Rattle.tl_terms.specs.Step.{with_all, without_all, overwritten};
 ghost use Rattle.tl_terms.specs.World.{has_fact, value_at};
 ghost use Rattle.tl_world.specs.Entry.{place_entry};
+ghost use Rattle.tl_world.specs.Fits.{occurs};
+ghost use Rattle.tl_world.specs.Least.{IsLeast, above};
+ghost use Rattle.tl_world.specs.Next.{IsNext};
+ghost use Rattle.tl_world.specs.Patterns.{IsLawful, makes_true, is_true_of, filled, tuple_of};
 ghost use Rattle.tl_world.specs.Same.{world_eq, world-tells, tells-partial, tells-equivalence, world_fed, world-alike};
 ghost use Rattle.tl_world.specs.Tables.{row_cmp, place_row};
 
 use crate::facts::{find_row, with_fact, without};
 use crate::named::{Named, find_table, share};
+use crate::next::{next_in_places, next_in_rows};
 use crate::places::{find_place, with_place};
-use crate::{PlaceRow, PlaceRows, Rows};
+use crate::{Match, Part, Pattern, PlaceRow, PlaceRows, Rows};
 use std::alloc::Global;
 use std::hash::{Hash, Hasher};
 use std::marker::Model;
@@ -138,6 +144,67 @@ impl World {
                 Some(t.rows.as_ref())
             }
             Err(_) => None,
+        }
+    }
+
+    /// The least tuple of values, in lexicographic value order, that makes the pattern true and comes after `after`, where that is given: None exactly where there is none.
+    /// It takes no memory.
+    ///
+    /// It looks at one table. The first row is found by halves, where the leading parts are fixed, or are variables in the order of their numbers whose values `after` has.
+    /// From there rows are looked at in order, and no further than to the first whose leading values exceed the fixed ones, or, once a tuple is found, those of that tuple.
+    /// So where the variables stand in the order of their numbers, the cost of the next tuple is the logarithm of the table's length and the rows between; where they do not, it is the rows with the same fixed leading values.
+    pub fn next_match(&self, pattern: &Pattern, after: Option<Match>) -> Option<Match>
+        requires pattern { IsLawful pattern.now }
+        requires after { IfSome after (λ m. m.len ≡ pattern.now.free) }
+        ensures next { IsNext pattern.now.free (makes_true self.now pattern.now) (option_map tuple_of after) (option_map tuple_of result) }
+        ensures len { IfSome result (λ m. m.len ≡ pattern.now.free) }
+    {
+        let parts = &pattern.parts[..pattern.len as usize];
+        if pattern.place {
+            self.next_place(pattern.name, parts, pattern.free, &after)
+        } else {
+            self.next_fact(pattern.name, parts, pattern.free, &after)
+        }
+    }
+
+    /// The least tuple above `after` that makes the parts the arguments of a fact of `pred`.
+    fn next_fact(
+        &self,
+        pred: u32,
+        parts: &[Part],
+        free: u32,
+        after: &Option<Match>,
+    ) -> Option<Match>
+        requires few { free ≤ 9 }
+        requires each { (n : ℕ) → n < free → occurs n parts.now ≡ true }
+        requires slots { (n : ℕ) → occurs n parts.now ≡ true → n < free }
+        requires short { length parts.now ≤ 9 }
+        ensures { IsLeast free (λ t. is_true_of self.now false pred (filled parts.now t) && above after.now free t) result }
+    {
+        match self.rows(pred) {
+            Some(rows) => next_in_rows(rows.as_slice(), parts, free, after),
+            None => None,
+        }
+    }
+
+    /// The least tuple above `after` that makes the parts the arguments and the value of a place of `fun`.
+    fn next_place(
+        &self,
+        fun: u32,
+        parts: &[Part],
+        free: u32,
+        after: &Option<Match>,
+    ) -> Option<Match>
+        requires few { free ≤ 9 }
+        requires each { (n : ℕ) → n < free → occurs n parts.now ≡ true }
+        requires slots { (n : ℕ) → occurs n parts.now ≡ true → n < free }
+        requires short { length parts.now ≤ 9 }
+        requires some { 1 ≤ length parts.now }
+        ensures { IsLeast free (λ t. is_true_of self.now true fun (filled parts.now t) && above after.now free t) result }
+    {
+        match self.places(fun) {
+            Some(rows) => next_in_places(rows.as_slice(), parts, free, after),
+            None => None,
         }
     }
 

@@ -1,0 +1,37 @@
+-- The leading values of a row that a pattern asks for, as far as the values of its first variables are known.
+use Rattle.std.specs.Prelude.{ℕ, ◌+◌, List, [], ◌∷◌, cond, ◌==◌, nat_le, Option, Some, None, slice_get, length, take}
+use Rattle.std.specs.declared.cmp.Ordering.{Ordering}
+use Rattle.tl_syntax.specs.declared.value.Value.{Value}
+use Rattle.tl_world.specs.declared.pattern.Match.{Match}
+use Rattle.tl_world.specs.declared.pattern.Part.{Part}
+use Rattle.tl_world.specs.declared.pattern.Part.TheVariants.{Fixed, Free}
+use Rattle.tl_world.specs.Plain.{row_cmp}
+
+-- the value of a part: a fixed one, or that of one of the first variables, of which n came before
+abbrev pub known_value : ℕ → List Value → Part → Option Value
+known_value n known (Fixed v) = Some v
+known_value n known (Free m) = cond (nat_le m n) (slice_get known m) None
+
+-- how many of the first variables came before what follows the part
+abbrev pub seen_after : ℕ → Part → ℕ
+seen_after n (Fixed v) = n
+seen_after n (Free m) = cond (m == n) (n + 1) n
+
+-- the value and then the others, where there is one
+abbrev pub led_by : Option Value → List Value → List Value
+led_by None vs = []
+led_by (Some v) vs = v ∷ vs
+
+-- the values of the leading parts, up to the first part without a known value or with a variable out of turn
+abbrev pub front : ℕ → List Part → List Value → List Value
+front n [] known = []
+front n (p ∷ ps) known = led_by (known_value n known p) (front (seen_after n p) ps known)
+
+-- how the front stands to as many leading values of the row
+abbrev pub front_cmp : List Value → List Value → Ordering
+front_cmp f row = row_cmp f (take (length f) row)
+
+-- the values that a match knows
+abbrev pub known_of : Option Match → ℕ → List Value
+known_of None k = []
+known_of (Some m) k = take k m.values

@@ -1,0 +1,33 @@
+-- The least tuple above another one that makes the parts of a pattern one of the rows.
+use Rattle.std.specs.Prelude.{◌≡◌, ℕ, List, Bool, true, false, cond, ◌&&◌, Option, Some, None, length, take}
+use Rattle.std.specs.List.{list_any}
+use Rattle.std.specs.Ordering.{is_lt, is_gt}
+use Rattle.tl_syntax.specs.declared.value.Value.{Value}
+use Rattle.tl_world.specs.declared.pattern.Match.{Match}
+use Rattle.tl_world.specs.declared.pattern.Part.{Part}
+use Rattle.tl_world.specs.Plain.{row_cmp}
+use Rattle.tl_world.specs.Fits.{fits_all}
+
+-- whether the parts are one of the rows under the tuple's values
+abbrev pub fits_some : List Part → List (List Value) → List Value → Bool
+fits_some ps rows t = list_any (λ r. fits_all ps r t) rows
+
+-- whether t comes after the k values of the match, where there is one
+abbrev pub above : Option Match → ℕ → List Value → Bool
+above None k t = true
+above (Some a) k t = is_lt (row_cmp (take k a.values) t)
+
+-- whether t comes before the k values of the match, where there is one
+abbrev pub lower : Option Match → ℕ → List Value → Bool
+lower None k t = true
+lower (Some b) k t = is_lt (row_cmp t (take k b.values))
+
+-- the least tuple of k values that passes the test
+unfoldable pub IsLeast : ℕ → (List Value → Bool) → Option Match → Type 0
+IsLeast k c None = (t : List Value) → length t ≡ k → c t ≡ false
+IsLeast k c (Some m) = (m.len ≡ k) × (length (take k m.values) ≡ k) × (c (take k m.values) ≡ true) × ((t : List Value) → length t ≡ k → c t ≡ true → is_gt (row_cmp (take k m.values) t) ≡ false)
+
+-- the match that was found, where it comes after `after` and before the best so far, and else the best so far
+abbrev pub lesser : Option Match → Option Match → Option Match → ℕ → Option Match
+lesser best None after k = best
+lesser best (Some m) after k = cond (above after k (take k m.values) && lower best k (take k m.values)) (Some m) best

@@ -1,0 +1,33 @@
+-- The next tuple that passes a test, and the chain of all of them.
+use Rattle.std.specs.Prelude.{◌≡◌, ◌↔◌, ℕ, List, [], ◌∷◌, Bool, true, false, Option, Some, None, length}
+use Rattle.std.specs.declared.cmp.Ordering.TheVariants.{Less}
+use Rattle.std.specs.Ordering.{is_gt}
+use Rattle.tl_syntax.specs.declared.value.Value.{Value}
+use Rattle.tl_syntax.specs.Lists.{Among, Rises}
+use Rattle.tl_terms.specs.World.{World}
+use Rattle.tl_world.specs.declared.pattern.Pattern.{Pattern}
+use Rattle.tl_world.specs.Plain.{row_cmp}
+use Rattle.tl_world.specs.Patterns.{makes_true}
+
+-- t comes after the tuple, where one is given, in lexicographic value order
+abbrev pub IsAfter : Option (List Value) → List Value → Type 0
+IsAfter None t = Unit {0}
+IsAfter (Some a) t = row_cmp a t ≡ Less
+
+-- t has k values, passes the test and comes after the given tuple
+abbrev pub IsLater : ℕ → (List Value → Bool) → Option (List Value) → List Value → Type 0
+IsLater k test after t = (length t ≡ k) × (test t ≡ true) × IsAfter after t
+
+-- the least of the later tuples, or none where there is none
+abbrev pub IsNext : ℕ → (List Value → Bool) → Option (List Value) → Option (List Value) → Type 0
+IsNext k test after None = (t : List Value) → ¬ IsLater k test after t
+IsNext k test after (Some m) = IsLater k test after m × ((t : List Value) → IsLater k test after t → is_gt (row_cmp m t) ≡ false)
+
+-- each is the next one after the one before it, and none comes after the last
+abbrev pub IsChain : ℕ → (List Value → Bool) → Option (List Value) → List (List Value) → Type 0
+IsChain k test after [] = IsNext k test after None
+IsChain k test after (t ∷ ts) = IsNext k test after (Some t) × IsChain k test (Some t) ts
+
+-- the chain of the tuples that make a pattern true has all of them, each once, in lexicographic value order
+abbrev pub ChainHasAllMatches : Type 0
+ChainHasAllMatches = (w : World) (p : Pattern) (ts : List (List Value)) → IsChain p.free (makes_true w p) None ts → Rises row_cmp ts × ((t : List Value) → Among t ts ↔ ((length t ≡ p.free) × (makes_true w p t ≡ true)))

@@ -1,0 +1,157 @@
+// The least tuple above another one in a table.
+ghost use Rattle.std.specs.Ordering.{is_lt};
+ghost use Rattle.std.specs.Prelude.{◌≡◌, ◌<◌, ◌≤◌, ◌&&◌, ◌+◌, ℕ, length, map, take, true};
+ghost use Rattle.std.specs.declared.cmp.Ordering.TheVariants.{Greater};
+ghost use Rattle.tl_syntax.specs.Lists.{Each, Rises};
+ghost use Rattle.tl_world.specs.Fits.{occurs};
+ghost use Rattle.tl_world.specs.Front.{front, front_cmp, known_of};
+ghost use Rattle.tl_world.specs.Least.{IsLeast, above, lower, lesser, fits_some};
+ghost use Rattle.tl_world.specs.Tables.{row_cmp, whole_row};
+
+use crate::front::{front_of, order_to, values_of};
+use crate::row_match::{match_place, match_row};
+use crate::{Match, Part, PlaceRow};
+use tl_syntax::{Value, Values};
+
+#[tactic(auto, using(crate::proofs::Order::orders))]
+fn is_above(after: &Option<Match>, m: &Match, free: u32) -> bool
+    requires { free ≤ 9 }
+    ensures { result ≡ above after.now free (take free m.now.values) }
+{
+    match after {
+        None => true,
+        Some(a) => {
+            let n = free as usize;
+            let x = &a.values[..n];
+            let y = &m.values[..n];
+            x.cmp(y).is_lt()
+        }
+    }
+}
+
+#[tactic(auto, using(crate::proofs::Order::orders))]
+fn is_lower(best: &Option<Match>, m: &Match, free: u32) -> bool
+    requires { free ≤ 9 }
+    ensures { result ≡ lower best.now free (take free m.now.values) }
+{
+    match best {
+        None => true,
+        Some(b) => {
+            let n = free as usize;
+            let x = &m.values[..n];
+            let y = &b.values[..n];
+            x.cmp(y).is_lt()
+        }
+    }
+}
+
+/// The match of a row, where it comes after `after` and before the best so far, and else the best so far.
+fn lesser(
+    best: Option<Match>,
+    found: Option<Match>,
+    after: &Option<Match>,
+    free: u32,
+) -> Option<Match>
+    requires { free ≤ 9 }
+    ensures { result ≡ lesser best found after.now free }
+{
+    match found {
+        Some(m) => {
+            if is_above(after, &m, free) && is_lower(&best, &m, free) {
+                Some(m)
+            } else {
+                best
+            }
+        }
+        None => best,
+    }
+}
+
+/// Whether the leading values of the row, and so of all later rows, exceed those that the best match so far has, or else the fixed ones.
+fn is_past(lead: &[Part], best: &Option<Match>, free: u32, row: &[Value]) -> bool
+    requires few { free ≤ 9 }
+    requires short { length lead.now ≤ 9 }
+    ensures { result ≡ is_lt (front_cmp (front 0 lead.now (known_of best.now free)) row.now) }
+{
+    let stop = front_of(lead, values_of(best, free));
+    order_to(&stop.values[..stop.len], row).is_lt()
+}
+
+/// How many rows come before the first whose leading values are at least the front, found by halves.
+fn rows_before(rows: &[Values], front: &[Value]) -> usize
+    requires { Rises row_cmp rows.now }
+    ensures bound { result ≤ length rows.now }
+    ensures before { Each (λ r. front_cmp front.now r ≡ Greater) (take result rows.now) }
+{
+    rows.partition_point(|r| order_to(front, r.as_slice()).is_gt())
+}
+
+/// How many places come before the first whose leading arguments are at least the front, found by halves.
+fn places_before(rows: &[PlaceRow], front: &[Value]) -> usize
+    requires { Rises row_cmp (map (λ r. r.args) rows.now) }
+    ensures bound { result ≤ length rows.now }
+    ensures before { Each (λ r. front_cmp front.now r.args ≡ Greater) (take result rows.now) }
+{
+    rows.partition_point(|r| order_to(front, r.args.as_slice()).is_gt())
+}
+
+/// The least tuple above `after` that makes the parts one of the rows.
+///
+/// The first row is found by halves, by the leading parts that are fixed or have their values from `after`.
+/// Rows are looked at up to the first whose leading parts exceed the fixed ones, or those of the best match so far.
+pub(crate) fn next_in_rows(
+    rows: &[Values],
+    parts: &[Part],
+    free: u32,
+    after: &Option<Match>,
+) -> Option<Match>
+    requires few { free ≤ 9 }
+    requires each { (n : ℕ) → n < free → occurs n parts.now ≡ true }
+    requires short { length parts.now ≤ 9 }
+    requires order { Rises row_cmp rows.now }
+    ensures { IsLeast free (λ t. fits_some parts.now rows.now t && above after.now free t) result }
+{
+    let low = front_of(parts, values_of(after, free));
+    let mut k = rows_before(rows, &low.values[..low.len]);
+    let mut best = None;
+    while k < rows.len() {
+        let row = rows[k].as_slice();
+        if is_past(parts, &best, free, row) {
+            return best;
+        }
+        best = lesser(best, match_row(parts, free, row), after, free);
+        k += 1;
+    }
+    best
+}
+
+/// The least tuple above `after` that makes the parts, of which the last is for the value, one of the places with its value.
+///
+/// It looks at rows as `next_in_rows` does, by the parts for the arguments.
+pub(crate) fn next_in_places(
+    rows: &[PlaceRow],
+    parts: &[Part],
+    free: u32,
+    after: &Option<Match>,
+) -> Option<Match>
+    requires few { free ≤ 9 }
+    requires each { (n : ℕ) → n < free → occurs n parts.now ≡ true }
+    requires short { length parts.now ≤ 9 }
+    requires some { 1 ≤ length parts.now }
+    requires order { Rises row_cmp (map (λ r. r.args) rows.now) }
+    ensures { IsLeast free (λ t. fits_some parts.now (map whole_row rows.now) t && above after.now free t) result }
+{
+    let lead = &parts[..parts.len() - 1];
+    let low = front_of(lead, values_of(after, free));
+    let mut k = places_before(rows, &low.values[..low.len]);
+    let mut best = None;
+    while k < rows.len() {
+        let row = &rows[k];
+        if is_past(lead, &best, free, row.args.as_slice()) {
+            return best;
+        }
+        best = lesser(best, match_place(parts, free, row), after, free);
+        k += 1;
+    }
+    best
+}

@@ -1,0 +1,36 @@
+// Patterns of facts and of places, and the tuples that make them true.
+
+use tl_syntax::Value;
+
+/// A part of a pattern: a value, or a variable by its number.
+#[derive(Clone, Copy, PartialEq, Eq)]
+pub enum Part {
+    /// This value.
+    Fixed(Value),
+    /// The variable with this number, counted from 0.
+    Free(u32),
+}
+
+/// A bound with its known values put in (Bacchus and Kabanza 2000, bounded quantification).
+#[derive(Clone, Copy)]
+pub struct Pattern {
+    /// Whether it is of a place with its value, and not of a fact. The value is then the last part.
+    pub place: bool,
+    /// The position of the predicate or of the function in the domain's list.
+    pub name: u32,
+    /// The parts, of which the first `len` count.
+    pub parts: [Part; 9],
+    /// How many parts count, at most 9.
+    pub len: u32,
+    /// How many variables there are, at most 9. Each occurs among the parts.
+    pub free: u32,
+}
+
+/// A value for each variable of a pattern.
+#[derive(Clone, Copy)]
+pub struct Match {
+    /// The values by the variables' numbers, of which the first `len` count.
+    pub values: [Value; 9],
+    /// How many variables there are, at most 9.
+    pub len: u32,
+}
