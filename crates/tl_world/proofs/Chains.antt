@@ -17,7 +17,7 @@ use Rattle.tl_world.proofs.Lookup.{row_total}
 use Rattle.tl_world.proofs.Lent.{row_ties}
 
 module _ (k : ℕ) (test : List Value → Bool) where
-  further : (after : Option (List Value)) (m t : List Value) → IsAfter after m → row_cmp m t ≡ Less → IsAfter after t
+  pub further : (after : Option (List Value)) (m t : List Value) → IsAfter after m → row_cmp m t ≡ Less → IsAfter after t
   further None m t a l = tt
   further (Some x) m t a l = row_total.trans x m t a l
 

@@ -15,3 +15,6 @@ pub mod Skipping
 pub mod WholeRows
 pub mod Chains
 pub mod Truths
+pub mod Contents
+pub mod GoalTests
+pub mod Finite

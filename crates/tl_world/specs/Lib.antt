@@ -2,7 +2,6 @@ pub mod View
 pub mod Plain
 pub mod Tables
 pub mod Same
-pub mod Entry
 pub mod Patterns
 pub mod Next
 pub mod Fits

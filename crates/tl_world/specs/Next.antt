@@ -7,7 +7,7 @@ use Rattle.tl_syntax.specs.Lists.{Among, Rises}
 use Rattle.tl_terms.specs.World.{World}
 use Rattle.tl_world.specs.declared.pattern.Pattern.{Pattern}
 use Rattle.tl_world.specs.Plain.{row_cmp}
-use Rattle.tl_world.specs.Patterns.{makes_true}
+use Rattle.tl_world.specs.Patterns.{makes_true, IsLawful}
 
 -- t comes after the tuple, where one is given, in lexicographic value order
 abbrev pub IsAfter : Option (List Value) → List Value → Type 0
@@ -31,3 +31,7 @@ IsChain k test after (t ∷ ts) = IsNext k test after (Some t) × IsChain k test
 -- the chain of the tuples that make a pattern true has all of them, each once, in lexicographic value order
 abbrev pub ChainHasAllMatches : Type 0
 ChainHasAllMatches = (w : World) (p : Pattern) (ts : List (List Value)) → IsChain p.free (makes_true w p) None ts → Rises row_cmp ts × ((t : List Value) → Among t ts ↔ ((length t ≡ p.free) × (makes_true w p t ≡ true)))
+
+-- each pattern has such a chain, so its matches have an end
+abbrev pub MatchesHaveAnEnd : Type 0
+MatchesHaveAnEnd = (w : World) (p : Pattern) → IsLawful p → (ts : List (List Value)) × IsChain p.free (makes_true w p) None ts

@@ -6,6 +6,7 @@ use Rattle.std.specs.Hash as fed
 use Rattle.std.specs.Hash.{HashWrites, Alike, same_Alike}
 use Rattle.std.specs.Ordering.{eq_by_cmp, is_eq}
 use Rattle.std.proofs.Common.{sym, ap, ◌∙◌, subst, true≢false, Ordering, Less, Equal, Greater, ap₂}
+use mathlib.Core.HLevel.{hedberg}
 use lib.Pointwise.{pointwise}
 use Rattle.std.specs.FinSet as set
 use Rattle.std.specs.FinMap as dict
@@ -66,6 +67,14 @@ world-tells v w = (
       λ i. record { facts = p i; places = q i },
   λ e. with_both ((list-tells (eq_by_cmp key_cmp) (order-tells key_total key_ties) _ _).1 (ap (λ (u : World). set.items u.facts) e)) ((list-tells entry_eq entry-tells _ _).1 (ap (λ (u : World). dict.entries u.places) e)),
 )
+
+-- two worlds are the same in at most one way, since sameness is decided
+pub world_paths : (v w : World) → IsProp (v ≡ w)
+world_paths = hedberg (λ x y. decided (world_eq x y) (world-tells x y))
+  where
+    decided : {P : Type 0} (b : Bool) → Decides b P → Dec P
+    decided true d = yes (d.0 refl)
+    decided false d = no (λ p. true≢false (sym (d.1 p)))
 
 -- two tests of one claim answer alike
 pub told_alike : {P : Type 0} (a b : Bool) → Decides a P → Decides b P → a ≡ b

@@ -4,6 +4,7 @@
 //! - `named`: a table with the number of its predicate or function, shared between worlds.
 //! - `facts`, `places`: the tables of facts and of places, and edits of them.
 //! - `world`: the world itself, with its look-ups, its matches and its changes.
+//! - `task`: a problem with its initial world and its goal as worlds, and the goal test.
 //! - `pattern`: patterns of facts and of places, and the tuples that make them true.
 //! - `laws`: what is proved of the matches of a pattern.
 //! - `row_match`, `front`, `next`: the tuple of one row, the leading values of a row, and the least tuple of a table.
@@ -18,8 +19,12 @@ mod pattern;
 mod places;
 mod row_match;
 mod table;
+mod task;
+#[cfg(test)]
+mod tests;
 mod world;
 
 pub use pattern::{Match, Part, Pattern};
 pub use table::{PlaceRow, PlaceRows, Rows, Table};
+pub use task::Task;
 pub use world::World;

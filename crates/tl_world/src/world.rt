@@ -1,11 +1,15 @@
 // Worlds, their look-ups and their changes.
+ghost use Rattle.std.specs.FinMap as dict;
+ghost use Rattle.std.specs.FinSet as set;
+ghost use Rattle.std.specs.List.{list_all};
 ghost use Rattle.std.specs.Option.{option_map};
-ghost use Rattle.std.specs.Prelude.{◌≡◌, ◌↔◌, ◌<◌, ◌≤◌, ◌&&◌, ℕ, List, map, length, true, false, Some, None, IfNone, IfSome, IfOk};
-ghost use Rattle.tl_syntax.specs.Keys.{Key, fact_key};
+ghost use Rattle.std.specs.Prelude.{◌≡◌, ◌↔◌, ◌<◌, ◌≤◌, ◌&&◌, ℕ, List, [], map, length, not, true, false, Some, None, IfNone, IfSome, IfOk};
+ghost use Rattle.tl_syntax.specs.Keys.{fact_key, place_entry};
 ghost use Rattle.tl_syntax.specs.Lists.{Among, Rises};
+ghost use Rattle.tl_terms.specs.Acceptance.{is_value};
+ghost use Rattle.tl_terms.specs.ProblemMeaning.{world_of};
 ghost use Rattle.tl_terms.specs.Step.{with_all, without_all, overwritten};
 ghost use Rattle.tl_terms.specs.World.{has_fact, value_at};
-ghost use Rattle.tl_world.specs.Entry.{place_entry};
 ghost use Rattle.tl_world.specs.Fits.{occurs};
 ghost use Rattle.tl_world.specs.Least.{IsLeast, above};
 ghost use Rattle.tl_world.specs.Next.{IsNext};
@@ -73,13 +77,19 @@ impl Hash for World {
 impl World {
     /// The world with no fact and no place that has a value. It takes no memory.
     pub fn new(alloc: Global) -> World
-        ensures facts { (k : Key) → has_fact result k ≡ false }
-        ensures places { (k : Key) → value_at result k ≡ None }
+        ensures { result ≡ world_of [] [] }
     {
         World {
             facts: Vec::new(alloc),
             places: Vec::new(alloc),
         }
+    }
+
+    /// The world with these facts and these places; of two values for one place the earlier counts. It fails for want of memory alone.
+    pub fn of(alloc: Global, facts: &[Fact], places: &[PlaceValue]) -> Result<World, NoMemory>
+        ensures same { IfOk result (λ w. w ≡ world_of facts.now places.now) }
+    {
+        World::new(alloc).changed(alloc, &[], facts, places)
     }
 
     /// Whether the fact of the predicate `pred` with these arguments is in the world. It takes no memory.
@@ -241,5 +251,69 @@ impl World {
             with_place(alloc, &mut places, p.fun, &p.args, p.value)?;
         }
         Ok(World { facts, places })
+    }
+
+    /// Whether all facts of the other world are in this one.
+    pub(crate) fn has_all_facts(&self, other: &World) -> bool
+        ensures { result ≡ list_all (has_fact self.now) (set.items other.now.facts) }
+    {
+        self.holds_each(other.facts.as_slice())
+    }
+
+    /// Whether no fact of the other world is in this one.
+    pub(crate) fn has_no_fact(&self, other: &World) -> bool
+        ensures { result ≡ list_all (λ k. not (has_fact self.now k)) (set.items other.now.facts) }
+    {
+        self.holds_none(other.facts.as_slice())
+    }
+
+    /// Whether all places of the other world have their values in this one.
+    pub(crate) fn has_all_values(&self, other: &World) -> bool
+        ensures { result ≡ list_all (λ k. is_value (value_at self.now k.0) k.1) (dict.entries other.now.places) }
+    {
+        self.gives_each(other.places.as_slice())
+    }
+
+    fn holds_each(&self, tables: &[Named<Values>]) -> bool
+        ensures { result ≡ list_all (λ t. list_all (λ a. has_fact self.now (t.name, a)) t.rows.value) tables.now }
+    {
+        tables
+            .iter()
+            .all(|t| self.holds_rows(t.name, t.rows.as_slice()))
+    }
+
+    fn holds_none(&self, tables: &[Named<Values>]) -> bool
+        ensures { result ≡ list_all (λ t. list_all (λ a. not (has_fact self.now (t.name, a))) t.rows.value) tables.now }
+    {
+        tables
+            .iter()
+            .all(|t| self.holds_no_row(t.name, t.rows.as_slice()))
+    }
+
+    fn gives_each(&self, tables: &[Named<PlaceRow>]) -> bool
+        ensures { result ≡ list_all (λ t. list_all (λ r. is_value (value_at self.now (t.name, r.args)) r.value) t.rows.value) tables.now }
+    {
+        tables
+            .iter()
+            .all(|t| self.gives_rows(t.name, t.rows.as_slice()))
+    }
+
+    fn holds_rows(&self, pred: u32, rows: &[Values]) -> bool
+        ensures { result ≡ list_all (λ a. has_fact self.now (pred, a)) rows.now }
+    {
+        rows.iter().all(|r| self.holds(pred, r.as_slice()))
+    }
+
+    fn holds_no_row(&self, pred: u32, rows: &[Values]) -> bool
+        ensures { result ≡ list_all (λ a. not (has_fact self.now (pred, a))) rows.now }
+    {
+        rows.iter().all(|r| !self.holds(pred, r.as_slice()))
+    }
+
+    fn gives_rows(&self, fun: u32, rows: &[PlaceRow]) -> bool
+        ensures { result ≡ list_all (λ r. is_value (value_at self.now (fun, r.args)) r.value) rows.now }
+    {
+        rows.iter()
+            .all(|r| self.value(fun, r.args.as_slice()) == Some(r.value))
     }
 }

@@ -12,8 +12,7 @@ use Rattle.tl_world.specs.declared.table.PlaceRow.{PlaceRow}
 use Rattle.tl_syntax.specs.declared.place_value.PlaceValue.{PlaceValue}
 use Rattle.tl_world.specs.Plain.{PlainRows}
 use Rattle.tl_world.specs.Tables.{InOrder, plain_of, fact_row, place_row, fact_tables, place_tables, set_of, map_of}
-use Rattle.tl_world.specs.Entry.{place_entry}
-use Rattle.tl_syntax.specs.Keys.{fact_key}
+use Rattle.tl_syntax.specs.Keys.{fact_key, place_entry}
 use Rattle.tl_world.proofs.world.World.changed.Goals as goal
 
 -- shared tables stand for the same

@@ -1,8 +1,7 @@
 use Rattle.std.proofs.Common.{◌≡◌, ◌≤◌, length, drop, map}
 use Rattle.tl_terms.specs.Step.{with_all, without_all, overwritten}
 use Rattle.tl_world.specs.Tables.{InOrder, fact_tables, place_tables, set_of, map_of}
-use Rattle.tl_world.specs.Entry.{place_entry}
-use Rattle.tl_syntax.specs.Keys.{fact_key}
+use Rattle.tl_syntax.specs.Keys.{fact_key, place_entry}
 use Rattle.tl_world.proofs.world.World.changed.Given as goal
 
 abbrev pub invariant-loop-i : goal.invariant-loop-i

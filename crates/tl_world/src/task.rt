@@ -1,0 +1,61 @@
+// A problem with its worlds.
+ghost use Rattle.std.specs.Prelude.{◌≡◌, IfOk};
+ghost use Rattle.tl_terms.specs.Acceptance.{meets_goal};
+ghost use Rattle.tl_terms.specs.ProblemMeaning.{plain_problem};
+ghost use Rattle.tl_world.specs.Same.{world_paths};
+
+use crate::World;
+use std::alloc::Global;
+use tl_syntax::{NoMemory, Problem};
+
+/// A problem with its initial world and its goal list, seen as worlds.
+#[derive(Drop)]
+pub struct Task {
+    /// The problem.
+    pub problem: Problem,
+    /// The initial world.
+    pub first: World,
+    /// The facts and places of the goal list.
+    pub goal: World,
+    /// The negated facts of the goal list.
+    pub avoid: World,
+    pub ghost first_is: { first ≡ (plain_problem problem).first } by { world_paths first (plain_problem problem).first },
+    pub ghost goal_is: { goal ≡ (plain_problem problem).goal } by { world_paths goal (plain_problem problem).goal },
+    pub ghost avoid_is: { avoid ≡ (plain_problem problem).avoid } by { world_paths avoid (plain_problem problem).avoid },
+}
+
+impl Task {
+    /// The task of the problem. It fails for want of memory alone, and then drops the problem.
+    pub fn of(alloc: Global, problem: Problem) -> Result<Task, NoMemory>
+        ensures problem { IfOk result (λ task. task.problem ≡ problem) }
+        ensures first { IfOk result (λ task. task.first ≡ (plain_problem problem).first) }
+        ensures goal { IfOk result (λ task. task.goal ≡ (plain_problem problem).goal) }
+        ensures avoid { IfOk result (λ task. task.avoid ≡ (plain_problem problem).avoid) }
+    {
+        let first = World::of(
+            alloc,
+            problem.init_facts.as_slice(),
+            problem.init_values.as_slice(),
+        )?;
+        let goal = World::of(
+            alloc,
+            problem.goal_facts.as_slice(),
+            problem.goal_values.as_slice(),
+        )?;
+        let avoid = World::of(alloc, problem.goal_nots.as_slice(), &[])?;
+        Ok(Task {
+            problem,
+            first,
+            goal,
+            avoid,
+        })
+    }
+
+    /// The goal test: whether each fact of the goal is in the world, each place of the goal has its value there, and no negated fact is in the world.
+    /// It takes no memory.
+    pub fn met(&self, w: &World) -> bool
+        ensures { result ≡ meets_goal w.now (plain_problem self.now.problem).goal (plain_problem self.now.problem).avoid }
+    {
+        w.has_all_facts(&self.goal) && (w.has_all_values(&self.goal) && w.has_no_fact(&self.avoid))
+    }
+}
