@@ -15,40 +15,28 @@ use Rattle.tl_syntax.specs.contracts.value.ValueHash.TheImpl as value_hash_impl
 use Rattle.tl_syntax.specs.Keys.{Key, key_cmp, value_cmp}
 use Rattle.tl_syntax.specs.TotalOrders.{key_total, value_total, key_ties, value_ties}
 use Rattle.tl_terms.specs.World.{World}
+use Rattle.tl_syntax.proofs.Plain.{Tells, both, with_both, list-tells}
 use Rattle.tl_world.specs.Plain.{PlainRows, PlainTables}
 
+-- the same place with the same value
 abbrev pub entry_eq : Key × Value → Key × Value → Bool
 entry_eq a b = eq_by_cmp key_cmp a.0 b.0 && eq_by_cmp value_cmp a.1 b.1
 
+-- the same facts, and the same places with the same values
 abbrev pub world_eq : World → World → Bool
 world_eq v w = pointwise (eq_by_cmp key_cmp) (set.items v.facts) (set.items w.facts) && pointwise entry_eq (dict.entries v.places) (dict.entries w.places)
 
-abbrev pub Tells : {A : Type 0} → (A → A → Bool) → Type 0
-Tells {A} e = (x y : A) → Decides (e x y) (x ≡ y)
-
-both : (a b : Bool) → (a && b) ≡ true → (a ≡ true) × (b ≡ true)
-both true b h = (refl, h)
-both false b h = absurd (true≢false (sym h))
-
-with_both : {a b : Bool} → a ≡ true → b ≡ true → (a && b) ≡ true
-with_both {a} {b} h k = subst (λ c. (c && b) ≡ true) (sym h) k
-
-list-tells : {A : Type 0} (e : A → A → Bool) → Tells e → Tells (pointwise e)
-list-tells e t [] [] = (λ _. refl, λ _. refl)
-list-tells e t (x ∷ xs) (y ∷ ys) = (
-  λ h. let k = both (e x y) (pointwise e xs ys) h in ap₂ ◌∷◌ ((t x y).0 k.0) ((list-tells e t xs ys).0 k.1),
-  λ h. let p : x ≡ y = cc in let q : xs ≡ ys = cc in with_both ((t x y).1 p) ((list-tells e t xs ys).1 q),
-)
-list-tells e t xs ys = (λ h. absurd (true≢false (sym h)), λ e. absurd (let k : ⊥ = cc in k))
-
+-- what ties is equal
 tied : (r : Ordering) → is_eq r ≡ true → r ≡ Equal
 tied Less h = absurd (true≢false (sym h))
 tied Equal h = refl
 tied Greater h = absurd (true≢false (sym h))
 
+-- an order in which only the same ones tie tells the same
 pub order-tells : {K : Type 0} {R : K → K → Ordering} → IsTotalOrder R → set.IsAntisymmetric R → Tells (eq_by_cmp R)
 order-tells {R = R} o same x y = (λ h. same x y (tied _ h), λ e. subst (λ z. eq_by_cmp R x z ≡ true) e (ap is_eq (tied_itself o x)))
 
+-- so with entries
 entry-tells : Tells entry_eq
 entry-tells a b = (
   λ h. let k = both (eq_by_cmp key_cmp a.0 b.0) (eq_by_cmp value_cmp a.1 b.1) h in
@@ -56,9 +44,11 @@ entry-tells a b = (
   λ e. with_both ((order-tells key_total key_ties a.0 b.0).1 (ap (λ (u : Key × Value). u.0) e)) ((order-tells value_total value_ties a.1 b.1).1 (ap (λ (u : Key × Value). u.1) e)),
 )
 
+-- sets of the same items are the same
 same_items : (s t : set.FinSet key_cmp) → set.items s ≡ set.items t → s ≡ t
 same_items s t e = set.same_set key_total key_ties s t (λ q. set.contains-items s q ∙ (ap (λ ks. Rattle.std.specs.List.list_any (eq_by_cmp key_cmp q) ks) e ∙ sym (set.contains-items t q)))
 
+-- the test holds exactly where the worlds are the same
 pub world-tells : Tells world_eq
 world-tells v w = (
   λ h. let k = both (pointwise (eq_by_cmp key_cmp) (set.items v.facts) (set.items w.facts)) (pointwise entry_eq (dict.entries v.places) (dict.entries w.places)) h in
@@ -82,6 +72,7 @@ told_alike true b d e = sym (e.1 (d.0 refl))
 told_alike false true d e = d.1 (e.0 refl)
 told_alike false false d e = refl
 
+-- such a test is an equivalence
 pub tells-equivalence : {A : Type 0} (e : A → A → Bool) → Tells e → IsEquivalence e
 tells-equivalence e t = record {
   refl = λ x. (t x x).1 refl;
@@ -89,6 +80,7 @@ tells-equivalence e t = record {
   congr = λ x y z h. ap (λ u. e u z) ((t x y).0 h);
 }
 
+-- and a partial one
 pub tells-partial : {A : Type 0} (e : A → A → Bool) → Tells e → IsPartialEquivalence e
 tells-partial e t = Rattle.std.specs.Cmp.partial_equiv_from_equiv (tells-equivalence e t)
 
@@ -97,10 +89,12 @@ abbrev pub push_row : {X : Type 0} → Key × X → PlainTables X → PlainTable
 push_row e [] = (e.0.0, (e.0.1, e.1) ∷ []) ∷ []
 push_row e (t ∷ ts) = cond (nat_eq e.0.0 t.0) ((t.0, (e.0.1, e.1) ∷ t.1) ∷ ts) ((e.0.0, (e.0.1, e.1) ∷ []) ∷ t ∷ ts)
 
+-- a list of entries as tables
 abbrev pub group : {X : Type 0} → List (Key × X) → PlainTables X
 group [] = []
 group (e ∷ es) = push_row e (group es)
 
+-- each with nothing beside it
 abbrev pub marked : List Key → List (Key × Unit {0})
 marked [] = []
 marked (k ∷ ks) = (k, tt) ∷ marked ks
@@ -109,23 +103,30 @@ marked (k ∷ ks) = (k, tt) ∷ marked ks
 abbrev pub ordered : set.FinSet key_cmp → dict.FinMap key_cmp (Unit {0})
 ordered s = dict.from_entries (marked (set.items s))
 
+-- the facts of a world as tables
 abbrev pub facts_in : World → PlainTables (Unit {0})
 facts_in w = group (dict.entries (ordered w.facts))
 
+-- the places of a world as tables
 abbrev pub places_in : World → PlainTables Value
 places_in w = group (dict.entries w.places)
 
+-- what a list of values feeds a hasher
 abbrev pub values_fed : List Value → HashWrites
 values_fed = fed.slice (value_hash_impl.ghosts).hash_input
 
+-- what a table of facts feeds a hasher
 abbrev pub fact_table_fed : ℕ × PlainRows (Unit {0}) → HashWrites
 fact_table_fed t = fed.u32 t.0 ++ fed.slice (λ (r : List Value × Unit {0}). values_fed r.0) t.1
 
+-- what a table of places feeds a hasher
 abbrev pub place_table_fed : ℕ × PlainRows Value → HashWrites
 place_table_fed t = fed.u32 t.0 ++ fed.slice (λ (r : List Value × Value). values_fed r.0 ++ (value_hash_impl.ghosts).hash_input r.1) t.1
 
+-- what a world feeds a hasher: its tables of facts and then those of places
 unfoldable pub world_fed : World → HashWrites
 world_fed w = fed.slice fact_table_fed (facts_in w) ++ fed.slice place_table_fed (places_in w)
 
+-- worlds that are the same feed the same
 pub world-alike : Alike world_eq world_fed
 world-alike = same_Alike world_fed world-tells

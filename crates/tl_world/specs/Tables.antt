@@ -5,9 +5,11 @@ use Rattle.tl_world.specs.declared.named.Named.{Named}
 use Rattle.tl_world.specs.declared.table.PlaceRow.{PlaceRow}
 pub use Rattle.tl_world.specs.Plain.{row_cmp, PlainRows, PlainTables, keyed, entries_of, AreRows, EachInOrder, InOrder, set_of, map_of}
 
+-- a fact by its arguments
 abbrev pub fact_row : List Value → List Value × Unit {0}
 fact_row r = (r, tt)
 
+-- a place by its arguments, with its value
 abbrev pub place_row : PlaceRow → List Value × Value
 place_row r = (r.args, r.value)
 
@@ -15,15 +17,19 @@ place_row r = (r.args, r.value)
 abbrev pub whole_row : PlaceRow → List Value
 whole_row r = r.args ++ r.value ∷ []
 
+-- the facts of one predicate
 abbrev pub fact_table : Named (List Value) → ℕ × PlainRows (Unit {0})
 fact_table t = (t.name, map fact_row t.rows.value)
 
+-- the places of one function
 abbrev pub place_table : Named PlaceRow → ℕ × PlainRows Value
 place_table t = (t.name, map place_row t.rows.value)
 
+-- the facts of a world, predicate by predicate
 abbrev pub fact_tables : List (Named (List Value)) → PlainTables (Unit {0})
 fact_tables = map fact_table
 
+-- the places of a world, function by function
 abbrev pub place_tables : List (Named PlaceRow) → PlainTables Value
 place_tables = map place_table
 

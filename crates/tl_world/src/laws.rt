@@ -1,5 +1,12 @@
-// What is proved of matches, each the contract of a function that does nothing.
+// What is proved of worlds and of matches, each the contract of a function that does nothing.
+ghost use Rattle.tl_syntax.specs.DerivedTests.{TellsSame};
 ghost use Rattle.tl_world.specs.Next.{ChainHasAllMatches, MatchesHaveAnEnd};
+ghost use Rattle.tl_world.specs.Same.{world_eq};
+
+/// The equality of worlds holds exactly where they have the same facts and the same places with the same values.
+pub fn equality_is_sameness()
+    ensures { TellsSame world_eq }
+{}
 
 /// The matches of a pattern from the first on, each got from the one before by `World::next_match`, are all tuples that make it true, each once, in lexicographic value order; and they have an end.
 pub fn matches_are_all_tuples_in_order()

@@ -6,7 +6,7 @@
 //! - `world`: the world itself, with its look-ups, its matches and its changes.
 //! - `task`: a problem with its initial world and its goal as worlds, and the goal test.
 //! - `pattern`: patterns of facts and of places, and the tuples that make them true.
-//! - `laws`: what is proved of the matches of a pattern.
+//! - `laws`: what is proved of the equality of worlds and of the matches of a pattern.
 //! - `row_match`, `front`, `next`: the tuple of one row, the leading values of a row, and the least tuple of a table.
 #![tactic(auto)]
 

@@ -162,7 +162,7 @@ impl World {
     ///
     /// It looks at one table. The first row is found by halves, where the leading parts are fixed, or are variables in the order of their numbers whose values `after` has.
     /// From there rows are looked at in order, and no further than to the first whose leading values exceed the fixed ones, or, once a tuple is found, those of that tuple.
-    /// So where the variables stand in the order of their numbers, the cost of the next tuple is the logarithm of the table's length and the rows between; where they do not, it is the rows with the same fixed leading values.
+    /// So where the variables first stand in the order of their numbers, the next tuple costs a search by halves and the rows between that of `after` and its own; where they do not, it costs the rows with the same fixed leading values.
     pub fn next_match(&self, pattern: &Pattern, after: Option<Match>) -> Option<Match>
         requires pattern { IsLawful pattern.now }
         requires after { IfSome after (λ m. m.len ≡ pattern.now.free) }
@@ -219,7 +219,7 @@ impl World {
     }
 
     /// This world without the facts of `dels`, with those of `adds`, and with the values of `sets`; of two values for one place the earlier counts.
-    /// This world stays as it is. Tables that no list names are shared, and the others are copied once. It fails for want of memory alone.
+    /// This world stays as it is. Tables that do not change are shared, and each of the others is copied once. It fails for want of memory alone.
     pub fn changed(
         &self,
         alloc: Global,

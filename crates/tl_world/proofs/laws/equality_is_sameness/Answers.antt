@@ -1,0 +1,5 @@
+use Rattle.tl_world.specs.Same.{world-tells}
+use Rattle.tl_world.proofs.laws.equality_is_sameness.Goals as goal
+
+pub returns : goal.returns
+returns c = world-tells
