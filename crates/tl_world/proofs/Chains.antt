@@ -1,14 +1,12 @@
 -- A chain of next tuples has all that pass the test, in order.
-use Rattle.std.proofs.Common.{◌≡◌, ◌↔◌, ℕ, List, [], ◌∷◌, length, Bool, true, false, ◌&&◌, true≢false, Option, Some, None, Ordering, Less, Equal, Greater, refl, sym, ap, ◌∙◌, subst, inl, inr, take}
+use Rattle.std.proofs.Common.{◌≡◌, ◌↔◌, ℕ, List, [], ◌∷◌, length, Bool, true, ◌&&◌, true≢false, Option, Some, None, Ordering, Less, Equal, Greater, refl, sym, ap, ◌∙◌, subst, inl, inr, take}
 use Rattle.std.specs.Option.{option_map, IfSome}
 use Rattle.std.specs.Ordering.{is_lt, is_gt}
 use Rattle.tl_syntax.specs.declared.value.Value.{Value}
-use Rattle.tl_syntax.specs.Lists.{Each, Among, Rises}
+use Rattle.tl_syntax.specs.Lists.{Among, Rises}
 use Rattle.tl_syntax.proofs.ListLaws.{Each-Among}
 use Rattle.tl_syntax.proofs.Plain.{both, with_both}
-use Rattle.tl_terms.specs.World.{World}
 use Rattle.tl_world.specs.declared.pattern.Match.{Match}
-use Rattle.tl_world.specs.declared.pattern.Pattern.{Pattern}
 use Rattle.tl_world.specs.Plain.{row_cmp}
 use Rattle.tl_world.specs.Patterns.{makes_true, tuple_of}
 use Rattle.tl_world.specs.Least.{IsLeast, above}

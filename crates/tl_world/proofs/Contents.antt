@@ -1,26 +1,24 @@
 -- What stands in the tables of a world is what the world has.
 use Rattle.std.proofs.Common.{◌≡◌, ◌↔◌, ℕ, List, [], ◌∷◌, ◌++◌, map, Bool, true, false, ◌&&◌, refl, sym, ap, ◌∙◌}
 use Rattle.std.proofs.lemmas.Bool.Decides.{same_from_decides}
-use Rattle.std.specs.List.{list_all, list_any}
+use Rattle.std.specs.List.{list_all}
 use Rattle.std.specs.Prelude.{Result, Ok, Err, IfOk}
 use Rattle.std.specs.FinSet as set
 use Rattle.std.specs.FinMap as dict
-use Rattle.std.specs.Ordering.{eq_by_cmp}
 use Rattle.tl_syntax.specs.declared.fact.Fact.{Fact}
 use Rattle.tl_syntax.specs.declared.memory.NoMemory.{NoMemory}
 use Rattle.tl_syntax.specs.declared.place_value.PlaceValue.{PlaceValue}
 use Rattle.tl_syntax.specs.declared.value.Value.{Value}
 use Rattle.tl_syntax.specs.Keys.{Key, key_cmp, fact_key, place_entry}
-use Rattle.tl_syntax.specs.Lists.{Each, Among}
+use Rattle.tl_syntax.specs.Lists.{Among}
 use Rattle.tl_syntax.specs.TotalOrders.{key_total, key_ties}
 use Rattle.tl_syntax.proofs.ListLaws.{iff-trans, iff-sym, iff-path, all-iff, Each-Among}
-use Rattle.tl_terms.specs.Acceptance.{is_value}
 use Rattle.tl_terms.specs.ProblemMeaning.{world_of}
 use Rattle.tl_terms.specs.Step.{with_all, overwritten}
 use Rattle.tl_terms.specs.World.{World}
 use Rattle.tl_world.specs.declared.named.Named.{Named}
 use Rattle.tl_world.specs.declared.table.PlaceRow.{PlaceRow}
-use Rattle.tl_world.specs.Tables.{PlainTables, keyed, entries_of, InOrder, set_of, map_of, fact_row, place_row, fact_table, place_table, fact_tables, place_tables}
+use Rattle.tl_world.specs.Tables.{keyed, entries_of, InOrder, set_of, map_of, fact_row, place_row, fact_tables, place_tables}
 use Rattle.tl_world.proofs.Lookup.{entries-rise}
 use Rattle.tl_world.proofs.Lent.{any-among}
 

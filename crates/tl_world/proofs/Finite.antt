@@ -1,9 +1,7 @@
 -- The matches of a pattern are the tuples of a bound, so they have an end.
-use Rattle.std.proofs.Common.{◌≡◌, ◌↔◌, ◌<◌, ◌≤◌, ◌-◌, ◌+◌, ℕ, zero, suc, List, [], ◌∷◌, ◌++◌, length, length-append, take, map, Bool, true, false, cond, ◌||◌, true≢false, eqb, eqb-true, eq-eqb, Option, Some, None, Ordering, Less, Equal, Greater, refl, sym, ap, ◌∙◌, subst, inl, inr, arith}
+use Rattle.std.proofs.Common.{◌≡◌, ◌↔◌, ◌<◌, ◌≤◌, ◌-◌, ◌+◌, ℕ, zero, suc, List, [], ◌∷◌, ◌++◌, length, length-append, take, map, Bool, true, false, cond, ◌||◌, true≢false, eqb, eqb-true, eq-eqb, Option, Some, None, Less, Equal, refl, sym, ap, ◌∙◌, inl, inr, arith}
 use Rattle.std.proofs.lemmas.Bool.{eqb-false}
 use Rattle.std.proofs.lemmas.Option.{slice_get-get_or}
-use Rattle.std.proofs.lemmas.List.{take-append-drop}
-use Rattle.std.proofs.lemmas.List.Folds.{list_any-append}
 use Rattle.std.specs.Prelude.{slice_get}
 use Rattle.std.specs.List.{list_any}
 use Rattle.std.specs.Ordering.{is_gt}
@@ -15,8 +13,8 @@ use Rattle.tl_syntax.specs.declared.value.Value.TheVariants.{Sym}
 use Rattle.tl_syntax.specs.declared.variable.Arg.{Arg}
 use Rattle.tl_syntax.specs.declared.variable.Arg.TheVariants as arg
 use Rattle.tl_syntax.specs.declared.variable.Var.{Var}
-use Rattle.tl_syntax.specs.Assignment.{Assignment, no_values, bind}
-use Rattle.tl_syntax.specs.BoundVariables.{is_variable, stands_in, OccurIn, DifferInSlot}
+use Rattle.tl_syntax.specs.Assignment.{no_values, bind}
+use Rattle.tl_syntax.specs.BoundVariables.{is_variable, stands_in, DifferInSlot}
 use Rattle.tl_syntax.specs.Lists.{Each, Among, Rises}
 use Rattle.tl_syntax.proofs.ListLaws.{Each-Among}
 use Rattle.tl_terms.specs.Bounds.{arg_value, arg_values, same_value, bound_true, tuples}
@@ -27,10 +25,9 @@ use Rattle.tl_terms.proofs.Tuples.{all-tuples}
 use Rattle.tl_terms.proofs.TuplesRise.{tuples-rise}
 use Rattle.tl_world.specs.declared.pattern.Part.{Part}
 use Rattle.tl_world.specs.declared.pattern.Part.TheVariants.{Fixed, Free}
-use Rattle.tl_world.specs.declared.pattern.Pattern.{Pattern}
 use Rattle.tl_world.specs.Fits.{is_free, occurs}
-use Rattle.tl_world.specs.Next.{IsAfter, IsLater, IsNext, IsChain, MatchesHaveAnEnd}
-use Rattle.tl_world.specs.Patterns.{fill, filled, parts_of, is_true_of, makes_true, IsLawful}
+use Rattle.tl_world.specs.Next.{IsLater, IsChain, MatchesHaveAnEnd}
+use Rattle.tl_world.specs.Patterns.{fill, filled, parts_of, is_true_of}
 use Rattle.tl_world.specs.Plain.{row_cmp}
 use Rattle.tl_world.proofs.Chains.{further}
 use Rattle.tl_world.proofs.Lookup.{row_total}

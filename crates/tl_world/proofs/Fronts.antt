@@ -1,8 +1,8 @@
 -- How leading values stand to those of a row that fits, and of later rows.
-use Rattle.std.proofs.Common.{◌≡◌, ◌⊎◌, ◌<◌, ◌+◌, ℕ, zero, suc, leb, eqb, eqb-true, eq-eqb, List, [], ◌∷◌, length, take, drop, Bool, true, false, cond, ◌&&◌, true≢false, Option, Some, None, Ordering, Less, Equal, Greater, refl, sym, ap, ◌∙◌, subst, inl, inr, arith}
+use Rattle.std.proofs.Common.{◌≡◌, ◌⊎◌, ◌<◌, ◌+◌, ℕ, zero, suc, leb, eqb, eqb-true, List, [], ◌∷◌, length, take, drop, true, false, cond, true≢false, Some, None, Ordering, Less, Equal, Greater, refl, sym, ap, ◌∙◌, subst, inl, inr, arith}
 use Rattle.std.proofs.lemmas.Bool.{eqb-false}
 use Rattle.std.specs.Prelude.{slice_get}
-use Rattle.std.specs.Ordering.{is_lt, is_gt, ordering_then, ordering_reverse}
+use Rattle.std.specs.Ordering.{is_gt, ordering_then, ordering_reverse}
 use Rattle.std.specs.Cmp.{tied_itself, upto}
 use Rattle.tl_syntax.specs.declared.value.Value.{Value}
 use Rattle.tl_syntax.specs.Keys.{value_cmp}
@@ -11,8 +11,8 @@ use Rattle.tl_syntax.proofs.Plain.{value-tells, both}
 use Rattle.tl_world.specs.declared.pattern.Part.{Part}
 use Rattle.tl_world.specs.declared.pattern.Part.TheVariants.{Fixed, Free}
 use Rattle.tl_world.specs.Plain.{row_cmp}
-use Rattle.tl_world.specs.Fits.{is_value, fits_at, fits_all}
-use Rattle.tl_world.specs.Front.{known_value, seen_after, led_by, front, front_cmp}
+use Rattle.tl_world.specs.Fits.{fits_at, fits_all}
+use Rattle.tl_world.specs.Front.{seen_after, led_by, front, front_cmp}
 use Rattle.tl_world.proofs.Lookup.{row_total}
 use Rattle.tl_world.proofs.Matching.{is_value-some}
 

@@ -1,5 +1,5 @@
 -- What is among the rows of a table, and that they rise.
-use Rattle.std.proofs.Common.{◌≡◌, ◌↔◌, ◌⊎◌, ◌<◌, ℕ, List, [], ◌∷◌, map, length, T, true, false, cond, true≢false, Some, Less, Equal, Ordering, refl, sym, ap, ◌∙◌, subst, inl, inr, arith}
+use Rattle.std.proofs.Common.{◌≡◌, ◌↔◌, ◌⊎◌, ◌<◌, List, [], ◌∷◌, map, length, T, true, false, cond, true≢false, Some, Less, Equal, Ordering, refl, sym, ap, ◌∙◌, subst, inl, inr, arith}
 use Rattle.std.specs.List.{list_any}
 use Rattle.std.specs.FinSet as set
 use Rattle.std.specs.FinMap as dict
@@ -13,7 +13,6 @@ use Rattle.tl_terms.proofs.TuplesRise.{keys-rise}
 use Rattle.tl_world.specs.declared.table.PlaceRow.{PlaceRow}
 use Rattle.tl_world.specs.Plain.{row_cmp, IsFilled}
 use Rattle.tl_world.specs.Tables.{fact_row, place_row}
-use Rattle.tl_world.proofs.Lookup.{row_total}
 
 pub row_ties : set.IsAntisymmetric row_cmp
 row_ties = set.slice_cmp-IsAntisymmetric value_ties

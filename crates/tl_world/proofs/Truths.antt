@@ -1,22 +1,19 @@
 -- A pattern is true where its parts are one of the rows.
-use Rattle.std.proofs.Common.{◌≡◌, ◌↔◌, ◌<◌, ◌≤◌, ◌-◌, ◌+◌, ℕ, zero, suc, List, [], ◌∷◌, ◌++◌, length, take, map, Bool, true, false, ◌||◌, true≢false, eqb, eqb-true, eq-eqb, Option, Some, None, refl, sym, ap, ◌∙◌, subst, inl, inr, arith}
+use Rattle.std.proofs.Common.{◌≡◌, ◌↔◌, ◌<◌, ◌≤◌, ◌-◌, ℕ, suc, List, [], ◌∷◌, ◌++◌, length, take, map, Bool, true, false, ◌||◌, true≢false, eqb-true, eq-eqb, Option, Some, None, refl, sym, ap, ◌∙◌, subst, inl, inr, arith}
 use Rattle.std.proofs.lemmas.List.{length-map}
 use Rattle.std.proofs.lemmas.Bool.Decides.{same_from_decides}
-use Rattle.std.specs.List.{list_any}
 use Rattle.std.specs.Prelude.{slice_get}
-use Rattle.std.specs.Ordering.{eq_by_cmp, is_eq}
 use Rattle.std.specs.Cmp.{Equal-is, tied_itself}
 use Rattle.tl_syntax.specs.declared.value.Value.{Value}
 use Rattle.tl_syntax.specs.Keys.{value_cmp}
 use Rattle.tl_syntax.specs.TotalOrders.{value_total, value_ties}
 use Rattle.tl_syntax.specs.Lists.{Among}
-use Rattle.tl_syntax.proofs.ListLaws.{iff-trans, iff-sym}
+use Rattle.tl_syntax.proofs.ListLaws.{iff-trans}
 use Rattle.tl_terms.specs.World.{World, has_fact, value_at}
 use Rattle.tl_terms.specs.Bounds.{same_value}
 use Rattle.tl_world.specs.declared.pattern.Part.{Part}
 use Rattle.tl_world.specs.declared.pattern.Part.TheVariants.{Fixed, Free}
 use Rattle.tl_world.specs.declared.table.PlaceRow.{PlaceRow}
-use Rattle.tl_world.specs.Plain.{row_cmp}
 use Rattle.tl_world.specs.Tables.{place_row, whole_row}
 use Rattle.tl_world.specs.Fits.{is_free, occurs}
 use Rattle.tl_world.specs.Least.{fits_some}

@@ -5,7 +5,7 @@ use Rattle.std.specs.Cmp.{IsTotalOrder, IsEquivalence, IsPartialEquivalence, tie
 use Rattle.std.specs.Hash as fed
 use Rattle.std.specs.Hash.{HashWrites, Alike, same_Alike}
 use Rattle.std.specs.Ordering.{eq_by_cmp, is_eq}
-use Rattle.std.proofs.Common.{sym, ap, ◌∙◌, subst, true≢false, Ordering, Less, Equal, Greater, ap₂}
+use Rattle.std.proofs.Common.{sym, ap, ◌∙◌, subst, true≢false, Ordering, Less, Equal, Greater}
 use mathlib.Core.HLevel.{hedberg}
 use lib.Pointwise.{pointwise}
 use Rattle.std.specs.FinSet as set

@@ -1,4 +1,4 @@
-use Rattle.std.proofs.Common.{List, rules, map}
+use Rattle.std.proofs.Common.{List, rules}
 use Rattle.std.proofs.lemmas.List.Sorted.{IsPartitionPoint-from_clause}
 use Rattle.std.specs.Ordering.{is_gt}
 use Rattle.tl_syntax.specs.declared.value.Value.{Value}

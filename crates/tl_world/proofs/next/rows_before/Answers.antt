@@ -1,4 +1,4 @@
-use Rattle.std.proofs.Common.{List, rules, map, subst, sym}
+use Rattle.std.proofs.Common.{List, rules, subst, sym}
 use Rattle.std.proofs.lemmas.List.{map-id}
 use Rattle.std.proofs.lemmas.List.Sorted.{IsPartitionPoint-from_clause}
 use Rattle.std.specs.Ordering.{is_gt}

@@ -1,4 +1,4 @@
-use Rattle.std.proofs.Common.{ap, ◌∙◌, not}
+use Rattle.std.proofs.Common.{ap, ◌∙◌}
 use Rattle.std.specs.List.{list_all}
 use Rattle.tl_terms.specs.World.{World, has_fact}
 use Rattle.tl_world.proofs.Contents.{facts-all}

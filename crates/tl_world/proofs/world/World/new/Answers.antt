@@ -1,11 +1,9 @@
 use Rattle.std.proofs.Common.{[], List, ap, sym, ◌∙◌}
-use Rattle.std.specs.FinSet as set
 use Rattle.std.specs.FinMap as dict
 use Rattle.tl_syntax.specs.declared.value.Value.{Value}
 use Rattle.tl_syntax.specs.Keys.{key_cmp}
 use Rattle.tl_syntax.specs.TotalOrders.{key_total, key_ties}
 use Rattle.tl_terms.specs.ProblemMeaning.{world_of}
-use Rattle.tl_terms.specs.World.{World}
 use Rattle.tl_world.specs.declared.named.Named.{Named}
 use Rattle.tl_world.specs.declared.table.PlaceRow.{PlaceRow}
 use Rattle.tl_world.specs.Tables.{fact_tables, place_tables, set_of, map_of}

@@ -1,4 +1,4 @@
-use Rattle.std.proofs.Common.{true, false, ap, ◌∙◌, ◌&&◌, subst, sym}
+use Rattle.std.proofs.Common.{◌&&◌, subst, sym}
 use Rattle.tl_world.specs.Least.{IsLeast, above}
 use Rattle.tl_world.specs.Patterns.{parts_of, filled, is_true_of, makes_true}
 use Rattle.tl_world.proofs.Chains.{next-least, least-size}

@@ -1,4 +1,4 @@
-use Rattle.std.proofs.Common.{◌≡◌, ◌↔◌, Some, map, sym, ap, ◌∙◌, subst}
+use Rattle.std.proofs.Common.{◌≡◌, Some, map, sym, ap, ◌∙◌, subst}
 use Rattle.std.specs.FinMap as dict
 use Rattle.tl_syntax.proofs.ListLaws.{iff-trans, iff-path}
 use Rattle.tl_terms.specs.World.{World, value_at}
