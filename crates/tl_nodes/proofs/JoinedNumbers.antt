@@ -1,0 +1,164 @@
+-- The join of numbers, by the numbers that are left of its parts.
+use Rattle.std.proofs.Common.{◌≡◌, ℕ, Bool, true, false, true≢false, cond, not, List, [], ◌∷◌, map, filter, length, Some, slice_get, slice_index_or, nat_lt, nat_eq, eqb-true, eq-eqb, refl, sym, ap, ap₂, ◌∙◌, arith}
+use Rattle.std.specs.List.{list_any, flat_map}
+use Rattle.indexmap.specs.IndexSet.{insert_all}
+use borrow.Author.Tests.{ltb-true}
+use Rattle.tl_syntax.specs.Same.{formula_discrete}
+use Rattle.tl_syntax.specs.Trees.{FormulaTree, verum, falsum}
+use Rattle.tl_syntax.proofs.Plain.{both}
+use Rattle.tl_terms.specs.Simplification.{same_formula, is_yes, is_verum, is_falsum, without_repeats, conjunction_of, disjunction_of, simplified_and, simplified_or}
+use Rattle.tl_terms.proofs.Simplification.{same_formula-is}
+use Rattle.tl_nodes.specs.Fits.{all_below, fits}
+use Rattle.tl_nodes.specs.Joins.{parts_of, joined, dropped, decides, join_node}
+use Rattle.tl_nodes.specs.NodeTrees.{tree_at, trees_at, tree_of_node}
+use Rattle.tl_nodes.specs.Numbering.{OneToOne}
+use Rattle.tl_nodes.proofs.KeptOnce.{same-bool, dedup, kept-once, below-filter, below-dedup, filter-map, any-map, distinct-map}
+use Rattle.tl_nodes.proofs.NestedJoins.{join-fits}
+use Rattle.tl_nodes.proofs.TreesOfNodes.{at-is, at-there}
+
+same-of : (f g : FormulaTree) → f ≡ g → same_formula f g ≡ true
+unfolding same_formula
+same-of f g e = by (formula_discrete f g)
+  where
+    by : (d : Dec (f ≡ g)) → is_yes d ≡ true
+    by (yes a) = refl
+    by (no h) = absurd (h e)
+
+verum-is : (t : FormulaTree) → is_verum t ≡ true → t ≡ verum
+verum-is verum h = refl
+verum-is t h = absurd (true≢false (sym h))
+
+falsum-is : (t : FormulaTree) → is_falsum t ≡ true → t ≡ falsum
+falsum-is falsum h = refl
+falsum-is t h = absurd (true≢false (sym h))
+
+abbrev is_unit : Bool → FormulaTree → Bool
+is_unit true t = is_verum t
+is_unit false t = is_falsum t
+
+abbrev is_zero : Bool → FormulaTree → Bool
+is_zero true t = is_falsum t
+is_zero false t = is_verum t
+
+abbrev zero_tree : Bool → FormulaTree
+zero_tree true = falsum
+zero_tree false = verum
+
+abbrev unit_tree : Bool → FormulaTree
+unit_tree true = verum
+unit_tree false = falsum
+
+abbrev pub list_join : Bool → List FormulaTree → FormulaTree
+list_join true fs = conjunction_of fs
+list_join false fs = disjunction_of fs
+
+joined-zero : (all : Bool) (fs ps : List FormulaTree) → flat_map (parts_of all) fs ≡ ps → list_any (is_zero all) ps ≡ true → joined all fs ≡ zero_tree all
+unfolding joined parts_of simplified_and simplified_or
+joined-zero true fs ps e h = ap (λ xs. cond (list_any is_falsum xs) falsum (conjunction_of (without_repeats (filter (λ f. not (is_verum f)) xs)))) e ∙ ap (λ b. cond b falsum (conjunction_of (without_repeats (filter (λ f. not (is_verum f)) ps)))) h
+joined-zero false fs ps e h = ap (λ xs. cond (list_any is_verum xs) verum (disjunction_of (without_repeats (filter (λ f. not (is_falsum f)) xs)))) e ∙ ap (λ b. cond b verum (disjunction_of (without_repeats (filter (λ f. not (is_falsum f)) ps)))) h
+
+joined-rest : (all : Bool) (fs ps : List FormulaTree) → flat_map (parts_of all) fs ≡ ps → list_any (is_zero all) ps ≡ false → joined all fs ≡ list_join all (without_repeats (filter (λ f. not (is_unit all f)) ps))
+unfolding joined parts_of simplified_and simplified_or
+joined-rest true fs ps e h = ap (λ xs. cond (list_any is_falsum xs) falsum (conjunction_of (without_repeats (filter (λ f. not (is_verum f)) xs)))) e ∙ ap (λ b. cond b falsum (conjunction_of (without_repeats (filter (λ f. not (is_verum f)) ps)))) h
+joined-rest false fs ps e h = ap (λ xs. cond (list_any is_verum xs) verum (disjunction_of (without_repeats (filter (λ f. not (is_falsum f)) xs)))) e ∙ ap (λ b. cond b verum (disjunction_of (without_repeats (filter (λ f. not (is_falsum f)) ps)))) h
+
+empty : (ks : List ℕ) → length ks ≡ 0 → ks ≡ []
+empty [] h = refl
+empty (x ∷ xs) h = absurd (omega arith)
+
+many : (ts : List FormulaTree) (all : Bool) (ks : List ℕ) → (length ks ≡ 0 → ⊥) → (length ks ≡ 1 → ⊥) → tree_of_node ts (join_node all ks) ≡ list_join all (trees_at ts ks)
+unfolding tree_of_node
+many ts all [] a b = absurd (a refl)
+many ts all (x ∷ []) a b = absurd (b refl)
+many ts true (x ∷ (y ∷ ks)) a b = refl
+many ts false (x ∷ (y ∷ ks)) a b = refl
+
+module _ (ts : List FormulaTree) (one : OneToOne ts) (z : slice_get ts 0 ≡ Some verum) (f : slice_get ts 1 ≡ Some falsum) where
+  there : (i : ℕ) → nat_lt i (length ts) ≡ true → slice_get ts i ≡ Some (tree_at ts i)
+  there i h = at-there ts i (ltb-true i (length ts) h)
+
+  same-at : (i j : ℕ) → nat_lt i (length ts) ≡ true → nat_lt j (length ts) ≡ true → same_formula (tree_at ts i) (tree_at ts j) ≡ nat_eq i j
+  same-at i j h k = same-bool (same_formula (tree_at ts i) (tree_at ts j)) (nat_eq i j)
+      (λ s. eq-eqb i j (one i j (tree_at ts i) (there i h) (there j k ∙ ap Some (sym (same_formula-is (tree_at ts i) (tree_at ts j) s)))))
+      (λ s. same-of (tree_at ts i) (tree_at ts j) (ap (tree_at ts) (eqb-true i j s)))
+
+  verum-at : (i : ℕ) → nat_lt i (length ts) ≡ true → is_verum (tree_at ts i) ≡ nat_eq i 0
+  verum-at i h = same-bool (is_verum (tree_at ts i)) (nat_eq i 0)
+      (λ s. eq-eqb i 0 (one i 0 verum (there i h ∙ ap Some (verum-is (tree_at ts i) s)) z))
+      (λ s. ap (λ x. is_verum (tree_at ts x)) (eqb-true i 0 s) ∙ ap is_verum (at-is ts 0 verum z))
+
+  falsum-at : (i : ℕ) → nat_lt i (length ts) ≡ true → is_falsum (tree_at ts i) ≡ nat_eq i 1
+  falsum-at i h = same-bool (is_falsum (tree_at ts i)) (nat_eq i 1)
+      (λ s. eq-eqb i 1 (one i 1 falsum (there i h ∙ ap Some (falsum-is (tree_at ts i) s)) f))
+      (λ s. ap (λ x. is_falsum (tree_at ts x)) (eqb-true i 1 s) ∙ ap is_falsum (at-is ts 1 falsum f))
+
+  zero-at : (all : Bool) (i : ℕ) → nat_lt i (length ts) ≡ true → is_zero all (tree_at ts i) ≡ nat_eq i (decides all)
+  zero-at true i h = falsum-at i h
+  zero-at false i h = verum-at i h
+
+  unit-at : (all : Bool) (i : ℕ) → nat_lt i (length ts) ≡ true → is_unit all (tree_at ts i) ≡ nat_eq i (dropped all)
+  unit-at true i h = verum-at i h
+  unit-at false i h = falsum-at i h
+
+  zero-there : (all : Bool) → slice_get ts (decides all) ≡ Some (zero_tree all)
+  zero-there true = f
+  zero-there false = z
+
+  unit-there : (all : Bool) → slice_get ts (dropped all) ≡ Some (list_join all [])
+  unit-there true = z
+  unit-there false = f
+
+  pub decided : (all : Bool) (xs : List ℕ) (fs : List FormulaTree) → all_below (length ts) xs ≡ true → trees_at ts xs ≡ flat_map (parts_of all) fs
+      → list_any (λ y. nat_eq y (decides all)) xs ≡ true → slice_get ts (decides all) ≡ Some (joined all fs)
+  decided all xs fs below e h =
+      zero-there all ∙ ap Some (sym (joined-zero all fs (trees_at ts xs) (sym e) (any-map (tree_at ts) (length ts) (is_zero all) (λ y. nat_eq y (decides all)) (zero-at all) xs below ∙ h)))
+
+  module _ (all : Bool) (xs : List ℕ) (fs : List FormulaTree) (below : all_below (length ts) xs ≡ true) (e : trees_at ts xs ≡ flat_map (parts_of all) fs)
+      (h : list_any (λ y. nat_eq y (decides all)) xs ≡ false) (ks : List ℕ) (k : ks ≡ insert_all nat_eq [] (filter (λ i. not (nat_eq i (dropped all))) xs)) where
+    rest : List ℕ
+    rest = filter (λ i. not (nat_eq i (dropped all))) xs
+
+    rest-below : all_below (length ts) rest ≡ true
+    unfolding rest
+    rest-below = below-filter (length ts) (λ i. not (nat_eq i (dropped all))) xs below
+
+    kept-is : ks ≡ dedup rest
+    unfolding rest
+    kept-is = k ∙ kept-once rest
+
+    pub left-below : all_below (length ts) ks ≡ true
+    left-below = ap (all_below (length ts)) kept-is ∙ below-dedup (length ts) rest rest-below
+
+    pub left-joined : joined all fs ≡ list_join all (trees_at ts ks)
+    unfolding rest
+    left-joined =
+        joined-rest all fs (trees_at ts xs) (sym e) (any-map (tree_at ts) (length ts) (is_zero all) (λ y. nat_eq y (decides all)) (zero-at all) xs below ∙ h)
+        ∙ ap (list_join all)
+        (ap without_repeats (filter-map (tree_at ts) (length ts) (λ g. not (is_unit all g)) (λ i. not (nat_eq i (dropped all))) (λ i a. ap not (unit-at all i a)) xs below)
+        ∙ (distinct-map (tree_at ts) (length ts) same-at rest rest-below ∙ ap (map (tree_at ts)) (sym kept-is)))
+
+    pub none-left : length ks ≡ 0 → slice_get ts (dropped all) ≡ Some (joined all fs)
+    none-left n = unit-there all ∙ ap Some (sym (left-joined ∙ ap (λ l. list_join all (trees_at ts l)) (empty ks n)))
+
+    pub one-left : length ks ≡ 1 → slice_get ts (slice_index_or ks 0 0) ≡ Some (joined all fs)
+    one-left n = single all ks n left-below ∙ ap Some (sym left-joined)
+      where
+        single : (a : Bool) (l : List ℕ) → length l ≡ 1 → all_below (length ts) l ≡ true → slice_get ts (slice_index_or l 0 0) ≡ Some (list_join a (trees_at ts l))
+        single a [] m b = absurd (omega arith)
+        single true (x ∷ []) m b = there x (both (nat_lt x (length ts)) true b).0
+        single false (x ∷ []) m b = there x (both (nat_lt x (length ts)) true b).0
+        single a (x ∷ (y ∷ l)) m b = absurd (omega arith)
+
+    pub many-left : (length ks ≡ 0 → ⊥) → (length ks ≡ 1 → ⊥) → tree_of_node ts (join_node all ks) ≡ joined all fs
+    many-left a b = many ts all ks a b ∙ sym left-joined
+
+    pub many-fit : fits (length ts) (join_node all ks) ≡ true
+    many-fit = join-fits (length ts) all ks ∙ left-below
+
+-- what the code asked and kept, in the words above
+pub asked : (w d : ℕ) (shown xs : List ℕ) (r b : Bool) → r ≡ list_any (λ y. nat_eq y w) shown → w ≡ d → shown ≡ xs → r ≡ b → list_any (λ y. nat_eq y d) xs ≡ b
+asked w d shown xs r b v e s k = sym (ap₂ (λ x l. list_any (λ y. nat_eq y x) l) e s) ∙ (sym v ∙ k)
+
+pub kept-as : (ks ls shown xs : List ℕ) (u d : ℕ) → ks ≡ ls → ls ≡ insert_all nat_eq [] (filter (λ i. not (nat_eq i u)) shown) → u ≡ d → shown ≡ xs
+    → ks ≡ insert_all nat_eq [] (filter (λ i. not (nat_eq i d)) xs)
+kept-as ks ls shown xs u d a k e s = a ∙ (k ∙ ap₂ (λ x l. insert_all nat_eq [] (filter (λ i. not (nat_eq i x)) l)) e s)

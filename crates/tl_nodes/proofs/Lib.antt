@@ -1,0 +1,13 @@
+pub mod GrownLists
+pub mod NodeSame
+pub mod TreesOfNodes
+pub mod OneMoreNode
+pub mod Constants
+pub mod Negations
+pub mod TemporalFlags
+pub mod Insertion
+pub mod NestedJoins
+pub mod KeptOnce
+pub mod JoinedNumbers
+pub mod KeptNumbers
+pub mod FormulaLayers

@@ -1,0 +1,6 @@
+pub mod NodeTrees
+pub mod Fits
+pub mod Numbering
+pub mod Temporal
+pub mod Joins
+pub mod Numbers

@@ -1,0 +1,82 @@
+// The table of nodes.
+ghost use Rattle.std.specs.Prelude.{◌≡◌, ◌↔◌, ◌<◌, [], ◌∷◌, map, true, false, length, IfOk};
+ghost use Rattle.tl_syntax.specs.StateFormulas.{IsState};
+ghost use Rattle.tl_syntax.specs.Trees.{verum, falsum};
+ghost use Rattle.tl_nodes.specs.Fits.{fits, EachFits, begins_with_constants};
+ghost use Rattle.tl_nodes.specs.NodeTrees.{tree_at, tree_of_node, trees_of_nodes};
+ghost use Rattle.tl_nodes.specs.Numbering.{OneToOne};
+ghost use Rattle.tl_nodes.specs.Temporal.{has_temporal};
+
+mod flags;
+mod flatten;
+mod intern;
+mod join;
+mod negation;
+mod of_tree;
+
+use crate::Node;
+use indexmap::IndexSet;
+use std::alloc::Global;
+use tl_syntax::NoMemory;
+
+/// Formulas that share their parts. Each number below `len` denotes one tree, and equal trees have one number.
+/// The parts of a node have smaller numbers than the node. Numbers keep their trees after every call, a refused one included.
+#[derive(Drop)]
+pub struct Nodes {
+    pub(crate) alloc: Global,
+    pub(crate) table: IndexSet<Node>,
+    pub(crate) temporal: Vec<bool>,
+    ghost below: { EachFits table.keys },
+    ghost one_to_one: { OneToOne (trees_of_nodes table.keys) },
+    ghost constants: { begins_with_constants table.keys ≡ true },
+    ghost flags: { temporal.items ≡ map has_temporal (trees_of_nodes table.keys) },
+}
+
+impl Nodes {
+    ghost use Rattle.tl_nodes.specs.Numbers.{trees, Denotes};
+
+    /// The two constants: true is number 0, and false is number 1.
+    pub fn new(alloc: Global) -> Result<Nodes, NoMemory>
+        ensures constants { IfOk result (λ s. trees s ≡ verum ∷ falsum ∷ []) }
+    {
+        let mut table = IndexSet::new(alloc);
+        table.insert(Node::True)?;
+        table.insert(Node::False)?;
+        let mut temporal = Vec::new(alloc);
+        temporal.push(false)?;
+        temporal.push(false)?;
+        Ok(Nodes {
+            alloc,
+            table,
+            temporal,
+        })
+    }
+
+    /// How many numbers are given: 0 up to it. It takes no memory.
+    pub fn len(&self) -> usize
+        ensures len { result ≡ length (trees self.now) }
+        ensures one_to_one { OneToOne (trees self.now) }
+        ensures truth { Denotes self.now 0 verum }
+        ensures falsehood { Denotes self.now 1 falsum }
+    {
+        self.table.len()
+    }
+
+    /// The top layer of the number's tree. It takes no memory.
+    pub fn get(&self, id: usize) -> &Node
+        requires { id < length (trees self.now) }
+        ensures tree { Denotes self.now id (tree_of_node (trees self.now) result.now) }
+        ensures parts { fits id result.now ≡ true }
+    {
+        self.table.get_index(id).unwrap()
+    }
+
+    /// Whether the number's tree has a temporal word. It takes no memory: the answer is stored with the node.
+    pub fn temporal(&self, id: usize) -> bool
+        requires { id < length (trees self.now) }
+        ensures word { result ≡ has_temporal (tree_at (trees self.now) id) }
+        ensures state { (result ≡ false) ↔ IsState (tree_at (trees self.now) id) }
+    {
+        self.temporal[id]
+    }
+}

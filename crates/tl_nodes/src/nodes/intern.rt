@@ -1,0 +1,37 @@
+// One number for one layer.
+ghost use Rattle.std.specs.Prelude.{◌≡◌, ℕ, true, length, IfOk, OnErr};
+ghost use Rattle.tl_nodes.specs.Fits.{fits};
+ghost use Rattle.tl_nodes.specs.NodeTrees.{tree_of_node};
+ghost use Rattle.tl_nodes.specs.Numbering.{Keeps};
+ghost use Rattle.tl_nodes.specs.Numbers.{trees, Denotes};
+
+use super::Nodes;
+use super::flags::temporal_of;
+use crate::Node;
+use tl_syntax::NoMemory;
+
+impl Nodes {
+    /// The number of the node's very tree, without simplification: the one that it has, or else the next one.
+    /// A refused call drops the node and leaves all trees as they were.
+    pub fn intern(&mut self, node: Node) -> Result<usize, NoMemory>
+        requires { fits (length (trees self.old)) node ≡ true }
+        ensures number { IfOk result (λ i. Denotes self.new i (tree_of_node (trees self.old) node)) }
+        ensures known { (i : ℕ) → Denotes self.old i (tree_of_node (trees self.old) node) → trees self.new ≡ trees self.old }
+        ensures kept { Keeps (trees self.old) (trees self.new) }
+        ensures refused { OnErr result (trees self.new ≡ trees self.old) }
+    {
+        let flag = temporal_of(self.temporal.as_slice(), &node);
+        match self.temporal.reserve(1) {
+            Ok(()) => {}
+            Err(_) => {
+                drop(node);
+                return Err(NoMemory);
+            }
+        }
+        let (at, is_new) = self.table.insert_full(node)?;
+        if is_new {
+            self.temporal.push(flag).unwrap();
+        }
+        Ok(at)
+    }
+}
