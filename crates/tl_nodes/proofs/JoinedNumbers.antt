@@ -6,23 +6,16 @@ use borrow.Author.Tests.{ltb-true}
 use Rattle.tl_syntax.specs.Same.{formula_discrete}
 use Rattle.tl_syntax.specs.Trees.{FormulaTree, verum, falsum}
 use Rattle.tl_syntax.proofs.Plain.{both}
-use Rattle.tl_terms.specs.Simplification.{same_formula, is_yes, is_verum, is_falsum, without_repeats, conjunction_of, disjunction_of, simplified_and, simplified_or}
+use Rattle.tl_terms.specs.Simplification.{same_formula, is_yes, is_verum, is_falsum, without_repeats, conjunction_of, disjunction_of, and_parts, or_parts, simplified_and, simplified_or}
 use Rattle.tl_terms.proofs.Simplification.{same_formula-is}
 use Rattle.tl_nodes.specs.Fits.{all_below, fits}
 use Rattle.tl_nodes.specs.Joins.{parts_of, joined, dropped, decides, join_node}
 use Rattle.tl_nodes.specs.NodeTrees.{tree_at, trees_at, tree_of_node}
 use Rattle.tl_nodes.specs.Numbering.{OneToOne}
+use Rattle.tl_nodes.proofs.FirstOfEqual.{same-of, same-any, same-filtered}
 use Rattle.tl_nodes.proofs.KeptOnce.{same-bool, dedup, kept-once, below-filter, below-dedup, filter-map, any-map, distinct-map}
 use Rattle.tl_nodes.proofs.NestedJoins.{join-fits}
 use Rattle.tl_nodes.proofs.TreesOfNodes.{at-is, at-there}
-
-same-of : (f g : FormulaTree) → f ≡ g → same_formula f g ≡ true
-unfolding same_formula
-same-of f g e = by (formula_discrete f g)
-  where
-    by : (d : Dec (f ≡ g)) → is_yes d ≡ true
-    by (yes a) = refl
-    by (no h) = absurd (h e)
 
 verum-is : (t : FormulaTree) → is_verum t ≡ true → t ≡ verum
 verum-is verum h = refl
@@ -52,15 +45,25 @@ abbrev pub list_join : Bool → List FormulaTree → FormulaTree
 list_join true fs = conjunction_of fs
 list_join false fs = disjunction_of fs
 
-joined-zero : (all : Bool) (fs ps : List FormulaTree) → flat_map (parts_of all) fs ≡ ps → list_any (is_zero all) ps ≡ true → joined all fs ≡ zero_tree all
+joined-zero : (all : Bool) (fs ps : List FormulaTree) → without_repeats ps ≡ without_repeats (flat_map (parts_of all) fs) → list_any (is_zero all) ps ≡ true → joined all fs ≡ zero_tree all
 unfolding joined parts_of simplified_and simplified_or
-joined-zero true fs ps e h = ap (λ xs. cond (list_any is_falsum xs) falsum (conjunction_of (without_repeats (filter (λ f. not (is_verum f)) xs)))) e ∙ ap (λ b. cond b falsum (conjunction_of (without_repeats (filter (λ f. not (is_verum f)) ps)))) h
-joined-zero false fs ps e h = ap (λ xs. cond (list_any is_verum xs) verum (disjunction_of (without_repeats (filter (λ f. not (is_falsum f)) xs)))) e ∙ ap (λ b. cond b verum (disjunction_of (without_repeats (filter (λ f. not (is_falsum f)) ps)))) h
+joined-zero true fs ps e h =
+    let xs = flat_map and_parts fs in
+    ap (λ b. cond b falsum (conjunction_of (without_repeats (filter (λ f. not (is_verum f)) xs)))) (sym (same-any ps xs e is_falsum) ∙ h)
+joined-zero false fs ps e h =
+    let xs = flat_map or_parts fs in
+    ap (λ b. cond b verum (disjunction_of (without_repeats (filter (λ f. not (is_falsum f)) xs)))) (sym (same-any ps xs e is_verum) ∙ h)
 
-joined-rest : (all : Bool) (fs ps : List FormulaTree) → flat_map (parts_of all) fs ≡ ps → list_any (is_zero all) ps ≡ false → joined all fs ≡ list_join all (without_repeats (filter (λ f. not (is_unit all f)) ps))
+joined-rest : (all : Bool) (fs ps : List FormulaTree) → without_repeats ps ≡ without_repeats (flat_map (parts_of all) fs) → list_any (is_zero all) ps ≡ false → joined all fs ≡ list_join all (without_repeats (filter (λ f. not (is_unit all f)) ps))
 unfolding joined parts_of simplified_and simplified_or
-joined-rest true fs ps e h = ap (λ xs. cond (list_any is_falsum xs) falsum (conjunction_of (without_repeats (filter (λ f. not (is_verum f)) xs)))) e ∙ ap (λ b. cond b falsum (conjunction_of (without_repeats (filter (λ f. not (is_verum f)) ps)))) h
-joined-rest false fs ps e h = ap (λ xs. cond (list_any is_verum xs) verum (disjunction_of (without_repeats (filter (λ f. not (is_falsum f)) xs)))) e ∙ ap (λ b. cond b verum (disjunction_of (without_repeats (filter (λ f. not (is_falsum f)) ps)))) h
+joined-rest true fs ps e h =
+    let xs = flat_map and_parts fs in
+    ap (λ b. cond b falsum (conjunction_of (without_repeats (filter (λ f. not (is_verum f)) xs)))) (sym (same-any ps xs e is_falsum) ∙ h)
+    ∙ ap conjunction_of (sym (same-filtered ps xs e (λ f. not (is_verum f))))
+joined-rest false fs ps e h =
+    let xs = flat_map or_parts fs in
+    ap (λ b. cond b verum (disjunction_of (without_repeats (filter (λ f. not (is_falsum f)) xs)))) (sym (same-any ps xs e is_verum) ∙ h)
+    ∙ ap disjunction_of (sym (same-filtered ps xs e (λ f. not (is_falsum f))))
 
 empty : (ks : List ℕ) → length ks ≡ 0 → ks ≡ []
 empty [] h = refl
@@ -108,12 +111,12 @@ module _ (ts : List FormulaTree) (one : OneToOne ts) (z : slice_get ts 0 ≡ Som
   unit-there true = z
   unit-there false = f
 
-  pub decided : (all : Bool) (xs : List ℕ) (fs : List FormulaTree) → all_below (length ts) xs ≡ true → trees_at ts xs ≡ flat_map (parts_of all) fs
+  pub decided : (all : Bool) (xs : List ℕ) (fs : List FormulaTree) → all_below (length ts) xs ≡ true → without_repeats (trees_at ts xs) ≡ without_repeats (flat_map (parts_of all) fs)
       → list_any (λ y. nat_eq y (decides all)) xs ≡ true → slice_get ts (decides all) ≡ Some (joined all fs)
   decided all xs fs below e h =
-      zero-there all ∙ ap Some (sym (joined-zero all fs (trees_at ts xs) (sym e) (any-map (tree_at ts) (length ts) (is_zero all) (λ y. nat_eq y (decides all)) (zero-at all) xs below ∙ h)))
+      zero-there all ∙ ap Some (sym (joined-zero all fs (trees_at ts xs) e (any-map (tree_at ts) (length ts) (is_zero all) (λ y. nat_eq y (decides all)) (zero-at all) xs below ∙ h)))
 
-  module _ (all : Bool) (xs : List ℕ) (fs : List FormulaTree) (below : all_below (length ts) xs ≡ true) (e : trees_at ts xs ≡ flat_map (parts_of all) fs)
+  module _ (all : Bool) (xs : List ℕ) (fs : List FormulaTree) (below : all_below (length ts) xs ≡ true) (e : without_repeats (trees_at ts xs) ≡ without_repeats (flat_map (parts_of all) fs))
       (h : list_any (λ y. nat_eq y (decides all)) xs ≡ false) (ks : List ℕ) (k : ks ≡ insert_all nat_eq [] (filter (λ i. not (nat_eq i (dropped all))) xs)) where
     rest : List ℕ
     rest = filter (λ i. not (nat_eq i (dropped all))) xs
@@ -132,7 +135,7 @@ module _ (ts : List FormulaTree) (one : OneToOne ts) (z : slice_get ts 0 ≡ Som
     pub left-joined : joined all fs ≡ list_join all (trees_at ts ks)
     unfolding rest
     left-joined =
-        joined-rest all fs (trees_at ts xs) (sym e) (any-map (tree_at ts) (length ts) (is_zero all) (λ y. nat_eq y (decides all)) (zero-at all) xs below ∙ h)
+        joined-rest all fs (trees_at ts xs) e (any-map (tree_at ts) (length ts) (is_zero all) (λ y. nat_eq y (decides all)) (zero-at all) xs below ∙ h)
         ∙ ap (list_join all)
         (ap without_repeats (filter-map (tree_at ts) (length ts) (λ g. not (is_unit all g)) (λ i. not (nat_eq i (dropped all))) (λ i a. ap not (unit-at all i a)) xs below)
         ∙ (distinct-map (tree_at ts) (length ts) same-at rest rest-below ∙ ap (map (tree_at ts)) (sym kept-is)))

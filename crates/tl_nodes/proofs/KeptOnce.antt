@@ -25,7 +25,7 @@ filter-push : {A : Type 0} (p : A → Bool) (a : Bool) (x : A) (xs : List A) →
 filter-push p true x xs = refl
 filter-push p false x xs = refl
 
-filter-twice : {A : Type 0} (p q r : A → Bool) → ((x : A) → r x ≡ (q x && p x)) → (xs : List A) → filter p (filter q xs) ≡ filter r xs
+pub filter-twice : {A : Type 0} (p q r : A → Bool) → ((x : A) → r x ≡ (q x && p x)) → (xs : List A) → filter p (filter q xs) ≡ filter r xs
 filter-twice p q r h [] = refl
 filter-twice p q r h (x ∷ xs) =
     filter-push p (q x) x (filter q xs)

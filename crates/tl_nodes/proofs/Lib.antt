@@ -8,6 +8,9 @@ pub mod TemporalFlags
 pub mod Insertion
 pub mod NestedJoins
 pub mod KeptOnce
+pub mod FirstOfEqual
+pub mod OpenedJoins
+pub mod JoinWalk
 pub mod JoinedNumbers
 pub mod KeptNumbers
 pub mod FormulaLayers

@@ -74,10 +74,8 @@ module _ (ts : List FormulaTree) (id : ℕ) (n : Node) (is_it : slice_get ts id 
       let k : breadth (tree_at ts id) ≡ sum_by (λ i. breadth (tree_at ts i)) ids + 1 = ap breadth shown ∙ breadth-join all (tree_at ts) ids in
       omega arith
 
-  pub nested-below : fits id n ≡ true → all_below (length ts) ids ≡ true
-  nested-below w =
-      let inside : id < length ts = slice_get_within ts id (tree_of_node ts n) is_it in
-      sym (join-fits (length ts) all ids) ∙ fits-more id (length ts) (omega arith) (join_node all ids) (subst (λ x. fits id x ≡ true) e w)
+  pub nested-below : fits id n ≡ true → all_below id ids ≡ true
+  nested-below w = sym (join-fits id all ids) ∙ subst (λ x. fits id x ≡ true) e w
 
 basic-and : (t : FormulaTree) → is_basic t ≡ true → and_parts t ≡ t ∷ []
 unfolding and_parts

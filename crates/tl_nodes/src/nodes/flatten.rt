@@ -1,22 +1,24 @@
 // The parts of joins, opened at any depth.
-ghost use Rattle.std.specs.Prelude.{◌≡◌, ◌<◌, ◌∷◌, [], true, length, reverse, IfOk, IfSome, MatchOption};
+ghost use Rattle.std.specs.Prelude.{◌≡◌, ◌<◌, ◌∷◌, ◌++◌, [], true, length, reverse, IfOk, IfSome, MatchOption, OnOk};
 ghost use Rattle.std.specs.List.{flat_map, sum_by};
 ghost use Rattle.tl_nodes.specs.Fits.{all_below};
 ghost use Rattle.tl_nodes.specs.Joins.{parts_of, breadth};
 ghost use Rattle.tl_nodes.specs.NodeTrees.{tree_at, trees_at};
 ghost use Rattle.tl_nodes.specs.Numbers.{trees};
+ghost use Rattle.tl_terms.specs.Simplification.{without_repeats};
 
 use super::Nodes;
 use crate::Node;
-use std::alloc::AllocError;
-use tl_syntax::Ids;
+use indexmap::IndexSet;
+use std::alloc::{AllocError, Global};
+use tl_syntax::{Ids, NoMemory};
 
 impl Nodes {
     // The parts of a number that is itself a join of the same word.
     fn nested(&self, id: usize, all: bool) -> Option<&Ids>
         requires { id < length (trees self.now) }
         ensures parts { MatchOption result (parts_of all (tree_at (trees self.now) id) ≡ tree_at (trees self.now) id ∷ []) (λ ids. parts_of all (tree_at (trees self.now) id) ≡ flat_map (parts_of all) (trees_at (trees self.now) ids.now)) }
-        ensures below { IfSome result (λ ids. all_below (length (trees self.now)) ids.now ≡ true) }
+        ensures below { IfSome result (λ ids. all_below id ids.now ≡ true) }
         ensures smaller { IfSome result (λ ids. sum_by (λ i. breadth (tree_at (trees self.now) i)) ids.now < breadth (tree_at (trees self.now) id)) }
     {
         match self.get(id) {
@@ -26,31 +28,37 @@ impl Nodes {
         }
     }
 
-    // The parts, with each join of the same word replaced by its parts, at any depth.
-    pub(crate) fn flatten(&self, parts: &[usize], all: bool) -> Result<Vec<usize>, AllocError>
+    // The numbers that the parts open to, from the first part on, with each join of the same word replaced by its parts, at any depth.
+    // Each join is opened once: what it opens to is there when it comes again, and of equal parts the first stays.
+    pub(crate) fn flatten(&self, parts: &[usize], all: bool) -> Result<Vec<usize>, NoMemory>
         requires { all_below (length (trees self.now)) parts.now ≡ true }
         ensures below { IfOk result (λ v. all_below (length (trees self.now)) v.items ≡ true) }
-        ensures flat { IfOk result (λ v. trees_at (trees self.now) v.items ≡ flat_map (parts_of all) (trees_at (trees self.now) parts.now)) }
+        ensures flat { IfOk result (λ v. without_repeats (trees_at (trees self.now) v.items) ≡ without_repeats (flat_map (parts_of all) (trees_at (trees self.now) parts.now))) }
     {
-        let mut todo = Vec::from_slice(self.alloc, parts)?;
+        let mut todo = Vec::new(self.alloc);
+        push_turned(self.alloc, &mut todo, parts)?;
+        let mut opened = IndexSet::new(self.alloc);
         let mut flat = Vec::new(self.alloc);
         while let Some(id) = todo.pop() {
             match self.nested(id, all) {
                 Some(ids) => {
-                    todo.extend_from_slice(ids.as_slice())?;
+                    if opened.insert(id)? {
+                        push_turned(self.alloc, &mut todo, ids.as_slice())?;
+                    }
                 }
                 None => {
                     flat.push(id)?;
                 }
             }
         }
-        Ok(turned(flat))
+        Ok(flat)
     }
 }
 
-fn turned(mut ids: Vec<usize>) -> Vec<usize>
-    ensures { result.items ≡ reverse ids.items }
+// Puts the numbers on a stack, the first one on the top.
+fn push_turned(alloc: Global, stack: &mut Vec<usize>, ids: &[usize]) -> Result<(), AllocError>
+    ensures { OnOk result (stack.new.items ≡ stack.old.items ++ reverse ids.now) }
 {
-    ids.as_mut_slice().reverse();
-    ids
+    let turned: Vec<usize> = ids.iter().rev().copied().collect(alloc)?;
+    stack.extend_from_slice(turned.as_slice())
 }
