@@ -60,10 +60,10 @@ skip-one (f ∷ fs) gs x h = by (same_formula x f) refl h (λ k. skip-one fs gs 
     by true e k rest = ap (λ l. f ∷ l) (ap (λ y. filter (differs f) (without_repeats (fs ++ y ∷ gs))) (same_formula-is x f e) ∙ drop-again f fs gs)
     by false e k rest = ap (λ l. f ∷ filter (differs f) l) (rest k)
 
-or-left : (a b : Bool) → a ≡ true → (a || b) ≡ true
+pub or-left : (a b : Bool) → a ≡ true → (a || b) ≡ true
 or-left a b h = subst (λ c. (c || b) ≡ true) (sym h) refl
 
-or-right : (a b : Bool) → b ≡ true → (a || b) ≡ true
+pub or-right : (a b : Bool) → b ≡ true → (a || b) ≡ true
 or-right true b h = refl
 or-right false b h = h
 

@@ -42,7 +42,7 @@ module _ (ts : List FormulaTree) (all : Bool) (parts : List ℕ) where
   pub begun-walk : (empty todo opened flat : List ℕ) → all_below (length ts) parts ≡ true → empty ≡ [] → todo ≡ empty ++ reverse parts → opened ≡ [] → flat ≡ [] → Walk ts all parts todo opened flat
   begun-walk empty todo opened flat h e t o f =
       subst (λ x. Walk ts all parts x opened flat) (sym (t ∙ ap (λ x. x ++ reverse parts) e))
-          (subst (λ x. Walk ts all parts (reverse parts) x flat) (sym o) (subst (λ x. Walk ts all parts (reverse parts) [] x) (sym f) (begin h)))
+      (subst (λ x. Walk ts all parts (reverse parts) x flat) (sym o) (subst (λ x. Walk ts all parts (reverse parts) [] x) (sym f) (begin h)))
 
   module _ (old xs : List ℕ) (j : ℕ) (e : old ≡ xs ++ j ∷ []) (opened flat : List ℕ) (w : Walk ts all parts old opened flat) where
     left-below : all_below (length ts) xs ≡ true

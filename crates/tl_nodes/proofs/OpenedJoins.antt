@@ -13,8 +13,7 @@ use Rattle.tl_terms.specs.Simplification.{without_repeats}
 use Rattle.tl_nodes.specs.Fits.{all_below}
 use Rattle.tl_nodes.specs.Joins.{parts_of}
 use Rattle.tl_nodes.specs.NodeTrees.{tree_at, trees_at}
-use Rattle.tl_nodes.proofs.FirstOfEqual.{contains_tree, skip-all}
-use Rattle.tl_nodes.proofs.NestedJoins.{less-without}
+use Rattle.tl_nodes.proofs.FirstOfEqual.{contains_tree, or-left, or-right, skip-all}
 use Rattle.tl_nodes.proofs.TreesOfNodes.{inside-true}
 
 -- the numbers of a stack, from the top on, that are below s
@@ -35,13 +34,6 @@ either false b h = inr h
 
 in-either : (xs ys : List FormulaTree) (x : FormulaTree) → contains_tree (xs ++ ys) x ≡ true → (contains_tree xs x ≡ true) ⊎ (contains_tree ys x ≡ true)
 in-either xs ys x h = either (contains_tree xs x) (contains_tree ys x) (sym (list_any-append _ xs ys) ∙ h)
-
-or-left : (a b : Bool) → a ≡ true → (a || b) ≡ true
-or-left a b h = subst (λ c. (c || b) ≡ true) (sym h) refl
-
-or-right : (a b : Bool) → b ≡ true → (a || b) ≡ true
-or-right true b h = refl
-or-right false b h = h
 
 in-left : (xs ys : List FormulaTree) (x : FormulaTree) → contains_tree xs x ≡ true → contains_tree (xs ++ ys) x ≡ true
 in-left xs ys x h = list_any-append _ xs ys ∙ or-left (contains_tree xs x) (contains_tree ys x) h
@@ -113,8 +105,8 @@ module _ (ts : List FormulaTree) (all : Bool) where
       let new = trees_at ts (flat ++ j ∷ []) in
       let e : new ≡ old ++ parts_of all (tree_at ts j) = map-append (tree_at ts) flat (j ∷ []) ∙ ap (λ l. old ++ l) (sym single) in
       step s j is is old new (λ x a. subst (λ l. contains_tree l x ≡ true) (sym e) (in-left old (parts_of all (tree_at ts j)) x a))
-          (λ _ x a. in-left new (leaves (before s is)) x (subst (λ l. contains_tree l x ≡ true) (sym e) (in-right old (parts_of all (tree_at ts j)) x a)))
-          (λ _ x a. in-right new (leaves (before s is)) x a) (was s h)
+      (λ _ x a. in-left new (leaves (before s is)) x (subst (λ l. contains_tree l x ≡ true) (sym e) (in-right old (parts_of all (tree_at ts j)) x a)))
+      (λ _ x a. in-right new (leaves (before s is)) x a) (was s h)
 
   pub part-same : (is : List ℕ) (j : ℕ) (flat : List ℕ) → parts_of all (tree_at ts j) ≡ tree_at ts j ∷ [] → trees_at ts flat ++ leaves (j ∷ is) ≡ trees_at ts (flat ++ j ∷ []) ++ leaves is
   part-same is j flat single =

@@ -124,3 +124,5 @@ layer ns all i n h =
     let zl : (j : ℕ) → 0 + j ≡ j = λ j. omega arith in
     let k = layer-from ns [] (λ j a g. subst (λ x. fits x a ≡ true) (sym (zl j)) (all j a g)) i n h in
     subst (λ x. slice_get (trees_of_nodes ns) x ≡ Some (tree_of_node (trees_of_nodes ns) n)) (zl i) k
+
+pub ruleset fits_tests = (inside-true)

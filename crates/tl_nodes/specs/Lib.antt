@@ -4,3 +4,4 @@ pub mod Numbering
 pub mod Temporal
 pub mod Joins
 pub mod Numbers
+pub mod Examples

@@ -9,6 +9,8 @@
 
 mod node;
 mod nodes;
+#[cfg(test)]
+mod tests;
 
 pub use node::Node;
 pub use nodes::Nodes;

@@ -1,0 +1,193 @@
+// Small cases of each call, and fifty thousand nested nodes.
+
+use crate::{Node, Nodes};
+use std::alloc::Global;
+use std::test::Fail;
+use tl_syntax::{Formula, Formulas, Ids, NoMemory, Terms};
+
+// `(p)`, where p is this predicate
+fn fact(alloc: Global, pred: u32) -> Formula {
+    Formula::Atom(pred, Terms::new(alloc))
+}
+
+// `(not (within 3 (p)))`
+fn not_within(alloc: Global) -> Result<Formula, NoMemory> {
+    let within = Formula::Within(3, Box::new(alloc, fact(alloc, 0))?);
+    Ok(Formula::Not(Box::new(alloc, within)?))
+}
+
+// The join, where its condition holds.
+#[tactic(auto, using(crate::proofs::TreesOfNodes::fits_tests))]
+fn join(nodes: &mut Nodes, parts: &[usize], all: bool) -> Result<usize, NoMemory> {
+    let len = nodes.len();
+    if !parts.iter().all(|id| *id < len) {
+        return Err(NoMemory);
+    }
+    if all {
+        nodes.and(parts)
+    } else {
+        nodes.or(parts)
+    }
+}
+
+// The negation, where its condition holds.
+fn negated(nodes: &mut Nodes, part: usize) -> Result<usize, NoMemory> {
+    if part < nodes.len() {
+        nodes.not(part)
+    } else {
+        Err(NoMemory)
+    }
+}
+
+// The number of `(always PART)`.
+#[tactic(auto, using(crate::proofs::TreesOfNodes::fits_tests), unfolding(crate::specs::Fits::fits))]
+fn always(nodes: &mut Nodes, part: usize) -> Result<usize, NoMemory> {
+    if part < nodes.len() {
+        nodes.intern(Node::Always(part))
+    } else {
+        Err(NoMemory)
+    }
+}
+
+// The number of `(and FIRST SECOND)`, as it stands.
+#[tactic(auto, using(crate::proofs::TreesOfNodes::fits_tests), unfolding(crate::specs::Fits::fits))]
+fn pair(alloc: Global, nodes: &mut Nodes, first: usize, second: usize) -> Result<usize, NoMemory> {
+    let mut ids = Ids::new(alloc);
+    ids.extend(&[first, second])?;
+    let len = nodes.len();
+    if ids.as_slice().iter().all(|id| *id < len) {
+        nodes.intern(Node::And(ids))
+    } else {
+        Err(NoMemory)
+    }
+}
+
+// The numbers of two formulas, and of what is made of them.
+#[derive(Clone, Copy)]
+struct Numbers {
+    f: usize,
+    g: usize,
+    f_and_g: usize,
+    nothing: usize,
+    not_f: usize,
+}
+
+fn make_numbers(alloc: Global, nodes: &mut Nodes) -> Result<Numbers, NoMemory> {
+    let f = always(nodes, 0)?;
+    let g = always(nodes, 1)?;
+    let f_and_g = pair(alloc, nodes, f, g)?;
+    let nothing = nodes.of_tree(&Formula::And(Formulas::new(alloc)))?;
+    let not_f = negated(nodes, f)?;
+    Ok(Numbers {
+        f,
+        g,
+        f_and_g,
+        nothing,
+        not_f,
+    })
+}
+
+fn joins_simplify(nodes: &mut Nodes, n: Numbers) -> Result<bool, NoMemory> {
+    for (all, parts, wanted) in [
+        (true, [].as_slice(), 0),
+        (false, [].as_slice(), 1),
+        (true, [n.f_and_g, 0, n.f].as_slice(), n.f_and_g),
+        (true, [n.f, n.g, n.f].as_slice(), n.f_and_g),
+        (true, [n.f, 1, n.g].as_slice(), 1),
+        (true, [n.nothing, n.f].as_slice(), n.f),
+        (false, [n.f, 0].as_slice(), 0),
+        (false, [1, n.g, n.g].as_slice(), n.g),
+    ] {
+        if join(nodes, parts, all)? != wanted {
+            return Ok(false);
+        }
+    }
+    Ok(true)
+}
+
+fn negations_simplify(nodes: &mut Nodes, n: Numbers) -> Result<bool, NoMemory> {
+    for (part, wanted) in [(0, 1), (1, 0), (n.f, n.not_f), (n.not_f, n.f)] {
+        if negated(nodes, part)? != wanted {
+            return Ok(false);
+        }
+    }
+    Ok(true)
+}
+
+#[test]
+fn joins_and_negations_simplify(rt: HostRuntime) -> Result<(), Fail> {
+    let mut nodes = Nodes::new(rt.alloc())?;
+    let n = make_numbers(rt.alloc(), &mut nodes)?;
+    assert!(rt; n.nothing != 0);
+    assert!(rt; joins_simplify(&mut nodes, n)?);
+    assert!(rt; negations_simplify(&mut nodes, n)?);
+    Ok(())
+}
+
+fn is_temporal(nodes: &Nodes, id: usize) -> bool {
+    id < nodes.len() && nodes.temporal(id)
+}
+
+fn is_always(nodes: &Nodes, id: usize, part: usize) -> bool {
+    id < nodes.len() && *nodes.get(id) == Node::Always(part)
+}
+
+#[test]
+fn one_tree_has_one_number(rt: HostRuntime) -> Result<(), Fail> {
+    let mut nodes = Nodes::new(rt.alloc())?;
+    let f = nodes.of_tree(&fact(rt.alloc(), 0))?;
+    let always_f = always(&mut nodes, f)?;
+    let len = nodes.len();
+    assert_eq!(rt; nodes.of_tree(&fact(rt.alloc(), 0))?, f);
+    assert_eq!(rt; always(&mut nodes, f)?, always_f);
+    assert_eq!(rt; nodes.len(), len);
+    assert!(rt; is_always(&nodes, always_f, f));
+    Ok(())
+}
+
+#[test]
+fn temporal_words_are_told(rt: HostRuntime) -> Result<(), Fail> {
+    let mut nodes = Nodes::new(rt.alloc())?;
+    let f = nodes.of_tree(&fact(rt.alloc(), 0))?;
+    let not_within_f = nodes.of_tree(&not_within(rt.alloc())?)?;
+    for (id, temporal) in [(0, false), (f, false), (not_within_f, true)] {
+        assert_eq!(rt; is_temporal(&nodes, id), temporal);
+    }
+    Ok(())
+}
+
+// A chain of conjunctions, each of the one before and one part more; the last part; and a conjunction that has each one before it twice.
+fn nested(alloc: Global, nodes: &mut Nodes, f: usize) -> Result<(usize, usize, usize), NoMemory> {
+    let mut chain = f;
+    let mut part = f;
+    let mut doubled = f;
+    for _ in 0..50_000 {
+        part = always(nodes, part)?;
+        chain = pair(alloc, nodes, chain, part)?;
+        doubled = pair(alloc, nodes, doubled, doubled)?;
+    }
+    Ok((chain, part, doubled))
+}
+
+fn count_of_parts(nodes: &Nodes, id: usize) -> usize {
+    if id >= nodes.len() {
+        return 0;
+    }
+    match nodes.get(id) {
+        Node::And(parts) => parts.len(),
+        _ => 1,
+    }
+}
+
+#[test]
+fn fifty_thousand_nested_nodes_need_no_stack(rt: HostRuntime) -> Result<(), Fail> {
+    let mut nodes = Nodes::new(rt.alloc())?;
+    let f = nodes.of_tree(&fact(rt.alloc(), 0))?;
+    let (chain, part, doubled) = nested(rt.alloc(), &mut nodes, f)?;
+    let not_chain = negated(&mut nodes, chain)?;
+    assert_eq!(rt; negated(&mut nodes, not_chain)?, chain);
+    assert_eq!(rt; join(&mut nodes, [doubled, f].as_slice(), true)?, f);
+    let flat = join(&mut nodes, [chain, part].as_slice(), true)?;
+    assert_eq!(rt; count_of_parts(&nodes, flat), 50_001);
+    Ok(())
+}
