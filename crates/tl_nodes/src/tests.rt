@@ -114,13 +114,17 @@ fn negations_simplify(nodes: &mut Nodes, n: Numbers) -> Result<bool, NoMemory> {
     Ok(true)
 }
 
+fn parts_simplify(alloc: Global, nodes: &mut Nodes) -> Result<bool, NoMemory> {
+    let n = make_numbers(alloc, nodes)?;
+    let joins = joins_simplify(nodes, n)?;
+    let negations = negations_simplify(nodes, n)?;
+    Ok(joins && negations && n.nothing != 0)
+}
+
 #[test]
 fn joins_and_negations_simplify(rt: HostRuntime) -> Result<(), Fail> {
     let mut nodes = Nodes::new(rt.alloc())?;
-    let n = make_numbers(rt.alloc(), &mut nodes)?;
-    assert!(rt; n.nothing != 0);
-    assert!(rt; joins_simplify(&mut nodes, n)?);
-    assert!(rt; negations_simplify(&mut nodes, n)?);
+    assert!(rt; parts_simplify(rt.alloc(), &mut nodes)?);
     Ok(())
 }
 
@@ -132,27 +136,27 @@ fn is_always(nodes: &Nodes, id: usize, part: usize) -> bool {
     id < nodes.len() && *nodes.get(id) == Node::Always(part)
 }
 
-#[test]
-fn one_tree_has_one_number(rt: HostRuntime) -> Result<(), Fail> {
-    let mut nodes = Nodes::new(rt.alloc())?;
-    let f = nodes.of_tree(&fact(rt.alloc(), 0))?;
-    let always_f = always(&mut nodes, f)?;
+fn known_trees_keep_their_numbers(alloc: Global, nodes: &mut Nodes) -> Result<bool, NoMemory> {
+    let f = nodes.of_tree(&fact(alloc, 0))?;
+    let always_f = always(nodes, f)?;
     let len = nodes.len();
-    assert_eq!(rt; nodes.of_tree(&fact(rt.alloc(), 0))?, f);
-    assert_eq!(rt; always(&mut nodes, f)?, always_f);
-    assert_eq!(rt; nodes.len(), len);
-    assert!(rt; is_always(&nodes, always_f, f));
-    Ok(())
+    let f_again = nodes.of_tree(&fact(alloc, 0))?;
+    let always_f_again = always(nodes, f)?;
+    let same = f_again == f && always_f_again == always_f && nodes.len() == len;
+    Ok(same && is_always(nodes, always_f, f))
+}
+
+fn temporal_words_are_told(alloc: Global, nodes: &mut Nodes) -> Result<bool, NoMemory> {
+    let f = nodes.of_tree(&fact(alloc, 0))?;
+    let not_within_f = nodes.of_tree(&not_within(alloc)?)?;
+    Ok(!is_temporal(nodes, 0) && !is_temporal(nodes, f) && is_temporal(nodes, not_within_f))
 }
 
 #[test]
-fn temporal_words_are_told(rt: HostRuntime) -> Result<(), Fail> {
+fn one_tree_has_one_number(rt: HostRuntime) -> Result<(), Fail> {
     let mut nodes = Nodes::new(rt.alloc())?;
-    let f = nodes.of_tree(&fact(rt.alloc(), 0))?;
-    let not_within_f = nodes.of_tree(&not_within(rt.alloc())?)?;
-    for (id, temporal) in [(0, false), (f, false), (not_within_f, true)] {
-        assert_eq!(rt; is_temporal(&nodes, id), temporal);
-    }
+    assert!(rt; known_trees_keep_their_numbers(rt.alloc(), &mut nodes)?);
+    assert!(rt; temporal_words_are_told(rt.alloc(), &mut nodes)?);
     Ok(())
 }
 
@@ -179,15 +183,24 @@ fn count_of_parts(nodes: &Nodes, id: usize) -> usize {
     }
 }
 
+// How many parts the deep conjunctions have, joined; 0 where a deep join or negation is not the one that is wanted.
+fn parts_of_deep_nodes(alloc: Global, nodes: &mut Nodes) -> Result<usize, NoMemory> {
+    let f = nodes.of_tree(&fact(alloc, 0))?;
+    let (chain, part, doubled) = nested(alloc, nodes, f)?;
+    let not_chain = negated(nodes, chain)?;
+    let chain_again = negated(nodes, not_chain)?;
+    let once = join(nodes, [doubled, f].as_slice(), true)?;
+    let flat = join(nodes, [chain, part].as_slice(), true)?;
+    if chain_again == chain && once == f {
+        Ok(count_of_parts(nodes, flat))
+    } else {
+        Ok(0)
+    }
+}
+
 #[test]
 fn fifty_thousand_nested_nodes_need_no_stack(rt: HostRuntime) -> Result<(), Fail> {
     let mut nodes = Nodes::new(rt.alloc())?;
-    let f = nodes.of_tree(&fact(rt.alloc(), 0))?;
-    let (chain, part, doubled) = nested(rt.alloc(), &mut nodes, f)?;
-    let not_chain = negated(&mut nodes, chain)?;
-    assert_eq!(rt; negated(&mut nodes, not_chain)?, chain);
-    assert_eq!(rt; join(&mut nodes, [doubled, f].as_slice(), true)?, f);
-    let flat = join(&mut nodes, [chain, part].as_slice(), true)?;
-    assert_eq!(rt; count_of_parts(&nodes, flat), 50_001);
+    assert_eq!(rt; parts_of_deep_nodes(rt.alloc(), &mut nodes)?, 50_001);
     Ok(())
 }
