@@ -1,5 +1,8 @@
 // Small cases of each call, and fifty thousand nested nodes.
 
+ghost use Rattle.std.specs.Prelude.{◌≡◌};
+ghost use Rattle.tl_nodes.specs.Fits.{all_below};
+
 use crate::{Node, Nodes};
 use std::alloc::Global;
 use std::test::Fail;
@@ -16,17 +19,22 @@ fn not_within(alloc: Global) -> Result<Formula, NoMemory> {
     Ok(Formula::Not(Box::new(alloc, within)?))
 }
 
+fn are_below(len: usize, ids: &[usize]) -> bool
+    ensures { result ≡ all_below len ids.now }
+{
+    ids.iter().all(|id| *id < len)
+}
+
 // The join, where its condition holds.
-#[tactic(auto, using(crate::proofs::TreesOfNodes::fits_tests))]
 fn join(nodes: &mut Nodes, parts: &[usize], all: bool) -> Result<usize, NoMemory> {
-    let len = nodes.len();
-    if !parts.iter().all(|id| *id < len) {
-        return Err(NoMemory);
-    }
-    if all {
-        nodes.and(parts)
+    if are_below(nodes.len(), parts) {
+        if all {
+            nodes.and(parts)
+        } else {
+            nodes.or(parts)
+        }
     } else {
-        nodes.or(parts)
+        Err(NoMemory)
     }
 }
 
@@ -54,8 +62,7 @@ fn always(nodes: &mut Nodes, part: usize) -> Result<usize, NoMemory> {
 fn pair(alloc: Global, nodes: &mut Nodes, first: usize, second: usize) -> Result<usize, NoMemory> {
     let mut ids = Ids::new(alloc);
     ids.extend(&[first, second])?;
-    let len = nodes.len();
-    if ids.as_slice().iter().all(|id| *id < len) {
+    if are_below(nodes.len(), ids.as_slice()) {
         nodes.intern(Node::And(ids))
     } else {
         Err(NoMemory)
