@@ -1,0 +1,9 @@
+pub mod Sizes
+pub mod TermLaws
+pub mod FrameLaws
+pub mod ArityLaws
+pub mod TupleChain
+pub mod PartLaws
+pub mod PartLists
+pub mod PatternLaws
+pub mod TupleSearch

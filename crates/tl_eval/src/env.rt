@@ -1,0 +1,62 @@
+// Values of variables, scope by scope.
+ghost use Rattle.std.specs.Prelude.{◌≡◌, ◌<◌, ◌==◌, ℕ, cond, length, IfOk, Some, None, slice_set};
+ghost use Rattle.tl_eval.specs.Frames.{assignment_in};
+
+use std::alloc::Global;
+use std::marker::Model;
+use tl_syntax::{NoMemory, Value};
+
+/// How many variables a frame has.
+pub(crate) const SLOTS: usize = 32;
+
+/// How many frames there are: one of the caller, and one for each level of a definition.
+pub(crate) const FRAMES: usize = 129;
+
+/// Frames of variable values. A frame holds the variables of one scope, by their slots; the body of a definition has a frame of its own.
+/// Contracts see the caller's frame: for each of its 32 slots the value, where it has one.
+#[derive(Drop)]
+pub struct Env {
+    values: Vec<Option<Value>>,
+}
+
+impl Model for Env {
+    ghost use Rattle.std.specs.Prelude.{◌≡◌, List, Option, length, take};
+    ghost use Rattle.std.specs.Coded.{coded_list, coded_option};
+    ghost use Rattle.tl_syntax.specs.declared.value.Value.{Value as OneValue};
+    ghost use Rattle.tl_world.specs.View.{coded_value};
+
+    ghost Value = { List (Option OneValue) };
+
+    ghost coded = { coded_list (coded_option coded_value) };
+
+    ghost view = { λ env. take 32 env.values.items };
+
+    ghost invariant = { λ env. length env.values.items ≡ 4128 };
+}
+
+impl Env {
+    /// All frames, with no value in any slot. They are reserved once, and no evaluation takes memory.
+    pub fn new(alloc: Global) -> Result<Env, NoMemory>
+        ensures slots { IfOk result (λ env. length env ≡ 32) }
+        ensures empty { IfOk result (λ env. (q : ℕ) → assignment_in env q ≡ None) }
+    {
+        let values = vec![in alloc; None; FRAMES * SLOTS]?;
+        Ok(Env { values })
+    }
+
+    /// Gives a slot of the caller's frame a value. It takes no memory.
+    pub fn put(&mut self, slot: u32, value: Value)
+        requires { slot < 32 }
+        ensures value { self.new ≡ slice_set self.old slot (Some value) }
+        ensures others { (q : ℕ) → assignment_in self.new q ≡ cond (q == slot) (Some value) (assignment_in self.old q) }
+    {
+        self.values[slot as usize] = Some(value);
+    }
+
+    /// The caller's frame. It takes no memory.
+    pub(crate) fn frame(&self) -> &[Option<Value>]
+        ensures { result.now ≡ self.now }
+    {
+        &self.values[..SLOTS]
+    }
+}

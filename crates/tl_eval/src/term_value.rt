@@ -1,0 +1,103 @@
+// The values of terms.
+ghost use Rattle.std.specs.Prelude.{◌≡◌, ◌≤◌, IfOk, IfErr};
+ghost use Rattle.tl_eval.specs.Frames.{assignment_in};
+ghost use Rattle.tl_eval.specs.Notes.{Evaluates, integer_found, AreInRange, Tells};
+ghost use Rattle.tl_eval.specs.Small.{HasFewArguments, HaveFewArguments};
+ghost use Rattle.tl_syntax.specs.Fits.{TermFits, term_count};
+ghost use Rattle.tl_syntax.specs.Signature.{signature_of};
+ghost use Rattle.tl_syntax.specs.TreeOfTerm.{tree_of_term, tree_of_terms};
+ghost use Rattle.tl_terms.specs.Looked.{looked_in_term, looked_in_terms};
+ghost use Rattle.tl_terms.specs.Terms.{term_value, term_values};
+
+use crate::range::operate;
+use crate::row::Row;
+use crate::{Env, RangeNote};
+use tl_syntax::{Term, Terms, Value};
+use tl_world::{Task, World};
+
+/// The value of a slot, where it has one. It takes no memory.
+pub(crate) fn value_in(frame: &[Option<Value>], slot: u32) -> Option<Value>
+    ensures { result ≡ assignment_in frame.now slot }
+{
+    match frame.get(slot as usize) {
+        Some(value) => *value,
+        None => None,
+    }
+}
+
+/// The integer that was found, where there is one. It takes no memory.
+fn integer_of(found: Result<Option<Value>, RangeNote>) -> Result<Option<i64>, RangeNote>
+    ensures { result ≡ integer_found found }
+{
+    match found {
+        Ok(Some(Value::Int(integer))) => Ok(Some(integer)),
+        Ok(Some(Value::Sym(_))) => Ok(None),
+        Ok(None) => Ok(None),
+        Err(note) => Err(note),
+    }
+}
+
+/// The value of a term under a frame, where it is defined. It takes no memory.
+#[cycle(value_of_term)]
+pub(crate) fn value_of_term(
+    w: &World,
+    frame: &[Option<Value>],
+    t: &Term,
+) -> Result<Option<Value>, RangeNote>
+    requires { HasFewArguments (tree_of_term t.now) }
+    ensures { Evaluates (term_value w.now (assignment_in frame.now) (tree_of_term t.now)) (looked_in_term w.now (assignment_in frame.now) (tree_of_term t.now)) result }
+{
+    match t {
+        Term::Var(var) => Ok(value_in(frame, var.slot)),
+        Term::Val(value) => Ok(Some(*value)),
+        Term::Place(fun, args) => match values_of_terms(w, frame, args) {
+            Ok(Some(row)) => Ok(w.value(*fun, row.as_slice())),
+            Ok(None) => Ok(None),
+            Err(note) => Err(note),
+        },
+        Term::Arith(op, left, right, at) => match integer_of(value_of_term(w, frame, left)) {
+            Ok(Some(a)) => match integer_of(value_of_term(w, frame, right)) {
+                Ok(Some(b)) => operate(*at, *op, a, b),
+                Ok(None) => Ok(None),
+                Err(note) => Err(note),
+            },
+            Ok(None) => Ok(None),
+            Err(note) => Err(note),
+        },
+    }
+}
+
+/// The values of terms under a frame, where all are defined. It takes no memory.
+#[cycle(value_of_term)]
+pub(crate) fn values_of_terms(
+    w: &World,
+    frame: &[Option<Value>],
+    ts: &Terms,
+) -> Result<Option<Row>, RangeNote>
+    requires small { HaveFewArguments (tree_of_terms ts.now) }
+    requires few { term_count (tree_of_terms ts.now) ≤ 8 }
+    ensures { Evaluates (term_values w.now (assignment_in frame.now) (tree_of_terms ts.now)) (looked_in_terms w.now (assignment_in frame.now) (tree_of_terms ts.now)) result }
+{
+    let mut row = Row::new();
+    for term in ts.as_slice().iter() {
+        match value_of_term(w, frame, term) {
+            Ok(Some(value)) => row.push(value),
+            Ok(None) => return Ok(None),
+            Err(note) => return Err(note),
+        }
+    }
+    Ok(Some(row))
+}
+
+/// The value of a term in a world, under the frame's values, where it is defined; or a note of an operation that is looked at and past range.
+/// It takes no memory.
+pub fn term(task: &Task, w: &World, env: &mut Env, t: &Term) -> Result<Option<Value>, RangeNote>
+    requires fits { TermFits (signature_of task.now.problem.domain) (tree_of_term t.now) }
+    ensures value { IfOk result (λ v. v ≡ term_value w.now (assignment_in env.old) (tree_of_term t.now)) }
+    ensures in_range { IfOk result (λ v. AreInRange (looked_in_term w.now (assignment_in env.old) (tree_of_term t.now))) }
+    ensures note { IfErr result (λ n. Tells (looked_in_term w.now (assignment_in env.old) (tree_of_term t.now)) n) }
+    ensures frame { env.new ≡ env.old }
+{
+    let _ = &task.problem;
+    value_of_term(w, env.frame(), t)
+}

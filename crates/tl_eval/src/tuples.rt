@@ -1,0 +1,74 @@
+// The next tuple of a bound.
+ghost use Rattle.std.specs.Option.{option_map};
+ghost use Rattle.std.specs.Prelude.{◌≡◌, length, IfSome};
+ghost use Rattle.tl_eval.specs.Frames.{assignment_in};
+ghost use Rattle.tl_eval.specs.PatternOf.{world_read};
+ghost use Rattle.tl_syntax.specs.Assignment.{bind};
+ghost use Rattle.tl_syntax.specs.BoundVariables.{DifferInSlot, OccurIn};
+ghost use Rattle.tl_syntax.specs.Fits.{BoundFits};
+ghost use Rattle.tl_syntax.specs.Signature.{signature_of};
+ghost use Rattle.tl_terms.specs.Bounds.{bound_true};
+ghost use Rattle.tl_terms.specs.Definitions.{situation_of};
+ghost use Rattle.tl_terms.specs.ProblemMeaning.{plain_problem};
+ghost use Rattle.tl_world.specs.Next.{IsNext};
+ghost use Rattle.tl_world.specs.Patterns.{tuple_of};
+
+use crate::Env;
+use crate::pattern_of::pattern_of;
+use tl_syntax::{Bound, Value, Var, Vars};
+use tl_world::{Match, Task, World};
+
+/// The world that a bound speaks of: the current one, that of the goal list, or that of its negated facts. It takes no memory.
+fn world_of_bound<'a>(task: &'a Task, w: &'a World, b: &Bound) -> &'a World
+    ensures { result.now ≡ world_read (situation_of (plain_problem task.now.problem) w.now) b.now }
+{
+    match b {
+        Bound::Fact(_, _) => w,
+        Bound::Place(_, _, _) => w,
+        Bound::GoalFact(_, _) => &task.goal,
+        Bound::GoalPlace(_, _, _) => &task.goal,
+        Bound::GoalNot(_, _) => &task.avoid,
+    }
+}
+
+/// `next_tuple` for variables and a frame that are given as slices. It takes no memory.
+pub(crate) fn next_tuple_in(
+    task: &Task,
+    w: &World,
+    frame: &[Option<Value>],
+    vars: &[Var],
+    b: &Bound,
+    after: Option<Match>,
+) -> Option<Match>
+    requires differ { DifferInSlot vars.now }
+    requires occur { OccurIn vars.now b.now }
+    requires fits { BoundFits (signature_of task.now.problem.domain) b.now }
+    requires after { IfSome after (λ m. m.len ≡ length vars.now) }
+    ensures next { IsNext (length vars.now) (λ t. bound_true (situation_of (plain_problem task.now.problem) w.now) (bind vars.now t (assignment_in frame.now)) b.now) (option_map tuple_of after) (option_map tuple_of result) }
+    ensures len { IfSome result (λ m. m.len ≡ length vars.now) }
+{
+    let pattern = pattern_of(frame, vars, b)?;
+    world_of_bound(task, w, b).next_match(&pattern, after)
+}
+
+/// The least tuple for the variables, in lexicographic value order, that makes the bound true in the world and comes after `after`, where that is given: None exactly where there is none.
+/// All other variables have their values in the caller's frame; a bound with one that has no value there is true of no tuple. It takes no memory.
+///
+/// With no variable and no `after` it tests the bound: the answer is the empty tuple or None.
+pub fn next_tuple(
+    task: &Task,
+    w: &World,
+    env: &Env,
+    vars: &Vars,
+    b: &Bound,
+    after: Option<Match>,
+) -> Option<Match>
+    requires differ { DifferInSlot vars.now }
+    requires occur { OccurIn vars.now b.now }
+    requires fits { BoundFits (signature_of task.now.problem.domain) b.now }
+    requires after { IfSome after (λ m. m.len ≡ length vars.now) }
+    ensures next { IsNext (length vars.now) (λ t. bound_true (situation_of (plain_problem task.now.problem) w.now) (bind vars.now t (assignment_in env.now)) b.now) (option_map tuple_of after) (option_map tuple_of result) }
+    ensures len { IfSome result (λ m. m.len ≡ length vars.now) }
+{
+    next_tuple_in(task, w, env.frame(), vars.as_slice(), b, after)
+}
