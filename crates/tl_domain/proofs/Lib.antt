@@ -1,0 +1,11 @@
+pub mod Positions
+pub mod FormTrees
+pub mod TermTrees
+pub mod Composed
+pub mod Loops
+pub mod OtherGoals
+pub mod Counts
+pub mod VariableLists
+pub mod FormulaTrees
+pub mod FormulaParts
+pub mod NamesWith

@@ -1,0 +1,115 @@
+-- The domain that a file stands for. Where a form breaks a rule, what is said of it here does not matter.
+use Rattle.std.specs.Prelude.{ℕ, List, [], ◌∷◌, ◌++◌, Option, Some, None, codes}
+use Rattle.tl_sexpr.specs.Tree.{FormTree, FormTrees, symbol, integer, list, no_form, more_forms}
+use Rattle.tl_syntax.specs.declared.bound.Bound.{Bound}
+use Rattle.tl_syntax.specs.declared.declared.Declared.{Declared}
+use Rattle.tl_syntax.specs.Trees.{FormulaTree, verum}
+use Rattle.tl_syntax.specs.Effects.{EffectTrees, no_effect}
+use Rattle.tl_domain.specs.declared.words.ItemWord.{ItemWord}
+use Rattle.tl_domain.specs.declared.words.ItemWord.TheVariants as item
+use Rattle.tl_domain.specs.declared.signature.Signature.{Signature}
+use Rattle.tl_domain.specs.Words.{item_word}
+use Rattle.tl_domain.specs.Parts.{natural, rest_of, elements_of}
+use Rattle.tl_domain.specs.Signatures.{Scope}
+use Rattle.tl_domain.specs.Symbols.{number_in}
+use Rattle.tl_domain.specs.Operators.{parameters_of, name_in_head, clause_of}
+use Rattle.tl_domain.specs.Items.{Known, nothing_known, with_head, known_after}
+use Rattle.tl_domain.specs.MeaningOfBounds.{bounds_meant}
+use Rattle.tl_domain.specs.MeaningOfFormulas.{formula_meant, formulas_meant, first_formula, variables_from}
+use Rattle.tl_domain.specs.MeaningOfEffects.{effects_meant}
+use Rattle.tl_domain.specs.DomainTrees.{DefinitionTree, OperatorTree, DomainTree}
+
+-- a declaration of these elements
+abbrev pub declared_meant : List (List ℕ) → FormTrees → List Declared
+declared_meant names (more_forms (symbol text _) (more_forms (integer z _) no_form)) = record { name = number_in names text; arity = natural z } ∷ []
+declared_meant names _ = []
+
+-- the definition of a head and a body, with so many levels
+abbrev pub definition_meant : List (List ℕ) → Signature → ℕ → FormTree → FormTree → DefinitionTree
+definition_meant names g levels head body = record {
+  name = number_in names (name_in_head head);
+  params = variables_from names 0 (parameters_of head);
+  body = formula_meant names g (parameters_of head) body;
+  levels = levels;
+}
+
+-- the bounds of a clause, the precondition of one, and the effects of one, or what stands for them where there is none
+abbrev pub bounds_clause_meant : List (List ℕ) → Signature → Scope → Option FormTree → List Bound
+bounds_clause_meant names g scope (Some clause) = bounds_meant names g scope (rest_of clause)
+bounds_clause_meant names g scope None = []
+
+abbrev pub pre_clause_meant : List (List ℕ) → Signature → Scope → Option FormTree → FormulaTree
+pre_clause_meant names g scope (Some clause) = first_formula (formulas_meant names g scope (rest_of clause))
+pre_clause_meant names g scope None = verum
+
+abbrev pub effects_clause_meant : List (List ℕ) → Signature → Scope → Option FormTree → EffectTrees
+effects_clause_meant names g scope (Some clause) = effects_meant names g scope (rest_of clause)
+effects_clause_meant names g scope None = no_effect
+
+-- the operator of a head and clauses
+abbrev pub operator_meant : List (List ℕ) → Signature → FormTree → FormTrees → OperatorTree
+operator_meant names g head clauses = record {
+  name = number_in names (name_in_head head);
+  params = variables_from names 0 (parameters_of head);
+  bounds = bounds_clause_meant names g (parameters_of head) (clause_of (codes "bounds") clauses);
+  pre = pre_clause_meant names g (parameters_of head) (clause_of (codes "pre") clauses);
+  effects = effects_clause_meant names g (parameters_of head) (clause_of (codes "effects") clauses);
+}
+
+-- the predicates, functions, definitions and operators of an item, by its first word and the elements after it
+abbrev pub predicates_in : List (List ℕ) → ItemWord → FormTrees → List Declared
+predicates_in names item.Predicate rest = declared_meant names rest
+predicates_in names _ rest = []
+
+abbrev pub functions_in : List (List ℕ) → ItemWord → FormTrees → List Declared
+functions_in names item.Function rest = declared_meant names rest
+functions_in names _ rest = []
+
+abbrev pub definitions_in : List (List ℕ) → Signature → ItemWord → FormTrees → List DefinitionTree
+definitions_in names g item.Define (more_forms head (more_forms body no_form)) = definition_meant names g 1 head body ∷ []
+definitions_in names g item.Defined (more_forms (integer z _) (more_forms head (more_forms body no_form))) = definition_meant names (with_head g head) (natural z) head body ∷ []
+definitions_in names g _ _ = []
+
+abbrev pub operators_in : List (List ℕ) → Signature → ItemWord → FormTrees → List OperatorTree
+operators_in names g item.Operator (more_forms head clauses) = operator_meant names g head clauses ∷ []
+operators_in names g _ _ = []
+
+-- the control formula with that of an item
+abbrev pub control_with : List (List ℕ) → Signature → FormulaTree → ItemWord → FormTrees → FormulaTree
+control_with names g control item.Control (more_forms f no_form) = formula_meant names g [] f
+control_with names g control _ _ = control
+
+-- a domain with what an item adds, by its first word and the elements after it, where these things are declared before it
+abbrev pub with_item : List (List ℕ) → Signature → DomainTree → ItemWord → FormTrees → DomainTree
+with_item names g d w rest = record {
+  name = d.name;
+  predicates = d.predicates ++ predicates_in names w rest;
+  functions = d.functions ++ functions_in names w rest;
+  definitions = d.definitions ++ definitions_in names g w rest;
+  operators = d.operators ++ operators_in names g w rest;
+  control = control_with names g d.control w rest;
+}
+
+-- a domain with an item
+abbrev pub with_item_form : List (List ℕ) → Signature → DomainTree → FormTree → DomainTree
+with_item_form names g d (list (more_forms (symbol text _) rest) at) = with_item names g d (item_word text) rest
+with_item_form names g d _ = d
+
+-- a domain with items, of which each may use what those before it declare
+abbrev pub with_items : List (List ℕ) → Known → DomainTree → FormTrees → DomainTree
+with_items names k d no_form = d
+with_items names k d (more_forms f fs) = with_items names (known_after k f) (with_item_form names k.signature d f) fs
+
+-- a domain without items
+abbrev pub empty_domain : ℕ → DomainTree
+empty_domain name = record { name = name; predicates = []; functions = []; definitions = []; operators = []; control = verum }
+
+-- the domain of the elements `domain`, its name and its items
+abbrev pub domain_meant : List (List ℕ) → FormTrees → DomainTree
+domain_meant names (more_forms word (more_forms (symbol text _) items)) = with_items names nothing_known (empty_domain (number_in names text)) items
+domain_meant names _ = empty_domain 0
+
+-- the domain that the forms of a file stand for, where the names have these numbers
+abbrev pub domain_file_meant : List (List ℕ) → FormTrees → DomainTree
+domain_file_meant names (more_forms f fs) = domain_meant names (elements_of f)
+domain_file_meant names no_form = empty_domain 0
