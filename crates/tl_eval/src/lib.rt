@@ -1,4 +1,4 @@
-//! The values of terms and the truth of state formulas in a world.
+//! The values of terms in a world, and the tuples of bounds.
 //!
 //! - `env`: frames of variable values.
 //! - `laws`: what is proved of the tuples of bounds.
