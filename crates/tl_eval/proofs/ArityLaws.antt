@@ -1,12 +1,12 @@
 -- Terms that fit the domain of a problem have few arguments.
-use Rattle.std.proofs.Common.{◌≡◌, ◌≤◌, ◌<◌, ℕ, zero, suc, List, [], ◌∷◌, map, Some, refl, sym, ap, ◌∙◌, subst}
+use Rattle.std.proofs.Common.{◌≡◌, ◌≤◌, ℕ, zero, suc, List, [], ◌∷◌, map, Some, subst}
 use Rattle.std.specs.Prelude.{slice_get}
 use Rattle.tl_eval.specs.Small.{HasFewArguments, HaveFewArguments}
 use Rattle.tl_syntax.specs.declared.declared.Declared.{Declared}
 use Rattle.tl_syntax.specs.Fits.{TermFits, TermsFit, term_count}
 use Rattle.tl_syntax.specs.Kept.{DeclarationKeeps}
 use Rattle.tl_syntax.specs.Lists.{Each}
-use Rattle.tl_syntax.specs.Signature.{Signature, Takes}
+use Rattle.tl_syntax.specs.Signature.{Signature}
 use Rattle.tl_syntax.specs.Trees.{TermTree, TermTrees, variable, value, place, arith, no_term, more_terms}
 
 -- each number of arguments is at most 8

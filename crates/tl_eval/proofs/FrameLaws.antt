@@ -1,5 +1,5 @@
 -- Frames within a longer list of values.
-use Rattle.std.proofs.Common.{◌≡◌, ◌<◌, ◌≤◌, ℕ, zero, suc, List, [], ◌∷◌, take, length, replicate, cond, ◌==◌, Option, Some, None, refl, sym, ap, ◌∙◌, true, false, arith, eqb-true}
+use Rattle.std.proofs.Common.{◌≡◌, ◌<◌, ℕ, zero, suc, List, take, length, replicate, cond, ◌==◌, Option, None, refl, sym, ap, ◌∙◌, true, false, arith, eqb-true}
 use borrow.Author.Tests.{eqb-false}
 use Rattle.tl_world.proofs.Matching.{set-at, set-other}
 use Rattle.std.specs.Prelude.{slice_get, slice_set}

@@ -1,5 +1,5 @@
 -- What a term evaluates to, by what its parts evaluate to.
-use Rattle.std.proofs.Common.{◌≡◌, ◌≤◌, ◌<◌, ◌+◌, ℕ, ℤ, zero, suc, List, [], ◌∷◌, ◌++◌, map, drop, length, get_or, ◌⊎◌, true, false, cond, Option, Some, None, Result, Ok, Err, IfOk, IfErr, Box, Global, refl, sym, ap, ◌∙◌, subst, inl, inr, append_assoc, append-nil, drop-cons, add-one}
+use Rattle.std.proofs.Common.{◌≡◌, ◌≤◌, ◌<◌, ◌+◌, ℕ, ℤ, zero, suc, List, [], ◌∷◌, ◌++◌, map, drop, length, get_or, Option, Some, None, Result, Ok, Err, Box, Global, refl, sym, ap, ◌∙◌, subst, inl, inr, append_assoc, append-nil, drop-cons, add-one}
 use Rattle.std.proofs.Common.{arith as numbers}
 use Rattle.std.specs.Prelude.{is_some}
 use Rattle.tl_eval.specs.Notes.{AreInRange, Tells, Evaluates, operation_of, prefixed, integer_found, Carries}
@@ -16,13 +16,13 @@ use Rattle.tl_syntax.specs.declared.value.Value.TheVariants.{Int, Sym}
 use Rattle.tl_syntax.specs.declared.variable.Var.{Var}
 use Rattle.tl_syntax.specs.Assignment.{Assignment}
 use Rattle.tl_syntax.specs.Fits.{term_count}
-use Rattle.tl_syntax.specs.Lists.{Each, Among}
-use Rattle.tl_syntax.specs.Trees.{TermTree, TermTrees, variable, value, place, arith, no_term, more_terms}
+use Rattle.tl_syntax.specs.Lists.{Among}
+use Rattle.tl_syntax.specs.Trees.{TermTree, TermTrees, variable, value, place, arith}
 use Rattle.tl_syntax.specs.TreeOfTerm.{tree_of_term, tree_of_terms, terms_of_list}
 use Rattle.tl_syntax.proofs.TermTrees.{tree-Var, tree-Val, tree-Place, tree-Arith, trees-Terms}
 use Rattle.tl_terms.specs.Looked.{is_integer, operation_on, followed_if, looked_in_term, looked_in_terms}
 use Rattle.tl_terms.specs.Operations.{Operation, IsPastRange}
-use Rattle.tl_terms.specs.Terms.{exact, apply_op, prepend, place_value, term_value, term_values}
+use Rattle.tl_terms.specs.Terms.{apply_op, prepend, place_value, term_value, term_values}
 use Rattle.tl_terms.specs.World.{World, value_at}
 
 -- ---- operations in two lists

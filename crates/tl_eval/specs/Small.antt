@@ -1,5 +1,5 @@
 -- Terms whose arguments fit a row of values.
-use Rattle.std.specs.Prelude.{◌≤◌, ℕ}
+use Rattle.std.specs.Prelude.{◌≤◌}
 use Rattle.tl_syntax.specs.Fits.{term_count}
 use Rattle.tl_syntax.specs.Trees.{TermTree, TermTrees, variable, value, place, arith, no_term, more_terms}
 

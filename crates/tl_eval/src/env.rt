@@ -16,7 +16,7 @@ pub(crate) const FRAMES: usize = 129;
 /// Contracts see the caller's frame: for each of its 32 slots the value, where it has one.
 #[derive(Drop)]
 pub struct Env {
-    values: Vec<Option<Value>>,
+    pub(crate) values: Vec<Option<Value>>,
 }
 
 impl Model for Env {

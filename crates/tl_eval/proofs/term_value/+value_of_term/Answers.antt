@@ -3,7 +3,7 @@ use Rattle.std.proofs.lemmas.Int.{to_z-of_z}
 use mir.Val.{SFits}
 use Rattle.tl_eval.specs.Frames.{assignment_in}
 use Rattle.tl_syntax.specs.TreeOfTerm.{tree_of_terms}
-use Rattle.tl_eval.proofs.TermLaws.{few-Place, few-Arith, at-Var, at-Val, at-Place, at-Place-None, at-Place-Err, at-Arith-None, at-Arith-Err, operand-is, at-Arith-second-None, at-Arith-second-Err, at-Arith, First, begun, item-few, row-room, pushed, undefined, noted, ended}
+use Rattle.tl_eval.proofs.TermLaws.{few-Place, few-Arith, at-Var, at-Val, at-Place, at-Place-None, at-Place-Err, at-Arith-None, at-Arith-Err, operand-is, at-Arith-second-None, at-Arith-second-Err, at-Arith, First, begun, item-few, pushed, undefined, noted, ended}
 use Rattle.tl_eval.proofs.term_value.+value_of_term.Goals as goal
 
 pub value_of_term-values_of_terms-requires : goal.value_of_term-values_of_terms-requires

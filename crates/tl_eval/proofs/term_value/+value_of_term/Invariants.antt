@@ -1,7 +1,6 @@
-use Rattle.std.proofs.Common.{◌≡◌, map, drop, length}
+use Rattle.std.proofs.Common.{map, drop}
 use Rattle.tl_eval.specs.Frames.{assignment_in}
-use Rattle.tl_eval.specs.Small.{HaveFewArguments}
-use Rattle.tl_syntax.specs.TreeOfTerm.{tree_of_term, tree_of_terms, terms_of_list}
+use Rattle.tl_syntax.specs.TreeOfTerm.{tree_of_term, tree_of_terms}
 use Rattle.tl_eval.proofs.Sizes.{term_nodes, terms_nodes}
 use Rattle.tl_eval.proofs.TermLaws.{Passed}
 use Rattle.tl_eval.proofs.term_value.+value_of_term.Given as goal

@@ -1,4 +1,4 @@
-use Rattle.std.proofs.Common.{◌≡◌, ap, ◌∙◌, sym, length, take, replicate, Option, None, List, rules}
+use Rattle.std.proofs.Common.{ap, ◌∙◌, sym, take, Option, List, rules}
 use Rattle.tl_syntax.specs.declared.value.Value.{Value}
 use Rattle.tl_eval.specs.Frames.{assignment_in}
 use Rattle.tl_eval.proofs.FrameLaws.{length-frame, nothing-at}

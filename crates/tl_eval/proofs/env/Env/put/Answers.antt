@@ -1,4 +1,4 @@
-use Rattle.std.proofs.Common.{◌≡◌, ap, ◌∙◌, sym, subst, Some, length, take, ◌<◌, cond, ◌==◌, arith}
+use Rattle.std.proofs.Common.{ap, ◌∙◌, Some, length, take, ◌<◌, cond, ◌==◌, arith}
 use Rattle.std.specs.Prelude.{slice_set}
 use Rattle.tl_eval.specs.Frames.{assignment_in}
 use Rattle.tl_eval.proofs.FrameLaws.{set-in_frame, assignment-set, length-frame}

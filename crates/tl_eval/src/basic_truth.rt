@@ -1,0 +1,156 @@
+// The truth of formulas that have no formula below them.
+ghost use Rattle.std.specs.Prelude.{◌≡◌, ◌≤◌, length};
+ghost use Rattle.tl_eval.specs.Frames.{assignment_in};
+ghost use Rattle.tl_eval.specs.Notes.{Evaluates};
+ghost use Rattle.tl_eval.specs.Small.{HasFewArguments, HaveFewArguments};
+ghost use Rattle.tl_syntax.specs.Fits.{term_count};
+ghost use Rattle.tl_syntax.specs.TreeOfTerm.{tree_of_term, tree_of_terms};
+ghost use Rattle.tl_terms.specs.Bounds.{arg_value, arg_values, fact_in, same_value};
+ghost use Rattle.tl_terms.specs.Looked.{followed_if, is_integer, leaves_open, looked_in_term, looked_in_terms};
+ghost use Rattle.tl_terms.specs.Terms.{place_value, term_value, term_values};
+ghost use Rattle.tl_terms.specs.Truth.{compared};
+
+use crate::RangeNote;
+use crate::row::Row;
+use crate::term_value::{value_in, value_of_term, values_of_terms};
+use tl_syntax::{Arg, Cmp, Term, Terms, Value};
+use tl_world::World;
+
+/// The value of an argument under a frame, where it has one. It takes no memory.
+fn value_of_arg(frame: &[Option<Value>], arg: Arg) -> Option<Value>
+    ensures { result ≡ arg_value (assignment_in frame.now) arg }
+{
+    match arg {
+        Arg::Var(var) => value_in(frame, var.slot),
+        Arg::Val(value) => Some(value),
+    }
+}
+
+/// The values of arguments under a frame, where all have one. It takes no memory.
+fn values_of_args(frame: &[Option<Value>], args: &[Arg]) -> Option<Row>
+    requires { length args.now ≤ 8 }
+    ensures { result ≡ arg_values (assignment_in frame.now) args.now }
+{
+    let mut row = Row::new();
+    for arg in args.iter() {
+        match value_of_arg(frame, *arg) {
+            Some(value) => row.push(value),
+            None => return None,
+        }
+    }
+    Some(row)
+}
+
+/// Whether the first side of a comparison leaves it open. It takes no memory.
+fn goes_on(cmp: Cmp, side: Option<Value>) -> bool
+    ensures { result ≡ leaves_open cmp side }
+{
+    match cmp {
+        Cmp::Eq => side.is_some(),
+        Cmp::Less | Cmp::AtMost | Cmp::More | Cmp::AtLeast => {
+            matches!(side, Some(Value::Int(_)))
+        }
+    }
+}
+
+/// Whether both are there and the same value. It takes no memory.
+fn are_same(left: Option<Value>, right: Option<Value>) -> bool
+    ensures { result ≡ same_value left right }
+{
+    match (left, right) {
+        (Some(a), Some(b)) => a == b,
+        _ => false,
+    }
+}
+
+/// Whether the comparison is true of the two sides. It takes no memory.
+fn stand(cmp: Cmp, left: Option<Value>, right: Option<Value>) -> bool
+    ensures { result ≡ compared cmp left right }
+{
+    match (left, right) {
+        (Some(Value::Int(a)), Some(Value::Int(b))) => match cmp {
+            Cmp::Eq => a == b,
+            Cmp::Less => a < b,
+            Cmp::AtMost => a <= b,
+            Cmp::More => a > b,
+            Cmp::AtLeast => a >= b,
+        },
+        _ => match cmp {
+            Cmp::Eq => are_same(left, right),
+            Cmp::Less | Cmp::AtMost | Cmp::More | Cmp::AtLeast => false,
+        },
+    }
+}
+
+/// Whether the fact is in the world. It takes no memory.
+pub(crate) fn atom_true(
+    w: &World,
+    frame: &[Option<Value>],
+    pred: u32,
+    args: &Terms,
+) -> Result<bool, RangeNote>
+    requires small { HaveFewArguments (tree_of_terms args.now) }
+    requires few { term_count (tree_of_terms args.now) ≤ 8 }
+    ensures { Evaluates (fact_in w.now pred (term_values w.now (assignment_in frame.now) (tree_of_terms args.now))) (looked_in_terms w.now (assignment_in frame.now) (tree_of_terms args.now)) result }
+{
+    match values_of_terms(w, frame, args) {
+        Ok(Some(row)) => Ok(w.holds(pred, row.as_slice())),
+        Ok(None) => Ok(false),
+        Err(note) => Err(note),
+    }
+}
+
+/// Whether the two terms stand in the comparison. It takes no memory.
+pub(crate) fn compare_true(
+    w: &World,
+    frame: &[Option<Value>],
+    cmp: Cmp,
+    left: &Term,
+    right: &Term,
+) -> Result<bool, RangeNote>
+    requires left { HasFewArguments (tree_of_term left.now) }
+    requires right { HasFewArguments (tree_of_term right.now) }
+    ensures { Evaluates (compared cmp (term_value w.now (assignment_in frame.now) (tree_of_term left.now)) (term_value w.now (assignment_in frame.now) (tree_of_term right.now))) (followed_if (leaves_open cmp (term_value w.now (assignment_in frame.now) (tree_of_term left.now))) (looked_in_term w.now (assignment_in frame.now) (tree_of_term left.now)) (looked_in_term w.now (assignment_in frame.now) (tree_of_term right.now))) result }
+{
+    match value_of_term(w, frame, left) {
+        Ok(first) => {
+            if goes_on(cmp, first) {
+                match value_of_term(w, frame, right) {
+                    Ok(second) => Ok(stand(cmp, first, second)),
+                    Err(note) => Err(note),
+                }
+            } else {
+                Ok(false)
+            }
+        }
+        Err(note) => Err(note),
+    }
+}
+
+/// Whether the fact of the arguments is one of the world's: the facts of the goal list, or its negated facts. It takes no memory.
+pub(crate) fn fact_true(w: &World, frame: &[Option<Value>], pred: u32, args: &[Arg]) -> bool
+    requires { length args.now ≤ 8 }
+    ensures { result ≡ fact_in w.now pred (arg_values (assignment_in frame.now) args.now) }
+{
+    match values_of_args(frame, args) {
+        Some(row) => w.holds(pred, row.as_slice()),
+        None => false,
+    }
+}
+
+/// Whether the world, which is the goal list's, gives the place this value. It takes no memory.
+pub(crate) fn place_true(
+    w: &World,
+    frame: &[Option<Value>],
+    fun: u32,
+    args: &[Arg],
+    value: Arg,
+) -> bool
+    requires { length args.now ≤ 8 }
+    ensures { result ≡ same_value (place_value w.now fun (arg_values (assignment_in frame.now) args.now)) (arg_value (assignment_in frame.now) value) }
+{
+    match values_of_args(frame, args) {
+        Some(row) => are_same(w.value(fun, row.as_slice()), value_of_arg(frame, value)),
+        None => false,
+    }
+}
