@@ -3,3 +3,4 @@ pub mod Bytes
 pub mod Spelling
 pub mod Reading
 pub mod Faults
+pub mod Offsets

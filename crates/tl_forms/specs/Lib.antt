@@ -1,0 +1,5 @@
+pub mod Rules
+pub mod Parts
+pub mod Symbols
+pub mod Reads
+pub mod Named
