@@ -1,0 +1,12 @@
+pub mod Words
+pub mod Signatures
+pub mod Terms
+pub mod Goals
+pub mod Bounds
+pub mod Variables
+pub mod Formulas
+pub mod Effects
+pub mod MeaningOfTerms
+pub mod MeaningOfBounds
+pub mod MeaningOfFormulas
+pub mod MeaningOfEffects
