@@ -2,11 +2,11 @@
 --
 -- The breaks of a file are listed in the order of its forms, and the rules of one form by their numbers, so that
 -- the first break is the one that is answered: offsets rise in reading order.
-use Rattle.std.specs.Prelude.{◌≡◌, ℕ, ◌+◌, ◌<◌, ◌≤◌, List, [], ◌∷◌, ◌++◌, Bool, false, ◌&&◌, not, codes}
+use Rattle.std.specs.Prelude.{List, [], ◌∷◌, ◌++◌, Bool, false, ◌&&◌, not, codes}
 use Rattle.tl_sexpr.specs.Tree.{FormTree, FormTrees, symbol, integer, list, no_form, more_forms}
-use Rattle.tl_domain.specs.declared.rule.Rule.TheVariants.{Shape}
-use Rattle.tl_domain.specs.Rules.{Break, breaks_if}
-use Rattle.tl_domain.specs.Parts.{offset_of, is_name, is_word}
+use Rattle.tl_forms.specs.declared.rule.Rule.TheVariants.{Shape}
+use Rattle.tl_forms.specs.Rules.{Break, breaks_if}
+use Rattle.tl_forms.specs.Parts.{offset_of, is_name, is_word}
 use Rattle.tl_domain.specs.Items.{nothing_known, items_breaks}
 
 -- the elements of the domain form begin with the word `domain` and a name
@@ -34,18 +34,3 @@ second_form_breaks (more_forms f fs) = (Shape, offset_of f) ∷ []
 abbrev pub domain_file_breaks : FormTrees → List Break
 domain_file_breaks no_form = (Shape, 0) ∷ []
 domain_file_breaks (more_forms f fs) = domain_form_breaks f ++ second_form_breaks fs
-
--- the offsets rise from each form to the next in reading order, from at least the first number on, and the last is below the second
-abbrev mutual
-  pub RisesFrom : ℕ → FormTree → ℕ → Type 0
-  RisesFrom least (symbol text at) next = (least ≤ at) × (at < next)
-  RisesFrom least (integer z at) next = (least ≤ at) × (at < next)
-  RisesFrom least (list fs at) next = (least ≤ at) × RiseFrom (at + 1) fs next
-
-  pub RiseFrom : ℕ → FormTrees → ℕ → Type 0
-  RiseFrom least no_form next = least ≤ next
-  RiseFrom least (more_forms f fs) next = (middle : ℕ) × RisesFrom least f middle × RiseFrom middle fs next
-
--- the forms are as they are read from a file of at most 4194304 bytes: their offsets rise, and are below that number
-abbrev pub AreAsRead : FormTrees → Type 0
-AreAsRead fs = RiseFrom 0 fs 4194304

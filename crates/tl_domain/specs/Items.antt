@@ -1,38 +1,52 @@
 -- Items of a domain: the rules that a form breaks in the role of an item, and what an item declares.
-use Rattle.std.specs.Prelude.{ℕ, ℤ, ◌+◌, List, [], ◌∷◌, ◌++◌, Bool, true, false, ◌&&◌, ◌||◌, ◌==◌, not, nat_lt, length}
+use Rattle.std.specs.Prelude.{ℕ, ◌+◌, List, [], ◌∷◌, ◌++◌, Bool, true, false, ◌&&◌, ◌||◌, ◌==◌, not, nat_lt, length}
 use Rattle.tl_sexpr.specs.Tree.{FormTree, FormTrees, symbol, integer, list, no_form, more_forms}
 use Rattle.tl_domain.specs.declared.words.ItemWord.{ItemWord}
 use Rattle.tl_domain.specs.declared.words.ItemWord.TheVariants as item
-use Rattle.tl_domain.specs.declared.roles.FormulaRole.TheVariants as role
-use Rattle.tl_domain.specs.declared.rule.Rule.TheVariants.{Shape, Twice, Limit}
-use Rattle.tl_domain.specs.declared.signature.Signature.{Signature}
-use Rattle.tl_domain.specs.Rules.{Break, breaks_if}
+use Rattle.tl_formulas.specs.declared.roles.FormulaRole.TheVariants as role
+use Rattle.tl_forms.specs.declared.rule.Rule.TheVariants.{Shape, Twice, Limit}
+use Rattle.tl_formulas.specs.declared.signature.Signature.{Signature}
+use Rattle.tl_domain.specs.declared.known.Known.{Known}
+use Rattle.tl_forms.specs.Rules.{Break, breaks_if}
 use Rattle.tl_domain.specs.Words.{item_word}
-use Rattle.tl_domain.specs.Parts.{count, is_list, is_integer, is_name, natural, is_within, rest_of}
-use Rattle.tl_domain.specs.Signatures.{is_taken}
-use Rattle.tl_domain.specs.Formulas.{formula_breaks}
+use Rattle.tl_forms.specs.Parts.{count, is_list, is_integer, is_name, natural, is_within, rest_of}
+use Rattle.tl_formulas.specs.Signatures.{is_taken}
+use Rattle.tl_formulas.specs.Formulas.{formula_breaks}
 use Rattle.tl_domain.specs.Operators.{head_breaks, head_name_breaks, parameters_of, name_in_head, are_clauses, operator_breaks}
-
--- what the items before an item declare: predicates, functions and definitions, the names of the operators, the levels of all `defined` items together, and whether there is a control formula
-pub record Known : Type 0 where
-  pub signature : Signature
-  pub operators : List (List ℕ)
-  pub levels : ℕ
-  pub controlled : Bool
 
 -- nothing is declared
 abbrev pub nothing_known : Known
 nothing_known = record { signature = record { predicates = []; functions = []; definitions = [] }; operators = []; levels = 0; controlled = false }
 
+-- the elements are a name and an integer, as `predicate` and `function` ask for
+abbrev pub has_declaration_shape : FormTrees → Bool
+has_declaration_shape (more_forms name (more_forms arity no_form)) = is_name name && is_integer arity
+has_declaration_shape _ = false
+
+-- the elements are a head and a body, as `define` asks for
+abbrev pub has_define_shape : FormTrees → Bool
+has_define_shape (more_forms head (more_forms f no_form)) = is_list head
+has_define_shape _ = false
+
+-- the elements are a number of levels, a head and a body, as `defined` asks for
+abbrev pub has_defined_shape : FormTrees → Bool
+has_defined_shape (more_forms n (more_forms head (more_forms f no_form))) = is_integer n && is_list head
+has_defined_shape _ = false
+
+-- the elements are a head and clauses, as `operator` asks for
+abbrev pub has_operator_shape : FormTrees → Bool
+has_operator_shape no_form = false
+has_operator_shape (more_forms head clauses) = is_list head && are_clauses clauses
+
 -- the elements after such a first word have the shape that it asks for
 abbrev pub has_item_shape : ItemWord → FormTrees → Bool
-has_item_shape item.Predicate (more_forms name (more_forms arity no_form)) = is_name name && is_integer arity
-has_item_shape item.Function (more_forms name (more_forms arity no_form)) = is_name name && is_integer arity
-has_item_shape item.Define (more_forms head (more_forms f no_form)) = is_list head
-has_item_shape item.Defined (more_forms n (more_forms head (more_forms f no_form))) = is_integer n && is_list head
-has_item_shape item.Operator (more_forms head clauses) = is_list head && are_clauses clauses
-has_item_shape item.Control (more_forms f no_form) = true
-has_item_shape _ _ = false
+has_item_shape item.Predicate rest = has_declaration_shape rest
+has_item_shape item.Function rest = has_declaration_shape rest
+has_item_shape item.Define rest = has_define_shape rest
+has_item_shape item.Defined rest = has_defined_shape rest
+has_item_shape item.Operator rest = has_operator_shape rest
+has_item_shape item.Control rest = count rest == 1
+has_item_shape item.Other rest = false
 
 -- there are as many of such items before as a domain can have
 abbrev pub is_full : Known → ItemWord → Bool
@@ -54,29 +68,49 @@ abbrev pub arity_breaks : FormTree → List Break
 arity_breaks (integer z at) = breaks_if (not (is_within 0 8 z)) Limit at
 arity_breaks _ = []
 
+-- what the elements of a declaration break, where these things are declared before it
+abbrev pub declaration_breaks : Signature → FormTrees → List Break
+declaration_breaks g (more_forms name (more_forms arity no_form)) = head_name_breaks (is_taken g) name ++ arity_breaks arity
+declaration_breaks g _ = []
+
 -- what a number of levels breaks, which is added to those before
 abbrev pub levels_breaks : ℕ → FormTree → List Break
 levels_breaks before (integer z at) = breaks_if (not (is_within 1 64 z) || nat_lt 64 (before + natural z)) Limit at
 levels_breaks before _ = []
 
 -- a name with a number of arguments, at the end of the predicates, of the functions and of the definitions
-abbrev pub with_predicate : Signature → List ℕ → ℕ → Signature
-with_predicate g text n = record { predicates = g.predicates ++ (text, n) ∷ []; functions = g.functions; definitions = g.definitions }
+abbrev pub with_predicate : Signature → List ℕ × ℕ → Signature
+with_predicate g e = record { predicates = g.predicates ++ e ∷ []; functions = g.functions; definitions = g.definitions }
 
-abbrev pub with_function : Signature → List ℕ → ℕ → Signature
-with_function g text n = record { predicates = g.predicates; functions = g.functions ++ (text, n) ∷ []; definitions = g.definitions }
+abbrev pub with_function : Signature → List ℕ × ℕ → Signature
+with_function g e = record { predicates = g.predicates; functions = g.functions ++ e ∷ []; definitions = g.definitions }
 
-abbrev pub with_definition : Signature → List ℕ → ℕ → Signature
-with_definition g text n = record { predicates = g.predicates; functions = g.functions; definitions = g.definitions ++ (text, n) ∷ [] }
+abbrev pub with_definition : Signature → List ℕ × ℕ → Signature
+with_definition g e = record { predicates = g.predicates; functions = g.functions; definitions = g.definitions ++ e ∷ [] }
+
+-- the name and the number of arguments that the elements of a declaration give
+abbrev pub declaration_of : FormTrees → List ℕ × ℕ
+declaration_of (more_forms (symbol text _) (more_forms (integer z _) no_form)) = (text, natural z)
+declaration_of _ = ([], 0)
+
+-- the number of an integer
+abbrev pub natural_of : FormTree → ℕ
+natural_of (integer z at) = natural z
+natural_of _ = 0
 
 -- with the definition of a head
 abbrev pub with_head : Signature → FormTree → Signature
-with_head g head = with_definition g (name_in_head head) (count (rest_of head))
+with_head g head = with_definition g (name_in_head head, count (rest_of head))
+
+-- what the list of an item breaks itself
+abbrev pub item_list_breaks : Known → ItemWord → FormTrees → ℕ → List Break
+item_list_breaks k w rest at =
+    breaks_if (not (has_item_shape w rest)) Shape at ++ (breaks_if (is_second_control k w) Twice at ++ breaks_if (is_full k w) Limit at)
 
 -- what the elements after such a first word break
 abbrev pub item_parts_breaks : Known → ItemWord → FormTrees → List Break
-item_parts_breaks k item.Predicate (more_forms name (more_forms arity no_form)) = head_name_breaks (is_taken k.signature) name ++ arity_breaks arity
-item_parts_breaks k item.Function (more_forms name (more_forms arity no_form)) = head_name_breaks (is_taken k.signature) name ++ arity_breaks arity
+item_parts_breaks k item.Predicate rest = declaration_breaks k.signature rest
+item_parts_breaks k item.Function rest = declaration_breaks k.signature rest
 item_parts_breaks k item.Define (more_forms head (more_forms f no_form)) =
     head_breaks 8 (is_taken k.signature) (λ text. true) head ++ formula_breaks role.Body k.signature (parameters_of head) f
 item_parts_breaks k item.Defined (more_forms n (more_forms head (more_forms f no_form))) =
@@ -88,18 +122,15 @@ item_parts_breaks k _ _ = []
 -- what an item breaks, with its parts
 abbrev pub item_breaks : Known → FormTree → List Break
 item_breaks k (list (more_forms (symbol text _) rest) at) =
-    breaks_if (not (has_item_shape (item_word text) rest)) Shape at
-    ++ (breaks_if (is_second_control k (item_word text)) Twice at
-    ++ (breaks_if (is_full k (item_word text)) Limit at
-    ++ item_parts_breaks k (item_word text) rest))
+    item_list_breaks k (item_word text) rest at ++ item_parts_breaks k (item_word text) rest
 item_breaks k (list _ at) = (Shape, at) ∷ []
 item_breaks k (symbol text at) = (Shape, at) ∷ []
 item_breaks k (integer z at) = (Shape, at) ∷ []
 
 -- the signature with what an item declares
 abbrev pub signature_after : Signature → ItemWord → FormTrees → Signature
-signature_after g item.Predicate (more_forms (symbol text _) (more_forms (integer z _) no_form)) = with_predicate g text (natural z)
-signature_after g item.Function (more_forms (symbol text _) (more_forms (integer z _) no_form)) = with_function g text (natural z)
+signature_after g item.Predicate rest = with_predicate g (declaration_of rest)
+signature_after g item.Function rest = with_function g (declaration_of rest)
 signature_after g item.Define (more_forms head rest) = with_head g head
 signature_after g item.Defined (more_forms n (more_forms head rest)) = with_head g head
 signature_after g _ _ = g
@@ -111,7 +142,7 @@ operators_after operators _ _ = operators
 
 -- the levels with those of an item
 abbrev pub levels_after : ℕ → ItemWord → FormTrees → ℕ
-levels_after levels item.Defined (more_forms (integer z _) rest) = levels + natural z
+levels_after levels item.Defined (more_forms n rest) = levels + natural_of n
 levels_after levels _ _ = levels
 
 -- the item is a control item, or one stands before
@@ -119,14 +150,18 @@ abbrev pub controlled_after : Bool → ItemWord → Bool
 controlled_after before item.Control = true
 controlled_after before _ = before
 
+-- what is declared after an item of this word and these elements
+abbrev pub known_with : Known → ItemWord → FormTrees → Known
+known_with k w rest = record {
+  signature = signature_after k.signature w rest;
+  operators = operators_after k.operators w rest;
+  levels = levels_after k.levels w rest;
+  controlled = controlled_after k.controlled w;
+}
+
 -- what is declared after an item
 abbrev pub known_after : Known → FormTree → Known
-known_after k (list (more_forms (symbol text _) rest) at) = record {
-  signature = signature_after k.signature (item_word text) rest;
-  operators = operators_after k.operators (item_word text) rest;
-  levels = levels_after k.levels (item_word text) rest;
-  controlled = controlled_after k.controlled (item_word text);
-}
+known_after k (list (more_forms (symbol text _) rest) at) = known_with k (item_word text) rest
 known_after k _ = k
 
 -- what items break that stand after others

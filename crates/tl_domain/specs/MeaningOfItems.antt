@@ -1,37 +1,41 @@
 -- The domain that a file stands for. Where a form breaks a rule, what is said of it here does not matter.
-use Rattle.std.specs.Prelude.{ℕ, List, [], ◌∷◌, ◌++◌, Option, Some, None, codes}
-use Rattle.tl_sexpr.specs.Tree.{FormTree, FormTrees, symbol, integer, list, no_form, more_forms}
+use Rattle.std.specs.Prelude.{ℕ, List, [], ◌∷◌, ◌++◌, Option, Some, None}
+use Rattle.tl_sexpr.specs.Tree.{FormTree, FormTrees, symbol, list, no_form, more_forms}
 use Rattle.tl_syntax.specs.declared.bound.Bound.{Bound}
 use Rattle.tl_syntax.specs.declared.declared.Declared.{Declared}
 use Rattle.tl_syntax.specs.Trees.{FormulaTree, verum}
 use Rattle.tl_syntax.specs.Effects.{EffectTrees, no_effect}
 use Rattle.tl_domain.specs.declared.words.ItemWord.{ItemWord}
 use Rattle.tl_domain.specs.declared.words.ItemWord.TheVariants as item
-use Rattle.tl_domain.specs.declared.signature.Signature.{Signature}
+use Rattle.tl_formulas.specs.declared.signature.Signature.{Signature}
 use Rattle.tl_domain.specs.Words.{item_word}
-use Rattle.tl_domain.specs.Parts.{natural, rest_of, elements_of}
-use Rattle.tl_domain.specs.Signatures.{Scope}
-use Rattle.tl_domain.specs.Symbols.{number_in}
-use Rattle.tl_domain.specs.Operators.{parameters_of, name_in_head, clause_of}
-use Rattle.tl_domain.specs.Items.{Known, nothing_known, with_head, known_after}
-use Rattle.tl_domain.specs.MeaningOfBounds.{bounds_meant}
-use Rattle.tl_domain.specs.MeaningOfFormulas.{formula_meant, formulas_meant, first_formula, variables_from}
-use Rattle.tl_domain.specs.MeaningOfEffects.{effects_meant}
+use Rattle.tl_forms.specs.Parts.{rest_of, elements_of}
+use Rattle.tl_formulas.specs.Signatures.{Scope}
+use Rattle.tl_forms.specs.Symbols.{number_in}
+use Rattle.tl_domain.specs.Operators.{parameters_of, name_in_head, bounds_clause, pre_clause, effects_clause}
+use Rattle.tl_domain.specs.Items.{nothing_known, declaration_of, natural_of, with_head, known_after}
+use Rattle.tl_domain.specs.declared.known.Known.{Known}
+use Rattle.tl_formulas.specs.MeaningOfBounds.{bounds_meant}
+use Rattle.tl_formulas.specs.MeaningOfFormulas.{formula_meant, formulas_meant, first_formula, variables_from}
+use Rattle.tl_formulas.specs.MeaningOfEffects.{effects_meant}
 use Rattle.tl_domain.specs.DomainTrees.{DefinitionTree, OperatorTree, DomainTree}
 
--- a declaration of these elements
+-- the declaration of these elements
 abbrev pub declared_meant : List (List ℕ) → FormTrees → List Declared
-declared_meant names (more_forms (symbol text _) (more_forms (integer z _) no_form)) = record { name = number_in names text; arity = natural z } ∷ []
-declared_meant names _ = []
+declared_meant names rest = record { name = number_in names (declaration_of rest).0; arity = (declaration_of rest).1 } ∷ []
+
+-- the definition of a name and parameters, with a body of so many levels
+abbrev pub definition_named : List (List ℕ) → Signature → ℕ → List ℕ → Scope → FormTree → DefinitionTree
+definition_named names g levels name scope body = record {
+  name = number_in names name;
+  params = variables_from names 0 scope;
+  body = formula_meant names g scope body;
+  levels = levels;
+}
 
 -- the definition of a head and a body, with so many levels
 abbrev pub definition_meant : List (List ℕ) → Signature → ℕ → FormTree → FormTree → DefinitionTree
-definition_meant names g levels head body = record {
-  name = number_in names (name_in_head head);
-  params = variables_from names 0 (parameters_of head);
-  body = formula_meant names g (parameters_of head) body;
-  levels = levels;
-}
+definition_meant names g levels head body = definition_named names g levels (name_in_head head) (parameters_of head) body
 
 -- the bounds of a clause, the precondition of one, and the effects of one, or what stands for them where there is none
 abbrev pub bounds_clause_meant : List (List ℕ) → Signature → Scope → Option FormTree → List Bound
@@ -46,15 +50,19 @@ abbrev pub effects_clause_meant : List (List ℕ) → Signature → Scope → Op
 effects_clause_meant names g scope (Some clause) = effects_meant names g scope (rest_of clause)
 effects_clause_meant names g scope None = no_effect
 
+-- the operator of a name and parameters, with clauses
+abbrev pub operator_named : List (List ℕ) → Signature → List ℕ → Scope → FormTrees → OperatorTree
+operator_named names g name scope clauses = record {
+  name = number_in names name;
+  params = variables_from names 0 scope;
+  bounds = bounds_clause_meant names g scope (bounds_clause clauses);
+  pre = pre_clause_meant names g scope (pre_clause clauses);
+  effects = effects_clause_meant names g scope (effects_clause clauses);
+}
+
 -- the operator of a head and clauses
 abbrev pub operator_meant : List (List ℕ) → Signature → FormTree → FormTrees → OperatorTree
-operator_meant names g head clauses = record {
-  name = number_in names (name_in_head head);
-  params = variables_from names 0 (parameters_of head);
-  bounds = bounds_clause_meant names g (parameters_of head) (clause_of (codes "bounds") clauses);
-  pre = pre_clause_meant names g (parameters_of head) (clause_of (codes "pre") clauses);
-  effects = effects_clause_meant names g (parameters_of head) (clause_of (codes "effects") clauses);
-}
+operator_meant names g head clauses = operator_named names g (name_in_head head) (parameters_of head) clauses
 
 -- the predicates, functions, definitions and operators of an item, by its first word and the elements after it
 abbrev pub predicates_in : List (List ℕ) → ItemWord → FormTrees → List Declared
@@ -67,7 +75,7 @@ functions_in names _ rest = []
 
 abbrev pub definitions_in : List (List ℕ) → Signature → ItemWord → FormTrees → List DefinitionTree
 definitions_in names g item.Define (more_forms head (more_forms body no_form)) = definition_meant names g 1 head body ∷ []
-definitions_in names g item.Defined (more_forms (integer z _) (more_forms head (more_forms body no_form))) = definition_meant names (with_head g head) (natural z) head body ∷ []
+definitions_in names g item.Defined (more_forms n (more_forms head (more_forms body no_form))) = definition_meant names (with_head g head) (natural_of n) head body ∷ []
 definitions_in names g _ _ = []
 
 abbrev pub operators_in : List (List ℕ) → Signature → ItemWord → FormTrees → List OperatorTree

@@ -1,18 +1,18 @@
 -- Heads and clauses of operators, and heads of definitions.
-use Rattle.std.specs.Prelude.{ℕ, List, [], ◌∷◌, ◌++◌, Bool, true, false, ◌&&◌, ◌||◌, ◌==◌, not, nat_lt, Option, Some, None, if◌then◌else◌, is_some, codes}
+use Rattle.std.specs.Prelude.{ℕ, List, [], ◌∷◌, ◌++◌, Bool, true, false, ◌&&◌, not, nat_lt, Option, Some, None, if◌then◌else◌, is_some, codes}
 use Rattle.std.specs.List.{list_any}
 use Rattle.std.specs.Option.{option_map_or}
 use Rattle.std.specs.Str.{bytes_eq}
 use Rattle.tl_sexpr.specs.Tree.{FormTree, FormTrees, symbol, integer, list, no_form, more_forms}
-use Rattle.tl_domain.specs.declared.roles.FormulaRole.TheVariants as role
-use Rattle.tl_domain.specs.declared.rule.Rule.TheVariants.{Shape, Twice, NotInBound, Limit}
-use Rattle.tl_domain.specs.declared.signature.Signature.{Signature}
-use Rattle.tl_domain.specs.Rules.{Break, breaks_if}
-use Rattle.tl_domain.specs.Parts.{count, is_name, are_variables, is_word, texts_of, elements_of, rest_of, occurs_in}
-use Rattle.tl_domain.specs.Signatures.{Scope, slot_of}
-use Rattle.tl_domain.specs.Bounds.{bounds_breaks}
-use Rattle.tl_domain.specs.Formulas.{formula_breaks}
-use Rattle.tl_domain.specs.Effects.{effects_breaks}
+use Rattle.tl_formulas.specs.declared.roles.FormulaRole.TheVariants as role
+use Rattle.tl_forms.specs.declared.rule.Rule.TheVariants.{Shape, Twice, NotInBound, Limit}
+use Rattle.tl_formulas.specs.declared.signature.Signature.{Signature}
+use Rattle.tl_forms.specs.Rules.{Break, breaks_if}
+use Rattle.tl_forms.specs.Parts.{offset_of, count, is_name, are_variables, is_word, texts_of, elements_of, rest_of, occurs_in}
+use Rattle.tl_formulas.specs.Signatures.{Scope, slot_of}
+use Rattle.tl_formulas.specs.Bounds.{bounds_breaks}
+use Rattle.tl_formulas.specs.Formulas.{formula_breaks}
+use Rattle.tl_formulas.specs.Effects.{effects_breaks}
 
 -- the elements of a head are a name and variables
 abbrev pub has_head_shape : FormTrees → Bool
@@ -42,11 +42,14 @@ abbrev pub head_parts_breaks : (List ℕ → Bool) → (List ℕ → Bool) → F
 head_parts_breaks is_old occurs no_form = []
 head_parts_breaks is_old occurs (more_forms name variables) = head_name_breaks is_old name ++ parameters_breaks occurs [] variables
 
--- what a head breaks, with its parts; it has at most so many variables
+-- what the list of a head breaks itself; it has at most so many variables
+abbrev pub head_list_breaks : ℕ → FormTree → List Break
+head_list_breaks most (list fs at) = breaks_if (not (has_head_shape fs)) Shape at ++ breaks_if (has_more most fs) Limit at
+head_list_breaks most _ = []
+
+-- what a head breaks, with its parts
 abbrev pub head_breaks : ℕ → (List ℕ → Bool) → (List ℕ → Bool) → FormTree → List Break
-head_breaks most is_old occurs (list fs at) =
-    breaks_if (not (has_head_shape fs)) Shape at ++ (breaks_if (has_more most fs) Limit at ++ head_parts_breaks is_old occurs fs)
-head_breaks most is_old occurs _ = []
+head_breaks most is_old occurs f = head_list_breaks most f ++ head_parts_breaks is_old occurs (elements_of f)
 
 -- the variables of a head
 abbrev pub parameters_of : FormTree → Scope
@@ -62,48 +65,60 @@ abbrev pub is_clause : List ℕ → FormTree → Bool
 is_clause word (list (more_forms f fs) at) = is_word word f
 is_clause word _ = false
 
--- the forms are an `effects` clause, or none
-abbrev pub are_clauses_from_effects : FormTrees → Bool
-are_clauses_from_effects no_form = true
-are_clauses_from_effects (more_forms f no_form) = is_clause (codes "effects") f
-are_clauses_from_effects _ = false
+-- the first of the forms, where it is a clause with this word
+abbrev pub leading : List ℕ → FormTrees → Option FormTree
+leading word no_form = None
+leading word (more_forms f fs) = if is_clause word f then Some f else None
 
--- the forms are a `pre` clause and an `effects` clause, or one of them or none
-abbrev pub are_clauses_from_pre : FormTrees → Bool
-are_clauses_from_pre no_form = true
-are_clauses_from_pre (more_forms f fs) = (is_clause (codes "pre") f && are_clauses_from_effects fs) || are_clauses_from_effects (more_forms f fs)
+-- the forms after such a clause, or all where the first is none
+abbrev pub after_leading : List ℕ → FormTrees → FormTrees
+after_leading word no_form = no_form
+after_leading word (more_forms f fs) = if is_clause word f then fs else more_forms f fs
 
--- the forms are clauses: `bounds`, `pre` and `effects` in this order, each at most once
+-- the clauses of an operator, which stand in the order `bounds`, `pre`, `effects`, each at most once
+abbrev pub bounds_clause : FormTrees → Option FormTree
+bounds_clause fs = leading (codes "bounds") fs
+
+abbrev pub pre_clause : FormTrees → Option FormTree
+pre_clause fs = leading (codes "pre") (after_leading (codes "bounds") fs)
+
+abbrev pub effects_clause : FormTrees → Option FormTree
+effects_clause fs = leading (codes "effects") (after_leading (codes "pre") (after_leading (codes "bounds") fs))
+
+-- there is no form
+abbrev pub is_nothing : FormTrees → Bool
+is_nothing no_form = true
+is_nothing (more_forms f fs) = false
+
+-- beside those clauses there is none
 abbrev pub are_clauses : FormTrees → Bool
-are_clauses no_form = true
-are_clauses (more_forms f fs) = (is_clause (codes "bounds") f && are_clauses_from_pre fs) || are_clauses_from_pre (more_forms f fs)
-
--- the first of the forms that is a clause with this word
-abbrev pub clause_of : List ℕ → FormTrees → Option FormTree
-clause_of word no_form = None
-clause_of word (more_forms f fs) = if is_clause word f then Some f else clause_of word fs
+are_clauses fs = is_nothing (after_leading (codes "effects") (after_leading (codes "pre") (after_leading (codes "bounds") fs)))
 
 -- the variable occurs in the `bounds` clause
 abbrev pub occurs_in_bounds : FormTrees → List ℕ → Bool
-occurs_in_bounds clauses text = option_map_or (occurs_in text) (clause_of (codes "bounds") clauses) false
+occurs_in_bounds clauses text = option_map_or (occurs_in text) (bounds_clause clauses) false
 
 -- what the precondition breaks, by the elements after `pre`
 abbrev pub pre_breaks : Signature → Scope → FormTrees → ℕ → List Break
 pre_breaks g scope (more_forms f no_form) at = formula_breaks role.State g scope f
 pre_breaks g scope _ at = (Shape, at) ∷ []
 
--- what a clause breaks
-abbrev pub clause_breaks : Signature → Scope → FormTree → List Break
-clause_breaks g scope (list (more_forms f fs) at) =
-    if is_word (codes "bounds") f then bounds_breaks g scope fs
-    else (if is_word (codes "pre") f then pre_breaks g scope fs at
-    else effects_breaks g scope fs)
-clause_breaks g scope _ = []
+-- what each clause breaks, where there is one
+abbrev pub bounds_clause_breaks : Signature → Scope → Option FormTree → List Break
+bounds_clause_breaks g scope None = []
+bounds_clause_breaks g scope (Some clause) = bounds_breaks g scope (rest_of clause)
+
+abbrev pub pre_clause_breaks : Signature → Scope → Option FormTree → List Break
+pre_clause_breaks g scope None = []
+pre_clause_breaks g scope (Some clause) = pre_breaks g scope (rest_of clause) (offset_of clause)
+
+abbrev pub effects_clause_breaks : Signature → Scope → Option FormTree → List Break
+effects_clause_breaks g scope None = []
+effects_clause_breaks g scope (Some clause) = effects_breaks g scope (rest_of clause)
 
 -- what clauses break
 abbrev pub clauses_breaks : Signature → Scope → FormTrees → List Break
-clauses_breaks g scope no_form = []
-clauses_breaks g scope (more_forms f fs) = clause_breaks g scope f ++ clauses_breaks g scope fs
+clauses_breaks g scope fs = bounds_clause_breaks g scope (bounds_clause fs) ++ (pre_clause_breaks g scope (pre_clause fs) ++ effects_clause_breaks g scope (effects_clause fs))
 
 -- what an operator breaks that stands after operators with these names, by its elements after the first
 abbrev pub operator_breaks : Signature → List (List ℕ) → FormTrees → List Break

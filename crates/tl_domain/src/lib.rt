@@ -1,23 +1,31 @@
-//! Domain files: the rules that each form breaks, what forms stand for, and readers that meet both.
+//! Domain files: the domain that the forms of a file stand for, or the first rule that one of them breaks.
 //!
-//! The definitions stand in `specs/`. The readers are private until the whole file is read.
+//! The definitions stand in `specs/`.
+//!
+//! - `words`: the words of items.
+//! - `heads`, `clauses`: the parts of definitions and operators.
+//! - `definitions`: declarations and definitions.
+//! - `operator_names`, `operators`: operators.
+//! - `known`: what the items before an item declare.
+//! - `item_shapes`, `item_parts`, `items`: items.
+//! - `domain_file`: the domain form, which is the one form of a file.
+//! - `read`: the domain of a file, whose symbols join the names.
+//! - `laws`: what is proved of the breaks of a file, and of the domain that it stands for.
 #![tactic(auto)]
 
-mod arguments;
-mod bounds;
-mod formula_checks;
-mod formula_leaves;
-mod formulas;
-mod goals;
-mod parts;
-mod roles;
-mod rule;
-mod scope;
-mod signature;
-mod steps;
-mod symbols;
-mod terms;
-mod variables;
+mod clauses;
+mod definitions;
+mod domain_file;
+mod heads;
+mod item_parts;
+mod item_shapes;
+mod items;
+mod known;
+mod laws;
+mod operator_names;
+mod operators;
+mod read;
 mod words;
 
-pub use rule::{FormFault, Rule};
+pub use laws::{domain_is_kept, first_break_is_least, names_are_there, settled_file_means};
+pub use read::domain_of;

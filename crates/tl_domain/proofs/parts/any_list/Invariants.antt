@@ -1,8 +1,0 @@
-use Rattle.std.proofs.Common.{◌≡◌, drop}
-use Rattle.tl_domain.specs.Parts.{any_list}
-use Rattle.tl_domain.specs.Reads.{trees_in}
-use Rattle.tl_domain.proofs.parts.any_list.Given as goal
-
--- a list among all forms is one among those that are left
-abbrev pub invariant-loop-form : goal.invariant-loop-form
-invariant-loop-form l = any_list (trees_in l.forms) ≡ any_list (trees_in (drop l.form-index l.forms))

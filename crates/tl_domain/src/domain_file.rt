@@ -1,0 +1,101 @@
+// The domain form, which is the one form of a file.
+ghost use Rattle.std.specs.Prelude.{◌≡◌};
+ghost use Rattle.tl_sexpr.specs.Tree.{list, tree_of};
+ghost use Rattle.tl_forms.specs.Parts.{elements_of};
+ghost use Rattle.tl_forms.specs.Reads.{Reads, Checks, trees_in};
+ghost use Rattle.tl_forms.specs.Symbols.{number_in};
+ghost use Rattle.tl_domain.specs.DomainFiles.{domain_form_breaks, second_form_breaks, domain_file_breaks};
+ghost use Rattle.tl_domain.specs.DomainTrees.{domain_tree};
+ghost use Rattle.tl_domain.specs.Items.{nothing_known, items_breaks};
+ghost use Rattle.tl_domain.specs.MeaningOfItems.{with_items, empty_domain, domain_meant, domain_file_meant};
+
+use crate::items::items;
+use std::alloc::Global;
+use tl_forms::parts::{is_variable, is_word, offset, split_first, symbol_text};
+use tl_forms::{FormFault, Rule, breaks, number_of};
+use tl_sexpr::Form;
+use tl_syntax::{Declareds, Definitions, Domain, Formula, Names, Operators};
+
+/// A domain without items. It takes no memory.
+#[tactic(auto, using(crate::proofs::Rulesets::formula_trees))]
+fn empty_domain(alloc: Global, name: u32) -> Domain
+    ensures { domain_tree result ≡ empty_domain name }
+{
+    Domain {
+        name,
+        predicates: Declareds::new(alloc),
+        functions: Declareds::new(alloc),
+        definitions: Definitions::new(alloc),
+        operators: Operators::new(alloc),
+        control: Formula::True,
+    }
+}
+
+/// The domain of a name with these items.
+fn named_domain(
+    alloc: Global,
+    names: &Names,
+    text: &str,
+    forms: &[Form],
+) -> Result<Domain, FormFault>
+    ensures { Reads domain_tree result (items_breaks nothing_known (trees_in forms.now)) (with_items names.now nothing_known (empty_domain (number_in names.now text.now)) (trees_in forms.now)) }
+{
+    let mut domain = empty_domain(alloc, number_of(names, text));
+    items(alloc, names, &mut domain, forms)?;
+    Ok(domain)
+}
+
+/// The domain of a domain form, by the elements of its list and its offset.
+#[tactic(auto, using(crate::proofs::DomainParts::domain_parts))]
+fn domain_list(alloc: Global, names: &Names, forms: &[Form], at: u32) -> Result<Domain, FormFault>
+    ensures { Reads domain_tree result (domain_form_breaks (list (trees_in forms.now) at)) (domain_meant names.now (trees_in forms.now)) }
+{
+    let Some((word, later)) = split_first(forms) else {
+        return Err(breaks(Rule::Shape, at));
+    };
+    let Some((name, rest)) = split_first(later) else {
+        return Err(breaks(Rule::Shape, at));
+    };
+    let Some(text) = symbol_text(name) else {
+        return Err(breaks(Rule::Shape, at));
+    };
+    if !is_word("domain", word) || is_variable(text) {
+        return Err(breaks(Rule::Shape, at));
+    }
+    named_domain(alloc, names, text, rest)
+}
+
+/// The domain of a domain form.
+#[tactic(auto, using(crate::proofs::Rulesets::form_trees))]
+fn domain_form(alloc: Global, names: &Names, form: &Form) -> Result<Domain, FormFault>
+    ensures { Reads domain_tree result (domain_form_breaks (tree_of form.now)) (domain_meant names.now (elements_of (tree_of form.now))) }
+{
+    match form {
+        Form::Sym(_, at) => Err(breaks(Rule::Shape, *at)),
+        Form::Int(_, at) => Err(breaks(Rule::Shape, *at)),
+        Form::List(forms, at) => domain_list(alloc, names, forms.as_slice(), *at),
+    }
+}
+
+/// Checks that no form stands after the first.
+fn check_last(forms: &[Form]) -> Result<(), FormFault>
+    ensures { Checks result (second_form_breaks (trees_in forms.now)) }
+{
+    match split_first(forms) {
+        Some((second, _)) => Err(breaks(Rule::Shape, offset(second))),
+        None => Ok(()),
+    }
+}
+
+/// The domain of the forms of a file, whose symbols are among the names.
+#[tactic(auto, using(crate::proofs::Rulesets::composed))]
+pub(crate) fn domain_file(alloc: Global, names: &Names, forms: &[Form]) -> Result<Domain, FormFault>
+    ensures { Reads domain_tree result (domain_file_breaks (trees_in forms.now)) (domain_file_meant names.now (trees_in forms.now)) }
+{
+    let Some((first, later)) = split_first(forms) else {
+        return Err(breaks(Rule::Shape, 0));
+    };
+    let domain = domain_form(alloc, names, first)?;
+    check_last(later)?;
+    Ok(domain)
+}
