@@ -1,0 +1,14 @@
+pub mod Rulesets
+pub mod Counts
+pub mod OrElse
+pub mod PlaceLookups
+pub mod Offsets
+pub mod FileOrder
+pub mod Consistent
+pub mod Kept
+pub mod MoreNames
+pub mod SettledProblems
+pub mod ReadProblems
+pub mod SettledFacts
+pub mod SettledMeaning
+pub mod GoByDeclarations

@@ -1,0 +1,16 @@
+pub mod PlaceEntries
+pub mod Values
+pub mod Declarations
+pub mod Facts
+pub mod Literals
+pub mod Elements
+pub mod ProblemFiles
+pub mod LawsOrder
+pub mod Keeps
+pub mod LawsKeeps
+pub mod LawsNames
+pub mod Examples
+pub mod Problems
+pub mod SettledSections
+pub mod LawsSettled
+pub mod LawsDeclarations

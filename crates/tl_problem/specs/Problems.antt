@@ -1,0 +1,52 @@
+-- The problem that a file stands for.
+use Rattle.std.specs.Prelude.{◌≡◌, ℕ, List, map, ⊤}
+use Rattle.tl_sexpr.specs.Tree.{FormTrees}
+use Rattle.tl_syntax.specs.declared.domain.Domain.{Domain}
+use Rattle.tl_syntax.specs.declared.problem.Problem.{Problem}
+use Rattle.tl_forms.specs.declared.rule.FormFault.{FormFault}
+use Rattle.tl_forms.specs.declared.rule.FormFault.TheVariants.{Breaks, NoMemory}
+use Rattle.tl_forms.specs.Rules.{Break, IsLeastBreak}
+use Rattle.tl_forms.specs.Symbols.{names_with_all}
+use Rattle.tl_problem.specs.declared.literals.Literals.{Literals}
+use Rattle.tl_problem.specs.declared.settled.Lists.{Lists}
+use Rattle.tl_problem.specs.declared.sections.Sections.{Sections}
+use Rattle.tl_problem.specs.ProblemFiles.{problem_file_breaks, problem_file_meant}
+use Rattle.tl_renumber.specs.Numbers.{number_in, IsSettled}
+use Rattle.tl_renumber.specs.Renumbered.{renumbered_fact, renumbered_place}
+use Rattle.tl_renumber.specs.RenumberingKeeps.{IsRenumbered}
+
+-- the lists of what a section says, where the names get these numbers
+pub record AreSettled (numbers : List ℕ) (l : Literals) (lists : Lists) : Type 0 where
+  pub facts : lists.facts ≡ map (renumbered_fact (number_in numbers)) l.facts
+  pub values : lists.values ≡ map (renumbered_place (number_in numbers)) l.values
+  pub nots : lists.nots ≡ map (renumbered_fact (number_in numbers)) l.nots
+
+-- the problem of a domain and of what a file says, where the names get these numbers, which are those of their order by bytes
+pub record IsSettledProblem (numbers : List ℕ) (names : List (List ℕ)) (d : Domain) (said : Sections) (p : Problem) : Type 0 where
+  pub settled : IsSettled numbers names p.names
+  pub domain : IsRenumbered (number_in numbers) d p.domain
+  pub init_facts : p.init_facts ≡ map (renumbered_fact (number_in numbers)) said.init.facts
+  pub init_values : p.init_values ≡ map (renumbered_place (number_in numbers)) said.init.values
+  pub goal_facts : p.goal_facts ≡ map (renumbered_fact (number_in numbers)) said.goal.facts
+  pub goal_values : p.goal_values ≡ map (renumbered_place (number_in numbers)) said.goal.values
+  pub goal_nots : p.goal_nots ≡ map (renumbered_fact (number_in numbers)) said.goal.nots
+
+-- the names of a domain and of the forms of a problem file
+abbrev pub all_names : List (List ℕ) → FormTrees → List (List ℕ)
+all_names names forms = names_with_all names forms
+
+-- what the forms break, and what they say, with the names of both files
+abbrev pub breaks_of : List (List ℕ) → Domain → FormTrees → List Break
+breaks_of names d forms = problem_file_breaks (all_names names forms) d forms
+
+abbrev pub said_by : List (List ℕ) → Domain → FormTrees → Sections
+said_by names d forms = problem_file_meant (all_names names forms) d forms
+
+-- the problem of the domain and the forms, with the names of both files in the order of their bytes
+abbrev pub IsProblemOf : List (List ℕ) → Domain → FormTrees → Problem → Type 0
+IsProblemOf names d forms p = (numbers : List ℕ) × IsSettledProblem numbers (all_names names forms) d (said_by names d forms) p
+
+-- the fault is the least of these breaks; want of memory says nothing
+abbrev pub IsLeastFault : List Break → FormFault → Type 0
+IsLeastFault breaks (Breaks broken at) = IsLeastBreak breaks (broken, at)
+IsLeastFault breaks NoMemory = ⊤
