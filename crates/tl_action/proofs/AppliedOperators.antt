@@ -1,0 +1,168 @@
+-- The step of an action by its operator.
+use Rattle.std.proofs.Common.{◌≡◌, ◌<◌, ◌==◌, ◌&&◌, ◌++◌, ℕ, zero, suc, List, [], ◌∷◌, map, flat_map, length, slice_get, get_or, cond, Bool, true, false, Option, Some, None, Result, Ok, Err, refl, sym, ap, ◌∙◌, subst, arith}
+use Rattle.std.proofs.lemmas.Bool.{eq-eqb}
+use Rattle.std.proofs.lemmas.List.{length-map}
+use Rattle.std.specs.List.{list_all}
+use Rattle.tl_action.specs.declared.changes.Changes.{Changes}
+use Rattle.tl_action.specs.declared.fault.ActFault.{ActFault}
+use Rattle.tl_action.specs.Actions.{HasOperator}
+use Rattle.tl_action.specs.Agreement.{Agree}
+use Rattle.tl_action.specs.Answers.{IsCausedBy}
+use Rattle.tl_action.specs.Collected.{nothing, HasMore}
+use Rattle.tl_action.specs.Prepared.{instances_of, is_prepared, looked_prepared, CollectsWhole, Prepares}
+use Rattle.tl_action.proofs.Operators.{OperatorAgrees, operator-agrees}
+use Rattle.tl_action.proofs.Passed.{caused-more}
+use Rattle.tl_action.proofs.Walks.{each-item}
+use Rattle.tl_eval.specs.Notes.{Tells, operation_of}
+use Rattle.tl_eval.specs.declared.range.RangeNote.{RangeNote}
+use Rattle.tl_eval.proofs.TermLaws.{among-left, among-right}
+use Rattle.tl_syntax.specs.declared.action.Action.{Action}
+use Rattle.tl_syntax.specs.declared.operator.Operator.{Operator}
+use Rattle.tl_syntax.specs.declared.problem.Problem.{Problem}
+use Rattle.tl_syntax.specs.Assignment.{Assignment, bind, no_values}
+use Rattle.tl_syntax.specs.FreeVariables.{slots_of}
+use Rattle.tl_syntax.specs.Kept.{OperatorKeeps}
+use Rattle.tl_syntax.specs.Keys.{fact_key, place_entry, no_clash}
+use Rattle.tl_syntax.specs.Signature.{signature_of}
+use Rattle.tl_terms.specs.Bounds.{bound_true}
+use Rattle.tl_terms.specs.Definitions.{situation_of}
+use Rattle.tl_terms.specs.Looked.{followed_if, looked_in_state, looked_in_effects, looks_of, looked_by_operator, looked_by_operator_if, looked_by_action}
+use Rattle.tl_terms.specs.Operations.{Operation}
+use Rattle.tl_terms.specs.Problem.{PlainOperator, PlainProblem}
+use Rattle.tl_terms.specs.ProblemMeaning.{plain_operator, plain_problem}
+use Rattle.tl_terms.specs.Step.{EffectInstance, is_defined, given, with_all, without_all, overwritten, changed, applied, applied_if, step}
+use Rattle.tl_terms.specs.Truth.{state_true}
+use Rattle.tl_terms.specs.World.{World}
+
+-- ---- the operator of an action
+
+-- the action's operator, as the problem keeps it
+pub record OperatorAt (problem : Problem) (a : Action) (o : Operator) : Type 0 where
+  pub there : slice_get (plain_problem problem).operators a.op ≡ Some (plain_operator o)
+  pub arity : length a.args ≡ length o.params
+  pub keeps : OperatorKeeps (signature_of problem.domain) (length problem.names) o
+
+found-below : (os : List Operator) (i n : ℕ) → slice_get (map (λ x. length x.params) (map plain_operator os)) i ≡ Some n → i < length os
+found-below [] i n q = absurd (let z : ⊥ = cc in z)
+found-below (o ∷ os) zero n q = omega arith
+found-below (o ∷ os) (suc i) n q = let k = found-below os i n q in omega arith
+
+found-arity : (os : List Operator) (i n : ℕ) (o : Operator) → slice_get (map (λ x. length x.params) (map plain_operator os)) i ≡ Some n → n ≡ length (get_or os i o).params
+found-arity [] i n o q = absurd (let z : ⊥ = cc in z)
+found-arity (x ∷ os) zero n o q = let e : length x.params ≡ n = cc in sym e
+found-arity (x ∷ os) (suc i) n o q = found-arity os i n o q
+
+found-there : (os : List Operator) (i : ℕ) (o : Operator) → i < length os → slice_get (map plain_operator os) i ≡ Some (plain_operator (get_or os i o))
+found-there [] i o h = absurd (omega arith)
+found-there (x ∷ os) zero o h = refl
+found-there (x ∷ os) (suc i) o h = found-there os i o (omega arith)
+
+pub operator-below : (problem : Problem) (a : Action) → HasOperator (plain_problem problem) a → a.op < length problem.domain.operators
+unfolding plain_problem
+operator-below problem a h = found-below problem.domain.operators a.op (length a.args) h
+
+pub operator-at : (problem : Problem) (a : Action) (os : List Operator) (o : Operator) → os ≡ problem.domain.operators → o ≡ get_or os a.op o → HasOperator (plain_problem problem) a → OperatorAt problem a o
+unfolding plain_problem
+operator-at problem a os o q k h =
+    let below = found-below problem.domain.operators a.op (length a.args) h in
+    let is : o ≡ get_or problem.domain.operators a.op o = k ∙ ap (λ (xs : List Operator). get_or xs a.op o) q in
+    record {
+      there = found-there problem.domain.operators a.op o below ∙ ap (λ (x : Operator). Some (plain_operator x)) (sym is);
+      arity = found-arity problem.domain.operators a.op (length a.args) o h ∙ ap (λ (x : Operator). length x.params) (sym is);
+      keeps = each-item (OperatorKeeps (signature_of problem.domain) (length problem.names)) problem.domain.operators a.op o problem.domain_keeps.operators below is;
+    }
+
+-- the operator at a position
+pub operator-there : (problem : Problem) (k : ℕ) (o : Operator) → k < length problem.domain.operators → o ≡ get_or problem.domain.operators k o → slice_get (plain_problem problem).operators k ≡ Some (plain_operator o)
+unfolding plain_problem
+operator-there problem k o h q = found-there problem.domain.operators k o h ∙ ap (λ (x : Operator). Some (plain_operator x)) (sym q)
+
+pub operator-keeps : (problem : Problem) (k : ℕ) (o : Operator) → k < length problem.domain.operators → o ≡ get_or problem.domain.operators k o → OperatorKeeps (signature_of problem.domain) (length problem.names) o
+operator-keeps problem k o h q = each-item (OperatorKeeps (signature_of problem.domain) (length problem.names)) problem.domain.operators k o problem.domain_keeps.operators h q
+
+pub operators-count : (problem : Problem) → length (plain_problem problem).operators ≡ length problem.domain.operators
+unfolding plain_problem
+operators-count problem = length-map problem.domain.operators plain_operator
+
+-- ---- what was prepared
+
+both-true : (a b : Bool) → a ≡ true → b ≡ true → (a && b) ≡ true
+both-true true b p q = q
+both-true false b p q = p
+
+pub prepares-collected : (p : PlainProblem) (w : World) (e : Assignment) (o : PlainOperator) (r : Result (Option Changes) ActFault) → true ≡ state_true (situation_of p w) e o.pre → CollectsWhole p w e o r → Prepares p w e o r
+prepares-collected p w e o (Ok (Some x)) t h = (both-true _ _ (sym t) (both-true _ _ h.1.defined h.0), h.1)
+prepares-collected p w e o (Ok None) t h = ap (λ (b : Bool). b && (list_all is_defined (instances_of p w e o) && no_clash (flat_map given (instances_of p w e o)))) (sym t) ∙ h
+prepares-collected p w e o (Err x) t h =
+    let pre = looked_in_state (looks_of p w) (situation_of p w) e o.pre in
+    let effects = looked_in_effects (looks_of p w) (situation_of p w) e o.effects in
+    subst (λ (b : Bool). IsCausedBy (followed_if b pre effects) x) t (caused-more effects (pre ++ effects) x (λ y. among-right y pre effects) h)
+
+pub condition-noted : (p : PlainProblem) (w : World) (e : Assignment) (o : PlainOperator) (n : RangeNote) → Tells (looked_in_state (looks_of p w) (situation_of p w) e o.pre) n → Tells (looked_prepared p w e o) n
+condition-noted p w e o n h = (among-left (operation_of n) (looked_in_state (looks_of p w) (situation_of p w) e o.pre) (cond (state_true (situation_of p w) e o.pre) (looked_in_effects (looks_of p w) (situation_of p w) e o.effects) []) h.0, h.1)
+
+-- ---- the step
+
+same-length : (n m : ℕ) → n ≡ m → (n == m) ≡ true
+same-length n m q = eq-eqb n m q
+
+module _ (p : PlainProblem) (w : World) (a : Action) (o : PlainOperator) (there : slice_get p.operators a.op ≡ Some o) (arity : length a.args ≡ length o.params) where
+  abbrev pub arguments : Assignment
+  arguments = bind o.params a.args no_values
+
+  pub step-is : step p w a ≡ cond (list_all (bound_true (situation_of p w) arguments) o.bounds && is_prepared p w arguments o) (Some (changed w (instances_of p w arguments o))) None
+  unfolding step applied
+  step-is =
+      ap (applied_if p w a.args) there
+      ∙ ap (λ (b : Bool). cond (b && (list_all (bound_true (situation_of p w) arguments) o.bounds && is_prepared p w arguments o)) (Some (changed w (instances_of p w arguments o))) None) (same-length (length a.args) (length o.params) arity)
+
+  pub looked-is : looked_by_action p w a ≡ cond (list_all (bound_true (situation_of p w) arguments) o.bounds) (looked_prepared p w arguments o) []
+  unfolding looked_by_action looked_by_operator
+  looked-is =
+      ap (looked_by_operator_if p w a.args) there
+      ∙ ap (λ (b : Bool). cond (b && list_all (bound_true (situation_of p w) arguments) o.bounds) (looked_prepared p w arguments o) []) (same-length (length a.args) (length o.params) arity)
+
+and-false : (a : Bool) → (a && false) ≡ false
+and-false true = refl
+and-false false = refl
+
+-- under a frame in which the parameters have the action's arguments
+module _ (problem : Problem) (w : World) (a : Action) (o : Operator) (at : OperatorAt problem a o) (d : Assignment) (agrees : Agree (slots_of o.params) d (bind o.params a.args no_values)) where
+  abbrev pub meaning : PlainProblem
+  meaning = plain_problem problem
+
+  abbrev pub values : Assignment
+  values = bind o.params a.args no_values
+
+  pub same : OperatorAgrees meaning w o d values
+  same = operator-agrees (signature_of problem.domain) (length problem.names) meaning w o d values at.keeps agrees
+
+  pub step-stopped : list_all (bound_true (situation_of meaning w) d) o.bounds ≡ false → let none : Option World = None in none ≡ step meaning w a
+  step-stopped h =
+      sym (step-is meaning w a (plain_operator o) at.there at.arity
+      ∙ ap (λ (b : Bool). cond (b && is_prepared meaning w values (plain_operator o)) (Some (changed w (instances_of meaning w values (plain_operator o)))) None) (sym same.bounds ∙ h))
+
+  pub step-unprepared : is_prepared meaning w d (plain_operator o) ≡ false → let none : Option World = None in none ≡ step meaning w a
+  step-unprepared h =
+      sym (step-is meaning w a (plain_operator o) at.there at.arity
+      ∙ ap (λ (b : Bool). cond b (Some (changed w (instances_of meaning w values (plain_operator o)))) None) (ap (λ (b : Bool). list_all (bound_true (situation_of meaning w) values) o.bounds && b) (sym same.prepared ∙ h) ∙ and-false (list_all (bound_true (situation_of meaning w) values) o.bounds)))
+
+  step-some : list_all (bound_true (situation_of meaning w) d) o.bounds ≡ true → is_prepared meaning w d (plain_operator o) ≡ true → step meaning w a ≡ Some (changed w (instances_of meaning w d (plain_operator o)))
+  step-some h k =
+      step-is meaning w a (plain_operator o) at.there at.arity
+      ∙ (ap (λ (b : Bool). cond b (Some (changed w (instances_of meaning w values (plain_operator o)))) None) (both-true _ _ (sym same.bounds ∙ h) (sym same.prepared ∙ k))
+      ∙ ap (λ (cs : List EffectInstance). Some (changed w cs)) (sym same.instances))
+
+  pub step-made : list_all (bound_true (situation_of meaning w) d) o.bounds ≡ true → (x : Changes) → (is_prepared meaning w d (plain_operator o) ≡ true) × HasMore (instances_of meaning w d (plain_operator o)) nothing x → (next : World)
+      → next.facts ≡ with_all (without_all w.facts (map fact_key x.dels)) (map fact_key x.adds) → next.places ≡ overwritten w.places (map place_entry x.sets) → Some next ≡ step meaning w a
+  unfolding changed
+  step-made h x k next f s =
+      let facts = f ∙ (λ i. with_all (without_all w.facts (k.1.dels i)) (k.1.adds i)) in
+      let places = s ∙ ap (overwritten w.places) k.1.sets in
+      let is : next ≡ changed w (instances_of meaning w d (plain_operator o)) = λ i. record { facts = facts i; places = places i } in
+      ap (λ (v : World). Some v) is ∙ sym (step-some h k.0)
+
+  pub step-caused : list_all (bound_true (situation_of meaning w) d) o.bounds ≡ true → (x : ActFault) → IsCausedBy (looked_prepared meaning w d (plain_operator o)) x → IsCausedBy (looked_by_action meaning w a) x
+  step-caused h x k =
+      subst (λ (ls : List Operation). IsCausedBy ls x)
+      (same.looked ∙ sym (looked-is meaning w a (plain_operator o) at.there at.arity ∙ ap (λ (b : Bool). cond b (looked_prepared meaning w values (plain_operator o)) []) (sym same.bounds ∙ h))) k

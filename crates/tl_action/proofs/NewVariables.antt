@@ -1,0 +1,72 @@
+-- The new variables of each bound, worked out in turn.
+use Rattle.std.proofs.Common.{◌≡◌, ◌<◌, ◌≤◌, ◌+◌, ℕ, zero, suc, List, [], ◌∷◌, ◌++◌, map, filter, take, drop, append_assoc, append-nil, length, get_or, Bool, true, false, cond, refl, sym, ap, ◌∙◌, arith}
+use Rattle.std.proofs.lemmas.List.{map-append}
+use Rattle.tl_action.specs.Join.{is_new, new_from, variables}
+use Rattle.tl_action.proofs.Walks.{drop-opened, take-opened, drop-past, take-past}
+use Rattle.tl_syntax.specs.declared.bound.Bound.{Bound}
+use Rattle.tl_syntax.specs.declared.term.Term.{Term}
+use Rattle.tl_syntax.specs.declared.term.Term.TheVariants as variant
+use Rattle.tl_syntax.specs.declared.term.Terms.{Terms}
+use Rattle.tl_syntax.specs.declared.variable.Var.{Var}
+use Rattle.tl_syntax.specs.TreeOfTerm.{tree_of_term, tree_of_terms, terms_of_list}
+use Rattle.tl_syntax.specs.Trees.{variable, more_terms}
+use Rattle.tl_syntax.proofs.TermTrees.{tree-Var, trees-Terms}
+
+filter-two : {A : Type 0} (p : A → Bool) (xs ys : List A) → filter p (xs ++ ys) ≡ filter p xs ++ filter p ys
+filter-two p [] ys = refl
+filter-two p (x ∷ xs) ys = (elim (p x) as (λ b. cond b (x ∷ filter p (xs ++ ys)) (filter p (xs ++ ys)) ≡ cond b (x ∷ filter p xs) (filter p xs) ++ filter p ys) [ true ↦ ap (λ zs. x ∷ zs) (filter-two p xs ys) | false ↦ filter-two p xs ys ])
+
+module _ {A : Type 0} (p : A → Bool) (xs : List A) (i : ℕ) (x : A) (h : i < length xs) (k : x ≡ get_or xs i x) (kept : List A) (so : kept ≡ filter p (take i xs)) where
+  opened : filter p (take (i + 1) xs) ≡ filter p (take i xs) ++ cond (p x) (x ∷ []) []
+  opened = ap (filter p) (take-opened xs i x h k) ∙ filter-two p (take i xs) (x ∷ [])
+
+  pub filter-keeps : (more : List A) → p x ≡ true → more ≡ kept ++ x ∷ [] → more ≡ filter p (take (i + 1) xs)
+  filter-keeps more t q = q ∙ (ap (λ ys. ys ++ x ∷ []) so ∙ sym (opened ∙ ap (λ (b : Bool). filter p (take i xs) ++ cond b (x ∷ []) []) t))
+
+  pub filter-drops : p x ≡ false → kept ≡ filter p (take (i + 1) xs)
+  filter-drops t = so ∙ sym (opened ∙ (ap (λ (b : Bool). filter p (take i xs) ++ cond b (x ∷ []) []) t ∙ append-nil (filter p (take i xs))))
+
+-- ---- the levels
+
+pub levels-on : (ss : List Var) (bs : List Bound) (j : ℕ) (b : Bound) (levels more : List (List Var)) (vars : List Var) → j < length bs → b ≡ get_or bs j b → vars ≡ filter (is_new (take j bs) b) ss → more ≡ levels ++ vars ∷ []
+    → new_from ss [] bs ≡ levels ++ new_from ss (take j bs) (drop j bs) → new_from ss [] bs ≡ more ++ new_from ss (take (j + 1) bs) (drop (j + 1) bs)
+levels-on ss bs j b levels more vars h k q z so =
+    so
+    ∙ (ap (λ rest. levels ++ new_from ss (take j bs) rest) (drop-opened bs j b h k)
+    ∙ (ap (λ vs. levels ++ (vs ∷ new_from ss (take j bs ++ b ∷ []) (drop (j + 1) bs))) (sym q)
+    ∙ (sym (append_assoc levels (vars ∷ []) (new_from ss (take j bs ++ b ∷ []) (drop (j + 1) bs)))
+    ∙ ap₂' (sym z) (sym (take-opened bs j b h k)))))
+  where
+    ap₂' : {us vs : List (List Var)} {xs ys : List Bound} → us ≡ vs → xs ≡ ys → us ++ new_from ss xs (drop (j + 1) bs) ≡ vs ++ new_from ss ys (drop (j + 1) bs)
+    ap₂' p r = λ i. p i ++ new_from ss (r i) (drop (j + 1) bs)
+
+pub levels-ended : (ss : List Var) (bs : List Bound) (j : ℕ) (levels : List (List Var)) → length bs ≤ j → new_from ss [] bs ≡ levels ++ new_from ss (take j bs) (drop j bs) → levels ≡ new_from ss [] bs
+levels-ended ss bs j levels h so = sym (so ∙ (ap (λ rest. levels ++ new_from ss (take j bs) rest) (drop-past bs j h) ∙ append-nil levels))
+
+-- the variables of a level
+pub level-is : (ss : List Var) (seen bs : List Bound) (j : ℕ) (b : Bound) (vs : List Var) → j < length bs → get_or (new_from ss seen bs) j vs ≡ filter (is_new (seen ++ take j bs) (get_or bs j b)) ss
+level-is ss seen [] j b vs h = absurd (omega arith)
+level-is ss seen (x ∷ bs) zero b vs h = ap (λ (ys : List Bound). filter (is_new ys x) ss) (sym (append-nil seen))
+level-is ss seen (x ∷ bs) (suc j) b vs h =
+    level-is ss (seen ++ x ∷ []) bs j b vs (omega arith) ∙ ap (λ (ys : List Bound). filter (is_new ys (get_or bs j b)) ss) (append_assoc seen (x ∷ []) (take j bs))
+
+pub levels-length : (ss : List Var) (seen bs : List Bound) → length (new_from ss seen bs) ≡ length bs
+levels-length ss seen [] = refl
+levels-length ss seen (b ∷ bs) = ap suc (levels-length ss (seen ++ b ∷ []) bs)
+
+-- ---- the parameters as terms
+
+pub terms-on : (ss : List Var) (i : ℕ) (s : Var) (terms more : List Term) → i < length ss → s ≡ get_or ss i s → more ≡ terms ++ variant.Var s ∷ [] → map tree_of_term terms ≡ map (λ x. variable x) (take i ss) → map tree_of_term more ≡ map (λ x. variable x) (take (i + 1) ss)
+terms-on ss i s terms more h k q so =
+    ap (map tree_of_term) q
+    ∙ (map-append tree_of_term terms (variant.Var s ∷ [])
+    ∙ ((λ j. so j ++ tree-Var s j ∷ [])
+    ∙ sym (ap (map (λ x. variable x)) (take-opened ss i s h k) ∙ map-append (λ x. variable x) (take i ss) (s ∷ []))))
+
+variables-list : (ss : List Var) → terms_of_list (map (λ x. variable x) ss) ≡ variables ss
+variables-list [] = refl
+variables-list (s ∷ ss) = ap (λ ts. more_terms (variable s) ts) (variables-list ss)
+
+pub terms-ended : (ss : List Var) (i : ℕ) (terms : Terms) → length ss ≤ i → map tree_of_term terms.items.items ≡ map (λ x. variable x) (take i ss) → tree_of_terms terms ≡ variables ss
+terms-ended ss i terms h so =
+    trees-Terms terms ∙ (ap terms_of_list (so ∙ ap (map (λ x. variable x)) (take-past ss i h)) ∙ variables-list ss)

@@ -1,0 +1,70 @@
+-- Places that are set agree exactly where the world of them gives each its value.
+use Rattle.std.proofs.Common.{◌≡◌, ◌↔◌, List, [], ◌∷◌, map, Bool, true, false, true≢false, not, ◌||◌, ◌&&◌, cond, Option, Some, None, inl, inr, refl, sym, ap, ◌∙◌, subst}
+use Rattle.std.specs.List.{list_all}
+use Rattle.std.specs.FinMap as dict
+use Rattle.std.specs.Ordering.{eq_by_cmp, is_eq}
+use Rattle.tl_syntax.specs.declared.place_value.PlaceValue.{PlaceValue}
+use Rattle.tl_syntax.specs.declared.value.Value.{Value}
+use Rattle.tl_syntax.specs.Keys.{Key, key_cmp, value_cmp, agree, no_clash, place_entry}
+use Rattle.tl_syntax.specs.Lists.{Each, Among}
+use Rattle.tl_syntax.specs.TotalOrders.{key_total}
+use Rattle.tl_syntax.proofs.ListLaws.{all-iff, Each-Among, same_test}
+use Rattle.tl_terms.specs.Acceptance.{is_value}
+use Rattle.tl_terms.specs.ProblemMeaning.{world_of}
+use Rattle.tl_terms.specs.World.{value_at}
+use Rattle.tl_terms.proofs.KeyLaws.{key-is, key-itself, value-is, value-itself}
+
+-- no two of the list give one place different values
+abbrev OneValue : List (Key × Value) → Type 0
+OneValue ps = (k : Key) (a b : Value) → Among (k, a) ps → Among (k, b) ps → a ≡ b
+
+agree-iff : (x y : Key × Value) → (x.0 ≡ y.0 → x.1 ≡ y.1) ↔ (agree x y ≡ true)
+agree-iff x y = (elim (is_eq (key_cmp x.0 y.0)) as (λ b. is_eq (key_cmp x.0 y.0) ≡ b → (x.0 ≡ y.0 → x.1 ≡ y.1) ↔ ((not b || is_eq (value_cmp x.1 y.1)) ≡ true)) [
+  | true ↦ λ q. (λ h. value-itself x.1 y.1 (h (sym (key-is x.0 y.0 q))), λ h _. value-is x.1 y.1 h)
+  | false ↦ λ q. (λ _. refl, λ _ e. absurd (true≢false (sym (key-itself x.0 y.0 (sym e)) ∙ q)))
+]) refl
+
+no_clash-iff : (ps : List (Key × Value)) → OneValue ps ↔ (no_clash ps ≡ true)
+no_clash-iff ps =
+    let inner : (x : Key × Value) → Each (λ y. x.0 ≡ y.0 → x.1 ≡ y.1) ps ↔ (list_all (agree x) ps ≡ true) = λ x. all-iff (λ y. x.0 ≡ y.0 → x.1 ≡ y.1) (agree x) (agree-iff x) ps in
+    let outer = all-iff (λ x. Each (λ y. x.0 ≡ y.0 → x.1 ≡ y.1) ps) (λ x. list_all (agree x) ps) inner ps in (
+      λ h. outer.0 ((Each-Among (λ x. Each (λ y. x.0 ≡ y.0 → x.1 ≡ y.1) ps) ps).1 (λ x m. (Each-Among (λ y. x.0 ≡ y.0 → x.1 ≡ y.1) ps).1 (λ y n e. h y.0 x.1 y.1 (subst (λ k. Among (k, x.1) ps) e m) n))),
+      λ h k a b m n. (Each-Among (λ y. k ≡ y.0 → a ≡ y.1) ps).0 ((Each-Among (λ x. Each (λ y. x.0 ≡ y.0 → x.1 ≡ y.1) ps) ps).0 (outer.1 h) (k, a) m) (k, b) n refl,
+    )
+
+-- the map of the list gives a place of it its value
+get-given : (ps : List (Key × Value)) (k : Key) (a : Value) → ((b : Value) → Among (k, b) ps → b ≡ a) → Among (k, a) ps → dict.get (dict.from_entries {R = key_cmp} ps) k ≡ Some a
+get-given [] k a one m = absurd m
+get-given (x ∷ ps) k a one m =
+    dict.get-insert key_total (dict.from_entries ps) x.0 x.1 k
+    ∙ (elim (eq_by_cmp key_cmp k x.0) as (λ b. eq_by_cmp key_cmp k x.0 ≡ b → cond b (Some x.1) (dict.get (dict.from_entries {R = key_cmp} ps) k) ≡ Some a) [
+      | true ↦ λ q. let e : x.0 ≡ k = key-is k x.0 q in ap (λ (v : Value). Some v) (one x.1 (inl (λ i. (e i, x.1))))
+      | false ↦ λ q. elim m [
+        | inl e ↦ absurd (true≢false (sym (key-itself k x.0 (ap (λ (y : Key × Value). y.0) e)) ∙ q))
+        | inr n ↦ get-given ps k a (λ b l. one b (inr l)) n
+      ]
+    ]) refl
+
+is_value-iff : (o : Option Value) (v : Value) → (o ≡ Some v) ↔ (is_value o v ≡ true)
+is_value-iff None v = (λ e. let z : ⊥ = cc in absurd z, λ e. absurd (true≢false (sym e)))
+is_value-iff (Some u) v = (λ e. value-itself u v (let q : u ≡ v = cc in q), λ e. ap (λ (x : Value). Some x) (value-is u v e))
+
+some-same : (a b : Value) (o : Option Value) → o ≡ Some a → o ≡ Some b → a ≡ b
+some-same a b o p q = let e : Some a ≡ Some b = sym p ∙ q in cc
+
+all-given : (ps : List (Key × Value)) → list_all (λ x. is_value (dict.get (dict.from_entries {R = key_cmp} ps) x.0) x.1) ps ≡ no_clash ps
+all-given ps =
+    let m = dict.from_entries {R = key_cmp} ps in
+    let given = all-iff (λ (x : Key × Value). dict.get m x.0 ≡ Some x.1) (λ x. is_value (dict.get m x.0) x.1) (λ x. is_value-iff (dict.get m x.0) x.1) ps in
+    same_test (list_all (λ x. is_value (dict.get m x.0) x.1) ps) (no_clash ps)
+    (λ h. (no_clash-iff ps).0 (λ k a b n l. let each = (Each-Among (λ (x : Key × Value). dict.get m x.0 ≡ Some x.1) ps).0 (given.1 h) in some-same a b (dict.get m k) (each (k, a) n) (each (k, b) l)))
+    (λ h. given.0 ((Each-Among (λ (x : Key × Value). dict.get m x.0 ≡ Some x.1) ps).1 (λ x n. get-given ps x.0 x.1 (λ b l. (no_clash-iff ps).1 h x.0 b x.1 l n) n)))
+
+list_all-map : {A B : Type 0} (f : A → B) (p : B → Bool) (xs : List A) → list_all (λ x. p (f x)) xs ≡ list_all p (map f xs)
+list_all-map f p [] = refl
+list_all-map f p (x ∷ xs) = ap (λ (b : Bool). p (f x) && b) (list_all-map f p xs)
+
+pub places-agree : (sets : List PlaceValue) → list_all (λ s. is_value (value_at (world_of [] sets) (s.fun, s.args)) s.value) sets ≡ no_clash (map place_entry sets)
+unfolding world_of
+places-agree sets =
+    list_all-map place_entry (λ (x : Key × Value). is_value (dict.get (dict.from_entries {R = key_cmp} (map place_entry sets)) x.0) x.1) sets ∙ all-given (map place_entry sets)

@@ -1,0 +1,20 @@
+use Rattle.std.proofs.Common.{◌≡◌, ◌↔◌, ◌⊎◌, List, [], inl, inr, subst}
+use Rattle.tl_action.specs.Join.{IsFound}
+use Rattle.tl_eval.specs.Frames.{assignment_in}
+use Rattle.tl_syntax.specs.declared.value.Value.{Value}
+use Rattle.tl_syntax.specs.Lists.{Among}
+use Rattle.tl_terms.specs.ProblemMeaning.{plain_operator, plain_problem}
+use Rattle.tl_action.proofs.all_actions.rows_of.Goals as goal
+
+-- the rows that were added to none
+added : (P : List Value → Type 0) (before after kept : List (List Value)) → before ≡ [] → ((t : List Value) → Among t after ↔ (Among t before ⊎ P t)) → ((t : List Value) → Among t kept ↔ Among t after) → (t : List Value) → Among t kept ↔ P t
+added P before after kept q h k t = (
+  λ m. elim ((h t).0 ((k t).0 m)) [ inl a ↦ absurd (subst (Among t) q a) | inr p ↦ p ],
+  λ p. (k t).1 ((h t).1 (inr p)),
+)
+
+pub returns-in-Ok-clause-rows : goal.returns-in-Ok-clause-rows
+returns-in-Ok-clause-rows c = record {
+  all = added (IsFound (plain_problem c.args.task.now.problem) c.args.w.now (plain_operator c.args.operator.now) [] c.args.operator.now.bounds (assignment_in c.args.env.now)) c.new-rows.result.items c.join.new.rows.items c.in_order.result.items c.new-rows.ensures.items c.in-Ok.ensures.rows c.in_order.ensures.same;
+  order = c.in_order.ensures.order;
+}

@@ -1,0 +1,245 @@
+use Rattle.std.proofs.Common.{◌≡◌, ◌<◌, List, [], map, length, get_or, refl, sym, ap, ◌∙◌, subst, arith}
+use Rattle.tl_action.proofs.EffectParts.{CollectsAll, reads-Add, reads-Del, reads-Assign, at-Add, at-Del, at-Assign, agree-self, frame-same, reads-When, when-true, when-false, when-noted, frame-When, reads-Each, at-Each, frame-Each, instances_for, looked_for, inner-reads, frame-after}
+use Rattle.tl_action.proofs.EffectLists.{effects-begun, item-smaller, item-reads, frame-on, item-on, item-undefined, item-fault, effects-all}
+use Rattle.tl_action.proofs.EffectTuples.{tuple-on, tuple-undefined, tuple-fault, tuples-all}
+use Rattle.tl_action.proofs.Passed.{passed-begun}
+use Rattle.tl_action.proofs.Walks.{get-itself}
+use Rattle.tl_eval.specs.Frames.{assignment_in}
+use Rattle.tl_eval.proofs.ArityLaws.{declared-few}
+use Rattle.tl_eval.proofs.PatternLaws.{few-variables, bound-few}
+use Rattle.tl_eval.proofs.ScopeLaws.{each-at}
+use Rattle.tl_syntax.specs.declared.variable.Var.{Var}
+use Rattle.tl_syntax.specs.Assignment.{bind}
+use Rattle.tl_syntax.specs.Lists.{Each}
+use Rattle.tl_syntax.specs.Signature.{signature_of}
+use Rattle.tl_syntax.specs.TreeOfEffect.{tree_of_effect, tree_of_effects}
+use Rattle.tl_terms.specs.ProblemMeaning.{plain_problem}
+use Rattle.tl_world.specs.declared.pattern.Match.{Match}
+use Rattle.tl_world.specs.Patterns.{tuple_of}
+use Rattle.tl_action.proofs.collect.+collected.Goals as goal
+
+pub collect-collect_fact-requires : goal.collect-collect_fact-requires
+collect-collect_fact-requires t c =
+    reads-Add (signature_of c.args.task.now.problem.domain) c.args.effect.now c.in-Add.pred c.in-Add.args c.in-Add.is c.requires
+
+pub collect-collect_fact-requires-in-Del : goal.collect-collect_fact-requires-in-Del
+collect-collect_fact-requires-in-Del t c =
+    reads-Del (signature_of c.args.task.now.problem.domain) c.args.effect.now c.in-Del.pred c.in-Del.args c.in-Del.is c.requires
+
+pub collect-collect_place-requires-clause-args : goal.collect-collect_place-requires-clause-args
+collect-collect_place-requires-clause-args t c =
+    let reads = reads-Assign (signature_of c.args.task.now.problem.domain) c.args.effect.now c.in-Assign.fun c.in-Assign.args c.in-Assign.value c.in-Assign.is c.requires in reads.0
+
+pub collect-collect_place-requires-clause-value : goal.collect-collect_place-requires-clause-value
+collect-collect_place-requires-clause-value t c =
+    let reads = reads-Assign (signature_of c.args.task.now.problem.domain) c.args.effect.now c.in-Assign.fun c.in-Assign.args c.in-Assign.value c.in-Assign.is c.requires in reads.1
+
+pub collect-returns-in-Add-clause-changes : goal.collect-returns-in-Add-clause-changes
+collect-returns-in-Add-clause-changes t c =
+    at-Add (plain_problem c.args.task.now.problem) c.args.w.now (assignment_in c.args.env.now) c.args.effect.now c.args.changes.now c.collect_fact.result c.in-Add.pred c.in-Add.args c.collect_fact.new.facts c.in-Add.is c.collect_fact.ensures.fact
+
+pub collect-returns-in-Add-clause-frame : goal.collect-returns-in-Add-clause-frame
+collect-returns-in-Add-clause-frame t c =
+    frame-same (signature_of c.args.task.now.problem.domain) (tree_of_effect c.args.effect.now) (assignment_in c.collect_fact.new.env) (assignment_in c.args.env.now) (ap assignment_in c.collect_fact.ensures.frame)
+
+pub collect-returns-in-Del-clause-changes : goal.collect-returns-in-Del-clause-changes
+collect-returns-in-Del-clause-changes t c =
+    at-Del (plain_problem c.args.task.now.problem) c.args.w.now (assignment_in c.args.env.now) c.args.effect.now c.args.changes.now c.collect_fact-in-Del.result c.in-Del.pred c.in-Del.args c.collect_fact-in-Del.new.facts c.in-Del.is c.collect_fact-in-Del.ensures.fact
+
+pub collect-returns-in-Del-clause-frame : goal.collect-returns-in-Del-clause-frame
+collect-returns-in-Del-clause-frame t c =
+    frame-same (signature_of c.args.task.now.problem.domain) (tree_of_effect c.args.effect.now) (assignment_in c.collect_fact-in-Del.new.env) (assignment_in c.args.env.now) (ap assignment_in c.collect_fact-in-Del.ensures.frame)
+
+pub collect-returns-in-Assign-clause-changes : goal.collect-returns-in-Assign-clause-changes
+collect-returns-in-Assign-clause-changes t c =
+    at-Assign (plain_problem c.args.task.now.problem) c.args.w.now (assignment_in c.args.env.now) c.args.effect.now c.args.changes.now c.collect_place.result c.in-Assign.fun c.in-Assign.args c.in-Assign.value c.collect_place.new.places c.in-Assign.is c.collect_place.ensures.place
+
+pub collect-returns-in-Assign-clause-frame : goal.collect-returns-in-Assign-clause-frame
+collect-returns-in-Assign-clause-frame t c =
+    frame-same (signature_of c.args.task.now.problem.domain) (tree_of_effect c.args.effect.now) (assignment_in c.collect_place.new.env) (assignment_in c.args.env.now) (ap assignment_in c.collect_place.ensures.frame)
+
+pub collect-state-requires-clause-fits : goal.collect-state-requires-clause-fits
+collect-state-requires-clause-fits t c =
+    let reads = reads-When (signature_of c.args.task.now.problem.domain) c.args.effect.now c.in-When.condition c.in-When.effects c.in-When.is c.requires in
+    reads.fits
+
+pub collect-state-requires-clause-state : goal.collect-state-requires-clause-state
+collect-state-requires-clause-state t c =
+    let reads = reads-When (signature_of c.args.task.now.problem.domain) c.args.effect.now c.in-When.condition c.in-When.effects c.in-When.is c.requires in
+    reads.state
+
+pub collect-collect_all-requires : goal.collect-collect_all-requires
+collect-collect_all-requires t c =
+    let reads = reads-When (signature_of c.args.task.now.problem.domain) c.args.effect.now c.in-When.condition c.in-When.effects c.in-When.is c.requires in
+    (omega (arith, reads.smaller, c.decreases), reads.effects)
+
+pub collect-returns-in-Ok-true-clause-changes : goal.collect-returns-in-Ok-true-clause-changes
+collect-returns-in-Ok-true-clause-changes t c =
+    when-true (plain_problem c.args.task.now.problem) c.args.w.now (assignment_in c.args.env.now) c.args.effect.now c.in-When.condition c.in-When.effects c.in-When.is c.args.changes.now (sym c.in-Ok-true.field-0-test ∙ c.in-Ok-true.ensures.value) c.collect_all.new.changes c.collect_all.result
+    (subst (λ env. CollectsAll (plain_problem c.args.task.now.problem) c.args.w.now (assignment_in env) (tree_of_effects c.in-When.effects) c.args.changes.now c.collect_all.new.changes c.collect_all.result) c.state.ensures.frame c.collect_all.ensures.changes)
+
+pub collect-returns-in-Ok-true-clause-frame : goal.collect-returns-in-Ok-true-clause-frame
+collect-returns-in-Ok-true-clause-frame t c =
+    frame-When (signature_of c.args.task.now.problem.domain) c.args.effect.now c.in-When.condition c.in-When.effects (assignment_in c.state.new.env) (assignment_in c.collect_all.new.env) (assignment_in c.args.env.now) c.in-When.is (ap assignment_in c.state.ensures.frame) c.collect_all.ensures.frame
+
+pub collect-returns-in-Ok-false-clause-changes : goal.collect-returns-in-Ok-false-clause-changes
+collect-returns-in-Ok-false-clause-changes t c =
+    when-false (plain_problem c.args.task.now.problem) c.args.w.now (assignment_in c.args.env.now) c.args.effect.now c.in-When.condition c.in-When.effects c.in-When.is c.args.changes.now (sym c.in-Ok-false.field-0-test ∙ c.in-Ok-false.ensures.value)
+
+pub collect-returns-in-Ok-false-clause-frame : goal.collect-returns-in-Ok-false-clause-frame
+collect-returns-in-Ok-false-clause-frame t c =
+    frame-same (signature_of c.args.task.now.problem.domain) (tree_of_effect c.args.effect.now) (assignment_in c.state.new.env) (assignment_in c.args.env.now) (ap assignment_in c.state.ensures.frame)
+
+pub collect-returns-in-Err-clause-changes : goal.collect-returns-in-Err-clause-changes
+collect-returns-in-Err-clause-changes t c =
+    when-noted (plain_problem c.args.task.now.problem) c.args.w.now (assignment_in c.args.env.now) c.args.effect.now c.in-When.condition c.in-When.effects c.in-When.is c.args.changes.now c.in-Err.note c.in-Err.ensures.note c.args.changes.now
+
+pub collect-returns-in-Err-clause-frame : goal.collect-returns-in-Err-clause-frame
+collect-returns-in-Err-clause-frame t c =
+    frame-same (signature_of c.args.task.now.problem.domain) (tree_of_effect c.args.effect.now) (assignment_in c.state.new.env) (assignment_in c.args.env.now) (ap assignment_in c.state.ensures.frame)
+
+pub collect-tuples_in-requires-clause-differ : goal.collect-tuples_in-requires-clause-differ
+collect-tuples_in-requires-clause-differ t c =
+    let reads = reads-Each (signature_of c.args.task.now.problem.domain) c.args.effect.now c.in-Each.vars c.in-Each.bound c.in-Each.effects c.in-Each.is c.requires in
+    reads.variables.differ
+
+pub collect-tuples_in-requires-clause-occur : goal.collect-tuples_in-requires-clause-occur
+collect-tuples_in-requires-clause-occur t c =
+    let reads = reads-Each (signature_of c.args.task.now.problem.domain) c.args.effect.now c.in-Each.vars c.in-Each.bound c.in-Each.effects c.in-Each.is c.requires in
+    reads.variables.occur
+
+pub collect-tuples_in-requires-clause-fits : goal.collect-tuples_in-requires-clause-fits
+collect-tuples_in-requires-clause-fits t c =
+    let reads = reads-Each (signature_of c.args.task.now.problem.domain) c.args.effect.now c.in-Each.vars c.in-Each.bound c.in-Each.effects c.in-Each.is c.requires in
+    reads.variables.bound
+
+pub collect-returns-in_err-tuples-in-Each-clause-frame : goal.collect-returns-in_err-tuples-in-Each-clause-frame
+collect-returns-in_err-tuples-in-Each-clause-frame t c =
+    frame-same (signature_of c.args.task.now.problem.domain) (tree_of_effect c.args.effect.now) (assignment_in c.args.env.now) (assignment_in c.args.env.now) refl
+
+pub collect-collect_each-requires : goal.collect-collect_each-requires
+collect-collect_each-requires t c =
+    let reads = reads-Each (signature_of c.args.task.now.problem.domain) c.args.effect.now c.in-Each.vars c.in-Each.bound c.in-Each.effects c.in-Each.is c.requires in
+    let keeps = c.args.task.now.problem.domain_keeps in
+    let few = few-variables c.in-Each.vars c.in-Each.bound reads.variables.differ reads.variables.occur (bound-few (signature_of c.args.task.now.problem.domain) (declared-few _ _ keeps.predicates) (declared-few _ _ keeps.functions) c.in-Each.bound reads.variables.bound) in
+    (omega (arith, reads.smaller, c.decreases), (reads.effects, (few, subst (Each (λ (m : Match). m.len ≡ length c.in-Each.vars)) (sym c.as_slice.ensures.value) c.in_ok-tuples-in-Each.ensures.lengths)))
+
+pub collect-returns-in_ok-tuples-in-Each-clause-changes : goal.collect-returns-in_ok-tuples-in-Each-clause-changes
+collect-returns-in_ok-tuples-in-Each-clause-changes t c =
+    at-Each (plain_problem c.args.task.now.problem) c.args.w.now (assignment_in c.args.env.now) c.args.effect.now c.in-Each.vars c.in-Each.bound c.in-Each.effects (map tuple_of c.as_slice.result.now) c.args.changes.now c.collect_each.new.changes c.collect_each.result c.in-Each.is (ap (map tuple_of) c.as_slice.ensures.value ∙ c.in_ok-tuples-in-Each.ensures.tuples) c.collect_each.ensures.changes
+
+pub collect-returns-in_ok-tuples-in-Each-clause-frame : goal.collect-returns-in_ok-tuples-in-Each-clause-frame
+collect-returns-in_ok-tuples-in-Each-clause-frame t c =
+    frame-Each (signature_of c.args.task.now.problem.domain) c.args.effect.now c.in-Each.vars c.in-Each.bound c.in-Each.effects (assignment_in c.collect_each.new.env) (assignment_in c.args.env.now) c.in-Each.is c.collect_each.ensures.frame
+
+pub collect_all-loop-effect-init : goal.collect_all-loop-effect-init
+collect_all-loop-effect-init t c =
+    record {
+      frame = λ around fits. agree-self around (assignment_in c.args.env.now);
+      passed = effects-begun (signature_of c.args.task.now.problem.domain) (plain_problem c.args.task.now.problem) c.args.w.now (assignment_in c.args.env.now) c.args.effects.now c.as_slice-effect-items.result.now c.args.changes.now c.as_slice-effect-items.ensures c.requires.state;
+    }
+
+pub collect_all-collect-requires : goal.collect_all-collect-requires
+collect_all-collect-requires t c =
+    let smaller = item-smaller (signature_of c.args.task.now.problem.domain) (plain_problem c.args.task.now.problem) c.args.w.now (assignment_in c.args.env.now) (tree_of_effects c.args.effects.now) c.as_slice-effect-items.result.now c.loop-effect.effect-index c.effect-item.result c.loop-effect-test.true c.effect-item.is c.args.changes.now c.loop-effect.changes c.loop-effect.invariant.passed in
+    (omega (arith, smaller, c.decreases), item-reads (signature_of c.args.task.now.problem.domain) (plain_problem c.args.task.now.problem) c.args.w.now (assignment_in c.args.env.now) (tree_of_effects c.args.effects.now) c.as_slice-effect-items.result.now c.loop-effect.effect-index c.effect-item.result c.loop-effect-test.true c.effect-item.is c.args.changes.now c.loop-effect.changes c.loop-effect.invariant.passed c.requires)
+
+pub collect_all-returns-in-Ok-false-clause-changes : goal.collect_all-returns-in-Ok-false-clause-changes
+collect_all-returns-in-Ok-false-clause-changes t c =
+    item-undefined (signature_of c.args.task.now.problem.domain) (plain_problem c.args.task.now.problem) c.args.w.now (assignment_in c.args.env.now) (tree_of_effects c.args.effects.now) c.as_slice-effect-items.result.now c.loop-effect.effect-index c.effect-item.result c.loop-effect-test.true c.effect-item.is c.args.changes.now c.loop-effect.changes c.loop-effect.invariant.passed c.requires (assignment_in c.loop-effect.env) c.loop-effect.invariant.frame c.collect.new.changes c.in-Ok-false.field-0 c.in-Ok-false.field-0-test c.in-Ok-false.ensures.changes
+
+pub collect_all-returns-in-Ok-false-clause-frame : goal.collect_all-returns-in-Ok-false-clause-frame
+collect_all-returns-in-Ok-false-clause-frame t c =
+    frame-on (signature_of c.args.task.now.problem.domain) (plain_problem c.args.task.now.problem) c.args.w.now (assignment_in c.args.env.now) (tree_of_effects c.args.effects.now) c.as_slice-effect-items.result.now c.loop-effect.effect-index c.effect-item.result c.loop-effect-test.true c.effect-item.is c.args.changes.now c.loop-effect.changes c.loop-effect.invariant.passed (assignment_in c.loop-effect.env) (assignment_in c.collect.new.env) c.loop-effect.invariant.frame c.collect.ensures.frame
+
+pub collect_all-returns-in-Err-clause-changes : goal.collect_all-returns-in-Err-clause-changes
+collect_all-returns-in-Err-clause-changes t c =
+    item-fault (signature_of c.args.task.now.problem.domain) (plain_problem c.args.task.now.problem) c.args.w.now (assignment_in c.args.env.now) (tree_of_effects c.args.effects.now) c.as_slice-effect-items.result.now c.loop-effect.effect-index c.effect-item.result c.loop-effect-test.true c.effect-item.is c.args.changes.now c.loop-effect.changes c.loop-effect.invariant.passed c.requires (assignment_in c.loop-effect.env) c.loop-effect.invariant.frame c.in-Err.fault c.in-Err.ensures.changes
+
+pub collect_all-returns-in-Err-clause-frame : goal.collect_all-returns-in-Err-clause-frame
+collect_all-returns-in-Err-clause-frame t c =
+    frame-on (signature_of c.args.task.now.problem.domain) (plain_problem c.args.task.now.problem) c.args.w.now (assignment_in c.args.env.now) (tree_of_effects c.args.effects.now) c.as_slice-effect-items.result.now c.loop-effect.effect-index c.effect-item.result c.loop-effect-test.true c.effect-item.is c.args.changes.now c.loop-effect.changes c.loop-effect.invariant.passed (assignment_in c.loop-effect.env) (assignment_in c.collect.new.env) c.loop-effect.invariant.frame c.collect.ensures.frame
+
+pub collect_all-loop-effect-preserved : goal.collect_all-loop-effect-preserved
+collect_all-loop-effect-preserved t c =
+    record {
+      frame = frame-on (signature_of c.args.task.now.problem.domain) (plain_problem c.args.task.now.problem) c.args.w.now (assignment_in c.args.env.now) (tree_of_effects c.args.effects.now) c.as_slice-effect-items.result.now c.loop-effect.effect-index c.effect-item.result c.loop-effect-test.true c.effect-item.is c.args.changes.now c.loop-effect.changes c.loop-effect.invariant.passed (assignment_in c.loop-effect.env) (assignment_in c.collect.new.env) c.loop-effect.invariant.frame c.collect.ensures.frame;
+      passed = item-on (signature_of c.args.task.now.problem.domain) (plain_problem c.args.task.now.problem) c.args.w.now (assignment_in c.args.env.now) (tree_of_effects c.args.effects.now) c.as_slice-effect-items.result.now c.loop-effect.effect-index c.effect-item.result c.loop-effect-test.true c.effect-item.is c.args.changes.now c.loop-effect.changes c.loop-effect.invariant.passed c.requires (assignment_in c.loop-effect.env) c.loop-effect.invariant.frame c.collect.new.changes c.in-Ok-true.field-0 c.in-Ok-true.field-0-test c.in-Ok-true.ensures.changes;
+    }
+
+pub collect_all-returns-clause-changes : goal.collect_all-returns-clause-changes
+collect_all-returns-clause-changes t c =
+    effects-all (signature_of c.args.task.now.problem.domain) (plain_problem c.args.task.now.problem) c.args.w.now (assignment_in c.args.env.now) (tree_of_effects c.args.effects.now) c.as_slice-effect-items.result.now c.loop-effect.effect-index c.args.changes.now c.loop-effect.changes c.loop-effect-test.false c.loop-effect.invariant.passed
+
+pub collect_each-loop-tuple-init : goal.collect_each-loop-tuple-init
+collect_each-loop-tuple-init t c =
+    record {
+      frame = λ around fresh fits. agree-self around (assignment_in c.args.env.now);
+      passed = passed-begun (instances_for (plain_problem c.args.task.now.problem) c.args.w.now (assignment_in c.args.env.now) c.args.vars.now (tree_of_effects c.args.effects.now) (map tuple_of c.args.tuples.now)) (instances_for (plain_problem c.args.task.now.problem) c.args.w.now (assignment_in c.args.env.now) c.args.vars.now (tree_of_effects c.args.effects.now) (map tuple_of c.args.tuples.now)) (looked_for (plain_problem c.args.task.now.problem) c.args.w.now (assignment_in c.args.env.now) c.args.vars.now (tree_of_effects c.args.effects.now) (map tuple_of c.args.tuples.now)) (looked_for (plain_problem c.args.task.now.problem) c.args.w.now (assignment_in c.args.env.now) c.args.vars.now (tree_of_effects c.args.effects.now) (map tuple_of c.args.tuples.now)) c.args.changes.now refl refl;
+    }
+
+pub collect_each-values_of_match-requires : goal.collect_each-values_of_match-requires
+collect_each-values_of_match-requires t c =
+    let none : Match = record { values = []; len = 0 } in
+    let m = get_or c.args.tuples.now c.loop-tuple.tuple-index none in
+    let long = each-at (λ (x : Match). x.len ≡ length c.args.vars.now) c.args.tuples.now c.loop-tuple.tuple-index none c.requires.lengths c.loop-tuple-test.true in
+    omega (arith, c.requires.few, long)
+
+pub collect_each-put_values-requires-clause-same : goal.collect_each-put_values-requires-clause-same
+collect_each-put_values-requires-clause-same t c =
+    let none : Match = record { values = []; len = 0 } in
+    let m = get_or c.args.tuples.now c.loop-tuple.tuple-index none in
+    let long = each-at (λ (x : Match). x.len ≡ length c.args.vars.now) c.args.tuples.now c.loop-tuple.tuple-index none c.requires.lengths c.loop-tuple-test.true in
+    ap (λ (ss : List Var). length ss) c.as_slice.ensures ∙ (sym long ∙ sym c.values_of_match.ensures.count)
+
+pub collect_each-put_values-requires-clause-slots : goal.collect_each-put_values-requires-clause-slots
+collect_each-put_values-requires-clause-slots t c = subst (Each (λ (s : Var). s.slot < 32)) (sym c.as_slice.ensures) c.requires.reads.frame
+
+pub collect_each-collect_all-requires : goal.collect_each-collect_all-requires
+collect_each-collect_all-requires t c = (omega (arith, c.decreases), inner-reads (signature_of c.args.task.now.problem.domain) c.args.vars.now (tree_of_effects c.args.effects.now) c.requires.reads)
+
+pub collect_each-returns-in-Ok-false-clause-changes : goal.collect_each-returns-in-Ok-false-clause-changes
+collect_each-returns-in-Ok-false-clause-changes t c =
+    let none : Match = record { values = []; len = 0 } in
+    let m = get_or c.args.tuples.now c.loop-tuple.tuple-index none in
+    let bound = c.put_values.ensures ∙ (λ j. bind (c.as_slice.ensures j) (c.values_of_match.ensures.values j) (assignment_in c.loop-tuple.env)) in
+    tuple-undefined (signature_of c.args.task.now.problem.domain) (plain_problem c.args.task.now.problem) c.args.w.now (assignment_in c.args.env.now) c.args.vars.now (tree_of_effects c.args.effects.now) c.args.tuples.now c.loop-tuple.tuple-index m c.loop-tuple-test.true (get-itself c.args.tuples.now c.loop-tuple.tuple-index none c.loop-tuple-test.true) c.args.changes.now c.loop-tuple.changes c.loop-tuple.invariant.passed c.requires.reads (assignment_in c.put_values.new.env) (assignment_in c.loop-tuple.env) bound c.loop-tuple.invariant.frame c.collect_all.new.changes c.in-Ok-false.field-0 c.in-Ok-false.field-0-test c.in-Ok-false.ensures.changes
+
+pub collect_each-returns-in-Ok-false-clause-frame : goal.collect_each-returns-in-Ok-false-clause-frame
+collect_each-returns-in-Ok-false-clause-frame t c =
+    let none : Match = record { values = []; len = 0 } in
+    let m = get_or c.args.tuples.now c.loop-tuple.tuple-index none in
+    let bound = c.put_values.ensures ∙ (λ j. bind (c.as_slice.ensures j) (c.values_of_match.ensures.values j) (assignment_in c.loop-tuple.env)) in
+    frame-after (signature_of c.args.task.now.problem.domain) c.args.vars.now (tree_of_effects c.args.effects.now) (tuple_of m) (assignment_in c.collect_all.new.env) (assignment_in c.put_values.new.env) (assignment_in c.loop-tuple.env) (assignment_in c.args.env.now) bound c.loop-tuple.invariant.frame c.collect_all.ensures.frame
+
+pub collect_each-loop-tuple-preserved : goal.collect_each-loop-tuple-preserved
+collect_each-loop-tuple-preserved t c =
+    let none : Match = record { values = []; len = 0 } in
+    let m = get_or c.args.tuples.now c.loop-tuple.tuple-index none in
+    let bound = c.put_values.ensures ∙ (λ j. bind (c.as_slice.ensures j) (c.values_of_match.ensures.values j) (assignment_in c.loop-tuple.env)) in
+    record {
+      frame = frame-after (signature_of c.args.task.now.problem.domain) c.args.vars.now (tree_of_effects c.args.effects.now) (tuple_of m) (assignment_in c.collect_all.new.env) (assignment_in c.put_values.new.env) (assignment_in c.loop-tuple.env) (assignment_in c.args.env.now) bound c.loop-tuple.invariant.frame c.collect_all.ensures.frame;
+      passed = tuple-on (signature_of c.args.task.now.problem.domain) (plain_problem c.args.task.now.problem) c.args.w.now (assignment_in c.args.env.now) c.args.vars.now (tree_of_effects c.args.effects.now) c.args.tuples.now c.loop-tuple.tuple-index m c.loop-tuple-test.true (get-itself c.args.tuples.now c.loop-tuple.tuple-index none c.loop-tuple-test.true) c.args.changes.now c.loop-tuple.changes c.loop-tuple.invariant.passed c.requires.reads (assignment_in c.put_values.new.env) (assignment_in c.loop-tuple.env) bound c.loop-tuple.invariant.frame c.collect_all.new.changes c.in-Ok-true.field-0 c.in-Ok-true.field-0-test c.in-Ok-true.ensures.changes;
+    }
+
+pub collect_each-returns-in-Err-clause-changes : goal.collect_each-returns-in-Err-clause-changes
+collect_each-returns-in-Err-clause-changes t c =
+    let none : Match = record { values = []; len = 0 } in
+    let m = get_or c.args.tuples.now c.loop-tuple.tuple-index none in
+    let bound = c.put_values.ensures ∙ (λ j. bind (c.as_slice.ensures j) (c.values_of_match.ensures.values j) (assignment_in c.loop-tuple.env)) in
+    tuple-fault (signature_of c.args.task.now.problem.domain) (plain_problem c.args.task.now.problem) c.args.w.now (assignment_in c.args.env.now) c.args.vars.now (tree_of_effects c.args.effects.now) c.args.tuples.now c.loop-tuple.tuple-index m c.loop-tuple-test.true (get-itself c.args.tuples.now c.loop-tuple.tuple-index none c.loop-tuple-test.true) c.args.changes.now c.loop-tuple.changes c.loop-tuple.invariant.passed c.requires.reads (assignment_in c.put_values.new.env) (assignment_in c.loop-tuple.env) bound c.loop-tuple.invariant.frame c.in-Err.fault c.in-Err.ensures.changes
+
+pub collect_each-returns-in-Err-clause-frame : goal.collect_each-returns-in-Err-clause-frame
+collect_each-returns-in-Err-clause-frame t c =
+    let none : Match = record { values = []; len = 0 } in
+    let m = get_or c.args.tuples.now c.loop-tuple.tuple-index none in
+    let bound = c.put_values.ensures ∙ (λ j. bind (c.as_slice.ensures j) (c.values_of_match.ensures.values j) (assignment_in c.loop-tuple.env)) in
+    frame-after (signature_of c.args.task.now.problem.domain) c.args.vars.now (tree_of_effects c.args.effects.now) (tuple_of m) (assignment_in c.collect_all.new.env) (assignment_in c.put_values.new.env) (assignment_in c.loop-tuple.env) (assignment_in c.args.env.now) bound c.loop-tuple.invariant.frame c.collect_all.ensures.frame
+
+pub collect_each-returns-clause-changes : goal.collect_each-returns-clause-changes
+collect_each-returns-clause-changes t c =
+    tuples-all (plain_problem c.args.task.now.problem) c.args.w.now (assignment_in c.args.env.now) c.args.vars.now (tree_of_effects c.args.effects.now) c.args.tuples.now c.loop-tuple.tuple-index c.args.changes.now c.loop-tuple.changes c.loop-tuple-test.false c.loop-tuple.invariant.passed
+
+pub collect_each-returns-clause-frame : goal.collect_each-returns-clause-frame
+collect_each-returns-clause-frame t c =
+    c.loop-tuple.invariant.frame

@@ -1,0 +1,30 @@
+-- The actions of a world, and why their list is not given.
+use Rattle.std.specs.Prelude.{◌↔◌, ◌<◌, ◌^◌, ℕ, List, length, map, IsTrue, is_some}
+use Rattle.tl_action.specs.declared.fault.ActFault.{ActFault}
+use Rattle.tl_action.specs.declared.fault.ActFault.TheVariants as fault
+use Rattle.tl_eval.specs.Notes.{Tells}
+use Rattle.tl_syntax.specs.declared.action.Action.{Action}
+use Rattle.tl_syntax.specs.declared.value.Value.{Value}
+use Rattle.tl_syntax.specs.Lists.{Among}
+use Rattle.tl_syntax.specs.Signature.{Takes}
+use Rattle.tl_terms.specs.Looked.{looked_by_action}
+use Rattle.tl_terms.specs.Problem.{PlainProblem}
+use Rattle.tl_terms.specs.Step.{step}
+use Rattle.tl_terms.specs.World.{World}
+
+-- the action's operator exists and has as many parameters as the action has arguments
+abbrev pub HasOperator : PlainProblem → Action → Type 0
+HasOperator p a = Takes (map (λ o. length o.params) p.operators) a.op (length a.args)
+
+-- the action of an operator with these arguments
+abbrev pub action_of : ℕ → List Value → Action
+action_of op t = record { op = op; args = t }
+
+-- the list has exactly the actions that have a step in the world, of those that 32 bits name an operator for
+abbrev pub AreActions : PlainProblem → World → List Action → Type 0
+AreActions p w actions = (a : Action) → Among a actions ↔ ((a.op < 2 ^ 32) × IsTrue (is_some (step p w a)))
+
+-- the note is of an operation that some action looks at, and which is past range; want of memory has no cause
+abbrev pub IsCausedBySome : PlainProblem → World → ActFault → Type 0
+IsCausedBySome p w (fault.Range note) = (a : Action) × Tells (looked_by_action p w a) note
+IsCausedBySome p w fault.NoMemory = Unit {0}

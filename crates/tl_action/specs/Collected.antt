@@ -1,0 +1,41 @@
+-- The changes that the instances of effects make.
+use Rattle.std.specs.Prelude.{◌≡◌, ◌⊎◌, ℕ, [], ◌∷◌, List, ◌++◌, flat_map, map, Bool, true, false, Option, Some, None, Result, Ok, Err}
+use Rattle.std.specs.List.{list_all}
+use Rattle.tl_action.specs.declared.changes.Changes.{Changes}
+use Rattle.tl_action.specs.declared.fault.ActFault.{ActFault}
+use Rattle.tl_action.specs.Answers.{IsCausedBy}
+use Rattle.tl_syntax.specs.declared.fact.Fact.{Fact}
+use Rattle.tl_syntax.specs.declared.place_value.PlaceValue.{PlaceValue}
+use Rattle.tl_syntax.specs.declared.value.Value.{Value}
+use Rattle.tl_syntax.specs.Keys.{fact_key, place_entry}
+use Rattle.tl_terms.specs.Operations.{Operation}
+use Rattle.tl_terms.specs.Step.{EffectInstance, is_defined, added, deleted, given}
+
+-- no change
+abbrev pub nothing : Changes
+nothing = record { dels = []; adds = []; sets = [] }
+
+-- all instances are defined, and the changes after are those before and then theirs
+pub record HasMore (cs : List EffectInstance) (before after : Changes) : Type 0 where
+  pub defined : list_all is_defined cs ≡ true
+  pub dels : map fact_key after.dels ≡ map fact_key before.dels ++ flat_map deleted cs
+  pub adds : map fact_key after.adds ≡ map fact_key before.adds ++ flat_map added cs
+  pub sets : map place_entry after.sets ≡ map place_entry before.sets ++ flat_map given cs
+
+-- true where all instances are defined, whose changes are then there; false where some is not; or a fault with its cause
+abbrev pub Collects : List EffectInstance → List Operation → Changes → Changes → Result Bool ActFault → Type 0
+Collects cs looked before after (Ok true) = HasMore cs before after
+Collects cs looked before after (Ok false) = list_all is_defined cs ≡ false
+Collects cs looked before after (Err fault) = IsCausedBy looked fault
+
+-- true where the arguments are defined, and the fact is then there; false where they are not; or a fault with its cause
+abbrev pub GivesFact : ℕ → Option (List Value) → List Operation → List Fact → List Fact → Result Bool ActFault → Type 0
+GivesFact p args looked before after (Ok true) = (vs : List Value) × (args ≡ Some vs) × (after ≡ before ++ record { pred = p; args = vs } ∷ [])
+GivesFact p args looked before after (Ok false) = args ≡ None
+GivesFact p args looked before after (Err fault) = IsCausedBy looked fault
+
+-- and so for a place, whose arguments are evaluated first, with its value
+abbrev pub GivesPlace : ℕ → Option (List Value) → Option Value → List Operation → List Operation → List PlaceValue → List PlaceValue → Result Bool ActFault → Type 0
+GivesPlace f args value looked_args looked_value before after (Ok true) = (vs : List Value) × (v : Value) × (args ≡ Some vs) × (value ≡ Some v) × (after ≡ before ++ record { fun = f; args = vs; value = v } ∷ [])
+GivesPlace f args value looked_args looked_value before after (Ok false) = (args ≡ None) ⊎ (value ≡ None)
+GivesPlace f args value looked_args looked_value before after (Err fault) = IsCausedBy (looked_args ++ looked_value) fault

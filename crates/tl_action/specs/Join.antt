@@ -1,0 +1,73 @@
+-- The rows of values that an operator's bounds allow, bound by bound.
+use Rattle.std.specs.Prelude.{◌≡◌, ◌↔◌, ◌⊎◌, ◌&&◌, List, [], ◌∷◌, ◌++◌, filter, length, Bool, true, not, Result, Ok, Err}
+use Rattle.std.specs.List.{list_any}
+use Rattle.tl_action.specs.declared.fault.ActFault.{ActFault}
+use Rattle.tl_action.specs.declared.fault.ActFault.TheVariants as fault
+use Rattle.tl_action.specs.declared.join.Plan.{Plan}
+use Rattle.tl_action.specs.Prepared.{is_prepared, looked_prepared}
+use Rattle.tl_eval.specs.Notes.{Tells}
+use Rattle.tl_syntax.specs.declared.bound.Bound.{Bound}
+use Rattle.tl_syntax.specs.declared.operator.Operator.{Operator}
+use Rattle.tl_syntax.specs.declared.value.Value.{Value}
+use Rattle.tl_syntax.specs.declared.variable.Var.{Var}
+use Rattle.tl_syntax.specs.Assignment.{Assignment, bind, no_values}
+use Rattle.tl_syntax.specs.BoundVariables.{stands_in}
+use Rattle.tl_syntax.specs.Lists.{Each, Among}
+use Rattle.tl_syntax.specs.TreeOfTerm.{tree_of_terms}
+use Rattle.tl_syntax.specs.Trees.{TermTrees, variable, no_term, more_terms}
+use Rattle.tl_terms.specs.Bounds.{bound_true}
+use Rattle.tl_terms.specs.Definitions.{situation_of}
+use Rattle.tl_terms.specs.Problem.{PlainOperator, PlainProblem}
+use Rattle.tl_terms.specs.World.{World}
+
+-- the variable stands in one of the bounds
+abbrev pub stands_in_one : List Bound → Var → Bool
+stands_in_one seen s = list_any (stands_in s) seen
+
+-- the variable stands in the bound and in none of those that were seen before
+abbrev pub is_new : List Bound → Bound → Var → Bool
+is_new seen b s = stands_in s b && not (stands_in_one seen s)
+
+-- the new variables of each bound, after those that were seen
+abbrev pub new_from : List Var → List Bound → List Bound → List (List Var)
+new_from ss seen [] = []
+new_from ss seen (b ∷ bs) = filter (is_new seen b) ss ∷ new_from ss (seen ++ b ∷ []) bs
+
+-- variables as terms
+abbrev pub variables : List Var → TermTrees
+variables [] = no_term
+variables (s ∷ ss) = more_terms (variable s) (variables ss)
+
+-- what is worked out once for an operator
+pub record IsPlan (o : Operator) (plan : Plan) : Type 0 where
+  pub levels : plan.levels.items ≡ new_from o.params [] o.bounds
+  pub terms : tree_of_terms plan.terms ≡ variables o.params
+
+-- the two give the variables that stand in a bound of those seen the same values
+abbrev pub Known : List Bound → List Var → Assignment → Assignment → Type 0
+Known seen ss d e = Each (λ s. stands_in_one seen s ≡ true → d s.slot ≡ e s.slot) ss
+
+-- the operator's parameters with these values
+abbrev pub given : PlainOperator → List Value → Assignment
+given o t = bind o.params t no_values
+
+-- the row has a value for each parameter, agrees with the frame on those that stand in a bound that was seen, and makes the other bounds true
+pub record IsCompletion (p : PlainProblem) (w : World) (o : PlainOperator) (seen rest : List Bound) (e : Assignment) (t : List Value) : Type 0 where
+  pub arity : length t ≡ length o.params
+  pub agrees : Known seen o.params (given o t) e
+  pub bounds : Each (λ b. bound_true (situation_of p w) (given o t) b ≡ true) rest
+
+-- and the operator can be applied with these values
+pub record IsFound (p : PlainProblem) (w : World) (o : PlainOperator) (seen rest : List Bound) (e : Assignment) (t : List Value) : Type 0 where
+  pub completes : IsCompletion p w o seen rest e t
+  pub prepared : is_prepared p w (given o t) o ≡ true
+
+-- a range fault tells an operation that is looked at with the values of such a row
+abbrev pub IsRowFault : PlainProblem → World → PlainOperator → List Bound → List Bound → Assignment → ActFault → Type 0
+IsRowFault p w o seen rest e (fault.Range note) = (t : List Value) × IsCompletion p w o seen rest e t × Tells (looked_prepared p w (given o t) o) note
+IsRowFault p w o seen rest e fault.NoMemory = Unit {0}
+
+-- the rows that were found are added; or a fault with its cause
+abbrev pub Joins : PlainProblem → World → PlainOperator → List Bound → List Bound → Assignment → List (List Value) → List (List Value) → Result (Unit {0}) ActFault → Type 0
+Joins p w o seen rest e before after (Ok done) = (t : List Value) → Among t after ↔ (Among t before ⊎ IsFound p w o seen rest e t)
+Joins p w o seen rest e before after (Err x) = IsRowFault p w o seen rest e x

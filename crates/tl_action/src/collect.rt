@@ -1,0 +1,179 @@
+// The changes that effects make, all read in one world.
+ghost use Rattle.std.specs.Prelude.{◌≡◌, ◌≤◌, length, flat_map, map};
+ghost use Rattle.tl_action.specs.Agreement.{EffectReads, EffectsRead, EachReads, EffectLeaves, EffectsLeave, EachLeaves};
+ghost use Rattle.tl_action.specs.Collected.{Collects, GivesFact, GivesPlace};
+ghost use Rattle.tl_eval.specs.Frames.{assignment_in};
+ghost use Rattle.tl_syntax.specs.Assignment.{bind};
+ghost use Rattle.tl_syntax.specs.Fits.{TermFits, TermsFit};
+ghost use Rattle.tl_syntax.specs.Lists.{Each};
+ghost use Rattle.tl_syntax.specs.Signature.{signature_of};
+ghost use Rattle.tl_syntax.specs.TreeOfEffect.{tree_of_effect, tree_of_effects};
+ghost use Rattle.tl_syntax.specs.TreeOfTerm.{tree_of_term, tree_of_terms};
+ghost use Rattle.tl_terms.specs.Definitions.{situation_of};
+ghost use Rattle.tl_terms.specs.Looked.{looked_in_each, looked_in_term, looked_in_effect, looked_in_effects, looks_of};
+ghost use Rattle.tl_terms.specs.ProblemMeaning.{plain_problem};
+ghost use Rattle.tl_terms.specs.Step.{effect_instances, all_instances};
+ghost use Rattle.tl_terms.specs.Terms.{term_value, term_values};
+ghost use Rattle.tl_world.specs.Patterns.{tuple_of};
+
+use crate::ActFault;
+use crate::changes::Changes;
+use crate::frame::{put_values, values_of_match};
+use crate::tuples::tuples_in;
+use crate::values::values_of;
+use std::alloc::Global;
+use tl_eval::{Env, state, term};
+use tl_syntax::{Effect, Effects, Fact, Facts, PlaceValue, PlaceValues, Term, Terms, Vars};
+use tl_world::{Match, Task, World};
+
+/// Collects a fact whose arguments are the values of terms: false where one of them is undefined. The frame stays as it was.
+fn collect_fact(
+    alloc: Global,
+    task: &Task,
+    w: &World,
+    env: &mut Env,
+    pred: u32,
+    terms: &Terms,
+    facts: &mut Facts,
+) -> Result<bool, ActFault>
+    requires { TermsFit (signature_of task.now.problem.domain) (tree_of_terms terms.now) }
+    ensures fact { GivesFact pred (term_values w.now (assignment_in env.old) (tree_of_terms terms.now)) (looked_in_each w.now (assignment_in env.old) (tree_of_terms terms.now)) facts.old facts.new result }
+    ensures frame { env.new ≡ env.old }
+{
+    match values_of(alloc, task, w, env, terms) {
+        Ok(Some(args)) => {
+            facts.push(Fact { pred, args })?;
+            Ok(true)
+        }
+        Ok(None) => Ok(false),
+        Err(fault) => Err(fault),
+    }
+}
+
+/// Collects a place, whose arguments are the values of terms, with the value of a term: false where one of them is undefined. The frame stays as it was.
+fn collect_place(
+    alloc: Global,
+    task: &Task,
+    w: &World,
+    env: &mut Env,
+    fun: u32,
+    terms: &Terms,
+    value: &Term,
+    places: &mut PlaceValues,
+) -> Result<bool, ActFault>
+    requires args { TermsFit (signature_of task.now.problem.domain) (tree_of_terms terms.now) }
+    requires value { TermFits (signature_of task.now.problem.domain) (tree_of_term value.now) }
+    ensures place { GivesPlace fun (term_values w.now (assignment_in env.old) (tree_of_terms terms.now)) (term_value w.now (assignment_in env.old) (tree_of_term value.now)) (looked_in_each w.now (assignment_in env.old) (tree_of_terms terms.now)) (looked_in_term w.now (assignment_in env.old) (tree_of_term value.now)) places.old places.new result }
+    ensures frame { env.new ≡ env.old }
+{
+    match values_of(alloc, task, w, env, terms) {
+        Ok(Some(args)) => match term(task, w, env, value) {
+            Ok(Some(value)) => {
+                places.push(PlaceValue { fun, args, value })?;
+                Ok(true)
+            }
+            Ok(None) => Ok(false),
+            Err(note) => Err(ActFault::Range(note)),
+        },
+        Ok(None) => Ok(false),
+        Err(fault) => Err(fault),
+    }
+}
+
+/// Collects the changes of an effect: false where an instance of it has an undefined part. Variables that it quantifies may have other values in the frame afterwards.
+#[cycle(collected)]
+fn collect(
+    alloc: Global,
+    task: &Task,
+    w: &World,
+    env: &mut Env,
+    effect: &Effect,
+    changes: &mut Changes,
+) -> Result<bool, ActFault>
+    requires { EffectReads (signature_of task.now.problem.domain) (tree_of_effect effect.now) }
+    ensures changes { Collects (effect_instances (situation_of (plain_problem task.now.problem) w.now) (assignment_in env.old) (tree_of_effect effect.now)) (looked_in_effect (looks_of (plain_problem task.now.problem) w.now) (situation_of (plain_problem task.now.problem) w.now) (assignment_in env.old) (tree_of_effect effect.now)) changes.old changes.new result }
+    ensures frame { EffectLeaves (signature_of task.now.problem.domain) (tree_of_effect effect.now) (assignment_in env.old) (assignment_in env.new) }
+{
+    match effect {
+        Effect::Add(pred, args) => {
+            collect_fact(alloc, task, w, env, *pred, args, &mut changes.adds)
+        }
+        Effect::Del(pred, args) => {
+            collect_fact(alloc, task, w, env, *pred, args, &mut changes.dels)
+        }
+        Effect::Assign(fun, args, value) => {
+            collect_place(alloc, task, w, env, *fun, args, value, &mut changes.sets)
+        }
+        Effect::When(condition, effects) => match state(task, w, env, condition) {
+            Ok(true) => collect_all(alloc, task, w, env, effects, changes),
+            Ok(false) => Ok(true),
+            Err(note) => Err(ActFault::Range(note)),
+        },
+        Effect::Each(vars, bound, effects) => {
+            let tuples = tuples_in(alloc, task, w, env, vars, bound)?;
+            collect_each(
+                alloc,
+                task,
+                w,
+                env,
+                vars,
+                tuples.as_slice(),
+                effects,
+                changes,
+            )
+        }
+    }
+}
+
+/// Collects the changes of effects in their order, up to the first that has an undefined part: false where one has.
+#[cycle(collected)]
+pub(crate) fn collect_all(
+    alloc: Global,
+    task: &Task,
+    w: &World,
+    env: &mut Env,
+    effects: &Effects,
+    changes: &mut Changes,
+) -> Result<bool, ActFault>
+    requires { EffectsRead (signature_of task.now.problem.domain) (tree_of_effects effects.now) }
+    ensures changes { Collects (all_instances (situation_of (plain_problem task.now.problem) w.now) (assignment_in env.old) (tree_of_effects effects.now)) (looked_in_effects (looks_of (plain_problem task.now.problem) w.now) (situation_of (plain_problem task.now.problem) w.now) (assignment_in env.old) (tree_of_effects effects.now)) changes.old changes.new result }
+    ensures frame { EffectsLeave (signature_of task.now.problem.domain) (tree_of_effects effects.now) (assignment_in env.old) (assignment_in env.new) }
+{
+    for effect in effects.as_slice().iter() {
+        match collect(alloc, task, w, env, effect, changes) {
+            Ok(true) => {}
+            Ok(false) => return Ok(false),
+            Err(fault) => return Err(fault),
+        }
+    }
+    Ok(true)
+}
+
+/// Collects the changes of effects for each of the tuples, up to the first with an undefined part: false where one has.
+#[cycle(collected)]
+fn collect_each(
+    alloc: Global,
+    task: &Task,
+    w: &World,
+    env: &mut Env,
+    vars: &Vars,
+    tuples: &[Match],
+    effects: &Effects,
+    changes: &mut Changes,
+) -> Result<bool, ActFault>
+    requires reads { EachReads (signature_of task.now.problem.domain) vars.now (tree_of_effects effects.now) }
+    requires few { length vars.now ≤ 9 }
+    requires lengths { Each (λ m. m.len ≡ length vars.now) tuples.now }
+    ensures changes { Collects (flat_map (λ t. all_instances (situation_of (plain_problem task.now.problem) w.now) (bind vars.now t (assignment_in env.old)) (tree_of_effects effects.now)) (map tuple_of tuples.now)) (flat_map (λ t. looked_in_effects (looks_of (plain_problem task.now.problem) w.now) (situation_of (plain_problem task.now.problem) w.now) (bind vars.now t (assignment_in env.old)) (tree_of_effects effects.now)) (map tuple_of tuples.now)) changes.old changes.new result }
+    ensures frame { EachLeaves (signature_of task.now.problem.domain) vars.now (tree_of_effects effects.now) (assignment_in env.old) (assignment_in env.new) }
+{
+    for tuple in tuples {
+        put_values(env, vars.as_slice(), values_of_match(tuple));
+        match collect_all(alloc, task, w, env, effects, changes) {
+            Ok(true) => {}
+            Ok(false) => return Ok(false),
+            Err(fault) => return Err(fault),
+        }
+    }
+    Ok(true)
+}

@@ -1,0 +1,108 @@
+// The rows of values with which an operator can be applied, by a join of its bounds.
+ghost use Rattle.std.specs.Prelude.{◌≡◌, ◌≤◌, [], drop, length, take, IfOk};
+ghost use Rattle.tl_action.specs.Agreement.{Agree};
+ghost use Rattle.tl_action.specs.Join.{new_from, variables, IsPlan, Joins, Known};
+ghost use Rattle.tl_eval.specs.Frames.{assignment_in};
+ghost use Rattle.tl_syntax.specs.FreeVariables.{slots_of};
+ghost use Rattle.tl_syntax.specs.Kept.{OperatorKeeps};
+ghost use Rattle.tl_syntax.specs.Signature.{signature_of};
+ghost use Rattle.tl_terms.specs.ProblemMeaning.{plain_operator, plain_problem};
+
+use crate::ActFault;
+use crate::frame::{put_values, values_of_match};
+use crate::levels::{levels_of, terms_of};
+use crate::prepared::prepared;
+use crate::tuples::tuples_in;
+use crate::values::values_of;
+use std::alloc::Global;
+use tl_eval::Env;
+use tl_syntax::{NoMemory, Operator, Terms, Values, Vars};
+use tl_world::{Task, World};
+
+/// What is worked out once for an operator before its bounds are joined.
+#[derive(Drop)]
+pub(crate) struct Plan {
+    /// For each bound the parameters that stand in it and in none before it.
+    levels: Vec<Vars>,
+    /// The parameters as terms.
+    terms: Terms,
+}
+
+impl Plan {
+    /// The plan of an operator. It fails for want of memory alone.
+    pub(crate) fn of(alloc: Global, operator: &Operator) -> Result<Plan, NoMemory>
+        ensures { IfOk result (IsPlan operator.now) }
+    {
+        let params = operator.params.as_slice();
+        let levels = levels_of(alloc, params, operator.bounds.as_slice())?;
+        let terms = terms_of(alloc, params)?;
+        Ok(Plan { levels, terms })
+    }
+}
+
+/// Adds the row of the parameters' values in the frame, where each has one and the operator can be applied with them. The bounds are not looked at.
+fn find_row(
+    alloc: Global,
+    task: &Task,
+    w: &World,
+    env: &mut Env,
+    operator: &Operator,
+    plan: &Plan,
+    rows: &mut Vec<Values>,
+) -> Result<(), ActFault>
+    requires keeps { OperatorKeeps (signature_of task.now.problem.domain) (length task.now.problem.names) operator.now }
+    requires plan { IsPlan operator.now plan.now }
+    ensures rows { Joins (plain_problem task.now.problem) w.now (plain_operator operator.now) operator.now.bounds [] (assignment_in env.old) rows.old.items rows.new.items result }
+    ensures frame { Agree (slots_of operator.now.params) (assignment_in env.new) (assignment_in env.old) }
+{
+    match values_of(alloc, task, w, env, &plan.terms) {
+        Ok(Some(row)) => match prepared(alloc, task, w, env, operator) {
+            Ok(Some(_)) => {
+                rows.push(row)?;
+                Ok(())
+            }
+            Ok(None) => Ok(()),
+            Err(fault) => Err(fault),
+        },
+        Ok(None) => Ok(()),
+        Err(fault) => Err(fault),
+    }
+}
+
+/// Adds the rows that complete the frame: those that agree with it on the parameters of the first `j` bounds, make the other bounds true, and with which the operator can be applied.
+/// The parameters of the first `j` bounds keep their values in the frame.
+///
+/// Each bound gives its new parameters their values, by its tuples in order under the values of the earlier ones, and a bound without new parameters is tested.
+/// So a row of values is given up at the first bound that it makes false, and what is looked up is one tuple more than there are for each row of the bounds before.
+pub(crate) fn join(
+    alloc: Global,
+    task: &Task,
+    w: &World,
+    env: &mut Env,
+    operator: &Operator,
+    plan: &Plan,
+    j: usize,
+    rows: &mut Vec<Values>,
+) -> Result<(), ActFault>
+    requires keeps { OperatorKeeps (signature_of task.now.problem.domain) (length task.now.problem.names) operator.now }
+    requires plan { IsPlan operator.now plan.now }
+    requires within { j ≤ length operator.now.bounds }
+    ensures rows { Joins (plain_problem task.now.problem) w.now (plain_operator operator.now) (take j operator.now.bounds) (drop j operator.now.bounds) (assignment_in env.old) rows.old.items rows.new.items result }
+    ensures frame { Known (take j operator.now.bounds) operator.now.params (assignment_in env.new) (assignment_in env.old) }
+{
+    let bounds = operator.bounds.as_slice();
+    if j == bounds.len() {
+        return find_row(alloc, task, w, env, operator, plan, rows);
+    }
+    let levels = plan.levels.as_slice();
+    let vars = &levels[j];
+    let tuples = tuples_in(alloc, task, w, env, vars, &bounds[j])?;
+    for tuple in tuples.as_slice() {
+        put_values(env, vars.as_slice(), values_of_match(tuple));
+        match join(alloc, task, w, env, operator, plan, j + 1, rows) {
+            Ok(()) => {}
+            Err(fault) => return Err(fault),
+        }
+    }
+    Ok(())
+}

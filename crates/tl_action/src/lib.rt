@@ -1,0 +1,34 @@
+//! The executable actions of a world, and the step that an action makes.
+//!
+//! - `fault`: why a call gives no answer.
+//! - `step`: the step of an action.
+//! - `all_actions`: all actions that are executable in a world.
+//! - `changes`: what effects change.
+//! - `clash`: whether places that are set agree with each other.
+//! - `collect`: the changes that effects make.
+//! - `frame`: variables that are given values in the caller's frame.
+//! - `join`: the rows of values with which an operator can be applied.
+//! - `levels`: what is worked out once for an operator before its bounds are joined.
+//! - `prepared`: what an operator whose bounds are true changes.
+//! - `tuples`: all tuples of a bound, and whether bounds are true.
+//! - `values`: the values of the terms of an effect.
+//! - `laws`: what is proved of assignments.
+#![tactic(auto)]
+
+mod all_actions;
+mod changes;
+mod clash;
+mod collect;
+mod fault;
+mod frame;
+mod join;
+pub mod laws;
+mod levels;
+mod prepared;
+mod step;
+mod tuples;
+mod values;
+
+pub use all_actions::actions;
+pub use fault::ActFault;
+pub use step::apply;

@@ -1,0 +1,64 @@
+// Whether an operator whose bounds are true can be applied, and what it then changes.
+ghost use Rattle.std.specs.Prelude.{◌≡◌, length};
+ghost use Rattle.tl_action.specs.Agreement.{Agree};
+ghost use Rattle.tl_action.specs.Prepared.{CollectsWhole, Prepares};
+ghost use Rattle.tl_eval.specs.Frames.{assignment_in};
+ghost use Rattle.tl_syntax.specs.FreeVariables.{slots_of};
+ghost use Rattle.tl_syntax.specs.Kept.{OperatorKeeps};
+ghost use Rattle.tl_syntax.specs.Signature.{signature_of};
+ghost use Rattle.tl_terms.specs.ProblemMeaning.{plain_operator, plain_problem};
+
+use crate::ActFault;
+use crate::changes::Changes;
+use crate::clash::agree;
+use crate::collect::collect_all;
+use std::alloc::Global;
+use tl_eval::{Env, state};
+use tl_syntax::Operator;
+use tl_world::{Task, World};
+
+/// What the operator changes, with its parameters' values in the frame: None where its precondition is false, an instance of its effects has an undefined part, or two set one place to different values.
+/// The bounds are not looked at. The parameters keep their values in the frame.
+pub(crate) fn prepared(
+    alloc: Global,
+    task: &Task,
+    w: &World,
+    env: &mut Env,
+    operator: &Operator,
+) -> Result<Option<Changes>, ActFault>
+    requires { OperatorKeeps (signature_of task.now.problem.domain) (length task.now.problem.names) operator.now }
+    ensures changes { Prepares (plain_problem task.now.problem) w.now (assignment_in env.old) (plain_operator operator.now) result }
+    ensures frame { Agree (slots_of operator.now.params) (assignment_in env.new) (assignment_in env.old) }
+{
+    match state(task, w, env, &operator.pre) {
+        Ok(true) => collected(alloc, task, w, env, operator),
+        Ok(false) => Ok(None),
+        Err(note) => Err(ActFault::Range(note)),
+    }
+}
+
+/// What the operator's effects change: None where an instance has an undefined part, or two set one place to different values.
+fn collected(
+    alloc: Global,
+    task: &Task,
+    w: &World,
+    env: &mut Env,
+    operator: &Operator,
+) -> Result<Option<Changes>, ActFault>
+    requires { OperatorKeeps (signature_of task.now.problem.domain) (length task.now.problem.names) operator.now }
+    ensures changes { CollectsWhole (plain_problem task.now.problem) w.now (assignment_in env.old) (plain_operator operator.now) result }
+    ensures frame { Agree (slots_of operator.now.params) (assignment_in env.new) (assignment_in env.old) }
+{
+    let mut changes = Changes::new(alloc);
+    match collect_all(alloc, task, w, env, &operator.effects, &mut changes) {
+        Ok(true) => {
+            if agree(alloc, changes.sets.as_slice())? {
+                Ok(Some(changes))
+            } else {
+                Ok(None)
+            }
+        }
+        Ok(false) => Ok(None),
+        Err(fault) => Err(fault),
+    }
+}

@@ -1,0 +1,39 @@
+// The values of the terms of an effect.
+ghost use Rattle.std.specs.Prelude.{◌≡◌};
+ghost use Rattle.tl_action.specs.Answers.{Answers};
+ghost use Rattle.tl_eval.specs.Frames.{assignment_in};
+ghost use Rattle.tl_syntax.specs.Fits.{TermsFit};
+ghost use Rattle.tl_syntax.specs.Signature.{signature_of};
+ghost use Rattle.tl_syntax.specs.TreeOfTerm.{tree_of_terms};
+ghost use Rattle.tl_terms.specs.Looked.{looked_in_each};
+ghost use Rattle.tl_terms.specs.Terms.{term_values};
+
+use crate::ActFault;
+use std::alloc::Global;
+use tl_eval::{Env, term};
+use tl_syntax::{Terms, Values};
+use tl_world::{Task, World};
+
+/// The values of terms in a world, under the frame's values, where all are defined; or a fault. The frame stays as it was.
+/// The terms are evaluated from left to right up to the first undefined one.
+pub(crate) fn values_of(
+    alloc: Global,
+    task: &Task,
+    w: &World,
+    env: &mut Env,
+    terms: &Terms,
+) -> Result<Option<Values>, ActFault>
+    requires { TermsFit (signature_of task.now.problem.domain) (tree_of_terms terms.now) }
+    ensures values { Answers (term_values w.now (assignment_in env.old) (tree_of_terms terms.now)) (looked_in_each w.now (assignment_in env.old) (tree_of_terms terms.now)) result }
+    ensures frame { env.new ≡ env.old }
+{
+    let mut values = Values::new(alloc);
+    for one in terms.as_slice().iter() {
+        match term(task, w, env, one) {
+            Ok(Some(value)) => values.push(value)?,
+            Ok(None) => return Ok(None),
+            Err(note) => return Err(ActFault::Range(note)),
+        }
+    }
+    Ok(Some(values))
+}
