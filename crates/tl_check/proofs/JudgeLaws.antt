@@ -1,0 +1,112 @@
+-- The verdict on a plan whose states are known.
+use Rattle.std.proofs.Common.{◌≡◌, ◌≤◌, ◌<◌, ◌-◌, ◌↔◌, ℕ, suc, List, [], ◌∷◌, take, drop, length, get_or, Bool, true, false, true≢false, Option, Some, None, Result, Ok, Err, IfOk, refl, sym, ap, ap₂, ◌∙◌, subst, inr, arith}
+use mathlib.Core.Path.{fun_ext}
+use Rattle.std.specs.Prelude.{slice_get}
+use Rattle.std.proofs.lemmas.Option.{slice_get_within}
+use Rattle.tl_check.proofs.AheadLaws.{satisfies-ahead}
+use Rattle.tl_check.proofs.ExecutionLaws.{last-is, states-count}
+use Rattle.tl_check.proofs.LookedLaws.{along-looked}
+use Rattle.tl_check.specs.Ahead.{true_ahead, marks}
+use Rattle.tl_check.specs.Labelled.{AreLabels, looked_at, looked_there}
+use Rattle.tl_check.specs.Verdicts.{MissesGoal, BreaksControl, IsVerdict, IsCause}
+use Rattle.tl_check.specs.declared.fault.CheckFault.{CheckFault}
+use Rattle.tl_check.specs.declared.fault.CheckFault.TheVariants as fault
+use Rattle.tl_check.specs.declared.verdict.Verdict.{Verdict}
+use Rattle.tl_check.specs.declared.verdict.Verdict.TheVariants as verdict
+use Rattle.tl_check.proofs.VerdictLaws.{one-verdict}
+use Rattle.tl_eval.specs.Notes.{operation_of}
+use Rattle.tl_syntax.specs.declared.action.Action.{Action}
+use Rattle.tl_syntax.specs.declared.problem.Problem.{Problem}
+use Rattle.tl_syntax.specs.Assignment.{Assignment, no_values}
+use Rattle.tl_syntax.specs.Lists.{Among}
+use Rattle.tl_syntax.specs.TreeOfFormula.{tree_of_formula}
+use Rattle.tl_syntax.specs.Trees.{FormulaTree}
+use Rattle.tl_terms.specs.Acceptance.{IsAccepted, states, meets_goal, last_of}
+use Rattle.tl_terms.specs.Operations.{Operation}
+use Rattle.tl_terms.specs.Problem.{PlainProblem}
+use Rattle.tl_terms.specs.ProblemMeaning.{plain_problem}
+use Rattle.tl_terms.specs.World.{World}
+
+-- a frame in which nothing has a value
+pub nothing-given : (e : Assignment) → ((q : ℕ) → e q ≡ None) → e ≡ no_values
+nothing-given e h = fun_ext h
+
+-- the control formula of a problem
+pub control-is : (q : Problem) → tree_of_formula q.domain.control ≡ (plain_problem q).control
+unfolding plain_problem
+control-is q = refl
+
+-- a verdict that is right tells whether the plan is accepted
+pub valid-tells : (p : PlainProblem) (plan : List Action) (v : Verdict) → IsVerdict p plan v → (v ≡ verdict.Valid) ↔ IsAccepted p plan
+valid-tells p plan v h = (λ q. subst (IsVerdict p plan) q h, λ a. one-verdict p plan v verdict.Valid h a)
+
+module _ (p : PlainProblem) (plan : List Action) (ws : List World) (u : World) (some : 0 < length ws) (s : u ≡ get_or ws (length ws - 1) u) (e : states p plan ≡ Some ws) where
+  pub record Known : Type 0 where
+    pub from : World
+    pub after : List World
+    pub all : ws ≡ from ∷ after
+    pub last : last_of from after ≡ u
+
+  known : Known
+  known = by ws some s refl
+    where
+      by : (vs : List World) → 0 < length vs → u ≡ get_or vs (length vs - 1) u → ws ≡ vs → Known
+      by [] l r q = absurd (omega arith)
+      by (v ∷ vs) l r q = record { from = v; after = vs; all = q; last = last-is v vs u ∙ (ap (λ (i : ℕ). get_or (v ∷ vs) i u) (let m : length vs ≡ suc (length vs) - 1 = omega arith in m) ∙ sym r) }
+
+  pub misses : meets_goal u p.goal p.avoid ≡ false → MissesGoal p plan
+  misses h = record {
+    from = known.from;
+    after = known.after;
+    executes = e ∙ ap (λ (vs : List World). Some vs) known.all;
+    misses = ap (λ (w : World). meets_goal w p.goal p.avoid) known.last ∙ h;
+  }
+
+  module _ (met : meets_goal u p.goal p.avoid ≡ true) (d : Assignment) (f : FormulaTree) (nothing : d ≡ no_values) (control : f ≡ p.control) where
+    met-last : meets_goal (last_of known.from known.after) p.goal p.avoid ≡ true
+    met-last = ap (λ (w : World). meets_goal w p.goal p.avoid) known.last ∙ met
+
+    first-label : (bs : List Bool) (b : Bool) → bs ≡ marks (true_ahead p d f) (drop 0 ws) → b ≡ get_or bs 0 false → b ≡ true_ahead p no_values p.control (known.from ∷ known.after)
+    first-label bs b q r = r ∙ ap (λ (cs : List Bool). get_or cs 0 false) (q ∙ (ap₂ (λ (x : Assignment) (g : FormulaTree). marks (true_ahead p x g) ws) nothing control ∙ ap (marks (true_ahead p no_values p.control)) known.all))
+
+    pub accepts : (bs : List Bool) (b : Bool) → bs ≡ marks (true_ahead p d f) (drop 0 ws) → b ≡ get_or bs 0 false → b ≡ true → IsAccepted p plan
+    accepts bs b q r h = record {
+      from = known.from;
+      after = known.after;
+      executes = e ∙ ap (λ (vs : List World). Some vs) known.all;
+      reaches = met-last;
+      obeys = (satisfies-ahead p known.from known.after p.control).1 (sym (first-label bs b q r) ∙ h);
+    }
+
+    pub breaks : (bs : List Bool) (b : Bool) → bs ≡ marks (true_ahead p d f) (drop 0 ws) → b ≡ get_or bs 0 false → b ≡ false → BreaksControl p plan
+    breaks bs b q r h = record {
+      from = known.from;
+      after = known.after;
+      executes = e ∙ ap (λ (vs : List World). Some vs) known.all;
+      reaches = met-last;
+      breaks = λ k. true≢false (sym ((satisfies-ahead p known.from known.after p.control).0 k) ∙ (sym (first-label bs b q r) ∙ h));
+    }
+
+    within-plan : (k : ℕ) (o : Operation) → Among o (looked_at p ws k no_values p.control) → k ≤ length plan
+    within-plan k o h = by (slice_get ws k) refl h
+      where
+        by : (x : Option World) → slice_get ws k ≡ x → Among o (looked_there p (take (suc k) ws) x no_values p.control) → k ≤ length plan
+        by None q m = absurd m
+        by (Some w) q m = let a = slice_get_within ws k w q in let b = states-count p plan ws e in omega arith
+
+    pub past : (y : CheckFault) → AreLabels p ws 0 d f (Err y) → IsCause p plan y
+    past fault.NoMemory h = tt
+    past (fault.Range k n) h =
+        let told : Among (operation_of n) (looked_at p ws k no_values p.control) = subst (λ (g : FormulaTree). Among (operation_of n) (looked_at p ws k no_values g)) control (subst (λ (x : Assignment). Among (operation_of n) (looked_at p ws k x f)) nothing h.1.0) in
+        inr (record {
+          from = known.from;
+          after = known.after;
+          executes = e ∙ ap (λ (vs : List World). Some vs) known.all;
+          reaches = met-last;
+          within = within-plan k (operation_of n) told;
+          told = (along-looked p (known.from ∷ known.after) (operation_of n) p.control k (subst (λ (vs : List World). Among (operation_of n) (looked_at p vs k no_values p.control)) known.all told), h.1.1);
+        })
+
+pub valid-of : (p : PlainProblem) (plan : List Action) (r : Result Verdict CheckFault) → IfOk r (IsVerdict p plan) → IfOk r (λ v. (v ≡ verdict.Valid) ↔ IsAccepted p plan)
+valid-of p plan (Ok v) h = valid-tells p plan v h
+valid-of p plan (Err x) h = tt

@@ -1,0 +1,15 @@
+pub mod PassLaws
+pub mod AheadLaws
+pub mod LookedLaws
+pub mod TemporalLaws
+pub mod LabelLaws
+pub mod StateLabelLaws
+pub mod VariableLaws
+pub mod CursorLaws
+pub mod Sizes
+pub mod PartLabels
+pub mod FitLaws
+pub mod FormulaLabels
+pub mod VerdictLaws
+pub mod ExecutionLaws
+pub mod JudgeLaws

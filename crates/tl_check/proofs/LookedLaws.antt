@@ -1,0 +1,179 @@
+-- What a formula looks at along some worlds.
+use Rattle.std.proofs.Common.{◌≡◌, ◌≤◌, ◌⊎◌, ℕ, zero, suc, List, [], ◌∷◌, map, flat_map, take, Bool, true, false, Option, Some, None, sym, ap, subst, inl, inr, arith}
+use Rattle.std.specs.Prelude.{slice_get}
+use Rattle.tl_check.specs.Labelled.{looked_there, looked_at}
+use Rattle.tl_eval.specs.StateTruth.{joined, quantified}
+use Rattle.tl_syntax.proofs.ListLaws.{One-append, One-flat, One-over, one_in}
+use Rattle.tl_syntax.specs.declared.bound.Bound.{Bound}
+use Rattle.tl_syntax.specs.declared.value.Value.{Value}
+use Rattle.tl_syntax.specs.declared.variable.Var.{Var}
+use Rattle.tl_syntax.specs.Assignment.{Assignment, bind, no_values}
+use Rattle.tl_syntax.specs.Lists.{One, Among}
+use Rattle.tl_syntax.specs.Trees.{FormulaTree, FormulaTrees, verum, falsum, atom, defined, compare, goal_fact, goal_place, goal_not, negation, conjunction, disjunction, for_all, for_some, next, always, eventually, until, within, during, no_formula, more_formulas, formulas_of_list}
+use Rattle.tl_terms.specs.Bounds.{tuples}
+use Rattle.tl_terms.specs.Definitions.{situation_of}
+use Rattle.tl_terms.specs.Looked.{LookedTable, followed_if, looked_in_turn, looked_in_state, looked_in_and, looked_in_or, looked_in_basics, looked_in_parts, looked_after, looked_along, looks_of}
+use Rattle.tl_terms.specs.Operations.{Operation}
+use Rattle.tl_terms.specs.Problem.{PlainProblem}
+use Rattle.tl_terms.specs.Situation.{Situation}
+use Rattle.tl_terms.specs.World.{World}
+
+-- ---- lists of operations
+
+one-within-each : {A : Type 0} (P Q : A → Type 0) → ((x : A) → P x → Q x) → (xs : List A) → One P xs → One Q xs
+one-within-each P Q h [] k = k
+one-within-each P Q h (x ∷ xs) k = elim k [ inl m ↦ inl (h x m) | inr m ↦ inr (one-within-each P Q h xs m) ]
+
+followed-out : (o : Operation) (b : Bool) (xs ys : List Operation) → Among o (followed_if b xs ys) → Among o xs ⊎ Among o ys
+followed-out o true xs ys h = (One-append (λ y. y ≡ o) xs ys).0 h
+followed-out o false xs ys h = elim ((One-append (λ y. y ≡ o) xs []).0 h) [ inl k ↦ inl k | inr b ↦ absurd b ]
+
+turn-out : (o : Operation) (looked : List Value → List Operation) (goes_on : List Value → Bool) (ts : List (List Value)) → Among o (looked_in_turn looked goes_on ts) → One (λ t. Among o (looked t)) ts
+turn-out o looked goes_on [] h = absurd h
+turn-out o looked goes_on (t ∷ ts) h = elim (followed-out o (goes_on t) (looked t) (looked_in_turn looked goes_on ts) h) [ inl k ↦ inl k | inr k ↦ inr (turn-out o looked goes_on ts k) ]
+
+-- the instances of the tuples of one situation are among those of all
+instances-in : (o : Operation) (e : Assignment) (ss : List Var) (b : Bound) (bs : List Situation) (s : Situation) (looked : List Value → List Operation) → Among s bs
+    → One (λ t. Among o (looked t)) (tuples s e ss b) → Among o (flat_map looked (flat_map (λ q. tuples q e ss b) bs))
+instances-in o e ss b bs s looked m h =
+    (One-flat (λ y. y ≡ o) looked (flat_map (λ q. tuples q e ss b) bs)).1
+    ((One-flat (λ t. Among o (looked t)) (λ q. tuples q e ss b) bs).1 (one_in (λ q. One (λ t. Among o (looked t)) (tuples q e ss b)) s bs m h))
+
+-- ---- what a formula looks at in a state, it looks at along the worlds
+
+module _ (d : LookedTable) (bs : List Situation) (s : Situation) (m : Among s bs) (o : Operation) where
+  mutual
+    unfolding looked_in_state looked_in_basics
+
+    pub state-basics : (e : Assignment) (f : FormulaTree) → Among o (looked_in_state d s e f) → Among o (looked_in_basics true d bs s e f)
+    state-basics e verum h = absurd h
+    state-basics e falsum h = absurd h
+    state-basics e (atom q ts) h = h
+    state-basics e (defined q ts) h = h
+    state-basics e (compare c x y) h = h
+    state-basics e (goal_fact q xs) h = absurd h
+    state-basics e (goal_place k xs x) h = absurd h
+    state-basics e (goal_not q xs) h = absurd h
+    state-basics e (negation f) h = state-basics e f h
+    state-basics e (conjunction fs) h = and-parts e fs h
+    state-basics e (disjunction fs) h = or-parts e fs h
+    state-basics e (for_all ss b f) h =
+        instances-in o e ss b bs s (λ t. looked_in_basics true d bs s (bind ss t e) f) m
+        (one-within-each (λ t. Among o (looked_in_state d s (bind ss t e) f)) (λ t. Among o (looked_in_basics true d bs s (bind ss t e) f)) (λ t k. state-basics (bind ss t e) f k) (tuples s e ss b) (turn-out o _ _ (tuples s e ss b) h))
+    state-basics e (for_some ss b f) h =
+        instances-in o e ss b bs s (λ t. looked_in_basics true d bs s (bind ss t e) f) m
+        (one-within-each (λ t. Among o (looked_in_state d s (bind ss t e) f)) (λ t. Among o (looked_in_basics true d bs s (bind ss t e) f)) (λ t k. state-basics (bind ss t e) f k) (tuples s e ss b) (turn-out o _ _ (tuples s e ss b) h))
+    state-basics e (next f) h = absurd h
+    state-basics e (always f) h = absurd h
+    state-basics e (eventually f) h = absurd h
+    state-basics e (until f g) h = absurd h
+    state-basics e (within n f) h = absurd h
+    state-basics e (during n f) h = absurd h
+
+    and-parts : (e : Assignment) (fs : FormulaTrees) → Among o (looked_in_and d s e fs) → Among o (looked_in_parts true d bs s e fs)
+    and-parts e no_formula h = absurd h
+    and-parts e (more_formulas f fs) h = (One-append (λ y. y ≡ o) (looked_in_basics true d bs s e f) (looked_in_parts true d bs s e fs)).1
+        (elim (followed-out o _ (looked_in_state d s e f) (looked_in_and d s e fs) h) [ inl k ↦ inl (state-basics e f k) | inr k ↦ inr (and-parts e fs k) ])
+
+    or-parts : (e : Assignment) (fs : FormulaTrees) → Among o (looked_in_or d s e fs) → Among o (looked_in_parts true d bs s e fs)
+    or-parts e no_formula h = absurd h
+    or-parts e (more_formulas f fs) h = (One-append (λ y. y ≡ o) (looked_in_basics true d bs s e f) (looked_in_parts true d bs s e fs)).1
+        (elim (followed-out o _ (looked_in_state d s e f) (looked_in_or d s e fs) h) [ inl k ↦ inl (state-basics e f k) | inr k ↦ inr (or-parts e fs k) ])
+
+-- ---- along some worlds
+
+among-first : (ws : List World) (j k : ℕ) (w : World) → slice_get ws j ≡ Some w → j ≤ k → Among w (take (suc k) ws)
+among-first [] j k w h l = absurd (let z : ⊥ = cc in z)
+among-first (v ∷ ws) zero k w h l = inl (let q : v ≡ w = cc in q)
+among-first (v ∷ ws) (suc j) zero w h l = absurd (omega arith)
+among-first (v ∷ ws) (suc j) (suc k) w h l = inr (among-first ws j k w h (omega arith))
+
+among-situations : (p : PlainProblem) (ws : List World) (w : World) → Among w ws → Among (situation_of p w) (map (situation_of p) ws)
+among-situations p ws w h = (One-over (λ s. s ≡ situation_of p w) (situation_of p) ws).1 (one-within-each (λ v. v ≡ w) (λ v. situation_of p v ≡ situation_of p w) (λ v q. ap (situation_of p) q) ws h)
+
+module _ (p : PlainProblem) (ws : List World) (o : Operation) where
+  -- what a formula looks at in the world at a position
+  pub state-looked : (e : Assignment) (f : FormulaTree) (k : ℕ) (w : World) → slice_get ws k ≡ Some w → Among o (looked_in_state (looks_of p w) (situation_of p w) e f) → Among o (looked_at p ws k e f)
+  state-looked e f k w q h =
+      subst (λ (x : Option World). Among o (looked_there p (take (suc k) ws) x e f)) (sym q)
+      (state-basics (looks_of p w) (map (situation_of p) (take (suc k) ws)) (situation_of p w) (among-situations p (take (suc k) ws) w (among-first ws k k w q (omega arith))) o e f h)
+
+  -- what its part looks at
+  within-there : (e d : Assignment) (f g : FormulaTree) (k : ℕ) → ((t : LookedTable) (bs : List Situation) (s : Situation) → Among o (looked_in_basics true t bs s d g) → Among o (looked_in_basics true t bs s e f))
+      → Among o (looked_at p ws k d g) → Among o (looked_at p ws k e f)
+  within-there e d f g k step h = by (slice_get ws k) h
+    where
+      by : (x : Option World) → Among o (looked_there p (take (suc k) ws) x d g) → Among o (looked_there p (take (suc k) ws) x e f)
+      by None m = absurd m
+      by (Some w) m = step (looks_of p w) (map (situation_of p) (take (suc k) ws)) (situation_of p w) m
+
+  pub not-looked : (e : Assignment) (f : FormulaTree) (k : ℕ) → Among o (looked_at p ws k e f) → Among o (looked_at p ws k e (negation f))
+  unfolding looked_in_basics
+  not-looked e f k h = within-there e e (negation f) f k (λ t bs s m. m) h
+
+  pub next-looked : (e : Assignment) (f : FormulaTree) (k : ℕ) → Among o (looked_at p ws k e f) → Among o (looked_at p ws k e (next f))
+  unfolding looked_in_basics
+  next-looked e f k h = within-there e e (next f) f k (λ t bs s m. m) h
+
+  pub always-looked : (e : Assignment) (f : FormulaTree) (k : ℕ) → Among o (looked_at p ws k e f) → Among o (looked_at p ws k e (always f))
+  unfolding looked_in_basics
+  always-looked e f k h = within-there e e (always f) f k (λ t bs s m. m) h
+
+  pub eventually-looked : (e : Assignment) (f : FormulaTree) (k : ℕ) → Among o (looked_at p ws k e f) → Among o (looked_at p ws k e (eventually f))
+  unfolding looked_in_basics
+  eventually-looked e f k h = within-there e e (eventually f) f k (λ t bs s m. m) h
+
+  pub within-looked : (e : Assignment) (f : FormulaTree) (n k : ℕ) → Among o (looked_at p ws k e f) → Among o (looked_at p ws k e (within n f))
+  unfolding looked_in_basics
+  within-looked e f n k h = within-there e e (within n f) f k (λ t bs s m. m) h
+
+  pub during-looked : (e : Assignment) (f : FormulaTree) (n k : ℕ) → Among o (looked_at p ws k e f) → Among o (looked_at p ws k e (during n f))
+  unfolding looked_in_basics
+  during-looked e f n k h = within-there e e (during n f) f k (λ t bs s m. m) h
+
+  pub until-first-looked : (e : Assignment) (f g : FormulaTree) (k : ℕ) → Among o (looked_at p ws k e f) → Among o (looked_at p ws k e (until f g))
+  unfolding looked_in_basics
+  until-first-looked e f g k h = within-there e e (until f g) f k (λ t bs s m. (One-append (λ y. y ≡ o) (looked_in_basics true t bs s e f) (looked_in_basics true t bs s e g)).1 (inl m)) h
+
+  pub until-second-looked : (e : Assignment) (f g : FormulaTree) (k : ℕ) → Among o (looked_at p ws k e g) → Among o (looked_at p ws k e (until f g))
+  unfolding looked_in_basics
+  until-second-looked e f g k h = within-there e e (until f g) g k (λ t bs s m. (One-append (λ y. y ≡ o) (looked_in_basics true t bs s e f) (looked_in_basics true t bs s e g)).1 (inr m)) h
+
+  parts-in : (t : LookedTable) (bs : List Situation) (s : Situation) (e : Assignment) (fs : List FormulaTree) (g : FormulaTree) → Among g fs → Among o (looked_in_basics true t bs s e g) → Among o (looked_in_parts true t bs s e (formulas_of_list fs))
+  unfolding looked_in_basics
+  parts-in t bs s e [] g m h = absurd m
+  parts-in t bs s e (f ∷ fs) g m h = (One-append (λ y. y ≡ o) (looked_in_basics true t bs s e f) (looked_in_parts true t bs s e (formulas_of_list fs))).1
+      (elim m [ inl q ↦ inl (subst (λ x. Among o (looked_in_basics true t bs s e x)) (sym q) h) | inr k ↦ inr (parts-in t bs s e fs g k h) ])
+
+  pub part-looked : (e : Assignment) (stop : Bool) (fs : List FormulaTree) (g : FormulaTree) (k : ℕ) → Among g fs → Among o (looked_at p ws k e g) → Among o (looked_at p ws k e (joined stop (formulas_of_list fs)))
+  unfolding looked_in_basics
+  part-looked e true fs g k i h = within-there e e (joined true (formulas_of_list fs)) g k (λ t bs s m. parts-in t bs s e fs g i m) h
+  part-looked e false fs g k i h = within-there e e (joined false (formulas_of_list fs)) g k (λ t bs s m. parts-in t bs s e fs g i m) h
+
+  -- what an instance looks at whose tuple makes the bound true in an earlier world
+  pub instance-looked : (e : Assignment) (stop : Bool) (ss : List Var) (b : Bound) (f : FormulaTree) (t : List Value) (j k : ℕ) (v : World) → slice_get ws j ≡ Some v → j ≤ k → Among t (tuples (situation_of p v) e ss b)
+      → Among o (looked_at p ws k (bind ss t e) f) → Among o (looked_at p ws k e (quantified stop ss b f))
+  unfolding looked_in_basics
+  instance-looked e stop ss b f t j k v q l i h = by (slice_get ws k) h
+    where
+      there : Among (situation_of p v) (map (situation_of p) (take (suc k) ws))
+      there = among-situations p (take (suc k) ws) v (among-first ws j k v q l)
+
+      by_stop : (stop : Bool) (w : World) → Among o (looked_there p (take (suc k) ws) (Some w) (bind ss t e) f) → Among o (looked_there p (take (suc k) ws) (Some w) e (quantified stop ss b f))
+      by_stop true w m = instances-in o e ss b (map (situation_of p) (take (suc k) ws)) (situation_of p v) (λ u. looked_in_basics true (looks_of p w) (map (situation_of p) (take (suc k) ws)) (situation_of p w) (bind ss u e) f) there
+          (one_in (λ u. Among o (looked_in_basics true (looks_of p w) (map (situation_of p) (take (suc k) ws)) (situation_of p w) (bind ss u e) f)) t (tuples (situation_of p v) e ss b) i m)
+      by_stop false w m = instances-in o e ss b (map (situation_of p) (take (suc k) ws)) (situation_of p v) (λ u. looked_in_basics true (looks_of p w) (map (situation_of p) (take (suc k) ws)) (situation_of p w) (bind ss u e) f) there
+          (one_in (λ u. Among o (looked_in_basics true (looks_of p w) (map (situation_of p) (take (suc k) ws)) (situation_of p w) (bind ss u e) f)) t (tuples (situation_of p v) e ss b) i m)
+
+      by : (x : Option World) → Among o (looked_there p (take (suc k) ws) x (bind ss t e) f) → Among o (looked_there p (take (suc k) ws) x e (quantified stop ss b f))
+      by None m = absurd m
+      by (Some w) m = by_stop stop w m
+
+  -- the control formula along a plan's states
+  pub along-looked : (f : FormulaTree) (k : ℕ) → Among o (looked_at p ws k no_values f) → Among o (looked_along p ws k f)
+  unfolding looked_along
+  along-looked f k h = by (slice_get ws k) h
+    where
+      by : (x : Option World) → Among o (looked_there p (take (suc k) ws) x no_values f) → Among o (looked_after p (take (suc k) ws) x f)
+      by None m = absurd m
+      by (Some w) m = m

@@ -1,0 +1,28 @@
+-- What the labelling of positions answers.
+use Rattle.std.specs.Prelude.{◌≡◌, ◌≤◌, ℕ, suc, List, [], Bool, true, Option, Some, None, Result, Ok, Err, map, take, drop, slice_get}
+use Rattle.tl_check.specs.Ahead.{marks, true_ahead}
+use Rattle.tl_check.specs.declared.fault.CheckFault.{CheckFault}
+use Rattle.tl_check.specs.declared.fault.CheckFault.TheVariants as fault
+use Rattle.tl_eval.specs.Notes.{Tells}
+use Rattle.tl_syntax.specs.Assignment.{Assignment}
+use Rattle.tl_syntax.specs.Trees.{FormulaTree}
+use Rattle.tl_terms.specs.Definitions.{situation_of}
+use Rattle.tl_terms.specs.Looked.{looked_in_basics, looks_of}
+use Rattle.tl_terms.specs.Operations.{Operation}
+use Rattle.tl_terms.specs.Problem.{PlainProblem}
+use Rattle.tl_terms.specs.World.{World}
+
+-- looked at in a world at the end of these worlds, whose bounds may be true in any of them
+abbrev pub looked_there : PlainProblem → List World → Option World → Assignment → FormulaTree → List Operation
+looked_there p ws None e f = []
+looked_there p ws (Some w) e f = looked_in_basics true (looks_of p w) (map (situation_of p) ws) (situation_of p w) e f
+
+-- looked at along the worlds, in world k
+abbrev pub looked_at : PlainProblem → List World → ℕ → Assignment → FormulaTree → List Operation
+looked_at p ws k e f = looked_there p (take (suc k) ws) (slice_get ws k) e f
+
+-- the labels of the worlds from a position on, or a note of an operation that is looked at in a world from there on
+abbrev pub AreLabels : PlainProblem → List World → ℕ → Assignment → FormulaTree → Result (List Bool) CheckFault → Type 0
+AreLabels p ws from e f (Ok bs) = bs ≡ marks (true_ahead p e f) (drop from ws)
+AreLabels p ws from e f (Err (fault.Range k note)) = (from ≤ k) × Tells (looked_at p ws k e f) note
+AreLabels p ws from e f (Err fault.NoMemory) = Unit {0}

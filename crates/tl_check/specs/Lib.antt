@@ -1,0 +1,9 @@
+pub mod Ahead
+pub mod Passes
+pub mod LawsAhead
+pub mod Labelled
+pub mod Cursors
+pub mod Found
+pub mod Verdicts
+pub mod Executions
+pub mod LawsVerdict

@@ -1,0 +1,109 @@
+// Where the reading of a quantifier stands at one position.
+ghost use Rattle.std.specs.Option.{option_map};
+ghost use Rattle.std.specs.Prelude.{◌≡◌, ◌↔◌, ◌≤◌, ◌<◌, ◌∷◌, List, true, length, Some, IfSome};
+ghost use Rattle.tl_check.specs.Ahead.{true_ahead};
+ghost use Rattle.tl_check.specs.Cursors.{IsAt, left_at};
+ghost use Rattle.tl_eval.specs.Frames.{assignment_in};
+ghost use Rattle.tl_syntax.specs.Assignment.{bind};
+ghost use Rattle.tl_syntax.specs.BoundVariables.{DifferInSlot, OccurIn};
+ghost use Rattle.tl_syntax.specs.Fits.{BoundFits};
+ghost use Rattle.tl_syntax.specs.Signature.{signature_of};
+ghost use Rattle.tl_syntax.specs.Trees.{FormulaTree};
+ghost use Rattle.tl_terms.specs.ProblemMeaning.{plain_problem};
+ghost use Rattle.tl_terms.specs.World.{World as PlainWorld};
+ghost use Rattle.tl_world.specs.Patterns.{tuple_of};
+
+use crate::labels::join;
+use tl_eval::{Env, next_tuple};
+use tl_syntax::{Bound, Value, Vars};
+use tl_world::{Match, Task, World};
+
+/// Where the reading of a quantifier stands at one position.
+#[derive(Clone, Copy)]
+pub(crate) struct Cursor {
+    /// The truth of the instances so far: that of a conjunction or a disjunction.
+    pub(crate) truth: bool,
+    /// The next tuple of the bound, where there is one.
+    pub(crate) next: Option<Match>,
+}
+
+/// The values of a match that count. It takes no memory.
+pub(crate) fn values_of(m: &Match) -> &[Value]
+    requires { m.now.len ≤ 9 }
+    ensures values { result.now ≡ tuple_of m.now }
+    ensures count { length result.now ≡ m.now.len }
+{
+    &m.values[..m.len as usize]
+}
+
+/// Whether the two are the same values. It takes no memory.
+fn are_same(left: &[Value], right: &[Value]) -> bool
+    ensures { (result ≡ true) ↔ (left.now ≡ right.now) }
+{
+    left == right
+}
+
+/// Whether the next tuple is this one. It takes no memory.
+fn is_next(next: &Option<Match>, tuple: &Match) -> bool
+    requires next { IfSome next.now (λ m. m.len ≤ 9) }
+    requires tuple { tuple.now.len ≤ 9 }
+    ensures { (result ≡ true) ↔ (option_map tuple_of next.now ≡ Some (tuple_of tuple.now)) }
+{
+    match next {
+        Some(m) => are_same(values_of(m), values_of(tuple)),
+        None => false,
+    }
+}
+
+/// The cursor before the first instance: the quantifier is universal, or, where `stop` is true, existential. It takes no memory.
+pub(crate) fn begun(
+    task: &Task,
+    w: &World,
+    env: &Env,
+    vars: &Vars,
+    bound: &Bound,
+    stop: bool,
+) -> Cursor
+    requires differ { DifferInSlot vars.now }
+    requires occur { OccurIn vars.now bound.now }
+    requires fits { BoundFits (signature_of task.now.problem.domain) bound.now }
+    ensures { (f : FormulaTree) (ws : List PlainWorld) → IsAt (plain_problem task.now.problem) (assignment_in env.now) (record { stop = stop; vars = vars.now; bound = bound.now; part = f }) (w.now ∷ ws) result }
+{
+    Cursor {
+        truth: !stop,
+        next: next_tuple(task, w, env, vars, bound, None),
+    }
+}
+
+/// The cursor after the instance of a tuple that has this label here, where the tuple is the next one, and else the same cursor. It takes no memory.
+pub(crate) fn moved(
+    task: &Task,
+    w: &World,
+    env: &Env,
+    vars: &Vars,
+    bound: &Bound,
+    stop: bool,
+    cursor: Cursor,
+    tuple: &Match,
+    label: bool,
+) -> Cursor
+    requires differ { DifferInSlot vars.now }
+    requires occur { OccurIn vars.now bound.now }
+    requires fits { BoundFits (signature_of task.now.problem.domain) bound.now }
+    requires few { length vars.now ≤ 9 }
+    requires count { IfSome cursor.next (λ m. m.len ≡ length vars.now) }
+    requires tuple { tuple.now.len ≡ length vars.now }
+    ensures count { IfSome result.next (λ m. m.len ≡ length vars.now) }
+    ensures at { (f : FormulaTree) (ws : List PlainWorld) → label ≡ true_ahead (plain_problem task.now.problem) (bind vars.now (tuple_of tuple.now) (assignment_in env.now)) f (w.now ∷ ws) → IsAt (plain_problem task.now.problem) (assignment_in env.now) (record { stop = stop; vars = vars.now; bound = bound.now; part = f }) (w.now ∷ ws) cursor → IsAt (plain_problem task.now.problem) (assignment_in env.now) (record { stop = stop; vars = vars.now; bound = bound.now; part = f }) (w.now ∷ ws) result }
+    ensures no_more { (ws : List PlainWorld) → length (left_at (plain_problem task.now.problem) (assignment_in env.now) vars.now bound.now (w.now ∷ ws) result) ≤ length (left_at (plain_problem task.now.problem) (assignment_in env.now) vars.now bound.now (w.now ∷ ws) cursor) }
+    ensures fewer { (ws : List PlainWorld) → option_map tuple_of cursor.next ≡ Some (tuple_of tuple.now) → length (left_at (plain_problem task.now.problem) (assignment_in env.now) vars.now bound.now (w.now ∷ ws) result) < length (left_at (plain_problem task.now.problem) (assignment_in env.now) vars.now bound.now (w.now ∷ ws) cursor) }
+{
+    if is_next(&cursor.next, tuple) {
+        Cursor {
+            truth: join(cursor.truth, label, stop),
+            next: next_tuple(task, w, env, vars, bound, cursor.next),
+        }
+    } else {
+        cursor
+    }
+}

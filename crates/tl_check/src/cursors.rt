@@ -1,0 +1,115 @@
+// The cursors of a quantifier at some positions in a row.
+ghost use Rattle.std.specs.Option.{option_map};
+ghost use Rattle.std.specs.Prelude.{◌≡◌, ◌≤◌, ◌<◌, ◌+◌, ◌⊎◌, List, None, Some, IfOk, IfSome, IfNone, drop, map, length, slice_get};
+ghost use Rattle.tl_check.specs.Ahead.{marks, true_ahead};
+ghost use Rattle.tl_check.specs.Cursors.{AreAt, work_left};
+ghost use Rattle.tl_check.specs.Found.{IsFound, HaveCounts};
+ghost use Rattle.tl_eval.specs.Frames.{assignment_in};
+ghost use Rattle.tl_syntax.specs.Assignment.{bind};
+ghost use Rattle.tl_syntax.specs.BoundVariables.{DifferInSlot, OccurIn};
+ghost use Rattle.tl_syntax.specs.Fits.{BoundFits};
+ghost use Rattle.tl_syntax.specs.Lists.{Each};
+ghost use Rattle.tl_syntax.specs.Signature.{signature_of};
+ghost use Rattle.tl_syntax.specs.Trees.{FormulaTree};
+ghost use Rattle.tl_terms.specs.ProblemMeaning.{plain_problem};
+ghost use Rattle.tl_world.specs.Patterns.{tuple_of};
+
+use crate::cursor::{Cursor, begun, moved};
+use crate::found::{Found, lesser};
+use crate::labels::Labels;
+use std::alloc::Global;
+use tl_eval::Env;
+use tl_syntax::{Bound, NoMemory, Vars};
+use tl_world::{Task, World};
+
+/// The cursors before the first instance, one for each world. It fails for want of memory alone.
+pub(crate) fn cursors_at(
+    alloc: Global,
+    task: &Task,
+    worlds: &[World],
+    env: &Env,
+    vars: &Vars,
+    bound: &Bound,
+    stop: bool,
+) -> Result<Vec<Cursor>, NoMemory>
+    requires differ { DifferInSlot vars.now }
+    requires occur { OccurIn vars.now bound.now }
+    requires fits { BoundFits (signature_of task.now.problem.domain) bound.now }
+    ensures at { IfOk result (λ cs. (f : FormulaTree) → AreAt (plain_problem task.now.problem) (assignment_in env.now) (record { stop = stop; vars = vars.now; bound = bound.now; part = f }) cs.items worlds.now) }
+{
+    let mut cursors = Vec::new(alloc);
+    for i in 0..worlds.len() {
+        let cursor = begun(task, &worlds[i], env, vars, bound, stop);
+        match cursors.push(cursor) {
+            Ok(()) => {}
+            Err(_) => return Err(NoMemory),
+        }
+    }
+    Ok(cursors)
+}
+
+/// The least of the next tuples, with the first position of which it is the next one: None where none is left. It takes no memory.
+pub(crate) fn least(cursors: &[Cursor], count: usize) -> Option<Found>
+    requires { count ≤ 9 }
+    ensures some { IfSome result (IsFound cursors.now) }
+    ensures none { IfNone result (Each (λ c. c.next ≡ None) cursors.now) }
+{
+    let mut best = None;
+    for i in 0..cursors.len() {
+        best = lesser(best, i, cursors[i].next, count);
+    }
+    best
+}
+
+/// Moves each cursor whose next tuple is the one that was found, by the labels of its instance from the position on where it was found. It takes no memory.
+pub(crate) fn advance(
+    task: &Task,
+    worlds: &[World],
+    env: &Env,
+    vars: &Vars,
+    bound: &Bound,
+    stop: bool,
+    cursors: &mut [Cursor],
+    found: &Found,
+    labels: &Labels,
+)
+    requires differ { DifferInSlot vars.now }
+    requires occur { OccurIn vars.now bound.now }
+    requires fits { BoundFits (signature_of task.now.problem.domain) bound.now }
+    requires few { length vars.now ≤ 9 }
+    requires size { length cursors.old ≡ length worlds.now }
+    requires counts { HaveCounts (length vars.now) cursors.old }
+    requires found { IsFound cursors.old found.now }
+    requires labels { length labels.now + found.now.at ≡ length worlds.now }
+    ensures at { (f : FormulaTree) → labels.now ≡ marks (true_ahead (plain_problem task.now.problem) (bind vars.now (tuple_of found.now.tuple) (assignment_in env.now)) f) (drop found.now.at worlds.now) → AreAt (plain_problem task.now.problem) (assignment_in env.now) (record { stop = stop; vars = vars.now; bound = bound.now; part = f }) cursors.old worlds.now → AreAt (plain_problem task.now.problem) (assignment_in env.now) (record { stop = stop; vars = vars.now; bound = bound.now; part = f }) cursors.new worlds.now }
+    ensures fewer { work_left (plain_problem task.now.problem) (assignment_in env.now) vars.now bound.now cursors.new worlds.now < work_left (plain_problem task.now.problem) (assignment_in env.now) vars.now bound.now cursors.old worlds.now }
+{
+    for i in found.at..cursors.len() {
+        let label = labels.at(i - found.at);
+        cursors[i] = moved(
+            task,
+            &worlds[i],
+            env,
+            vars,
+            bound,
+            stop,
+            cursors[i],
+            &found.tuple,
+            label,
+        );
+    }
+}
+
+/// The truths of the instances so far. It fails for want of memory alone.
+pub(crate) fn truths_of(alloc: Global, cursors: &[Cursor]) -> Result<Labels, NoMemory>
+    ensures { IfOk result (λ labels. labels ≡ map (λ c. c.truth) cursors.now) }
+{
+    let mut labels = Labels::new(alloc);
+    for cursor in cursors.iter() {
+        match labels.push(cursor.truth) {
+            Ok(()) => {}
+            Err(note) => return Err(note),
+        }
+    }
+    Ok(labels)
+}
