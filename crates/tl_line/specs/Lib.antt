@@ -1,0 +1,9 @@
+pub mod Actions
+pub mod MeaningOfActions
+pub mod NamedActions
+pub mod ActionTexts
+pub mod Puts
+pub mod LawsOrder
+pub mod WritableActions
+pub mod LawsReadBack
+pub mod Examples

@@ -1,0 +1,116 @@
+// The action of a form.
+ghost use Rattle.std.specs.Prelude.{◌≡◌, ◌==◌, ◌<◌, ℕ, length, unwrap_or, IfOk, IfErr, IfSome};
+ghost use Rattle.std.specs.List.{position};
+ghost use Rattle.tl_sexpr.specs.Tree.{list, tree_of};
+ghost use Rattle.tl_syntax.specs.declared.action.Action.{Action};
+ghost use Rattle.tl_sexpr.specs.Offsets.{RisesFrom};
+ghost use Rattle.tl_forms.specs.Reads.{Reads, IsLeastFault, trees_in};
+ghost use Rattle.tl_line.specs.Actions.{operator_at, operator_breaks, action_breaks};
+ghost use Rattle.tl_line.specs.MeaningOfActions.{action_meant};
+ghost use Rattle.tl_line.specs.NamedActions.{ActionIsNamed};
+
+use crate::values::arguments;
+use std::alloc::Global;
+use tl_forms::parts::call;
+use tl_forms::{FormFault, Rule, breaks};
+use tl_sexpr::Form;
+use tl_syntax::{Action, Names, Operator, Problem};
+
+/// The position of the operator with a name of this number. It goes over the operators, of which a domain file has at most 256.
+fn operator_named(operators: &[Operator], number: u32) -> Option<usize>
+    ensures place { result ≡ position (λ operator. operator.name == number) operators.now }
+    ensures within { IfSome result (λ place. place < length operators.now) }
+{
+    operators.iter().position(|one| one.name == number)
+}
+
+/// The position of the operator whose name has this text.
+fn operator_of(names: &Names, operators: &[Operator], text: &str) -> Option<usize>
+    ensures place { result ≡ operator_at names.now operators.now text.now }
+    ensures within { IfSome result (λ place. place < length operators.now) }
+{
+    match names.find(text) {
+        Some(number) => operator_named(operators, number),
+        None => None,
+    }
+}
+
+/// The operator of an action with so many arguments.
+///
+/// A position past 32 bits is answered as want of memory: so many operators are in no list.
+fn operator(
+    names: &Names,
+    operators: &[Operator],
+    text: &str,
+    arguments: usize,
+    at: u32,
+) -> Result<u32, FormFault>
+    ensures { Reads (λ (x : ℕ). x) result (operator_breaks names.now operators.now text.now arguments at) (unwrap_or (operator_at names.now operators.now text.now) 0) }
+{
+    let Some(place) = operator_of(names, operators, text) else {
+        return Err(breaks(Rule::NoOperator, at));
+    };
+    if operators[place].params.len() != arguments {
+        return Err(breaks(Rule::ArgumentCount, at));
+    }
+    match u32::try_from(place) {
+        Ok(op) => Ok(op),
+        Err(_) => Err(FormFault::NoMemory),
+    }
+}
+
+/// An action by the elements of its list and its offset.
+#[tactic(auto, using(crate::proofs::Rulesets::composed), unfolding(crate::specs::Actions::action_breaks, crate::specs::MeaningOfActions::action_meant))]
+fn action_list(
+    alloc: Global,
+    names: &Names,
+    operators: &[Operator],
+    forms: &[Form],
+    at: u32,
+) -> Result<Action, FormFault>
+    ensures { Reads (λ (x : Action). x) result (action_breaks names.now operators.now (list (trees_in forms.now) at)) (action_meant names.now operators.now (list (trees_in forms.now) at)) }
+{
+    let Some((text, rest)) = call(forms) else {
+        return Err(breaks(Rule::Shape, at));
+    };
+    let op = operator(names, operators, text, rest.len(), at)?;
+    let args = arguments(alloc, names, rest)?;
+    Ok(Action { op, args })
+}
+
+/// The action that a form stands for, by the names and the operators of a problem.
+#[tactic(auto, using(crate::proofs::Rulesets::form_trees), unfolding(crate::specs::Actions::action_breaks, crate::specs::MeaningOfActions::action_meant))]
+fn action(
+    alloc: Global,
+    names: &Names,
+    operators: &[Operator],
+    form: &Form,
+) -> Result<Action, FormFault>
+    ensures { Reads (λ (x : Action). x) result (action_breaks names.now operators.now (tree_of form.now)) (action_meant names.now operators.now (tree_of form.now)) }
+{
+    match form {
+        Form::Sym(_, at) => Err(breaks(Rule::Shape, *at)),
+        Form::Int(_, at) => Err(breaks(Rule::Shape, *at)),
+        Form::List(forms, at) => action_list(alloc, names, operators, forms.as_slice(), *at),
+    }
+}
+
+/// The action that a form of a plan file stands for, or the first rule that the form breaks.
+///
+/// An operator is found by its text and then by its position among the domain's operators, of which a domain file has at most 256.
+/// It breaks `Rule::Shape` where it is no list that begins with a symbol, `Rule::NoOperator` where that names no operator, `Rule::ArgumentCount` where the number of its arguments is not that of the operator's parameters, and `Rule::NotAValue` at an argument that is a list, a variable or a symbol of neither file. The fault is the one with the least offset, and there the least rule.
+pub fn action_of(alloc: Global, form: &Form, problem: &Problem) -> Result<Action, FormFault>
+    ensures read { Reads (λ (x : Action). x) result (action_breaks problem.now.names problem.now.domain.operators (tree_of form.now)) (action_meant problem.now.names problem.now.domain.operators (tree_of form.now)) }
+    ensures least { (low next : ℕ) → RisesFrom low (tree_of form.now) next → IfErr result (IsLeastFault (action_breaks problem.now.names problem.now.domain.operators (tree_of form.now))) }
+    ensures named { IfOk result (λ action. ActionIsNamed problem.now.names problem.now.domain.operators action) }
+{
+    action(
+        alloc,
+        &problem.names,
+        problem.domain.operators.as_slice(),
+        form,
+    )
+}
+
+#[cfg(test)]
+mod tests;
