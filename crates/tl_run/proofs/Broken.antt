@@ -1,41 +1,85 @@
 -- Files that break a rule in their turn.
-use Rattle.std.proofs.Common.{ℕ, ◌≤◌, List, [], ◌∷◌, length}
-use Rattle.tl_run.specs.declared.plain.domain.GroundDomain.{GroundDomain}
-use Rattle.tl_run.specs.declared.plain.problem.GroundProblem.{GroundProblem}
-use Rattle.tl_run.specs.declared.plain.files.FileFault.TheVariants as fault
+use Rattle.std.proofs.Common.{◌≡◌, ◌⊎◌, inl, inr, ℕ, ◌≤◌, List, [], ◌∷◌, length, map, sym, ap, ◌∙◌}
+use Rattle.tl_sexpr.specs.declared.form.Form.{Form}
+use Rattle.tl_sexpr.specs.declared.form.Forms.{Forms}
+use Rattle.tl_sexpr.specs.declared.fault.TextFault.{TextFault}
+use Rattle.tl_sexpr.specs.declared.fault.TextFault.TheVariants as text
+use Rattle.tl_sexpr.specs.Faults.{IsFaultOf}
+use Rattle.tl_sexpr.specs.Tree.{FormTrees, tree_of, trees_of, trees_of_list, items_of}
+use Rattle.tl_sexpr.proofs.TreeOf.{trees-Forms}
+use Rattle.tl_syntax.specs.declared.domain.Domain.{Domain}
+use Rattle.tl_syntax.specs.declared.problem.Problem.{Problem}
+use Rattle.tl_forms.specs.declared.rule.FormFault.{FormFault}
+use Rattle.tl_forms.specs.declared.rule.FormFault.TheVariants as form
+use Rattle.tl_forms.specs.Reads.{IsLeastFault, trees_in}
+use Rattle.tl_forms.specs.Rules.{Break}
+use Rattle.tl_domain.specs.DomainFiles.{domain_file_breaks}
+use Rattle.tl_problem.specs.Problems.{breaks_of}
+use Rattle.tl_text.specs.Plans.{plan_breaks}
+use Rattle.tl_run.specs.declared.files.FileFault.{FileFault}
+use Rattle.tl_run.specs.declared.files.FileFault.TheVariants as fault
 use Rattle.tl_run.specs.declared.stop.Broken.{Broken}
-use Rattle.tl_run.specs.declared.stop.Broken.TheVariants.{BadByte, StrayClose, Unclosed, TooDeep, BigInteger, TooLong, NotPlain}
-use Rattle.tl_run.specs.Files.{IsDomainFile, IsProblemFile, StandForDomain, StandForProblemOf, StandForPlanOf, IsFileFault}
-use Rattle.tl_run.specs.Contents.{AreProblem, StandForProblem, StandForPlan, Passes, Breaks}
-use Rattle.tl_run.proofs.Stands.{one_domain, one_problem}
+use Rattle.tl_run.specs.declared.stop.Broken.TheVariants as broken
+use Rattle.tl_run.specs.Files.{SpellShortly, IsDomainFile, DomainFileBreaks, ProblemFileBreaks, PlanFileBreaks, IsTextFault, IsFileFault, file_fault_of, form_fault_of}
+use Rattle.tl_run.specs.Contents.{AreProblem, ProblemBreaks, PlanBreaks, FormsBreak, Breaks}
 
--- where the content would pass only if it stood for a thing, what is no such thing breaks a rule
-breaks_if : (contents : List (List ℕ)) (bytes : List ℕ) (Stands : Type 0) (broken : Broken) → (Passes contents bytes → Stands) → length bytes ≤ 4194304 → IsFileFault bytes Stands (fault.Breaks broken) → Breaks contents bytes broken
-breaks_if contents bytes Stands (BadByte at) needs short h = (short, h)
-breaks_if contents bytes Stands (StrayClose at) needs short h = (short, h)
-breaks_if contents bytes Stands (Unclosed at) needs short h = (short, h)
-breaks_if contents bytes Stands (TooDeep at) needs short h = (short, h)
-breaks_if contents bytes Stands (BigInteger at) needs short h = (short, h)
-breaks_if contents bytes Stands TooLong needs short h = absurd h
-breaks_if contents bytes Stands NotPlain needs short h = (short, h.0, λ passes. h.1 (needs passes))
+-- the forms of a list, in both ways of lending them
+pub slice_trees : (forms : Forms) (items : List Form) → items ≡ items_of forms → trees_in items ≡ trees_of forms
+slice_trees forms items is = ap (λ (xs : List Form). trees_of_list (map tree_of xs)) is ∙ sym (trees-Forms forms)
 
-pub domain_breaks : (bytes : List ℕ) (broken : Broken) → length bytes ≤ 4194304 → IsFileFault bytes (StandForDomain bytes) (fault.Breaks broken) → Breaks [] bytes broken
-domain_breaks bytes broken = breaks_if [] bytes (StandForDomain bytes) broken (λ passes. passes)
+-- what the reader of forms tells is a fault of the text
+pub text_fault : (bytes : List ℕ) (told : TextFault) → (told ≡ text.NoMemory) ⊎ IsFaultOf bytes told → IsTextFault bytes (file_fault_of told)
+text_fault bytes text.NoMemory h = tt
+text_fault bytes (text.BadByte at) (inl e) = absurd (let k : ⊥ = cc in k)
+text_fault bytes (text.StrayClose at) (inl e) = absurd (let k : ⊥ = cc in k)
+text_fault bytes (text.Unclosed at) (inl e) = absurd (let k : ⊥ = cc in k)
+text_fault bytes (text.TooDeep at) (inl e) = absurd (let k : ⊥ = cc in k)
+text_fault bytes (text.BigInteger at) (inl e) = absurd (let k : ⊥ = cc in k)
+text_fault bytes (text.BadByte at) (inr h) = h
+text_fault bytes (text.StrayClose at) (inr h) = h
+text_fault bytes (text.Unclosed at) (inr h) = h
+text_fault bytes (text.TooDeep at) (inr h) = h
+text_fault bytes (text.BigInteger at) (inr h) = h
 
-needs_problem : (first bytes : List ℕ) (names : List (List ℕ)) (d : GroundDomain) → IsDomainFile first names d → StandForProblem first bytes → StandForProblemOf names d bytes
-needs_problem first bytes names d is s =
-    let one = one_domain first s.are.domain_names names s.domain d s.are.is_domain is in
-    record { names = s.names; problem = s.problem; is_problem = rw (one.0, one.1) at s.are.is_problem }
+-- a fault of the text is one of the file, whatever its forms should be
+pub file_fault : (bytes : List ℕ) (P : Break → Type 0) (told : FileFault) → IsTextFault bytes told → IsFileFault bytes P told
+file_fault bytes P (fault.Breaks (broken.BadByte at)) h = h
+file_fault bytes P (fault.Breaks (broken.StrayClose at)) h = h
+file_fault bytes P (fault.Breaks (broken.Unclosed at)) h = h
+file_fault bytes P (fault.Breaks (broken.TooDeep at)) h = h
+file_fault bytes P (fault.Breaks (broken.BigInteger at)) h = h
+file_fault bytes P (fault.Breaks broken.TooLong) h = h
+file_fault bytes P (fault.Breaks (broken.Form rule at)) h = absurd h
+file_fault bytes P fault.NoMemory h = h
 
-pub problem_breaks : (first bytes : List ℕ) (names : List (List ℕ)) (d : GroundDomain) (broken : Broken) → IsDomainFile first names d → length bytes ≤ 4194304 → IsFileFault bytes (StandForProblemOf names d bytes) (fault.Breaks broken) → Breaks (first ∷ []) bytes broken
-problem_breaks first bytes names d broken is = breaks_if (first ∷ []) bytes (StandForProblemOf names d bytes) broken (needs_problem first bytes names d is)
+-- the least rule that forms break is a fault of the file
+pub domain_fault : (bytes : List ℕ) (forms : FormTrees) (told : FormFault) → SpellShortly bytes forms → IsLeastFault (domain_file_breaks forms) told → IsFileFault bytes (DomainFileBreaks bytes) (form_fault_of told)
+domain_fault bytes forms (form.Breaks rule at) s h = record { forms = forms; spelled = s; least = h }
+domain_fault bytes forms form.NoMemory s h = tt
 
-needs_plan : (first second bytes : List ℕ) (names : List (List ℕ)) (d : GroundDomain) (p : GroundProblem) → AreProblem first second names d p → StandForPlan first second bytes → StandForPlanOf names d bytes
-needs_plan first second bytes names d p are s =
-    let domains = one_domain first s.are.domain_names are.domain_names s.domain d s.are.is_domain are.is_domain in
-    let is : IsProblemFile are.domain_names d second s.names s.problem = rw (domains.0, domains.1) at s.are.is_problem in
-    let problems = one_problem are.domain_names d second s.names names s.problem p is are.is_problem in
-    record { plan = s.plan; is_plan = rw (problems.0, domains.1) at s.is_plan }
+pub problem_fault : (names : List (List ℕ)) (d : Domain) (bytes : List ℕ) (forms : FormTrees) (told : FormFault) → SpellShortly bytes forms → IsLeastFault (breaks_of names d forms) told → IsFileFault bytes (ProblemFileBreaks names d bytes) (form_fault_of told)
+problem_fault names d bytes forms (form.Breaks rule at) s h = record { forms = forms; spelled = s; least = h }
+problem_fault names d bytes forms form.NoMemory s h = tt
 
-pub plan_breaks : (first second bytes : List ℕ) (names : List (List ℕ)) (d : GroundDomain) (p : GroundProblem) (broken : Broken) → AreProblem first second names d p → length bytes ≤ 4194304 → IsFileFault bytes (StandForPlanOf names d bytes) (fault.Breaks broken) → Breaks (first ∷ second ∷ []) bytes broken
-plan_breaks first second bytes names d p broken are = breaks_if (first ∷ second ∷ []) bytes (StandForPlanOf names d bytes) broken (needs_plan first second bytes names d p are)
+pub plan_fault : (p : Problem) (bytes : List ℕ) (forms : FormTrees) (told : FormFault) → SpellShortly bytes forms → IsLeastFault (plan_breaks p.names p.domain.operators forms) told → IsFileFault bytes (PlanFileBreaks p bytes) (form_fault_of told)
+plan_fault p bytes forms (form.Breaks rule at) s h = record { forms = forms; spelled = s; least = h }
+plan_fault p bytes forms form.NoMemory s h = tt
+
+-- a fault of a file is a rule that it breaks in its turn
+breaks_by : (contents : List (List ℕ)) (bytes : List ℕ) (P : Break → Type 0) (by : Broken) → ((b : Break) → P b → FormsBreak contents bytes b) → length bytes ≤ 4194304 → IsFileFault bytes P (fault.Breaks by) → Breaks contents bytes by
+breaks_by contents bytes P (broken.BadByte at) turn short h = (short, h)
+breaks_by contents bytes P (broken.StrayClose at) turn short h = (short, h)
+breaks_by contents bytes P (broken.Unclosed at) turn short h = (short, h)
+breaks_by contents bytes P (broken.TooDeep at) turn short h = (short, h)
+breaks_by contents bytes P (broken.BigInteger at) turn short h = (short, h)
+breaks_by contents bytes P broken.TooLong turn short h = absurd h
+breaks_by contents bytes P (broken.Form rule at) turn short h = turn (rule, at) h
+
+pub domain_breaks : (bytes : List ℕ) (by : Broken) → length bytes ≤ 4194304 → IsFileFault bytes (DomainFileBreaks bytes) (fault.Breaks by) → Breaks [] bytes by
+domain_breaks bytes by = breaks_by [] bytes (DomainFileBreaks bytes) by (λ b h. h)
+
+pub problem_breaks : (first bytes : List ℕ) (names : List (List ℕ)) (d : Domain) (by : Broken) → IsDomainFile first names d → length bytes ≤ 4194304 → IsFileFault bytes (ProblemFileBreaks names d bytes) (fault.Breaks by) → Breaks (first ∷ []) bytes by
+problem_breaks first bytes names d by is = breaks_by (first ∷ []) bytes (ProblemFileBreaks names d bytes) by (λ b h. record { names = names; domain = d; is_domain = is; breaks = h })
+
+pub plan_file_breaks : (first second bytes : List ℕ) (p : Problem) (by : Broken) → AreProblem first second p → length bytes ≤ 4194304 → IsFileFault bytes (PlanFileBreaks p bytes) (fault.Breaks by) → Breaks (first ∷ second ∷ []) bytes by
+plan_file_breaks first second bytes p by are = breaks_by (first ∷ second ∷ []) bytes (PlanFileBreaks p bytes) by (λ b h. record { problem = p; are = are; breaks = h })

@@ -6,9 +6,9 @@ use Rattle.tl_run.specs.Contents.{Passes}
 use Rattle.tl_run.specs.Contents.{Breaks as broken_by}
 use Rattle.tl_run.specs.Stops.{stop_at}
 use Rattle.tl_run.specs.declared.stop.Broken.{Broken}
-use Rattle.tl_run.specs.declared.plain.files.FileFault.{FileFault}
-use Rattle.tl_run.specs.declared.plain.files.FileFault.TheVariants.{Breaks}
-use Rattle.tl_run.specs.declared.plain.files.FileFault.TheVariants as file
+use Rattle.tl_run.specs.declared.files.FileFault.{FileFault}
+use Rattle.tl_run.specs.declared.files.FileFault.TheVariants.{Breaks}
+use Rattle.tl_run.specs.declared.files.FileFault.TheVariants as file
 use Rattle.tl_run.specs.Turns.{Begun, InTurn, StopsInTurn}
 use Rattle.tl_run.specs.declared.stop.Stop.{Stop}
 use Rattle.tl_run.specs.declared.stop.Stop.TheVariants.{ReadFault, NoMemory, Refused}

@@ -1,38 +1,19 @@
 -- The answers of a run, and what it writes.
-use Rattle.std.specs.Prelude.{◌≡◌, ℕ, ◌⊎◌, List, [], ◌++◌, Option, ⊤, codes}
-use Rattle.std.specs.Fmt.{decimal}
+use Rattle.std.specs.Prelude.{◌≡◌, ℕ, ◌⊎◌, List, [], Option, ⊤}
 use Rattle.std.specs.Io.KnownBytes.{append_known}
 use Rattle.tl_outside.specs.Causes.{Rose}
 use Rattle.tl_outside.specs.Told.{Files, GrowsByPart}
-use Rattle.tl_run.specs.declared.verdict.Verdict.{Verdict}
-use Rattle.tl_run.specs.declared.verdict.Verdict.TheVariants.{Valid, NotExecutable, GoalUnmet}
+use Rattle.tl_check.specs.declared.verdict.Verdict.{Verdict}
+use Rattle.tl_check.specs.declared.verdict.Verdict.TheVariants.{Valid}
 use Rattle.tl_run.specs.declared.stop.Broken.{Broken}
 use Rattle.tl_run.specs.declared.status.Status.{Status}
-use Rattle.tl_run.specs.declared.status.Status.TheVariants.{Yes, No, Refused, ReadFault, WriteFault, NoMemory, Usage}
+use Rattle.tl_run.specs.declared.status.Status.TheVariants.{Yes, No, Refused, Range, ReadFault, WriteFault, NoMemory, Usage}
 use Rattle.tl_run.specs.declared.answer.Fault.{Fault}
 use Rattle.tl_run.specs.declared.answer.Fault.TheVariants as fault
-use Rattle.tl_run.specs.Contents.{Judges}
+use Rattle.tl_run.specs.Contents.{Judges, AnswersContents, AreCalm}
+use Rattle.tl_run.specs.Outcomes.{verdict, verdict_text, verdict_status}
 use Rattle.tl_run.specs.Refusals.{refusal_text}
 use Rattle.tl_run.specs.Turns.{AllPass, Begun, LacksInTurn, RefusesInTurn}
-
--- the line of a verdict
-abbrev pub verdict_text : Verdict → List ℕ
-verdict_text Valid = codes "; valid\n"
-verdict_text (NotExecutable number) = codes "; not executable " ++ (decimal number ++ codes "\n")
-verdict_text GoalUnmet = codes "; goal unmet\n"
-
--- the status with a verdict
-abbrev pub verdict_status : Verdict → Status
-verdict_status Valid = Yes
-verdict_status (NotExecutable number) = No
-verdict_status GoalUnmet = No
-
--- the files have this verdict, and this is its status and its line
-pub record AllowsVerdict (files : Option Files) (names : List (List ℕ)) (status : Status) (text : List ℕ) : Type 0 where
-  pub verdict : Verdict
-  pub judged : AllPass files [] names (Judges verdict)
-  pub status_is : status ≡ verdict_status verdict
-  pub text_is : text ≡ verdict_text verdict
 
 -- a file is refused, and this is its line; `begun` shows which files were begun
 pub record AllowsRefusal (files : Option Files) (names : List (List ℕ)) (begun : Begun) (text : List ℕ) : Type 0 where
@@ -41,10 +22,15 @@ pub record AllowsRefusal (files : Option Files) (names : List (List ℕ)) (begun
   pub refused : RefusesInTurn files [] names begun number broken
   pub text_is : text ≡ refusal_text number broken
 
+-- all files pass, and this is the status with the lines of an outcome of the check
+abbrev pub AllowsOutcome : Option Files → List (List ℕ) → Status → List ℕ → Type 0
+AllowsOutcome files names status text = AllPass files [] names (AnswersContents status text)
+
 -- the files allow this answer
 abbrev pub Allows : Option Files → List (List ℕ) → Begun → Status → List ℕ → Type 0
-Allows files names begun Yes text = AllowsVerdict files names Yes text
-Allows files names begun No text = AllowsVerdict files names No text
+Allows files names begun Yes text = AllowsOutcome files names Yes text
+Allows files names begun No text = AllowsOutcome files names No text
+Allows files names begun Range text = AllowsOutcome files names Range text
 Allows files names begun Refused text = AllowsRefusal files names begun text
 Allows files names begun status text = ⊥
 
@@ -63,7 +49,15 @@ FaultsInTurn files names before now fault.NoMemory = ⊤
 
 -- the files of these names stand for a problem and a plan, and the plan is accepted
 abbrev pub HoldAcceptedPlan : Option Files → List (List ℕ) → Type 0
-HoldAcceptedPlan files names = AllPass files [] names (Judges Valid)
+HoldAcceptedPlan files names = AllPass files [] names (Judges (verdict Valid))
+
+-- the files of these names stand for a problem and a plan, and this is the verdict on it
+abbrev pub HaveVerdict : Option Files → List (List ℕ) → Verdict → Type 0
+HaveVerdict files names v = AllPass files [] names (Judges (verdict v))
+
+-- the files of these names stand for a problem and a plan, and no operation past range is looked at in its check
+abbrev pub HoldCalmPlan : Option Files → List (List ℕ) → Type 0
+HoldCalmPlan files names = AllPass files [] names AreCalm
 
 -- where a file is refused with this line, the run writes it, unless reading or writing fails or memory is wanting
 abbrev pub AnswersRefusal : Option (List ℕ) → Option (List ℕ) → List ℕ → Status → Type 0
@@ -72,3 +66,22 @@ AnswersRefusal old new text ReadFault = ⊤
 AnswersRefusal old new text WriteFault = ⊤
 AnswersRefusal old new text NoMemory = ⊤
 AnswersRefusal old new text status = ⊥
+
+-- where the plan has this verdict, the run writes it with its status, unless reading or writing fails, memory is wanting, or an operation is past range
+abbrev pub AnswersVerdict : Option (List ℕ) → Option (List ℕ) → Verdict → Status → Type 0
+AnswersVerdict old new v Yes = (verdict_status v ≡ Yes) × (new ≡ append_known old (verdict_text v))
+AnswersVerdict old new v No = (verdict_status v ≡ No) × (new ≡ append_known old (verdict_text v))
+AnswersVerdict old new v Range = ⊤
+AnswersVerdict old new v ReadFault = ⊤
+AnswersVerdict old new v WriteFault = ⊤
+AnswersVerdict old new v NoMemory = ⊤
+AnswersVerdict old new v status = ⊥
+
+-- the run writes a verdict, unless reading or writing fails or memory is wanting
+abbrev pub AnswersCalmly : Status → Type 0
+AnswersCalmly Yes = ⊤
+AnswersCalmly No = ⊤
+AnswersCalmly ReadFault = ⊤
+AnswersCalmly WriteFault = ⊤
+AnswersCalmly NoMemory = ⊤
+AnswersCalmly status = ⊥

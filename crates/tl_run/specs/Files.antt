@@ -1,64 +1,71 @@
--- What plain files stand for, from their bytes on.
-use Rattle.std.specs.Prelude.{◌≡◌, ℕ, ◌≤◌, List, [], length, Some, ⊤}
+-- What files stand for, from their bytes on.
+use Rattle.std.specs.Prelude.{◌≡◌, ℕ, ◌≤◌, List, [], length, ⊤}
 use Rattle.tl_sexpr.specs.Tree.{FormTrees}
 use Rattle.tl_sexpr.specs.Spelling.{Spells}
 use Rattle.tl_sexpr.specs.Faults.{IsFaultOf}
 use Rattle.tl_sexpr.specs.declared.fault.TextFault.{TextFault}
 use Rattle.tl_sexpr.specs.declared.fault.TextFault.TheVariants as text
 use Rattle.tl_syntax.specs.declared.action.Action.{Action}
-use Rattle.tl_run.specs.declared.plain.domain.GroundDomain.{GroundDomain}
-use Rattle.tl_run.specs.declared.plain.problem.GroundProblem.{GroundProblem}
+use Rattle.tl_syntax.specs.declared.domain.Domain.{Domain}
+use Rattle.tl_syntax.specs.declared.problem.Problem.{Problem}
+use Rattle.tl_forms.specs.declared.rule.FormFault.{FormFault}
+use Rattle.tl_forms.specs.declared.rule.FormFault.TheVariants as form
+use Rattle.tl_forms.specs.Rules.{Break, IsLeastBreak}
+use Rattle.tl_forms.specs.Symbols.{names_with_all}
+use Rattle.tl_domain.specs.DomainFiles.{domain_file_breaks}
+use Rattle.tl_domain.specs.DomainTrees.{domain_tree}
+use Rattle.tl_domain.specs.MeaningOfItems.{domain_file_meant}
+use Rattle.tl_problem.specs.Problems.{IsProblemOf, breaks_of}
+use Rattle.tl_text.specs.Plans.{plan_breaks}
+use Rattle.tl_text.specs.MeaningOfPlans.{plan_meant}
 use Rattle.tl_run.specs.declared.stop.Broken.TheVariants as broken
-use Rattle.tl_run.specs.declared.plain.files.FileFault.{FileFault}
-use Rattle.tl_run.specs.declared.plain.files.FileFault.TheVariants.{Breaks, NoMemory}
-use Rattle.tl_run.specs.Forms.{forms_in, names_with_all}
-use Rattle.tl_run.specs.Domain.{domain_of}
-use Rattle.tl_run.specs.Problem.{problem_of}
-use Rattle.tl_run.specs.Plan.{plan_of}
+use Rattle.tl_run.specs.declared.files.FileFault.{FileFault}
+use Rattle.tl_run.specs.declared.files.FileFault.TheVariants.{Breaks, NoMemory}
 
--- the bytes of a domain file: they are not too many, they spell forms, and the forms write this domain, where these texts have their places as numbers
-pub record IsDomainFile (bytes : List ℕ) (names : List (List ℕ)) (domain : GroundDomain) : Type 0 where
+-- the bytes are not too many, and they spell these forms
+pub record SpellShortly (bytes : List ℕ) (forms : FormTrees) : Type 0 where
   pub short : length bytes ≤ 4194304
-  pub forms : FormTrees
   pub spelled : Spells bytes forms
+
+-- the bytes of a domain file: their forms break no rule and stand for this domain, where these texts have their places as numbers
+pub record IsDomainFile (bytes : List ℕ) (names : List (List ℕ)) (domain : Domain) : Type 0 where
+  pub forms : FormTrees
+  pub spelled : SpellShortly bytes forms
+  pub lawful : domain_file_breaks forms ≡ []
   pub named : names ≡ names_with_all [] forms
-  pub read : domain_of names (forms_in forms) ≡ Some domain
+  pub means : domain_tree domain ≡ domain_file_meant names forms
 
--- the bytes of a problem file for a domain: the texts that are new get the next numbers
-pub record IsProblemFile (before : List (List ℕ)) (domain : GroundDomain) (bytes : List ℕ) (names : List (List ℕ)) (problem : GroundProblem) : Type 0 where
-  pub short : length bytes ≤ 4194304
+-- the bytes of a problem file, after a domain file of these names and this domain: their forms break no rule and stand for this problem
+pub record IsProblemFile (names : List (List ℕ)) (domain : Domain) (bytes : List ℕ) (problem : Problem) : Type 0 where
   pub forms : FormTrees
-  pub spelled : Spells bytes forms
-  pub named : names ≡ names_with_all before forms
-  pub read : problem_of names domain.predicates (forms_in forms) ≡ Some problem
+  pub spelled : SpellShortly bytes forms
+  pub lawful : breaks_of names domain forms ≡ []
+  pub means : IsProblemOf names domain forms problem
 
--- the bytes of a plan file for a domain and a problem
-pub record IsPlanFile (names : List (List ℕ)) (domain : GroundDomain) (bytes : List ℕ) (plan : List Action) : Type 0 where
-  pub short : length bytes ≤ 4194304
+-- the bytes of a plan file for a problem: their forms break no rule and stand for this plan
+pub record IsPlanFile (problem : Problem) (bytes : List ℕ) (plan : List Action) : Type 0 where
   pub forms : FormTrees
-  pub spelled : Spells bytes forms
-  pub read : plan_of names domain.operators (forms_in forms) ≡ Some plan
+  pub spelled : SpellShortly bytes forms
+  pub lawful : plan_breaks problem.names problem.domain.operators forms ≡ []
+  pub means : plan ≡ plan_meant problem.names problem.domain.operators forms
 
--- the bytes stand for a domain
-pub record StandForDomain (bytes : List ℕ) : Type 0 where
-  pub names : List (List ℕ)
-  pub domain : GroundDomain
-  pub is_domain : IsDomainFile bytes names domain
+-- the bytes of a domain file spell forms, and of the rules that these break this one is the least
+pub record DomainFileBreaks (bytes : List ℕ) (b : Break) : Type 0 where
+  pub forms : FormTrees
+  pub spelled : SpellShortly bytes forms
+  pub least : IsLeastBreak (domain_file_breaks forms) b
 
--- the bytes stand for a problem of the domain
-pub record StandForProblemOf (before : List (List ℕ)) (domain : GroundDomain) (bytes : List ℕ) : Type 0 where
-  pub names : List (List ℕ)
-  pub problem : GroundProblem
-  pub is_problem : IsProblemFile before domain bytes names problem
+-- the same for a problem file, after a domain file of these names and this domain
+pub record ProblemFileBreaks (names : List (List ℕ)) (domain : Domain) (bytes : List ℕ) (b : Break) : Type 0 where
+  pub forms : FormTrees
+  pub spelled : SpellShortly bytes forms
+  pub least : IsLeastBreak (breaks_of names domain forms) b
 
--- the bytes stand for a plan of the domain
-pub record StandForPlanOf (names : List (List ℕ)) (domain : GroundDomain) (bytes : List ℕ) : Type 0 where
-  pub plan : List Action
-  pub is_plan : IsPlanFile names domain bytes plan
-
--- the bytes spell forms
-abbrev pub SpellsForms : List ℕ → Type 0
-SpellsForms bytes = (forms : FormTrees) × Spells bytes forms
+-- the same for a plan file
+pub record PlanFileBreaks (problem : Problem) (bytes : List ℕ) (b : Break) : Type 0 where
+  pub forms : FormTrees
+  pub spelled : SpellShortly bytes forms
+  pub least : IsLeastBreak (plan_breaks problem.names problem.domain.operators forms) b
 
 -- the fault of a file whose text has this one
 abbrev pub file_fault_of : TextFault → FileFault
@@ -69,6 +76,11 @@ file_fault_of (text.TooDeep at) = Breaks (broken.TooDeep at)
 file_fault_of (text.BigInteger at) = Breaks (broken.BigInteger at)
 file_fault_of text.NoMemory = NoMemory
 
+-- the fault of a file whose forms have this one
+abbrev pub form_fault_of : FormFault → FileFault
+form_fault_of (form.Breaks rule at) = Breaks (broken.Form rule at)
+form_fault_of form.NoMemory = NoMemory
+
 -- the fault for which the bytes spell no forms
 abbrev pub IsTextFault : List ℕ → FileFault → Type 0
 IsTextFault bytes (Breaks (broken.BadByte at)) = IsFaultOf bytes (text.BadByte at)
@@ -77,10 +89,10 @@ IsTextFault bytes (Breaks (broken.Unclosed at)) = IsFaultOf bytes (text.Unclosed
 IsTextFault bytes (Breaks (broken.TooDeep at)) = IsFaultOf bytes (text.TooDeep at)
 IsTextFault bytes (Breaks (broken.BigInteger at)) = IsFaultOf bytes (text.BigInteger at)
 IsTextFault bytes (Breaks broken.TooLong) = ⊥
-IsTextFault bytes (Breaks broken.NotPlain) = ⊥
+IsTextFault bytes (Breaks (broken.Form rule at)) = ⊥
 IsTextFault bytes NoMemory = ⊤
 
--- the fault of bytes that do not stand for a thing: they spell no forms, or forms that do not write it
-abbrev pub IsFileFault : List ℕ → Type 0 → FileFault → Type 0
-IsFileFault bytes Stands (Breaks broken.NotPlain) = SpellsForms bytes × (¬ Stands)
-IsFileFault bytes Stands fault = IsTextFault bytes fault
+-- the fault for which the bytes stand for nothing: that they spell no forms, or a rule that their forms break
+abbrev pub IsFileFault : List ℕ → (Break → Type 0) → FileFault → Type 0
+IsFileFault bytes FormsBreak (Breaks (broken.Form rule at)) = FormsBreak (rule, at)
+IsFileFault bytes FormsBreak fault = IsTextFault bytes fault

@@ -1,16 +1,5 @@
-pub mod Forms
-pub mod Each
-pub mod Reads
-pub mod Atoms
-pub mod Effects
-pub mod Operators
-pub mod Predicates
-pub mod Domain
-pub mod Problem
-pub mod Plan
-pub mod Meaning
-pub mod Verdicts
 pub mod Files
+pub mod Outcomes
 pub mod Contents
 pub mod Statuses
 pub mod Words
@@ -19,4 +8,3 @@ pub mod Refusals
 pub mod Stops
 pub mod Turns
 pub mod Answers
-pub mod Execution

@@ -1,8 +1,9 @@
 -- Refused files.
-use Rattle.std.specs.Prelude.{ℕ, List, ◌++◌, codes}
-use Rattle.std.specs.Fmt.{decimal}
+use Rattle.std.specs.Prelude.{ℕ, List}
+use Rattle.tl_forms.specs.Rules as forms
+use Rattle.tl_text.specs.Refusals.{refused_text}
 use Rattle.tl_run.specs.declared.stop.Broken.{Broken}
-use Rattle.tl_run.specs.declared.stop.Broken.TheVariants.{BadByte, StrayClose, Unclosed, TooDeep, BigInteger, TooLong, NotPlain}
+use Rattle.tl_run.specs.declared.stop.Broken.TheVariants.{BadByte, StrayClose, Unclosed, TooDeep, BigInteger, TooLong, Form}
 
 -- the number of a rule
 abbrev pub rule_number : Broken → ℕ
@@ -12,7 +13,7 @@ rule_number (Unclosed at) = 3
 rule_number (TooDeep at) = 4
 rule_number (BigInteger at) = 5
 rule_number TooLong = 6
-rule_number NotPlain = 9
+rule_number (Form rule at) = forms.rule_number rule
 
 -- the offset that is reported with a rule
 abbrev pub refusal_offset : Broken → ℕ
@@ -22,9 +23,8 @@ refusal_offset (Unclosed at) = at
 refusal_offset (TooDeep at) = at
 refusal_offset (BigInteger at) = at
 refusal_offset TooLong = 4194304
-refusal_offset NotPlain = 0
+refusal_offset (Form rule at) = at
 
 -- the line of a refusal
 abbrev pub refusal_text : ℕ → Broken → List ℕ
-refusal_text number broken =
-    codes "; refused file " ++ (decimal number ++ (codes " rule " ++ (decimal (rule_number broken) ++ (codes " at " ++ (decimal (refusal_offset broken) ++ codes "\n")))))
+refusal_text number broken = refused_text number (rule_number broken) (refusal_offset broken)

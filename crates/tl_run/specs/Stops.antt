@@ -2,8 +2,8 @@
 use Rattle.std.specs.Prelude.{ℕ}
 use Rattle.tl_run.specs.declared.stop.Stop.{Stop}
 use Rattle.tl_run.specs.declared.stop.Stop.TheVariants as stop
-use Rattle.tl_run.specs.declared.plain.files.FileFault.{FileFault}
-use Rattle.tl_run.specs.declared.plain.files.FileFault.TheVariants as fault
+use Rattle.tl_run.specs.declared.files.FileFault.{FileFault}
+use Rattle.tl_run.specs.declared.files.FileFault.TheVariants as fault
 
 -- why the file of this place was not read on
 abbrev pub stop_at : ℕ → FileFault → Stop

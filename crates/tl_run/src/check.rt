@@ -1,44 +1,32 @@
-// The command `check`, from its files to the verdict.
+// The command `check`, from its files to the answer.
 ghost use Rattle.std.specs.Prelude.{◌≡◌, ◌+◌, ◌-◌, ◌≤◌, [], ◌∷◌, length, IfOk, IfErr};
-ghost use Rattle.tl_run.specs.Contents.{AreProblem, HasPlanVerdict, Judges};
-ghost use Rattle.tl_run.specs.Domain.{IsSmall};
-ghost use Rattle.tl_run.specs.Files.{IsDomainFile, IsFileFault, StandForPlanOf};
+ghost use Rattle.tl_syntax.specs.Kept.{DomainKeeps};
+ghost use Rattle.tl_terms.specs.ProblemMeaning.{plain_problem};
+ghost use Rattle.tl_run.specs.Contents.{AreProblem, AnswersContents};
+ghost use Rattle.tl_run.specs.Files.{IsDomainFile, IsPlanFile, PlanFileBreaks, IsFileFault};
+ghost use Rattle.tl_run.specs.Outcomes.{HasPlanAnswer};
 ghost use Rattle.tl_run.specs.Turns.{AllPass, StopsInTurn};
 
-use crate::plain::domain::GroundDomain;
-use crate::plain::files::{FileFault, domain_file, plan_file, problem_file};
-use crate::plain::judge::judge;
-use crate::plain::problem::GroundProblem;
+use crate::answer::{Answer, answer_on};
+use crate::files::{FileFault, domain_file, plan_file, problem_file};
 use crate::reading::read_file;
 use crate::stop::Stop;
-use crate::verdict::Verdict;
 use crate::words::FileNames;
 use std::alloc::Global;
 use tl_outside::Store;
-use tl_syntax::Names;
+use tl_syntax::{Domain, Names, Problem};
 
-/// What a domain file and a problem file stand for.
-#[derive(Drop)]
-struct Loaded {
-    names: Names,
-    domain: GroundDomain,
-    problem: GroundProblem,
-}
-
-/// The verdict on the plan of a file.
-fn verdict_on(alloc: Global, loaded: Loaded, plan: &[u8]) -> Result<Verdict, FileFault>
-    requires short { length plan.now ≤ 4194304 }
-    requires few { IsSmall loaded.domain }
-    ensures verdict { IfOk result (HasPlanVerdict loaded.names loaded.domain loaded.problem plan.now) }
-    ensures fault { IfErr result (IsFileFault plan.now (StandForPlanOf loaded.names loaded.domain plan.now)) }
+/// The answer on the plan of a file.
+fn answer_on_file(alloc: Global, problem: Problem, bytes: &[u8]) -> Result<Answer, FileFault>
+    requires { length bytes.now ≤ 4194304 }
+    ensures answer { IfOk result (λ answer. HasPlanAnswer (IsPlanFile problem bytes.now) (plain_problem problem) answer.status answer.text) }
+    ensures fault { IfErr result (IsFileFault bytes.now (PlanFileBreaks problem bytes.now)) }
 {
-    let Loaded {
-        names,
-        domain,
-        problem,
-    } = loaded;
-    let actions = plan_file(alloc, plan, &names, &domain)?;
-    Ok(judge(alloc, &domain, &problem, actions.as_slice())?)
+    let plan = plan_file(alloc, bytes, &problem)?;
+    match answer_on(alloc, problem, plan.as_slice()) {
+        Ok(answer) => Ok(answer),
+        Err(_) => Err(FileFault::NoMemory),
+    }
 }
 
 /// Reads the plan file, after contents that stand for a problem.
@@ -47,19 +35,18 @@ fn check_plan<S: Store>(
     store: &mut S,
     first: &[u8],
     second: &[u8],
-    loaded: Loaded,
+    problem: Problem,
     name: &str,
-) -> Result<Verdict, Stop>
-    requires are { AreProblem first.now second.now loaded.names loaded.domain loaded.problem }
-    requires few { IsSmall loaded.domain }
-    ensures verdict { IfOk result (λ verdict. AllPass (S.files store.old) (first.now ∷ second.now ∷ []) (name.now ∷ []) (Judges verdict)) }
+) -> Result<Answer, Stop>
+    requires { AreProblem first.now second.now problem }
+    ensures answer { IfOk result (λ answer. AllPass (S.files store.old) (first.now ∷ second.now ∷ []) (name.now ∷ []) (AnswersContents answer.status answer.text)) }
     ensures stop { IfErr result (StopsInTurn (S.files store.old) (first.now ∷ second.now ∷ []) (name.now ∷ [])
         (record { whole = S.whole store.new; count = S.begun store.new - S.begun store.old }) (S.faults store.old) (S.faults store.new)) }
     ensures begun { S.begun store.new ≤ S.begun store.old + 1 }
 {
     let third = read_file(alloc, store, name, 3)?;
-    match verdict_on(alloc, loaded, third.as_slice()) {
-        Ok(verdict) => Ok(verdict),
+    match answer_on_file(alloc, problem, third.as_slice()) {
+        Ok(answer) => Ok(answer),
         Err(fault) => Err(Stop::at(3, fault)),
     }
 }
@@ -69,40 +56,33 @@ fn check_problem<S: Store>(
     alloc: Global,
     store: &mut S,
     first: &[u8],
-    mut names: Names,
-    domain: GroundDomain,
+    names: Names,
+    domain: Domain,
     files: (&str, &str),
-) -> Result<Verdict, Stop>
+) -> Result<Answer, Stop>
     requires domain { IsDomainFile first.now names domain }
-    requires few { IsSmall domain }
+    requires keeps { DomainKeeps (length names) domain }
     requires names { length names ≤ 4194304 }
-    ensures verdict { IfOk result (λ verdict. AllPass (S.files store.old) (first.now ∷ []) (files.entry.0.now ∷ files.entry.1.now ∷ []) (Judges verdict)) }
+    ensures answer { IfOk result (λ answer. AllPass (S.files store.old) (first.now ∷ []) (files.entry.0.now ∷ files.entry.1.now ∷ []) (AnswersContents answer.status answer.text)) }
     ensures stop { IfErr result (StopsInTurn (S.files store.old) (first.now ∷ []) (files.entry.0.now ∷ files.entry.1.now ∷ [])
         (record { whole = S.whole store.new; count = S.begun store.new - S.begun store.old }) (S.faults store.old) (S.faults store.new)) }
     ensures begun { S.begun store.new ≤ S.begun store.old + 2 }
 {
     let (problem_name, plan_name) = files;
     let second = read_file(alloc, store, problem_name, 2)?;
-    match problem_file(alloc, second.as_slice(), &mut names, &domain) {
-        Ok(problem) => {
-            let loaded = Loaded {
-                names,
-                domain,
-                problem,
-            };
-            check_plan(alloc, store, first, second.as_slice(), loaded, plan_name)
-        }
+    match problem_file(alloc, second.as_slice(), names, domain) {
+        Ok(problem) => check_plan(alloc, store, first, second.as_slice(), problem, plan_name),
         Err(fault) => Err(Stop::at(2, fault)),
     }
 }
 
-/// Reads the files in turn, each after those before it have passed, and judges the plan.
-pub(crate) fn check<S: Store>(
+/// Reads the files in turn, each after those before it have passed, and checks the plan.
+pub(crate) fn check_files<S: Store>(
     alloc: Global,
     store: &mut S,
     files: FileNames<'_>,
-) -> Result<Verdict, Stop>
-    ensures verdict { IfOk result (λ verdict. AllPass (S.files store.old) ([]) (files.entry.domain.now ∷ files.entry.problem.now ∷ files.entry.plan.now ∷ []) (Judges verdict)) }
+) -> Result<Answer, Stop>
+    ensures answer { IfOk result (λ answer. AllPass (S.files store.old) ([]) (files.entry.domain.now ∷ files.entry.problem.now ∷ files.entry.plan.now ∷ []) (AnswersContents answer.status answer.text)) }
     ensures stop { IfErr result (StopsInTurn (S.files store.old) ([]) (files.entry.domain.now ∷ files.entry.problem.now ∷ files.entry.plan.now ∷ [])
         (record { whole = S.whole store.new; count = S.begun store.new - S.begun store.old }) (S.faults store.old) (S.faults store.new)) }
     ensures begun { S.begun store.new ≤ S.begun store.old + 3 }

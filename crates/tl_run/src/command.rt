@@ -4,9 +4,10 @@ ghost use Rattle.std.specs.String.{string_bytes};
 ghost use Rattle.std.specs.Io.KnownBytes.{append_known};
 ghost use Rattle.tl_outside.specs.Causes.{Rose};
 ghost use Rattle.tl_outside.specs.Told.{Files};
-ghost use Rattle.tl_run.specs.Answers.{AnswersRefusal, HoldAcceptedPlan, Writes};
+ghost use Rattle.tl_run.specs.Answers.{AnswersCalmly, AnswersRefusal, AnswersVerdict, HaveVerdict, HoldAcceptedPlan, HoldCalmPlan, Writes};
 ghost use Rattle.tl_run.specs.Refusals.{refusal_text};
 ghost use Rattle.tl_run.specs.Turns.{BreaksInTurn, LacksInTurn};
+ghost use Rattle.tl_check.specs.declared.verdict.Verdict.{Verdict};
 ghost use Rattle.tl_run.specs.declared.stop.Broken.{Broken};
 ghost use Rattle.tl_run.specs.Words.{check, no_command, command_in, files_named};
 
@@ -14,6 +15,7 @@ use crate::answer::{Fault, answer_of};
 use crate::status::Status;
 use crate::words::{Command, FileNames, command_of};
 use std::alloc::Global;
+use tl_check::laws::plan_has_one_verdict;
 use tl_outside::{Sink, Store, write_whole};
 
 /// Runs the command `check`.
@@ -32,11 +34,16 @@ fn run_check<S: Store, K: Sink>(
     ensures refuses { (told : Files) (number : ℕ) (broken : Broken) → S.files store.old ≡ Some told
         → BreaksInTurn (Some told) [] (files_named (check files.entry.domain.now files.entry.problem.now files.entry.plan.now)) number broken
         → AnswersRefusal (K.bytes out.old) (K.bytes out.new) (refusal_text number broken) result }
+    ensures judged { (told : Files) (verdict : Verdict) → S.files store.old ≡ Some told
+        → HaveVerdict (Some told) (files_named (check files.entry.domain.now files.entry.problem.now files.entry.plan.now)) verdict
+        → AnswersVerdict (K.bytes out.old) (K.bytes out.new) verdict result }
+    ensures calm { (told : Files) → S.files store.old ≡ Some told → HoldCalmPlan (Some told) (files_named (check files.entry.domain.now files.entry.problem.now files.entry.plan.now)) → AnswersCalmly result }
     ensures written { Writes (S.files store.old) (files_named (check files.entry.domain.now files.entry.problem.now files.entry.plan.now))
         (record { whole = S.whole store.new; count = S.begun store.new - S.begun store.old }) (K.bytes out.old) (K.bytes out.new) result }
 {
+    plan_has_one_verdict();
     match answer_of(alloc, store, files) {
-        Ok(answer) => match write_whole(out, answer.text.as_bytes()) {
+        Ok(answer) => match write_whole(out, answer.text.as_slice()) {
             Ok(()) => answer.status,
             Err(_) => Status::WriteFault,
         },
@@ -60,6 +67,12 @@ pub fn run<S: Store, K: Sink>(alloc: Global, words: &[String], store: &mut S, ou
     ensures refuses { (told : Files) (number : ℕ) (broken : Broken) → S.files store.old ≡ Some told
         → BreaksInTurn (Some told) [] (files_named (command_in (map string_bytes words.now))) number broken
         → AnswersRefusal (K.bytes out.old) (K.bytes out.new) (refusal_text number broken) result }
+
+    // Where the files stand for a problem and a plan, its verdict is what is written, unless an operation is past range.
+    ensures judged { (told : Files) (verdict : Verdict) → S.files store.old ≡ Some told
+        → HaveVerdict (Some told) (files_named (command_in (map string_bytes words.now))) verdict
+        → AnswersVerdict (K.bytes out.old) (K.bytes out.new) verdict result }
+    ensures calm { (told : Files) → S.files store.old ≡ Some told → HoldCalmPlan (Some told) (files_named (command_in (map string_bytes words.now))) → AnswersCalmly result }
     ensures written { Writes (S.files store.old) (files_named (command_in (map string_bytes words.now)))
         (record { whole = S.whole store.new; count = S.begun store.new - S.begun store.old }) (K.bytes out.old) (K.bytes out.new) result }
 {

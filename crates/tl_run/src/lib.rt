@@ -4,13 +4,12 @@
 mod answer;
 mod check;
 mod command;
-mod plain;
+mod files;
 mod reading;
 mod status;
 mod stop;
 #[cfg(test)]
 mod tests;
-mod verdict;
 mod words;
 
 pub use command::run;

@@ -3,7 +3,8 @@ ghost use Rattle.std.specs.Prelude.{◌≡◌};
 ghost use Rattle.tl_run.specs.Refusals.{rule_number, refusal_offset};
 ghost use Rattle.tl_run.specs.Stops.{stop_at};
 
-use crate::plain::files::FileFault;
+use crate::files::FileFault;
+use tl_forms::Rule;
 
 /// The rule by which a file is refused. The `u32` is the offset of the byte that it is about.
 #[derive(Clone, Copy, Debug, PartialEq, Eq)]
@@ -20,8 +21,8 @@ pub(crate) enum Broken {
     BigInteger(u32),
     /// It has more than 4,194,304 bytes.
     TooLong,
-    /// It is not plain.
-    NotPlain,
+    /// The form at this offset breaks this rule.
+    Form(Rule, u32),
 }
 
 impl Broken {
@@ -36,7 +37,7 @@ impl Broken {
             Broken::TooDeep(_) => 4,
             Broken::BigInteger(_) => 5,
             Broken::TooLong => 6,
-            Broken::NotPlain => 9,
+            Broken::Form(rule, _) => rule.number(),
         }
     }
 
@@ -51,12 +52,12 @@ impl Broken {
             Broken::TooDeep(offset) => offset,
             Broken::BigInteger(offset) => offset,
             Broken::TooLong => 4_194_304,
-            Broken::NotPlain => 0,
+            Broken::Form(_, offset) => offset,
         }
     }
 }
 
-/// Why no verdict was reached.
+/// Why the check of a plan was not reached.
 #[derive(Clone, Copy, Debug, PartialEq, Eq)]
 pub(crate) enum Stop {
     /// A file could not be read.

@@ -12,6 +12,8 @@ const PROBLEM: &str = "(problem one (init) (goal (on a)))";
 
 const PLAN: &str = "(lit)";
 
+const AB: &str = "(problem ab (init (lamp a) (lamp b)) (goal (on a) (on b)))";
+
 const MOST: usize = 4_194_304;
 
 fn words(alloc: Global, all: &[&str]) -> Result<Vec<String>, AllocError> {
@@ -55,6 +57,17 @@ fn answers<R: Abort>(
     Ok(())
 }
 
+/// A domain of lamps that are pressed and put off, with some more items.
+fn lamps(alloc: Global, more: &str) -> Result<String, AllocError> {
+    format!(in alloc;
+        "(domain lamps
+ (predicate lamp 1)
+ (predicate on 1)
+ (operator (press ?x) (bounds (lamp ?x)) (pre (not (on ?x))) (effects (add (on ?x))))
+ (operator (off ?x) (bounds (on ?x)) (effects (del (on ?x)))){more})"
+    )
+}
+
 #[test]
 fn plans_get_their_verdicts(rt: HostRuntime) -> Result<(), Fail> {
     for (domain, problem, plan, status, text) in [
@@ -92,9 +105,98 @@ fn plans_get_their_verdicts(rt: HostRuntime) -> Result<(), Fail> {
             Status::No,
             "; not executable 3\n",
         ),
+        (
+            "(domain t (predicate on 1) (operator (swap ?x) (bounds (on ?x)) (effects (add (on ?x)) (del (on ?x)))))",
+            "(problem p (init (on a)) (goal (on a)))",
+            "(swap a)",
+            Status::Yes,
+            "; valid\n",
+        ),
+        (
+            "(domain k (predicate lamp 1) (function n 0) (operator (clash) (effects (set (n) 1) (each (?x) (lamp ?x) (set (n) 2)))))",
+            "(problem p (init (lamp a)) (goal))",
+            "(clash)",
+            Status::No,
+            "; not executable 1\n",
+        ),
+        (
+            "(domain u (function n 0) (predicate done 0) (operator (go) (pre (not (< (n) 3))) (effects (add (done)))))",
+            "(problem p (init) (goal (done)))",
+            "(go)",
+            Status::Yes,
+            "; valid\n",
+        ),
+        (
+            "(domain c (function n 0) (operator (tick) (effects (set (n) (+ (n) 1)))))",
+            "(problem p (init (= (n) 9223372036854775807)) (goal (= (n) 0)))",
+            "(tick)",
+            Status::Range,
+            "; range at 60: 9223372036854775807 + 1\n; after 0 actions\n",
+        ),
     ] {
         let contents = (domain.as_bytes(), problem.as_bytes(), plan.as_bytes());
         answers(&rt, rt.alloc(), contents, status, text)?;
+    }
+    Ok(())
+}
+
+#[test]
+fn lamps_are_judged(rt: HostRuntime) -> Result<(), Fail> {
+    let alloc = rt.alloc();
+    for (more, problem, plan, status, text) in [
+        (
+            "",
+            "(problem p (init (lamp a)) (goal (on a)))",
+            "(press a) (off a)",
+            Status::No,
+            "; goal unmet\n",
+        ),
+        (
+            " (control (next (on a)))",
+            "(problem p (init (lamp a) (on a)) (goal))",
+            "",
+            Status::Yes,
+            "; valid\n",
+        ),
+        (
+            " (control (next (on a)))",
+            "(problem p (init (lamp a)) (goal))",
+            "",
+            Status::No,
+            "; disobeys\n",
+        ),
+        (
+            "",
+            AB,
+            "(jump)",
+            Status::Refused,
+            "; refused file 3 rule 30 at 0\n",
+        ),
+        (
+            "",
+            AB,
+            "(press)",
+            Status::Refused,
+            "; refused file 3 rule 31 at 0\n",
+        ),
+        (
+            "",
+            AB,
+            "(press ?x)",
+            Status::Refused,
+            "; refused file 3 rule 32 at 7\n",
+        ),
+        (
+            "",
+            AB,
+            "(press zz)",
+            Status::Refused,
+            "; refused file 3 rule 32 at 7\n",
+        ),
+    ] {
+        let domain = lamps(alloc, more)?;
+        let contents = (domain.as_bytes(), problem.as_bytes(), plan.as_bytes());
+        answers(&rt, alloc, contents, status, text)?;
     }
     Ok(())
 }
@@ -112,36 +214,72 @@ fn files_are_refused(rt: HostRuntime) -> Result<(), Fail> {
             PLAN,
             "; refused file 1 rule 5 at 0\n",
         ),
-        ("", PROBLEM, PLAN, "; refused file 1 rule 9 at 0\n"),
+        ("", PROBLEM, PLAN, "; refused file 1 rule 10 at 0\n"),
         (
             "(domain one (function n 0))",
             PROBLEM,
             PLAN,
-            "; refused file 1 rule 9 at 0\n",
+            "; refused file 2 rule 11 at 26\n",
         ),
         (
-            "(domain one (predicate p 9))",
+            "(domain d (control))",
             PROBLEM,
             PLAN,
-            "; refused file 1 rule 9 at 0\n",
+            "; refused file 1 rule 10 at 10\n",
         ),
         (
-            "(domain one (predicate not 1))",
+            "(domain d (control (q a)))",
             PROBLEM,
             PLAN,
-            "; refused file 1 rule 9 at 0\n",
+            "; refused file 1 rule 11 at 19\n",
         ),
         (
-            "(domain one (predicate p 0) (predicate p 1))",
+            "(domain d (predicate p 1) (function p 0))",
             PROBLEM,
             PLAN,
-            "; refused file 1 rule 9 at 0\n",
+            "; refused file 1 rule 12 at 36\n",
         ),
         (
-            "(domain one (predicate p 1) (operator (a) (effects (add (p ?x)))))",
+            "(domain d (predicate p 1) (control (p a b)))",
             PROBLEM,
             PLAN,
-            "; refused file 1 rule 9 at 0\n",
+            "; refused file 1 rule 13 at 35\n",
+        ),
+        (
+            "(domain d (predicate p 1) (control (p ?x)))",
+            PROBLEM,
+            PLAN,
+            "; refused file 1 rule 14 at 38\n",
+        ),
+        (
+            "(domain d (predicate p 1) (control (forall (?x) (p ?x) (exists (?x) (p ?x) true))))",
+            PROBLEM,
+            PLAN,
+            "; refused file 1 rule 15 at 64\n",
+        ),
+        (
+            "(domain d (predicate p 1) (control (forall (?x ?y) (p ?x) true)))",
+            PROBLEM,
+            PLAN,
+            "; refused file 1 rule 16 at 47\n",
+        ),
+        (
+            "(domain d (predicate p 1) (define (q) (next (p a))))",
+            PROBLEM,
+            PLAN,
+            "; refused file 1 rule 17 at 38\n",
+        ),
+        (
+            "(domain d (predicate p 1) (control (goal (or (p a)))))",
+            PROBLEM,
+            PLAN,
+            "; refused file 1 rule 18 at 41\n",
+        ),
+        (
+            "(domain d (predicate p 9))",
+            PROBLEM,
+            PLAN,
+            "; refused file 1 rule 19 at 23\n",
         ),
         (
             DOMAIN,
@@ -153,17 +291,33 @@ fn files_are_refused(rt: HostRuntime) -> Result<(), Fail> {
             DOMAIN,
             "(problem one (init (on a b)) (goal))",
             PLAN,
-            "; refused file 2 rule 9 at 0\n",
+            "; refused file 2 rule 13 at 19\n",
         ),
         (
             DOMAIN,
             "(problem one (init))",
             PLAN,
-            "; refused file 2 rule 9 at 0\n",
+            "; refused file 2 rule 10 at 0\n",
+        ),
+        (
+            "(domain d (predicate p 1))",
+            "(problem q (init (p ?x)) (goal))",
+            PLAN,
+            "; refused file 2 rule 20 at 20\n",
+        ),
+        (
+            "(domain d (function n 0))",
+            "(problem q (init (= (n) 1) (= (n) 2)) (goal))",
+            PLAN,
+            "; refused file 2 rule 21 at 27\n",
         ),
         (DOMAIN, PROBLEM, "(lit) ]", "; refused file 3 rule 1 at 6\n"),
-        (DOMAIN, PROBLEM, "(jump)", "; refused file 3 rule 9 at 0\n"),
-        (DOMAIN, PROBLEM, "(lit a)", "; refused file 3 rule 9 at 0\n"),
+        (
+            DOMAIN,
+            PROBLEM,
+            "(lit a)",
+            "; refused file 3 rule 31 at 0\n",
+        ),
     ] {
         let contents = (domain.as_bytes(), problem.as_bytes(), plan.as_bytes());
         answers(&rt, rt.alloc(), contents, Status::Refused, text)?;
@@ -181,7 +335,7 @@ fn long_files_are_refused(rt: HostRuntime) -> Result<(), Fail> {
     for (contents, text) in [
         (
             (most.as_slice(), problem, plan),
-            "; refused file 1 rule 9 at 0\n",
+            "; refused file 1 rule 10 at 0\n",
         ),
         (
             (more.as_slice(), problem, plan),
