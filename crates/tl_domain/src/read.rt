@@ -2,6 +2,7 @@
 ghost use Rattle.std.specs.Prelude.{◌≡◌, ◌+◌, ◌<◌, ◌^◌, length, IfErr, IfOk, OnOk};
 ghost use Rattle.tl_sexpr.specs.Offsets.{AreAsRead};
 ghost use Rattle.tl_sexpr.specs.Spelling.{symbols_in_all};
+ghost use Rattle.tl_sexpr.specs.Tree.{trees_of};
 ghost use Rattle.tl_syntax.specs.Kept.{DomainKeeps};
 ghost use Rattle.tl_forms.specs.Reads.{Reads, IsLeastFault, trees_in};
 ghost use Rattle.tl_forms.specs.Symbols.{names_with_all, BeginsWith};
@@ -12,17 +13,12 @@ ghost use Rattle.tl_domain.specs.MeaningOfItems.{domain_file_meant};
 use crate::domain_file::domain_file;
 use std::alloc::Global;
 use tl_forms::{FormFault, add_forms};
-use tl_sexpr::Form;
+use tl_sexpr::{Form, Forms};
 use tl_syntax::{Domain, Names};
 
-/// The domain that the forms of a file stand for, where none of them breaks a rule.
-///
-/// All symbols of the file join the names, in reading order. Whatever is answered, every text that was
-/// there keeps its number. The fault is the first broken rule in reading order; for forms as they are
-/// read from a file it is the rule with the least number at the broken form with the least offset.
-/// What the domain keeps is copied; no form is. The domain keeps what the domain of every problem keeps.
+/// The domain that forms stand for, where none of them breaks a rule.
 #[tactic(auto, using(crate::proofs::LeastFault::least_fault, crate::proofs::DomainKept::domain_kept))]
-pub fn domain_of(alloc: Global, names: &mut Names, forms: &[Form]) -> Result<Domain, FormFault>
+fn read_domain(alloc: Global, forms: &[Form], names: &mut Names) -> Result<Domain, FormFault>
     requires room { length names.old + symbols_in_all (trees_in forms.now) < 2 ^ 32 }
     ensures read { Reads domain_tree result (domain_file_breaks (trees_in forms.now)) (domain_file_meant names.new (trees_in forms.now)) }
     ensures least { AreAsRead (trees_in forms.now) → IfErr result (IsLeastFault (domain_file_breaks (trees_in forms.now))) }
@@ -33,4 +29,23 @@ pub fn domain_of(alloc: Global, names: &mut Names, forms: &[Form]) -> Result<Dom
 {
     add_forms(forms, names)?;
     domain_file(alloc, names, forms)
+}
+
+/// The domain that the forms of a file stand for, where none of them breaks a rule.
+///
+/// All symbols of the file join the names, in reading order. Whatever is answered, every text that was
+/// there keeps its number. The fault is the first broken rule in reading order; for forms as they are
+/// read from a file it is the rule with the least number at the broken form with the least offset.
+/// What the domain keeps is copied; no form is. The domain keeps what the domain of every problem keeps.
+#[tactic(auto, using(tl_forms::proofs::FormTrees::form_trees))]
+pub fn domain_of(alloc: Global, forms: &Forms, names: &mut Names) -> Result<Domain, FormFault>
+    requires room { length names.old + symbols_in_all (trees_of forms.now) < 2 ^ 32 }
+    ensures read { Reads domain_tree result (domain_file_breaks (trees_of forms.now)) (domain_file_meant names.new (trees_of forms.now)) }
+    ensures least { AreAsRead (trees_of forms.now) → IfErr result (IsLeastFault (domain_file_breaks (trees_of forms.now))) }
+    ensures keeps { IfOk result (DomainKeeps (length names.new)) }
+    ensures added { OnOk result (names.new ≡ names_with_all names.old (trees_of forms.now)) }
+    ensures kept { BeginsWith names.new names.old }
+    ensures no_other { BeginsWith (names_with_all names.old (trees_of forms.now)) names.new }
+{
+    read_domain(alloc, forms.as_slice(), names)
 }

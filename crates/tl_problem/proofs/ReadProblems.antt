@@ -7,11 +7,11 @@ use Rattle.tl_syntax.specs.Kept.{DomainKeeps}
 use Rattle.tl_syntax.specs.Signature.{signature_of}
 use Rattle.tl_forms.specs.declared.rule.FormFault.{FormFault}
 use Rattle.tl_forms.specs.declared.rule.FormFault.TheVariants.{Breaks, NoMemory}
-use Rattle.tl_forms.specs.Reads.{IsFirst}
+use Rattle.tl_forms.specs.Reads.{IsFirst, IsLeastFault}
 use Rattle.tl_forms.proofs.NamesHave.{forms-have}
 use Rattle.tl_problem.specs.declared.sections.Sections.{Sections}
 use Rattle.tl_problem.specs.Keeps.{SectionsKeep}
-use Rattle.tl_problem.specs.Problems.{all_names, breaks_of, said_by, IsLeastFault}
+use Rattle.tl_problem.specs.Problems.{all_names, breaks_of, said_by}
 use Rattle.tl_problem.proofs.FileOrder.{first-break-least}
 use Rattle.tl_problem.proofs.Kept.{problem-kept}
 use Rattle.tl_problem.proofs.MoreNames.{domain-more, names-longer}

@@ -1,11 +1,9 @@
 -- The problem that a file stands for.
-use Rattle.std.specs.Prelude.{◌≡◌, ℕ, List, map, ⊤}
+use Rattle.std.specs.Prelude.{◌≡◌, ℕ, List, map}
 use Rattle.tl_sexpr.specs.Tree.{FormTrees}
 use Rattle.tl_syntax.specs.declared.domain.Domain.{Domain}
 use Rattle.tl_syntax.specs.declared.problem.Problem.{Problem}
-use Rattle.tl_forms.specs.declared.rule.FormFault.{FormFault}
-use Rattle.tl_forms.specs.declared.rule.FormFault.TheVariants.{Breaks, NoMemory}
-use Rattle.tl_forms.specs.Rules.{Break, IsLeastBreak}
+use Rattle.tl_forms.specs.Rules.{Break}
 use Rattle.tl_forms.specs.Symbols.{names_with_all}
 use Rattle.tl_problem.specs.declared.literals.Literals.{Literals}
 use Rattle.tl_problem.specs.declared.settled.Lists.{Lists}
@@ -45,8 +43,3 @@ said_by names d forms = problem_file_meant (all_names names forms) d forms
 -- the problem of the domain and the forms, with the names of both files in the order of their bytes
 abbrev pub IsProblemOf : List (List ℕ) → Domain → FormTrees → Problem → Type 0
 IsProblemOf names d forms p = (numbers : List ℕ) × IsSettledProblem numbers (all_names names forms) d (said_by names d forms) p
-
--- the fault is the least of these breaks; want of memory says nothing
-abbrev pub IsLeastFault : List Break → FormFault → Type 0
-IsLeastFault breaks (Breaks broken at) = IsLeastBreak breaks (broken, at)
-IsLeastFault breaks NoMemory = ⊤

@@ -2,27 +2,40 @@
 ghost use Rattle.std.specs.Prelude.{◌≡◌, ◌+◌, ◌<◌, ◌^◌, [], length, IfOk, IfErr, OnOk};
 ghost use Rattle.tl_sexpr.specs.Offsets.{AreAsRead};
 ghost use Rattle.tl_sexpr.specs.Spelling.{symbols_in_all};
+ghost use Rattle.tl_sexpr.specs.Tree.{trees_of};
 ghost use Rattle.tl_syntax.specs.Kept.{DomainKeeps};
-ghost use Rattle.tl_forms.specs.Reads.{IsFirst, Reads, trees_in};
+ghost use Rattle.tl_forms.specs.Reads.{IsFirst, IsLeastFault, Reads, trees_in};
 ghost use Rattle.tl_problem.specs.declared.sections.Sections.{Sections};
-ghost use Rattle.tl_problem.specs.Problems.{IsProblemOf, IsLeastFault, all_names, breaks_of, said_by};
+ghost use Rattle.tl_problem.specs.Problems.{IsProblemOf, all_names, breaks_of, said_by};
 
 use crate::sections::{Sections, problem_file};
 use crate::settled::settled;
 use std::alloc::Global;
 use tl_forms::{FormFault, add_forms};
-use tl_sexpr::Form;
+use tl_sexpr::{Form, Forms};
 use tl_syntax::{Domain, Names, Problem};
 
-/// The problem that the forms of a problem file stand for, with the domain of the domain file and its names.
-///
-/// All symbols of the file join the names, which then are numbered by the order of their bytes; the domain and what the file says get these numbers.
-/// Where a form breaks a rule, the fault is the one with the least offset and there the least rule. A refused call drops the domain and the names.
-pub fn problem_of(
+/// What the forms of a file say. All their symbols join the names.
+fn said(
     alloc: Global,
+    domain: &Domain,
+    names: &mut Names,
+    forms: &[Form],
+) -> Result<Sections, FormFault>
+    requires { length names.old + symbols_in_all (trees_in forms.now) < 2 ^ 32 }
+    ensures read { Reads (λ (x : Sections). x) result (breaks_of names.old domain.now (trees_in forms.now)) (said_by names.old domain.now (trees_in forms.now)) }
+    ensures names { OnOk result (names.new ≡ all_names names.old (trees_in forms.now)) }
+{
+    add_forms(forms, names)?;
+    problem_file(alloc, names, domain, forms)
+}
+
+/// The problem that forms stand for, with the domain of the domain file and its names.
+fn read_problem(
+    alloc: Global,
+    forms: &[Form],
     domain: Domain,
     names: Names,
-    forms: &[Form],
 ) -> Result<Problem, FormFault>
     requires room { length names + symbols_in_all (trees_in forms.now) < 2 ^ 32 }
     requires domain { DomainKeeps (length names) domain }
@@ -42,17 +55,23 @@ pub fn problem_of(
     }
 }
 
-/// What the forms of a file say. All their symbols join the names.
-fn said(
+/// The problem that the forms of a problem file stand for, with the domain of the domain file and its names.
+///
+/// All symbols of the file join the names, which then are numbered by the order of their bytes; the domain and what the file says get these numbers.
+/// Where a form breaks a rule, the fault is the one with the least offset and there the least rule. A refused call drops the domain and the names.
+#[tactic(auto, using(tl_forms::proofs::FormTrees::form_trees))]
+pub fn problem_of(
     alloc: Global,
-    domain: &Domain,
-    names: &mut Names,
-    forms: &[Form],
-) -> Result<Sections, FormFault>
-    requires { length names.old + symbols_in_all (trees_in forms.now) < 2 ^ 32 }
-    ensures read { Reads (λ (x : Sections). x) result (breaks_of names.old domain.now (trees_in forms.now)) (said_by names.old domain.now (trees_in forms.now)) }
-    ensures names { OnOk result (names.new ≡ all_names names.old (trees_in forms.now)) }
+    forms: &Forms,
+    domain: Domain,
+    names: Names,
+) -> Result<Problem, FormFault>
+    requires room { length names + symbols_in_all (trees_of forms.now) < 2 ^ 32 }
+    requires domain { DomainKeeps (length names) domain }
+    ensures problem { IfOk result (IsProblemOf names domain (trees_of forms.now)) }
+    ensures lawful { OnOk result (breaks_of names domain (trees_of forms.now) ≡ []) }
+    ensures fault { IfErr result (IsFirst (breaks_of names domain (trees_of forms.now))) }
+    ensures least { AreAsRead (trees_of forms.now) → IfErr result (IsLeastFault (breaks_of names domain (trees_of forms.now))) }
 {
-    add_forms(forms, names)?;
-    problem_file(alloc, names, domain, forms)
+    read_problem(alloc, forms.as_slice(), domain, names)
 }

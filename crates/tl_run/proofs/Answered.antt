@@ -2,21 +2,20 @@
 use Rattle.std.proofs.Common.{◌≡◌, ◌⊎◌, inl, inr, ℕ, List, [], ◌∷◌, refl, sym, ap, ◌∙◌, subst}
 use Rattle.std.specs.Prelude.{Option, Some}
 use Rattle.std.specs.Io.KnownBytes.{append_known}
-use Rattle.tl_check.specs.Verdicts.{IsVerdict, IsCause}
-use Rattle.tl_check.specs.declared.fault.CheckFault.TheVariants as fault
+use Rattle.tl_check.specs.Verdicts.{IsVerdict}
 use Rattle.tl_check.specs.declared.verdict.Verdict.{Verdict}
 use Rattle.tl_check.specs.declared.verdict.Verdict.TheVariants.{Valid, NotExecutable, GoalUnmet, Disobeys}
 use Rattle.tl_outside.specs.Told.{Files}
 use Rattle.tl_syntax.specs.declared.action.Action.{Action}
-use Rattle.tl_syntax.specs.declared.problem.Problem.{Problem}
 use Rattle.tl_terms.specs.Problem.{PlainProblem}
 use Rattle.tl_terms.specs.ProblemMeaning.{plain_problem}
 use Rattle.tl_run.specs.declared.stop.Broken.{Broken}
 use Rattle.tl_run.specs.declared.status.Status.{Status}
-use Rattle.tl_run.specs.declared.status.Status.TheVariants.{Yes, No, Spent, Refused, Range, ReadFault, WriteFault, NoMemory, Usage}
+use Rattle.tl_run.specs.declared.status.Status.TheVariants.{Yes, No, Refused, Range}
 use Rattle.tl_run.specs.Answers.{Allows, AllowsOutcome, AllowsRefusal, AnswersRefusal, AnswersVerdict, AnswersCalmly, HaveVerdict, HoldAcceptedPlan, HoldCalmPlan}
-use Rattle.tl_run.specs.Contents.{Have, HavePlan, Judges, AnswersContents, AreCalm}
-use Rattle.tl_run.specs.Outcomes.{Outcome, verdict, past_range, IsOutcome, IsAnswerOn, IsCalm, outcome_status, outcome_text, verdict_status, verdict_text}
+use Rattle.tl_run.specs.Contents.{Have, Judges, AnswersContents}
+use Rattle.tl_text.specs.Verdicts.{verdict_text}
+use Rattle.tl_run.specs.Outcomes.{Outcome, verdict, past_range, IsOutcome, IsAnswerOn, IsCalm, outcome_status, outcome_text, verdict_status}
 use Rattle.tl_run.specs.Refusals.{refusal_text}
 use Rattle.tl_run.specs.Turns.{AllPass, Begun, BreaksInTurn, RefusesInTurn}
 use Rattle.tl_run.proofs.Exclusive.{no_pass, one_refusal}

@@ -1,17 +1,14 @@
 -- Files that break a rule in their turn.
-use Rattle.std.proofs.Common.{◌≡◌, ◌⊎◌, inl, inr, ℕ, ◌≤◌, List, [], ◌∷◌, length, map, sym, ap, ◌∙◌}
-use Rattle.tl_sexpr.specs.declared.form.Form.{Form}
-use Rattle.tl_sexpr.specs.declared.form.Forms.{Forms}
+use Rattle.std.proofs.Common.{◌≡◌, ◌⊎◌, inl, inr, ℕ, ◌≤◌, List, [], ◌∷◌, length}
 use Rattle.tl_sexpr.specs.declared.fault.TextFault.{TextFault}
 use Rattle.tl_sexpr.specs.declared.fault.TextFault.TheVariants as text
 use Rattle.tl_sexpr.specs.Faults.{IsFaultOf}
-use Rattle.tl_sexpr.specs.Tree.{FormTrees, tree_of, trees_of, trees_of_list, items_of}
-use Rattle.tl_sexpr.proofs.TreeOf.{trees-Forms}
+use Rattle.tl_sexpr.specs.Tree.{FormTrees}
 use Rattle.tl_syntax.specs.declared.domain.Domain.{Domain}
 use Rattle.tl_syntax.specs.declared.problem.Problem.{Problem}
 use Rattle.tl_forms.specs.declared.rule.FormFault.{FormFault}
 use Rattle.tl_forms.specs.declared.rule.FormFault.TheVariants as form
-use Rattle.tl_forms.specs.Reads.{IsLeastFault, trees_in}
+use Rattle.tl_forms.specs.Reads.{IsLeastFault}
 use Rattle.tl_forms.specs.Rules.{Break}
 use Rattle.tl_domain.specs.DomainFiles.{domain_file_breaks}
 use Rattle.tl_problem.specs.Problems.{breaks_of}
@@ -21,11 +18,7 @@ use Rattle.tl_run.specs.declared.files.FileFault.TheVariants as fault
 use Rattle.tl_run.specs.declared.stop.Broken.{Broken}
 use Rattle.tl_run.specs.declared.stop.Broken.TheVariants as broken
 use Rattle.tl_run.specs.Files.{SpellShortly, IsDomainFile, DomainFileBreaks, ProblemFileBreaks, PlanFileBreaks, IsTextFault, IsFileFault, file_fault_of, form_fault_of}
-use Rattle.tl_run.specs.Contents.{AreProblem, ProblemBreaks, PlanBreaks, FormsBreak, Breaks}
-
--- the forms of a list, in both ways of lending them
-pub slice_trees : (forms : Forms) (items : List Form) → items ≡ items_of forms → trees_in items ≡ trees_of forms
-slice_trees forms items is = ap (λ (xs : List Form). trees_of_list (map tree_of xs)) is ∙ sym (trees-Forms forms)
+use Rattle.tl_run.specs.Contents.{AreProblem, FormsBreak, Breaks}
 
 -- what the reader of forms tells is a fault of the text
 pub text_fault : (bytes : List ℕ) (told : TextFault) → (told ≡ text.NoMemory) ⊎ IsFaultOf bytes told → IsTextFault bytes (file_fault_of told)

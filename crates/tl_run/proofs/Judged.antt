@@ -21,7 +21,8 @@ use Rattle.tl_run.specs.declared.answer.Answer.{Answer}
 use Rattle.tl_run.specs.declared.status.Status.{Status}
 use Rattle.tl_run.specs.Contents.{AreProblem, HavePlan}
 use Rattle.tl_run.specs.Files.{IsPlanFile}
-use Rattle.tl_run.specs.Outcomes.{AnswersFault, HasPlanAnswer, IsAnswerOn, verdict, past_range, verdict_status, verdict_text, outcome_text}
+use Rattle.tl_text.specs.Verdicts.{verdict_text}
+use Rattle.tl_run.specs.Outcomes.{AnswersFault, HasPlanAnswer, IsAnswerOn, verdict, past_range, verdict_status, outcome_text}
 use Rattle.tl_run.proofs.SeenTwice.{map_seen}
 
 counts_seen : (p : Problem) → map (λ (o : PlainOperator). length o.params) (plain_problem p).operators ≡ map (λ o. length o.params) p.domain.operators

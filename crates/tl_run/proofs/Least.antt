@@ -1,5 +1,5 @@
 -- The first rule that a plan file breaks is the least one.
-use Rattle.std.proofs.Common.{◌≡◌, ℕ, List}
+use Rattle.std.proofs.Common.{ℕ, List}
 use Rattle.tl_sexpr.specs.Offsets.{AreAsRead}
 use Rattle.tl_sexpr.specs.Tree.{FormTrees}
 use Rattle.tl_syntax.specs.declared.operator.Operator.{Operator}

@@ -1,14 +1,12 @@
 -- Files stand for at most one plan, and a plan file breaks one list of rules.
-use Rattle.std.proofs.Common.{◌≡◌, ℕ, List, map, sym, ap, ◌∙◌, subst}
+use Rattle.std.proofs.Common.{◌≡◌, ℕ, List, sym, ◌∙◌}
 use Rattle.tl_sexpr.specs.Tree.{FormTrees}
 use Rattle.tl_syntax.specs.declared.action.Action.{Action}
-use Rattle.tl_syntax.specs.declared.operator.Operator.{Operator}
 use Rattle.tl_syntax.specs.declared.problem.Problem.{Problem}
 use Rattle.tl_text.specs.Plans.{plan_breaks}
 use Rattle.tl_text.specs.MeaningOfPlans.{plan_meant}
 use Rattle.tl_run.specs.Contents.{AreProblem, ArePlan}
-use Rattle.tl_run.specs.Files.{IsPlanFile}
-use Rattle.tl_run.proofs.OneProblem.{SameProblem, one_problem, one_text}
+use Rattle.tl_run.proofs.OneProblem.{one_problem, one_text}
 use Rattle.tl_run.proofs.SameOperators.{same_plan_breaks, same_plan_meant}
 
 -- what the forms of a plan file break is one list

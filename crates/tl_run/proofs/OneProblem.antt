@@ -1,24 +1,23 @@
 -- Files stand for at most one problem, as far as meaning, names and operators' heads go.
-use Rattle.std.proofs.Common.{◌≡◌, ℕ, List, [], map, length, refl, sym, ap, ◌∙◌, subst}
+use Rattle.std.proofs.Common.{◌≡◌, ℕ, List, [], map, length, sym, ap, ◌∙◌, subst}
 use Rattle.tl_sexpr.specs.Tree.{FormTrees}
 use Rattle.tl_sexpr.proofs.Once.{spelled_once}
 use Rattle.tl_syntax.specs.declared.domain.Domain.{Domain}
 use Rattle.tl_syntax.specs.declared.fact.Fact.{Fact}
 use Rattle.tl_syntax.specs.declared.place_value.PlaceValue.{PlaceValue}
 use Rattle.tl_syntax.specs.declared.problem.Problem.{Problem}
-use Rattle.tl_forms.specs.Rules.{Break}
 use Rattle.tl_forms.specs.Symbols.{names_with_all}
 use Rattle.tl_domain.specs.DomainTrees.{domain_tree}
 use Rattle.tl_domain.specs.MeaningOfItems.{domain_file_meant}
 use Rattle.tl_problem.proofs.GoByDeclarations.{go_by_declarations}
 use Rattle.tl_problem.specs.LawsDeclarations.{DeclareAlike}
-use Rattle.tl_problem.specs.Problems.{IsProblemOf, all_names, breaks_of, said_by}
+use Rattle.tl_problem.specs.Problems.{IsProblemOf, all_names, breaks_of}
 use Rattle.tl_renumber.specs.DomainTrees as settled
-use Rattle.tl_renumber.specs.Numbers.{number_in, IsSettled}
+use Rattle.tl_renumber.specs.Numbers.{number_in}
 use Rattle.tl_renumber.specs.Renumbered.{renumbered_fact, renumbered_place}
 use Rattle.tl_renumber.specs.RenumberedDomain.{renumbered_domain}
 use Rattle.tl_terms.specs.Problem.{PlainDefinition, PlainOperator, PlainProblem}
-use Rattle.tl_terms.specs.ProblemMeaning.{plain_definition, plain_operator, plain_problem, world_of}
+use Rattle.tl_terms.specs.ProblemMeaning.{plain_problem, world_of}
 use Rattle.tl_run.specs.Contents.{AreProblem}
 use Rattle.tl_run.specs.Files.{SpellShortly, IsDomainFile, IsProblemFile}
 use Rattle.tl_run.proofs.SeenTwice.{map_seen}

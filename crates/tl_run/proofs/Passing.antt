@@ -1,8 +1,7 @@
 -- What all files in turn say together.
-use Rattle.std.proofs.Common.{◌≡◌, ℕ, List, [], ◌∷◌, ◌++◌, subst, sym}
+use Rattle.std.proofs.Common.{ℕ, List, [], ◌∷◌, ◌++◌, subst}
 use Rattle.std.specs.Prelude.{Option, Some}
-use Rattle.tl_outside.specs.Told.{Files, IsContent}
-use Rattle.tl_run.specs.Contents.{Passes}
+use Rattle.tl_outside.specs.Told.{Files}
 use Rattle.tl_run.specs.Turns.{AllPass}
 use Rattle.tl_run.proofs.Exclusive.{content_one}
 

@@ -5,13 +5,14 @@ use Rattle.tl_outside.specs.Causes.{Rose}
 use Rattle.tl_outside.specs.Told.{Files, GrowsByPart}
 use Rattle.tl_check.specs.declared.verdict.Verdict.{Verdict}
 use Rattle.tl_check.specs.declared.verdict.Verdict.TheVariants.{Valid}
+use Rattle.tl_text.specs.Verdicts.{verdict_text}
 use Rattle.tl_run.specs.declared.stop.Broken.{Broken}
 use Rattle.tl_run.specs.declared.status.Status.{Status}
 use Rattle.tl_run.specs.declared.status.Status.TheVariants.{Yes, No, Refused, Range, ReadFault, WriteFault, NoMemory, Usage}
 use Rattle.tl_run.specs.declared.answer.Fault.{Fault}
 use Rattle.tl_run.specs.declared.answer.Fault.TheVariants as fault
 use Rattle.tl_run.specs.Contents.{Judges, AnswersContents, AreCalm}
-use Rattle.tl_run.specs.Outcomes.{verdict, verdict_text, verdict_status}
+use Rattle.tl_run.specs.Outcomes.{verdict, verdict_status}
 use Rattle.tl_run.specs.Refusals.{refusal_text}
 use Rattle.tl_run.specs.Turns.{AllPass, Begun, LacksInTurn, RefusesInTurn}
 

@@ -1,5 +1,5 @@
 -- What the contents of a domain file, a problem file and a plan file say together.
-use Rattle.std.specs.Prelude.{◌≡◌, ℕ, ◌<◌, ◌≤◌, List, [], ◌∷◌, length}
+use Rattle.std.specs.Prelude.{ℕ, ◌<◌, ◌≤◌, List, [], ◌∷◌, length}
 use Rattle.tl_sexpr.specs.Faults.{IsFaultOf}
 use Rattle.tl_sexpr.specs.declared.fault.TextFault.TheVariants as fault
 use Rattle.tl_syntax.specs.declared.action.Action.{Action}

@@ -1,6 +1,5 @@
 -- The outcome of the check of a plan, with its line and its status.
-use Rattle.std.specs.Prelude.{◌≡◌, ℕ, List, [], ◌++◌, codes}
-use Rattle.std.specs.Fmt.{decimal}
+use Rattle.std.specs.Prelude.{◌≡◌, ℕ, List, ◌++◌}
 use Rattle.tl_syntax.specs.declared.action.Action.{Action}
 use Rattle.tl_terms.specs.Problem.{PlainProblem}
 use Rattle.tl_eval.specs.declared.range.RangeNote.{RangeNote}
@@ -10,6 +9,7 @@ use Rattle.tl_check.specs.declared.fault.CheckFault.TheVariants as fault
 use Rattle.tl_check.specs.declared.verdict.Verdict.{Verdict}
 use Rattle.tl_check.specs.declared.verdict.Verdict.TheVariants.{Valid, NotExecutable, GoalUnmet, Disobeys}
 use Rattle.tl_text.specs.Ranges.{operation_line, after_line}
+use Rattle.tl_text.specs.Verdicts.{verdict_text}
 use Rattle.tl_run.specs.declared.status.Status.{Status}
 use Rattle.tl_run.specs.declared.status.Status.TheVariants.{Yes, No, Range}
 
@@ -26,13 +26,6 @@ IsOutcome p plan (past_range after note) = IsCause p plan (fault.Range after not
 -- no operation past range is looked at by the actions in their turn, or by the control formula along the plan
 abbrev pub IsCalm : PlainProblem → List Action → Type 0
 IsCalm p plan = (after : ℕ) (note : RangeNote) → ¬ IsCause p plan (fault.Range after note)
-
--- the line of a verdict
-abbrev pub verdict_text : Verdict → List ℕ
-verdict_text Valid = codes "; valid\n"
-verdict_text (NotExecutable number) = codes "; not executable " ++ (decimal number ++ codes "\n")
-verdict_text GoalUnmet = codes "; goal unmet\n"
-verdict_text Disobeys = codes "; disobeys\n"
 
 -- the status with a verdict
 abbrev pub verdict_status : Verdict → Status

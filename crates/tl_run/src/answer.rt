@@ -1,11 +1,11 @@
 // The answer of a run, with its text.
 ghost use Rattle.std.specs.Prelude.{◌≡◌, ◌-◌, [], ◌∷◌, ◌≤◌, length, IfOk, IfErr};
-ghost use Rattle.std.specs.String.{string_bytes};
 ghost use Rattle.tl_syntax.specs.Lists.{Each};
 ghost use Rattle.tl_terms.specs.ProblemMeaning.{plain_problem};
 ghost use Rattle.tl_line.specs.NamedActions.{ActionIsNamed};
+ghost use Rattle.tl_text.specs.Verdicts.{verdict_text};
 ghost use Rattle.tl_run.specs.Answers.{Allows, FaultsInTurn};
-ghost use Rattle.tl_run.specs.Outcomes.{AnswersFault, IsAnswerOn, verdict_text, verdict_status, outcome_text, past_range};
+ghost use Rattle.tl_run.specs.Outcomes.{AnswersFault, IsAnswerOn, verdict_status, outcome_text, past_range};
 ghost use Rattle.tl_run.specs.Refusals.{refusal_text};
 ghost use Rattle.tl_run.specs.declared.answer.Fault.TheVariants as fault;
 
@@ -13,12 +13,12 @@ use crate::check::check_files;
 use crate::status::Status;
 use crate::stop::{Broken, Stop};
 use crate::words::FileNames;
-use std::alloc::{AllocError, Global};
+use std::alloc::Global;
 use tl_check::{CheckFault, Verdict, check};
 use tl_eval::RangeNote;
 use tl_outside::Store;
 use tl_syntax::{Action, Bytes, NoMemory, Problem};
-use tl_text::{range_text, refused_text};
+use tl_text::{range_text, refused_text, verdict_text};
 use tl_world::Task;
 
 /// How a run ends, and what it writes.
@@ -58,25 +58,12 @@ fn status_of(verdict: Verdict) -> Status
     }
 }
 
-fn verdict_line(alloc: Global, verdict: Verdict) -> Result<String, AllocError>
-    ensures { IfOk result (λ text. string_bytes text ≡ verdict_text verdict) }
-{
-    match verdict {
-        Verdict::Valid => String::from_str(alloc, "; valid\n"),
-        Verdict::NotExecutable(number) => format!(in alloc; "; not executable {number}\n"),
-        Verdict::GoalUnmet => String::from_str(alloc, "; goal unmet\n"),
-        Verdict::Disobeys => String::from_str(alloc, "; disobeys\n"),
-    }
-}
-
 /// The answer with a verdict.
 fn verdict_answer(alloc: Global, verdict: Verdict) -> Result<Answer, NoMemory>
     ensures status { IfOk result (λ answer. answer.status ≡ verdict_status verdict) }
     ensures text { IfOk result (λ answer. answer.text ≡ verdict_text verdict) }
 {
-    let line = verdict_line(alloc, verdict)?;
-    let mut text = Bytes::new(alloc);
-    text.extend(line.as_bytes())?;
+    let text = verdict_text(alloc, &verdict)?;
     let status = status_of(verdict);
     Ok(Answer { status, text })
 }

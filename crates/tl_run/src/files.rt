@@ -81,7 +81,7 @@ pub(crate) fn domain_file(
     ensures fault { IfErr result (IsFileFault bytes.now (DomainFileBreaks bytes.now)) }
 {
     let forms = forms_of(alloc, bytes)?;
-    match domain_of(alloc, names, forms.as_slice()) {
+    match domain_of(alloc, &forms, names) {
         Ok(domain) => Ok(domain),
         Err(fault) => Err(form_fault(fault)),
     }
@@ -101,7 +101,7 @@ pub(crate) fn problem_file(
     ensures fault { IfErr result (IsFileFault bytes.now (ProblemFileBreaks names domain bytes.now)) }
 {
     let forms = forms_of(alloc, bytes)?;
-    match problem_of(alloc, domain, names, forms.as_slice()) {
+    match problem_of(alloc, &forms, domain, names) {
         Ok(problem) => Ok(problem),
         Err(fault) => Err(form_fault(fault)),
     }

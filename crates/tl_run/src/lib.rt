@@ -8,8 +8,6 @@ mod files;
 mod reading;
 mod status;
 mod stop;
-#[cfg(test)]
-mod tests;
 mod words;
 
 pub use command::run;

@@ -1,6 +1,6 @@
 use Rattle.tl_forms.specs.Reads.{trees_in}
 use Rattle.tl_problem.proofs.ReadProblems.{domain-read, said-read, least-read}
-use Rattle.tl_problem.proofs.problem.problem_of.Goals as goal
+use Rattle.tl_problem.proofs.problem.read_problem.Goals as goal
 
 pub settled-requires-clause-domain : goal.settled-requires-clause-domain
 settled-requires-clause-domain c = domain-read c.args.names c.said.new.names c.args.domain (trees_in c.args.forms.now) c.in-Ok.ensures.names c.requires.domain
