@@ -1,0 +1,4 @@
+// Worked cases of the rules of files.
+
+mod refusals;
+mod rows;
