@@ -147,7 +147,7 @@ got-mapped f (y ∷ xs) zero x q = let e : y ≡ x = cc in ap (λ z. Some (f z))
 got-mapped f (y ∷ xs) (suc i) x q = got-mapped f xs i x q
 
 -- the operator of an action with a step
-step-operator : (p : PlainProblem) (w : World) (a : Action) → is_some (step p w a) ≡ true → (o : PlainOperator) × (slice_get p.operators a.op ≡ Some o)
+pub step-operator : (p : PlainProblem) (w : World) (a : Action) → is_some (step p w a) ≡ true → (o : PlainOperator) × (slice_get p.operators a.op ≡ Some o)
 unfolding step
 step-operator p w a h = by (slice_get p.operators a.op) refl h
   where

@@ -1,5 +1,4 @@
 pub mod Agreement
-pub mod FrameValues
 pub mod BoundTuples
 pub mod TermLists
 pub mod Walks
@@ -18,3 +17,4 @@ pub mod Rows
 pub mod JoinNodes
 pub mod SortedRows
 pub mod ActionLists
+pub mod NamedActions

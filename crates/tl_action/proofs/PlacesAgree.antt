@@ -1,36 +1,19 @@
 -- Places that are set agree exactly where the world of them gives each its value.
-use Rattle.std.proofs.Common.{◌≡◌, ◌↔◌, List, [], ◌∷◌, map, Bool, true, false, true≢false, not, ◌||◌, ◌&&◌, cond, Option, Some, None, inl, inr, refl, sym, ap, ◌∙◌, subst}
+use Rattle.std.proofs.Common.{◌≡◌, ◌↔◌, List, [], ◌∷◌, map, Bool, true, false, true≢false, ◌&&◌, cond, Option, Some, None, inl, inr, refl, sym, ap, ◌∙◌}
 use Rattle.std.specs.List.{list_all}
 use Rattle.std.specs.FinMap as dict
-use Rattle.std.specs.Ordering.{eq_by_cmp, is_eq}
+use Rattle.std.specs.Ordering.{eq_by_cmp}
 use Rattle.tl_syntax.specs.declared.place_value.PlaceValue.{PlaceValue}
 use Rattle.tl_syntax.specs.declared.value.Value.{Value}
-use Rattle.tl_syntax.specs.Keys.{Key, key_cmp, value_cmp, agree, no_clash, place_entry}
-use Rattle.tl_syntax.specs.Lists.{Each, Among}
+use Rattle.tl_syntax.specs.Keys.{Key, key_cmp, no_clash, place_entry}
+use Rattle.tl_syntax.specs.Lists.{Among}
 use Rattle.tl_syntax.specs.TotalOrders.{key_total}
 use Rattle.tl_syntax.proofs.ListLaws.{all-iff, Each-Among, same_test}
 use Rattle.tl_terms.specs.Acceptance.{is_value}
 use Rattle.tl_terms.specs.ProblemMeaning.{world_of}
 use Rattle.tl_terms.specs.World.{value_at}
 use Rattle.tl_terms.proofs.KeyLaws.{key-is, key-itself, value-is, value-itself}
-
--- no two of the list give one place different values
-abbrev OneValue : List (Key × Value) → Type 0
-OneValue ps = (k : Key) (a b : Value) → Among (k, a) ps → Among (k, b) ps → a ≡ b
-
-agree-iff : (x y : Key × Value) → (x.0 ≡ y.0 → x.1 ≡ y.1) ↔ (agree x y ≡ true)
-agree-iff x y = (elim (is_eq (key_cmp x.0 y.0)) as (λ b. is_eq (key_cmp x.0 y.0) ≡ b → (x.0 ≡ y.0 → x.1 ≡ y.1) ↔ ((not b || is_eq (value_cmp x.1 y.1)) ≡ true)) [
-  | true ↦ λ q. (λ h. value-itself x.1 y.1 (h (sym (key-is x.0 y.0 q))), λ h _. value-is x.1 y.1 h)
-  | false ↦ λ q. (λ _. refl, λ _ e. absurd (true≢false (sym (key-itself x.0 y.0 (sym e)) ∙ q)))
-]) refl
-
-no_clash-iff : (ps : List (Key × Value)) → OneValue ps ↔ (no_clash ps ≡ true)
-no_clash-iff ps =
-    let inner : (x : Key × Value) → Each (λ y. x.0 ≡ y.0 → x.1 ≡ y.1) ps ↔ (list_all (agree x) ps ≡ true) = λ x. all-iff (λ y. x.0 ≡ y.0 → x.1 ≡ y.1) (agree x) (agree-iff x) ps in
-    let outer = all-iff (λ x. Each (λ y. x.0 ≡ y.0 → x.1 ≡ y.1) ps) (λ x. list_all (agree x) ps) inner ps in (
-      λ h. outer.0 ((Each-Among (λ x. Each (λ y. x.0 ≡ y.0 → x.1 ≡ y.1) ps) ps).1 (λ x m. (Each-Among (λ y. x.0 ≡ y.0 → x.1 ≡ y.1) ps).1 (λ y n e. h y.0 x.1 y.1 (subst (λ k. Among (k, x.1) ps) e m) n))),
-      λ h k a b m n. (Each-Among (λ y. k ≡ y.0 → a ≡ y.1) ps).0 ((Each-Among (λ x. Each (λ y. x.0 ≡ y.0 → x.1 ≡ y.1) ps) ps).0 (outer.1 h) (k, a) m) (k, b) n refl,
-    )
+use Rattle.tl_terms.proofs.StepLaws.{no_clash-iff}
 
 -- the map of the list gives a place of it its value
 get-given : (ps : List (Key × Value)) (k : Key) (a : Value) → ((b : Value) → Among (k, b) ps → b ≡ a) → Among (k, a) ps → dict.get (dict.from_entries {R = key_cmp} ps) k ≡ Some a

@@ -73,7 +73,7 @@ values-of-row w e d (s ∷ ss) (v ∷ t) q n h =
     let others = values-of-row w e d ss t q.1 (omega (arith, n)) ((behind s v ss ss t d e q.0).0 h.1) in
     λ i. prepend (first i) (others i)
 
-prepend-parts : (o : Option Value) (r : Option (List Value)) (t : List Value) → prepend o r ≡ Some t → (v : Value) × (us : List Value) × (o ≡ Some v) × (r ≡ Some us) × (t ≡ v ∷ us)
+pub prepend-parts : (o : Option Value) (r : Option (List Value)) (t : List Value) → prepend o r ≡ Some t → (v : Value) × (us : List Value) × (o ≡ Some v) × (r ≡ Some us) × (t ≡ v ∷ us)
 prepend-parts (Some v) (Some us) t q = let e : v ∷ us ≡ t = cc in (v, us, refl, refl, sym e)
 prepend-parts (Some v) None t q = absurd (let z : ⊥ = cc in z)
 prepend-parts None r t q = absurd (let z : ⊥ = cc in z)

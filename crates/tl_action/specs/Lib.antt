@@ -6,3 +6,4 @@ pub mod Prepared
 pub mod Join
 pub mod RowLists
 pub mod Actions
+pub mod NamedWorlds

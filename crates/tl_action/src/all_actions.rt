@@ -2,6 +2,7 @@
 ghost use Rattle.std.specs.Prelude.{◌≡◌, ◌++◌, [], length, map, IfOk, IfErr, OnOk};
 ghost use Rattle.tl_action.specs.Actions.{action_of, AreActions, HasOperator, IsCausedBySome};
 ghost use Rattle.tl_action.specs.Join.{IsRowFault};
+ghost use Rattle.tl_action.specs.NamedWorlds.{ActionIsNamed, WorldIsNamed};
 ghost use Rattle.tl_action.specs.RowLists.{IsRows, AreRowsOf};
 ghost use Rattle.tl_eval.specs.Frames.{assignment_in};
 ghost use Rattle.tl_syntax.specs.Kept.{OperatorKeeps};
@@ -65,6 +66,7 @@ pub fn actions(alloc: Global, task: &Task, w: &World, env: &mut Env) -> Result<A
     ensures actions { IfOk result (AreActions (plain_problem task.now.problem) w.now) }
     ensures order { IfOk result (Rises action_cmp) }
     ensures fit { IfOk result (Each (HasOperator (plain_problem task.now.problem))) }
+    ensures named { IfOk result (λ found. WorldIsNamed (length task.now.problem.names) w.now → Each (ActionIsNamed (length task.now.problem.names)) found) }
     ensures cause { IfErr result (IsCausedBySome (plain_problem task.now.problem) w.now) }
 {
     let operators = task.problem.domain.operators.as_slice();

@@ -18,7 +18,6 @@ ghost use Rattle.tl_world.specs.Patterns.{tuple_of};
 
 use crate::ActFault;
 use crate::changes::Changes;
-use crate::frame::{put_values, values_of_match};
 use crate::tuples::tuples_in;
 use crate::values::values_of;
 use std::alloc::Global;
@@ -168,7 +167,7 @@ fn collect_each(
     ensures frame { EachLeaves (signature_of task.now.problem.domain) vars.now (tree_of_effects effects.now) (assignment_in env.old) (assignment_in env.new) }
 {
     for tuple in tuples {
-        put_values(env, vars.as_slice(), values_of_match(tuple));
+        env.put_values(vars.as_slice(), tuple.counted_values());
         match collect_all(alloc, task, w, env, effects, changes) {
             Ok(true) => {}
             Ok(false) => return Ok(false),

@@ -9,7 +9,6 @@ ghost use Rattle.tl_syntax.specs.Signature.{signature_of};
 ghost use Rattle.tl_terms.specs.ProblemMeaning.{plain_operator, plain_problem};
 
 use crate::ActFault;
-use crate::frame::{put_values, values_of_match};
 use crate::levels::{levels_of, terms_of};
 use crate::prepared::prepared;
 use crate::tuples::tuples_in;
@@ -98,7 +97,7 @@ pub(crate) fn join(
     let vars = &levels[j];
     let tuples = tuples_in(alloc, task, w, env, vars, &bounds[j])?;
     for tuple in tuples.as_slice() {
-        put_values(env, vars.as_slice(), values_of_match(tuple));
+        env.put_values(vars.as_slice(), tuple.counted_values());
         match join(alloc, task, w, env, operator, plan, j + 1, rows) {
             Ok(()) => {}
             Err(fault) => return Err(fault),

@@ -6,7 +6,6 @@
 //! - `changes`: what effects change.
 //! - `clash`: whether places that are set agree with each other.
 //! - `collect`: the changes that effects make.
-//! - `frame`: variables that are given values in the caller's frame.
 //! - `join`: the rows of values with which an operator can be applied.
 //! - `levels`: what is worked out once for an operator before its bounds are joined.
 //! - `prepared`: what an operator whose bounds are true changes.
@@ -20,7 +19,6 @@ mod changes;
 mod clash;
 mod collect;
 mod fault;
-mod frame;
 mod join;
 pub mod laws;
 mod levels;

@@ -7,7 +7,6 @@ ghost use Rattle.tl_terms.specs.ProblemMeaning.{plain_problem};
 ghost use Rattle.tl_terms.specs.Step.{step};
 
 use crate::ActFault;
-use crate::frame::put_values;
 use crate::prepared::prepared;
 use crate::tuples::bounds_hold;
 use std::alloc::Global;
@@ -37,7 +36,7 @@ pub fn apply<L: Ledger>(
 {
     steps.tick();
     let operator = &task.problem.domain.operators.as_slice()[a.op as usize];
-    put_values(env, operator.params.as_slice(), a.args.as_slice());
+    env.put_values(operator.params.as_slice(), a.args.as_slice());
     if !bounds_hold(alloc, task, w, env, operator.bounds.as_slice()) {
         return Ok(None);
     }

@@ -27,15 +27,6 @@ pub(crate) struct Cursor {
     pub(crate) next: Option<Match>,
 }
 
-/// The values of a match that count. It takes no memory.
-pub(crate) fn values_of(m: &Match) -> &[Value]
-    requires { m.now.len ≤ 9 }
-    ensures values { result.now ≡ tuple_of m.now }
-    ensures count { length result.now ≡ m.now.len }
-{
-    &m.values[..m.len as usize]
-}
-
 /// Whether the two are the same values. It takes no memory.
 fn are_same(left: &[Value], right: &[Value]) -> bool
     ensures { (result ≡ true) ↔ (left.now ≡ right.now) }
@@ -50,7 +41,7 @@ fn is_next(next: &Option<Match>, tuple: &Match) -> bool
     ensures { (result ≡ true) ↔ (option_map tuple_of next.now ≡ Some (tuple_of tuple.now)) }
 {
     match next {
-        Some(m) => are_same(values_of(m), values_of(tuple)),
+        Some(m) => are_same(m.counted_values(), tuple.counted_values()),
         None => false,
     }
 }

@@ -10,9 +10,7 @@ ghost use Rattle.tl_syntax.specs.Trees.{until};
 ghost use Rattle.tl_terms.specs.ProblemMeaning.{plain_problem};
 
 use crate::CheckFault;
-use crate::cursor::values_of;
 use crate::cursors::{advance, cursors_at, least, truths_of};
-use crate::frame::{copy_of, put_values};
 use crate::labels::Labels;
 use crate::state_labels::state_labels;
 use crate::temporal::is_state;
@@ -191,7 +189,7 @@ fn quantified_labels(
     ensures labels { AreLabels (plain_problem task.now.problem) worlds.now from (assignment_in env.old) (quantified stop vars.now bound.now (tree_of_formula part.now)) result }
     ensures frame { env.new ≡ env.old }
 {
-    let mut inner = match copy_of(alloc, task, env) {
+    let mut inner = match env.copy(alloc) {
         Ok(inner) => inner,
         Err(_) => return Err(CheckFault::NoMemory),
     };
@@ -201,7 +199,7 @@ fn quantified_labels(
         Err(_) => return Err(CheckFault::NoMemory),
     };
     while let Some(found) = least(cursors.as_slice(), vars.len()) {
-        put_values(&mut inner, vars.as_slice(), values_of(&found.tuple));
+        inner.put_values(vars.as_slice(), found.tuple.counted_values());
         match labels_of(part, alloc, task, worlds, from + found.at, &mut inner) {
             Ok(instance) => advance(
                 task,

@@ -10,7 +10,6 @@
 //! - `labels`: the truth of a formula at each of some positions, from the last one backwards.
 //! - `cursor`, `cursors`: where the reading of a quantifier stands, at one position and at some in a row.
 //! - `found`: the next instance of a quantifier.
-//! - `frame`: frames of variable values for the body of a quantifier.
 //! - `laws`: what is proved of labels and verdicts.
 #![tactic(auto)]
 
@@ -21,7 +20,6 @@ mod execution;
 mod fault;
 mod formula_labels;
 mod found;
-mod frame;
 mod labels;
 pub mod laws;
 mod state_labels;

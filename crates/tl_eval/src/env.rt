@@ -1,10 +1,13 @@
 // Values of variables, scope by scope.
 ghost use Rattle.std.specs.Prelude.{◌≡◌, ◌<◌, ◌==◌, ℕ, cond, length, IfOk, Some, None, slice_set};
 ghost use Rattle.tl_eval.specs.Frames.{assignment_in};
+ghost use Rattle.tl_syntax.specs.Assignment.{bind};
+ghost use Rattle.tl_syntax.specs.Lists.{Each};
 
+use crate::scope::{put_in_scope, restore, saved};
 use std::alloc::Global;
 use std::marker::Model;
-use tl_syntax::{NoMemory, Value};
+use tl_syntax::{NoMemory, Value, Var};
 
 /// How many variables a frame has.
 pub(crate) const SLOTS: usize = 32;
@@ -51,6 +54,26 @@ impl Env {
         ensures others { (q : ℕ) → assignment_in self.new q ≡ cond (q == slot) (Some value) (assignment_in self.old q) }
     {
         self.values[slot as usize] = Some(value);
+    }
+
+    /// Gives the variables their values in the caller's frame; of two with the same slot the first counts. It takes no memory.
+    pub fn put_values(&mut self, vars: &[Var], values: &[Value])
+        requires slots { Each (λ s. s.slot < 32) vars.now }
+        requires same { length vars.now ≡ length values.now }
+        ensures values { assignment_in self.new ≡ bind vars.now values.now (assignment_in self.old) }
+        ensures slots { length self.new ≡ length self.old }
+    {
+        put_in_scope(self.values.as_mut_slice(), vars, values);
+    }
+
+    /// New frames of which the caller's has the same values. It fails for want of memory alone.
+    pub fn copy(&self, alloc: Global) -> Result<Env, NoMemory>
+        ensures { IfOk result (λ copy. copy ≡ self.now) }
+    {
+        let mut values = vec![in alloc; None; FRAMES * SLOTS]?;
+        let frame = saved(self.values.as_slice());
+        restore(values.as_mut_slice(), &frame);
+        Ok(Env { values })
     }
 
     /// The caller's frame. It takes no memory.

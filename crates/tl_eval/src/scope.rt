@@ -3,11 +3,9 @@ ghost use Rattle.std.specs.Prelude.{◌≡◌, ◌≤◌, ◌<◌, length, take}
 ghost use Rattle.tl_eval.specs.Frames.{assignment_in};
 ghost use Rattle.tl_syntax.specs.Assignment.{bind, no_values};
 ghost use Rattle.tl_syntax.specs.Lists.{Each};
-ghost use Rattle.tl_world.specs.Patterns.{tuple_of};
 
 use crate::env::SLOTS;
 use tl_syntax::{Value, Var};
-use tl_world::Match;
 
 /// Gives the variables their values in a frame. It takes no memory.
 pub(crate) fn put_values(frame: &mut [Option<Value>], vars: &[Var], values: &[Value])
@@ -68,13 +66,4 @@ pub(crate) fn restore(frames: &mut [Option<Value>], frame: &[Option<Value>; 32])
     ensures { take 32 frames.new ≡ frame.now }
 {
     frames[..SLOTS].copy_from_slice(frame);
-}
-
-/// The values of a match that count. It takes no memory.
-pub(crate) fn values_of_match(m: &Match) -> &[Value]
-    requires { m.now.len ≤ 9 }
-    ensures values { result.now ≡ tuple_of m.now }
-    ensures count { length result.now ≡ m.now.len }
-{
-    &m.values[..m.len as usize]
 }

@@ -18,7 +18,7 @@ ghost use Rattle.tl_terms.specs.Truth.{state_true};
 use crate::basic_truth::{atom_true, compare_true, fact_true, place_true};
 use crate::env::SLOTS;
 use crate::reading::Reading;
-use crate::scope::{current, open_scope, put_in_scope, restore, saved, values_of_match};
+use crate::scope::{current, open_scope, put_in_scope, restore, saved};
 use crate::term_value::values_of_terms;
 use crate::tuples::next_tuple_in;
 use crate::{Env, RangeNote};
@@ -221,7 +221,7 @@ fn tuples_true(
 {
     let mut after = None;
     while let Some(tuple) = next_tuple_in(task, w, outer, vars, bound, after) {
-        put_in_scope(frames, vars, values_of_match(&tuple));
+        put_in_scope(frames, vars, tuple.counted_values());
         match truth_of(task, w, frames, reading, part) {
             Ok(truth) => {
                 if truth == stop {

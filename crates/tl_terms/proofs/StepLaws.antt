@@ -83,7 +83,7 @@ given-cases (x ∷ ps) k old = (elim (eq_by_cmp key_cmp k x.0) as (λ b. eq_by_c
 ]) refl
 
 -- no two of the list give one place different values
-abbrev OneValue : List (Key × Value) → Type 0
+abbrev pub OneValue : List (Key × Value) → Type 0
 OneValue ps = (k : Key) (a b : Value) → Among (k, a) ps → Among (k, b) ps → a ≡ b
 
 agree-iff : (x y : Key × Value) → (x.0 ≡ y.0 → x.1 ≡ y.1) ↔ (agree x y ≡ true)
@@ -92,7 +92,7 @@ agree-iff x y = (elim (is_eq (key_cmp x.0 y.0)) as (λ b. is_eq (key_cmp x.0 y.0
   | false ↦ λ q. (λ _. refl, λ _ e. absurd (true≢false (sym (key-itself x.0 y.0 (sym e)) ∙ q)))
 ]) refl
 
-no_clash-iff : (ps : List (Key × Value)) → OneValue ps ↔ (no_clash ps ≡ true)
+pub no_clash-iff : (ps : List (Key × Value)) → OneValue ps ↔ (no_clash ps ≡ true)
 no_clash-iff ps =
     let inner : (x : Key × Value) → Each (λ y. x.0 ≡ y.0 → x.1 ≡ y.1) ps ↔ (list_all (agree x) ps ≡ true) = λ x. all-iff (λ y. x.0 ≡ y.0 → x.1 ≡ y.1) (agree x) (agree-iff x) ps in
     let outer = all-iff (λ x. Each (λ y. x.0 ≡ y.0 → x.1 ≡ y.1) ps) (λ x. list_all (agree x) ps) inner ps in (

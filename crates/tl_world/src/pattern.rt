@@ -1,4 +1,6 @@
 // Patterns of facts and of places, and the tuples that make them true.
+ghost use Rattle.std.specs.Prelude.{◌≡◌, ◌≤◌, length};
+ghost use Rattle.tl_world.specs.Patterns.{tuple_of};
 
 use tl_syntax::Value;
 
@@ -33,4 +35,15 @@ pub struct Match {
     pub values: [Value; 9],
     /// How many variables there are, at most 9.
     pub len: u32,
+}
+
+impl Match {
+    /// The values that count. It takes no memory.
+    pub fn counted_values(&self) -> &[Value]
+        requires { self.now.len ≤ 9 }
+        ensures values { result.now ≡ tuple_of self.now }
+        ensures count { length result.now ≡ self.now.len }
+    {
+        &self.values[..self.len as usize]
+    }
 }

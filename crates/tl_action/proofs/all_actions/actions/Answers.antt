@@ -1,5 +1,6 @@
 use Rattle.std.proofs.Common.{◌≡◌, ◌<◌, List, length, get_or, slice_get, Some, ap, ◌∙◌, arith}
 use Rattle.tl_action.proofs.ActionLists.{row-cause, actions-begun, actions-on, actions-all, actions-fit}
+use Rattle.tl_action.proofs.NamedActions.{actions-named}
 use Rattle.tl_action.proofs.AppliedOperators.{operator-there, operators-count, operator-keeps}
 use Rattle.tl_eval.specs.Frames.{assignment_in}
 use Rattle.tl_syntax.specs.declared.operator.Operator.{Operator}
@@ -53,3 +54,9 @@ returns-clause-actions c =
 
 pub returns-clause-fit : goal.returns-clause-fit
 returns-clause-fit c = actions-fit (plain_problem c.args.task.now.problem) c.args.w.now c.loop-op.op c.loop-op.found c.loop-op.invariant.found
+
+pub returns-then-op-clause-named : goal.returns-then-op-clause-named
+returns-then-op-clause-named c = λ named. actions-named c.args.task.now.problem c.args.w.now named c.loop-op.op c.loop-op.found c.loop-op.invariant.found
+
+pub returns-clause-named : goal.returns-clause-named
+returns-clause-named c = λ named. actions-named c.args.task.now.problem c.args.w.now named c.loop-op.op c.loop-op.found c.loop-op.invariant.found

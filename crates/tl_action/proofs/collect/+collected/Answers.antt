@@ -178,8 +178,8 @@ collect_each-loop-tuple-init t c =
       passed = passed-begun (instances_for (plain_problem c.args.task.now.problem) c.args.w.now (assignment_in c.args.env.now) c.args.vars.now (tree_of_effects c.args.effects.now) (map tuple_of c.args.tuples.now)) (instances_for (plain_problem c.args.task.now.problem) c.args.w.now (assignment_in c.args.env.now) c.args.vars.now (tree_of_effects c.args.effects.now) (map tuple_of c.args.tuples.now)) (looked_for (plain_problem c.args.task.now.problem) c.args.w.now (assignment_in c.args.env.now) c.args.vars.now (tree_of_effects c.args.effects.now) (map tuple_of c.args.tuples.now)) (looked_for (plain_problem c.args.task.now.problem) c.args.w.now (assignment_in c.args.env.now) c.args.vars.now (tree_of_effects c.args.effects.now) (map tuple_of c.args.tuples.now)) c.args.changes.now refl refl;
     }
 
-pub collect_each-values_of_match-requires : goal.collect_each-values_of_match-requires
-collect_each-values_of_match-requires t c =
+pub collect_each-counted_values-requires : goal.collect_each-counted_values-requires
+collect_each-counted_values-requires t c =
     let none : Match = record { values = []; len = 0 } in
     let m = get_or c.args.tuples.now c.loop-tuple.tuple-index none in
     let long = each-at (λ (x : Match). x.len ≡ length c.args.vars.now) c.args.tuples.now c.loop-tuple.tuple-index none c.requires.lengths c.loop-tuple-test.true in
@@ -190,7 +190,7 @@ collect_each-put_values-requires-clause-same t c =
     let none : Match = record { values = []; len = 0 } in
     let m = get_or c.args.tuples.now c.loop-tuple.tuple-index none in
     let long = each-at (λ (x : Match). x.len ≡ length c.args.vars.now) c.args.tuples.now c.loop-tuple.tuple-index none c.requires.lengths c.loop-tuple-test.true in
-    ap (λ (ss : List Var). length ss) c.as_slice.ensures ∙ (sym long ∙ sym c.values_of_match.ensures.count)
+    ap (λ (ss : List Var). length ss) c.as_slice.ensures ∙ (sym long ∙ sym c.counted_values.ensures.count)
 
 pub collect_each-put_values-requires-clause-slots : goal.collect_each-put_values-requires-clause-slots
 collect_each-put_values-requires-clause-slots t c = subst (Each (λ (s : Var). s.slot < 32)) (sym c.as_slice.ensures) c.requires.reads.frame
@@ -202,39 +202,39 @@ pub collect_each-returns-in-Ok-false-clause-changes : goal.collect_each-returns-
 collect_each-returns-in-Ok-false-clause-changes t c =
     let none : Match = record { values = []; len = 0 } in
     let m = get_or c.args.tuples.now c.loop-tuple.tuple-index none in
-    let bound = c.put_values.ensures ∙ (λ j. bind (c.as_slice.ensures j) (c.values_of_match.ensures.values j) (assignment_in c.loop-tuple.env)) in
-    tuple-undefined (signature_of c.args.task.now.problem.domain) (plain_problem c.args.task.now.problem) c.args.w.now (assignment_in c.args.env.now) c.args.vars.now (tree_of_effects c.args.effects.now) c.args.tuples.now c.loop-tuple.tuple-index m c.loop-tuple-test.true (get-itself c.args.tuples.now c.loop-tuple.tuple-index none c.loop-tuple-test.true) c.args.changes.now c.loop-tuple.changes c.loop-tuple.invariant.passed c.requires.reads (assignment_in c.put_values.new.env) (assignment_in c.loop-tuple.env) bound c.loop-tuple.invariant.frame c.collect_all.new.changes c.in-Ok-false.field-0 c.in-Ok-false.field-0-test c.in-Ok-false.ensures.changes
+    let bound = c.put_values.ensures.values ∙ (λ j. bind (c.as_slice.ensures j) (c.counted_values.ensures.values j) (assignment_in c.loop-tuple.env)) in
+    tuple-undefined (signature_of c.args.task.now.problem.domain) (plain_problem c.args.task.now.problem) c.args.w.now (assignment_in c.args.env.now) c.args.vars.now (tree_of_effects c.args.effects.now) c.args.tuples.now c.loop-tuple.tuple-index m c.loop-tuple-test.true (get-itself c.args.tuples.now c.loop-tuple.tuple-index none c.loop-tuple-test.true) c.args.changes.now c.loop-tuple.changes c.loop-tuple.invariant.passed c.requires.reads (assignment_in c.put_values.new.self) (assignment_in c.loop-tuple.env) bound c.loop-tuple.invariant.frame c.collect_all.new.changes c.in-Ok-false.field-0 c.in-Ok-false.field-0-test c.in-Ok-false.ensures.changes
 
 pub collect_each-returns-in-Ok-false-clause-frame : goal.collect_each-returns-in-Ok-false-clause-frame
 collect_each-returns-in-Ok-false-clause-frame t c =
     let none : Match = record { values = []; len = 0 } in
     let m = get_or c.args.tuples.now c.loop-tuple.tuple-index none in
-    let bound = c.put_values.ensures ∙ (λ j. bind (c.as_slice.ensures j) (c.values_of_match.ensures.values j) (assignment_in c.loop-tuple.env)) in
-    frame-after (signature_of c.args.task.now.problem.domain) c.args.vars.now (tree_of_effects c.args.effects.now) (tuple_of m) (assignment_in c.collect_all.new.env) (assignment_in c.put_values.new.env) (assignment_in c.loop-tuple.env) (assignment_in c.args.env.now) bound c.loop-tuple.invariant.frame c.collect_all.ensures.frame
+    let bound = c.put_values.ensures.values ∙ (λ j. bind (c.as_slice.ensures j) (c.counted_values.ensures.values j) (assignment_in c.loop-tuple.env)) in
+    frame-after (signature_of c.args.task.now.problem.domain) c.args.vars.now (tree_of_effects c.args.effects.now) (tuple_of m) (assignment_in c.collect_all.new.env) (assignment_in c.put_values.new.self) (assignment_in c.loop-tuple.env) (assignment_in c.args.env.now) bound c.loop-tuple.invariant.frame c.collect_all.ensures.frame
 
 pub collect_each-loop-tuple-preserved : goal.collect_each-loop-tuple-preserved
 collect_each-loop-tuple-preserved t c =
     let none : Match = record { values = []; len = 0 } in
     let m = get_or c.args.tuples.now c.loop-tuple.tuple-index none in
-    let bound = c.put_values.ensures ∙ (λ j. bind (c.as_slice.ensures j) (c.values_of_match.ensures.values j) (assignment_in c.loop-tuple.env)) in
+    let bound = c.put_values.ensures.values ∙ (λ j. bind (c.as_slice.ensures j) (c.counted_values.ensures.values j) (assignment_in c.loop-tuple.env)) in
     record {
-      frame = frame-after (signature_of c.args.task.now.problem.domain) c.args.vars.now (tree_of_effects c.args.effects.now) (tuple_of m) (assignment_in c.collect_all.new.env) (assignment_in c.put_values.new.env) (assignment_in c.loop-tuple.env) (assignment_in c.args.env.now) bound c.loop-tuple.invariant.frame c.collect_all.ensures.frame;
-      passed = tuple-on (signature_of c.args.task.now.problem.domain) (plain_problem c.args.task.now.problem) c.args.w.now (assignment_in c.args.env.now) c.args.vars.now (tree_of_effects c.args.effects.now) c.args.tuples.now c.loop-tuple.tuple-index m c.loop-tuple-test.true (get-itself c.args.tuples.now c.loop-tuple.tuple-index none c.loop-tuple-test.true) c.args.changes.now c.loop-tuple.changes c.loop-tuple.invariant.passed c.requires.reads (assignment_in c.put_values.new.env) (assignment_in c.loop-tuple.env) bound c.loop-tuple.invariant.frame c.collect_all.new.changes c.in-Ok-true.field-0 c.in-Ok-true.field-0-test c.in-Ok-true.ensures.changes;
+      frame = frame-after (signature_of c.args.task.now.problem.domain) c.args.vars.now (tree_of_effects c.args.effects.now) (tuple_of m) (assignment_in c.collect_all.new.env) (assignment_in c.put_values.new.self) (assignment_in c.loop-tuple.env) (assignment_in c.args.env.now) bound c.loop-tuple.invariant.frame c.collect_all.ensures.frame;
+      passed = tuple-on (signature_of c.args.task.now.problem.domain) (plain_problem c.args.task.now.problem) c.args.w.now (assignment_in c.args.env.now) c.args.vars.now (tree_of_effects c.args.effects.now) c.args.tuples.now c.loop-tuple.tuple-index m c.loop-tuple-test.true (get-itself c.args.tuples.now c.loop-tuple.tuple-index none c.loop-tuple-test.true) c.args.changes.now c.loop-tuple.changes c.loop-tuple.invariant.passed c.requires.reads (assignment_in c.put_values.new.self) (assignment_in c.loop-tuple.env) bound c.loop-tuple.invariant.frame c.collect_all.new.changes c.in-Ok-true.field-0 c.in-Ok-true.field-0-test c.in-Ok-true.ensures.changes;
     }
 
 pub collect_each-returns-in-Err-clause-changes : goal.collect_each-returns-in-Err-clause-changes
 collect_each-returns-in-Err-clause-changes t c =
     let none : Match = record { values = []; len = 0 } in
     let m = get_or c.args.tuples.now c.loop-tuple.tuple-index none in
-    let bound = c.put_values.ensures ∙ (λ j. bind (c.as_slice.ensures j) (c.values_of_match.ensures.values j) (assignment_in c.loop-tuple.env)) in
-    tuple-fault (signature_of c.args.task.now.problem.domain) (plain_problem c.args.task.now.problem) c.args.w.now (assignment_in c.args.env.now) c.args.vars.now (tree_of_effects c.args.effects.now) c.args.tuples.now c.loop-tuple.tuple-index m c.loop-tuple-test.true (get-itself c.args.tuples.now c.loop-tuple.tuple-index none c.loop-tuple-test.true) c.args.changes.now c.loop-tuple.changes c.loop-tuple.invariant.passed c.requires.reads (assignment_in c.put_values.new.env) (assignment_in c.loop-tuple.env) bound c.loop-tuple.invariant.frame c.in-Err.fault c.in-Err.ensures.changes
+    let bound = c.put_values.ensures.values ∙ (λ j. bind (c.as_slice.ensures j) (c.counted_values.ensures.values j) (assignment_in c.loop-tuple.env)) in
+    tuple-fault (signature_of c.args.task.now.problem.domain) (plain_problem c.args.task.now.problem) c.args.w.now (assignment_in c.args.env.now) c.args.vars.now (tree_of_effects c.args.effects.now) c.args.tuples.now c.loop-tuple.tuple-index m c.loop-tuple-test.true (get-itself c.args.tuples.now c.loop-tuple.tuple-index none c.loop-tuple-test.true) c.args.changes.now c.loop-tuple.changes c.loop-tuple.invariant.passed c.requires.reads (assignment_in c.put_values.new.self) (assignment_in c.loop-tuple.env) bound c.loop-tuple.invariant.frame c.in-Err.fault c.in-Err.ensures.changes
 
 pub collect_each-returns-in-Err-clause-frame : goal.collect_each-returns-in-Err-clause-frame
 collect_each-returns-in-Err-clause-frame t c =
     let none : Match = record { values = []; len = 0 } in
     let m = get_or c.args.tuples.now c.loop-tuple.tuple-index none in
-    let bound = c.put_values.ensures ∙ (λ j. bind (c.as_slice.ensures j) (c.values_of_match.ensures.values j) (assignment_in c.loop-tuple.env)) in
-    frame-after (signature_of c.args.task.now.problem.domain) c.args.vars.now (tree_of_effects c.args.effects.now) (tuple_of m) (assignment_in c.collect_all.new.env) (assignment_in c.put_values.new.env) (assignment_in c.loop-tuple.env) (assignment_in c.args.env.now) bound c.loop-tuple.invariant.frame c.collect_all.ensures.frame
+    let bound = c.put_values.ensures.values ∙ (λ j. bind (c.as_slice.ensures j) (c.counted_values.ensures.values j) (assignment_in c.loop-tuple.env)) in
+    frame-after (signature_of c.args.task.now.problem.domain) c.args.vars.now (tree_of_effects c.args.effects.now) (tuple_of m) (assignment_in c.collect_all.new.env) (assignment_in c.put_values.new.self) (assignment_in c.loop-tuple.env) (assignment_in c.args.env.now) bound c.loop-tuple.invariant.frame c.collect_all.ensures.frame
 
 pub collect_each-returns-clause-changes : goal.collect_each-returns-clause-changes
 collect_each-returns-clause-changes t c =

@@ -83,8 +83,8 @@ loop-tuple-init t c = record {
   found = λ u. (λ m. inl m, λ m. elim m [ inl k ↦ k | inr z ↦ absurd z ]);
 }
 
-pub values_of_match-requires : goal.values_of_match-requires
-values_of_match-requires t c =
+pub counted_values-requires : goal.counted_values-requires
+counted_values-requires t c =
     let keep = c.args.task.now.problem.domain_keeps in
     let many = ap (λ (bs : List Bound). length bs) c.as_slice-bounds.ensures in
     let below : c.args.j < length c.args.operator.now.bounds = omega (arith, c.requires.within, c.if-j-bounds.false, many) in
@@ -111,7 +111,7 @@ put_values-requires-clause-same t c =
     let none : Match = record { values = []; len = 0 } in
     let m = get_or c.as_slice-tuple-items.result.now c.loop-tuple.tuple-index none in
     let long = each-at (λ (x : Match). x.len ≡ length c.index-levels-j.result) c.as_slice-tuple-items.result.now c.loop-tuple.tuple-index none (subst (Each (λ (x : Match). x.len ≡ length c.index-levels-j.result)) (sym c.as_slice-tuple-items.ensures.value) c.in_ok-tuples.ensures.lengths) c.loop-tuple-test.true in
-    ap (λ (ss : List Var). length ss) c.as_slice.ensures ∙ (sym long ∙ sym c.values_of_match.ensures.count)
+    ap (λ (ss : List Var). length ss) c.as_slice.ensures ∙ (sym long ∙ sym c.counted_values.ensures.count)
 
 pub returns-in-Err-clause-rows : goal.returns-in-Err-clause-rows
 returns-in-Err-clause-rows t c =
@@ -123,8 +123,8 @@ returns-in-Err-clause-rows t c =
     let node : Node (signature_of c.args.task.now.problem.domain) c.args.operator.now c.args.j c.index-bounds-j.result c.index-levels-j.result = node-at (signature_of c.args.task.now.problem.domain) (length c.args.task.now.problem.names) c.args.operator.now c.args.plan.now c.args.j c.index-bounds-j.result c.index-levels-j.result (declared-few _ _ keep.predicates) (declared-few _ _ keep.functions) c.requires.keeps c.requires.plan below b-is vars-is in
     let none : Match = record { values = []; len = 0 } in
     let m = get_or c.as_slice-tuple-items.result.now c.loop-tuple.tuple-index none in
-    let d = assignment_in c.put_values.new.env in
-    let put : d ≡ bind c.index-levels-j.result (tuple_of m) (assignment_in c.loop-tuple.env) = c.put_values.ensures ∙ (λ i. bind (c.as_slice.ensures i) (c.values_of_match.ensures.values i) (assignment_in c.loop-tuple.env)) in
+    let d = assignment_in c.put_values.new.self in
+    let put : d ≡ bind c.index-levels-j.result (tuple_of m) (assignment_in c.loop-tuple.env) = c.put_values.ensures.values ∙ (λ i. bind (c.as_slice.ensures i) (c.counted_values.ensures.values i) (assignment_in c.loop-tuple.env)) in
     let all : map tuple_of c.as_slice-tuple-items.result.now ≡ tuples (situation_of (plain_problem c.args.task.now.problem) c.args.w.now) (assignment_in c.args.env.now) c.index-levels-j.result c.index-bounds-j.result = ap (map tuple_of) c.as_slice-tuple-items.ensures.value ∙ c.in_ok-tuples.ensures.tuples in
     node-fault (signature_of c.args.task.now.problem.domain) (plain_problem c.args.task.now.problem) c.args.w.now c.args.operator.now c.args.j c.index-bounds-j.result c.index-levels-j.result below b-is node (assignment_in c.args.env.now) (assignment_in c.loop-tuple.env) d (tuple_of m) put c.loop-tuple.invariant.frame
     (subst (Among (tuple_of m)) all (among-mapped tuple_of c.as_slice-tuple-items.result.now c.loop-tuple.tuple-index none c.loop-tuple-test.true)) c.in-Err.fault c.in-Err.ensures.rows
@@ -139,8 +139,8 @@ returns-in-Err-clause-frame t c =
     let node : Node (signature_of c.args.task.now.problem.domain) c.args.operator.now c.args.j c.index-bounds-j.result c.index-levels-j.result = node-at (signature_of c.args.task.now.problem.domain) (length c.args.task.now.problem.names) c.args.operator.now c.args.plan.now c.args.j c.index-bounds-j.result c.index-levels-j.result (declared-few _ _ keep.predicates) (declared-few _ _ keep.functions) c.requires.keeps c.requires.plan below b-is vars-is in
     let none : Match = record { values = []; len = 0 } in
     let m = get_or c.as_slice-tuple-items.result.now c.loop-tuple.tuple-index none in
-    let d = assignment_in c.put_values.new.env in
-    let put : d ≡ bind c.index-levels-j.result (tuple_of m) (assignment_in c.loop-tuple.env) = c.put_values.ensures ∙ (λ i. bind (c.as_slice.ensures i) (c.values_of_match.ensures.values i) (assignment_in c.loop-tuple.env)) in
+    let d = assignment_in c.put_values.new.self in
+    let put : d ≡ bind c.index-levels-j.result (tuple_of m) (assignment_in c.loop-tuple.env) = c.put_values.ensures.values ∙ (λ i. bind (c.as_slice.ensures i) (c.counted_values.ensures.values i) (assignment_in c.loop-tuple.env)) in
     node-frame (signature_of c.args.task.now.problem.domain) (plain_problem c.args.task.now.problem) c.args.w.now c.args.operator.now c.args.j c.index-bounds-j.result c.index-levels-j.result below b-is node (assignment_in c.args.env.now) (assignment_in c.loop-tuple.env) d (assignment_in c.join.new.env) (tuple_of m) put c.loop-tuple.invariant.frame c.join.ensures.frame
 
 pub loop-tuple-preserved : goal.loop-tuple-preserved
@@ -153,8 +153,8 @@ loop-tuple-preserved t c =
     let node : Node (signature_of c.args.task.now.problem.domain) c.args.operator.now c.args.j c.index-bounds-j.result c.index-levels-j.result = node-at (signature_of c.args.task.now.problem.domain) (length c.args.task.now.problem.names) c.args.operator.now c.args.plan.now c.args.j c.index-bounds-j.result c.index-levels-j.result (declared-few _ _ keep.predicates) (declared-few _ _ keep.functions) c.requires.keeps c.requires.plan below b-is vars-is in
     let none : Match = record { values = []; len = 0 } in
     let m = get_or c.as_slice-tuple-items.result.now c.loop-tuple.tuple-index none in
-    let d = assignment_in c.put_values.new.env in
-    let put : d ≡ bind c.index-levels-j.result (tuple_of m) (assignment_in c.loop-tuple.env) = c.put_values.ensures ∙ (λ i. bind (c.as_slice.ensures i) (c.values_of_match.ensures.values i) (assignment_in c.loop-tuple.env)) in
+    let d = assignment_in c.put_values.new.self in
+    let put : d ≡ bind c.index-levels-j.result (tuple_of m) (assignment_in c.loop-tuple.env) = c.put_values.ensures.values ∙ (λ i. bind (c.as_slice.ensures i) (c.counted_values.ensures.values i) (assignment_in c.loop-tuple.env)) in
     let i = c.loop-tuple.tuple-index in
     let items = c.as_slice-tuple-items.result.now in
     let more : map tuple_of (take (i + 1) items) ≡ map tuple_of (take i items) ++ tuple_of m ∷ [] = ap (map tuple_of) (take-opened items i m c.loop-tuple-test.true (get-itself items i none c.loop-tuple-test.true)) ∙ map-append tuple_of (take i items) (m ∷ []) in

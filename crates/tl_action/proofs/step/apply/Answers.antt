@@ -42,8 +42,8 @@ pub returns-then-not-bounds_hold-clause-world : goal.returns-then-not-bounds_hol
 returns-then-not-bounds_hold-clause-world g c =
     let at : OperatorAt c.args.task.now.problem c.args.a.now c.index-as_slice-a.result = operator-at c.args.task.now.problem c.args.a.now c.as_slice.result.now c.index-as_slice-a.result c.as_slice.ensures c.index-as_slice-a.is c.requires.operator in
     let o = c.index-as_slice-a.result in
-    let d = assignment_in c.put_values.new.env in
-    let put : d ≡ bind o.params c.args.a.now.args (assignment_in c.args.env.now) = c.put_values.ensures ∙ (λ i. bind (c.as_slice-2.ensures i) (c.as_slice-3.ensures i) (assignment_in c.args.env.now)) in
+    let d = assignment_in c.put_values.new.self in
+    let put : d ≡ bind o.params c.args.a.now.args (assignment_in c.args.env.now) = c.put_values.ensures.values ∙ (λ i. bind (c.as_slice-2.ensures i) (c.as_slice-3.ensures i) (assignment_in c.args.env.now)) in
     let agrees : Agree (slots_of o.params) d (bind o.params c.args.a.now.args no_values) = subst (λ (e : Assignment). Agree (slots_of o.params) e (bind o.params c.args.a.now.args no_values)) (sym put) (bound-alike o.params c.args.a.now.args (assignment_in c.args.env.now) no_values) in
     let bounds = ap (list_all (bound_true (situation_of (plain_problem c.args.task.now.problem) c.args.w.now) d)) (sym c.as_slice-4.ensures) ∙ sym c.bounds_hold.ensures in
     step-stopped c.args.task.now.problem c.args.w.now c.args.a.now o at d agrees (bounds ∙ c.if-not-bounds_hold.true)
@@ -57,8 +57,8 @@ pub returns-in_ok-next-in-Ok-Some-clause-world : goal.returns-in_ok-next-in-Ok-S
 returns-in_ok-next-in-Ok-Some-clause-world g c =
     let at : OperatorAt c.args.task.now.problem c.args.a.now c.index-as_slice-a.result = operator-at c.args.task.now.problem c.args.a.now c.as_slice.result.now c.index-as_slice-a.result c.as_slice.ensures c.index-as_slice-a.is c.requires.operator in
     let o = c.index-as_slice-a.result in
-    let d = assignment_in c.put_values.new.env in
-    let put : d ≡ bind o.params c.args.a.now.args (assignment_in c.args.env.now) = c.put_values.ensures ∙ (λ i. bind (c.as_slice-2.ensures i) (c.as_slice-3.ensures i) (assignment_in c.args.env.now)) in
+    let d = assignment_in c.put_values.new.self in
+    let put : d ≡ bind o.params c.args.a.now.args (assignment_in c.args.env.now) = c.put_values.ensures.values ∙ (λ i. bind (c.as_slice-2.ensures i) (c.as_slice-3.ensures i) (assignment_in c.args.env.now)) in
     let agrees : Agree (slots_of o.params) d (bind o.params c.args.a.now.args no_values) = subst (λ (e : Assignment). Agree (slots_of o.params) e (bind o.params c.args.a.now.args no_values)) (sym put) (bound-alike o.params c.args.a.now.args (assignment_in c.args.env.now) no_values) in
     let bounds = ap (list_all (bound_true (situation_of (plain_problem c.args.task.now.problem) c.args.w.now) d)) (sym c.as_slice-4.ensures) ∙ sym c.bounds_hold.ensures in
     let x = c.in-Ok-Some.changes in
@@ -72,8 +72,8 @@ pub returns-in-Ok-None-clause-world : goal.returns-in-Ok-None-clause-world
 returns-in-Ok-None-clause-world g c =
     let at : OperatorAt c.args.task.now.problem c.args.a.now c.index-as_slice-a.result = operator-at c.args.task.now.problem c.args.a.now c.as_slice.result.now c.index-as_slice-a.result c.as_slice.ensures c.index-as_slice-a.is c.requires.operator in
     let o = c.index-as_slice-a.result in
-    let d = assignment_in c.put_values.new.env in
-    let put : d ≡ bind o.params c.args.a.now.args (assignment_in c.args.env.now) = c.put_values.ensures ∙ (λ i. bind (c.as_slice-2.ensures i) (c.as_slice-3.ensures i) (assignment_in c.args.env.now)) in
+    let d = assignment_in c.put_values.new.self in
+    let put : d ≡ bind o.params c.args.a.now.args (assignment_in c.args.env.now) = c.put_values.ensures.values ∙ (λ i. bind (c.as_slice-2.ensures i) (c.as_slice-3.ensures i) (assignment_in c.args.env.now)) in
     let agrees : Agree (slots_of o.params) d (bind o.params c.args.a.now.args no_values) = subst (λ (e : Assignment). Agree (slots_of o.params) e (bind o.params c.args.a.now.args no_values)) (sym put) (bound-alike o.params c.args.a.now.args (assignment_in c.args.env.now) no_values) in
     let bounds = ap (list_all (bound_true (situation_of (plain_problem c.args.task.now.problem) c.args.w.now) d)) (sym c.as_slice-4.ensures) ∙ sym c.bounds_hold.ensures in
     step-unprepared c.args.task.now.problem c.args.w.now c.args.a.now o at d agrees
@@ -83,8 +83,8 @@ pub returns-in-Err-clause-cause : goal.returns-in-Err-clause-cause
 returns-in-Err-clause-cause g c =
     let at : OperatorAt c.args.task.now.problem c.args.a.now c.index-as_slice-a.result = operator-at c.args.task.now.problem c.args.a.now c.as_slice.result.now c.index-as_slice-a.result c.as_slice.ensures c.index-as_slice-a.is c.requires.operator in
     let o = c.index-as_slice-a.result in
-    let d = assignment_in c.put_values.new.env in
-    let put : d ≡ bind o.params c.args.a.now.args (assignment_in c.args.env.now) = c.put_values.ensures ∙ (λ i. bind (c.as_slice-2.ensures i) (c.as_slice-3.ensures i) (assignment_in c.args.env.now)) in
+    let d = assignment_in c.put_values.new.self in
+    let put : d ≡ bind o.params c.args.a.now.args (assignment_in c.args.env.now) = c.put_values.ensures.values ∙ (λ i. bind (c.as_slice-2.ensures i) (c.as_slice-3.ensures i) (assignment_in c.args.env.now)) in
     let agrees : Agree (slots_of o.params) d (bind o.params c.args.a.now.args no_values) = subst (λ (e : Assignment). Agree (slots_of o.params) e (bind o.params c.args.a.now.args no_values)) (sym put) (bound-alike o.params c.args.a.now.args (assignment_in c.args.env.now) no_values) in
     let bounds = ap (list_all (bound_true (situation_of (plain_problem c.args.task.now.problem) c.args.w.now) d)) (sym c.as_slice-4.ensures) ∙ sym c.bounds_hold.ensures in
     step-caused c.args.task.now.problem c.args.w.now c.args.a.now o at d agrees (bounds ∙ c.if-not-bounds_hold.false) c.in-Err.fault c.in-Err.ensures.changes

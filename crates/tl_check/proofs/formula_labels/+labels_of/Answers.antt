@@ -1,4 +1,4 @@
-use Rattle.std.proofs.Common.{◌≡◌, ◌<◌, ◌+◌, ◌-◌, [], List, length, drop, map, not, None, Option, IfNone, Err, refl, sym, ap, ◌∙◌, subst, arith, length-drop}
+use Rattle.std.proofs.Common.{◌≡◌, ◌<◌, ◌+◌, ◌-◌, [], List, length, drop, map, not, None, Option, IfNone, refl, sym, ap, ◌∙◌, subst, arith, length-drop}
 use Rattle.tl_check.proofs.CursorLaws.{at-counts, at-size, at-end, found-count, found-within}
 use Rattle.tl_check.proofs.FitLaws.{quantified-parts, item-fits}
 use Rattle.tl_check.proofs.FormulaLabels.{state-True, state-False, state-Atom, state-Defined, state-Compare, state-GoalFact, state-GoalPlace, state-GoalNot, one-Not, one-Next, one-Always, one-Eventually, one-Within, one-During, one-labels, one-noted, until-parts, until-made, until-first-noted, until-second-noted, same-length, two-Until, all-And, all-Or, item-noted, body-ForAll, body-Exists, rest-whole, same-items, instance-on, instance-noted}
@@ -14,7 +14,6 @@ use Rattle.tl_check.specs.declared.cursor.Cursor.{Cursor}
 use Rattle.tl_eval.proofs.BindLaws.{bind-through}
 use Rattle.tl_eval.proofs.DecidedLaws.{none-left}
 use Rattle.tl_eval.specs.Frames.{assignment_in}
-use Rattle.tl_eval.specs.StateTruth.{quantified}
 use Rattle.tl_syntax.specs.declared.value.Value.{Value}
 use Rattle.tl_syntax.specs.declared.variable.Var.{Var}
 use Rattle.tl_syntax.specs.Assignment.{Assignment, bind}
@@ -291,11 +290,11 @@ quantified_labels-least-requires t c =
     let parts = quantified-parts c.args.task.now.problem c.args.stop c.args.vars.now c.args.bound.now (tree_of_formula c.args.part.now) c.requires.fits in
     omega (arith, parts.few, c.len.ensures)
 
-pub quantified_labels-values_of-requires : goal.quantified_labels-values_of-requires
-quantified_labels-values_of-requires t c =
+pub quantified_labels-counted_values-requires : goal.quantified_labels-counted_values-requires
+quantified_labels-counted_values-requires t c =
     let parts = quantified-parts c.args.task.now.problem c.args.stop c.args.vars.now c.args.bound.now (tree_of_formula c.args.part.now) c.requires.fits in
     let p = plain_problem c.args.task.now.problem in
-    let e = assignment_in c.copy_of.new.env in
+    let e = assignment_in c.args.env.now in
     let q : Quantifier = record { stop = c.args.stop; vars = c.args.vars.now; bound = c.args.bound.now; part = tree_of_formula c.args.part.now } in
     let found = subst (λ (cs : List Cursor). IsFound cs c.in-Some.found) c.as_slice.ensures.value c.in-Some.ensures.some in
     omega (arith, parts.few, found-count (length c.args.vars.now) c.loop-found.cursors.items c.in-Some.found (at-counts p e q c.loop-found.cursors.items (drop c.args.from c.args.worlds.now) c.loop-found.invariant.at) found)
@@ -309,16 +308,16 @@ pub quantified_labels-put_values-requires-clause-same : goal.quantified_labels-p
 quantified_labels-put_values-requires-clause-same t c =
     let parts = quantified-parts c.args.task.now.problem c.args.stop c.args.vars.now c.args.bound.now (tree_of_formula c.args.part.now) c.requires.fits in
     let p = plain_problem c.args.task.now.problem in
-    let e = assignment_in c.copy_of.new.env in
+    let e = assignment_in c.args.env.now in
     let q : Quantifier = record { stop = c.args.stop; vars = c.args.vars.now; bound = c.args.bound.now; part = tree_of_formula c.args.part.now } in
     let found = subst (λ (cs : List Cursor). IsFound cs c.in-Some.found) c.as_slice.ensures.value c.in-Some.ensures.some in
-    omega (arith, ap length c.as_slice-in-Some.ensures, c.values_of.ensures.count, found-count (length c.args.vars.now) c.loop-found.cursors.items c.in-Some.found (at-counts p e q c.loop-found.cursors.items (drop c.args.from c.args.worlds.now) c.loop-found.invariant.at) found)
+    omega (arith, ap length c.as_slice-in-Some.ensures, c.counted_values.ensures.count, found-count (length c.args.vars.now) c.loop-found.cursors.items c.in-Some.found (at-counts p e q c.loop-found.cursors.items (drop c.args.from c.args.worlds.now) c.loop-found.invariant.at) found)
 
 pub quantified_labels-overflow_add-from : goal.quantified_labels-overflow_add-from
 quantified_labels-overflow_add-from t c =
     let parts = quantified-parts c.args.task.now.problem c.args.stop c.args.vars.now c.args.bound.now (tree_of_formula c.args.part.now) c.requires.fits in
     let p = plain_problem c.args.task.now.problem in
-    let e = assignment_in c.copy_of.new.env in
+    let e = assignment_in c.args.env.now in
     let q : Quantifier = record { stop = c.args.stop; vars = c.args.vars.now; bound = c.args.bound.now; part = tree_of_formula c.args.part.now } in
     let found = subst (λ (cs : List Cursor). IsFound cs c.in-Some.found) c.as_slice.ensures.value c.in-Some.ensures.some in
     omega (arith, found-within c.loop-found.cursors.items c.in-Some.found found, at-size p e q c.loop-found.cursors.items (drop c.args.from c.args.worlds.now) c.loop-found.invariant.at, length-drop c.args.from c.args.worlds.now, c.requires.few, c.requires.from)
@@ -327,7 +326,7 @@ pub quantified_labels-labels_of-requires : goal.quantified_labels-labels_of-requ
 quantified_labels-labels_of-requires t c =
     let parts = quantified-parts c.args.task.now.problem c.args.stop c.args.vars.now c.args.bound.now (tree_of_formula c.args.part.now) c.requires.fits in
     let p = plain_problem c.args.task.now.problem in
-    let e = assignment_in c.copy_of.new.env in
+    let e = assignment_in c.args.env.now in
     let q : Quantifier = record { stop = c.args.stop; vars = c.args.vars.now; bound = c.args.bound.now; part = tree_of_formula c.args.part.now } in
     let found = subst (λ (cs : List Cursor). IsFound cs c.in-Some.found) c.as_slice.ensures.value c.in-Some.ensures.some in
     (omega (arith, c.decreases), (c.requires.few, (omega (arith, found-within c.loop-found.cursors.items c.in-Some.found found, at-size p e q c.loop-found.cursors.items (drop c.args.from c.args.worlds.now) c.loop-found.invariant.at, length-drop c.args.from c.args.worlds.now, c.requires.from), (c.put_values.ensures.slots ∙ c.loop-found.invariant.slots, parts.body))))
@@ -336,7 +335,7 @@ pub quantified_labels-advance-requires-clause-size : goal.quantified_labels-adva
 quantified_labels-advance-requires-clause-size t c =
     let parts = quantified-parts c.args.task.now.problem c.args.stop c.args.vars.now c.args.bound.now (tree_of_formula c.args.part.now) c.requires.fits in
     let p = plain_problem c.args.task.now.problem in
-    let e = assignment_in c.copy_of.new.env in
+    let e = assignment_in c.args.env.now in
     let q : Quantifier = record { stop = c.args.stop; vars = c.args.vars.now; bound = c.args.bound.now; part = tree_of_formula c.args.part.now } in
     ap length c.as_mut_slice.ensures.value ∙ (at-size p e q c.loop-found.cursors.items (drop c.args.from c.args.worlds.now) c.loop-found.invariant.at ∙ sym (ap length (rest-whole c.args.worlds.now c.args.from)))
 
@@ -344,7 +343,7 @@ pub quantified_labels-advance-requires-clause-counts : goal.quantified_labels-ad
 quantified_labels-advance-requires-clause-counts t c =
     let parts = quantified-parts c.args.task.now.problem c.args.stop c.args.vars.now c.args.bound.now (tree_of_formula c.args.part.now) c.requires.fits in
     let p = plain_problem c.args.task.now.problem in
-    let e = assignment_in c.copy_of.new.env in
+    let e = assignment_in c.args.env.now in
     let q : Quantifier = record { stop = c.args.stop; vars = c.args.vars.now; bound = c.args.bound.now; part = tree_of_formula c.args.part.now } in
     subst (λ (cs : List Cursor). HaveCounts (length c.args.vars.now) cs) (sym c.as_mut_slice.ensures.value) (at-counts p e q c.loop-found.cursors.items (drop c.args.from c.args.worlds.now) c.loop-found.invariant.at)
 
@@ -352,45 +351,43 @@ pub quantified_labels-advance-requires-clause-labels : goal.quantified_labels-ad
 quantified_labels-advance-requires-clause-labels t c =
     let parts = quantified-parts c.args.task.now.problem c.args.stop c.args.vars.now c.args.bound.now (tree_of_formula c.args.part.now) c.requires.fits in
     let p = plain_problem c.args.task.now.problem in
-    let e = assignment_in c.copy_of.new.env in
+    let e = assignment_in c.args.env.now in
     let q : Quantifier = record { stop = c.args.stop; vars = c.args.vars.now; bound = c.args.bound.now; part = tree_of_formula c.args.part.now } in
     let found = subst (λ (cs : List Cursor). IsFound cs c.in-Some.found) c.as_slice.ensures.value c.in-Some.ensures.some in
-    omega (arith, ap length c.in-Ok-labels_of.ensures.labels, marks-length (true_ahead p (assignment_in c.put_values.new.env) (tree_of_formula c.args.part.now)) (drop (c.args.from + c.in-Some.found.at) c.args.worlds.now), length-drop (c.args.from + c.in-Some.found.at) c.args.worlds.now, ap length (rest-whole c.args.worlds.now c.args.from), found-within c.loop-found.cursors.items c.in-Some.found found, at-size p e q c.loop-found.cursors.items (drop c.args.from c.args.worlds.now) c.loop-found.invariant.at, length-drop c.args.from c.args.worlds.now, c.requires.from)
+    omega (arith, ap length c.in-Ok-labels_of.ensures.labels, marks-length (true_ahead p (assignment_in c.put_values.new.self) (tree_of_formula c.args.part.now)) (drop (c.args.from + c.in-Some.found.at) c.args.worlds.now), length-drop (c.args.from + c.in-Some.found.at) c.args.worlds.now, ap length (rest-whole c.args.worlds.now c.args.from), found-within c.loop-found.cursors.items c.in-Some.found found, at-size p e q c.loop-found.cursors.items (drop c.args.from c.args.worlds.now) c.loop-found.invariant.at, length-drop c.args.from c.args.worlds.now, c.requires.from)
 
 pub quantified_labels-loop-found-preserved : goal.quantified_labels-loop-found-preserved
 quantified_labels-loop-found-preserved t c =
     let parts = quantified-parts c.args.task.now.problem c.args.stop c.args.vars.now c.args.bound.now (tree_of_formula c.args.part.now) c.requires.fits in
     let p = plain_problem c.args.task.now.problem in
-    let e = assignment_in c.copy_of.new.env in
+    let e = assignment_in c.args.env.now in
     let q : Quantifier = record { stop = c.args.stop; vars = c.args.vars.now; bound = c.args.bound.now; part = tree_of_formula c.args.part.now } in
-    let scope : assignment_in c.put_values.new.env ≡ bind c.args.vars.now (tuple_of c.in-Some.found.tuple) e =
-    c.put_values.ensures.values ∙ (ap (λ (ss : List Var). bind ss c.values_of.result.now (assignment_in c.loop-found.inner)) c.as_slice-in-Some.ensures ∙ (ap (λ (u : List Value). bind c.args.vars.now u (assignment_in c.loop-found.inner)) c.values_of.ensures.values ∙ c.loop-found.invariant.scope (tuple_of c.in-Some.found.tuple))) in
+    let scope : assignment_in c.put_values.new.self ≡ bind c.args.vars.now (tuple_of c.in-Some.found.tuple) e =
+    c.put_values.ensures.values ∙ (ap (λ (ss : List Var). bind ss c.counted_values.result.now (assignment_in c.loop-found.inner)) c.as_slice-in-Some.ensures ∙ (ap (λ (u : List Value). bind c.args.vars.now u (assignment_in c.loop-found.inner)) c.counted_values.ensures.values ∙ c.loop-found.invariant.scope (tuple_of c.in-Some.found.tuple))) in
     record {
       slots = ap length c.in-Ok-labels_of.ensures.frame ∙ (c.put_values.ensures.slots ∙ c.loop-found.invariant.slots);
       scope = λ u. bind-through c.args.vars.now u (tuple_of c.in-Some.found.tuple) (assignment_in c.labels_of.new.env) e (ap assignment_in c.in-Ok-labels_of.ensures.frame ∙ scope);
       at = subst (λ (cs : List Cursor). AreAt p e q cs (drop c.args.from c.args.worlds.now)) (sym (same-items c.loop-found.cursors.len c.loop-found.cursors.items c.advance.new.cursors (c.advance.auto.cursors ∙ ap length c.as_mut_slice.ensures.value) c.loop-found.cursors.ok.0))
-          (instance-on p c.args.worlds.now c.args.from e (assignment_in c.put_values.new.env) q c.in-Some.found _ c.as_mut_slice.result.now c.loop-found.cursors.items c.advance.new.cursors c.in-Ok-labels_of.instance (rest-whole c.args.worlds.now c.args.from) c.as_mut_slice.ensures.value scope (c.advance.ensures.at q.part) c.in-Ok-labels_of.ensures.labels c.loop-found.invariant.at);
+          (instance-on p c.args.worlds.now c.args.from e (assignment_in c.put_values.new.self) q c.in-Some.found _ c.as_mut_slice.result.now c.loop-found.cursors.items c.advance.new.cursors c.in-Ok-labels_of.instance (rest-whole c.args.worlds.now c.args.from) c.as_mut_slice.ensures.value scope (c.advance.ensures.at q.part) c.in-Ok-labels_of.ensures.labels c.loop-found.invariant.at);
     }
 
 pub quantified_labels-returns-in-Err-labels_of-clause-labels : goal.quantified_labels-returns-in-Err-labels_of-clause-labels
 quantified_labels-returns-in-Err-labels_of-clause-labels t c =
     let parts = quantified-parts c.args.task.now.problem c.args.stop c.args.vars.now c.args.bound.now (tree_of_formula c.args.part.now) c.requires.fits in
     let p = plain_problem c.args.task.now.problem in
-    let e = assignment_in c.copy_of.new.env in
+    let e = assignment_in c.args.env.now in
     let q : Quantifier = record { stop = c.args.stop; vars = c.args.vars.now; bound = c.args.bound.now; part = tree_of_formula c.args.part.now } in
-    let scope : assignment_in c.put_values.new.env ≡ bind c.args.vars.now (tuple_of c.in-Some.found.tuple) e =
-    c.put_values.ensures.values ∙ (ap (λ (ss : List Var). bind ss c.values_of.result.now (assignment_in c.loop-found.inner)) c.as_slice-in-Some.ensures ∙ (ap (λ (u : List Value). bind c.args.vars.now u (assignment_in c.loop-found.inner)) c.values_of.ensures.values ∙ c.loop-found.invariant.scope (tuple_of c.in-Some.found.tuple))) in
+    let scope : assignment_in c.put_values.new.self ≡ bind c.args.vars.now (tuple_of c.in-Some.found.tuple) e =
+    c.put_values.ensures.values ∙ (ap (λ (ss : List Var). bind ss c.counted_values.result.now (assignment_in c.loop-found.inner)) c.as_slice-in-Some.ensures ∙ (ap (λ (u : List Value). bind c.args.vars.now u (assignment_in c.loop-found.inner)) c.counted_values.ensures.values ∙ c.loop-found.invariant.scope (tuple_of c.in-Some.found.tuple))) in
     let found = subst (λ (cs : List Cursor). IsFound cs c.in-Some.found) c.as_slice.ensures.value c.in-Some.ensures.some in
-    subst (λ (x : Assignment). AreLabels p c.args.worlds.now c.args.from x (quantified c.args.stop c.args.vars.now c.args.bound.now (tree_of_formula c.args.part.now)) (Err c.in-Err-labels_of.fault)) (ap assignment_in c.copy_of.ensures.frame)
-    (instance-noted p c.args.worlds.now c.args.from e (assignment_in c.put_values.new.env) q c.in-Some.found c.loop-found.cursors.items c.loop-found.invariant.at found scope c.in-Err-labels_of.fault c.in-Err-labels_of.ensures.labels)
+    instance-noted p c.args.worlds.now c.args.from e (assignment_in c.put_values.new.self) q c.in-Some.found c.loop-found.cursors.items c.loop-found.invariant.at found scope c.in-Err-labels_of.fault c.in-Err-labels_of.ensures.labels
 
 pub quantified_labels-returns-in-Ok-truths_of-clause-labels : goal.quantified_labels-returns-in-Ok-truths_of-clause-labels
 quantified_labels-returns-in-Ok-truths_of-clause-labels t c =
     let parts = quantified-parts c.args.task.now.problem c.args.stop c.args.vars.now c.args.bound.now (tree_of_formula c.args.part.now) c.requires.fits in
     let p = plain_problem c.args.task.now.problem in
-    let e = assignment_in c.copy_of.new.env in
+    let e = assignment_in c.args.env.now in
     let q : Quantifier = record { stop = c.args.stop; vars = c.args.vars.now; bound = c.args.bound.now; part = tree_of_formula c.args.part.now } in
     let none = subst (λ (o : Option _). IfNone o (Each (λ (x : Cursor). x.next ≡ None) c.as_slice.result.now)) (none-left c.least.result c.in_default.not-Some) c.least.ensures.none in
     let all = subst (λ (cs : List Cursor). Each (λ (x : Cursor). x.next ≡ None) cs) c.as_slice.ensures.value none in
-    c.in-Ok-truths_of.ensures ∙ (ap (map (λ (x : Cursor). x.truth)) c.as_slice-2.ensures.value ∙ (at-end p e q c.loop-found.cursors.items (drop c.args.from c.args.worlds.now) c.loop-found.invariant.at all
-    ∙ ap (λ (x : Assignment). marks (true_ahead p x (quantified c.args.stop c.args.vars.now c.args.bound.now (tree_of_formula c.args.part.now))) (drop c.args.from c.args.worlds.now)) (ap assignment_in c.copy_of.ensures.frame)))
+    c.in-Ok-truths_of.ensures ∙ (ap (map (λ (x : Cursor). x.truth)) c.as_slice-2.ensures.value ∙ at-end p e q c.loop-found.cursors.items (drop c.args.from c.args.worlds.now) c.loop-found.invariant.at all)

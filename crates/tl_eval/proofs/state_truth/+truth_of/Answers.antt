@@ -378,8 +378,8 @@ tuples_true-next_tuple_in-requires-clause-after t c =
     let fit = tuples-fit (signature_of q.domain) c.args.reading.number c.args.stop c.args.vars.now c.args.bound.now (tree_of_formula c.args.part.now) (predicates-few q) (functions-few q) c.requires.fits in
     c.loop-tuple.invariant.after
 
-pub tuples_true-values_of_match-requires : goal.tuples_true-values_of_match-requires
-tuples_true-values_of_match-requires t c =
+pub tuples_true-counted_values-requires : goal.tuples_true-counted_values-requires
+tuples_true-counted_values-requires t c =
     let q = c.args.task.now.problem in
     let fit = tuples-fit (signature_of q.domain) c.args.reading.number c.args.stop c.args.vars.now c.args.bound.now (tree_of_formula c.args.part.now) (predicates-few q) (functions-few q) c.requires.fits in
     omega (arith, fit.few, c.in-Some.ensures.len)
@@ -400,7 +400,7 @@ pub tuples_true-put_in_scope-requires-clause-same : goal.tuples_true-put_in_scop
 tuples_true-put_in_scope-requires-clause-same t c =
     let q = c.args.task.now.problem in
     let fit = tuples-fit (signature_of q.domain) c.args.reading.number c.args.stop c.args.vars.now c.args.bound.now (tree_of_formula c.args.part.now) (predicates-few q) (functions-few q) c.requires.fits in
-    omega (arith, c.values_of_match.ensures.count, c.in-Some.ensures.len)
+    omega (arith, c.counted_values.ensures.count, c.in-Some.ensures.len)
 
 pub tuples_true-truth_of-requires : goal.tuples_true-truth_of-requires
 tuples_true-truth_of-requires t c =
@@ -414,7 +414,7 @@ tuples_true-returns-then-truth-stop t c =
     let q = c.args.task.now.problem in
     let fit = tuples-fit (signature_of q.domain) c.args.reading.number c.args.stop c.args.vars.now c.args.bound.now (tree_of_formula c.args.part.now) (predicates-few q) (functions-few q) c.requires.fits in
     let scope : assignment_in (take 32 c.put_in_scope.new.frames) ≡ bind c.args.vars.now (tuple_of c.in-Some.tuple) (assignment_in c.args.outer.now) =
-    c.put_in_scope.ensures ∙ (ap (λ (u : List Value). bind c.args.vars.now u (assignment_in (take 32 c.loop-tuple.frames))) c.values_of_match.ensures.values ∙ c.loop-tuple.invariant.scope (tuple_of c.in-Some.tuple)) in
+    c.put_in_scope.ensures ∙ (ap (λ (u : List Value). bind c.args.vars.now u (assignment_in (take 32 c.loop-tuple.frames))) c.counted_values.ensures.values ∙ c.loop-tuple.invariant.scope (tuple_of c.in-Some.tuple)) in
     let r : Result Bool RangeNote = Ok c.in-Ok.truth in
     tuples-stop (plain_problem c.args.task.now.problem) c.args.w.now c.args.reading.number c.args.reading.level (assignment_in c.args.outer.now) c.args.vars.now c.args.bound.now (tree_of_formula c.args.part.now) fit.differ fit.occur c.args.stop (option_map tuple_of c.loop-tuple.after) c.loop-tuple.invariant.passed (option_map tuple_of c.next_tuple_in.result) (tuple_of c.in-Some.tuple) c.next_tuple_in.ensures.next (ap (option_map tuple_of) c.in-Some.is) c.in-Ok.truth (subst (λ (x : Assignment). IsTruth (plain_problem c.args.task.now.problem) c.args.w.now c.args.reading.number c.args.reading.level x (tree_of_formula c.args.part.now) r) scope c.in-Ok.ensures.truth) (same-truth c.in-Ok.truth c.args.stop c.if-truth-stop.true)
 
@@ -423,7 +423,7 @@ tuples_true-returns-in-Err t c =
     let q = c.args.task.now.problem in
     let fit = tuples-fit (signature_of q.domain) c.args.reading.number c.args.stop c.args.vars.now c.args.bound.now (tree_of_formula c.args.part.now) (predicates-few q) (functions-few q) c.requires.fits in
     let scope : assignment_in (take 32 c.put_in_scope.new.frames) ≡ bind c.args.vars.now (tuple_of c.in-Some.tuple) (assignment_in c.args.outer.now) =
-    c.put_in_scope.ensures ∙ (ap (λ (u : List Value). bind c.args.vars.now u (assignment_in (take 32 c.loop-tuple.frames))) c.values_of_match.ensures.values ∙ c.loop-tuple.invariant.scope (tuple_of c.in-Some.tuple)) in
+    c.put_in_scope.ensures ∙ (ap (λ (u : List Value). bind c.args.vars.now u (assignment_in (take 32 c.loop-tuple.frames))) c.counted_values.ensures.values ∙ c.loop-tuple.invariant.scope (tuple_of c.in-Some.tuple)) in
     let r : Result Bool RangeNote = Err c.in-Err.note in
     tuples-noted (plain_problem c.args.task.now.problem) c.args.w.now c.args.reading.number c.args.reading.level (assignment_in c.args.outer.now) c.args.vars.now c.args.bound.now (tree_of_formula c.args.part.now) fit.differ fit.occur c.args.stop (option_map tuple_of c.loop-tuple.after) c.loop-tuple.invariant.passed (option_map tuple_of c.next_tuple_in.result) (tuple_of c.in-Some.tuple) c.next_tuple_in.ensures.next (ap (option_map tuple_of) c.in-Some.is) c.in-Err.note (subst (λ (x : Assignment). IsTruth (plain_problem c.args.task.now.problem) c.args.w.now c.args.reading.number c.args.reading.level x (tree_of_formula c.args.part.now) r) scope c.in-Err.ensures.truth)
 
@@ -432,7 +432,7 @@ tuples_true-loop-tuple-preserved t c =
     let q = c.args.task.now.problem in
     let fit = tuples-fit (signature_of q.domain) c.args.reading.number c.args.stop c.args.vars.now c.args.bound.now (tree_of_formula c.args.part.now) (predicates-few q) (functions-few q) c.requires.fits in
     let scope : assignment_in (take 32 c.put_in_scope.new.frames) ≡ bind c.args.vars.now (tuple_of c.in-Some.tuple) (assignment_in c.args.outer.now) =
-    c.put_in_scope.ensures ∙ (ap (λ (u : List Value). bind c.args.vars.now u (assignment_in (take 32 c.loop-tuple.frames))) c.values_of_match.ensures.values ∙ c.loop-tuple.invariant.scope (tuple_of c.in-Some.tuple)) in
+    c.put_in_scope.ensures ∙ (ap (λ (u : List Value). bind c.args.vars.now u (assignment_in (take 32 c.loop-tuple.frames))) c.counted_values.ensures.values ∙ c.loop-tuple.invariant.scope (tuple_of c.in-Some.tuple)) in
     let r : Result Bool RangeNote = Ok c.in-Ok.truth in
     record {
       scope = λ u. bind-through c.args.vars.now u (tuple_of c.in-Some.tuple) (assignment_in (take 32 c.truth_of.new.frames)) (assignment_in c.args.outer.now) (ap assignment_in c.truth_of.ensures.frame ∙ scope);
