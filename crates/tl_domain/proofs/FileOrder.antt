@@ -16,10 +16,12 @@ use Rattle.tl_formulas.specs.Signatures.{Scope, slot_of, is_taken}
 use Rattle.tl_domain.specs.Operators.{has_head_shape, has_more, parameters_breaks, head_name_breaks, head_parts_breaks, head_list_breaks, head_breaks, parameters_of, is_clause, leading, after_leading, bounds_clause, pre_clause, effects_clause, occurs_in_bounds, pre_breaks, bounds_clause_breaks, pre_clause_breaks, effects_clause_breaks, clauses_breaks, operator_breaks}
 use Rattle.tl_domain.specs.declared.known.Known.{Known}
 use Rattle.tl_domain.specs.Items.{nothing_known, has_item_shape, is_second_control, is_full, arity_breaks, declaration_breaks, levels_breaks, with_head, item_list_breaks, item_parts_breaks, item_breaks, known_after, items_breaks}
-use Rattle.tl_domain.specs.DomainFiles.{has_domain_shape, domain_items_breaks, domain_form_breaks, second_form_breaks, domain_file_breaks}
+use Rattle.tl_domain.specs.DomainFiles.{has_domain_shape, domain_items_breaks, domain_form_breaks, domain_file_breaks}
 use Rattle.tl_sexpr.specs.Offsets.{RisesFrom, RiseFrom, AreAsRead}
 use Rattle.tl_forms.proofs.Order.{IsInOrder, from, up_to, both, none, one, tested, first-least}
-use Rattle.tl_formulas.proofs.FormOrder.{form-within, forms-within, rest-rises, bounds-order}
+use Rattle.tl_forms.proofs.Offsets.{form-within, forms-within, rest-rises}
+use Rattle.tl_forms.proofs.OneForm.{second_form-order}
+use Rattle.tl_formulas.proofs.FormOrder.{bounds-order}
 use Rattle.tl_formulas.proofs.FormulaOrder.{formula-order, effects-order}
 
 parameters-order : (occurs : List ℕ → Bool) (earlier : Scope) (fs : FormTrees) (low next : ℕ) → RiseFrom low fs next → IsInOrder (64 * low) (parameters_breaks occurs earlier fs) (64 * next)
@@ -195,13 +197,6 @@ domain_form-order (list fs at) low next h =
     both (64 * low) (64 * (at + 1)) (64 * next) _ _
     (tested (not (has_domain_shape fs)) Shape at (64 * low) (64 * (at + 1)) (omega (arith, h.0)) (omega arith))
     (domain_items-order fs (at + 1) next h.1)
-
-second_form-order : (fs : FormTrees) (low next : ℕ) → RiseFrom low fs next → IsInOrder (64 * low) (second_form_breaks fs) (64 * next)
-second_form-order no_form low next h = none (64 * low) (64 * next) (omega arith)
-second_form-order (more_forms f fs) low next h =
-    let first = form-within f low h.0 h.1 in
-    let later = forms-within fs h.0 next h.2 in
-    one Shape (offset_of f) (64 * low) (64 * next) (omega (arith, first.0)) (omega (arith, first.1))
 
 file-order : (fs : FormTrees) (next : ℕ) → 1 ≤ next → RiseFrom 0 fs next → IsInOrder (64 * 0) (domain_file_breaks fs) (64 * next)
 file-order no_form next le h = one Shape 0 (64 * 0) (64 * next) (omega arith) (omega arith)

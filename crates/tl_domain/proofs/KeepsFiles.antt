@@ -29,7 +29,8 @@ use Rattle.tl_formulas.proofs.KeepsCalls.{arities, seen}
 use Rattle.tl_formulas.proofs.KeepsFormulas.{FormulaKeeps, constant-keeps}
 use Rattle.tl_domain.specs.declared.known.Known.{Known}
 use Rattle.tl_domain.specs.declared.words.ItemWord.{ItemWord}
-use Rattle.tl_domain.specs.DomainFiles.{has_domain_shape, domain_items_breaks, domain_form_breaks, second_form_breaks, domain_file_breaks}
+use Rattle.tl_domain.specs.DomainFiles.{has_domain_shape, domain_items_breaks, domain_form_breaks, domain_file_breaks}
+use Rattle.tl_forms.specs.OneForm.{second_form_breaks}
 use Rattle.tl_domain.specs.DomainTrees.{DefinitionTree, DomainTree, definition_tree, operator_tree, domain_tree}
 use Rattle.tl_domain.specs.Items.{nothing_known, item_breaks, signature_after, known_with, known_after, items_breaks}
 use Rattle.tl_domain.specs.LawsKeeps.{DomainIsKept, NamesAreThere}

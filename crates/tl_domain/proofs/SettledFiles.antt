@@ -22,7 +22,8 @@ use Rattle.tl_renumber.specs.Renumbered.{renumbered}
 use Rattle.tl_renumber.specs.RenumberedDomain.{renumbered_domain}
 use Rattle.tl_renumber.proofs.SettledNumbers.{texts-stay}
 use Rattle.tl_domain.specs.declared.known.Known.{Known}
-use Rattle.tl_domain.specs.DomainFiles.{has_domain_shape, domain_items_breaks, domain_form_breaks, second_form_breaks, domain_file_breaks}
+use Rattle.tl_domain.specs.DomainFiles.{has_domain_shape, domain_items_breaks, domain_form_breaks, domain_file_breaks}
+use Rattle.tl_forms.specs.OneForm.{second_form_breaks}
 use Rattle.tl_domain.specs.DomainTrees.{DomainTree}
 use Rattle.tl_domain.specs.Items.{nothing_known, item_breaks, known_after, items_breaks}
 use Rattle.tl_domain.specs.LawsSettled.{SettledFileMeans}

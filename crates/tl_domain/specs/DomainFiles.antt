@@ -5,8 +5,9 @@
 use Rattle.std.specs.Prelude.{List, [], ◌∷◌, ◌++◌, Bool, false, ◌&&◌, not, codes}
 use Rattle.tl_sexpr.specs.Tree.{FormTree, FormTrees, symbol, integer, list, no_form, more_forms}
 use Rattle.tl_forms.specs.declared.rule.Rule.TheVariants.{Shape}
+use Rattle.tl_forms.specs.OneForm.{second_form_breaks}
 use Rattle.tl_forms.specs.Rules.{Break, breaks_if}
-use Rattle.tl_forms.specs.Parts.{offset_of, is_name, is_word}
+use Rattle.tl_forms.specs.Parts.{is_name, is_word}
 use Rattle.tl_domain.specs.Items.{nothing_known, items_breaks}
 
 -- the elements of the domain form begin with the word `domain` and a name
@@ -24,11 +25,6 @@ abbrev pub domain_form_breaks : FormTree → List Break
 domain_form_breaks (list fs at) = breaks_if (not (has_domain_shape fs)) Shape at ++ domain_items_breaks fs
 domain_form_breaks (symbol text at) = (Shape, at) ∷ []
 domain_form_breaks (integer z at) = (Shape, at) ∷ []
-
--- a second form of a file
-abbrev pub second_form_breaks : FormTrees → List Break
-second_form_breaks no_form = []
-second_form_breaks (more_forms f fs) = (Shape, offset_of f) ∷ []
 
 -- what the forms of a domain file break; where there is none, the break is at 0
 abbrev pub domain_file_breaks : FormTrees → List Break

@@ -4,15 +4,15 @@ ghost use Rattle.tl_sexpr.specs.Tree.{list, tree_of};
 ghost use Rattle.tl_forms.specs.Parts.{elements_of};
 ghost use Rattle.tl_forms.specs.Reads.{Reads, Checks, trees_in};
 ghost use Rattle.tl_forms.specs.Symbols.{number_in};
-ghost use Rattle.tl_domain.specs.DomainFiles.{domain_form_breaks, second_form_breaks, domain_file_breaks};
+ghost use Rattle.tl_domain.specs.DomainFiles.{domain_form_breaks, domain_file_breaks};
 ghost use Rattle.tl_domain.specs.DomainTrees.{domain_tree};
 ghost use Rattle.tl_domain.specs.Items.{nothing_known, items_breaks};
 ghost use Rattle.tl_domain.specs.MeaningOfItems.{with_items, empty_domain, domain_meant, domain_file_meant};
 
 use crate::items::items;
 use std::alloc::Global;
-use tl_forms::parts::{is_variable, is_word, offset, split_first, symbol_text};
-use tl_forms::{FormFault, Rule, breaks, number_of};
+use tl_forms::parts::{is_variable, is_word, split_first, symbol_text};
+use tl_forms::{FormFault, Rule, breaks, check_last, number_of};
 use tl_sexpr::Form;
 use tl_syntax::{Declareds, Definitions, Domain, Formula, Names, Operators};
 
@@ -74,16 +74,6 @@ fn domain_form(alloc: Global, names: &Names, form: &Form) -> Result<Domain, Form
         Form::Sym(_, at) => Err(breaks(Rule::Shape, *at)),
         Form::Int(_, at) => Err(breaks(Rule::Shape, *at)),
         Form::List(forms, at) => domain_list(alloc, names, forms.as_slice(), *at),
-    }
-}
-
-/// Checks that no form stands after the first.
-fn check_last(forms: &[Form]) -> Result<(), FormFault>
-    ensures { Checks result (second_form_breaks (trees_in forms.now)) }
-{
-    match split_first(forms) {
-        Some((second, _)) => Err(breaks(Rule::Shape, offset(second))),
-        None => Ok(()),
     }
 }
 

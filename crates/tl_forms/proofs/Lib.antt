@@ -4,4 +4,6 @@ pub mod Loops
 pub mod NamesWith
 pub mod Beginnings
 pub mod Order
+pub mod Offsets
+pub mod OneForm
 pub mod NamesHave

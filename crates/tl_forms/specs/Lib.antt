@@ -3,3 +3,5 @@ pub mod Parts
 pub mod Symbols
 pub mod Reads
 pub mod Named
+pub mod OneForm
+pub mod Values

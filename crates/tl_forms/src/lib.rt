@@ -1,13 +1,16 @@
 //! What the readers of domain, problem and plan files share: rules and the forms that break them, parts of forms, and the symbols of a file.
 //!
+//! - `one_form`: files of one form.
 //! - `parts`: the parts of a form.
 //! - `rule`: the rules of files, and the fault of a file that breaks one.
 //! - `symbols`: the symbols of a file, which become names.
 #![tactic(auto)]
 
+mod one_form;
 pub mod parts;
 mod rule;
 mod symbols;
 
+pub use one_form::check_last;
 pub use rule::{FormFault, Rule, breaks};
 pub use symbols::{add_forms, number_of};

@@ -16,21 +16,8 @@ use Rattle.tl_formulas.specs.Goals.{arguments_breaks, is_flat, is_miscounted_at,
 use Rattle.tl_formulas.specs.Bounds.{flat_breaks, equality_breaks, goal_bound_breaks, bound_call_breaks, bound_breaks, bounds_breaks}
 use Rattle.tl_formulas.specs.Variables.{variable_breaks, variables_breaks}
 use Rattle.tl_sexpr.specs.Offsets.{RisesFrom, RiseFrom}
+use Rattle.tl_forms.proofs.Offsets.{form-within, forms-within, rest-rises}
 use Rattle.tl_forms.proofs.Order.{IsInOrder, from, up_to, both, none, one, tested, either}
-
-mutual
-  -- a form begins at the first number or after it, and before the second
-  pub form-within : (f : FormTree) (low next : ℕ) → RisesFrom low f next → (low ≤ offset_of f) × (offset_of f < next)
-  form-within (symbol text at) low next h = (h.0, h.1)
-  form-within (integer z at) low next h = (h.0, h.1)
-  form-within (list fs at) low next h = let parts = forms-within fs (at + 1) next h.1 in (h.0, omega arith)
-
-  pub forms-within : (fs : FormTrees) (low next : ℕ) → RiseFrom low fs next → low ≤ next
-  forms-within no_form low next h = h
-  forms-within (more_forms f fs) low next h =
-      let first = form-within f low h.0 h.1 in
-      let later = forms-within fs h.0 next h.2 in
-      omega (arith, first.0, first.1, later)
 
 pub call-order : (table : Table) (text : List ℕ) (n at low high : ℕ) → low ≤ 64 * at + 11 → 64 * at + 13 ≤ high → IsInOrder low (call_breaks table text n at) high
 call-order table text n at low high before after = called (place_of table text)
@@ -84,24 +71,6 @@ pub elements-rise : (f : FormTree) (low next : ℕ) → RisesFrom low f next →
 elements-rise (symbol text at) low next h = omega (arith, h.1)
 elements-rise (integer z at) low next h = omega (arith, h.1)
 elements-rise (list fs at) low next h = h.1
-
-pub forms-from : (low later : ℕ) (fs : FormTrees) (next : ℕ) → low ≤ later → RiseFrom later fs next → RiseFrom low fs next
-forms-from low later no_form next le h = omega arith
-forms-from low later (more_forms f fs) next le h = (h.0, form-from f h.1, h.2)
-  where
-    form-from : (f : FormTree) → RisesFrom later f h.0 → RisesFrom low f h.0
-    form-from (symbol text at) r = (omega (arith, r.0), r.1)
-    form-from (integer z at) r = (omega (arith, r.0), r.1)
-    form-from (list gs at) r = (omega (arith, r.0), r.1)
-
-pub rest-rises : (f : FormTree) (low next : ℕ) → RisesFrom low f next → RiseFrom (offset_of f + 1) (rest_of f) next
-rest-rises (symbol text at) low next h = omega (arith, h.1)
-rest-rises (integer z at) low next h = omega (arith, h.1)
-rest-rises (list no_form at) low next h = h.1
-rest-rises (list (more_forms f fs) at) low next h =
-    let rises = h.1 in
-    let first = form-within f (at + 1) rises.0 rises.1 in
-    forms-from (at + 1) rises.0 fs next (omega (arith, first.0, first.1)) rises.2
 
 miscounted-order : (table : Table) (f : FormTree) → IsInOrder (64 * offset_of f) (miscounted_breaks table f) (64 * offset_of f + 13)
 miscounted-order table (symbol text at) = none (64 * at) (64 * at + 13) (omega arith)

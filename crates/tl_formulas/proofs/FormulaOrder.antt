@@ -19,7 +19,8 @@ use Rattle.tl_formulas.specs.Effects as changes
 use Rattle.tl_formulas.specs.Effects.{has_effect_shape, effect_list_breaks, target_breaks, effect_breaks, effect_parts_breaks, effects_breaks}
 use Rattle.tl_sexpr.specs.Offsets.{RisesFrom, RiseFrom}
 use Rattle.tl_forms.proofs.Order.{IsInOrder, from, up_to, both, none, one, tested}
-use Rattle.tl_formulas.proofs.FormOrder.{form-within, forms-within, call-order, terms-order, goal-order, bound-order, variable_list-order}
+use Rattle.tl_forms.proofs.Offsets.{form-within, forms-within}
+use Rattle.tl_formulas.proofs.FormOrder.{call-order, terms-order, goal-order, bound-order, variable_list-order}
 
 atom-order : (g : Signature) (text : List ℕ) (n at low high : ℕ) → low ≤ 64 * at + 11 → 64 * at + 13 ≤ high → IsInOrder low (atom_breaks g text n at) high
 atom-order g text n at low high before after = found (place_of g.predicates text) refl

@@ -16,7 +16,8 @@ use Rattle.tl_forms.specs.declared.rule.Rule.TheVariants.{ArgumentCount, NotAVal
 use Rattle.tl_forms.specs.Parts.{is_variable, count}
 use Rattle.tl_forms.specs.Rules.{Break, breaks_if}
 use Rattle.tl_line.specs.Actions.{operator_at, operator_breaks_at, value_breaks, values_breaks, action_breaks}
-use Rattle.tl_line.specs.MeaningOfActions.{value_meant, values_meant, action_meant}
+use Rattle.tl_forms.specs.Values.{value_meant, values_meant}
+use Rattle.tl_line.specs.MeaningOfActions.{action_meant}
 use Rattle.tl_line.specs.NamedActions.{ActionIsNamed}
 
 some≢none : (b : Break) (bs : List Break) → b ∷ bs ≡ [] → ⊥

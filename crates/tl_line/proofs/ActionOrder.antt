@@ -1,5 +1,5 @@
 -- The order of what actions break.
-use Rattle.std.proofs.Common.{◌≡◌, ℕ, ◌+◌, ◌*◌, ◌<◌, ◌≤◌, List, [], ◌∷◌, true, false, refl, arith, Some, None, subst, sym, inl, inr}
+use Rattle.std.proofs.Common.{◌≡◌, ℕ, ◌+◌, ◌*◌, ◌≤◌, List, [], ◌∷◌, true, false, refl, arith, Some, None, subst, sym, inl, inr}
 use Rattle.std.proofs.lemmas.Bool.{cases_Bool}
 use Rattle.std.specs.Prelude.{Option, Result, Ok, Err, IfErr, ◌||◌, not, is_some}
 use Rattle.tl_sexpr.specs.Tree.{FormTree, FormTrees, symbol, integer, list, no_form, more_forms}
@@ -13,23 +13,10 @@ use Rattle.tl_forms.specs.Rules.{Break}
 use Rattle.tl_forms.specs.declared.rule.FormFault.{FormFault}
 use Rattle.tl_forms.specs.declared.rule.FormFault.TheVariants.{Breaks, NoMemory}
 use Rattle.tl_forms.specs.Reads.{Reads, IsLeastFault}
+use Rattle.tl_forms.proofs.Offsets.{form-within, forms-within}
 use Rattle.tl_forms.proofs.Order.{IsInOrder, from, both, none, one, tested, first-least}
 use Rattle.tl_line.specs.MeaningOfActions.{action_meant}
 use Rattle.tl_line.specs.Actions.{operator_at, has_parameters, operator_breaks_at, value_breaks, values_breaks, action_breaks}
-
-mutual
-  -- a form begins at the first number or after it, and before the second
-  pub form-within : (f : FormTree) (low next : ℕ) → RisesFrom low f next → (low ≤ offset_of f) × (offset_of f < next)
-  form-within (symbol text at) low next h = (h.0, h.1)
-  form-within (integer z at) low next h = (h.0, h.1)
-  form-within (list fs at) low next h = let parts = forms-within fs (at + 1) next h.1 in (h.0, omega arith)
-
-  pub forms-within : (fs : FormTrees) (low next : ℕ) → RiseFrom low fs next → low ≤ next
-  forms-within no_form low next h = h
-  forms-within (more_forms f fs) low next h =
-      let first = form-within f low h.0 h.1 in
-      let later = forms-within fs h.0 next h.2 in
-      omega (arith, first.0, first.1, later)
 
 operator-order : (operators : List Operator) (found : Option ℕ) (n at low high : ℕ) → low ≤ 64 * at + 30 → 64 * at + 31 ≤ high → IsInOrder low (operator_breaks_at operators found n at) high
 operator-order operators None n at low high before after = one NoOperator at low high (omega arith) (omega arith)

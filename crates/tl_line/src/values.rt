@@ -6,7 +6,7 @@ ghost use Rattle.tl_syntax.specs.declared.value.Value.TheVariants as value;
 ghost use Rattle.tl_forms.specs.Reads.{Reads, trees_in};
 ghost use Rattle.tl_forms.specs.Symbols.{number_in};
 ghost use Rattle.tl_line.specs.Actions.{value_breaks, values_breaks};
-ghost use Rattle.tl_line.specs.MeaningOfActions.{value_meant, values_meant};
+ghost use Rattle.tl_forms.specs.Values.{value_meant, values_meant};
 
 use std::alloc::Global;
 use tl_forms::parts::is_variable;

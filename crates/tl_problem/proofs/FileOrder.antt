@@ -10,6 +10,8 @@ use Rattle.tl_syntax.specs.DerivedTests.{fact_eq}
 use Rattle.tl_forms.specs.declared.rule.Rule.TheVariants.{Shape, Unknown, Arity, Limit, NotGround, TwoValues}
 use Rattle.tl_forms.specs.Rules.{Break, first_break, IsLeastBreak}
 use Rattle.tl_forms.specs.Parts.{is_variable, offset_of, count, rest_of}
+use Rattle.tl_forms.proofs.Offsets.{form-within, forms-within, rest-rises}
+use Rattle.tl_forms.proofs.OneForm.{second_form-order}
 use Rattle.tl_forms.proofs.Order.{IsInOrder, from, up_to, both, none, one, tested, either, first-least}
 use Rattle.tl_problem.specs.declared.elements.Section.{Section}
 use Rattle.tl_problem.specs.declared.elements.Section.TheVariants as section
@@ -20,9 +22,8 @@ use Rattle.tl_problem.specs.Declarations.{position_of, has_arity, call_breaks_at
 use Rattle.tl_problem.specs.Elements.{or_else, element_word, element_call_breaks, element_breaks, with_element, elements_breaks}
 use Rattle.tl_problem.specs.Facts.{ground_breaks, fact_meant, equality_breaks, equality_meant, negation_breaks, negation_meant}
 use Rattle.tl_problem.specs.Literals.{no_literal, has_other_value}
-use Rattle.tl_problem.specs.ProblemFiles.{has_problem_shape, section_breaks, sections_breaks, problem_form_breaks, second_form_breaks, problem_file_breaks}
+use Rattle.tl_problem.specs.ProblemFiles.{has_problem_shape, section_breaks, sections_breaks, problem_form_breaks, problem_file_breaks}
 use Rattle.tl_problem.specs.Values.{value_breaks, values_breaks}
-use Rattle.tl_problem.proofs.Offsets.{form-within, forms-within, rest-rises}
 
 value-order : (f : FormTree) (low next : ℕ) → RisesFrom low f next → IsInOrder (64 * low) (value_breaks f) (64 * next)
 value-order (symbol text at) low next h = tested (is_variable text) NotGround at (64 * low) (64 * next) (omega (arith, h.0)) (omega (arith, h.1))
@@ -121,13 +122,6 @@ problem_form-order names d (list fs at) low next h =
     either (has_problem_shape fs) (64 * low) (64 * next) _ _
     (from (64 * low) (64 * (at + 1)) (64 * next) _ (omega (arith, h.0)) (sections-order names d fs (at + 1) next h.1))
     (one Shape at (64 * low) (64 * next) (omega (arith, h.0)) (omega arith))
-
-second_form-order : (fs : FormTrees) (low next : ℕ) → RiseFrom low fs next → IsInOrder (64 * low) (second_form_breaks fs) (64 * next)
-second_form-order no_form low next h = none (64 * low) (64 * next) (omega arith)
-second_form-order (more_forms f fs) low next h =
-    let first = form-within f low h.0 h.1 in
-    let later = forms-within fs h.0 next h.2 in
-    one Shape (offset_of f) (64 * low) (64 * next) (omega (arith, first.0)) (omega (arith, first.1))
 
 file-order : (names : List (List ℕ)) (d : Domain) (fs : FormTrees) (next : ℕ) → 1 ≤ next → RiseFrom 0 fs next → IsInOrder (64 * 0) (problem_file_breaks names d fs) (64 * next)
 file-order names d no_form next le h = one Shape 0 (64 * 0) (64 * next) (omega arith) (omega arith)

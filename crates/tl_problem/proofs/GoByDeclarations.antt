@@ -18,7 +18,8 @@ use Rattle.tl_problem.specs.Elements.{or_else, element_word, element_call_breaks
 use Rattle.tl_problem.specs.LawsDeclarations.{DeclareAlike, FilesGoByDeclarations}
 use Rattle.tl_problem.specs.Literals.{no_literal, has_other_value, and_fact, and_value, and_not}
 use Rattle.tl_problem.specs.Facts.{ground_breaks, fact_meant, equality_breaks, equality_meant, negation_breaks, negation_meant}
-use Rattle.tl_problem.specs.ProblemFiles.{has_problem_shape, second_form_breaks, section_breaks, sections_breaks, problem_form_breaks, problem_file_breaks, sections_meant, problem_form_meant, problem_file_meant}
+use Rattle.tl_forms.specs.OneForm.{second_form_breaks}
+use Rattle.tl_problem.specs.ProblemFiles.{has_problem_shape, section_breaks, sections_breaks, problem_form_breaks, problem_file_breaks, sections_meant, problem_form_meant, problem_file_meant}
 
 module _ (names : List (List ℕ)) (d e : Domain) (alike : DeclareAlike d e) where
   call_breaks : (l : Literals) (w : ElementWord) (text : List ℕ) (rest : FormTrees) (at : ℕ) → element_call_breaks names d l w text rest at ≡ element_call_breaks names e l w text rest at

@@ -32,7 +32,7 @@ use Rattle.tl_problem.specs.Facts.{ground_breaks, fact_meant, equality_breaks, e
 use Rattle.tl_problem.specs.Keeps.{LiteralsKeep, SectionsKeep}
 use Rattle.tl_problem.specs.Literals.{no_literal, with_fact, with_value, value_at}
 use Rattle.tl_problem.specs.ProblemFiles.{has_problem_shape, section_breaks, section_meant, sections_breaks, sections_meant, problem_form_breaks, problem_form_meant, problem_file_breaks, problem_file_meant}
-use Rattle.tl_problem.specs.Values.{value_meant, values_meant}
+use Rattle.tl_forms.specs.Values.{value_meant, values_meant}
 use Rattle.tl_problem.proofs.Consistent.{agrees-with_value, consistent-with_fact, consistent-with_not}
 
 -- where two lists together are empty, each is

@@ -2,7 +2,6 @@ pub mod Rulesets
 pub mod Counts
 pub mod OrElse
 pub mod PlaceLookups
-pub mod Offsets
 pub mod FileOrder
 pub mod Consistent
 pub mod Kept

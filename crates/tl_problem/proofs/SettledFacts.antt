@@ -35,7 +35,8 @@ use Rattle.tl_renumber.proofs.SettledNumbers.{numbers-differ, texts-stay}
 use Rattle.tl_problem.specs.Declarations.{position_of, has_arity, call_breaks_at}
 use Rattle.tl_problem.specs.Facts.{ground_breaks, position_meant, fact_meant, equality_breaks, equality_meant, negation_breaks, negation_meant}
 use Rattle.tl_problem.specs.Literals.{with_fact, same_place, value_at, with_value, has_other_value}
-use Rattle.tl_problem.specs.Values.{value_breaks, values_breaks, value_meant, values_meant}
+use Rattle.tl_forms.specs.Values.{value_meant, values_meant}
+use Rattle.tl_problem.specs.Values.{value_breaks, values_breaks}
 use Rattle.tl_problem.proofs.Consistent.{map-last}
 
 -- names get new numbers, which differ where the old ones do

@@ -30,7 +30,8 @@ use Rattle.tl_problem.specs.declared.literals.Literals.{Literals}
 use Rattle.tl_problem.specs.Elements.{or_else, element_word, element_call_breaks, with_element_call, element_breaks, with_element, elements_breaks, with_elements}
 use Rattle.tl_problem.specs.Facts.{fact_meant, equality_meant, negation_meant}
 use Rattle.tl_problem.specs.Literals.{no_literal, with_fact, with_value, has_other_value}
-use Rattle.tl_problem.specs.ProblemFiles.{has_problem_shape, section_breaks, section_meant, sections_breaks, sections_meant, problem_form_breaks, problem_form_meant, second_form_breaks, problem_file_breaks, problem_file_meant}
+use Rattle.tl_forms.specs.OneForm.{second_form_breaks}
+use Rattle.tl_problem.specs.ProblemFiles.{has_problem_shape, section_breaks, section_meant, sections_breaks, sections_meant, problem_form_breaks, problem_form_meant, problem_file_breaks, problem_file_meant}
 use Rattle.tl_problem.specs.Problems.{IsProblemOf, all_names, breaks_of, said_by}
 use Rattle.tl_problem.specs.SettledSections.{renumbered_literals, renumbered_sections, sections_of}
 use Rattle.tl_problem.proofs.Kept.{value-named, values-named, Each-with_fact, Each-with_value, rest-have}

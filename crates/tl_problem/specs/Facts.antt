@@ -11,7 +11,8 @@ use Rattle.tl_forms.specs.declared.rule.Rule.TheVariants.{Shape}
 use Rattle.tl_forms.specs.Rules.{Break}
 use Rattle.tl_forms.specs.Parts.{count}
 use Rattle.tl_problem.specs.Declarations.{position_of, call_breaks_at}
-use Rattle.tl_problem.specs.Values.{value_breaks, values_breaks, value_meant, values_meant}
+use Rattle.tl_forms.specs.Values.{value_meant, values_meant}
+use Rattle.tl_problem.specs.Values.{value_breaks, values_breaks}
 
 -- what `(n c*)` breaks, with its values, where it should name something that is declared
 abbrev pub ground_breaks : List (List ℕ) → List Declared → List ℕ → FormTrees → ℕ → List Break

@@ -3,6 +3,7 @@ use Rattle.std.specs.Prelude.{ℕ, List, [], ◌∷◌, ◌++◌, Bool, false, �
 use Rattle.tl_sexpr.specs.Tree.{FormTree, FormTrees, symbol, integer, list, no_form, more_forms}
 use Rattle.tl_syntax.specs.declared.domain.Domain.{Domain}
 use Rattle.tl_forms.specs.declared.rule.Rule.TheVariants.{Shape, Limit}
+use Rattle.tl_forms.specs.OneForm.{second_form_breaks}
 use Rattle.tl_forms.specs.Rules.{Break, breaks_if}
 use Rattle.tl_forms.specs.Parts.{offset_of, count, is_name, is_word, rest_of}
 use Rattle.tl_problem.specs.declared.elements.Section.{Section}
@@ -38,11 +39,6 @@ abbrev pub problem_form_breaks : List (List ℕ) → Domain → FormTree → Lis
 problem_form_breaks names d (list fs at) = if has_problem_shape fs then sections_breaks names d fs else (Shape, at) ∷ []
 problem_form_breaks names d (symbol text at) = (Shape, at) ∷ []
 problem_form_breaks names d (integer z at) = (Shape, at) ∷ []
-
--- a second form of a file
-abbrev pub second_form_breaks : FormTrees → List Break
-second_form_breaks no_form = []
-second_form_breaks (more_forms f fs) = (Shape, offset_of f) ∷ []
 
 -- what the forms of a problem file break; where there is none, the break is at 0
 abbrev pub problem_file_breaks : List (List ℕ) → Domain → FormTrees → List Break

@@ -6,7 +6,7 @@ ghost use Rattle.tl_syntax.specs.declared.place_value.PlaceValue.{PlaceValue};
 ghost use Rattle.tl_syntax.specs.declared.value.Value.{Value};
 ghost use Rattle.tl_forms.specs.Reads.{Reads, trees_in};
 ghost use Rattle.tl_problem.specs.Facts.{ground_breaks, position_meant, fact_meant, equality_breaks, equality_meant, negation_breaks, negation_meant};
-ghost use Rattle.tl_problem.specs.Values.{values_meant};
+ghost use Rattle.tl_forms.specs.Values.{values_meant};
 
 use crate::declarations::called;
 use crate::values::{value, values};

@@ -6,13 +6,13 @@ ghost use Rattle.tl_forms.specs.Reads.{Reads, Checks, trees_in};
 ghost use Rattle.tl_problem.specs.declared.elements.Section.TheVariants as section;
 ghost use Rattle.tl_problem.specs.declared.literals.Literals.{Literals};
 ghost use Rattle.tl_problem.specs.declared.sections.Sections.{Sections};
-ghost use Rattle.tl_problem.specs.ProblemFiles.{begins_with, section_breaks, section_meant, second_form_breaks, problem_form_breaks, problem_form_meant, problem_file_breaks, problem_file_meant};
+ghost use Rattle.tl_problem.specs.ProblemFiles.{begins_with, section_breaks, section_meant, problem_form_breaks, problem_form_meant, problem_file_breaks, problem_file_meant};
 
 use crate::elements::{Section, read_elements};
 use crate::literals::Literals;
 use std::alloc::Global;
 use tl_forms::parts::{is_variable, is_word, offset, split_first};
-use tl_forms::{FormFault, Rule, breaks};
+use tl_forms::{FormFault, Rule, breaks, check_last};
 use tl_sexpr::Form;
 use tl_syntax::{Domain, Names};
 
@@ -179,16 +179,6 @@ fn problem_form(
     }
 }
 
-/// Checks that no form stands after the problem form.
-fn check_end(forms: &[Form]) -> Result<(), FormFault>
-    ensures { Checks result (second_form_breaks (trees_in forms.now)) }
-{
-    match split_first(forms) {
-        Some((second, _)) => Err(breaks(Rule::Shape, offset(second))),
-        None => Ok(()),
-    }
-}
-
 /// The forms of a problem file.
 #[tactic(auto, using(crate::proofs::Rulesets::composed))]
 pub(crate) fn problem_file(
@@ -205,7 +195,7 @@ pub(crate) fn problem_file(
         return Err(breaks(Rule::Shape, 0));
     };
     let sections = problem_form(alloc, names, domain, first)?;
-    match check_end(rest) {
+    match check_last(rest) {
         Ok(()) => Ok(sections),
         Err(fault) => {
             drop(sections);

@@ -3,7 +3,8 @@ ghost use Rattle.std.specs.Prelude.{◌≡◌, List};
 ghost use Rattle.tl_sexpr.specs.Tree.{tree_of};
 ghost use Rattle.tl_syntax.specs.declared.value.Value.{Value};
 ghost use Rattle.tl_forms.specs.Reads.{Reads, trees_in};
-ghost use Rattle.tl_problem.specs.Values.{value_breaks, values_breaks, value_meant, values_meant};
+ghost use Rattle.tl_forms.specs.Values.{value_meant, values_meant};
+ghost use Rattle.tl_problem.specs.Values.{value_breaks, values_breaks};
 
 use std::alloc::Global;
 use tl_forms::parts::is_variable;

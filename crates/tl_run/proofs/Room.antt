@@ -1,36 +1,16 @@
 -- Files as they are read.
-use Rattle.std.proofs.Common.{◌≡◌, ℕ, ◌+◌, ◌<◌, ◌≤◌, ◌^◌, List, [], ◌∷◌, ◌++◌, Bool, true, false, cond, length, length-append, arith}
-use Rattle.std.specs.List.{list_any}
-use Rattle.std.specs.Str.{bytes_eq}
-use Rattle.tl_sexpr.specs.Spelling.{Spells, symbols_in, symbols_in_all}
-use Rattle.tl_sexpr.specs.Tree.{FormTree, FormTrees, symbol, integer, list, no_form, more_forms}
+use Rattle.std.proofs.Common.{◌≡◌, ℕ, ◌+◌, ◌<◌, ◌≤◌, ◌^◌, List, [], length, arith}
+use Rattle.tl_sexpr.specs.Spelling.{Spells, symbols_in_all}
+use Rattle.tl_sexpr.specs.Tree.{FormTrees}
 use Rattle.tl_syntax.specs.declared.domain.Domain.{Domain}
 use Rattle.tl_syntax.specs.declared.problem.Problem.{Problem}
-use Rattle.tl_syntax.specs.Texts.{with_text}
-use Rattle.tl_forms.specs.Symbols.{names_with, names_with_all}
+use Rattle.tl_forms.specs.Symbols.{names_with_all}
+use Rattle.tl_forms.proofs.NamesWith.{length-names_with_all}
 use Rattle.tl_domain.specs.DomainFiles.{domain_file_breaks}
 use Rattle.tl_domain.specs.DomainTrees.{domain_tree}
 use Rattle.tl_domain.specs.MeaningOfItems.{domain_file_meant}
 use Rattle.tl_problem.specs.Problems.{IsProblemOf, breaks_of}
 use Rattle.tl_run.specs.Files.{IsDomainFile, IsProblemFile}
-
-at_most_one_more : (names : List (List ℕ)) (text : List ℕ) → length (with_text names text) ≤ length names + 1
-at_most_one_more names text = one_more (list_any (bytes_eq text) names)
-  where
-    one_more : (known : Bool) → length (cond known names (names ++ text ∷ [])) ≤ length names + 1
-    one_more true = omega arith
-    one_more false = omega (arith, length-append names (text ∷ []))
-
--- each symbol brings at most one text
-mutual
-  length-names_with : (names : List (List ℕ)) (form : FormTree) → length (names_with names form) ≤ length names + symbols_in form
-  length-names_with names (symbol text at) = at_most_one_more names text
-  length-names_with names (integer z at) = omega arith
-  length-names_with names (list fs at) = length-names_with_all names fs
-
-  length-names_with_all : (names : List (List ℕ)) (forms : FormTrees) → length (names_with_all names forms) ≤ length names + symbols_in_all forms
-  length-names_with_all names no_form = omega arith
-  length-names_with_all names (more_forms f fs) = omega (arith, length-names_with names f, length-names_with_all (names_with names f) fs)
 
 -- there is room for the symbols of a file beside at most as many names
 pub room_beside : (names : List (List ℕ)) (forms : FormTrees) {size : ℕ} → symbols_in_all forms ≤ size → size ≤ 4194304 → length names ≤ 4194304 → length names + symbols_in_all forms < 2 ^ 32

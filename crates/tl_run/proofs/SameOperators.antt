@@ -12,7 +12,8 @@ use Rattle.tl_forms.specs.declared.rule.Rule.TheVariants.{ArgumentCount}
 use Rattle.tl_forms.specs.Rules.{breaks_if}
 use Rattle.tl_forms.specs.Parts.{offset_of, is_call, count}
 use Rattle.tl_line.specs.Actions.{operator_at, has_parameters, operator_breaks_at, values_breaks, action_breaks}
-use Rattle.tl_line.specs.MeaningOfActions.{action_meant, values_meant}
+use Rattle.tl_forms.specs.Values.{values_meant}
+use Rattle.tl_line.specs.MeaningOfActions.{action_meant}
 use Rattle.tl_text.specs.Plans.{limit_breaks, placed_breaks, actions_breaks, plan_breaks}
 use Rattle.tl_text.specs.MeaningOfPlans.{plan_meant}
 

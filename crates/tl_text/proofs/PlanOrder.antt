@@ -12,9 +12,10 @@ use Rattle.tl_forms.specs.Rules.{Break}
 use Rattle.tl_forms.specs.declared.rule.FormFault.{FormFault}
 use Rattle.tl_forms.specs.declared.rule.FormFault.TheVariants.{Breaks, NoMemory}
 use Rattle.tl_forms.specs.Reads.{Reads, IsLeastFault}
+use Rattle.tl_forms.proofs.Offsets.{form-within}
 use Rattle.tl_forms.proofs.Order.{first-least, IsInOrder, both, none, one, tested}
 use Rattle.tl_line.specs.Actions.{action_breaks}
-use Rattle.tl_line.proofs.ActionOrder.{form-within, action-shape, call-order}
+use Rattle.tl_line.proofs.ActionOrder.{action-shape, call-order}
 use Rattle.tl_text.specs.Plans.{limit_breaks, placed_breaks, actions_breaks, plan_breaks}
 use Rattle.tl_text.specs.MeaningOfPlans.{plan_meant}
 

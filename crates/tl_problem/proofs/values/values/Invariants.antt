@@ -1,6 +1,7 @@
 use Rattle.std.proofs.Common.{◌≡◌, ◌++◌, drop}
 use Rattle.tl_forms.specs.Reads.{trees_in}
-use Rattle.tl_problem.specs.Values.{values_breaks, values_meant}
+use Rattle.tl_forms.specs.Values.{values_meant}
+use Rattle.tl_problem.specs.Values.{values_breaks}
 use Rattle.tl_problem.proofs.values.values.Given as goal
 
 -- the values so far, and after them those that are left

@@ -1,0 +1,17 @@
+// Files of one form.
+ghost use Rattle.tl_forms.specs.OneForm.{second_form_breaks};
+ghost use Rattle.tl_forms.specs.Reads.{Checks, trees_in};
+
+use crate::parts::{offset, split_first};
+use crate::rule::{FormFault, Rule, breaks};
+use tl_sexpr::Form;
+
+/// Checks that no form of a file stands after its first, given those that do: the second one breaks the rule of shapes.
+pub fn check_last(forms: &[Form]) -> Result<(), FormFault>
+    ensures { Checks result (second_form_breaks (trees_in forms.now)) }
+{
+    match split_first(forms) {
+        Some((second, _)) => Err(breaks(Rule::Shape, offset(second))),
+        None => Ok(()),
+    }
+}
