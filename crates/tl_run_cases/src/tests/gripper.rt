@@ -6,7 +6,7 @@ use std::process::Abort;
 use std::test::Fail;
 
 /// The domain of the gripper with a control formula.
-fn gripper(alloc: Global, control: &str) -> Result<String, AllocError> {
+pub(crate) fn gripper(alloc: Global, control: &str) -> Result<String, AllocError> {
     format!(in alloc;
         "(domain gripper
  (predicate room 1)

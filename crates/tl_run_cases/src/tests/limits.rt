@@ -1,5 +1,6 @@
 // The longest and the deepest files, and each prefix of one.
 
+use crate::tests::gripper::gripper;
 use crate::tests::running::{MOST, answers, answers_to_bytes};
 use std::alloc::{AllocError, Global};
 use std::test::Fail;
@@ -112,24 +113,8 @@ fn an_initial_world_has_few_facts(rt: HostRuntime) -> Result<(), Fail> {
     Ok(())
 }
 
-/// The domain of the gripper, with its last line feed.
-const GRIPPER: &str = "(domain gripper
- (predicate room 1)
- (predicate at-robby 1)
- (predicate at 2)
- (predicate free 1)
- (predicate carry 2)
- (operator (pick ?b ?r ?g)
-  (bounds (at ?b ?r) (at-robby ?r) (free ?g))
-  (effects (del (at ?b ?r)) (del (free ?g)) (add (carry ?b ?g))))
- (operator (drop ?b ?r ?g)
-  (bounds (carry ?b ?g) (at-robby ?r))
-  (effects (del (carry ?b ?g)) (add (free ?g)) (add (at ?b ?r))))
- (operator (move ?from ?to)
-  (bounds (at-robby ?from) (room ?to))
-  (pre (not (= ?from ?to)))
-  (effects (del (at-robby ?from)) (add (at-robby ?to))))
- (control (always (and
+/// The control formula of the gripper: a ball stays where the goal has it, one that is carried is not put down elsewhere, and the robot leaves no room with a gripper free for a ball that has to leave it too.
+const CONTROL: &str = "(always (and
   (forall (?b ?r) (goal (at ?b ?r))
    (implies (at ?b ?r) (next (at ?b ?r))))
   (forall (?b ?g) (carry ?b ?g)
@@ -139,8 +124,7 @@ const GRIPPER: &str = "(domain gripper
    (implies
     (and (exists (?g) (free ?g) true)
      (exists (?b) (at ?b ?r) (not (goal (at ?b ?r)))))
-    (next (at-robby ?r))))))))
-";
+    (next (at-robby ?r))))))";
 
 /// The problem of two balls.
 const TWO_BALLS: &str = "(problem sample
@@ -157,7 +141,9 @@ const TWO_BALLS: &str = "(problem sample
 #[test]
 fn each_prefix_of_a_domain_is_judged(rt: HostRuntime) -> Result<(), Fail> {
     let alloc = rt.alloc();
-    let whole = GRIPPER.as_bytes();
+    let domain = gripper(alloc, CONTROL)?;
+    let file = format!(in alloc; "{domain}\n")?;
+    let whole = file.as_str().as_bytes();
     for (k, _) in whole.iter().enumerate() {
         let (status, text) = if k == 0 {
             (Status::Refused, "; refused file 1 rule 10 at 0\n")

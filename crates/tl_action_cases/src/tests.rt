@@ -1,0 +1,4 @@
+// Worked cases of actions.
+
+mod actions;
+mod steps;

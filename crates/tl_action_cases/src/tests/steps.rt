@@ -1,0 +1,147 @@
+// The steps of actions: the action of an operator without parameters, in the initial world.
+ghost use Rattle.std.specs.Prelude.{◌≡◌, ◌<◌};
+
+use std::alloc::Global;
+use std::marker::Brand;
+use std::process::Abort;
+use std::sync::ledger::{Blank, Ledger};
+use std::test::Fail;
+use tl_action::{ActFault, apply};
+use tl_cases::{note_text, task_of, world_text};
+use tl_eval::Env;
+use tl_syntax::{Action, Values};
+use tl_terms::Steps;
+use tl_world::{Task, World};
+
+/// The domain text up to the clauses of the operator.
+const OPENING: &str =
+    "(domain d (predicate p 1) (predicate edge 2) (function n 0) (function m 0) (operator (act) ";
+
+/// The step of the first operator's action, which has no arguments, from the initial world.
+fn first_step<L: Ledger>(
+    alloc: Global,
+    task: &Task,
+    blank: Blank,
+) -> Result<Result<Option<World>, ActFault>, Fail>
+    requires name { blank.name ≡ L.name }
+    requires parts { blank.parts ≡ L.parts }
+    requires some { 0 < blank.parts }
+{
+    let operators = task.problem.domain.operators.as_slice();
+    if operators.is_empty() {
+        return Err(Fail::new("there is no operator"));
+    }
+    let operator = &operators[0];
+    if operator.params.len() != 0 {
+        return Err(Fail::new("the operator has parameters"));
+    }
+    let mut env = Env::new(alloc)?;
+    let mut steps = Steps::<L>::new(blank);
+    let action = Action {
+        op: 0,
+        args: Values::new(alloc),
+    };
+    Ok(apply(alloc, task, &task.first, &mut env, &action, &mut steps))
+}
+
+/// Compares the answer for an operator with these clauses: the world after it, `none`, or a note with its offset in the clauses.
+fn leads<R: Abort>(
+    rt: &R,
+    alloc: Global,
+    clauses: &str,
+    init: &str,
+    answer: &str,
+) -> Result<(), Fail> {
+    let domain = format!(in alloc; "{OPENING}{clauses}))")?;
+    let problem = format!(in alloc; "(problem q (init {init}) (goal (p g)))")?;
+    let task = task_of(alloc, domain.as_str(), problem.as_str())?;
+    match first_step::<Brand>(alloc, &task, Blank::new(1))? {
+        Ok(Some(next)) => {
+            let text = world_text(alloc, &task, &next)?;
+            assert_eq!(rt; text.as_str(), answer, "{clauses} {init}");
+        }
+        Ok(None) => assert_eq!(rt; "none", answer, "{clauses} {init}"),
+        Err(ActFault::Range(note)) => {
+            let text = note_text(alloc, note, OPENING.len())?;
+            assert_eq!(rt; text.as_str(), answer, "{clauses} {init}");
+        }
+        Err(fault) => return Err(Fail::from(fault)),
+    }
+    Ok(())
+}
+
+/// The place (n) with the greatest integer.
+const MAX: &str = "(= (n) 9223372036854775807) ";
+
+#[test]
+fn actions_lead_to_their_worlds(rt: HostRuntime) -> Result<(), Fail> {
+    for (clauses, init, answer) in [
+        ("", "(p a)", "(p a) "),
+        // what must be true before
+        ("(bounds (p a)) (effects (add (p b)))", "(p c)", "none"),
+        (
+            "(bounds (p a)) (effects (add (p b)))",
+            "(p a)",
+            "(p a) (p b) ",
+        ),
+        ("(pre (p a)) (effects (add (p b)))", "", "none"),
+        ("(pre (not (p a))) (effects (add (p b)))", "", "(p b) "),
+        // adds win over deletes
+        ("(effects (add (p a)) (del (p a)))", "(p a)", "(p a) "),
+        ("(effects (del (p a)) (add (p a)))", "", "(p a) "),
+        // all is read in the old world
+        (
+            "(effects (del (p a)) (add (p b)) (when (p b) (add (p c))) (when (p a) (add (p d))))",
+            "(p a)",
+            "(p b) (p d) ",
+        ),
+        (
+            "(effects (set (n) (m)) (set (m) (n)))",
+            "(= (n) 1) (= (m) 2)",
+            "(= (n) 2) (= (m) 1) ",
+        ),
+        // two values of one place
+        ("(effects (set (n) 1) (set (n) 2))", "", "none"),
+        ("(effects (set (n) 1) (set (n) (+ 0 1)))", "", "(= (n) 1) "),
+        (
+            "(effects (each (?x) (p ?x) (set (n) ?x)))",
+            "(p a) (p b)",
+            "none",
+        ),
+        (
+            "(effects (each (?x) (p ?x) (set (n) ?x)))",
+            "(p a)",
+            "(p a) (= (n) a) ",
+        ),
+        // undefined arguments and values
+        ("(effects (set (n) (m)))", "", "none"),
+        ("(effects (add (p (m))))", "", "none"),
+        ("(effects (del (p (m))))", "", "none"),
+        ("(effects (when (p a) (set (n) (m))))", "", ""),
+        // effects in effects
+        (
+            "(effects (each (?x) (p ?x) (when (= ?x a) (add (edge ?x ?x)))))",
+            "(p a) (p b)",
+            "(p a) (p b) (edge a a) ",
+        ),
+        (
+            "(effects (each (?x) (p ?x) (each (?y) (edge ?x ?y) (add (edge ?y ?x)))))",
+            "(p a) (edge a b) (edge b c)",
+            "(p a) (edge a b) (edge b a) (edge b c) ",
+        ),
+        ("(effects (when (goal (p g)) (add (p b))))", "", "(p b) "),
+        // sums past range
+        ("(pre (< (+ (n) 1) 0))", MAX, "+ 9223372036854775807 1 at 8"),
+        (
+            "(effects (set (n) (+ (n) 1)))",
+            MAX,
+            "+ 9223372036854775807 1 at 18",
+        ),
+        ("(bounds (p a)) (effects (set (n) (+ (n) 1)))", MAX, "none"),
+        ("(pre (p a)) (effects (set (n) (+ (n) 1)))", MAX, "none"),
+        ("(effects (when (p a) (set (n) (+ (n) 1))))", MAX, MAX),
+    ] {
+        leads(&rt, rt.alloc(), clauses, init, answer)?;
+    }
+    Ok(())
+}

@@ -1,0 +1,97 @@
+// Values, worlds and notes, as texts.
+
+use std::alloc::Global;
+use std::test::Fail;
+use tl_eval::RangeNote;
+use tl_syntax::{Names, Op, Value};
+use tl_world::{Task, World};
+
+/// Puts the text of a name at the end.
+pub fn put_name(names: &Names, number: u32, out: &mut String) -> Result<(), Fail> {
+    if number >= names.len() {
+        return Err(Fail::new("there is no such name"));
+    }
+    out.push_str(names.text(number))?;
+    Ok(())
+}
+
+/// Puts the text of a value at the end.
+pub fn put_value(names: &Names, value: Value, out: &mut String) -> Result<(), Fail> {
+    match value {
+        Value::Int(number) => {
+            write!(out, "{number}")?;
+            Ok(())
+        }
+        Value::Sym(name) => put_name(names, name, out),
+    }
+}
+
+/// Puts a space and the text of a value at the end, for each value.
+pub fn put_values(names: &Names, values: &[Value], out: &mut String) -> Result<(), Fail> {
+    for value in values {
+        out.push_str(" ")?;
+        put_value(names, *value, out)?;
+    }
+    Ok(())
+}
+
+/// Puts the facts of a predicate at the end.
+fn put_facts(names: &Names, w: &World, pred: u32, name: u32, out: &mut String) -> Result<(), Fail> {
+    let Some(rows) = w.rows(pred) else {
+        return Ok(());
+    };
+    for k in 0..rows.len() {
+        out.push_str("(")?;
+        put_name(names, name, out)?;
+        put_values(names, rows.row(k), out)?;
+        out.push_str(") ")?;
+    }
+    Ok(())
+}
+
+/// Puts the places of a function with their values at the end.
+fn put_places(names: &Names, w: &World, fun: u32, name: u32, out: &mut String) -> Result<(), Fail> {
+    let Some(places) = w.places(fun) else {
+        return Ok(());
+    };
+    for k in 0..places.len() {
+        out.push_str("(= (")?;
+        put_name(names, name, out)?;
+        put_values(names, places.args(k), out)?;
+        out.push_str(") ")?;
+        put_value(names, places.value(k), out)?;
+        out.push_str(") ")?;
+    }
+    Ok(())
+}
+
+/// The facts of a world, predicate by predicate, and then its places with their values, function by function. After each stands a space.
+pub fn world_text(alloc: Global, task: &Task, w: &World) -> Result<String, Fail> {
+    let names = &task.problem.names;
+    let domain = &task.problem.domain;
+    let mut out = String::new(alloc);
+    let mut pred = 0;
+    for declared in domain.predicates.as_slice() {
+        put_facts(names, w, pred, declared.name, &mut out)?;
+        pred = pred.wrapping_add(1);
+    }
+    let mut fun = 0;
+    for declared in domain.functions.as_slice() {
+        put_places(names, w, fun, declared.name, &mut out)?;
+        fun = fun.wrapping_add(1);
+    }
+    Ok(out)
+}
+
+/// A note: the operation, the two operands, and how far after `start` its form begins.
+pub fn note_text(alloc: Global, note: RangeNote, start: usize) -> Result<String, Fail> {
+    let op = match note.op {
+        Op::Plus => "+",
+        Op::Minus => "-",
+        Op::Times => "*",
+    };
+    let at = (note.at as usize).wrapping_sub(start);
+    let left = note.left;
+    let right = note.right;
+    Ok(format!(in alloc; "{op} {left} {right} at {at}")?)
+}

@@ -1,0 +1,25 @@
+use Rattle.std.proofs.Common.{◌≡◌, ◌<◌, length, rules, arith}
+use Rattle.tl_cases.proofs.FirstOperator.{parameters-differ, parameters-occur}
+use Rattle.tl_term_cases.proofs.tests.tuples.next_of.Goals as goal
+
+pub next_tuple-requires-clause-differ : goal.next_tuple-requires-clause-differ
+next_tuple-requires-clause-differ c =
+    let some : 0 < length c.as_slice-operators.result.now = search rules in
+    parameters-differ c.args.task.now.problem c.as_slice-operators.result.now c.index-operators-0.result c.as_slice-operators.ensures some c.index-operators-0.is
+
+pub next_tuple-requires-clause-occur : goal.next_tuple-requires-clause-occur
+next_tuple-requires-clause-occur c =
+    let some : 0 < length c.as_slice-operators.result.now = search rules in
+    let one : length c.as_slice-bounds.result.now ≡ 1 = first_of (search rules, omega (arith, c.if-bounds-ne1.false)) in
+    parameters-occur c.args.task.now.problem c.as_slice-operators.result.now c.index-operators-0.result c.as_slice-operators.ensures some c.index-operators-0.is c.as_slice-bounds.result.now c.index-bounds-0.result c.as_slice-bounds.ensures one c.index-bounds-0.is
+
+pub next_tuple-requires-in-Some-clause-differ : goal.next_tuple-requires-in-Some-clause-differ
+next_tuple-requires-in-Some-clause-differ c =
+    let some : 0 < length c.as_slice-operators.result.now = search rules in
+    parameters-differ c.args.task.now.problem c.as_slice-operators.result.now c.index-operators-0.result c.as_slice-operators.ensures some c.index-operators-0.is
+
+pub next_tuple-requires-in-Some-clause-occur : goal.next_tuple-requires-in-Some-clause-occur
+next_tuple-requires-in-Some-clause-occur c =
+    let some : 0 < length c.as_slice-operators.result.now = search rules in
+    let one : length c.as_slice-bounds.result.now ≡ 1 = first_of (search rules, omega (arith, c.if-bounds-ne1.false)) in
+    parameters-occur c.args.task.now.problem c.as_slice-operators.result.now c.index-operators-0.result c.as_slice-operators.ensures some c.index-operators-0.is c.as_slice-bounds.result.now c.index-bounds-0.result c.as_slice-bounds.ensures one c.index-bounds-0.is

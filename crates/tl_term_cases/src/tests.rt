@@ -1,0 +1,4 @@
+// Worked cases of terms and bounds.
+
+mod sides;
+mod tuples;

@@ -1,0 +1,3 @@
+// Worked cases of truth.
+
+mod conditions;

@@ -1,0 +1,4 @@
+// Worked cases of worlds and tasks.
+
+mod goals;
+mod matches;
