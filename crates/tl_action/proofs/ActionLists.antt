@@ -1,5 +1,5 @@
 -- The actions of operators one after another.
-use Rattle.std.proofs.Common.{◌≡◌, ◌↔◌, ◌<◌, ◌≤◌, ◌+◌, ◌^◌, ℕ, zero, suc, List, [], ◌∷◌, ◌++◌, map, length, slice_get, Bool, true, false, true≢false, cond, ◌==◌, ◌&&◌, Option, Some, None, is_some, Less, Equal, Ordering, inl, inr, refl, sym, ap, ◌∙◌, subst, arith, eqb-true}
+use Rattle.std.proofs.Common.{◌≡◌, ◌↔◌, ◌<◌, ◌≤◌, ◌+◌, ℕ, zero, suc, List, [], ◌∷◌, ◌++◌, map, length, slice_get, Bool, true, false, true≢false, cond, ◌==◌, ◌&&◌, Option, Some, None, is_some, Less, Equal, Ordering, inl, inr, refl, sym, ap, ◌∙◌, subst, arith, eqb-true}
 use Rattle.std.proofs.lemmas.Bool.{eq-eqb}
 use Rattle.std.specs.Cmp.{nat_cmp_is}
 use Rattle.std.specs.List.{list_all}
@@ -164,10 +164,10 @@ step-fits p w a h =
     let k = step-found p w o.0 a.op o.1 (λ q. None) a.args h in
     got-mapped (λ x. length x.params) p.operators a.op o.0 o.1 ∙ ap (λ (n : ℕ). Some n) (sym k.completes.arity)
 
-pub actions-all : (p : PlainProblem) (w : World) (k : ℕ) (found : List Action) → k ≤ 2 ^ 32 → ((a : Action) → a.op < 2 ^ 32 → a.op < length p.operators → a.op < k) → ActionsSoFar p w k found → AreActions p w found
-actions-all p w k found below all h a = (
-  λ m. let b = (h.all a).0 m in let l = b.0 in (omega arith, b.1),
-  λ s. (h.all a).1 (all a s.0 (step-below p w a s.1), s.1),
+pub actions-all : (p : PlainProblem) (w : World) (k : ℕ) (found : List Action) → length p.operators ≤ k → ActionsSoFar p w k found → AreActions p w found
+actions-all p w k found all h a = (
+  λ m. ((h.all a).0 m).1,
+  λ s. let l = step-below p w a s in (h.all a).1 (omega arith, s),
 )
 
 pub actions-fit : (p : PlainProblem) (w : World) (k : ℕ) (found : List Action) → ActionsSoFar p w k found → Each (HasOperator p) found

@@ -1,8 +1,8 @@
 -- A bound of an operator with its new variables.
 use Rattle.std.proofs.Common.{◌≡◌, ◌↔◌, ◌⊎◌, ◌<◌, ◌≤◌, ◌+◌, ℕ, List, [], ◌∷◌, ◌++◌, filter, take, drop, length, get_or, Bool, true, false, cond, ◌&&◌, not, refl, sym, ap, ◌∙◌, subst}
 use Rattle.tl_action.specs.declared.fault.ActFault.{ActFault}
-use Rattle.tl_action.specs.declared.join.Plan.{Plan}
-use Rattle.tl_action.specs.Join.{stands_in_one, is_new, Known, IsPlan, IsFound, IsRowFault}
+use Rattle.tl_action.specs.declared.join.JoinOrder.{JoinOrder}
+use Rattle.tl_action.specs.Join.{stands_in_one, is_new, Known, IsJoinOrder, IsFound, IsRowFault}
 use Rattle.tl_action.proofs.Completions.{known-before, known-kept}
 use Rattle.tl_action.proofs.NewVariables.{level-is}
 use Rattle.tl_action.proofs.Operators.{counted-differ, counted-slots}
@@ -56,8 +56,8 @@ new-occur seen b (s ∷ ss) = (elim (is_new seen b s) as (λ x. is_new seen b s 
   | false ↦ λ q. new-occur seen b ss
 ]) refl
 
-pub node-at : (g : Signature) (n : ℕ) (o : Operator) (plan : Plan) (j : ℕ) (b : Bound) (vars : List Var) → AreFew g.predicates → AreFew g.functions → OperatorKeeps g n o → IsPlan o plan → j < length o.bounds → b ≡ get_or o.bounds j b → vars ≡ get_or plan.levels.items j vars → Node g o j b vars
-node-at g n o plan j b vars fp ff keeps h k q r =
+pub node-at : (g : Signature) (n : ℕ) (o : Operator) (order : JoinOrder) (j : ℕ) (b : Bound) (vars : List Var) → AreFew g.predicates → AreFew g.functions → OperatorKeeps g n o → IsJoinOrder o order → j < length o.bounds → b ≡ get_or o.bounds j b → vars ≡ get_or order.levels.items j vars → Node g o j b vars
+node-at g n o order j b vars fp ff keeps h k q r =
     let new = filter (is_new (take j o.bounds) b) o.params in
     let is : vars ≡ new =
     r ∙ (ap (λ (ls : List (List Var)). get_or ls j vars) h.levels

@@ -18,3 +18,5 @@ pub mod JoinNodes
 pub mod SortedRows
 pub mod ActionLists
 pub mod NamedActions
+pub mod NextNamed
+pub mod NoValue

@@ -1,19 +1,15 @@
 -- The values of actions are those of worlds.
 use Rattle.std.proofs.Common.{◌≡◌, ℕ, zero, suc, List, [], ◌∷◌, map, length, slice_get, true, false, true≢false, ◌==◌, ◌||◌, Some, None, is_some, IsTrue, refl, sym, ap, ◌∙◌, subst, eqb-true}
 use Rattle.std.specs.List.{list_any}
-use Rattle.std.specs.FinSet as set
-use Rattle.std.specs.FinMap as dict
 use Rattle.tl_action.specs.Join.{given, variables, IsFound}
-use Rattle.tl_action.specs.NamedWorlds.{WorldIsNamed, ActionIsNamed}
+use Rattle.tl_action.specs.Actions.{ArgumentsAreNamed}
 use Rattle.tl_action.proofs.ActionLists.{ActionsSoFar, step-operator, step-found}
 use Rattle.tl_action.proofs.Operators.{counted-differ}
 use Rattle.tl_action.proofs.Rows.{values-of-row, prepend-parts}
 use Rattle.tl_syntax.specs.declared.action.Action.{Action}
 use Rattle.tl_syntax.specs.declared.bound.Bound.{Bound}
 use Rattle.tl_syntax.specs.declared.bound.Bound.TheVariants as bound
-use Rattle.tl_syntax.specs.declared.fact.Fact.{Fact}
 use Rattle.tl_syntax.specs.declared.operator.Operator.{Operator}
-use Rattle.tl_syntax.specs.declared.place_value.PlaceValue.{PlaceValue}
 use Rattle.tl_syntax.specs.declared.problem.Problem.{Problem}
 use Rattle.tl_syntax.specs.declared.value.Value.{Value}
 use Rattle.tl_syntax.specs.declared.variable.Arg.{Arg}
@@ -21,42 +17,22 @@ use Rattle.tl_syntax.specs.declared.variable.Arg.TheVariants as arg
 use Rattle.tl_syntax.specs.declared.variable.Var.{Var}
 use Rattle.tl_syntax.specs.Assignment.{Assignment, no_values}
 use Rattle.tl_syntax.specs.BoundVariables.{is_variable, stands_in}
-use Rattle.tl_syntax.specs.Kept.{OperatorKeeps, FactKeeps, PlaceKeeps}
-use Rattle.tl_syntax.specs.Keys.{Key, key_cmp, fact_key, place_entry}
-use Rattle.tl_syntax.specs.Lists.{Each, Among}
+use Rattle.tl_syntax.specs.Kept.{OperatorKeeps}
+use Rattle.tl_syntax.specs.Lists.{Each}
 use Rattle.tl_syntax.specs.Named.{ValueIsNamed}
-use Rattle.tl_syntax.specs.Signature.{Signature, signature_of}
-use Rattle.tl_syntax.specs.TotalOrders.{key_total}
-use Rattle.tl_syntax.proofs.ListLaws.{One-over, one_out, One-certain, Each-Among}
+use Rattle.tl_syntax.specs.Signature.{signature_of}
+use Rattle.tl_syntax.proofs.ListLaws.{one_out, One-certain, Each-Among}
 use Rattle.tl_terms.specs.Bounds.{arg_value, arg_values, fact_in, same_value, bound_true}
 use Rattle.tl_terms.specs.Definitions.{situation_of}
+use Rattle.tl_terms.specs.NamedWorlds.{WorldIsNamed}
 use Rattle.tl_terms.specs.Problem.{PlainOperator}
-use Rattle.tl_terms.specs.ProblemMeaning.{world_of, plain_operator, plain_problem}
+use Rattle.tl_terms.specs.ProblemMeaning.{plain_operator, plain_problem}
 use Rattle.tl_terms.specs.Situation.{Situation}
 use Rattle.tl_terms.specs.Step.{step}
 use Rattle.tl_terms.specs.Terms.{prepend, place_value, term_values}
 use Rattle.tl_terms.specs.World.{World, value_at}
-use Rattle.tl_terms.proofs.KeyLaws.{key-among, value-is, entry_of}
-
--- ---- worlds of lists
-
-listed : (ks : List Key) (q : Key) → set.contains (set.from_list {R = key_cmp} ks) q ≡ true → Among q ks
-listed ks q h = (key-among q ks).1 (sym (set.contains-from_list key_total ks q) ∙ h)
-
-placed : (es : List (Key × Value)) (q : Key) (v : Value) → dict.get (dict.from_entries {R = key_cmp} es) q ≡ Some v → Among (q, v) es
-placed es q v h = entry_of es q v (sym (dict.get-from_entries key_total es q) ∙ h)
-
-world-named : (g : Signature) (n : ℕ) (facts : List Fact) (places : List PlaceValue) → Each (FactKeeps g n) facts → Each (PlaceKeeps g n) places → WorldIsNamed n (world_of facts places)
-unfolding world_of
-world-named g n facts places f p = record {
-  facts = λ k h.
-      let x = one_out (λ (y : Fact). fact_key y ≡ k) facts ((One-over (λ z. z ≡ k) fact_key facts).0 (listed (map fact_key facts) k h)) in
-      subst (Each (ValueIsNamed n)) (ap (λ (y : Key). y.1) x.1.1) ((Each-Among (FactKeeps g n) facts).0 f x.0 x.1.0).named;
-  places = λ k v h.
-      let x = one_out (λ (y : PlaceValue). place_entry y ≡ (k, v)) places ((One-over (λ z. z ≡ (k, v)) place_entry places).0 (placed (map place_entry places) k v h)) in
-      let keeps = (Each-Among (PlaceKeeps g n) places).0 p x.0 x.1.0 in
-      (subst (Each (ValueIsNamed n)) (ap (λ (y : Key × Value). y.0.1) x.1.1) keeps.named, subst (ValueIsNamed n) (ap (λ (y : Key × Value). y.1) x.1.1) keeps.value);
-}
+use Rattle.tl_terms.proofs.KeyLaws.{value-is}
+use Rattle.tl_terms.proofs.NamedWorlds.{goal-named, avoid-named}
 
 -- ---- variables of a true bound
 
@@ -127,17 +103,9 @@ module _ (problem : Problem) (w : World) (named : WorldIsNamed (length problem.n
   abbrev count : ℕ
   count = length problem.names
 
-  goal-named : WorldIsNamed count (plain_problem problem).goal
-  unfolding plain_problem
-  goal-named = world-named (signature_of problem.domain) count problem.goal_facts problem.goal_values problem.goal_facts_keep problem.goal_values_keep
-
-  avoid-named : WorldIsNamed count (plain_problem problem).avoid
-  unfolding plain_problem
-  avoid-named = world-named (signature_of problem.domain) count problem.goal_nots [] problem.goal_nots_keep tt
-
   holds-named : (e : Assignment) (b : Bound) (s : Var) → bound_true (situation_of (plain_problem problem) w) e b ≡ true → stands_in s b ≡ true → Has count e s
   unfolding situation_of
-  holds-named e b s t k = bound-named count (situation_of (plain_problem problem) w) e b s named goal-named avoid-named t k
+  holds-named e b s t k = bound-named count (situation_of (plain_problem problem) w) e b s named (goal-named problem) (avoid-named problem) t k
 
   found-named : (o : Operator) (d : Assignment) (t : List Value) → OperatorKeeps (signature_of problem.domain) count o → IsFound (plain_problem problem) w (plain_operator o) [] o.bounds d t → Each (ValueIsNamed count) t
   found-named o d t keeps h =
@@ -153,7 +121,7 @@ module _ (problem : Problem) (w : World) (named : WorldIsNamed (length problem.n
   operator-of (o ∷ os) zero x k q = (o, k.0, (let e : plain_operator o ≡ x = cc in e))
   operator-of (o ∷ os) (suc i) x k q = operator-of os i x k.1 q
 
-  action-named : (a : Action) → is_some (step (plain_problem problem) w a) ≡ true → ActionIsNamed count a
+  action-named : (a : Action) → is_some (step (plain_problem problem) w a) ≡ true → ArgumentsAreNamed count a
   unfolding plain_problem
   action-named a h =
       let there = step-operator (plain_problem problem) w a h in
@@ -161,5 +129,5 @@ module _ (problem : Problem) (w : World) (named : WorldIsNamed (length problem.n
       let found = step-found (plain_problem problem) w (plain_operator o.0) a.op (there.1 ∙ ap (λ (x : PlainOperator). Some x) (sym o.2)) no_values a.args h in
       found-named o.0 no_values a.args o.1 found
 
-  pub actions-named : (k : ℕ) (found : List Action) → ActionsSoFar (plain_problem problem) w k found → Each (ActionIsNamed count) found
-  actions-named k found h = (Each-Among (ActionIsNamed count) found).1 (λ a m. action-named a ((h.all a).0 m).1)
+  pub actions-named : (k : ℕ) (found : List Action) → ActionsSoFar (plain_problem problem) w k found → Each (ArgumentsAreNamed count) found
+  actions-named k found h = (Each-Among (ArgumentsAreNamed count) found).1 (λ a m. action-named a ((h.all a).0 m).1)

@@ -1,13 +1,15 @@
 -- The actions of a world, and why their list is not given.
-use Rattle.std.specs.Prelude.{◌↔◌, ◌<◌, ◌^◌, ℕ, List, length, map, IsTrue, is_some}
+use Rattle.std.specs.Prelude.{◌↔◌, ℕ, List, length, map, IsTrue, is_some}
 use Rattle.tl_action.specs.declared.fault.ActFault.{ActFault}
 use Rattle.tl_action.specs.declared.fault.ActFault.TheVariants as fault
 use Rattle.tl_eval.specs.Notes.{Tells}
 use Rattle.tl_syntax.specs.declared.action.Action.{Action}
 use Rattle.tl_syntax.specs.declared.value.Value.{Value}
-use Rattle.tl_syntax.specs.Lists.{Among}
+use Rattle.tl_syntax.specs.Lists.{Each, Among}
+use Rattle.tl_syntax.specs.Named.{ValueIsNamed}
 use Rattle.tl_syntax.specs.Signature.{Takes}
 use Rattle.tl_terms.specs.Looked.{looked_by_action}
+use Rattle.tl_terms.specs.NamedWorlds.{WorldIsNamed}
 use Rattle.tl_terms.specs.Problem.{PlainProblem}
 use Rattle.tl_terms.specs.Step.{step}
 use Rattle.tl_terms.specs.World.{World}
@@ -20,9 +22,17 @@ HasOperator p a = Takes (map (λ o. length o.params) p.operators) a.op (length a
 abbrev pub action_of : ℕ → List Value → Action
 action_of op t = record { op = op; args = t }
 
--- the list has exactly the actions that have a step in the world, of those that 32 bits name an operator for
+-- the list has exactly the actions that have a step in the world
 abbrev pub AreActions : PlainProblem → World → List Action → Type 0
-AreActions p w actions = (a : Action) → Among a actions ↔ ((a.op < 2 ^ 32) × IsTrue (is_some (step p w a)))
+AreActions p w actions = (a : Action) → Among a actions ↔ IsTrue (is_some (step p w a))
+
+-- the arguments are named
+abbrev pub ArgumentsAreNamed : ℕ → Action → Type 0
+ArgumentsAreNamed n a = Each (ValueIsNamed n) a.args
+
+-- where a world and the arguments of an action are named, so is the world after the action
+abbrev pub StaysNamed : ℕ → World → Action → World → Type 0
+StaysNamed n w a next = WorldIsNamed n w → ArgumentsAreNamed n a → WorldIsNamed n next
 
 -- the note is of an operation that some action looks at, and which is past range; want of memory has no cause
 abbrev pub IsCausedBySome : PlainProblem → World → ActFault → Type 0

@@ -3,7 +3,7 @@ use Rattle.std.specs.Prelude.{◌≡◌, ◌↔◌, ◌⊎◌, ◌&&◌, List, [
 use Rattle.std.specs.List.{list_any}
 use Rattle.tl_action.specs.declared.fault.ActFault.{ActFault}
 use Rattle.tl_action.specs.declared.fault.ActFault.TheVariants as fault
-use Rattle.tl_action.specs.declared.join.Plan.{Plan}
+use Rattle.tl_action.specs.declared.join.JoinOrder.{JoinOrder}
 use Rattle.tl_action.specs.Prepared.{is_prepared, looked_prepared}
 use Rattle.tl_eval.specs.Notes.{Tells}
 use Rattle.tl_syntax.specs.declared.bound.Bound.{Bound}
@@ -38,10 +38,10 @@ abbrev pub variables : List Var → TermTrees
 variables [] = no_term
 variables (s ∷ ss) = more_terms (variable s) (variables ss)
 
--- what is worked out once for an operator
-pub record IsPlan (o : Operator) (plan : Plan) : Type 0 where
-  pub levels : plan.levels.items ≡ new_from o.params [] o.bounds
-  pub terms : tree_of_terms plan.terms ≡ variables o.params
+-- the join order of an operator: the new parameters of each of its bounds, and all parameters as terms
+pub record IsJoinOrder (o : Operator) (order : JoinOrder) : Type 0 where
+  pub levels : order.levels.items ≡ new_from o.params [] o.bounds
+  pub terms : tree_of_terms order.terms ≡ variables o.params
 
 -- the two give the variables that stand in a bound of those seen the same values
 abbrev pub Known : List Bound → List Var → Assignment → Assignment → Type 0

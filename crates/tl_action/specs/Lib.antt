@@ -6,4 +6,3 @@ pub mod Prepared
 pub mod Join
 pub mod RowLists
 pub mod Actions
-pub mod NamedWorlds

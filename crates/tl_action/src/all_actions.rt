@@ -1,18 +1,18 @@
 // All actions that are executable in a world.
 ghost use Rattle.std.specs.Prelude.{◌≡◌, ◌++◌, [], length, map, IfOk, IfErr, OnOk};
-ghost use Rattle.tl_action.specs.Actions.{action_of, AreActions, HasOperator, IsCausedBySome};
+ghost use Rattle.tl_action.specs.Actions.{action_of, AreActions, ArgumentsAreNamed, HasOperator, IsCausedBySome};
 ghost use Rattle.tl_action.specs.Join.{IsRowFault};
-ghost use Rattle.tl_action.specs.NamedWorlds.{ActionIsNamed, WorldIsNamed};
 ghost use Rattle.tl_action.specs.RowLists.{IsRows, AreRowsOf};
 ghost use Rattle.tl_eval.specs.Frames.{assignment_in};
 ghost use Rattle.tl_syntax.specs.Kept.{OperatorKeeps};
 ghost use Rattle.tl_syntax.specs.Lists.{Each, Rises};
 ghost use Rattle.tl_syntax.specs.Signature.{signature_of};
+ghost use Rattle.tl_terms.specs.NamedWorlds.{WorldIsNamed};
 ghost use Rattle.tl_terms.specs.Orders.{action_cmp};
 ghost use Rattle.tl_terms.specs.ProblemMeaning.{plain_operator, plain_problem};
 
 use crate::ActFault;
-use crate::join::{Plan, join};
+use crate::join::{JoinOrder, join};
 use std::alloc::Global;
 use tl_eval::Env;
 use tl_syntax::{Action, Actions, NoMemory, Operator, Values};
@@ -39,9 +39,9 @@ fn rows_of(
     ensures rows { IfOk result (λ rows. AreRowsOf (plain_problem task.now.problem) w.now (plain_operator operator.now) (assignment_in env.old) rows.items) }
     ensures cause { IfErr result (IsRowFault (plain_problem task.now.problem) w.now (plain_operator operator.now) [] operator.now.bounds (assignment_in env.old)) }
 {
-    let plan = Plan::of(alloc, operator)?;
+    let order = JoinOrder::of(alloc, operator)?;
     let mut rows = Vec::new(alloc);
-    match join(alloc, task, w, env, operator, &plan, 0, &mut rows) {
+    match join(alloc, task, w, env, operator, &order, 0, &mut rows) {
         Ok(()) => Ok(in_order(rows)),
         Err(fault) => Err(fault),
     }
@@ -58,7 +58,6 @@ fn push_rows(op: u32, rows: Vec<Values>, found: &mut Actions) -> Result<(), NoMe
 }
 
 /// All actions that are executable in the world, each once, in action order: by operator in the domain's order, and then by the arguments from left to right in value order.
-/// Actions name operators by 32 bits, so those past that many, which no file has room for, have none.
 ///
 /// Each operator's bounds are joined in their order: see `join` for what that costs. Its rows come out in action order where the parameters first stand in the bounds in their own order, and are sorted once.
 /// A range fault tells an operation that one of the actions looks at. The frame is left with values of its own, as by `apply`.
@@ -66,15 +65,12 @@ pub fn actions(alloc: Global, task: &Task, w: &World, env: &mut Env) -> Result<A
     ensures actions { IfOk result (AreActions (plain_problem task.now.problem) w.now) }
     ensures order { IfOk result (Rises action_cmp) }
     ensures fit { IfOk result (Each (HasOperator (plain_problem task.now.problem))) }
-    ensures named { IfOk result (λ found. WorldIsNamed (length task.now.problem.names) w.now → Each (ActionIsNamed (length task.now.problem.names)) found) }
+    ensures named { IfOk result (λ found. WorldIsNamed (length task.now.problem.names) w.now → Each (ArgumentsAreNamed (length task.now.problem.names)) found) }
     ensures cause { IfErr result (IsCausedBySome (plain_problem task.now.problem) w.now) }
 {
     let operators = task.problem.domain.operators.as_slice();
     let mut found = Actions::new(alloc);
     for (op, operator) in operators.iter().enumerate() {
-        if op > u32::MAX as usize {
-            return Ok(found);
-        }
         match rows_of(alloc, task, w, env, operator) {
             Ok(rows) => push_rows(op as u32, rows, &mut found)?,
             Err(fault) => return Err(fault),

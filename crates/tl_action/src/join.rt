@@ -1,7 +1,7 @@
 // The rows of values with which an operator can be applied, by a join of its bounds.
 ghost use Rattle.std.specs.Prelude.{◌≡◌, ◌≤◌, [], drop, length, take, IfOk};
 ghost use Rattle.tl_action.specs.Agreement.{Agree};
-ghost use Rattle.tl_action.specs.Join.{new_from, variables, IsPlan, Joins, Known};
+ghost use Rattle.tl_action.specs.Join.{new_from, variables, IsJoinOrder, Joins, Known};
 ghost use Rattle.tl_eval.specs.Frames.{assignment_in};
 ghost use Rattle.tl_syntax.specs.FreeVariables.{slots_of};
 ghost use Rattle.tl_syntax.specs.Kept.{OperatorKeeps};
@@ -18,24 +18,24 @@ use tl_eval::Env;
 use tl_syntax::{NoMemory, Operator, Terms, Values, Vars};
 use tl_world::{Task, World};
 
-/// What is worked out once for an operator before its bounds are joined.
+/// The join order of an operator: which parameters each of its bounds, in their order, gives values. It is worked out once, before the bounds are joined.
 #[derive(Drop)]
-pub(crate) struct Plan {
+pub(crate) struct JoinOrder {
     /// For each bound the parameters that stand in it and in none before it.
     levels: Vec<Vars>,
     /// The parameters as terms.
     terms: Terms,
 }
 
-impl Plan {
-    /// The plan of an operator. It fails for want of memory alone.
-    pub(crate) fn of(alloc: Global, operator: &Operator) -> Result<Plan, NoMemory>
-        ensures { IfOk result (IsPlan operator.now) }
+impl JoinOrder {
+    /// The join order of an operator. It fails for want of memory alone.
+    pub(crate) fn of(alloc: Global, operator: &Operator) -> Result<JoinOrder, NoMemory>
+        ensures { IfOk result (IsJoinOrder operator.now) }
     {
         let params = operator.params.as_slice();
         let levels = levels_of(alloc, params, operator.bounds.as_slice())?;
         let terms = terms_of(alloc, params)?;
-        Ok(Plan { levels, terms })
+        Ok(JoinOrder { levels, terms })
     }
 }
 
@@ -46,15 +46,15 @@ fn find_row(
     w: &World,
     env: &mut Env,
     operator: &Operator,
-    plan: &Plan,
+    order: &JoinOrder,
     rows: &mut Vec<Values>,
 ) -> Result<(), ActFault>
     requires keeps { OperatorKeeps (signature_of task.now.problem.domain) (length task.now.problem.names) operator.now }
-    requires plan { IsPlan operator.now plan.now }
+    requires order { IsJoinOrder operator.now order.now }
     ensures rows { Joins (plain_problem task.now.problem) w.now (plain_operator operator.now) operator.now.bounds [] (assignment_in env.old) rows.old.items rows.new.items result }
     ensures frame { Agree (slots_of operator.now.params) (assignment_in env.new) (assignment_in env.old) }
 {
-    match values_of(alloc, task, w, env, &plan.terms) {
+    match values_of(alloc, task, w, env, &order.terms) {
         Ok(Some(row)) => match prepared(alloc, task, w, env, operator) {
             Ok(Some(_)) => {
                 rows.push(row)?;
@@ -79,26 +79,26 @@ pub(crate) fn join(
     w: &World,
     env: &mut Env,
     operator: &Operator,
-    plan: &Plan,
+    order: &JoinOrder,
     j: usize,
     rows: &mut Vec<Values>,
 ) -> Result<(), ActFault>
     requires keeps { OperatorKeeps (signature_of task.now.problem.domain) (length task.now.problem.names) operator.now }
-    requires plan { IsPlan operator.now plan.now }
+    requires order { IsJoinOrder operator.now order.now }
     requires within { j ≤ length operator.now.bounds }
     ensures rows { Joins (plain_problem task.now.problem) w.now (plain_operator operator.now) (take j operator.now.bounds) (drop j operator.now.bounds) (assignment_in env.old) rows.old.items rows.new.items result }
     ensures frame { Known (take j operator.now.bounds) operator.now.params (assignment_in env.new) (assignment_in env.old) }
 {
     let bounds = operator.bounds.as_slice();
     if j == bounds.len() {
-        return find_row(alloc, task, w, env, operator, plan, rows);
+        return find_row(alloc, task, w, env, operator, order, rows);
     }
-    let levels = plan.levels.as_slice();
+    let levels = order.levels.as_slice();
     let vars = &levels[j];
     let tuples = tuples_in(alloc, task, w, env, vars, &bounds[j])?;
     for tuple in tuples.as_slice() {
         env.put_values(vars.as_slice(), tuple.counted_values());
-        match join(alloc, task, w, env, operator, plan, j + 1, rows) {
+        match join(alloc, task, w, env, operator, order, j + 1, rows) {
             Ok(()) => {}
             Err(fault) => return Err(fault),
         }

@@ -1,4 +1,4 @@
-// What is worked out once for an operator before its bounds are joined.
+// The parts of a join order.
 ghost use Rattle.std.specs.Prelude.{◌≡◌, filter, IfOk, []};
 ghost use Rattle.tl_action.specs.Join.{is_new, new_from, stands_in_one, variables};
 ghost use Rattle.tl_syntax.specs.BoundVariables.{is_variable, stands_in};

@@ -7,7 +7,7 @@
 //! - `clash`: whether places that are set agree with each other.
 //! - `collect`: the changes that effects make.
 //! - `join`: the rows of values with which an operator can be applied.
-//! - `levels`: what is worked out once for an operator before its bounds are joined.
+//! - `levels`: the parts of a join order.
 //! - `prepared`: what an operator whose bounds are true changes.
 //! - `tuples`: all tuples of a bound, and whether bounds are true.
 //! - `values`: the values of the terms of an effect.

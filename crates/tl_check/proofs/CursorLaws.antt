@@ -12,7 +12,9 @@ use Rattle.tl_check.specs.Passes.{joins}
 use Rattle.tl_check.specs.declared.cursor.Cursor.{Cursor}
 use Rattle.tl_check.specs.declared.found.Found.{Found}
 use Rattle.tl_eval.proofs.TupleRest.{rest_after, all-after-none, rest-none, rest-some}
-use Rattle.tl_eval.specs.StateTruth.{quantified}
+use Rattle.tl_syntax.specs.declared.junction.Junction.{Junction}
+use Rattle.tl_syntax.specs.declared.junction.Junction.TheVariants.{All, Any}
+use Rattle.tl_syntax.specs.Junctions.{deciding_truth, quantified}
 use Rattle.tl_syntax.specs.declared.bound.Bound.{Bound}
 use Rattle.tl_syntax.specs.declared.value.Value.{Value}
 use Rattle.tl_syntax.specs.declared.variable.Var.{Var}
@@ -32,35 +34,35 @@ use Rattle.tl_world.specs.declared.pattern.Match.{Match}
 
 -- ---- truths together
 
-pub joins-idle : (stop b : Bool) → joins stop (not stop) b ≡ b
-joins-idle true b = refl
-joins-idle false b = refl
+pub joins-idle : (junction : Junction) (b : Bool) → joins junction (not (deciding_truth junction)) b ≡ b
+joins-idle Any b = refl
+joins-idle All b = refl
 
-pub joins-idle_right : (stop b : Bool) → joins stop b (not stop) ≡ b
-joins-idle_right true true = refl
-joins-idle_right true false = refl
-joins-idle_right false true = refl
-joins-idle_right false false = refl
+pub joins-idle_right : (junction : Junction) (b : Bool) → joins junction b (not (deciding_truth junction)) ≡ b
+joins-idle_right Any true = refl
+joins-idle_right Any false = refl
+joins-idle_right All true = refl
+joins-idle_right All false = refl
 
-pub joins-assoc : (stop a b c : Bool) → joins stop a (joins stop b c) ≡ joins stop (joins stop a b) c
-joins-assoc true true b c = refl
-joins-assoc true false b c = refl
-joins-assoc false true b c = refl
-joins-assoc false false b c = refl
+pub joins-assoc : (junction : Junction) (a b c : Bool) → joins junction a (joins junction b c) ≡ joins junction (joins junction a b) c
+joins-assoc Any true b c = refl
+joins-assoc Any false b c = refl
+joins-assoc All true b c = refl
+joins-assoc All false b c = refl
 
-any-joined : {A : Type 0} (truth : A → Bool) (xs : List A) → list_any truth xs ≡ joined_truths true truth xs
+any-joined : {A : Type 0} (truth : A → Bool) (xs : List A) → list_any truth xs ≡ joined_truths Any truth xs
 any-joined truth [] = refl
 any-joined truth (x ∷ xs) = ap (λ (b : Bool). truth x || b) (any-joined truth xs)
 
-all-joined : {A : Type 0} (truth : A → Bool) (xs : List A) → list_all truth xs ≡ joined_truths false truth xs
+all-joined : {A : Type 0} (truth : A → Bool) (xs : List A) → list_all truth xs ≡ joined_truths All truth xs
 all-joined truth [] = refl
 all-joined truth (x ∷ xs) = ap (λ (b : Bool). truth x && b) (all-joined truth xs)
 
-quantified-joined : (p : PlainProblem) (e : Assignment) (stop : Bool) (ss : List Var) (b : Bound) (f : FormulaTree) (w : World) (ws : List World)
-    → true_ahead p e (quantified stop ss b f) (w ∷ ws) ≡ joined_truths stop (λ t. true_ahead p (bind ss t e) f (w ∷ ws)) (tuples (situation_of p w) e ss b)
+quantified-joined : (p : PlainProblem) (e : Assignment) (junction : Junction) (ss : List Var) (b : Bound) (f : FormulaTree) (w : World) (ws : List World)
+    → true_ahead p e (quantified junction ss b f) (w ∷ ws) ≡ joined_truths junction (λ t. true_ahead p (bind ss t e) f (w ∷ ws)) (tuples (situation_of p w) e ss b)
 unfolding true_ahead
-quantified-joined p e true ss b f w ws = any-joined (λ t. true_ahead p (bind ss t e) f (w ∷ ws)) (tuples (situation_of p w) e ss b)
-quantified-joined p e false ss b f w ws = all-joined (λ t. true_ahead p (bind ss t e) f (w ∷ ws)) (tuples (situation_of p w) e ss b)
+quantified-joined p e Any ss b f w ws = any-joined (λ t. true_ahead p (bind ss t e) f (w ∷ ws)) (tuples (situation_of p w) e ss b)
+quantified-joined p e All ss b f w ws = all-joined (λ t. true_ahead p (bind ss t e) f (w ∷ ws)) (tuples (situation_of p w) e ss b)
 
 -- ---- one cursor
 
@@ -76,13 +78,13 @@ module _ (s : Situation) (e : Assignment) (ss : List Var) (b : Bound) (d : Diffe
 
 module _ (p : PlainProblem) (e : Assignment) (q : Quantifier) (d : DifferInSlot q.vars) (o : OccurIn q.vars q.bound) (w : World) (ws : List World) where
   -- the cursor before the first instance
-  pub at-begun : (c : Cursor) → c.truth ≡ not q.stop → IfSome c.next (λ m. m.len ≡ length q.vars) → IsNext (length q.vars) (λ t. bound_true (situation_of p w) (bind q.vars t e) q.bound) None (option_map tuple_of c.next)
+  pub at-begun : (c : Cursor) → c.truth ≡ not (deciding_truth q.junction) → IfSome c.next (λ m. m.len ≡ length q.vars) → IsNext (length q.vars) (λ t. bound_true (situation_of p w) (bind q.vars t e) q.bound) None (option_map tuple_of c.next)
       → IsAt p e q (w ∷ ws) c
   at-begun c first count next = record {
-    truth = quantified-joined p e q.stop q.vars q.bound q.part w ws
-        ∙ (ap (joined_truths q.stop (λ t. true_ahead p (bind q.vars t e) q.part (w ∷ ws))) (all-after-none (tuples (situation_of p w) e q.vars q.bound) ∙ rest-is (situation_of p w) e q.vars q.bound d o None (option_map tuple_of c.next) next)
-        ∙ (sym (joins-idle q.stop (joined_truths q.stop (λ t. true_ahead p (bind q.vars t e) q.part (w ∷ ws)) (left_at p e q.vars q.bound (w ∷ ws) c)))
-        ∙ ap (λ (b : Bool). joins q.stop b (joined_truths q.stop (λ t. true_ahead p (bind q.vars t e) q.part (w ∷ ws)) (left_at p e q.vars q.bound (w ∷ ws) c))) (sym first)));
+    truth = quantified-joined p e q.junction q.vars q.bound q.part w ws
+        ∙ (ap (joined_truths q.junction (λ t. true_ahead p (bind q.vars t e) q.part (w ∷ ws))) (all-after-none (tuples (situation_of p w) e q.vars q.bound) ∙ rest-is (situation_of p w) e q.vars q.bound d o None (option_map tuple_of c.next) next)
+        ∙ (sym (joins-idle q.junction (joined_truths q.junction (λ t. true_ahead p (bind q.vars t e) q.part (w ∷ ws)) (left_at p e q.vars q.bound (w ∷ ws) c)))
+        ∙ ap (λ (b : Bool). joins q.junction b (joined_truths q.junction (λ t. true_ahead p (bind q.vars t e) q.part (w ∷ ws)) (left_at p e q.vars q.bound (w ∷ ws) c))) (sym first)));
     count = count;
     among = next-among (situation_of p w) e q.vars q.bound d o None c.next next;
   }
@@ -93,15 +95,15 @@ module _ (p : PlainProblem) (e : Assignment) (q : Quantifier) (d : DifferInSlot 
     left-is = ap (λ (x : Option (List Value)). from_tuple x (tuples (situation_of p w) e q.vars q.bound)) is
         ∙ ap (λ (ts : List (List Value)). t ∷ ts) (rest-is (situation_of p w) e q.vars q.bound d o (Some t) (option_map tuple_of n.next) next)
 
-    pub at-moved : n.truth ≡ joins q.stop c.truth label → IfSome n.next (λ m. m.len ≡ length q.vars) → label ≡ true_ahead p (bind q.vars t e) q.part (w ∷ ws) → IsAt p e q (w ∷ ws) c → IsAt p e q (w ∷ ws) n
+    pub at-moved : n.truth ≡ joins q.junction c.truth label → IfSome n.next (λ m. m.len ≡ length q.vars) → label ≡ true_ahead p (bind q.vars t e) q.part (w ∷ ws) → IsAt p e q (w ∷ ws) c → IsAt p e q (w ∷ ws) n
     at-moved joined count told at =
         let truth : List Value → Bool = λ u. true_ahead p (bind q.vars u e) q.part (w ∷ ws) in
-        let rest : Bool = joined_truths q.stop truth (left_at p e q.vars q.bound (w ∷ ws) n) in
+        let rest : Bool = joined_truths q.junction truth (left_at p e q.vars q.bound (w ∷ ws) n) in
         record {
           truth = at.truth
-              ∙ (ap (λ (ts : List (List Value)). joins q.stop c.truth (joined_truths q.stop truth ts)) left-is
-              ∙ (ap (λ (b : Bool). joins q.stop c.truth (joins q.stop b rest)) (sym told)
-              ∙ (joins-assoc q.stop c.truth label rest ∙ ap (λ (b : Bool). joins q.stop b rest) (sym joined))));
+              ∙ (ap (λ (ts : List (List Value)). joins q.junction c.truth (joined_truths q.junction truth ts)) left-is
+              ∙ (ap (λ (b : Bool). joins q.junction c.truth (joins q.junction b rest)) (sym told)
+              ∙ (joins-assoc q.junction c.truth label rest ∙ ap (λ (b : Bool). joins q.junction b rest) (sym joined))));
           count = count;
           among = next-among (situation_of p w) e q.vars q.bound d o (Some t) n.next next;
         }
@@ -158,7 +160,7 @@ module _ (p : PlainProblem) (e : Assignment) (q : Quantifier) where
   at-size (c ∷ cs) (w ∷ ws) a = ap suc (at-size cs ws a.1)
 
   -- the truths where no tuple is left
-  pub at-end : (cs : List Cursor) (ws : List World) → AreAt p e q cs ws → Each (λ c. c.next ≡ None) cs → map (λ c. c.truth) cs ≡ marks (true_ahead p e (quantified q.stop q.vars q.bound q.part)) ws
+  pub at-end : (cs : List Cursor) (ws : List World) → AreAt p e q cs ws → Each (λ c. c.next ≡ None) cs → map (λ c. c.truth) cs ≡ marks (true_ahead p e (quantified q.junction q.vars q.bound q.part)) ws
   at-end [] [] a h = refl
   at-end [] (w ∷ ws) a h = absurd a
   at-end (c ∷ cs) [] a h = absurd a
@@ -166,8 +168,8 @@ module _ (p : PlainProblem) (e : Assignment) (q : Quantifier) where
       let truth : List Value → Bool = λ u. true_ahead p (bind q.vars u e) q.part (w ∷ ws) in
       ap₂ (λ (b : Bool) (bs : List Bool). b ∷ bs)
       (sym (a.0.truth
-      ∙ (ap (λ (o : Option Match). joins q.stop c.truth (joined_truths q.stop truth (from_tuple (option_map tuple_of o) (tuples_ahead p e q.vars q.bound (w ∷ ws))))) h.0
-      ∙ joins-idle_right q.stop c.truth)))
+      ∙ (ap (λ (o : Option Match). joins q.junction c.truth (joined_truths q.junction truth (from_tuple (option_map tuple_of o) (tuples_ahead p e q.vars q.bound (w ∷ ws))))) h.0
+      ∙ joins-idle_right q.junction c.truth)))
       (at-end cs ws a.1 h.1)
 
   -- the tuple that was found makes the bound true where it was found

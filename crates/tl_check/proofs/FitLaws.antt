@@ -2,7 +2,9 @@
 use Rattle.std.proofs.Common.{◌≡◌, ◌≤◌, ◌<◌, ℕ, zero, suc, List, [], ◌∷◌, ◌++◌, map, length, get_or, Bool, true, false, ◌||◌, ◌==◌, refl, sym, ap, ◌∙◌, subst, arith}
 use Rattle.tl_eval.proofs.ArityLaws.{declared-few}
 use Rattle.tl_eval.proofs.PatternLaws.{few-variables, bound-few}
-use Rattle.tl_eval.specs.StateTruth.{joined, quantified}
+use Rattle.tl_syntax.specs.declared.junction.Junction.{Junction}
+use Rattle.tl_syntax.specs.declared.junction.Junction.TheVariants.{All, Any}
+use Rattle.tl_syntax.specs.Junctions.{joined, quantified}
 use Rattle.tl_syntax.proofs.FormulaTrees.{trees-Formulas}
 use Rattle.tl_syntax.specs.declared.bound.Bound.{Bound}
 use Rattle.tl_syntax.specs.declared.formula.Formula.{Formula}
@@ -73,13 +75,13 @@ pub record Parts (g : Signature) (ss : List Var) (b : Bound) (f : FormulaTree) :
   pub in_frame : Each (λ s. s.slot < 32) ss
   pub body : Fits g [] f
 
-pub quantified-parts : (q : Problem) (stop : Bool) (ss : List Var) (b : Bound) (f : FormulaTree) → Fits (signature_of q.domain) [] (quantified stop ss b f) → Parts (signature_of q.domain) ss b f
+pub quantified-parts : (q : Problem) (junction : Junction) (ss : List Var) (b : Bound) (f : FormulaTree) → Fits (signature_of q.domain) [] (quantified junction ss b f) → Parts (signature_of q.domain) ss b f
 unfolding Fits
-quantified-parts q stop ss b f h = by (parts stop h)
+quantified-parts q junction ss b f h = by (parts junction h)
   where
-    parts : (stop : Bool) → Fits (signature_of q.domain) [] (quantified stop ss b f) → VariablesFit (signature_of q.domain) [] ss b × Fits (signature_of q.domain) (slots_of ss ++ []) f
-    parts true k = k
-    parts false k = k
+    parts : (junction : Junction) → Fits (signature_of q.domain) [] (quantified junction ss b f) → VariablesFit (signature_of q.domain) [] ss b × Fits (signature_of q.domain) (slots_of ss ++ []) f
+    parts Any k = k
+    parts All k = k
 
     by : VariablesFit (signature_of q.domain) [] ss b × Fits (signature_of q.domain) (slots_of ss ++ []) f → Parts (signature_of q.domain) ss b f
     by k = record {
@@ -92,13 +94,13 @@ quantified-parts q stop ss b f h = by (parts stop h)
     }
 
 -- a part of a conjunction or disjunction
-pub item-fits : (g : Signature) (stop : Bool) (fs : Formulas) (xs : List Formula) (i : ℕ) (x : Formula) → xs ≡ fs.items.items → i < length xs → x ≡ get_or xs i x → Fits g [] (joined stop (tree_of_formulas fs)) → Fits g [] (tree_of_formula x)
+pub item-fits : (g : Signature) (junction : Junction) (fs : Formulas) (xs : List Formula) (i : ℕ) (x : Formula) → xs ≡ fs.items.items → i < length xs → x ≡ get_or xs i x → Fits g [] (joined junction (tree_of_formulas fs)) → Fits g [] (tree_of_formula x)
 unfolding Fits
-item-fits g stop fs xs i x q h r k = by xs i h r (subst (AllFit g []) (trees-Formulas fs ∙ ap (λ (ys : List Formula). formulas_of_list (map tree_of_formula ys)) (sym q)) (all stop k))
+item-fits g junction fs xs i x q h r k = by xs i h r (subst (AllFit g []) (trees-Formulas fs ∙ ap (λ (ys : List Formula). formulas_of_list (map tree_of_formula ys)) (sym q)) (all junction k))
   where
-    all : (stop : Bool) → Fits g [] (joined stop (tree_of_formulas fs)) → AllFit g [] (tree_of_formulas fs)
-    all true m = m
-    all false m = m
+    all : (junction : Junction) → Fits g [] (joined junction (tree_of_formulas fs)) → AllFit g [] (tree_of_formulas fs)
+    all Any m = m
+    all All m = m
 
     by : (ys : List Formula) (j : ℕ) → j < length ys → x ≡ get_or ys j x → AllFit g [] (formulas_of_list (map tree_of_formula ys)) → Fits g [] (tree_of_formula x)
     by [] j l s m = absurd (omega arith)

@@ -15,7 +15,9 @@ use Rattle.tl_check.specs.declared.fault.CheckFault.{CheckFault}
 use Rattle.tl_check.specs.declared.fault.CheckFault.TheVariants as fault
 use Rattle.tl_check.specs.declared.found.Found.{Found}
 use Rattle.tl_eval.specs.Notes.{operation_of}
-use Rattle.tl_eval.specs.StateTruth.{joined, quantified}
+use Rattle.tl_syntax.specs.declared.junction.Junction.{Junction}
+use Rattle.tl_syntax.specs.declared.junction.Junction.TheVariants.{All, Any}
+use Rattle.tl_syntax.specs.Junctions.{joined, quantified}
 use Rattle.tl_syntax.proofs.FormulaTrees.{tree-True, tree-False, tree-Atom, tree-Defined, tree-Compare, tree-GoalFact, tree-GoalPlace, tree-GoalNot, tree-Not, tree-And, tree-Or, tree-ForAll, tree-Exists, tree-Next, tree-Always, tree-Eventually, tree-Until, tree-Within, tree-During, trees-Formulas}
 use Rattle.tl_syntax.specs.declared.bound.Bound.{Bound}
 use Rattle.tl_syntax.specs.declared.formula.Formula.{Formula}
@@ -176,18 +178,18 @@ two-Until f g h x y q r s =
 
 -- ---- conjunctions and disjunctions
 
-pub record AllParts (f : Formula) (stop : Bool) (fs : Formulas) : Type 0 where
-  pub tree : tree_of_formula f ≡ joined stop (tree_of_formulas fs)
+pub record AllParts (f : Formula) (junction : Junction) (fs : Formulas) : Type 0 where
+  pub tree : tree_of_formula f ≡ joined junction (tree_of_formulas fs)
   pub smaller : sizes (tree_of_formulas fs) < size (tree_of_formula f)
 
-pub all-And : (f : Formula) (fs : Formulas) → f ≡ formula.And fs → AllParts f false fs
+pub all-And : (f : Formula) (fs : Formulas) → f ≡ formula.And fs → AllParts f All fs
 unfolding size
 all-And f fs q =
     let tree : tree_of_formula f ≡ conjunction (tree_of_formulas fs) = ap tree_of_formula q ∙ tree-And fs in
     let total : size (tree_of_formula f) ≡ 1 + sizes (tree_of_formulas fs) = ap size tree in
     record { tree = tree; smaller = omega arith }
 
-pub all-Or : (f : Formula) (fs : Formulas) → f ≡ formula.Or fs → AllParts f true fs
+pub all-Or : (f : Formula) (fs : Formulas) → f ≡ formula.Or fs → AllParts f Any fs
 unfolding size
 all-Or f fs q =
     let tree : tree_of_formula f ≡ disjunction (tree_of_formulas fs) = ap tree_of_formula q ∙ tree-Or fs in
@@ -199,28 +201,28 @@ among-items [] i x h r = absurd (omega arith)
 among-items (y ∷ xs) zero x h r = inl (ap tree_of_formula (sym r))
 among-items (y ∷ xs) (suc i) x h r = inr (among-items xs i x (omega arith) r)
 
-pub item-noted : (p : PlainProblem) (ws : List World) (from : ℕ) (e d : Assignment) (stop : Bool) (fs : Formulas) (xs : List Formula) (i : ℕ) (x : Formula) → xs ≡ fs.items.items → i < length xs → x ≡ get_or xs i x → d ≡ e
-    → (y : CheckFault) → AreLabels p ws from d (tree_of_formula x) (Err y) → AreLabels p ws from e (joined stop (tree_of_formulas fs)) (Err y)
-item-noted p ws from e d stop fs xs i x q h r s y k =
+pub item-noted : (p : PlainProblem) (ws : List World) (from : ℕ) (e d : Assignment) (junction : Junction) (fs : Formulas) (xs : List Formula) (i : ℕ) (x : Formula) → xs ≡ fs.items.items → i < length xs → x ≡ get_or xs i x → d ≡ e
+    → (y : CheckFault) → AreLabels p ws from d (tree_of_formula x) (Err y) → AreLabels p ws from e (joined junction (tree_of_formulas fs)) (Err y)
+item-noted p ws from e d junction fs xs i x q h r s y k =
     let whole : tree_of_formulas fs ≡ formulas_of_list (map tree_of_formula xs) = trees-Formulas fs ∙ ap (λ (ys : List Formula). formulas_of_list (map tree_of_formula ys)) (sym q) in
-    subst (λ (ts : FormulaTrees). AreLabels p ws from e (joined stop ts) (Err y)) (sym whole)
-    (noted-by p ws from e (joined stop (formulas_of_list (map tree_of_formula xs))) (tree_of_formula x) (λ o j m. part-looked p ws o e stop (map tree_of_formula xs) (tree_of_formula x) j (among-items xs i x h r) m) y
+    subst (λ (ts : FormulaTrees). AreLabels p ws from e (joined junction ts) (Err y)) (sym whole)
+    (noted-by p ws from e (joined junction (formulas_of_list (map tree_of_formula xs))) (tree_of_formula x) (λ o j m. part-looked p ws o e junction (map tree_of_formula xs) (tree_of_formula x) j (among-items xs i x h r) m) y
     (subst (λ (z : Assignment). AreLabels p ws from z (tree_of_formula x) (Err y)) s k))
 
 -- ---- quantifiers
 
-pub record Body (f : Formula) (stop : Bool) (ss : List Var) (b : Bound) (g : Formula) : Type 0 where
-  pub tree : tree_of_formula f ≡ quantified stop ss b (tree_of_formula g)
+pub record Body (f : Formula) (junction : Junction) (ss : List Var) (b : Bound) (g : Formula) : Type 0 where
+  pub tree : tree_of_formula f ≡ quantified junction ss b (tree_of_formula g)
   pub smaller : 1 + size (tree_of_formula g) < size (tree_of_formula f)
 
-pub body-ForAll : (f g : Formula) (ss : List Var) (b : Bound) (x : Box Formula Global) → f ≡ formula.ForAll ss b x → g ≡ x.value → Body f false ss b g
+pub body-ForAll : (f g : Formula) (ss : List Var) (b : Bound) (x : Box Formula Global) → f ≡ formula.ForAll ss b x → g ≡ x.value → Body f All ss b g
 unfolding size
 body-ForAll f g ss b x q r =
     let tree : tree_of_formula f ≡ for_all ss b (tree_of_formula g) = ap tree_of_formula q ∙ (tree-ForAll ss b x ∙ ap (λ (y : Formula). for_all ss b (tree_of_formula y)) (sym r)) in
     let total : size (tree_of_formula f) ≡ 2 + size (tree_of_formula g) = ap size tree in
     record { tree = tree; smaller = omega arith }
 
-pub body-Exists : (f g : Formula) (ss : List Var) (b : Bound) (x : Box Formula Global) → f ≡ formula.Exists ss b x → g ≡ x.value → Body f true ss b g
+pub body-Exists : (f g : Formula) (ss : List Var) (b : Bound) (x : Box Formula Global) → f ≡ formula.Exists ss b x → g ≡ x.value → Body f Any ss b g
 unfolding size
 body-Exists f g ss b x q r =
     let tree : tree_of_formula f ≡ for_some ss b (tree_of_formula g) = ap tree_of_formula q ∙ (tree-Exists ss b x ∙ ap (λ (y : Formula). for_some ss b (tree_of_formula y)) (sym r)) in
@@ -273,9 +275,9 @@ module _ (p : PlainProblem) (ws : List World) (from : ℕ) (e d : Assignment) (q
       (subst (λ (ds : List Cursor). AreAt p e q ds rest) (sym c) (subst (λ (vs : List World). AreAt p e q old vs) (sym r) at)))
 
   -- a note of an instance is one of the quantified formula
-  pub instance-noted : (cs : List Cursor) → AreAt p e q cs (drop from ws) → IsFound cs x → d ≡ bind q.vars (tuple_of x.tuple) e → (y : CheckFault) → AreLabels p ws (from + x.at) d q.part (Err y) → AreLabels p ws from e (quantified q.stop q.vars q.bound q.part) (Err y)
+  pub instance-noted : (cs : List Cursor) → AreAt p e q cs (drop from ws) → IsFound cs x → d ≡ bind q.vars (tuple_of x.tuple) e → (y : CheckFault) → AreLabels p ws (from + x.at) d q.part (Err y) → AreLabels p ws from e (quantified q.junction q.vars q.bound q.part) (Err y)
   instance-noted cs at f s fault.NoMemory h = tt
   instance-noted cs at f s (fault.Range k n) h =
       let found = found-among p e q cs (drop from ws) x at f in
       let told : Among (operation_of n) (looked_at p ws k (bind q.vars (tuple_of x.tuple) e) q.part) = subst (λ (z : Assignment). Among (operation_of n) (looked_at p ws k z q.part)) s h.1.0 in
-      (omega (arith, h.0), (instance-looked p ws (operation_of n) e q.stop q.vars q.bound q.part (tuple_of x.tuple) (from + x.at) k found.0 (sym (slice_get-both from x.at ws) ∙ found.1) h.0 found.2 told, h.1.1))
+      (omega (arith, h.0), (instance-looked p ws (operation_of n) e q.junction q.vars q.bound q.part (tuple_of x.tuple) (from + x.at) k found.0 (sym (slice_get-both from x.at ws) ∙ found.1) h.0 found.2 told, h.1.1))

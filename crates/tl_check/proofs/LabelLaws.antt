@@ -2,6 +2,8 @@
 use Rattle.std.proofs.Common.{◌≡◌, ◌≤◌, ◌<◌, ◌+◌, ◌-◌, ◌&&◌, ◌||◌, ℕ, zero, suc, List, [], ◌∷◌, ◌++◌, map, drop, length, replicate, get_or, Bool, true, false, not, refl, sym, ap, ap₂, ◌∙◌, arith, drop-cons, add-one, append_assoc, append-nil, length-drop}
 use Rattle.tl_check.specs.Ahead.{Ahead, next_of, always_of, eventually_of, until_of, within_of, during_of, marks}
 use Rattle.tl_check.specs.Passes.{first_or, next_labels, always_labels, eventually_labels, until_labels, one_within, within_labels, joins, joined_labels}
+use Rattle.tl_syntax.specs.declared.junction.Junction.{Junction}
+use Rattle.tl_syntax.specs.declared.junction.Junction.TheVariants.{All, Any}
 use Rattle.tl_terms.specs.World.{World}
 
 pub marks-length : (t : Ahead) (ws : List World) → length (marks t ws) ≡ length ws
@@ -85,9 +87,9 @@ marks-during t n ws =
     ∙ (marks-not (λ s. within_of (λ s. not (t s)) n s) ws
     ∙ marks-agree (λ s. not (within_of (λ s. not (t s)) n s)) (λ s. during_of t n s) (λ w vs. during-is t n (w ∷ vs)) ws))
 
-pub marks-joined : (stop : Bool) (t u : Ahead) (ws : List World) → joined_labels stop (marks t ws) (marks u ws) ≡ marks (λ s. joins stop (t s) (u s)) ws
-marks-joined stop t u [] = refl
-marks-joined stop t u (w ∷ ws) = ap (λ (bs : List Bool). joins stop (t (w ∷ ws)) (u (w ∷ ws)) ∷ bs) (marks-joined stop t u ws)
+pub marks-joined : (junction : Junction) (t u : Ahead) (ws : List World) → joined_labels junction (marks t ws) (marks u ws) ≡ marks (λ s. joins junction (t s) (u s)) ws
+marks-joined junction t u [] = refl
+marks-joined junction t u (w ∷ ws) = ap (λ (bs : List Bool). joins junction (t (w ∷ ws)) (u (w ∷ ws)) ∷ bs) (marks-joined junction t u ws)
 
 -- ---- labels that are added one after another
 

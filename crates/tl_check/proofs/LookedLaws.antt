@@ -2,7 +2,9 @@
 use Rattle.std.proofs.Common.{◌≡◌, ◌≤◌, ◌⊎◌, ℕ, zero, suc, List, [], ◌∷◌, map, flat_map, take, Bool, true, false, Option, Some, None, sym, ap, subst, inl, inr, arith}
 use Rattle.std.specs.Prelude.{slice_get}
 use Rattle.tl_check.specs.Labelled.{looked_there, looked_at}
-use Rattle.tl_eval.specs.StateTruth.{joined, quantified}
+use Rattle.tl_syntax.specs.declared.junction.Junction.{Junction}
+use Rattle.tl_syntax.specs.declared.junction.Junction.TheVariants.{All, Any}
+use Rattle.tl_syntax.specs.Junctions.{joined, quantified}
 use Rattle.tl_syntax.proofs.ListLaws.{One-append, One-flat, One-over, one_in}
 use Rattle.tl_syntax.specs.declared.bound.Bound.{Bound}
 use Rattle.tl_syntax.specs.declared.value.Value.{Value}
@@ -145,29 +147,29 @@ module _ (p : PlainProblem) (ws : List World) (o : Operation) where
   parts-in t bs s e (f ∷ fs) g m h = (One-append (λ y. y ≡ o) (looked_in_basics true t bs s e f) (looked_in_parts true t bs s e (formulas_of_list fs))).1
       (elim m [ inl q ↦ inl (subst (λ x. Among o (looked_in_basics true t bs s e x)) (sym q) h) | inr k ↦ inr (parts-in t bs s e fs g k h) ])
 
-  pub part-looked : (e : Assignment) (stop : Bool) (fs : List FormulaTree) (g : FormulaTree) (k : ℕ) → Among g fs → Among o (looked_at p ws k e g) → Among o (looked_at p ws k e (joined stop (formulas_of_list fs)))
+  pub part-looked : (e : Assignment) (junction : Junction) (fs : List FormulaTree) (g : FormulaTree) (k : ℕ) → Among g fs → Among o (looked_at p ws k e g) → Among o (looked_at p ws k e (joined junction (formulas_of_list fs)))
   unfolding looked_in_basics
-  part-looked e true fs g k i h = within-there e e (joined true (formulas_of_list fs)) g k (λ t bs s m. parts-in t bs s e fs g i m) h
-  part-looked e false fs g k i h = within-there e e (joined false (formulas_of_list fs)) g k (λ t bs s m. parts-in t bs s e fs g i m) h
+  part-looked e Any fs g k i h = within-there e e (joined Any (formulas_of_list fs)) g k (λ t bs s m. parts-in t bs s e fs g i m) h
+  part-looked e All fs g k i h = within-there e e (joined All (formulas_of_list fs)) g k (λ t bs s m. parts-in t bs s e fs g i m) h
 
   -- what an instance looks at whose tuple makes the bound true in an earlier world
-  pub instance-looked : (e : Assignment) (stop : Bool) (ss : List Var) (b : Bound) (f : FormulaTree) (t : List Value) (j k : ℕ) (v : World) → slice_get ws j ≡ Some v → j ≤ k → Among t (tuples (situation_of p v) e ss b)
-      → Among o (looked_at p ws k (bind ss t e) f) → Among o (looked_at p ws k e (quantified stop ss b f))
+  pub instance-looked : (e : Assignment) (junction : Junction) (ss : List Var) (b : Bound) (f : FormulaTree) (t : List Value) (j k : ℕ) (v : World) → slice_get ws j ≡ Some v → j ≤ k → Among t (tuples (situation_of p v) e ss b)
+      → Among o (looked_at p ws k (bind ss t e) f) → Among o (looked_at p ws k e (quantified junction ss b f))
   unfolding looked_in_basics
-  instance-looked e stop ss b f t j k v q l i h = by (slice_get ws k) h
+  instance-looked e junction ss b f t j k v q l i h = by (slice_get ws k) h
     where
       there : Among (situation_of p v) (map (situation_of p) (take (suc k) ws))
       there = among-situations p (take (suc k) ws) v (among-first ws j k v q l)
 
-      by_stop : (stop : Bool) (w : World) → Among o (looked_there p (take (suc k) ws) (Some w) (bind ss t e) f) → Among o (looked_there p (take (suc k) ws) (Some w) e (quantified stop ss b f))
-      by_stop true w m = instances-in o e ss b (map (situation_of p) (take (suc k) ws)) (situation_of p v) (λ u. looked_in_basics true (looks_of p w) (map (situation_of p) (take (suc k) ws)) (situation_of p w) (bind ss u e) f) there
+      by_stop : (junction : Junction) (w : World) → Among o (looked_there p (take (suc k) ws) (Some w) (bind ss t e) f) → Among o (looked_there p (take (suc k) ws) (Some w) e (quantified junction ss b f))
+      by_stop Any w m = instances-in o e ss b (map (situation_of p) (take (suc k) ws)) (situation_of p v) (λ u. looked_in_basics true (looks_of p w) (map (situation_of p) (take (suc k) ws)) (situation_of p w) (bind ss u e) f) there
           (one_in (λ u. Among o (looked_in_basics true (looks_of p w) (map (situation_of p) (take (suc k) ws)) (situation_of p w) (bind ss u e) f)) t (tuples (situation_of p v) e ss b) i m)
-      by_stop false w m = instances-in o e ss b (map (situation_of p) (take (suc k) ws)) (situation_of p v) (λ u. looked_in_basics true (looks_of p w) (map (situation_of p) (take (suc k) ws)) (situation_of p w) (bind ss u e) f) there
+      by_stop All w m = instances-in o e ss b (map (situation_of p) (take (suc k) ws)) (situation_of p v) (λ u. looked_in_basics true (looks_of p w) (map (situation_of p) (take (suc k) ws)) (situation_of p w) (bind ss u e) f) there
           (one_in (λ u. Among o (looked_in_basics true (looks_of p w) (map (situation_of p) (take (suc k) ws)) (situation_of p w) (bind ss u e) f)) t (tuples (situation_of p v) e ss b) i m)
 
-      by : (x : Option World) → Among o (looked_there p (take (suc k) ws) x (bind ss t e) f) → Among o (looked_there p (take (suc k) ws) x e (quantified stop ss b f))
+      by : (x : Option World) → Among o (looked_there p (take (suc k) ws) x (bind ss t e) f) → Among o (looked_there p (take (suc k) ws) x e (quantified junction ss b f))
       by None m = absurd m
-      by (Some w) m = by_stop stop w m
+      by (Some w) m = by_stop junction w m
 
   -- the control formula along a plan's states
   pub along-looked : (f : FormulaTree) (k : ℕ) → Among o (looked_at p ws k no_values f) → Among o (looked_along p ws k f)

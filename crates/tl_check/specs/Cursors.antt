@@ -5,11 +5,12 @@ use Rattle.std.specs.Ordering.{is_lt}
 use Rattle.tl_check.specs.Ahead.{true_ahead}
 use Rattle.tl_check.specs.Passes.{joins}
 use Rattle.tl_check.specs.declared.cursor.Cursor.{Cursor}
-use Rattle.tl_eval.specs.StateTruth.{quantified}
 use Rattle.tl_syntax.specs.declared.bound.Bound.{Bound}
+use Rattle.tl_syntax.specs.declared.junction.Junction.{Junction}
 use Rattle.tl_syntax.specs.declared.value.Value.{Value}
 use Rattle.tl_syntax.specs.declared.variable.Var.{Var}
 use Rattle.tl_syntax.specs.Assignment.{Assignment, bind}
+use Rattle.tl_syntax.specs.Junctions.{deciding_truth, quantified}
 use Rattle.tl_syntax.specs.Lists.{Among}
 use Rattle.tl_syntax.specs.Trees.{FormulaTree}
 use Rattle.tl_terms.specs.Bounds.{tuples}
@@ -19,9 +20,9 @@ use Rattle.tl_terms.specs.World.{World}
 use Rattle.tl_world.specs.Patterns.{tuple_of}
 use Rattle.tl_world.specs.Plain.{row_cmp}
 
--- a quantified formula: existential where `stop` is true, and else universal
+-- a quantified formula: universal or existential
 pub record Quantifier : Type 0 where
-  pub stop : Bool
+  pub junction : Junction
   pub vars : List Var
   pub bound : Bound
   pub part : FormulaTree
@@ -36,10 +37,10 @@ abbrev pub from_tuple : Option (List Value) → List (List Value) → List (List
 from_tuple None ts = []
 from_tuple (Some t) ts = t ∷ filter (λ u. is_lt (row_cmp t u)) ts
 
--- the truths of all together: one is true, or all are
-abbrev pub joined_truths : {A : Type 0} → Bool → (A → Bool) → List A → Bool
-joined_truths stop truth [] = not stop
-joined_truths stop truth (x ∷ xs) = joins stop (truth x) (joined_truths stop truth xs)
+-- the truths of all together
+abbrev pub joined_truths : {A : Type 0} → Junction → (A → Bool) → List A → Bool
+joined_truths j truth [] = not (deciding_truth j)
+joined_truths j truth (x ∷ xs) = joins j (truth x) (joined_truths j truth xs)
 
 -- the tuples that are left
 abbrev pub left_at : PlainProblem → Assignment → List Var → Bound → List World → Cursor → List (List Value)
@@ -47,7 +48,7 @@ left_at p e ss b ws c = from_tuple (option_map tuple_of c.next) (tuples_ahead p 
 
 -- the truth so far and the instances of the tuples that are left are together the truth of the formula in the first world
 pub record IsAt (p : PlainProblem) (e : Assignment) (q : Quantifier) (ws : List World) (c : Cursor) : Type 0 where
-  pub truth : true_ahead p e (quantified q.stop q.vars q.bound q.part) ws ≡ joins q.stop c.truth (joined_truths q.stop (λ t. true_ahead p (bind q.vars t e) q.part ws) (left_at p e q.vars q.bound ws c))
+  pub truth : true_ahead p e (quantified q.junction q.vars q.bound q.part) ws ≡ joins q.junction c.truth (joined_truths q.junction (λ t. true_ahead p (bind q.vars t e) q.part ws) (left_at p e q.vars q.bound ws c))
   pub count : IfSome c.next (λ m. m.len ≡ length q.vars)
   pub among : IfSome c.next (λ m. Among (tuple_of m) (tuples_ahead p e q.vars q.bound ws))
 

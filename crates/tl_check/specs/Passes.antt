@@ -1,5 +1,7 @@
 -- Labels of positions, from those of a part.
 use Rattle.std.specs.Prelude.{ℕ, zero, suc, ◌+◌, List, [], ◌∷◌, Bool, true, false, ◌&&◌, ◌||◌, cond, nat_le}
+use Rattle.tl_syntax.specs.declared.junction.Junction.{Junction}
+use Rattle.tl_syntax.specs.declared.junction.Junction.TheVariants.{All, Any}
 
 -- the first label, or the other one where there is none
 abbrev pub first_or : Bool → List Bool → Bool
@@ -48,13 +50,13 @@ abbrev pub steps_past : ℕ → Bool → ℕ → ℕ
 steps_past n true away = 0
 steps_past n false away = cond (nat_le away n) (away + 1) away
 
--- the two together: one is true, or both are
-abbrev pub joins : Bool → Bool → Bool → Bool
-joins true a b = a || b
-joins false a b = a && b
+-- the truth of the two together
+abbrev pub joins : Junction → Bool → Bool → Bool
+joins All a b = a && b
+joins Any a b = a || b
 
 -- the labels together, position by position
-abbrev pub joined_labels : Bool → List Bool → List Bool → List Bool
-joined_labels stop [] cs = []
-joined_labels stop (b ∷ bs) [] = []
-joined_labels stop (b ∷ bs) (c ∷ cs) = joins stop b c ∷ joined_labels stop bs cs
+abbrev pub joined_labels : Junction → List Bool → List Bool → List Bool
+joined_labels j [] cs = []
+joined_labels j (b ∷ bs) [] = []
+joined_labels j (b ∷ bs) (c ∷ cs) = joins j b c ∷ joined_labels j bs cs

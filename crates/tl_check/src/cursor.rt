@@ -15,7 +15,7 @@ ghost use Rattle.tl_world.specs.Patterns.{tuple_of};
 
 use crate::labels::join;
 use tl_eval::{Env, next_tuple};
-use tl_syntax::{Bound, Value, Vars};
+use tl_syntax::{Bound, Junction, Value, Vars};
 use tl_world::{Match, Task, World};
 
 /// Where the reading of a quantifier stands at one position.
@@ -46,22 +46,22 @@ fn is_next(next: &Option<Match>, tuple: &Match) -> bool
     }
 }
 
-/// The cursor before the first instance: the quantifier is universal, or, where `stop` is true, existential. It takes no memory.
+/// The cursor before the first instance. It takes no memory.
 pub(crate) fn begun(
     task: &Task,
     w: &World,
     env: &Env,
     vars: &Vars,
     bound: &Bound,
-    stop: bool,
+    junction: Junction,
 ) -> Cursor
     requires differ { DifferInSlot vars.now }
     requires occur { OccurIn vars.now bound.now }
     requires fits { BoundFits (signature_of task.now.problem.domain) bound.now }
-    ensures { (f : FormulaTree) (ws : List PlainWorld) → IsAt (plain_problem task.now.problem) (assignment_in env.now) (record { stop = stop; vars = vars.now; bound = bound.now; part = f }) (w.now ∷ ws) result }
+    ensures { (f : FormulaTree) (ws : List PlainWorld) → IsAt (plain_problem task.now.problem) (assignment_in env.now) (record { junction = junction; vars = vars.now; bound = bound.now; part = f }) (w.now ∷ ws) result }
 {
     Cursor {
-        truth: !stop,
+        truth: !junction.deciding_truth(),
         next: next_tuple(task, w, env, vars, bound, None),
     }
 }
@@ -73,7 +73,7 @@ pub(crate) fn moved(
     env: &Env,
     vars: &Vars,
     bound: &Bound,
-    stop: bool,
+    junction: Junction,
     cursor: Cursor,
     tuple: &Match,
     label: bool,
@@ -85,13 +85,13 @@ pub(crate) fn moved(
     requires count { IfSome cursor.next (λ m. m.len ≡ length vars.now) }
     requires tuple { tuple.now.len ≡ length vars.now }
     ensures count { IfSome result.next (λ m. m.len ≡ length vars.now) }
-    ensures at { (f : FormulaTree) (ws : List PlainWorld) → label ≡ true_ahead (plain_problem task.now.problem) (bind vars.now (tuple_of tuple.now) (assignment_in env.now)) f (w.now ∷ ws) → IsAt (plain_problem task.now.problem) (assignment_in env.now) (record { stop = stop; vars = vars.now; bound = bound.now; part = f }) (w.now ∷ ws) cursor → IsAt (plain_problem task.now.problem) (assignment_in env.now) (record { stop = stop; vars = vars.now; bound = bound.now; part = f }) (w.now ∷ ws) result }
+    ensures at { (f : FormulaTree) (ws : List PlainWorld) → label ≡ true_ahead (plain_problem task.now.problem) (bind vars.now (tuple_of tuple.now) (assignment_in env.now)) f (w.now ∷ ws) → IsAt (plain_problem task.now.problem) (assignment_in env.now) (record { junction = junction; vars = vars.now; bound = bound.now; part = f }) (w.now ∷ ws) cursor → IsAt (plain_problem task.now.problem) (assignment_in env.now) (record { junction = junction; vars = vars.now; bound = bound.now; part = f }) (w.now ∷ ws) result }
     ensures no_more { (ws : List PlainWorld) → length (left_at (plain_problem task.now.problem) (assignment_in env.now) vars.now bound.now (w.now ∷ ws) result) ≤ length (left_at (plain_problem task.now.problem) (assignment_in env.now) vars.now bound.now (w.now ∷ ws) cursor) }
     ensures fewer { (ws : List PlainWorld) → option_map tuple_of cursor.next ≡ Some (tuple_of tuple.now) → length (left_at (plain_problem task.now.problem) (assignment_in env.now) vars.now bound.now (w.now ∷ ws) result) < length (left_at (plain_problem task.now.problem) (assignment_in env.now) vars.now bound.now (w.now ∷ ws) cursor) }
 {
     if is_next(&cursor.next, tuple) {
         Cursor {
-            truth: join(cursor.truth, label, stop),
+            truth: join(cursor.truth, label, junction),
             next: next_tuple(task, w, env, vars, bound, cursor.next),
         }
     } else {

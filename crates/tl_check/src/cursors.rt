@@ -19,7 +19,7 @@ use crate::found::{Found, lesser};
 use crate::labels::Labels;
 use std::alloc::Global;
 use tl_eval::Env;
-use tl_syntax::{Bound, NoMemory, Vars};
+use tl_syntax::{Bound, Junction, NoMemory, Vars};
 use tl_world::{Task, World};
 
 /// The cursors before the first instance, one for each world. It fails for want of memory alone.
@@ -30,16 +30,16 @@ pub(crate) fn cursors_at(
     env: &Env,
     vars: &Vars,
     bound: &Bound,
-    stop: bool,
+    junction: Junction,
 ) -> Result<Vec<Cursor>, NoMemory>
     requires differ { DifferInSlot vars.now }
     requires occur { OccurIn vars.now bound.now }
     requires fits { BoundFits (signature_of task.now.problem.domain) bound.now }
-    ensures at { IfOk result (λ cs. (f : FormulaTree) → AreAt (plain_problem task.now.problem) (assignment_in env.now) (record { stop = stop; vars = vars.now; bound = bound.now; part = f }) cs.items worlds.now) }
+    ensures at { IfOk result (λ cs. (f : FormulaTree) → AreAt (plain_problem task.now.problem) (assignment_in env.now) (record { junction = junction; vars = vars.now; bound = bound.now; part = f }) cs.items worlds.now) }
 {
     let mut cursors = Vec::new(alloc);
     for i in 0..worlds.len() {
-        let cursor = begun(task, &worlds[i], env, vars, bound, stop);
+        let cursor = begun(task, &worlds[i], env, vars, bound, junction);
         match cursors.push(cursor) {
             Ok(()) => {}
             Err(_) => return Err(NoMemory),
@@ -68,7 +68,7 @@ pub(crate) fn advance(
     env: &Env,
     vars: &Vars,
     bound: &Bound,
-    stop: bool,
+    junction: Junction,
     cursors: &mut [Cursor],
     found: &Found,
     labels: &Labels,
@@ -81,7 +81,7 @@ pub(crate) fn advance(
     requires counts { HaveCounts (length vars.now) cursors.old }
     requires found { IsFound cursors.old found.now }
     requires labels { length labels.now + found.now.at ≡ length worlds.now }
-    ensures at { (f : FormulaTree) → labels.now ≡ marks (true_ahead (plain_problem task.now.problem) (bind vars.now (tuple_of found.now.tuple) (assignment_in env.now)) f) (drop found.now.at worlds.now) → AreAt (plain_problem task.now.problem) (assignment_in env.now) (record { stop = stop; vars = vars.now; bound = bound.now; part = f }) cursors.old worlds.now → AreAt (plain_problem task.now.problem) (assignment_in env.now) (record { stop = stop; vars = vars.now; bound = bound.now; part = f }) cursors.new worlds.now }
+    ensures at { (f : FormulaTree) → labels.now ≡ marks (true_ahead (plain_problem task.now.problem) (bind vars.now (tuple_of found.now.tuple) (assignment_in env.now)) f) (drop found.now.at worlds.now) → AreAt (plain_problem task.now.problem) (assignment_in env.now) (record { junction = junction; vars = vars.now; bound = bound.now; part = f }) cursors.old worlds.now → AreAt (plain_problem task.now.problem) (assignment_in env.now) (record { junction = junction; vars = vars.now; bound = bound.now; part = f }) cursors.new worlds.now }
     ensures fewer { work_left (plain_problem task.now.problem) (assignment_in env.now) vars.now bound.now cursors.new worlds.now < work_left (plain_problem task.now.problem) (assignment_in env.now) vars.now bound.now cursors.old worlds.now }
 {
     for i in found.at..cursors.len() {
@@ -92,7 +92,7 @@ pub(crate) fn advance(
             env,
             vars,
             bound,
-            stop,
+            junction,
             cursors[i],
             &found.tuple,
             label,

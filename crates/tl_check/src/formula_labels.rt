@@ -2,8 +2,8 @@
 ghost use Rattle.std.specs.Prelude.{◌≡◌, ◌≤◌, ◌^◌, [], length};
 ghost use Rattle.tl_check.specs.Labelled.{AreLabels};
 ghost use Rattle.tl_eval.specs.Frames.{assignment_in};
-ghost use Rattle.tl_eval.specs.StateTruth.{joined, quantified};
 ghost use Rattle.tl_syntax.specs.Fits.{Fits};
+ghost use Rattle.tl_syntax.specs.Junctions.{joined, quantified};
 ghost use Rattle.tl_syntax.specs.Signature.{signature_of};
 ghost use Rattle.tl_syntax.specs.TreeOfFormula.{tree_of_formula, tree_of_formulas};
 ghost use Rattle.tl_syntax.specs.Trees.{until};
@@ -16,7 +16,7 @@ use crate::state_labels::state_labels;
 use crate::temporal::is_state;
 use std::alloc::Global;
 use tl_eval::Env;
-use tl_syntax::{Bound, Formula, Formulas, Vars};
+use tl_syntax::{Bound, Formula, Formulas, Junction, Vars};
 use tl_world::{Task, World};
 
 /// The truth of a formula at each position from some one on, under the frame's values, where the last world is repeated for ever.
@@ -56,13 +56,33 @@ pub(crate) fn labels_of(
             }
             Err(fault) => Err(fault),
         },
-        Formula::And(parts) => parts_labels(parts, alloc, task, worlds, from, env, false),
-        Formula::Or(parts) => parts_labels(parts, alloc, task, worlds, from, env, true),
+        Formula::And(parts) => parts_labels(parts, alloc, task, worlds, from, env, Junction::All),
+        Formula::Or(parts) => parts_labels(parts, alloc, task, worlds, from, env, Junction::Any),
         Formula::ForAll(vars, bound, part) => {
-            quantified_labels(part, alloc, task, worlds, from, env, vars, bound, false)
+            quantified_labels(
+                part,
+                alloc,
+                task,
+                worlds,
+                from,
+                env,
+                vars,
+                bound,
+                Junction::All,
+            )
         }
         Formula::Exists(vars, bound, part) => {
-            quantified_labels(part, alloc, task, worlds, from, env, vars, bound, true)
+            quantified_labels(
+                part,
+                alloc,
+                task,
+                worlds,
+                from,
+                env,
+                vars,
+                bound,
+                Junction::Any,
+            )
         }
         Formula::Next(part) => match labels_of(part, alloc, task, worlds, from, env) {
             Ok(mut found) => {
@@ -135,7 +155,7 @@ fn until_labels(
     }
 }
 
-/// The labels of a conjunction, or, where `stop` is true, of a disjunction.
+/// The labels of a conjunction or a disjunction.
 #[cycle(labels_of)]
 fn parts_labels(
     parts: &Formulas,
@@ -144,29 +164,29 @@ fn parts_labels(
     worlds: &[World],
     from: usize,
     env: &mut Env,
-    stop: bool,
+    junction: Junction,
 ) -> Result<Labels, CheckFault>
     requires few { length worlds.now ≤ 2 ^ 32 }
     requires from { from ≤ length worlds.now }
     requires frame { length env.old ≡ 32 }
-    requires fits { Fits (signature_of task.now.problem.domain) [] (joined stop (tree_of_formulas parts.now)) }
-    ensures labels { AreLabels (plain_problem task.now.problem) worlds.now from (assignment_in env.old) (joined stop (tree_of_formulas parts.now)) result }
+    requires fits { Fits (signature_of task.now.problem.domain) [] (joined junction (tree_of_formulas parts.now)) }
+    ensures labels { AreLabels (plain_problem task.now.problem) worlds.now from (assignment_in env.old) (joined junction (tree_of_formulas parts.now)) result }
     ensures frame { env.new ≡ env.old }
 {
-    let mut all = match Labels::all(alloc, worlds.len() - from, !stop) {
+    let mut all = match Labels::all(alloc, worlds.len() - from, !junction.deciding_truth()) {
         Ok(all) => all,
         Err(_) => return Err(CheckFault::NoMemory),
     };
     for part in parts.as_slice().iter() {
         match labels_of(part, alloc, task, worlds, from, env) {
-            Ok(found) => all.join(&found, stop),
+            Ok(found) => all.join(&found, junction),
             Err(fault) => return Err(fault),
         }
     }
     Ok(all)
 }
 
-/// The labels of a universal formula, or, where `stop` is true, of an existential one.
+/// The labels of a universal or an existential formula.
 ///
 /// Each instance is labelled once, from the first position on at which its tuple makes the bound true; its labels count at those positions where the tuple does.
 /// So a tuple costs one comparison at each position, and one look-up where it makes the bound true.
@@ -180,13 +200,13 @@ fn quantified_labels(
     env: &mut Env,
     vars: &Vars,
     bound: &Bound,
-    stop: bool,
+    junction: Junction,
 ) -> Result<Labels, CheckFault>
     requires few { length worlds.now ≤ 2 ^ 32 }
     requires from { from ≤ length worlds.now }
     requires frame { length env.old ≡ 32 }
-    requires fits { Fits (signature_of task.now.problem.domain) [] (quantified stop vars.now bound.now (tree_of_formula part.now)) }
-    ensures labels { AreLabels (plain_problem task.now.problem) worlds.now from (assignment_in env.old) (quantified stop vars.now bound.now (tree_of_formula part.now)) result }
+    requires fits { Fits (signature_of task.now.problem.domain) [] (quantified junction vars.now bound.now (tree_of_formula part.now)) }
+    ensures labels { AreLabels (plain_problem task.now.problem) worlds.now from (assignment_in env.old) (quantified junction vars.now bound.now (tree_of_formula part.now)) result }
     ensures frame { env.new ≡ env.old }
 {
     let mut inner = match env.copy(alloc) {
@@ -194,7 +214,7 @@ fn quantified_labels(
         Err(_) => return Err(CheckFault::NoMemory),
     };
     let rest = &worlds[from..];
-    let mut cursors = match cursors_at(alloc, task, rest, env, vars, bound, stop) {
+    let mut cursors = match cursors_at(alloc, task, rest, env, vars, bound, junction) {
         Ok(cursors) => cursors,
         Err(_) => return Err(CheckFault::NoMemory),
     };
@@ -207,7 +227,7 @@ fn quantified_labels(
                 env,
                 vars,
                 bound,
-                stop,
+                junction,
                 cursors.as_mut_slice(),
                 &found,
                 &instance,

@@ -4,7 +4,7 @@ ghost use Rattle.tl_check.specs.Passes.{next_labels, always_labels, eventually_l
 
 use std::alloc::Global;
 use std::marker::Model;
-use tl_syntax::NoMemory;
+use tl_syntax::{Junction, NoMemory};
 
 /// The truth of a formula at each position from some one on to the last. At the last position its world is repeated for ever.
 #[derive(Drop)]
@@ -20,11 +20,14 @@ impl Model for Labels {
     ghost view = { λ labels. labels.truths.items };
 }
 
-/// Whether both are true, or, where `stop` is true, one of them. It takes no memory.
-pub(crate) fn join(left: bool, right: bool, stop: bool) -> bool
-    ensures { result ≡ joins stop left right }
+/// The truth of the two together. It takes no memory.
+pub(crate) fn join(left: bool, right: bool, junction: Junction) -> bool
+    ensures { result ≡ joins junction left right }
 {
-    if stop { left || right } else { left && right }
+    match junction {
+        Junction::All => left && right,
+        Junction::Any => left || right,
+    }
 }
 
 /// How many steps a true label is away from a position with this label, where it is `away` steps away from the next one; `most` + 1 stands for all numbers above `most`.
@@ -177,15 +180,15 @@ impl Labels {
         self.negate();
     }
 
-    /// The labels of the conjunction of both, or, where `stop` is true, of the disjunction. It takes no memory.
-    pub(crate) fn join(&mut self, other: &Labels, stop: bool)
+    /// The labels of the conjunction or the disjunction of both. It takes no memory.
+    pub(crate) fn join(&mut self, other: &Labels, junction: Junction)
         requires { length self.old ≡ length other.now }
-        ensures { self.new ≡ joined_labels stop self.old other.now }
+        ensures { self.new ≡ joined_labels junction self.old other.now }
     {
         let mut i = self.truths.len();
         while i > 0 {
             i -= 1;
-            let both = join(self.truths[i], other.truths[i], stop);
+            let both = join(self.truths[i], other.truths[i], junction);
             self.truths[i] = both;
         }
     }

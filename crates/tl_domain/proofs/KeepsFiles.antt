@@ -39,7 +39,7 @@ use Rattle.tl_domain.specs.Words.{item_word}
 use Rattle.tl_domain.proofs.KeepsDeclarations.{IsLawful, is-lawful, HasNoVariables, names-only, predicates-keep, functions-keep, predicates-plain, functions-plain}
 use Rattle.tl_domain.proofs.KeepsOperators.{OperatorTreeKeeps}
 use Rattle.tl_domain.proofs.KeepsGrowth.{Grows, DefinitionTreeKeeps, definition-grows, operator-grows, formula-grows, place-of-both}
-use Rattle.tl_domain.proofs.KeepsItems.{AddsDefinitions, predicates-grow, functions-grow, definitions-keep, operators-keep, control-keeps}
+use Rattle.tl_domain.proofs.KeepsItems.{AddsDefinitions, predicates-grow, functions-grow, predicates-few, functions-few, operators-few, operators-grow, definitions-keep, operators-keep, control-keeps}
 
 -- what a domain keeps after items that declare all this
 record Stands (names : List (List ℕ)) (k : Known) (d : DomainTree) : Type 0 where
@@ -54,6 +54,10 @@ record Stands (names : List (List ℕ)) (k : Known) (d : DomainTree) : Type 0 wh
   pub definition_arities : arities k.signature.definitions ≡ map (λ x. length x.params) d.definitions
   pub plain_predicates : HasNoVariables k.signature.predicates
   pub plain_functions : HasNoVariables k.signature.functions
+  pub operator_names : length k.operators ≡ length d.operators
+  pub few_predicates : length d.predicates ≤ 256
+  pub few_functions : length d.functions ≤ 256
+  pub few_operators : length d.operators ≤ 256
   pub few_definitions : length d.definitions ≤ 64
   pub few_levels : k.levels ≤ 64
   pub counted : sum_by (λ x. x.levels) d.definitions ≤ k.levels + length d.definitions
@@ -87,6 +91,21 @@ few-stand names k d w rest s adds =
       | inr one ↦ let single = ap (λ (l : List DefinitionTree). length l) one.1 in omega (arith, one.3)
     ]
 
+-- the number of predicates, of functions and of operators with those of an item
+predicates-stand : (names : List (List ℕ)) (k : Known) (d : DomainTree) (w : ItemWord) (rest : FormTrees) → Stands names k d → IsLawful names k w rest → length (d.predicates ++ predicates_in names w rest) ≤ 256
+predicates-stand names k d w rest s h =
+    let many : length k.signature.predicates ≡ length d.predicates = sym (length-map k.signature.predicates (λ e. e.1)) ∙ ap (λ (l : List ℕ). length l) s.predicate_arities ∙ length-map d.predicates (λ x. x.arity) in
+    omega (arith, length-append d.predicates (predicates_in names w rest), predicates-few names k w rest h (omega (arith, s.few_predicates)))
+
+functions-stand : (names : List (List ℕ)) (k : Known) (d : DomainTree) (w : ItemWord) (rest : FormTrees) → Stands names k d → IsLawful names k w rest → length (d.functions ++ functions_in names w rest) ≤ 256
+functions-stand names k d w rest s h =
+    let many : length k.signature.functions ≡ length d.functions = sym (length-map k.signature.functions (λ e. e.1)) ∙ ap (λ (l : List ℕ). length l) s.function_arities ∙ length-map d.functions (λ x. x.arity) in
+    omega (arith, length-append d.functions (functions_in names w rest), functions-few names k w rest h (omega (arith, s.few_functions)))
+
+operators-stand : (names : List (List ℕ)) (k : Known) (d : DomainTree) (w : ItemWord) (rest : FormTrees) → Stands names k d → IsLawful names k w rest → length (d.operators ++ operators_in names k.signature w rest) ≤ 256
+operators-stand names k d w rest s h =
+    omega (arith, length-append d.operators (operators_in names k.signature w rest), s.operator_names, operators-few names k w rest h (omega (arith, s.operator_names, s.few_operators)))
+
 -- lists of numbers of arguments that grow in the same way
 both-arities : {A : Type 0} (f : A → ℕ) (xs ys : List A) (old new : List ℕ) → new ≡ old ++ map f ys → old ≡ map f xs → new ≡ map f (xs ++ ys)
 both-arities f xs ys old new grown same = grown ∙ ap (λ (l : List ℕ). l ++ map f ys) same ∙ sym (map-append f xs ys)
@@ -117,6 +136,10 @@ item-stands names k d w rest s h =
       definition_arities = both-arities (λ x. length x.params) d.definitions (definitions_in names k.signature w rest) (arities k.signature.definitions) (arities after.definitions) adds.grows s.definition_arities;
       plain_predicates = predicates-plain names k w rest h s.plain_predicates;
       plain_functions = functions-plain names k w rest h s.plain_functions;
+      operator_names = omega (arith, s.operator_names, operators-grow names k w rest, length-append d.operators (operators_in names k.signature w rest));
+      few_predicates = predicates-stand names k d w rest s h;
+      few_functions = functions-stand names k d w rest s h;
+      few_operators = operators-stand names k d w rest s h;
       few_definitions = few-stand names k d w rest s adds;
       few_levels = adds.few s.few_levels;
       counted = omega (arith, s.counted, adds.counted, sum_by-append (λ (x : DefinitionTree). x.levels) d.definitions (definitions_in names k.signature w rest), length-append d.definitions (definitions_in names k.signature w rest));
@@ -154,6 +177,10 @@ nothing-stands names name lt = record {
   definition_arities = refl;
   plain_predicates = record { absent = λ text variable. refl };
   plain_functions = record { absent = λ text variable. refl };
+  operator_names = refl;
+  few_predicates = omega arith;
+  few_functions = omega arith;
+  few_operators = omega arith;
   few_definitions = omega arith;
   few_levels = omega arith;
   counted = omega arith;
@@ -222,9 +249,12 @@ tree-keeps names k d s =
       name = s.name;
       predicates = s.predicates;
       functions = s.functions;
+      few_predicates = s.few_predicates;
+      few_functions = s.few_functions;
       definitions = definitions;
       few_definitions = omega (arith, s.few_definitions, length-map d.definitions definition_tree);
       few_levels = omega (arith, s.counted, s.few_levels, s.few_definitions, levels-of-trees d.definitions);
+      few_operators = omega (arith, s.few_operators, length-map d.operators operator_tree);
       operators = Each-implies (λ o. OperatorTreeKeeps (seen k.signature) (length names) (operator_tree o)) (OperatorKeeps (signature_of d) (length names)) (λ o h. operator-of-tree (signature_of d) (length names) o (subst (λ (g : domain.Signature). OperatorTreeKeeps g (length names) (operator_tree o)) same h)) d.operators operators;
       control_closed = nowhere _ s.control.below;
       control_fits = (subst (λ (g : domain.Signature). FormulaKeeps g (length names) [] 0 (tree_of_formula d.control)) same s.control).fits;

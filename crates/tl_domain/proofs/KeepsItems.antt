@@ -29,7 +29,7 @@ use Rattle.tl_domain.specs.declared.words.ItemWord.{ItemWord}
 use Rattle.tl_domain.specs.declared.words.ItemWord.TheVariants as item
 use Rattle.tl_domain.specs.DomainTrees.{DefinitionTree}
 use Rattle.tl_domain.specs.Operators.{head_breaks, parameters_of, name_in_head, are_clauses}
-use Rattle.tl_domain.specs.Items.{levels_breaks, declaration_of, with_head, signature_after, levels_after}
+use Rattle.tl_domain.specs.Items.{levels_breaks, declaration_of, with_head, signature_after, operators_after, levels_after}
 use Rattle.tl_domain.specs.MeaningOfItems.{definition_meant, predicates_in, functions_in, definitions_in, operators_in, control_with}
 use Rattle.tl_domain.proofs.KeepsDeclarations.{IsLawful, within}
 use Rattle.tl_domain.proofs.KeepsHeads.{HeadKeeps, head-keeps, parameters-keep, head-place, in-scope}
@@ -67,6 +67,27 @@ functions-grow names g item.Defined (more_forms n (more_forms head rest)) = sym 
 functions-grow names g item.Operator rest = sym (append-nil (arities g.functions))
 functions-grow names g item.Control rest = sym (append-nil (arities g.functions))
 functions-grow names g item.Other rest = sym (append-nil (arities g.functions))
+
+-- ---- how many predicates, functions and operators there are: an item adds one only where there is room
+
+pub predicates-few : (names : List (List ℕ)) (k : Known) (w : ItemWord) (rest : FormTrees) → IsLawful names k w rest → length k.signature.predicates ≤ 256 → length k.signature.predicates + length (predicates_in names w rest) ≤ 256
+predicates-few names k item.Predicate rest h few = let room = ltb-true (length k.signature.predicates) 256 (not-false (nat_lt (length k.signature.predicates) 256) h.room) in omega arith
+predicates-few names k _ rest h few = omega arith
+
+pub functions-few : (names : List (List ℕ)) (k : Known) (w : ItemWord) (rest : FormTrees) → IsLawful names k w rest → length k.signature.functions ≤ 256 → length k.signature.functions + length (functions_in names w rest) ≤ 256
+functions-few names k item.Function rest h few = let room = ltb-true (length k.signature.functions) 256 (not-false (nat_lt (length k.signature.functions) 256) h.room) in omega arith
+functions-few names k _ rest h few = omega arith
+
+pub operators-few : (names : List (List ℕ)) (k : Known) (w : ItemWord) (rest : FormTrees) → IsLawful names k w rest → length k.operators ≤ 256 → length k.operators + length (operators_in names k.signature w rest) ≤ 256
+operators-few names k item.Operator no_form h few = omega arith
+operators-few names k item.Operator (more_forms head clauses) h few = let room = ltb-true (length k.operators) 256 (not-false (nat_lt (length k.operators) 256) h.room) in omega arith
+operators-few names k _ rest h few = omega arith
+
+-- an operator joins the domain where its name joins the names of operators
+pub operators-grow : (names : List (List ℕ)) (k : Known) (w : ItemWord) (rest : FormTrees) → length (operators_after k.operators w rest) ≡ length k.operators + length (operators_in names k.signature w rest)
+operators-grow names k item.Operator no_form = omega arith
+operators-grow names k item.Operator (more_forms head clauses) = length-append k.operators (name_in_head head ∷ [])
+operators-grow names k _ rest = omega arith
 
 -- ---- definitions
 

@@ -17,3 +17,5 @@ pub mod KeepsFiles
 pub mod DomainKept
 pub mod SettledItems
 pub mod SettledFiles
+pub mod NamesInOrder
+pub mod FilesStand

@@ -4,7 +4,9 @@ pub mod Items
 pub mod DomainFiles
 pub mod DomainTrees
 pub mod MeaningOfItems
+pub mod Files
 pub mod Examples
 pub mod LawsOrder
 pub mod LawsKeeps
 pub mod LawsSettled
+pub mod LawsFiles

@@ -1,4 +1,5 @@
 // Laws of domain files, each the contract of a function that does nothing.
+ghost use Rattle.tl_domain.specs.LawsFiles.{FilesStandForOneProblem};
 ghost use Rattle.tl_domain.specs.LawsKeeps.{DomainIsKept, NamesAreThere};
 ghost use Rattle.tl_domain.specs.LawsOrder.{FirstBreakIsLeast};
 ghost use Rattle.tl_domain.specs.LawsSettled.{SettledFileMeans};
@@ -21,4 +22,9 @@ pub fn names_are_there()
 /// Under settled names, the forms of a file that break no rule stand for the renumbered domain that they stood for before.
 pub fn settled_file_means()
     ensures { SettledFileMeans }
+{}
+
+/// Two problems that the same two files stand for have the same names and the same domain, and say the same.
+pub fn files_stand_for_one_problem()
+    ensures { FilesStandForOneProblem }
 {}

@@ -1,6 +1,6 @@
-//! Domain files: the domain that the forms of a file stand for, or the first rule that one of them breaks.
+//! Domain files: the domain that the forms of a file stand for, or the first rule that one of them breaks; and the problem that a domain file and a problem file stand for together.
 //!
-//! The definitions stand in `specs/`.
+//! The definitions stand in `specs/`. Whoever reads files needs this crate alone: it gives the rules and the fault of files too.
 //!
 //! - `words`: the words of items.
 //! - `heads`, `clauses`: the parts of definitions and operators.
@@ -10,7 +10,8 @@
 //! - `item_shapes`, `item_parts`, `items`: items.
 //! - `domain_file`: the domain form, which is the one form of a file.
 //! - `read`: the domain of a file, whose symbols join the names.
-//! - `laws`: what is proved of the breaks of a file, and of the domain that it stands for.
+//! - `problem`: the problem of both files.
+//! - `laws`: what is proved of the breaks of a file, and of the domain and the problem that files stand for.
 #![tactic(auto)]
 
 mod clauses;
@@ -24,8 +25,14 @@ mod known;
 mod laws;
 mod operator_names;
 mod operators;
+mod problem;
 mod read;
 mod words;
 
-pub use laws::{domain_is_kept, first_break_is_least, names_are_there, settled_file_means};
+pub use laws::{
+    domain_is_kept, files_stand_for_one_problem, first_break_is_least, names_are_there,
+    settled_file_means,
+};
+pub use problem::problem_of;
 pub use read::domain_of;
+pub use tl_forms::{FormFault, Rule};

@@ -7,10 +7,10 @@ use Rattle.tl_syntax.specs.Assignment.{Assignment, bind}
 use Rattle.tl_syntax.specs.Lists.{Each}
 
 -- the slot is of none of the variables
-abbrev Outside : ℕ → List Var → Type 0
+abbrev pub Outside : ℕ → List Var → Type 0
 Outside q ss = Each (λ s. (q == s.slot) ≡ false) ss
 
-bind-outside : (ss : List Var) (u : List Value) (e : Assignment) (q : ℕ) → Outside q ss → bind ss u e q ≡ e q
+pub bind-outside : (ss : List Var) (u : List Value) (e : Assignment) (q : ℕ) → Outside q ss → bind ss u e q ≡ e q
 bind-outside [] u e q h = refl
 bind-outside (s ∷ ss) [] e q h = ap (λ (b : Bool). cond b None (bind ss [] e q)) h.0 ∙ bind-outside ss [] e q h.1
 bind-outside (s ∷ ss) (v ∷ u) e q h = ap (λ (b : Bool). cond b (Some v) (bind ss u e q)) h.0 ∙ bind-outside ss u e q h.1

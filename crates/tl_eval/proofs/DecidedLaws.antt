@@ -1,15 +1,17 @@
 -- Parts that are looked at one after another, until one of them decides.
-use Rattle.std.proofs.Common.{◌≡◌, List, [], ◌∷◌, ◌++◌, cond, Bool, true, false, not, ◌&&◌, ◌||◌, Option, Some, None, Ok, refl, sym, ap, ◌∙◌, subst}
+use Rattle.std.proofs.Common.{◌≡◌, List, [], ◌∷◌, ◌++◌, cond, Bool, true, false, not, ◌&&◌, ◌||◌, Ok, refl, sym, ap, ◌∙◌, subst}
 use mathlib.Core.Bool.{beq}
 use Rattle.std.specs.List.{list_any, list_all}
 use Rattle.tl_eval.specs.Notes.{AreInRange, Tells, Evaluates, operation_of, Carries}
-use Rattle.tl_eval.specs.StateTruth.{joined, quantified}
 use Rattle.tl_eval.specs.declared.range.RangeNote.{RangeNote}
 use Rattle.tl_eval.proofs.TermLaws.{in_range-append, among-left, among-right}
 use Rattle.tl_syntax.specs.declared.bound.Bound.{Bound}
+use Rattle.tl_syntax.specs.declared.junction.Junction.{Junction}
+use Rattle.tl_syntax.specs.declared.junction.Junction.TheVariants.{All, Any}
 use Rattle.tl_syntax.specs.declared.value.Value.{Value}
 use Rattle.tl_syntax.specs.declared.variable.Var.{Var}
 use Rattle.tl_syntax.specs.Assignment.{Assignment, bind}
+use Rattle.tl_syntax.specs.Junctions.{deciding_truth, joined, quantified}
 use Rattle.tl_syntax.specs.Trees.{FormulaTree, formulas_of_list}
 use Rattle.tl_terms.specs.Bounds.{tuples}
 use Rattle.tl_terms.specs.Looked.{LookedTable, followed_if, looked_in_state, looked_in_and, looked_in_or, looked_in_turn}
@@ -89,27 +91,27 @@ and-cond true b = refl
 and-cond false b = refl
 
 module _ (d : LookedTable) (s : Situation) (e : Assignment) where
-  pub joined-truth : (stop : Bool) (fs : List FormulaTree) → state_true s e (joined stop (formulas_of_list fs)) ≡ decided stop (state_true s e) fs
+  pub joined-truth : (j : Junction) (stop : Bool) → stop ≡ deciding_truth j → (fs : List FormulaTree) → state_true s e (joined j (formulas_of_list fs)) ≡ decided stop (state_true s e) fs
   unfolding state_true
-  joined-truth true fs = some fs
+  joined-truth Any stop q fs = some fs ∙ ap (λ (b : Bool). decided b (state_true s e) fs) (sym q)
     where
       some : (fs : List FormulaTree) → one_true s e (formulas_of_list fs) ≡ decided true (state_true s e) fs
       some [] = refl
       some (f ∷ fs) = or-cond (state_true s e f) (one_true s e (formulas_of_list fs)) ∙ ap (λ (b : Bool). cond (not (state_true s e f)) b true) (some fs)
-  joined-truth false fs = all fs
+  joined-truth All stop q fs = all fs ∙ ap (λ (b : Bool). decided b (state_true s e) fs) (sym q)
     where
       all : (fs : List FormulaTree) → all_true s e (formulas_of_list fs) ≡ decided false (state_true s e) fs
       all [] = refl
       all (f ∷ fs) = and-cond (state_true s e f) (all_true s e (formulas_of_list fs)) ∙ ap (λ (b : Bool). cond (state_true s e f) b false) (all fs)
 
-  pub joined-looks : (stop : Bool) (fs : List FormulaTree) → looked_in_state d s e (joined stop (formulas_of_list fs)) ≡ looked_until stop (state_true s e) (looked_in_state d s e) fs
+  pub joined-looks : (j : Junction) (stop : Bool) → stop ≡ deciding_truth j → (fs : List FormulaTree) → looked_in_state d s e (joined j (formulas_of_list fs)) ≡ looked_until stop (state_true s e) (looked_in_state d s e) fs
   unfolding looked_in_state
-  joined-looks true fs = some fs
+  joined-looks Any stop q fs = some fs ∙ ap (λ (b : Bool). looked_until b (state_true s e) (looked_in_state d s e) fs) (sym q)
     where
       some : (fs : List FormulaTree) → looked_in_or d s e (formulas_of_list fs) ≡ looked_until true (state_true s e) (looked_in_state d s e) fs
       some [] = refl
       some (f ∷ fs) = ap (followed_if (not (state_true s e f)) (looked_in_state d s e f)) (some fs)
-  joined-looks false fs = all fs
+  joined-looks All stop q fs = all fs ∙ ap (λ (b : Bool). looked_until b (state_true s e) (looked_in_state d s e) fs) (sym q)
     where
       all : (fs : List FormulaTree) → looked_in_and d s e (formulas_of_list fs) ≡ looked_until false (state_true s e) (looked_in_state d s e) fs
       all [] = refl
@@ -136,15 +138,15 @@ turn-until stop truth looked [] = refl
 turn-until stop truth looked (t ∷ ts) = ap (followed_if (goes_past stop (truth t)) (looked t)) (turn-until stop truth looked ts)
 
 module _ (d : LookedTable) (s : Situation) (e : Assignment) (ss : List Var) (b : Bound) (f : FormulaTree) where
-  pub quantified-truth : (stop : Bool) → state_true s e (quantified stop ss b f) ≡ decided stop (instance_truth s e ss f) (tuples s e ss b)
+  pub quantified-truth : (j : Junction) (stop : Bool) → stop ≡ deciding_truth j → state_true s e (quantified j ss b f) ≡ decided stop (instance_truth s e ss f) (tuples s e ss b)
   unfolding state_true
-  quantified-truth true = any-decided (instance_truth s e ss f) (tuples s e ss b)
-  quantified-truth false = all-decided (instance_truth s e ss f) (tuples s e ss b)
+  quantified-truth Any stop q = any-decided (instance_truth s e ss f) (tuples s e ss b) ∙ ap (λ (x : Bool). decided x (instance_truth s e ss f) (tuples s e ss b)) (sym q)
+  quantified-truth All stop q = all-decided (instance_truth s e ss f) (tuples s e ss b) ∙ ap (λ (x : Bool). decided x (instance_truth s e ss f) (tuples s e ss b)) (sym q)
 
-  pub quantified-looks : (stop : Bool) → looked_in_state d s e (quantified stop ss b f) ≡ looked_until stop (instance_truth s e ss f) (instance_looks d s e ss f) (tuples s e ss b)
+  pub quantified-looks : (j : Junction) (stop : Bool) → stop ≡ deciding_truth j → looked_in_state d s e (quantified j ss b f) ≡ looked_until stop (instance_truth s e ss f) (instance_looks d s e ss f) (tuples s e ss b)
   unfolding looked_in_state
-  quantified-looks true = turn-until true (instance_truth s e ss f) (instance_looks d s e ss f) (tuples s e ss b)
-  quantified-looks false = turn-until false (instance_truth s e ss f) (instance_looks d s e ss f) (tuples s e ss b)
+  quantified-looks Any stop q = turn-until true (instance_truth s e ss f) (instance_looks d s e ss f) (tuples s e ss b) ∙ ap (λ (x : Bool). looked_until x (instance_truth s e ss f) (instance_looks d s e ss f) (tuples s e ss b)) (sym q)
+  quantified-looks All stop q = turn-until false (instance_truth s e ss f) (instance_looks d s e ss f) (tuples s e ss b) ∙ ap (λ (x : Bool). looked_until x (instance_truth s e ss f) (instance_looks d s e ss f) (tuples s e ss b)) (sym q)
 
 -- ---- what a test of two truths and a match that fails say
 
@@ -159,7 +161,3 @@ other-truth true true h q = let z : ⊥ = cc in z
 other-truth true false h q = let z : ⊥ = cc in z
 other-truth false true h q = let z : ⊥ = cc in z
 other-truth false false h q = let z : ⊥ = cc in z
-
-pub none-left : {A : Type 0} (o : Option A) → ((x : A) → o ≡ Some x → ⊥) → o ≡ None
-none-left None h = refl
-none-left (Some x) h = absurd (h x refl)

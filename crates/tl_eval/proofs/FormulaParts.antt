@@ -1,7 +1,7 @@
 -- The parts of a formula that fits: they fit, and are smaller.
 use Rattle.std.proofs.Common.{◌≡◌, ◌≤◌, ◌<◌, ◌+◌, ℕ, zero, suc, List, [], ◌∷◌, ◌++◌, map, take, Some, length, get_or, Bool, true, false, Box, Global, sym, ap, ◌∙◌, subst, arith}
 use Rattle.tl_eval.specs.Small.{HasFewArguments, HaveFewArguments}
-use Rattle.tl_eval.specs.StateTruth.{FitsAt, joined, quantified}
+use Rattle.tl_eval.specs.StateTruth.{FitsAt}
 use Rattle.tl_eval.proofs.ArityLaws.{AreFew, term-few, terms-few}
 use Rattle.tl_eval.proofs.PatternLaws.{few-variables, bound-few}
 use Rattle.tl_eval.proofs.FormulaSizes.{formula_nodes, formulas_nodes}
@@ -10,6 +10,8 @@ use Rattle.tl_syntax.specs.declared.bound.Bound.TheVariants as bound
 use Rattle.tl_syntax.specs.declared.formula.Formula.{Formula}
 use Rattle.tl_syntax.specs.declared.formula.Formula.TheVariants as formula
 use Rattle.tl_syntax.specs.declared.formula.Formulas.{Formulas}
+use Rattle.tl_syntax.specs.declared.junction.Junction.{Junction}
+use Rattle.tl_syntax.specs.declared.junction.Junction.TheVariants.{All, Any}
 use Rattle.tl_syntax.specs.declared.term.Term.{Term}
 use Rattle.tl_syntax.specs.declared.term.Terms.{Terms}
 use Rattle.tl_syntax.specs.declared.value.Cmp.{Cmp}
@@ -19,6 +21,7 @@ use Rattle.tl_syntax.specs.BoundVariables.{DifferInSlot, OccurIn}
 use Rattle.tl_syntax.specs.Lists.{Each}
 use Rattle.tl_syntax.specs.Fits.{BoundFits, Fits, AllFit, VariablesFit, term_count}
 use Rattle.tl_syntax.specs.FreeVariables.{slots_of}
+use Rattle.tl_syntax.specs.Junctions.{joined, quantified}
 use Rattle.tl_syntax.specs.Signature.{Signature, with_definitions_below, Takes}
 use Rattle.tl_syntax.specs.TreeOfFormula.{tree_of_formula, tree_of_formulas}
 use Rattle.tl_syntax.specs.TreeOfTerm.{tree_of_term, tree_of_terms}
@@ -89,28 +92,28 @@ part-Not g n f x q h =
     let nodes : formula_nodes (tree_of_formula f) ≡ 1 + formula_nodes (tree_of_formula x.value) = ap formula_nodes same in
     record { fits = record { around = whole.around; fits = whole.fits }; smaller = omega arith }
 
-pub part-And : (g : Signature) (n : ℕ) (f : Formula) (x : Formulas) → f ≡ formula.And x → FitsAt g n (tree_of_formula f) → Entered g n f (joined false (tree_of_formulas x)) (formulas_nodes (tree_of_formulas x))
+pub part-And : (g : Signature) (n : ℕ) (f : Formula) (x : Formulas) → f ≡ formula.And x → FitsAt g n (tree_of_formula f) → Entered g n f (joined All (tree_of_formulas x)) (formulas_nodes (tree_of_formulas x))
 unfolding formula_nodes
 part-And g n f x q h =
     let same : tree_of_formula f ≡ conjunction (tree_of_formulas x) = ap tree_of_formula q ∙ tree-And x in
     let nodes : formula_nodes (tree_of_formula f) ≡ 1 + formulas_nodes (tree_of_formulas x) = ap formula_nodes same in
     record { fits = subst (FitsAt g n) same h; smaller = omega arith }
 
-pub part-Or : (g : Signature) (n : ℕ) (f : Formula) (x : Formulas) → f ≡ formula.Or x → FitsAt g n (tree_of_formula f) → Entered g n f (joined true (tree_of_formulas x)) (formulas_nodes (tree_of_formulas x))
+pub part-Or : (g : Signature) (n : ℕ) (f : Formula) (x : Formulas) → f ≡ formula.Or x → FitsAt g n (tree_of_formula f) → Entered g n f (joined Any (tree_of_formulas x)) (formulas_nodes (tree_of_formulas x))
 unfolding formula_nodes
 part-Or g n f x q h =
     let same : tree_of_formula f ≡ disjunction (tree_of_formulas x) = ap tree_of_formula q ∙ tree-Or x in
     let nodes : formula_nodes (tree_of_formula f) ≡ 1 + formulas_nodes (tree_of_formulas x) = ap formula_nodes same in
     record { fits = subst (FitsAt g n) same h; smaller = omega arith }
 
-pub part-ForAll : (g : Signature) (n : ℕ) (f : Formula) (ss : List Var) (b : Bound) (x : Box Formula Global) → f ≡ formula.ForAll ss b x → FitsAt g n (tree_of_formula f) → Entered g n f (quantified false ss b (tree_of_formula x.value)) (2 + formula_nodes (tree_of_formula x.value))
+pub part-ForAll : (g : Signature) (n : ℕ) (f : Formula) (ss : List Var) (b : Bound) (x : Box Formula Global) → f ≡ formula.ForAll ss b x → FitsAt g n (tree_of_formula f) → Entered g n f (quantified All ss b (tree_of_formula x.value)) (2 + formula_nodes (tree_of_formula x.value))
 unfolding formula_nodes
 part-ForAll g n f ss b x q h =
     let same : tree_of_formula f ≡ for_all ss b (tree_of_formula x.value) = ap tree_of_formula q ∙ tree-ForAll ss b x in
     let nodes : formula_nodes (tree_of_formula f) ≡ 3 + formula_nodes (tree_of_formula x.value) = ap formula_nodes same in
     record { fits = subst (FitsAt g n) same h; smaller = omega arith }
 
-pub part-Exists : (g : Signature) (n : ℕ) (f : Formula) (ss : List Var) (b : Bound) (x : Box Formula Global) → f ≡ formula.Exists ss b x → FitsAt g n (tree_of_formula f) → Entered g n f (quantified true ss b (tree_of_formula x.value)) (2 + formula_nodes (tree_of_formula x.value))
+pub part-Exists : (g : Signature) (n : ℕ) (f : Formula) (ss : List Var) (b : Bound) (x : Box Formula Global) → f ≡ formula.Exists ss b x → FitsAt g n (tree_of_formula f) → Entered g n f (quantified Any ss b (tree_of_formula x.value)) (2 + formula_nodes (tree_of_formula x.value))
 unfolding formula_nodes
 part-Exists g n f ss b x q h =
     let same : tree_of_formula f ≡ for_some ss b (tree_of_formula x.value) = ap tree_of_formula q ∙ tree-Exists ss b x in
@@ -131,20 +134,20 @@ size-at [] i d k = absurd (omega arith)
 size-at (x ∷ xs) zero d k = omega arith
 size-at (x ∷ xs) (suc i) d k = let more = size-at xs i d (omega arith) in omega arith
 
-all-fit : (g : Signature) (n : ℕ) (stop : Bool) (fs : FormulaTrees) (h : FitsAt g n (joined stop fs)) → AllFit (with_definitions_below (n + 1) g) h.around fs
+all-fit : (g : Signature) (n : ℕ) (j : Junction) (fs : FormulaTrees) (h : FitsAt g n (joined j fs)) → AllFit (with_definitions_below (n + 1) g) h.around fs
 unfolding Fits
-all-fit g n true fs h = h.fits
-all-fit g n false fs h = h.fits
+all-fit g n Any fs h = h.fits
+all-fit g n All fs h = h.fits
 
 pub record Item (g : Signature) (n : ℕ) (all : FormulaTrees) (x : FormulaTree) : Type 0 where
   pub fits : FitsAt g n x
   pub smaller : formula_nodes x < formulas_nodes all
 
-pub item-fits : (g : Signature) (n : ℕ) (stop : Bool) (all : Formulas) (items : List Formula) (i : ℕ) (x : Formula) → items ≡ all.items.items → i < length items → x ≡ get_or items i x
-    → FitsAt g n (joined stop (tree_of_formulas all)) → Item g n (tree_of_formulas all) (tree_of_formula x)
-item-fits g n stop all items i x q h k fits =
+pub item-fits : (g : Signature) (n : ℕ) (j : Junction) (all : Formulas) (items : List Formula) (i : ℕ) (x : Formula) → items ≡ all.items.items → i < length items → x ≡ get_or items i x
+    → FitsAt g n (joined j (tree_of_formulas all)) → Item g n (tree_of_formulas all) (tree_of_formula x)
+item-fits g n j all items i x q h k fits =
     let same : tree_of_formulas all ≡ formulas_of_list (map tree_of_formula items) = trees-Formulas all ∙ ap (λ (xs : List Formula). formulas_of_list (map tree_of_formula xs)) (sym q) in
-    let each : AllFit (with_definitions_below (n + 1) g) fits.around (formulas_of_list (map tree_of_formula items)) = subst (AllFit (with_definitions_below (n + 1) g) fits.around) same (all-fit g n stop (tree_of_formulas all) fits) in
+    let each : AllFit (with_definitions_below (n + 1) g) fits.around (formulas_of_list (map tree_of_formula items)) = subst (AllFit (with_definitions_below (n + 1) g) fits.around) same (all-fit g n j (tree_of_formulas all) fits) in
     let size = size-at items i x h in
     let nodes : formula_nodes (tree_of_formula x) ≡ formula_nodes (tree_of_formula (get_or items i x)) = ap (λ (y : Formula). formula_nodes (tree_of_formula y)) k in
     let total : formulas_nodes (tree_of_formulas all) ≡ formulas_nodes (formulas_of_list (map tree_of_formula items)) = ap formulas_nodes same in
@@ -160,10 +163,10 @@ pub record Quantifier (g : Signature) (n : ℕ) (ss : List Var) (b : Bound) (f :
   pub variables : VariablesFit (with_definitions_below (n + 1) g) around ss b
   pub body : FitsAt g n f
 
-pub quantifier-fits : (g : Signature) (n : ℕ) (stop : Bool) (ss : List Var) (b : Bound) (f : FormulaTree) → FitsAt g n (quantified stop ss b f) → Quantifier g n ss b f
+pub quantifier-fits : (g : Signature) (n : ℕ) (j : Junction) (ss : List Var) (b : Bound) (f : FormulaTree) → FitsAt g n (quantified j ss b f) → Quantifier g n ss b f
 unfolding Fits
-quantifier-fits g n true ss b f h = record { around = h.around; variables = h.fits.0; body = record { around = slots_of ss ++ h.around; fits = h.fits.1 } }
-quantifier-fits g n false ss b f h = record { around = h.around; variables = h.fits.0; body = record { around = slots_of ss ++ h.around; fits = h.fits.1 } }
+quantifier-fits g n Any ss b f h = record { around = h.around; variables = h.fits.0; body = record { around = slots_of ss ++ h.around; fits = h.fits.1 } }
+quantifier-fits g n All ss b f h = record { around = h.around; variables = h.fits.0; body = record { around = slots_of ss ++ h.around; fits = h.fits.1 } }
 
 -- ---- what the next tuple of a quantifier needs
 
@@ -182,9 +185,9 @@ pub record Tuples (g : Signature) (n : ℕ) (ss : List Var) (b : Bound) (f : For
   pub in_frame : Each (λ s. s.slot < 32) ss
   pub body : FitsAt g n f
 
-pub tuples-fit : (g : Signature) (n : ℕ) (stop : Bool) (ss : List Var) (b : Bound) (f : FormulaTree) → AreFew g.predicates → AreFew g.functions → FitsAt g n (quantified stop ss b f) → Tuples g n ss b f
-tuples-fit g n stop ss b f p k h =
-    let q = quantifier-fits g n stop ss b f h in
+pub tuples-fit : (g : Signature) (n : ℕ) (j : Junction) (ss : List Var) (b : Bound) (f : FormulaTree) → AreFew g.predicates → AreFew g.functions → FitsAt g n (quantified j ss b f) → Tuples g n ss b f
+tuples-fit g n j ss b f p k h =
+    let q = quantifier-fits g n j ss b f h in
     let fits = bound-whole g (n + 1) b q.variables.bound in
     record {
       differ = q.variables.differ;

@@ -17,4 +17,6 @@ pub mod BodyLaws
 pub mod StateLaws
 pub mod TupleRest
 pub mod BindLaws
+pub mod KeptLaws
+pub mod PutLaws
 pub mod WholeLaws

@@ -2,7 +2,7 @@
 use Rattle.std.proofs.Common.{◌≡◌, ◌<◌, ◌≤◌, ◌+◌, ℕ, zero, suc, List, [], ◌∷◌, ◌++◌, map, drop, length, get_or, Bool, true, false, not, Option, Some, None, Result, Ok, Err, Box, Global, refl, sym, ap, ◌∙◌, subst, drop-cons, add-one, arith}
 use Rattle.tl_eval.specs.Notes.{AreInRange, Tells, Evaluates, operation_of}
 use Rattle.tl_eval.specs.Reading.{situation_read, looked_read}
-use Rattle.tl_eval.specs.StateTruth.{IsTruth, joined, quantified}
+use Rattle.tl_eval.specs.StateTruth.{IsTruth}
 use Rattle.tl_eval.specs.declared.range.RangeNote.{RangeNote}
 use Rattle.tl_eval.proofs.DecidedLaws.{decided, looked_until, Through, through-begun, through-on, through-stop, through-noted, through-end, joined-truth, joined-looks, instance_truth, instance_looks, quantified-truth, quantified-looks}
 use Rattle.tl_eval.proofs.ReadingLaws.{Closed, Opened}
@@ -12,6 +12,8 @@ use Rattle.tl_syntax.specs.declared.bound.Bound.{Bound}
 use Rattle.tl_syntax.specs.declared.formula.Formula.{Formula}
 use Rattle.tl_syntax.specs.declared.formula.Formula.TheVariants as formula
 use Rattle.tl_syntax.specs.declared.formula.Formulas.{Formulas}
+use Rattle.tl_syntax.specs.declared.junction.Junction.{Junction}
+use Rattle.tl_syntax.specs.declared.junction.Junction.TheVariants.{All, Any}
 use Rattle.tl_syntax.specs.declared.term.Term.{Term}
 use Rattle.tl_syntax.specs.declared.term.Terms.{Terms}
 use Rattle.tl_syntax.specs.declared.value.Cmp.{Cmp}
@@ -21,6 +23,7 @@ use Rattle.tl_syntax.specs.declared.variable.Var.{Var}
 use Rattle.tl_syntax.specs.Assignment.{Assignment, no_values, bind}
 use Rattle.tl_syntax.specs.BoundVariables.{OccurIn, DifferInSlot}
 use Rattle.tl_syntax.specs.Fits.{term_count}
+use Rattle.tl_syntax.specs.Junctions.{deciding_truth, joined, quantified}
 use Rattle.tl_syntax.specs.TreeOfFormula.{tree_of_formula, tree_of_formulas}
 use Rattle.tl_syntax.specs.TreeOfTerm.{tree_of_term, tree_of_terms}
 use Rattle.tl_syntax.specs.Trees.{TermTrees, no_term, more_terms, FormulaTree, verum, falsum, atom, defined, compare, goal_fact, goal_place, goal_not, negation, conjunction, disjunction, for_all, for_some, next, always, eventually, until, within, during, formulas_of_list}
@@ -114,17 +117,17 @@ module _ (p : PlainProblem) (w : World) (n k : ℕ) (e : Assignment) where
   pub at-Defined : (f : Formula) (c : ℕ) (ts : Terms) (r : Result Bool RangeNote) → f ≡ formula.Defined c ts → IsTruth p w n k e (defined c (tree_of_terms ts)) r → IsTruth p w n k e (tree_of_formula f) r
   at-Defined f c ts r q h = by_formula f (defined c (tree_of_terms ts)) r (ap tree_of_formula q ∙ tree-Defined c ts) h
 
-  pub at-And : (f : Formula) (fs : Formulas) (r : Result Bool RangeNote) → f ≡ formula.And fs → IsTruth p w n k e (joined false (tree_of_formulas fs)) r → IsTruth p w n k e (tree_of_formula f) r
+  pub at-And : (f : Formula) (fs : Formulas) (r : Result Bool RangeNote) → f ≡ formula.And fs → IsTruth p w n k e (joined All (tree_of_formulas fs)) r → IsTruth p w n k e (tree_of_formula f) r
   at-And f fs r q h = by_formula f (conjunction (tree_of_formulas fs)) r (ap tree_of_formula q ∙ tree-And fs) h
 
-  pub at-Or : (f : Formula) (fs : Formulas) (r : Result Bool RangeNote) → f ≡ formula.Or fs → IsTruth p w n k e (joined true (tree_of_formulas fs)) r → IsTruth p w n k e (tree_of_formula f) r
+  pub at-Or : (f : Formula) (fs : Formulas) (r : Result Bool RangeNote) → f ≡ formula.Or fs → IsTruth p w n k e (joined Any (tree_of_formulas fs)) r → IsTruth p w n k e (tree_of_formula f) r
   at-Or f fs r q h = by_formula f (disjunction (tree_of_formulas fs)) r (ap tree_of_formula q ∙ tree-Or fs) h
 
-  pub at-ForAll : (f : Formula) (ss : List Var) (b : Bound) (x : Box Formula Global) (u : Formula) (r : Result Bool RangeNote) → f ≡ formula.ForAll ss b x → u ≡ x.value → IsTruth p w n k e (quantified false ss b (tree_of_formula u)) r → IsTruth p w n k e (tree_of_formula f) r
-  at-ForAll f ss b x u r q s h = by_formula f (for_all ss b (tree_of_formula x.value)) r (ap tree_of_formula q ∙ tree-ForAll ss b x) (subst (λ (y : Formula). IsTruth p w n k e (quantified false ss b (tree_of_formula y)) r) s h)
+  pub at-ForAll : (f : Formula) (ss : List Var) (b : Bound) (x : Box Formula Global) (u : Formula) (r : Result Bool RangeNote) → f ≡ formula.ForAll ss b x → u ≡ x.value → IsTruth p w n k e (quantified All ss b (tree_of_formula u)) r → IsTruth p w n k e (tree_of_formula f) r
+  at-ForAll f ss b x u r q s h = by_formula f (for_all ss b (tree_of_formula x.value)) r (ap tree_of_formula q ∙ tree-ForAll ss b x) (subst (λ (y : Formula). IsTruth p w n k e (quantified All ss b (tree_of_formula y)) r) s h)
 
-  pub at-Exists : (f : Formula) (ss : List Var) (b : Bound) (x : Box Formula Global) (u : Formula) (r : Result Bool RangeNote) → f ≡ formula.Exists ss b x → u ≡ x.value → IsTruth p w n k e (quantified true ss b (tree_of_formula u)) r → IsTruth p w n k e (tree_of_formula f) r
-  at-Exists f ss b x u r q s h = by_formula f (for_some ss b (tree_of_formula x.value)) r (ap tree_of_formula q ∙ tree-Exists ss b x) (subst (λ (y : Formula). IsTruth p w n k e (quantified true ss b (tree_of_formula y)) r) s h)
+  pub at-Exists : (f : Formula) (ss : List Var) (b : Bound) (x : Box Formula Global) (u : Formula) (r : Result Bool RangeNote) → f ≡ formula.Exists ss b x → u ≡ x.value → IsTruth p w n k e (quantified Any ss b (tree_of_formula u)) r → IsTruth p w n k e (tree_of_formula f) r
+  at-Exists f ss b x u r q s h = by_formula f (for_some ss b (tree_of_formula x.value)) r (ap tree_of_formula q ∙ tree-Exists ss b x) (subst (λ (y : Formula). IsTruth p w n k e (quantified Any ss b (tree_of_formula y)) r) s h)
 
   -- ---- an atom of a definition
 
@@ -175,29 +178,29 @@ module _ (p : PlainProblem) (w : World) (n k : ℕ) (e : Assignment) where
       through-on stop (state_true (situation_read p w n k) e) (looked_in_state (looked_read p w n k) (situation_read p w n k) e) (map tree_of_formula items) (tree_of_formula x) (map tree_of_formula (drop (i + 1) items)) b (at-part stop items i x h q t) found open_still
 
   -- the whole is decided as its list of parts is
-  by_parts : (stop : Bool) (fs : Formulas) (items : List Formula) (r : Result Bool RangeNote) → items ≡ fs.items.items
+  by_parts : (j : Junction) (stop : Bool) (decides : stop ≡ deciding_truth j) (fs : Formulas) (items : List Formula) (r : Result Bool RangeNote) → items ≡ fs.items.items
       → Evaluates (decided stop (state_true (situation_read p w n k) e) (map tree_of_formula items)) (looked_until stop (state_true (situation_read p w n k) e) (looked_in_state (looked_read p w n k) (situation_read p w n k) e) (map tree_of_formula items)) r
-      → IsTruth p w n k e (joined stop (tree_of_formulas fs)) r
-  by_parts stop fs items r q h =
+      → IsTruth p w n k e (joined j (tree_of_formulas fs)) r
+  by_parts j stop decides fs items r q h =
       let same : tree_of_formulas fs ≡ formulas_of_list (map tree_of_formula items) = trees-Formulas fs ∙ ap (λ (xs : List Formula). formulas_of_list (map tree_of_formula xs)) (sym q) in
-      let truth = joined-truth (looked_read p w n k) (situation_read p w n k) e stop (map tree_of_formula items) in
-      let looks = joined-looks (looked_read p w n k) (situation_read p w n k) e stop (map tree_of_formula items) in
-      subst (λ xs. IsTruth p w n k e (joined stop xs) r) (sym same) (subst (λ (b : Bool). Evaluates b (looked_in_state (looked_read p w n k) (situation_read p w n k) e (joined stop (formulas_of_list (map tree_of_formula items)))) r) (sym truth)
+      let truth = joined-truth (looked_read p w n k) (situation_read p w n k) e j stop decides (map tree_of_formula items) in
+      let looks = joined-looks (looked_read p w n k) (situation_read p w n k) e j stop decides (map tree_of_formula items) in
+      subst (λ xs. IsTruth p w n k e (joined j xs) r) (sym same) (subst (λ (b : Bool). Evaluates b (looked_in_state (looked_read p w n k) (situation_read p w n k) e (joined j (formulas_of_list (map tree_of_formula items)))) r) (sym truth)
       (subst (λ (l : List Operation). Evaluates (decided stop (state_true (situation_read p w n k) e) (map tree_of_formula items)) l r) (sym looks) h))
 
-  pub parts-stop : (stop : Bool) (fs : Formulas) (items : List Formula) (i : ℕ) (x : Formula) (b : Bool) → items ≡ fs.items.items → i < length items → x ≡ get_or items i x → PartsPassed stop items (drop i items)
-      → IsTruth p w n k e (tree_of_formula x) (Ok b) → b ≡ stop → IsTruth p w n k e (joined stop (tree_of_formulas fs)) (Ok stop)
-  parts-stop stop fs items i x b s h q t found is =
-      by_parts stop fs items (Ok stop) s (through-stop stop (state_true (situation_read p w n k) e) (looked_in_state (looked_read p w n k) (situation_read p w n k) e) (map tree_of_formula items) (tree_of_formula x) (map tree_of_formula (drop (i + 1) items)) b (at-part stop items i x h q t) found is)
+  pub parts-stop : (j : Junction) (stop : Bool) (decides : stop ≡ deciding_truth j) (fs : Formulas) (items : List Formula) (i : ℕ) (x : Formula) (b : Bool) → items ≡ fs.items.items → i < length items → x ≡ get_or items i x → PartsPassed stop items (drop i items)
+      → IsTruth p w n k e (tree_of_formula x) (Ok b) → b ≡ stop → IsTruth p w n k e (joined j (tree_of_formulas fs)) (Ok stop)
+  parts-stop j stop decides fs items i x b s h q t found is =
+      by_parts j stop decides fs items (Ok stop) s (through-stop stop (state_true (situation_read p w n k) e) (looked_in_state (looked_read p w n k) (situation_read p w n k) e) (map tree_of_formula items) (tree_of_formula x) (map tree_of_formula (drop (i + 1) items)) b (at-part stop items i x h q t) found is)
 
-  pub parts-noted : (stop : Bool) (fs : Formulas) (items : List Formula) (i : ℕ) (x : Formula) (m : RangeNote) → items ≡ fs.items.items → i < length items → x ≡ get_or items i x → PartsPassed stop items (drop i items)
-      → IsTruth p w n k e (tree_of_formula x) (Err m) → IsTruth p w n k e (joined stop (tree_of_formulas fs)) (Err m)
-  parts-noted stop fs items i x m s h q t found =
-      by_parts stop fs items (Err m) s (through-noted stop (state_true (situation_read p w n k) e) (looked_in_state (looked_read p w n k) (situation_read p w n k) e) (map tree_of_formula items) (tree_of_formula x) (map tree_of_formula (drop (i + 1) items)) m (at-part stop items i x h q t) found)
+  pub parts-noted : (j : Junction) (stop : Bool) (decides : stop ≡ deciding_truth j) (fs : Formulas) (items : List Formula) (i : ℕ) (x : Formula) (m : RangeNote) → items ≡ fs.items.items → i < length items → x ≡ get_or items i x → PartsPassed stop items (drop i items)
+      → IsTruth p w n k e (tree_of_formula x) (Err m) → IsTruth p w n k e (joined j (tree_of_formulas fs)) (Err m)
+  parts-noted j stop decides fs items i x m s h q t found =
+      by_parts j stop decides fs items (Err m) s (through-noted stop (state_true (situation_read p w n k) e) (looked_in_state (looked_read p w n k) (situation_read p w n k) e) (map tree_of_formula items) (tree_of_formula x) (map tree_of_formula (drop (i + 1) items)) m (at-part stop items i x h q t) found)
 
-  pub parts-end : (stop : Bool) (fs : Formulas) (items : List Formula) (i : ℕ) → items ≡ fs.items.items → length items ≤ i → PartsPassed stop items (drop i items) → IsTruth p w n k e (joined stop (tree_of_formulas fs)) (Ok (not stop))
-  parts-end stop fs items i s h t =
-      by_parts stop fs items (Ok (not stop)) s (through-end stop (state_true (situation_read p w n k) e) (looked_in_state (looked_read p w n k) (situation_read p w n k) e) (map tree_of_formula items)
+  pub parts-end : (j : Junction) (stop : Bool) (decides : stop ≡ deciding_truth j) (fs : Formulas) (items : List Formula) (i : ℕ) → items ≡ fs.items.items → length items ≤ i → PartsPassed stop items (drop i items) → IsTruth p w n k e (joined j (tree_of_formulas fs)) (Ok (not stop))
+  parts-end j stop decides fs items i s h t =
+      by_parts j stop decides fs items (Ok (not stop)) s (through-end stop (state_true (situation_read p w n k) e) (looked_in_state (looked_read p w n k) (situation_read p w n k) e) (map tree_of_formula items)
       (subst (λ (xs : List Formula). PartsPassed stop items xs) (past-end items i h) t))
     where
       past-end : (xs : List Formula) (j : ℕ) → length xs ≤ j → drop j xs ≡ []
@@ -245,18 +248,18 @@ module _ (p : PlainProblem) (w : World) (n k : ℕ) (e : Assignment) (ss : List 
       (through-begun stop (instance_truth (situation_read p w n k) e ss f) (instance_looks (looked_read p w n k) (situation_read p w n k) e ss f) tuples_read)
 
   -- the quantifier is decided as its list of tuples is
-  by_tuples : (stop : Bool) (r : Result Bool RangeNote)
+  by_tuples : (j : Junction) (stop : Bool) (decides : stop ≡ deciding_truth j) (r : Result Bool RangeNote)
       → Evaluates (decided stop (instance_truth (situation_read p w n k) e ss f) tuples_read) (looked_until stop (instance_truth (situation_read p w n k) e ss f) (instance_looks (looked_read p w n k) (situation_read p w n k) e ss f) tuples_read) r
-      → IsTruth p w n k e (quantified stop ss b f) r
-  by_tuples stop r h =
-      subst (λ (x : Bool). Evaluates x (looked_in_state (looked_read p w n k) (situation_read p w n k) e (quantified stop ss b f)) r) (sym (quantified-truth (looked_read p w n k) (situation_read p w n k) e ss b f stop))
-      (subst (λ (l : List Operation). Evaluates (decided stop (instance_truth (situation_read p w n k) e ss f) tuples_read) l r) (sym (quantified-looks (looked_read p w n k) (situation_read p w n k) e ss b f stop)) h)
+      → IsTruth p w n k e (quantified j ss b f) r
+  by_tuples j stop decides r h =
+      subst (λ (x : Bool). Evaluates x (looked_in_state (looked_read p w n k) (situation_read p w n k) e (quantified j ss b f)) r) (sym (quantified-truth (looked_read p w n k) (situation_read p w n k) e ss b f j stop decides))
+      (subst (λ (l : List Operation). Evaluates (decided stop (instance_truth (situation_read p w n k) e ss f) tuples_read) l r) (sym (quantified-looks (looked_read p w n k) (situation_read p w n k) e ss b f j stop decides)) h)
 
-  module _ (d : DifferInSlot ss) (o : OccurIn ss b) (stop : Bool) (after : Option (List Value)) (passed : TuplesPassed stop after) where
-    pub tuples-end : (answer : Option (List Value)) → IsNext (length ss) (λ t. bound_true (situation_of p w) (bind ss t e) b) after answer → answer ≡ None → IsTruth p w n k e (quantified stop ss b f) (Ok (not stop))
+  module _ (d : DifferInSlot ss) (o : OccurIn ss b) (j : Junction) (stop : Bool) (decides : stop ≡ deciding_truth j) (after : Option (List Value)) (passed : TuplesPassed stop after) where
+    pub tuples-end : (answer : Option (List Value)) → IsNext (length ss) (λ t. bound_true (situation_of p w) (bind ss t e) b) after answer → answer ≡ None → IsTruth p w n k e (quantified j ss b f) (Ok (not stop))
     tuples-end answer h q =
         let none = rest-none (situation_read p w n k) e ss b d o after (subst (IsNext (length ss) (λ t. bound_true (situation_read p w n k) (bind ss t e) b) after) q (next-read p w n k e ss b after answer h)) in
-        by_tuples stop (Ok (not stop)) (through-end stop (instance_truth (situation_read p w n k) e ss f) (instance_looks (looked_read p w n k) (situation_read p w n k) e ss f) tuples_read
+        by_tuples j stop decides (Ok (not stop)) (through-end stop (instance_truth (situation_read p w n k) e ss f) (instance_looks (looked_read p w n k) (situation_read p w n k) e ss f) tuples_read
         (subst (Through stop (instance_truth (situation_read p w n k) e ss f) (instance_looks (looked_read p w n k) (situation_read p w n k) e ss f) tuples_read) none passed))
 
     module _ (answer : Option (List Value)) (t : List Value) (h : IsNext (length ss) (λ u. bound_true (situation_of p w) (bind ss u e) b) after answer) (q : answer ≡ Some t) where
@@ -273,8 +276,8 @@ module _ (p : PlainProblem) (w : World) (n k : ℕ) (e : Assignment) (ss : List 
       pub tuples-on : (x : Bool) → IsTruth p w n k (bind ss t e) f (Ok x) → (x ≡ stop → ⊥) → TuplesPassed stop (Some t)
       tuples-on x found still = through-on stop (instance_truth (situation_read p w n k) e ss f) (instance_looks (looked_read p w n k) (situation_read p w n k) e ss f) tuples_read t (rest_after (Some t) tuples_read) x at-tuple found still
 
-      pub tuples-stop : (x : Bool) → IsTruth p w n k (bind ss t e) f (Ok x) → x ≡ stop → IsTruth p w n k e (quantified stop ss b f) (Ok stop)
-      tuples-stop x found is = by_tuples stop (Ok stop) (through-stop stop (instance_truth (situation_read p w n k) e ss f) (instance_looks (looked_read p w n k) (situation_read p w n k) e ss f) tuples_read t (rest_after (Some t) tuples_read) x at-tuple found is)
+      pub tuples-stop : (x : Bool) → IsTruth p w n k (bind ss t e) f (Ok x) → x ≡ stop → IsTruth p w n k e (quantified j ss b f) (Ok stop)
+      tuples-stop x found is = by_tuples j stop decides (Ok stop) (through-stop stop (instance_truth (situation_read p w n k) e ss f) (instance_looks (looked_read p w n k) (situation_read p w n k) e ss f) tuples_read t (rest_after (Some t) tuples_read) x at-tuple found is)
 
-      pub tuples-noted : (m : RangeNote) → IsTruth p w n k (bind ss t e) f (Err m) → IsTruth p w n k e (quantified stop ss b f) (Err m)
-      tuples-noted m found = by_tuples stop (Err m) (through-noted stop (instance_truth (situation_read p w n k) e ss f) (instance_looks (looked_read p w n k) (situation_read p w n k) e ss f) tuples_read t (rest_after (Some t) tuples_read) m at-tuple found)
+      pub tuples-noted : (m : RangeNote) → IsTruth p w n k (bind ss t e) f (Err m) → IsTruth p w n k e (quantified j ss b f) (Err m)
+      tuples-noted m found = by_tuples j stop decides (Err m) (through-noted stop (instance_truth (situation_read p w n k) e ss f) (instance_looks (looked_read p w n k) (situation_read p w n k) e ss f) tuples_read t (rest_after (Some t) tuples_read) m at-tuple found)

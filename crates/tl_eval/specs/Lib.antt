@@ -4,5 +4,6 @@ pub mod Notes
 pub mod Operates
 pub mod Reading
 pub mod PatternOf
+pub mod PutNext
 pub mod LawsTuples
 pub mod StateTruth

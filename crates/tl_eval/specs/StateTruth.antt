@@ -1,14 +1,12 @@
 -- What an evaluation of a formula answers where it is read, and what it needs.
-use Rattle.std.specs.Prelude.{◌≤◌, ◌+◌, ◌*◌, ℕ, List, Bool, true, false, Result}
+use Rattle.std.specs.Prelude.{◌≤◌, ◌+◌, ◌*◌, ℕ, List, Bool, Result}
 use Rattle.tl_eval.specs.Notes.{Evaluates}
 use Rattle.tl_eval.specs.Reading.{situation_read, looked_read, rank}
 use Rattle.tl_eval.specs.declared.range.RangeNote.{RangeNote}
-use Rattle.tl_syntax.specs.declared.bound.Bound.{Bound}
-use Rattle.tl_syntax.specs.declared.variable.Var.{Var}
 use Rattle.tl_syntax.specs.Assignment.{Assignment}
 use Rattle.tl_syntax.specs.Fits.{Fits}
 use Rattle.tl_syntax.specs.Signature.{Signature, with_definitions_below}
-use Rattle.tl_syntax.specs.Trees.{FormulaTree, FormulaTrees, conjunction, disjunction, for_all, for_some}
+use Rattle.tl_syntax.specs.Trees.{FormulaTree}
 use Rattle.tl_terms.specs.Looked.{looked_in_state}
 use Rattle.tl_terms.specs.Problem.{PlainProblem}
 use Rattle.tl_terms.specs.Truth.{state_true}
@@ -26,13 +24,3 @@ pub record FitsAt (g : Signature) (n : ℕ) (f : FormulaTree) : Type 0 where
 -- so many slots are enough: a frame of this scope, and one for each body that can be open below it
 abbrev pub HasRoom : PlainProblem → ℕ → ℕ → ℕ → Type 0
 HasRoom p n k slots = 32 * (rank p n k + 1) ≤ slots
-
--- the disjunction, which a true part decides, or the conjunction, which a false part decides
-abbrev pub joined : Bool → FormulaTrees → FormulaTree
-joined true fs = disjunction fs
-joined false fs = conjunction fs
-
--- the existential formula, which a true instance decides, or the universal one, which a false instance decides
-abbrev pub quantified : Bool → List Var → Bound → FormulaTree → FormulaTree
-quantified true ss b f = for_some ss b f
-quantified false ss b f = for_all ss b f

@@ -83,6 +83,7 @@ fn stand(cmp: Cmp, left: Option<Value>, right: Option<Value>) -> bool
 }
 
 /// Whether the fact is in the world. It takes no memory.
+#[inline(never)]
 pub(crate) fn atom_true(
     w: &World,
     frame: &[Option<Value>],
@@ -101,6 +102,7 @@ pub(crate) fn atom_true(
 }
 
 /// Whether the two terms stand in the comparison. It takes no memory.
+#[inline(never)]
 pub(crate) fn compare_true(
     w: &World,
     frame: &[Option<Value>],
@@ -128,6 +130,7 @@ pub(crate) fn compare_true(
 }
 
 /// Whether the fact of the arguments is one of the world's: the facts of the goal list, or its negated facts. It takes no memory.
+#[inline(never)]
 pub(crate) fn fact_true(w: &World, frame: &[Option<Value>], pred: u32, args: &[Arg]) -> bool
     requires { length args.now ≤ 8 }
     ensures { result ≡ fact_in w.now pred (arg_values (assignment_in frame.now) args.now) }
@@ -139,6 +142,7 @@ pub(crate) fn fact_true(w: &World, frame: &[Option<Value>], pred: u32, args: &[A
 }
 
 /// Whether the world, which is the goal list's, gives the place this value. It takes no memory.
+#[inline(never)]
 pub(crate) fn place_true(
     w: &World,
     frame: &[Option<Value>],

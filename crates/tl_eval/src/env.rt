@@ -76,6 +76,20 @@ impl Env {
         Ok(Env { values })
     }
 
+    /// The values of the caller's frame, to be put back later. It takes no memory.
+    pub fn saved(&self) -> [Option<Value>; 32]
+        ensures { result ≡ self.now }
+    {
+        saved(self.values.as_slice())
+    }
+
+    /// Makes the caller's frame the given one. It takes no memory.
+    pub fn restore(&mut self, frame: &[Option<Value>; 32])
+        ensures { self.new ≡ frame.now }
+    {
+        restore(self.values.as_mut_slice(), frame);
+    }
+
     /// The caller's frame. It takes no memory.
     pub(crate) fn frame(&self) -> &[Option<Value>]
         ensures { result.now ≡ self.now }

@@ -2,8 +2,10 @@
 //!
 //! - `basic_truth`: the truth of formulas that have no formula below them.
 //! - `env`: frames of variable values.
+//! - `kept`: the values of a quantifier's own slots, kept while its tuples stand there.
 //! - `laws`: what is proved of the tuples of bounds.
 //! - `pattern_of`: the pattern of a bound.
+//! - `put_next`: the tuples of a bound, put in place one after another.
 //! - `range`: operations in 64 bits, and the note of one that is past range.
 //! - `reading`: where a formula is read.
 //! - `row`: a few values, kept without memory.
@@ -15,8 +17,10 @@
 
 mod basic_truth;
 mod env;
+mod kept;
 pub mod laws;
 mod pattern_of;
+mod put_next;
 mod range;
 mod reading;
 mod row;

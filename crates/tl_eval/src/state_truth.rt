@@ -1,15 +1,18 @@
 // The truth of state formulas.
-ghost use Rattle.std.specs.Prelude.{◌≡◌, ◌+◌, ◌≤◌, length, take, IfOk, IfErr, []};
+ghost use Rattle.std.specs.Prelude.{◌≡◌, ◌+◌, ◌≤◌, List, length, take, IfOk, IfErr, []};
 ghost use Rattle.tl_eval.specs.Frames.{assignment_in};
 ghost use Rattle.tl_eval.specs.Notes.{Evaluates, AreInRange, Tells};
 ghost use Rattle.tl_eval.specs.Reading.{situation_read, looked_read};
-ghost use Rattle.tl_eval.specs.StateTruth.{IsTruth, FitsAt, HasRoom, joined, quantified};
+ghost use Rattle.tl_eval.specs.StateTruth.{IsTruth, FitsAt, HasRoom};
+ghost use Rattle.tl_syntax.specs.Assignment.{bind};
 ghost use Rattle.tl_syntax.specs.Fits.{Fits};
+ghost use Rattle.tl_syntax.specs.Junctions.{joined, quantified};
 ghost use Rattle.tl_syntax.specs.Signature.{signature_of, with_definitions_below, Takes};
 ghost use Rattle.tl_syntax.specs.StateFormulas.{IsState};
 ghost use Rattle.tl_syntax.specs.Trees.{defined};
 ghost use Rattle.tl_syntax.specs.TreeOfFormula.{tree_of_formula, tree_of_formulas};
 ghost use Rattle.tl_syntax.specs.TreeOfTerm.{tree_of_terms};
+ghost use Rattle.tl_syntax.specs.declared.value.Value.{Value as OneValue};
 ghost use Rattle.tl_terms.specs.Definitions.{situation_of};
 ghost use Rattle.tl_terms.specs.Looked.{looked_in_state, looks_of};
 ghost use Rattle.tl_terms.specs.ProblemMeaning.{plain_problem};
@@ -17,12 +20,13 @@ ghost use Rattle.tl_terms.specs.Truth.{state_true};
 
 use crate::basic_truth::{atom_true, compare_true, fact_true, place_true};
 use crate::env::SLOTS;
+use crate::kept::{give_back, kept};
+use crate::put_next::put_next;
 use crate::reading::Reading;
-use crate::scope::{current, open_scope, put_in_scope, restore, saved};
+use crate::scope::{current, open_scope};
 use crate::term_value::values_of_terms;
-use crate::tuples::next_tuple_in;
 use crate::{Env, RangeNote};
-use tl_syntax::{Bound, Formula, Formulas, Terms, Value, Var};
+use tl_syntax::{Bound, Formula, Formulas, Junction, Terms, Value, Var};
 use tl_world::{Task, World};
 
 /// The truth of a formula under the first frame, where it is read. The frame stays as it was. It takes no memory.
@@ -68,27 +72,27 @@ fn truth_of(
             Ok(truth) => Ok(!truth),
             Err(note) => Err(note),
         },
-        Formula::And(parts) => parts_true(task, w, frames, reading, parts, false),
-        Formula::Or(parts) => parts_true(task, w, frames, reading, parts, true),
+        Formula::And(parts) => parts_true(task, w, frames, reading, Junction::All, parts),
+        Formula::Or(parts) => parts_true(task, w, frames, reading, Junction::Any, parts),
         Formula::ForAll(vars, bound, part) => quantified_true(
             task,
             w,
             frames,
             reading,
+            Junction::All,
             vars.as_slice(),
             bound,
             part,
-            false,
         ),
         Formula::Exists(vars, bound, part) => quantified_true(
             task,
             w,
             frames,
             reading,
+            Junction::Any,
             vars.as_slice(),
             bound,
             part,
-            true,
         ),
         Formula::Next(_) => Ok(false),
         Formula::Always(_) => Ok(false),
@@ -99,21 +103,23 @@ fn truth_of(
     }
 }
 
-/// The truth of a disjunction, where `stop` is true, or of a conjunction: the first part whose truth is `stop` decides. It takes no memory.
+/// The truth of a conjunction or a disjunction: the first part that has the truth which decides it. It takes no memory.
 #[cycle(truth_of)]
+#[inline(never)]
 fn parts_true(
     task: &Task,
     w: &World,
     frames: &mut [Option<Value>],
     reading: Reading,
+    junction: Junction,
     parts: &Formulas,
-    stop: bool,
 ) -> Result<bool, RangeNote>
-    requires fits { FitsAt (signature_of task.now.problem.domain) reading.number (joined stop (tree_of_formulas parts.now)) }
+    requires fits { FitsAt (signature_of task.now.problem.domain) reading.number (joined junction (tree_of_formulas parts.now)) }
     requires room { HasRoom (plain_problem task.now.problem) reading.number reading.level (length frames.old) }
-    ensures truth { IsTruth (plain_problem task.now.problem) w.now reading.number reading.level (assignment_in (take 32 frames.old)) (joined stop (tree_of_formulas parts.now)) result }
+    ensures truth { IsTruth (plain_problem task.now.problem) w.now reading.number reading.level (assignment_in (take 32 frames.old)) (joined junction (tree_of_formulas parts.now)) result }
     ensures frame { take 32 frames.new ≡ take 32 frames.old }
 {
+    let stop = junction.deciding_truth();
     for part in parts.as_slice().iter() {
         match truth_of(task, w, frames, reading, part) {
             Ok(truth) => {
@@ -129,6 +135,7 @@ fn parts_true(
 
 /// The truth of an atom of a definition. It takes no memory.
 #[cycle(truth_of)]
+#[inline(never)]
 fn defined_true(
     task: &Task,
     w: &World,
@@ -178,50 +185,50 @@ fn body_true(
     truth_of(task, w, inner, below, &definition.body)
 }
 
-/// The truth of an existential formula, where `stop` is true, or of a universal one. The first frame stays as it was. It takes no memory.
+/// The truth of a universal or an existential formula. Its tuples stand in the first frame one after another, which gets the values of their slots back. It takes no memory.
 #[cycle(truth_of)]
+#[inline(never)]
 fn quantified_true(
     task: &Task,
     w: &World,
     frames: &mut [Option<Value>],
     reading: Reading,
+    junction: Junction,
     vars: &[Var],
     bound: &Bound,
     part: &Formula,
-    stop: bool,
 ) -> Result<bool, RangeNote>
-    requires fits { FitsAt (signature_of task.now.problem.domain) reading.number (quantified stop vars.now bound.now (tree_of_formula part.now)) }
+    requires fits { FitsAt (signature_of task.now.problem.domain) reading.number (quantified junction vars.now bound.now (tree_of_formula part.now)) }
     requires room { HasRoom (plain_problem task.now.problem) reading.number reading.level (length frames.old) }
-    ensures truth { IsTruth (plain_problem task.now.problem) w.now reading.number reading.level (assignment_in (take 32 frames.old)) (quantified stop vars.now bound.now (tree_of_formula part.now)) result }
+    ensures truth { IsTruth (plain_problem task.now.problem) w.now reading.number reading.level (assignment_in (take 32 frames.old)) (quantified junction vars.now bound.now (tree_of_formula part.now)) result }
     ensures frame { take 32 frames.new ≡ take 32 frames.old }
 {
-    let outer = saved(frames);
-    let truth = tuples_true(task, w, frames, &outer, reading, vars, bound, part, stop);
-    restore(frames, &outer);
+    let outer = kept(frames, vars);
+    let truth = tuples_true(task, w, frames, reading, junction, vars, bound, part);
+    give_back(frames, vars, &outer);
     truth
 }
 
-/// The truth of a quantified formula under the outer frame, from which the first one may come to differ: the first tuple whose instance has the truth `stop` decides. It takes no memory.
+/// The truth of a quantified formula: the first tuple whose instance has the truth that decides it. The last tuple is left in the first frame. It takes no memory.
 #[cycle(truth_of)]
 fn tuples_true(
     task: &Task,
     w: &World,
     frames: &mut [Option<Value>],
-    outer: &[Option<Value>],
     reading: Reading,
+    junction: Junction,
     vars: &[Var],
     bound: &Bound,
     part: &Formula,
-    stop: bool,
 ) -> Result<bool, RangeNote>
-    requires fits { FitsAt (signature_of task.now.problem.domain) reading.number (quantified stop vars.now bound.now (tree_of_formula part.now)) }
+    requires fits { FitsAt (signature_of task.now.problem.domain) reading.number (quantified junction vars.now bound.now (tree_of_formula part.now)) }
     requires room { HasRoom (plain_problem task.now.problem) reading.number reading.level (length frames.old) }
-    requires same { take 32 frames.old ≡ outer.now }
-    ensures { IsTruth (plain_problem task.now.problem) w.now reading.number reading.level (assignment_in outer.now) (quantified stop vars.now bound.now (tree_of_formula part.now)) result }
+    ensures truth { IsTruth (plain_problem task.now.problem) w.now reading.number reading.level (assignment_in (take 32 frames.old)) (quantified junction vars.now bound.now (tree_of_formula part.now)) result }
+    ensures others { (t : List OneValue) → bind vars.now t (assignment_in (take 32 frames.new)) ≡ bind vars.now t (assignment_in (take 32 frames.old)) }
 {
-    let mut after = None;
-    while let Some(tuple) = next_tuple_in(task, w, outer, vars, bound, after) {
-        put_in_scope(frames, vars, tuple.counted_values());
+    let stop = junction.deciding_truth();
+    let mut begun = false;
+    while put_next(task, w, frames, vars, bound, begun) {
         match truth_of(task, w, frames, reading, part) {
             Ok(truth) => {
                 if truth == stop {
@@ -230,7 +237,7 @@ fn tuples_true(
             }
             Err(note) => return Err(note),
         }
-        after = Some(tuple);
+        begun = true;
     }
     Ok(!stop)
 }

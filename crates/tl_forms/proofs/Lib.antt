@@ -7,3 +7,4 @@ pub mod Order
 pub mod Offsets
 pub mod OneForm
 pub mod NamesHave
+pub mod SymbolsJoin

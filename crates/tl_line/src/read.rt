@@ -1,5 +1,5 @@
 // The action of a form.
-ghost use Rattle.std.specs.Prelude.{◌≡◌, ◌==◌, ◌<◌, ℕ, length, unwrap_or, IfOk, IfErr, IfSome};
+ghost use Rattle.std.specs.Prelude.{◌≡◌, ◌==◌, ◌<◌, ◌≤◌, ℕ, length, unwrap_or, IfOk, IfErr, IfSome};
 ghost use Rattle.std.specs.List.{position};
 ghost use Rattle.tl_sexpr.specs.Tree.{list, tree_of};
 ghost use Rattle.tl_syntax.specs.declared.action.Action.{Action};
@@ -16,7 +16,7 @@ use tl_forms::{FormFault, Rule, breaks};
 use tl_sexpr::Form;
 use tl_syntax::{Action, Names, Operator, Problem};
 
-/// The position of the operator with a name of this number. It goes over the operators, of which a domain file has at most 256.
+/// The position of the operator with a name of this number. It goes over the operators.
 fn operator_named(operators: &[Operator], number: u32) -> Option<usize>
     ensures place { result ≡ position (λ operator. operator.name == number) operators.now }
     ensures within { IfSome result (λ place. place < length operators.now) }
@@ -36,8 +36,6 @@ fn operator_of(names: &Names, operators: &[Operator], text: &str) -> Option<usiz
 }
 
 /// The operator of an action with so many arguments.
-///
-/// A position past 32 bits is answered as want of memory: so many operators are in no list.
 fn operator(
     names: &Names,
     operators: &[Operator],
@@ -45,6 +43,7 @@ fn operator(
     arguments: usize,
     at: u32,
 ) -> Result<u32, FormFault>
+    requires { length operators.now ≤ 256 }
     ensures { Reads (λ (x : ℕ). x) result (operator_breaks names.now operators.now text.now arguments at) (unwrap_or (operator_at names.now operators.now text.now) 0) }
 {
     let Some(place) = operator_of(names, operators, text) else {
@@ -53,10 +52,7 @@ fn operator(
     if operators[place].params.len() != arguments {
         return Err(breaks(Rule::ArgumentCount, at));
     }
-    match u32::try_from(place) {
-        Ok(op) => Ok(op),
-        Err(_) => Err(FormFault::NoMemory),
-    }
+    Ok(place as u32)
 }
 
 /// An action by the elements of its list and its offset.
@@ -68,6 +64,7 @@ fn action_list(
     forms: &[Form],
     at: u32,
 ) -> Result<Action, FormFault>
+    requires { length operators.now ≤ 256 }
     ensures { Reads (λ (x : Action). x) result (action_breaks names.now operators.now (list (trees_in forms.now) at)) (action_meant names.now operators.now (list (trees_in forms.now) at)) }
 {
     let Some((text, rest)) = call(forms) else {
@@ -86,6 +83,7 @@ fn action(
     operators: &[Operator],
     form: &Form,
 ) -> Result<Action, FormFault>
+    requires { length operators.now ≤ 256 }
     ensures { Reads (λ (x : Action). x) result (action_breaks names.now operators.now (tree_of form.now)) (action_meant names.now operators.now (tree_of form.now)) }
 {
     match form {
@@ -97,7 +95,7 @@ fn action(
 
 /// The action that a form of a plan file stands for, or the first rule that the form breaks.
 ///
-/// An operator is found by its text and then by its position among the domain's operators, of which a domain file has at most 256.
+/// An operator is found by its text and then by its position among the domain's operators, of which there are at most 256.
 /// It breaks `Rule::Shape` where it is no list that begins with a symbol, `Rule::NoOperator` where that names no operator, `Rule::ArgumentCount` where the number of its arguments is not that of the operator's parameters, and `Rule::NotAValue` at an argument that is a list, a variable or a symbol of neither file. The fault is the one with the least offset, and there the least rule.
 pub fn action_of(alloc: Global, form: &Form, problem: &Problem) -> Result<Action, FormFault>
     ensures read { Reads (λ (x : Action). x) result (action_breaks problem.now.names problem.now.domain.operators (tree_of form.now)) (action_meant problem.now.names problem.now.domain.operators (tree_of form.now)) }
@@ -111,6 +109,3 @@ pub fn action_of(alloc: Global, form: &Form, problem: &Problem) -> Result<Action
         form,
     )
 }
-
-#[cfg(test)]
-mod tests;

@@ -3,13 +3,15 @@ use Rattle.std.proofs.Common.{◌≡◌, ℕ, Bool, true, false, true≢false, c
 use Rattle.std.specs.List.{list_any, flat_map}
 use Rattle.indexmap.specs.IndexSet.{insert_all}
 use borrow.Author.Tests.{ltb-true}
+use Rattle.tl_syntax.specs.declared.junction.Junction.{Junction}
+use Rattle.tl_syntax.specs.declared.junction.Junction.TheVariants.{All, Any}
 use Rattle.tl_syntax.specs.Same.{formula_discrete}
 use Rattle.tl_syntax.specs.Trees.{FormulaTree, verum, falsum}
 use Rattle.tl_syntax.proofs.Plain.{both}
 use Rattle.tl_terms.specs.Simplification.{same_formula, is_yes, is_verum, is_falsum, without_repeats, conjunction_of, disjunction_of, and_parts, or_parts, simplified_and, simplified_or}
 use Rattle.tl_terms.proofs.Simplification.{same_formula-is}
 use Rattle.tl_nodes.specs.Fits.{all_below, fits}
-use Rattle.tl_nodes.specs.Joins.{parts_of, joined, dropped, decides, join_node}
+use Rattle.tl_nodes.specs.Joins.{parts_of, simplified_join, dropped, decides, join_node}
 use Rattle.tl_nodes.specs.NodeTrees.{tree_at, trees_at, tree_of_node}
 use Rattle.tl_nodes.specs.Numbering.{OneToOne}
 use Rattle.tl_nodes.proofs.FirstOfEqual.{same-of, same-any, same-filtered}
@@ -25,42 +27,42 @@ falsum-is : (t : FormulaTree) → is_falsum t ≡ true → t ≡ falsum
 falsum-is falsum h = refl
 falsum-is t h = absurd (true≢false (sym h))
 
-abbrev is_unit : Bool → FormulaTree → Bool
-is_unit true t = is_verum t
-is_unit false t = is_falsum t
+abbrev is_unit : Junction → FormulaTree → Bool
+is_unit All t = is_verum t
+is_unit Any t = is_falsum t
 
-abbrev is_zero : Bool → FormulaTree → Bool
-is_zero true t = is_falsum t
-is_zero false t = is_verum t
+abbrev is_zero : Junction → FormulaTree → Bool
+is_zero All t = is_falsum t
+is_zero Any t = is_verum t
 
-abbrev zero_tree : Bool → FormulaTree
-zero_tree true = falsum
-zero_tree false = verum
+abbrev zero_tree : Junction → FormulaTree
+zero_tree All = falsum
+zero_tree Any = verum
 
-abbrev unit_tree : Bool → FormulaTree
-unit_tree true = verum
-unit_tree false = falsum
+abbrev unit_tree : Junction → FormulaTree
+unit_tree All = verum
+unit_tree Any = falsum
 
-abbrev pub list_join : Bool → List FormulaTree → FormulaTree
-list_join true fs = conjunction_of fs
-list_join false fs = disjunction_of fs
+abbrev pub list_join : Junction → List FormulaTree → FormulaTree
+list_join All fs = conjunction_of fs
+list_join Any fs = disjunction_of fs
 
-joined-zero : (all : Bool) (fs ps : List FormulaTree) → without_repeats ps ≡ without_repeats (flat_map (parts_of all) fs) → list_any (is_zero all) ps ≡ true → joined all fs ≡ zero_tree all
-unfolding joined parts_of simplified_and simplified_or
-joined-zero true fs ps e h =
+joined-zero : (junction : Junction) (fs ps : List FormulaTree) → without_repeats ps ≡ without_repeats (flat_map (parts_of junction) fs) → list_any (is_zero junction) ps ≡ true → simplified_join junction fs ≡ zero_tree junction
+unfolding simplified_join parts_of simplified_and simplified_or
+joined-zero All fs ps e h =
     let xs = flat_map and_parts fs in
     ap (λ b. cond b falsum (conjunction_of (without_repeats (filter (λ f. not (is_verum f)) xs)))) (sym (same-any ps xs e is_falsum) ∙ h)
-joined-zero false fs ps e h =
+joined-zero Any fs ps e h =
     let xs = flat_map or_parts fs in
     ap (λ b. cond b verum (disjunction_of (without_repeats (filter (λ f. not (is_falsum f)) xs)))) (sym (same-any ps xs e is_verum) ∙ h)
 
-joined-rest : (all : Bool) (fs ps : List FormulaTree) → without_repeats ps ≡ without_repeats (flat_map (parts_of all) fs) → list_any (is_zero all) ps ≡ false → joined all fs ≡ list_join all (without_repeats (filter (λ f. not (is_unit all f)) ps))
-unfolding joined parts_of simplified_and simplified_or
-joined-rest true fs ps e h =
+joined-rest : (junction : Junction) (fs ps : List FormulaTree) → without_repeats ps ≡ without_repeats (flat_map (parts_of junction) fs) → list_any (is_zero junction) ps ≡ false → simplified_join junction fs ≡ list_join junction (without_repeats (filter (λ f. not (is_unit junction f)) ps))
+unfolding simplified_join parts_of simplified_and simplified_or
+joined-rest All fs ps e h =
     let xs = flat_map and_parts fs in
     ap (λ b. cond b falsum (conjunction_of (without_repeats (filter (λ f. not (is_verum f)) xs)))) (sym (same-any ps xs e is_falsum) ∙ h)
     ∙ ap conjunction_of (sym (same-filtered ps xs e (λ f. not (is_verum f))))
-joined-rest false fs ps e h =
+joined-rest Any fs ps e h =
     let xs = flat_map or_parts fs in
     ap (λ b. cond b verum (disjunction_of (without_repeats (filter (λ f. not (is_falsum f)) xs)))) (sym (same-any ps xs e is_verum) ∙ h)
     ∙ ap disjunction_of (sym (same-filtered ps xs e (λ f. not (is_falsum f))))
@@ -69,12 +71,12 @@ empty : (ks : List ℕ) → length ks ≡ 0 → ks ≡ []
 empty [] h = refl
 empty (x ∷ xs) h = absurd (omega arith)
 
-many : (ts : List FormulaTree) (all : Bool) (ks : List ℕ) → (length ks ≡ 0 → ⊥) → (length ks ≡ 1 → ⊥) → tree_of_node ts (join_node all ks) ≡ list_join all (trees_at ts ks)
+many : (ts : List FormulaTree) (junction : Junction) (ks : List ℕ) → (length ks ≡ 0 → ⊥) → (length ks ≡ 1 → ⊥) → tree_of_node ts (join_node junction ks) ≡ list_join junction (trees_at ts ks)
 unfolding tree_of_node
-many ts all [] a b = absurd (a refl)
-many ts all (x ∷ []) a b = absurd (b refl)
-many ts true (x ∷ (y ∷ ks)) a b = refl
-many ts false (x ∷ (y ∷ ks)) a b = refl
+many ts junction [] a b = absurd (a refl)
+many ts junction (x ∷ []) a b = absurd (b refl)
+many ts All (x ∷ (y ∷ ks)) a b = refl
+many ts Any (x ∷ (y ∷ ks)) a b = refl
 
 module _ (ts : List FormulaTree) (one : OneToOne ts) (z : slice_get ts 0 ≡ Some verum) (f : slice_get ts 1 ≡ Some falsum) where
   there : (i : ℕ) → nat_lt i (length ts) ≡ true → slice_get ts i ≡ Some (tree_at ts i)
@@ -95,35 +97,35 @@ module _ (ts : List FormulaTree) (one : OneToOne ts) (z : slice_get ts 0 ≡ Som
       (λ s. eq-eqb i 1 (one i 1 falsum (there i h ∙ ap Some (falsum-is (tree_at ts i) s)) f))
       (λ s. ap (λ x. is_falsum (tree_at ts x)) (eqb-true i 1 s) ∙ ap is_falsum (at-is ts 1 falsum f))
 
-  zero-at : (all : Bool) (i : ℕ) → nat_lt i (length ts) ≡ true → is_zero all (tree_at ts i) ≡ nat_eq i (decides all)
-  zero-at true i h = falsum-at i h
-  zero-at false i h = verum-at i h
+  zero-at : (junction : Junction) (i : ℕ) → nat_lt i (length ts) ≡ true → is_zero junction (tree_at ts i) ≡ nat_eq i (decides junction)
+  zero-at All i h = falsum-at i h
+  zero-at Any i h = verum-at i h
 
-  unit-at : (all : Bool) (i : ℕ) → nat_lt i (length ts) ≡ true → is_unit all (tree_at ts i) ≡ nat_eq i (dropped all)
-  unit-at true i h = verum-at i h
-  unit-at false i h = falsum-at i h
+  unit-at : (junction : Junction) (i : ℕ) → nat_lt i (length ts) ≡ true → is_unit junction (tree_at ts i) ≡ nat_eq i (dropped junction)
+  unit-at All i h = verum-at i h
+  unit-at Any i h = falsum-at i h
 
-  zero-there : (all : Bool) → slice_get ts (decides all) ≡ Some (zero_tree all)
-  zero-there true = f
-  zero-there false = z
+  zero-there : (junction : Junction) → slice_get ts (decides junction) ≡ Some (zero_tree junction)
+  zero-there All = f
+  zero-there Any = z
 
-  unit-there : (all : Bool) → slice_get ts (dropped all) ≡ Some (list_join all [])
-  unit-there true = z
-  unit-there false = f
+  unit-there : (junction : Junction) → slice_get ts (dropped junction) ≡ Some (list_join junction [])
+  unit-there All = z
+  unit-there Any = f
 
-  pub decided : (all : Bool) (xs : List ℕ) (fs : List FormulaTree) → all_below (length ts) xs ≡ true → without_repeats (trees_at ts xs) ≡ without_repeats (flat_map (parts_of all) fs)
-      → list_any (λ y. nat_eq y (decides all)) xs ≡ true → slice_get ts (decides all) ≡ Some (joined all fs)
-  decided all xs fs below e h =
-      zero-there all ∙ ap Some (sym (joined-zero all fs (trees_at ts xs) e (any-map (tree_at ts) (length ts) (is_zero all) (λ y. nat_eq y (decides all)) (zero-at all) xs below ∙ h)))
+  pub decided : (junction : Junction) (xs : List ℕ) (fs : List FormulaTree) → all_below (length ts) xs ≡ true → without_repeats (trees_at ts xs) ≡ without_repeats (flat_map (parts_of junction) fs)
+      → list_any (λ y. nat_eq y (decides junction)) xs ≡ true → slice_get ts (decides junction) ≡ Some (simplified_join junction fs)
+  decided junction xs fs below e h =
+      zero-there junction ∙ ap Some (sym (joined-zero junction fs (trees_at ts xs) e (any-map (tree_at ts) (length ts) (is_zero junction) (λ y. nat_eq y (decides junction)) (zero-at junction) xs below ∙ h)))
 
-  module _ (all : Bool) (xs : List ℕ) (fs : List FormulaTree) (below : all_below (length ts) xs ≡ true) (e : without_repeats (trees_at ts xs) ≡ without_repeats (flat_map (parts_of all) fs))
-      (h : list_any (λ y. nat_eq y (decides all)) xs ≡ false) (ks : List ℕ) (k : ks ≡ insert_all nat_eq [] (filter (λ i. not (nat_eq i (dropped all))) xs)) where
+  module _ (junction : Junction) (xs : List ℕ) (fs : List FormulaTree) (below : all_below (length ts) xs ≡ true) (e : without_repeats (trees_at ts xs) ≡ without_repeats (flat_map (parts_of junction) fs))
+      (h : list_any (λ y. nat_eq y (decides junction)) xs ≡ false) (ks : List ℕ) (k : ks ≡ insert_all nat_eq [] (filter (λ i. not (nat_eq i (dropped junction))) xs)) where
     rest : List ℕ
-    rest = filter (λ i. not (nat_eq i (dropped all))) xs
+    rest = filter (λ i. not (nat_eq i (dropped junction))) xs
 
     rest-below : all_below (length ts) rest ≡ true
     unfolding rest
-    rest-below = below-filter (length ts) (λ i. not (nat_eq i (dropped all))) xs below
+    rest-below = below-filter (length ts) (λ i. not (nat_eq i (dropped junction))) xs below
 
     kept-is : ks ≡ dedup rest
     unfolding rest
@@ -132,31 +134,31 @@ module _ (ts : List FormulaTree) (one : OneToOne ts) (z : slice_get ts 0 ≡ Som
     pub left-below : all_below (length ts) ks ≡ true
     left-below = ap (all_below (length ts)) kept-is ∙ below-dedup (length ts) rest rest-below
 
-    pub left-joined : joined all fs ≡ list_join all (trees_at ts ks)
+    pub left-joined : simplified_join junction fs ≡ list_join junction (trees_at ts ks)
     unfolding rest
     left-joined =
-        joined-rest all fs (trees_at ts xs) e (any-map (tree_at ts) (length ts) (is_zero all) (λ y. nat_eq y (decides all)) (zero-at all) xs below ∙ h)
-        ∙ ap (list_join all)
-        (ap without_repeats (filter-map (tree_at ts) (length ts) (λ g. not (is_unit all g)) (λ i. not (nat_eq i (dropped all))) (λ i a. ap not (unit-at all i a)) xs below)
+        joined-rest junction fs (trees_at ts xs) e (any-map (tree_at ts) (length ts) (is_zero junction) (λ y. nat_eq y (decides junction)) (zero-at junction) xs below ∙ h)
+        ∙ ap (list_join junction)
+        (ap without_repeats (filter-map (tree_at ts) (length ts) (λ g. not (is_unit junction g)) (λ i. not (nat_eq i (dropped junction))) (λ i a. ap not (unit-at junction i a)) xs below)
         ∙ (distinct-map (tree_at ts) (length ts) same-at rest rest-below ∙ ap (map (tree_at ts)) (sym kept-is)))
 
-    pub none-left : length ks ≡ 0 → slice_get ts (dropped all) ≡ Some (joined all fs)
-    none-left n = unit-there all ∙ ap Some (sym (left-joined ∙ ap (λ l. list_join all (trees_at ts l)) (empty ks n)))
+    pub none-left : length ks ≡ 0 → slice_get ts (dropped junction) ≡ Some (simplified_join junction fs)
+    none-left n = unit-there junction ∙ ap Some (sym (left-joined ∙ ap (λ l. list_join junction (trees_at ts l)) (empty ks n)))
 
-    pub one-left : length ks ≡ 1 → slice_get ts (slice_index_or ks 0 0) ≡ Some (joined all fs)
-    one-left n = single all ks n left-below ∙ ap Some (sym left-joined)
+    pub one-left : length ks ≡ 1 → slice_get ts (slice_index_or ks 0 0) ≡ Some (simplified_join junction fs)
+    one-left n = single junction ks n left-below ∙ ap Some (sym left-joined)
       where
-        single : (a : Bool) (l : List ℕ) → length l ≡ 1 → all_below (length ts) l ≡ true → slice_get ts (slice_index_or l 0 0) ≡ Some (list_join a (trees_at ts l))
+        single : (a : Junction) (l : List ℕ) → length l ≡ 1 → all_below (length ts) l ≡ true → slice_get ts (slice_index_or l 0 0) ≡ Some (list_join a (trees_at ts l))
         single a [] m b = absurd (omega arith)
-        single true (x ∷ []) m b = there x (both (nat_lt x (length ts)) true b).0
-        single false (x ∷ []) m b = there x (both (nat_lt x (length ts)) true b).0
+        single All (x ∷ []) m b = there x (both (nat_lt x (length ts)) true b).0
+        single Any (x ∷ []) m b = there x (both (nat_lt x (length ts)) true b).0
         single a (x ∷ (y ∷ l)) m b = absurd (omega arith)
 
-    pub many-left : (length ks ≡ 0 → ⊥) → (length ks ≡ 1 → ⊥) → tree_of_node ts (join_node all ks) ≡ joined all fs
-    many-left a b = many ts all ks a b ∙ sym left-joined
+    pub many-left : (length ks ≡ 0 → ⊥) → (length ks ≡ 1 → ⊥) → tree_of_node ts (join_node junction ks) ≡ simplified_join junction fs
+    many-left a b = many ts junction ks a b ∙ sym left-joined
 
-    pub many-fit : fits (length ts) (join_node all ks) ≡ true
-    many-fit = join-fits (length ts) all ks ∙ left-below
+    pub many-fit : fits (length ts) (join_node junction ks) ≡ true
+    many-fit = join-fits (length ts) junction ks ∙ left-below
 
 -- what the code asked and kept, in the words above
 pub asked : (w d : ℕ) (shown xs : List ℕ) (r b : Bool) → r ≡ list_any (λ y. nat_eq y w) shown → w ≡ d → shown ≡ xs → r ≡ b → list_any (λ y. nat_eq y d) xs ≡ b

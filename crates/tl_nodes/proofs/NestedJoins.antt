@@ -7,7 +7,10 @@ use Rattle.std.proofs.lemmas.List.Sums.{sum_by-append, sum_by-cons}
 use Rattle.std.proofs.lemmas.List.{reverse-append}
 use Rattle.tl_nodes.specs.declared.node.Node.{Node}
 use Rattle.tl_nodes.specs.declared.node.Node.TheVariants as node
+use Rattle.tl_syntax.specs.declared.junction.Junction.{Junction}
+use Rattle.tl_syntax.specs.declared.junction.Junction.TheVariants.{All, Any}
 use Rattle.tl_syntax.specs.Basic.{is_basic}
+use Rattle.tl_syntax.specs.Junctions.{joined}
 use Rattle.tl_syntax.specs.TreeOfFormula.{tree_of_formula}
 use Rattle.tl_syntax.specs.Trees.{FormulaTree, FormulaTrees, conjunction, disjunction, formulas_of_list}
 use Rattle.tl_syntax.proofs.Plain.{both, with_both}
@@ -16,10 +19,6 @@ use Rattle.tl_nodes.specs.Fits.{all_below, fits}
 use Rattle.tl_nodes.specs.Joins.{parts_of, join_node, breadth, breadth_all}
 use Rattle.tl_nodes.specs.NodeTrees.{tree_at, trees_at, tree_of_node}
 use Rattle.tl_nodes.proofs.TreesOfNodes.{fits-more, at-is}
-
-abbrev pub join_tree : Bool → FormulaTrees → FormulaTree
-join_tree true fs = conjunction fs
-join_tree false fs = disjunction fs
 
 and-list : (xs : List FormulaTree) → and_parts_all (formulas_of_list xs) ≡ flat_map and_parts xs
 unfolding and_parts
@@ -31,20 +30,20 @@ unfolding or_parts
 or-list [] = refl
 or-list (x ∷ xs) = ap (λ ys. or_parts x ++ ys) (or-list xs)
 
-pub parts-list : (all : Bool) (xs : List FormulaTree) → parts_of all (join_tree all (formulas_of_list xs)) ≡ flat_map (parts_of all) xs
+pub parts-list : (junction : Junction) (xs : List FormulaTree) → parts_of junction (joined junction (formulas_of_list xs)) ≡ flat_map (parts_of junction) xs
 unfolding parts_of and_parts or_parts
-parts-list true xs = and-list xs
-parts-list false xs = or-list xs
+parts-list All xs = and-list xs
+parts-list Any xs = or-list xs
 
 breadth-list : (t : ℕ → FormulaTree) (ids : List ℕ) → breadth_all (formulas_of_list (map t ids)) ≡ sum_by (λ i. breadth (t i)) ids
 unfolding breadth
 breadth-list t [] = refl
 breadth-list t (i ∷ ids) = ap (λ n. breadth (t i) + n) (breadth-list t ids) ∙ sym (sum_by-cons (λ k. breadth (t k)) i ids)
 
-breadth-join : (all : Bool) (t : ℕ → FormulaTree) (ids : List ℕ) → breadth (join_tree all (formulas_of_list (map t ids))) ≡ sum_by (λ i. breadth (t i)) ids + 1
+breadth-join : (junction : Junction) (t : ℕ → FormulaTree) (ids : List ℕ) → breadth (joined junction (formulas_of_list (map t ids))) ≡ sum_by (λ i. breadth (t i)) ids + 1
 unfolding breadth
-breadth-join true t ids = ap (λ n. n + 1) (breadth-list t ids)
-breadth-join false t ids = ap (λ n. n + 1) (breadth-list t ids)
+breadth-join All t ids = ap (λ n. n + 1) (breadth-list t ids)
+breadth-join Any t ids = ap (λ n. n + 1) (breadth-list t ids)
 
 pub breadth-pos : (t : FormulaTree) → 0 < breadth t
 unfolding breadth
@@ -52,30 +51,30 @@ breadth-pos (conjunction fs) = omega arith
 breadth-pos (disjunction fs) = omega arith
 breadth-pos t = omega arith
 
-node-join : (ts : List FormulaTree) (all : Bool) (ids : List ℕ) → tree_of_node ts (join_node all ids) ≡ join_tree all (formulas_of_list (map (tree_at ts) ids))
+node-join : (ts : List FormulaTree) (junction : Junction) (ids : List ℕ) → tree_of_node ts (join_node junction ids) ≡ joined junction (formulas_of_list (map (tree_at ts) ids))
 unfolding tree_of_node
-node-join ts true ids = refl
-node-join ts false ids = refl
+node-join ts All ids = refl
+node-join ts Any ids = refl
 
-pub join-fits : (n : ℕ) (all : Bool) (ids : List ℕ) → fits n (join_node all ids) ≡ all_below n ids
+pub join-fits : (n : ℕ) (junction : Junction) (ids : List ℕ) → fits n (join_node junction ids) ≡ all_below n ids
 unfolding fits
-join-fits n true ids = refl
-join-fits n false ids = refl
+join-fits n All ids = refl
+join-fits n Any ids = refl
 
-module _ (ts : List FormulaTree) (id : ℕ) (n : Node) (is_it : slice_get ts id ≡ Some (tree_of_node ts n)) (all : Bool) (ids : List ℕ) (e : n ≡ join_node all ids) where
-  shown : tree_at ts id ≡ join_tree all (formulas_of_list (map (tree_at ts) ids))
-  shown = at-is ts id (tree_of_node ts n) is_it ∙ (ap (tree_of_node ts) e ∙ node-join ts all ids)
+module _ (ts : List FormulaTree) (id : ℕ) (n : Node) (is_it : slice_get ts id ≡ Some (tree_of_node ts n)) (junction : Junction) (ids : List ℕ) (e : n ≡ join_node junction ids) where
+  shown : tree_at ts id ≡ joined junction (formulas_of_list (map (tree_at ts) ids))
+  shown = at-is ts id (tree_of_node ts n) is_it ∙ (ap (tree_of_node ts) e ∙ node-join ts junction ids)
 
-  pub nested-parts : parts_of all (tree_at ts id) ≡ flat_map (parts_of all) (trees_at ts ids)
-  nested-parts = ap (parts_of all) shown ∙ parts-list all (map (tree_at ts) ids)
+  pub nested-parts : parts_of junction (tree_at ts id) ≡ flat_map (parts_of junction) (trees_at ts ids)
+  nested-parts = ap (parts_of junction) shown ∙ parts-list junction (map (tree_at ts) ids)
 
   pub nested-smaller : sum_by (λ i. breadth (tree_at ts i)) ids < breadth (tree_at ts id)
   nested-smaller =
-      let k : breadth (tree_at ts id) ≡ sum_by (λ i. breadth (tree_at ts i)) ids + 1 = ap breadth shown ∙ breadth-join all (tree_at ts) ids in
+      let k : breadth (tree_at ts id) ≡ sum_by (λ i. breadth (tree_at ts i)) ids + 1 = ap breadth shown ∙ breadth-join junction (tree_at ts) ids in
       omega arith
 
   pub nested-below : fits id n ≡ true → all_below id ids ≡ true
-  nested-below w = sym (join-fits id all ids) ∙ subst (λ x. fits id x ≡ true) e w
+  nested-below w = sym (join-fits id junction ids) ∙ subst (λ x. fits id x ≡ true) e w
 
 basic-and : (t : FormulaTree) → is_basic t ≡ true → and_parts t ≡ t ∷ []
 unfolding and_parts
@@ -99,25 +98,25 @@ other-or ts k (node.Or ids) w h = absurd (h ids refl)
 other-or ts k (node.Basic f) w h = basic-or (tree_of_formula f) w
 other-or ts k n w h = refl
 
-other-parts : (all : Bool) (ts : List FormulaTree) (k : ℕ) (n : Node) → fits k n ≡ true → ((ids : List ℕ) → n ≡ join_node all ids → ⊥) → parts_of all (tree_of_node ts n) ≡ tree_of_node ts n ∷ []
+other-parts : (junction : Junction) (ts : List FormulaTree) (k : ℕ) (n : Node) → fits k n ≡ true → ((ids : List ℕ) → n ≡ join_node junction ids → ⊥) → parts_of junction (tree_of_node ts n) ≡ tree_of_node ts n ∷ []
 unfolding parts_of
-other-parts true ts k n w h = other-and ts k n w h
-other-parts false ts k n w h = other-or ts k n w h
+other-parts All ts k n w h = other-and ts k n w h
+other-parts Any ts k n w h = other-or ts k n w h
 
-pub single-parts : (all : Bool) (ts : List FormulaTree) (id : ℕ) (n : Node) → slice_get ts id ≡ Some (tree_of_node ts n) → fits id n ≡ true → ((ids : List ℕ) → n ≡ join_node all ids → ⊥)
-    → parts_of all (tree_at ts id) ≡ tree_at ts id ∷ []
-single-parts all ts id n is_it w h =
-    subst (λ t. parts_of all t ≡ t ∷ []) (sym (at-is ts id (tree_of_node ts n) is_it)) (other-parts all ts id n w h)
+pub single-parts : (junction : Junction) (ts : List FormulaTree) (id : ℕ) (n : Node) → slice_get ts id ≡ Some (tree_of_node ts n) → fits id n ≡ true → ((ids : List ℕ) → n ≡ join_node junction ids → ⊥)
+    → parts_of junction (tree_at ts id) ≡ tree_at ts id ∷ []
+single-parts junction ts id n is_it w h =
+    subst (λ t. parts_of junction t ≡ t ∷ []) (sym (at-is ts id (tree_of_node ts n) is_it)) (other-parts junction ts id n w h)
 
-pub and-not-or : (n : Node) (all : Bool) (is : List ℕ) → n ≡ node.And is → all ≡ false → (ids : List ℕ) → n ≡ join_node all ids → ⊥
-and-not-or n all is e f ids g = let k : node.And is ≡ node.Or ids = sym e ∙ (g ∙ ap (λ b. join_node b ids) f) in cc
+pub and-not-or : (n : Node) (junction : Junction) (is : List ℕ) → n ≡ node.And is → junction ≡ Any → (ids : List ℕ) → n ≡ join_node junction ids → ⊥
+and-not-or n junction is e f ids g = let k : node.And is ≡ node.Or ids = sym e ∙ (g ∙ ap (λ b. join_node b ids) f) in cc
 
-pub or-not-and : (n : Node) (all : Bool) (is : List ℕ) → n ≡ node.Or is → all ≡ true → (ids : List ℕ) → n ≡ join_node all ids → ⊥
-or-not-and n all is e f ids g = let k : node.Or is ≡ node.And ids = sym e ∙ (g ∙ ap (λ b. join_node b ids) f) in cc
+pub or-not-and : (n : Node) (junction : Junction) (is : List ℕ) → n ≡ node.Or is → junction ≡ All → (ids : List ℕ) → n ≡ join_node junction ids → ⊥
+or-not-and n junction is e f ids g = let k : node.Or is ≡ node.And ids = sym e ∙ (g ∙ ap (λ b. join_node b ids) f) in cc
 
-pub neither : (n : Node) (all : Bool) → ((ids : List ℕ) → n ≡ node.And ids → ⊥) → ((ids : List ℕ) → n ≡ node.Or ids → ⊥) → (ids : List ℕ) → n ≡ join_node all ids → ⊥
-neither n true a b ids e = a ids e
-neither n false a b ids e = b ids e
+pub neither : (n : Node) (junction : Junction) → ((ids : List ℕ) → n ≡ node.And ids → ⊥) → ((ids : List ℕ) → n ≡ node.Or ids → ⊥) → (ids : List ℕ) → n ≡ join_node junction ids → ⊥
+neither n All a b ids e = a ids e
+neither n Any a b ids e = b ids e
 
 pub less-without : (f : ℕ → ℕ) (xs ys : List ℕ) (i : ℕ) → ys ≡ xs ++ i ∷ [] → 0 < f i → sum_by f xs < sum_by f ys
 less-without f xs ys i e h =

@@ -1,5 +1,7 @@
 -- Worked examples of the definitions.
 use Rattle.std.specs.Prelude.{◌≡◌, [], ◌∷◌, true, false, refl}
+use Rattle.tl_syntax.specs.declared.junction.Junction.{Junction}
+use Rattle.tl_syntax.specs.declared.junction.Junction.TheVariants.{All, Any}
 use Rattle.tl_syntax.specs.Trees.{verum, falsum, negation, conjunction, until, within, during, no_formula, more_formulas}
 use Rattle.tl_terms.specs.Simplification.{simplified_and, simplified_or, and_parts, or_parts, without_repeats, same_formula}
 use Rattle.tl_nodes.specs.declared.node.Node.TheVariants as node
@@ -48,11 +50,11 @@ stored_example : node_temporal (false ∷ false ∷ true ∷ []) (node.And (0 �
 stored_example = refl
 
 -- inner conjunctions are opened at any depth, disjunctions not
-parts_example : parts_of true (conjunction (more_formulas (conjunction (more_formulas verum no_formula)) (more_formulas falsum no_formula))) ≡ verum ∷ falsum ∷ []
+parts_example : parts_of All (conjunction (more_formulas (conjunction (more_formulas verum no_formula)) (more_formulas falsum no_formula))) ≡ verum ∷ falsum ∷ []
 unfolding parts_of and_parts
 parts_example = refl
 
-other_parts_example : parts_of false (conjunction (more_formulas verum no_formula)) ≡ conjunction (more_formulas verum no_formula) ∷ []
+other_parts_example : parts_of Any (conjunction (more_formulas verum no_formula)) ≡ conjunction (more_formulas verum no_formula) ∷ []
 unfolding parts_of or_parts
 other_parts_example = refl
 

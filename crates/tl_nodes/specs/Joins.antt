@@ -1,34 +1,36 @@
 -- Conjunction and disjunction under one name, for the code that makes both.
 use Rattle.std.specs.Prelude.{ℕ, ◌+◌, List, Bool, true, false}
+use Rattle.tl_syntax.specs.declared.junction.Junction.{Junction}
+use Rattle.tl_syntax.specs.declared.junction.Junction.TheVariants.{All, Any}
 use Rattle.tl_syntax.specs.Trees.{FormulaTree, FormulaTrees, conjunction, disjunction, no_formula, more_formulas}
 use Rattle.tl_terms.specs.Simplification.{simplified_and, simplified_or, and_parts, or_parts}
 use Rattle.tl_nodes.specs.declared.node.Node.{Node}
 use Rattle.tl_nodes.specs.declared.node.Node.TheVariants as node
 
--- the parts of a tree, at any depth of joins of this word; true is for `and`, false for `or`
-unfoldable pub parts_of : Bool → FormulaTree → List FormulaTree
-parts_of true f = and_parts f
-parts_of false f = or_parts f
+-- the parts of a tree, at any depth of conjunctions or of disjunctions
+unfoldable pub parts_of : Junction → FormulaTree → List FormulaTree
+parts_of All f = and_parts f
+parts_of Any f = or_parts f
 
 -- the simplified join of the trees
-unfoldable pub joined : Bool → List FormulaTree → FormulaTree
-joined true fs = simplified_and fs
-joined false fs = simplified_or fs
+unfoldable pub simplified_join : Junction → List FormulaTree → FormulaTree
+simplified_join All fs = simplified_and fs
+simplified_join Any fs = simplified_or fs
 
 -- the number of the constant that is dropped
-abbrev pub dropped : Bool → ℕ
-dropped true = 0
-dropped false = 1
+abbrev pub dropped : Junction → ℕ
+dropped All = 0
+dropped Any = 1
 
 -- the number of the constant that decides
-abbrev pub decides : Bool → ℕ
-decides true = 1
-decides false = 0
+abbrev pub decides : Junction → ℕ
+decides All = 1
+decides Any = 0
 
 -- the node of the join
-abbrev pub join_node : Bool → List ℕ → Node
-join_node true ids = node.And ids
-join_node false ids = node.Or ids
+abbrev pub join_node : Junction → List ℕ → Node
+join_node All ids = node.And ids
+join_node Any ids = node.Or ids
 
 -- how many joins and other parts of joins there are, one below the other
 unfoldable mutual

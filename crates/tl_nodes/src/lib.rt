@@ -9,8 +9,6 @@
 
 mod node;
 mod nodes;
-#[cfg(test)]
-mod tests;
 
 pub use node::Node;
 pub use nodes::Nodes;

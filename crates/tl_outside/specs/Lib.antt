@@ -1,5 +1,6 @@
 pub mod Causes
 pub mod Told
+pub mod Puts
 pub mod FileList
 pub mod NamedFile
 pub mod Chosen

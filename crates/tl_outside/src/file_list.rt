@@ -94,36 +94,3 @@ impl FileList {
         self.files[index].bytes.as_slice()
     }
 }
-
-#[cfg(test)]
-mod tests {
-    use super::*;
-    use std::test::Fail;
-
-    #[test]
-    fn adds_files(rt: HostRuntime) -> Result<(), Fail> {
-        let mut files = FileList::new(rt.alloc());
-        files.add("a", b"one")?;
-        files.add("b", b"")?;
-        files.add("a", b"two")?;
-        let rows: [(&str, Option<&str>); 4] = [
-            ("a", Some("one")),
-            ("b", Some("")),
-            ("", None),
-            ("ab", None),
-        ];
-        for (name, bytes) in rows {
-            match files.place(name) {
-                Some(index) => {
-                    assert_eq!(rt;
-                        Some(files.bytes(index)),
-                        bytes.map(|text| text.as_bytes()),
-                        "{name}"
-                    );
-                }
-                None => assert_eq!(rt; bytes, None, "{name}"),
-            }
-        }
-        Ok(())
-    }
-}

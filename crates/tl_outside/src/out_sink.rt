@@ -35,18 +35,3 @@ impl<'a, R: Print> Sink for OutSink<'a, R> {
         }
     }
 }
-
-#[cfg(test)]
-mod tests {
-    use super::*;
-    use std::test::Fail;
-
-    #[test]
-    fn takes_bytes_over(rt: HostRuntime) -> Result<(), Fail> {
-        let mut sink = OutSink::new(&rt);
-        let count = sink.put(b"an answer\n").ok().ok_or("not written")?;
-        assert!(rt; count >= 1);
-        assert!(rt; count <= 10);
-        Ok(())
-    }
-}

@@ -33,7 +33,8 @@ use Rattle.tl_problem.specs.Literals.{no_literal, with_fact, with_value, has_oth
 use Rattle.tl_forms.specs.OneForm.{second_form_breaks}
 use Rattle.tl_problem.specs.ProblemFiles.{has_problem_shape, section_breaks, section_meant, sections_breaks, sections_meant, problem_form_breaks, problem_form_meant, problem_file_breaks, problem_file_meant}
 use Rattle.tl_problem.specs.Problems.{IsProblemOf, all_names, breaks_of, said_by}
-use Rattle.tl_problem.specs.SettledSections.{renumbered_literals, renumbered_sections, sections_of}
+use Rattle.tl_problem.specs.Sections.{sections_of}
+use Rattle.tl_problem.specs.SettledSections.{renumbered_literals, renumbered_sections}
 use Rattle.tl_problem.proofs.Kept.{value-named, values-named, Each-with_fact, Each-with_value, rest-have}
 use Rattle.tl_problem.proofs.MoreNames.{domain-more, names-longer}
 use Rattle.tl_problem.proofs.SettledFacts.{Renames, settled-renames, FactIsNamed, PlaceIsNamed, ground-new, fact-new, negation-new, equality-new, known-new, with_fact-new, other-new, with_value-new}

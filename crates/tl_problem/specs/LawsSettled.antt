@@ -7,7 +7,8 @@ use Rattle.tl_syntax.specs.Kept.{DomainKeeps}
 use Rattle.tl_forms.specs.Named.{HaveNames}
 use Rattle.tl_problem.specs.ProblemFiles.{problem_file_breaks, problem_file_meant}
 use Rattle.tl_problem.specs.Problems.{IsProblemOf, breaks_of}
-use Rattle.tl_problem.specs.SettledSections.{renumbered_sections, sections_of}
+use Rattle.tl_problem.specs.Sections.{sections_of}
+use Rattle.tl_problem.specs.SettledSections.{renumbered_sections}
 use Rattle.tl_renumber.specs.Numbers.{number_in, IsSettled}
 use Rattle.tl_renumber.specs.RenumberingKeeps.{IsRenumbered}
 

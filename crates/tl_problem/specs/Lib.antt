@@ -11,6 +11,7 @@ pub mod LawsKeeps
 pub mod LawsNames
 pub mod Examples
 pub mod Problems
+pub mod Sections
 pub mod SettledSections
 pub mod LawsSettled
 pub mod LawsDeclarations

@@ -1,6 +1,5 @@
--- What a file says, with other numbers for the names, and what a problem says.
-use Rattle.std.specs.Prelude.{[], map}
-use Rattle.tl_syntax.specs.declared.problem.Problem.{Problem}
+-- What a file says, with other numbers for the names.
+use Rattle.std.specs.Prelude.{map}
 use Rattle.tl_problem.specs.declared.literals.Literals.{Literals}
 use Rattle.tl_problem.specs.declared.sections.Sections.{Sections}
 use Rattle.tl_renumber.specs.Numbers.{Renumbering}
@@ -13,10 +12,3 @@ renumbered_literals r l = record { facts = map (renumbered_fact r) l.facts; valu
 -- and both sections
 abbrev pub renumbered_sections : Renumbering → Sections → Sections
 renumbered_sections r s = record { init = renumbered_literals r s.init; goal = renumbered_literals r s.goal }
-
--- the two sections of a problem; at first nothing is negated
-abbrev pub sections_of : Problem → Sections
-sections_of p = record {
-  init = record { facts = p.init_facts; values = p.init_values; nots = [] };
-  goal = record { facts = p.goal_facts; values = p.goal_values; nots = p.goal_nots };
-}

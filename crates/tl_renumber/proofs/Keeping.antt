@@ -51,7 +51,7 @@ signature-stays r d e same =
     ∙ (counts-stay r (map definition_tree d.definitions) ∙ sym (map-map (λ (x : DefinitionTree). length x.params) definition_tree d.definitions))) in
     λ i. record { predicates = predicates i; functions = functions i; definitions = definitions i }
 
--- ---- levels
+-- ---- levels, and how many of each there are
 
 sums-over : {A B : Type 0} (f : B → ℕ) (g : A → B) (xs : List A) (k : ℕ) → fold (λ a x. a + f x) k (map g xs) ≡ fold (λ a x. a + f (g x)) k xs
 sums-over f g [] k = refl
@@ -69,6 +69,18 @@ count-stays r d e same =
     sym (length-mapped definition_tree e.definitions)
     ∙ (ap (λ (t : DomainTree). length t.definitions) same
     ∙ (length-mapped (renumbered_definition r) (map definition_tree d.definitions) ∙ length-mapped definition_tree d.definitions))
+
+pub predicates-stay : (r : Renumbering) (d e : Domain) → IsRenumbered r d e → length e.predicates ≡ length d.predicates
+predicates-stay r d e same = ap (λ (t : DomainTree). length t.predicates) same ∙ length-mapped (renumbered_declaration r) d.predicates
+
+pub functions-stay : (r : Renumbering) (d e : Domain) → IsRenumbered r d e → length e.functions ≡ length d.functions
+functions-stay r d e same = ap (λ (t : DomainTree). length t.functions) same ∙ length-mapped (renumbered_declaration r) d.functions
+
+pub operators-stay : (r : Renumbering) (d e : Domain) → IsRenumbered r d e → length e.operators ≡ length d.operators
+operators-stay r d e same =
+    sym (length-mapped operator_tree e.operators)
+    ∙ (ap (λ (t : DomainTree). length t.operators) same
+    ∙ (length-mapped (renumbered_operator r) (map operator_tree d.operators) ∙ length-mapped operator_tree d.operators))
 
 -- ---- definitions and operators, as plain trees
 
@@ -189,10 +201,13 @@ module _ (r : Renumbering) (n m : ℕ) (leads : Leads r n m) where
         name = subst (λ (k : ℕ). k < m) (sym (ap (λ (t : DomainTree). t.name) same)) (leads d.name h.name);
         predicates = declarations-keep d.predicates e.predicates (ap (λ (t : DomainTree). t.predicates) same) h.predicates;
         functions = declarations-keep d.functions e.functions (ap (λ (t : DomainTree). t.functions) same) h.functions;
+        few_predicates = subst (λ (k : ℕ). k ≤ 256) (sym (predicates-stay r d e same)) h.few_predicates;
+        few_functions = subst (λ (k : ℕ). k ≤ 256) (sym (functions-stay r d e same)) h.few_functions;
         definitions = λ i y at. subst (λ (g : Signature). DefinitionKeeps g m i y) signature (definitions-keep (signature_of d) d.definitions e.definitions (ap (λ (t : DomainTree). t.definitions) same) h.definitions i y at);
         few_definitions = subst (λ (k : ℕ). k ≤ 64) (sym (count-stays r d e same)) h.few_definitions;
         few_levels = subst (λ (k : ℕ). k ≤ 128) (sym (levels-stay r d e same)) h.few_levels;
         operators = subst (λ (g : Signature). Each (OperatorKeeps g m) e.operators) signature (operators-keep (signature_of d) d.operators e.operators (ap (λ (t : DomainTree). t.operators) same) h.operators);
+        few_operators = subst (λ (k : ℕ). k ≤ 256) (sym (operators-stay r d e same)) h.few_operators;
         control_closed = subst (λ f. InScope [] (free_slots f)) control (subst (λ (qs : List ℕ). InScope [] qs) (sym (formula-stays r (tree_of_formula d.control))) h.control_closed);
         control_fits = subst (λ (g : Signature). Fits g [] (tree_of_formula e.control)) signature (subst (λ f. Fits (signature_of d) [] f) control (formula-fits (signature_of d) [] r (tree_of_formula d.control) h.control_fits));
         control_named = subst (λ f. IsNamed m f) control (formula-named r n m leads (tree_of_formula d.control) h.control_named);

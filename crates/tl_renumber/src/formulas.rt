@@ -1,13 +1,15 @@
 // Formulas with other numbers for their names.
 ghost use Rattle.std.specs.Prelude.{◌≡◌, IfOk};
 ghost use Rattle.tl_renumber.specs.Numbers.{number_in};
-ghost use Rattle.tl_renumber.specs.Renumbered.{renumbered, renumbered_all};
+ghost use Rattle.tl_renumber.specs.Renumbered.{renumbered, renumbered_all, renumbered_bound, renumbered_term, renumbered_variables};
 ghost use Rattle.tl_syntax.specs.TreeOfFormula.{tree_of_formula, tree_of_formulas};
+ghost use Rattle.tl_syntax.specs.TreeOfTerm.{tree_of_term};
+ghost use Rattle.tl_syntax.specs.Trees.{compare, for_all, for_some};
 
 use crate::parts::{renumber_arg, renumber_args, renumber_bound, renumber_variables};
 use crate::terms::{renumber_term, renumber_terms};
 use std::alloc::Global;
-use tl_syntax::{Formula, Formulas, NoMemory};
+use tl_syntax::{Bound, Cmp, Formula, Formulas, NoMemory, Term, Vars};
 
 /// A list of formulas with the new numbers of their names. It fails for want of memory alone.
 #[cycle(renumber_formula)]
@@ -44,9 +46,7 @@ pub fn renumber_formula(
             Ok(Formula::Defined(*p, renumber_terms(alloc, args, numbers)?))
         }
         Formula::Compare(cmp, left, right) => {
-            let left = renumber_term(alloc, left, numbers)?;
-            let right = renumber_term(alloc, right, numbers)?;
-            Ok(Formula::Compare(*cmp, left, right))
+            renumber_comparison(alloc, *cmp, left, right, numbers)
         }
         Formula::GoalFact(p, args) => {
             Ok(Formula::GoalFact(*p, renumber_args(alloc, args, numbers)?))
@@ -57,48 +57,72 @@ pub fn renumber_formula(
             Ok(Formula::GoalPlace(*f, args, x))
         }
         Formula::GoalNot(p, args) => Ok(Formula::GoalNot(*p, renumber_args(alloc, args, numbers)?)),
-        Formula::Not(f) => {
-            let f = Box::new(alloc, renumber_formula(alloc, f, numbers)?)?;
-            Ok(Formula::Not(f))
-        }
+        Formula::Not(f) => Formula::not(alloc, renumber_formula(alloc, f, numbers)?),
         Formula::And(parts) => Ok(Formula::And(renumber_formulas(alloc, parts, numbers)?)),
         Formula::Or(parts) => Ok(Formula::Or(renumber_formulas(alloc, parts, numbers)?)),
         Formula::ForAll(vars, bound, f) => {
-            let vars = renumber_variables(alloc, vars, numbers)?;
-            let bound = renumber_bound(alloc, bound, numbers)?;
-            let f = Box::new(alloc, renumber_formula(alloc, f, numbers)?)?;
-            Ok(Formula::ForAll(vars, bound, f))
+            let f = renumber_formula(alloc, f, numbers)?;
+            renumber_for_all(alloc, vars, bound, f, numbers)
         }
         Formula::Exists(vars, bound, f) => {
-            let vars = renumber_variables(alloc, vars, numbers)?;
-            let bound = renumber_bound(alloc, bound, numbers)?;
-            let f = Box::new(alloc, renumber_formula(alloc, f, numbers)?)?;
-            Ok(Formula::Exists(vars, bound, f))
+            let f = renumber_formula(alloc, f, numbers)?;
+            renumber_exists(alloc, vars, bound, f, numbers)
         }
-        Formula::Next(f) => {
-            let f = Box::new(alloc, renumber_formula(alloc, f, numbers)?)?;
-            Ok(Formula::Next(f))
-        }
-        Formula::Always(f) => {
-            let f = Box::new(alloc, renumber_formula(alloc, f, numbers)?)?;
-            Ok(Formula::Always(f))
-        }
-        Formula::Eventually(f) => {
-            let f = Box::new(alloc, renumber_formula(alloc, f, numbers)?)?;
-            Ok(Formula::Eventually(f))
-        }
+        Formula::Next(f) => Formula::next(alloc, renumber_formula(alloc, f, numbers)?),
+        Formula::Always(f) => Formula::always(alloc, renumber_formula(alloc, f, numbers)?),
+        Formula::Eventually(f) => Formula::eventually(alloc, renumber_formula(alloc, f, numbers)?),
         Formula::Until(f, g) => {
-            let f = Box::new(alloc, renumber_formula(alloc, f, numbers)?)?;
-            let g = Box::new(alloc, renumber_formula(alloc, g, numbers)?)?;
-            Ok(Formula::Until(f, g))
+            let f = renumber_formula(alloc, f, numbers)?;
+            let g = renumber_formula(alloc, g, numbers)?;
+            Formula::until(alloc, f, g)
         }
-        Formula::Within(n, f) => {
-            let f = Box::new(alloc, renumber_formula(alloc, f, numbers)?)?;
-            Ok(Formula::Within(*n, f))
-        }
-        Formula::During(n, f) => {
-            let f = Box::new(alloc, renumber_formula(alloc, f, numbers)?)?;
-            Ok(Formula::During(*n, f))
-        }
+        Formula::Within(n, f) => Formula::within(alloc, *n, renumber_formula(alloc, f, numbers)?),
+        Formula::During(n, f) => Formula::during(alloc, *n, renumber_formula(alloc, f, numbers)?),
     }
+}
+
+// A comparison with the new numbers of its names.
+#[tactic(auto, using(crate::proofs::Trees::formula_trees))]
+fn renumber_comparison(
+    alloc: Global,
+    cmp: Cmp,
+    left: &Term,
+    right: &Term,
+    numbers: &[u32],
+) -> Result<Formula, NoMemory>
+    ensures { IfOk result (λ out. tree_of_formula out ≡ compare cmp (renumbered_term (number_in numbers.now) (tree_of_term left.now)) (renumbered_term (number_in numbers.now) (tree_of_term right.now))) }
+{
+    let left = renumber_term(alloc, left, numbers)?;
+    let right = renumber_term(alloc, right, numbers)?;
+    Ok(Formula::Compare(cmp, left, right))
+}
+
+// The formula for every tuple of the bound with the new numbers of its names.
+fn renumber_for_all(
+    alloc: Global,
+    vars: &Vars,
+    bound: &Bound,
+    f: Formula,
+    numbers: &[u32],
+) -> Result<Formula, NoMemory>
+    ensures { IfOk result (λ out. tree_of_formula out ≡ for_all (renumbered_variables (number_in numbers.now) vars.now) (renumbered_bound (number_in numbers.now) bound.now) (tree_of_formula f)) }
+{
+    let vars = renumber_variables(alloc, vars, numbers)?;
+    let bound = renumber_bound(alloc, bound, numbers)?;
+    Formula::for_all(alloc, vars, bound, f)
+}
+
+// The formula for some tuple of the bound with the new numbers of its names.
+fn renumber_exists(
+    alloc: Global,
+    vars: &Vars,
+    bound: &Bound,
+    f: Formula,
+    numbers: &[u32],
+) -> Result<Formula, NoMemory>
+    ensures { IfOk result (λ out. tree_of_formula out ≡ for_some (renumbered_variables (number_in numbers.now) vars.now) (renumbered_bound (number_in numbers.now) bound.now) (tree_of_formula f)) }
+{
+    let vars = renumber_variables(alloc, vars, numbers)?;
+    let bound = renumber_bound(alloc, bound, numbers)?;
+    Formula::exists(alloc, vars, bound, f)
 }

@@ -18,8 +18,6 @@ mod formulas;
 pub mod laws;
 mod parts;
 mod terms;
-#[cfg(test)]
-mod tests;
 
 pub use domains::renumber_domain;
 pub use facts::{renumber_facts, renumber_places};

@@ -1,88 +1,63 @@
--- The answers of a run, and what it writes.
-use Rattle.std.specs.Prelude.{◌≡◌, ℕ, ◌⊎◌, List, [], Option, ⊤}
-use Rattle.std.specs.Io.KnownBytes.{append_known}
-use Rattle.tl_outside.specs.Causes.{Rose}
-use Rattle.tl_outside.specs.Told.{Files, GrowsByPart}
+-- The answers of commands: when each is right, its status and its lines.
+use Rattle.std.specs.Prelude.{◌≡◌, ℕ, List, []}
+use Rattle.tl_syntax.specs.declared.action.Action.{Action}
+use Rattle.tl_syntax.specs.declared.operator.Operator.{Operator}
+use Rattle.tl_terms.specs.ProblemMeaning.{plain_problem}
+use Rattle.tl_eval.specs.declared.range.RangeNote.{RangeNote}
+use Rattle.tl_check.specs.Verdicts.{IsVerdict, IsCause}
+use Rattle.tl_check.specs.declared.fault.CheckFault.TheVariants as fault
 use Rattle.tl_check.specs.declared.verdict.Verdict.{Verdict}
-use Rattle.tl_check.specs.declared.verdict.Verdict.TheVariants.{Valid}
+use Rattle.tl_check.specs.declared.verdict.Verdict.TheVariants.{Valid, NotExecutable, GoalUnmet, Disobeys}
+use Rattle.tl_text.specs.Ranges.{range_text}
 use Rattle.tl_text.specs.Verdicts.{verdict_text}
-use Rattle.tl_run.specs.declared.stop.Broken.{Broken}
 use Rattle.tl_run.specs.declared.status.Status.{Status}
-use Rattle.tl_run.specs.declared.status.Status.TheVariants.{Yes, No, Refused, Range, ReadFault, WriteFault, NoMemory, Usage}
-use Rattle.tl_run.specs.declared.answer.Fault.{Fault}
-use Rattle.tl_run.specs.declared.answer.Fault.TheVariants as fault
-use Rattle.tl_run.specs.Contents.{Judges, AnswersContents, AreCalm}
-use Rattle.tl_run.specs.Outcomes.{verdict, verdict_status}
+use Rattle.tl_run.specs.declared.status.Status.TheVariants.{Yes, No, Refused, Range}
+use Rattle.tl_run.specs.declared.stop.Broken.{Broken}
+use Rattle.tl_run.specs.Commands.{Command, check}
+use Rattle.tl_run.specs.Inputs.{Input, nothing, a_domain, a_problem, a_plan}
 use Rattle.tl_run.specs.Refusals.{refusal_text}
-use Rattle.tl_run.specs.Turns.{AllPass, Begun, LacksInTurn, RefusesInTurn}
 
--- a file is refused, and this is its line; `begun` shows which files were begun
-pub record AllowsRefusal (files : Option Files) (names : List (List ℕ)) (begun : Begun) (text : List ℕ) : Type 0 where
-  pub number : ℕ
-  pub broken : Broken
-  pub refused : RefusesInTurn files [] names begun number broken
-  pub text_is : text ≡ refusal_text number broken
+-- the file of this number is refused by this rule; an operation is past range after so many actions, which are those of the path where one is shown; or the verdict on a plan
+pub data Answer : Type 0 where
+  refusal : ℕ → Broken → Answer
+  past_range : ℕ → RangeNote → List Action → Answer
+  judged : Verdict → Answer
 
--- all files pass, and this is the status with the lines of an outcome of the check
-abbrev pub AllowsOutcome : Option Files → List (List ℕ) → Status → List ℕ → Type 0
-AllowsOutcome files names status text = AllPass files [] names (AnswersContents status text)
+-- over what its files stand for, the answer is right for the command: one line for each command and answer
+abbrev pub IsRight : Command → Input → Answer → Type 0
+IsRight (check d p q) (a_plan problem plan) (judged v) = IsVerdict (plain_problem problem) plan v
+IsRight (check d p q) (a_plan problem plan) (past_range after note path) = IsCause (plain_problem problem) plan (fault.Range after note) × (path ≡ [])
+IsRight command input answer = ⊥
 
--- the files allow this answer
-abbrev pub Allows : Option Files → List (List ℕ) → Begun → Status → List ℕ → Type 0
-Allows files names begun Yes text = AllowsOutcome files names Yes text
-Allows files names begun No text = AllowsOutcome files names No text
-Allows files names begun Range text = AllowsOutcome files names Range text
-Allows files names begun Refused text = AllowsRefusal files names begun text
-Allows files names begun status text = ⊥
+-- the status with a verdict
+abbrev pub verdict_status : Verdict → Status
+verdict_status Valid = Yes
+verdict_status (NotExecutable number) = No
+verdict_status GoalUnmet = No
+verdict_status Disobeys = No
 
--- all of an allowed answer is written, or where writing fails a part of one, or nothing
-abbrev pub Writes : Option Files → List (List ℕ) → Begun → Option (List ℕ) → Option (List ℕ) → Status → Type 0
-Writes files names begun old new Usage = new ≡ old
-Writes files names begun old new ReadFault = new ≡ old
-Writes files names begun old new NoMemory = new ≡ old
-Writes files names begun old new WriteFault = (status : Status) × (text : List ℕ) × Allows files names begun status text × GrowsByPart old new text
-Writes files names begun old new status = (text : List ℕ) × Allows files names begun status text × (new ≡ append_known old text)
+-- the status with an answer
+abbrev pub status_of : Answer → Status
+status_of (refusal number broken) = Refused
+status_of (past_range after note path) = Range
+status_of (judged v) = verdict_status v
 
--- why there is no answer
-abbrev pub FaultsInTurn : Option Files → List (List ℕ) → ℕ → ℕ → Fault → Type 0
-FaultsInTurn files names before now fault.Read = LacksInTurn files [] names ⊎ Rose before now
-FaultsInTurn files names before now fault.NoMemory = ⊤
+-- the names that actions are written with
+abbrev pub names_in : Input → List (List ℕ)
+names_in nothing = []
+names_in (a_domain forms) = []
+names_in (a_problem p) = p.names
+names_in (a_plan p plan) = p.names
 
--- the files of these names stand for a problem and a plan, and the plan is accepted
-abbrev pub HoldAcceptedPlan : Option Files → List (List ℕ) → Type 0
-HoldAcceptedPlan files names = AllPass files [] names (Judges (verdict Valid))
+-- the operators of these actions
+abbrev pub operators_in : Input → List Operator
+operators_in nothing = []
+operators_in (a_domain forms) = []
+operators_in (a_problem p) = p.domain.operators
+operators_in (a_plan p plan) = p.domain.operators
 
--- the files of these names stand for a problem and a plan, and this is the verdict on it
-abbrev pub HaveVerdict : Option Files → List (List ℕ) → Verdict → Type 0
-HaveVerdict files names v = AllPass files [] names (Judges (verdict v))
-
--- the files of these names stand for a problem and a plan, and no operation past range is looked at in its check
-abbrev pub HoldCalmPlan : Option Files → List (List ℕ) → Type 0
-HoldCalmPlan files names = AllPass files [] names AreCalm
-
--- where a file is refused with this line, the run writes it, unless reading or writing fails or memory is wanting
-abbrev pub AnswersRefusal : Option (List ℕ) → Option (List ℕ) → List ℕ → Status → Type 0
-AnswersRefusal old new text Refused = new ≡ append_known old text
-AnswersRefusal old new text ReadFault = ⊤
-AnswersRefusal old new text WriteFault = ⊤
-AnswersRefusal old new text NoMemory = ⊤
-AnswersRefusal old new text status = ⊥
-
--- where the plan has this verdict, the run writes it with its status, unless reading or writing fails, memory is wanting, or an operation is past range
-abbrev pub AnswersVerdict : Option (List ℕ) → Option (List ℕ) → Verdict → Status → Type 0
-AnswersVerdict old new v Yes = (verdict_status v ≡ Yes) × (new ≡ append_known old (verdict_text v))
-AnswersVerdict old new v No = (verdict_status v ≡ No) × (new ≡ append_known old (verdict_text v))
-AnswersVerdict old new v Range = ⊤
-AnswersVerdict old new v ReadFault = ⊤
-AnswersVerdict old new v WriteFault = ⊤
-AnswersVerdict old new v NoMemory = ⊤
-AnswersVerdict old new v status = ⊥
-
--- the run writes a verdict, unless reading or writing fails or memory is wanting
-abbrev pub AnswersCalmly : Status → Type 0
-AnswersCalmly Yes = ⊤
-AnswersCalmly No = ⊤
-AnswersCalmly ReadFault = ⊤
-AnswersCalmly WriteFault = ⊤
-AnswersCalmly NoMemory = ⊤
-AnswersCalmly status = ⊥
+-- the lines of an answer
+abbrev pub text_of : Input → Answer → List ℕ
+text_of input (refusal number broken) = refusal_text number broken
+text_of input (past_range after note path) = range_text (names_in input) (operators_in input) note after path
+text_of input (judged v) = verdict_text v

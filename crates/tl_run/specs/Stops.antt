@@ -1,11 +1,77 @@
--- Faults of files as stops of the command.
-use Rattle.std.specs.Prelude.{ℕ}
+-- Why files are not read on.
+use Rattle.std.specs.Prelude.{◌≡◌, ◌⊎◌, ℕ, List, Option, ⊤}
+use Rattle.tl_outside.specs.Causes.{Rose}
+use Rattle.tl_outside.specs.Told.{Files, told_file, IsContent, Lacks}
+use Rattle.tl_outside.specs.declared.reading.ReadFault.{ReadFault as Fault}
+use Rattle.tl_outside.specs.declared.reading.ReadFault.TheVariants as reading
+use Rattle.tl_sexpr.specs.declared.fault.TextFault.{TextFault}
+use Rattle.tl_sexpr.specs.declared.fault.TextFault.TheVariants as text
+use Rattle.tl_forms.specs.declared.rule.FormFault.{FormFault}
+use Rattle.tl_forms.specs.declared.rule.FormFault.TheVariants as form
+use Rattle.tl_forms.specs.Rules.{Break, IsLeastBreak}
+use Rattle.tl_run.specs.declared.status.Status.{Status}
+use Rattle.tl_run.specs.declared.status.Status.TheVariants as status
+use Rattle.tl_run.specs.declared.stop.Broken.{Broken}
+use Rattle.tl_run.specs.declared.stop.Broken.TheVariants as broken
 use Rattle.tl_run.specs.declared.stop.Stop.{Stop}
-use Rattle.tl_run.specs.declared.stop.Stop.TheVariants as stop
-use Rattle.tl_run.specs.declared.files.FileFault.{FileFault}
-use Rattle.tl_run.specs.declared.files.FileFault.TheVariants as fault
+use Rattle.tl_run.specs.declared.stop.Stop.TheVariants.{ReadFault, NoMemory, Refused}
+use Rattle.tl_run.specs.declared.words.Role.{Role}
+use Rattle.tl_run.specs.Commands.{Command}
+use Rattle.tl_run.specs.Inputs.{Input, IsBroken}
+use Rattle.tl_run.specs.Turns.{Begun, EndsAt, IsRefused, LacksFile}
 
--- why the file of this place was not read on
-abbrev pub stop_at : ℕ → FileFault → Stop
-stop_at number (fault.Breaks broken) = stop.Refused number broken
-stop_at number fault.NoMemory = stop.NoMemory
+-- the stop at the file of this number, whose text has this fault
+abbrev pub stop_of_text : ℕ → TextFault → Stop
+stop_of_text number (text.BadByte at) = Refused number (broken.BadByte at)
+stop_of_text number (text.StrayClose at) = Refused number (broken.StrayClose at)
+stop_of_text number (text.Unclosed at) = Refused number (broken.Unclosed at)
+stop_of_text number (text.TooDeep at) = Refused number (broken.TooDeep at)
+stop_of_text number (text.BigInteger at) = Refused number (broken.BigInteger at)
+stop_of_text number text.NoMemory = NoMemory
+
+-- the stop at the file of this number, whose forms have this fault
+abbrev pub stop_of_forms : ℕ → FormFault → Stop
+stop_of_forms number (form.Breaks rule at) = Refused number (broken.Form rule at)
+stop_of_forms number form.NoMemory = NoMemory
+
+-- the stop at the file of this number, which could not be read by this fault
+abbrev pub stop_of_reading : ℕ → Fault → Stop
+stop_of_reading number reading.Failed = ReadFault
+stop_of_reading number reading.TooLong = Refused number broken.TooLong
+stop_of_reading number reading.NoMemory = NoMemory
+
+-- why a file of this role, of this name and this number, adds nothing to what was read before
+abbrev pub IsTurnStop : Option Files → Role → List ℕ → Input → ℕ → Option (List ℕ) → ℕ → ℕ → Stop → Type 0
+IsTurnStop files r name x number whole before now ReadFault = Lacks files name ⊎ Rose before now
+IsTurnStop files r name x number whole before now NoMemory = ⊤
+IsTurnStop files r name x number whole before now (Refused k m) = (k ≡ number) × (whole ≡ told_file files name) × ((bytes : List ℕ) × IsContent files name bytes × IsBroken r x bytes m)
+
+-- of the rules that forms break, this is the least one
+pub record IsLeast (breaks : List Break) (b : Broken) : Type 0 where
+  pub rule : Break
+  pub is : b ≡ broken.Form rule.0 rule.1
+  pub least : IsLeastBreak breaks rule
+
+-- why the forms of the file of this number stand for nothing, where these are the rules that they break
+abbrev pub IsFormsStop : ℕ → List Break → Stop → Type 0
+IsFormsStop number breaks ReadFault = ⊥
+IsFormsStop number breaks NoMemory = ⊤
+IsFormsStop number breaks (Refused k b) = (k ≡ number) × IsLeast breaks b
+
+-- why the bytes of the file of this number stand for nothing
+abbrev pub IsFileStop : ℕ → (Broken → Type 0) → Stop → Type 0
+IsFileStop number Breaks ReadFault = ⊥
+IsFileStop number Breaks NoMemory = ⊤
+IsFileStop number Breaks (Refused k b) = (k ≡ number) × Breaks b
+
+-- why the files of a command were not read to their ends
+abbrev pub IsStop : Option Files → Command → Begun → ℕ → ℕ → Stop → Type 0
+IsStop files c begun before now ReadFault = LacksFile files c ⊎ Rose before now
+IsStop files c begun before now NoMemory = ⊤
+IsStop files c begun before now (Refused number b) = IsRefused files c number b × EndsAt files c begun number
+
+-- why a command is answered with this status alone, and no line
+abbrev pub IsBareStatus : Option Files → Command → ℕ → ℕ → Status → Type 0
+IsBareStatus files c before now status.ReadFault = LacksFile files c ⊎ Rose before now
+IsBareStatus files c before now status.NoMemory = ⊤
+IsBareStatus files c before now s = ⊥

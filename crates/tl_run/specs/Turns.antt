@@ -1,55 +1,55 @@
--- Files that are read in an order, each after those before it have passed.
-use Rattle.std.specs.Prelude.{◌≡◌, ℕ, ◌+◌, ◌≤◌, ◌⊎◌, List, [], ◌∷◌, ◌++◌, Option, length, ⊤}
-use Rattle.tl_outside.specs.Causes.{Rose}
-use Rattle.tl_outside.specs.Told.{Files, told_file, Lacks, IsContent, IsLonger}
+-- Files that are read in turn, each after those before it have passed.
+use Rattle.std.specs.Prelude.{◌≡◌, ◌⊎◌, ℕ, ◌+◌, ◌-◌, ◌≤◌, List, [], ◌∷◌, Option, Some, None, slice_get}
+use Rattle.tl_outside.specs.Told.{Files, IsContent, Lacks, told_file}
+use Rattle.tl_run.specs.declared.words.Role.{Role}
 use Rattle.tl_run.specs.declared.stop.Broken.{Broken}
-use Rattle.tl_run.specs.declared.stop.Broken.TheVariants.{TooLong}
-use Rattle.tl_run.specs.declared.stop.Stop.{Stop}
-use Rattle.tl_run.specs.declared.stop.Stop.TheVariants.{ReadFault, NoMemory, Refused}
-use Rattle.tl_run.specs.Contents.{Passes, Breaks}
+use Rattle.tl_run.specs.Commands.{Command, files_of}
+use Rattle.tl_run.specs.Inputs.{Input, nothing, StandsFor, IsBroken}
 
--- at the turn of some name P holds of the contents before it and of the name
-abbrev pub InTurn : Option Files → List (List ℕ) → List (List ℕ) → (List (List ℕ) → List ℕ → Type 0) → Type 0
-InTurn files before [] P = ⊥
-InTurn files before (name ∷ names) P =
-    P before name ⊎ ((bytes : List ℕ) × IsContent files name bytes × Passes before bytes × InTurn files (before ++ bytes ∷ []) names P)
+-- all files pass, and together with what was read before they stand for this
+abbrev pub StandTogether : Option Files → List (Role × List ℕ) → Input → Input → Type 0
+StandTogether files [] before input = before ≡ input
+StandTogether files (f ∷ fs) before input =
+    (bytes : List ℕ) × (after : Input) × IsContent files f.1 bytes × StandsFor f.0 before bytes after × StandTogether files fs after input
 
--- all pass, and P holds of the contents
-abbrev pub AllPass : Option Files → List (List ℕ) → List (List ℕ) → (List (List ℕ) → Type 0) → Type 0
-AllPass files before [] P = P before
-AllPass files before (name ∷ names) P =
-    (bytes : List ℕ) × IsContent files name bytes × Passes before bytes × AllPass files (before ++ bytes ∷ []) names P
+-- some file is reached, and P holds of its number, its role, its name and what was read before it
+abbrev pub Reaches : (ℕ → Role → List ℕ → Input → Type 0) → Option Files → List (Role × List ℕ) → ℕ → Input → Type 0
+Reaches P files [] k before = ⊥
+Reaches P files (f ∷ fs) k before =
+    P k f.0 f.1 before ⊎ ((bytes : List ℕ) × (after : Input) × IsContent files f.1 bytes × StandsFor f.0 before bytes after × Reaches P files fs (k + 1) after)
 
--- the file whose turn it is is not there
-abbrev pub LacksInTurn : Option Files → List (List ℕ) → List (List ℕ) → Type 0
-LacksInTurn files before names = InTurn files before names (λ passed name. Lacks files name)
+-- the files of a command all pass, and stand for this together
+abbrev pub HoldInput : Option Files → Command → Input → Type 0
+HoldInput files c input = StandTogether files (files_of c) nothing input
+
+-- some file of a command is reached, the first one with the number 1, and P holds of it
+abbrev pub ReachesFile : (ℕ → Role → List ℕ → Input → Type 0) → Option Files → Command → Type 0
+ReachesFile P files c = Reaches P files (files_of c) 1 nothing
+
+-- the store tells its files, and lacks the one whose turn it is
+abbrev pub LacksFile : Option Files → Command → Type 0
+LacksFile files c = ReachesFile (λ k r name before. Lacks files name) files c
+
+-- the file of this number has its turn and breaks this rule
+abbrev pub IsRefused : Option Files → Command → ℕ → Broken → Type 0
+IsRefused files c number b =
+    ReachesFile (λ k r name before. (k ≡ number) × ((bytes : List ℕ) × IsContent files name bytes × IsBroken r before bytes b)) files c
 
 -- what a store shows of the files that a call began: the bytes of the last one, and at most how many there were
 pub record Begun : Type 0 where
   pub whole : Option (List ℕ)
   pub count : ℕ
 
--- after these contents, the file of this number breaks this rule in its turn
-abbrev pub BreaksInTurn : Option Files → List (List ℕ) → List (List ℕ) → ℕ → Broken → Type 0
-BreaksInTurn files before names number broken =
-    InTurn files before names (λ passed name. (number ≡ length passed + 1) × ((bytes : List ℕ) × IsContent files name bytes × Breaks passed bytes broken))
+-- no file was begun, or at most as many as the number of a file that has its turn
+abbrev pub BegunInTurn : Option Files → Command → ℕ → Type 0
+BegunInTurn files c count = (count ≡ 0) ⊎ ReachesFile (λ k r name before. count ≤ k) files c
 
--- after these contents, the file of this number breaks this rule, and no later one was begun
-abbrev pub RefusesInTurn : Option Files → List (List ℕ) → List (List ℕ) → Begun → ℕ → Broken → Type 0
-RefusesInTurn files before names begun number broken =
-    InTurn files before names (λ passed name. (number ≡ length passed + 1)
-    × (begun.whole ≡ told_file files name)
-    × (begun.count + length before ≤ number)
-    × ((bytes : List ℕ) × IsContent files name bytes × Breaks passed bytes broken))
+-- the bytes that are told of a file in a list, or of none
+abbrev pub told_of : Option Files → Option (Role × List ℕ) → Option (List ℕ)
+told_of files None = None
+told_of files (Some f) = told_file files f.1
 
--- why the bytes of one file, of this number, were not read
-abbrev pub StopsAt : Option Files → List ℕ → ℕ → Option (List ℕ) → ℕ → ℕ → Stop → Type 0
-StopsAt files name number whole before now ReadFault = Lacks files name ⊎ Rose before now
-StopsAt files name number whole before now NoMemory = ⊤
-StopsAt files name number whole before now (Refused k broken) = (k ≡ number) × (broken ≡ TooLong) × (whole ≡ told_file files name) × IsLonger files name 4194304
-
--- why files in turn, after these contents, reach no verdict
-abbrev pub StopsInTurn : Option Files → List (List ℕ) → List (List ℕ) → Begun → ℕ → ℕ → Stop → Type 0
-StopsInTurn files passed names begun before now ReadFault = LacksInTurn files passed names ⊎ Rose before now
-StopsInTurn files passed names begun before now NoMemory = ⊤
-StopsInTurn files passed names begun before now (Refused number broken) = RefusesInTurn files passed names begun number broken
+-- the file of this number was the last one that was begun, and no more files were begun than it and those before it
+pub record EndsAt (files : Option Files) (c : Command) (begun : Begun) (number : ℕ) : Type 0 where
+  pub whole : begun.whole ≡ told_of files (slice_get (files_of c) (number - 1))
+  pub few : begun.count ≤ number

@@ -1,83 +1,72 @@
 // A run as a whole.
-ghost use Rattle.std.specs.Prelude.{◌≡◌, ◌-◌, ◌↔◌, ◌⊎◌, ℕ, Some, map, [], codes};
+ghost use Rattle.std.specs.Prelude.{◌≡◌, ◌-◌, ◌↔◌, ◌⊎◌, ℕ, Some, None, map};
 ghost use Rattle.std.specs.String.{string_bytes};
-ghost use Rattle.std.specs.Io.KnownBytes.{append_known};
 ghost use Rattle.tl_outside.specs.Causes.{Rose};
 ghost use Rattle.tl_outside.specs.Told.{Files};
-ghost use Rattle.tl_run.specs.Answers.{AnswersCalmly, AnswersRefusal, AnswersVerdict, HaveVerdict, HoldAcceptedPlan, HoldCalmPlan, Writes};
-ghost use Rattle.tl_run.specs.Refusals.{refusal_text};
-ghost use Rattle.tl_run.specs.Turns.{BreaksInTurn, LacksInTurn};
-ghost use Rattle.tl_check.specs.declared.verdict.Verdict.{Verdict};
-ghost use Rattle.tl_run.specs.declared.stop.Broken.{Broken};
-ghost use Rattle.tl_run.specs.Words.{check, no_command, command_in, files_named};
+ghost use Rattle.tl_run.specs.Answers.{Answer};
+ghost use Rattle.tl_run.specs.Commands.{Command, command_in};
+ghost use Rattle.tl_run.specs.Inputs.{Input};
+ghost use Rattle.tl_run.specs.Promises.{Allows, Gives, Headline, IsAnswer, IsCalm, IsCalmStatus, Writes};
+ghost use Rattle.tl_run.specs.Replies.{HasLines, Sends};
+ghost use Rattle.tl_run.specs.Turns.{BegunInTurn, LacksFile};
 
-use crate::answer::{Fault, answer_of};
+use crate::reply::{Reply, reply_to};
 use crate::status::Status;
-use crate::words::{Command, FileNames, command_of};
+use crate::words::command_of;
 use std::alloc::Global;
 use tl_check::laws::plan_has_one_verdict;
+use tl_domain::files_stand_for_one_problem;
 use tl_outside::{Sink, Store, write_whole};
 
-/// Runs the command `check`.
-fn run_check<S: Store, K: Sink>(
-    alloc: Global,
-    files: FileNames<'_>,
-    store: &mut S,
-    out: &mut K,
-) -> Status
-    ensures lawful { result ≡ Status.Usage → ⊥ }
-    ensures read_fault { result ≡ Status.ReadFault →
-        LacksInTurn (S.files store.old) [] (files_named (check files.entry.domain.now files.entry.problem.now files.entry.plan.now)) ⊎ Rose (S.faults store.old) (S.faults store.new) }
-    ensures write_fault { result ≡ Status.WriteFault → Rose (K.faults out.old) (K.faults out.new) }
-    ensures valid { result ≡ Status.Yes → HoldAcceptedPlan (S.files store.old) (files_named (check files.entry.domain.now files.entry.problem.now files.entry.plan.now)) }
-    ensures valid_line { result ≡ Status.Yes → K.bytes out.new ≡ append_known (K.bytes out.old) (codes "; valid\n") }
-    ensures refuses { (told : Files) (number : ℕ) (broken : Broken) → S.files store.old ≡ Some told
-        → BreaksInTurn (Some told) [] (files_named (check files.entry.domain.now files.entry.problem.now files.entry.plan.now)) number broken
-        → AnswersRefusal (K.bytes out.old) (K.bytes out.new) (refusal_text number broken) result }
-    ensures judged { (told : Files) (verdict : Verdict) → S.files store.old ≡ Some told
-        → HaveVerdict (Some told) (files_named (check files.entry.domain.now files.entry.problem.now files.entry.plan.now)) verdict
-        → AnswersVerdict (K.bytes out.old) (K.bytes out.new) verdict result }
-    ensures calm { (told : Files) → S.files store.old ≡ Some told → HoldCalmPlan (Some told) (files_named (check files.entry.domain.now files.entry.problem.now files.entry.plan.now)) → AnswersCalmly result }
-    ensures written { Writes (S.files store.old) (files_named (check files.entry.domain.now files.entry.problem.now files.entry.plan.now))
-        (record { whole = S.whole store.new; count = S.begun store.new - S.begun store.old }) (K.bytes out.old) (K.bytes out.new) result }
+/// Sends the lines of a reply, and answers how the run ends.
+fn send<K: Sink>(out: &mut K, reply: &Reply) -> Status
+    requires { HasLines reply.now.status }
+    ensures sent { Sends (K.bytes out.old) (K.bytes out.new) reply.now.status reply.now.text result }
+    ensures fault { result ≡ Status.WriteFault → Rose (K.faults out.old) (K.faults out.new) }
 {
-    plan_has_one_verdict();
-    match answer_of(alloc, store, files) {
-        Ok(answer) => match write_whole(out, answer.text.as_slice()) {
-            Ok(()) => answer.status,
-            Err(_) => Status::WriteFault,
-        },
-        Err(Fault::Read) => Status::ReadFault,
-        Err(Fault::NoMemory) => Status::NoMemory,
+    match write_whole(out, reply.text.as_slice()) {
+        Ok(()) => reply.status,
+        Err(_) => Status::WriteFault,
     }
 }
 
 /// Runs the command of these words, which are those after the program's name.
 pub fn run<S: Store, K: Sink>(alloc: Global, words: &[String], store: &mut S, out: &mut K) -> Status
-    ensures usage { (result ≡ Status.Usage) ↔ (command_in (map string_bytes words.now) ≡ no_command) }
-    ensures usage_store { result ≡ Status.Usage → store.new ≡ store.old }
-    ensures usage_out { result ≡ Status.Usage → out.new ≡ out.old }
-    ensures read_fault { result ≡ Status.ReadFault →
-        LacksInTurn (S.files store.old) [] (files_named (command_in (map string_bytes words.now))) ⊎ Rose (S.faults store.old) (S.faults store.new) }
+    ensures usage { (result ≡ Status.Usage) ↔ (command_in (map string_bytes words.now) ≡ None) }
+
+    // Wrong words leave the store and the sink untouched.
+    ensures untouched { result ≡ Status.Usage → (store.new ≡ store.old) × (out.new ≡ out.old) }
+
+    // A file is begun only in its turn, after those before it have passed.
+    ensures begun { (c : Command) → command_in (map string_bytes words.now) ≡ Some c → BegunInTurn (S.files store.old) c (S.begun store.new - S.begun store.old) }
+    ensures read_fault { (c : Command) → command_in (map string_bytes words.now) ≡ Some c → result ≡ Status.ReadFault
+        → LacksFile (S.files store.old) c ⊎ Rose (S.faults store.old) (S.faults store.new) }
     ensures write_fault { result ≡ Status.WriteFault → Rose (K.faults out.old) (K.faults out.new) }
-    ensures valid { result ≡ Status.Yes → HoldAcceptedPlan (S.files store.old) (files_named (command_in (map string_bytes words.now))) }
-    ensures valid_line { result ≡ Status.Yes → K.bytes out.new ≡ append_known (K.bytes out.old) (codes "; valid\n") }
 
-    // Where the store tells its files and one of them breaks a rule in its turn, nothing but that refusal is written.
-    ensures refuses { (told : Files) (number : ℕ) (broken : Broken) → S.files store.old ≡ Some told
-        → BreaksInTurn (Some told) [] (files_named (command_in (map string_bytes words.now))) number broken
-        → AnswersRefusal (K.bytes out.old) (K.bytes out.new) (refusal_text number broken) result }
+    // The plan is accepted where the answer is `; valid`.
+    ensures headline { (c : Command) → command_in (map string_bytes words.now) ≡ Some c
+        → Writes (Headline (S.files store.old) c) (K.bytes out.old) (K.bytes out.new) result }
 
-    // Where the files stand for a problem and a plan, its verdict is what is written, unless an operation is past range.
-    ensures judged { (told : Files) (verdict : Verdict) → S.files store.old ≡ Some told
-        → HaveVerdict (Some told) (files_named (command_in (map string_bytes words.now))) verdict
-        → AnswersVerdict (K.bytes out.old) (K.bytes out.new) verdict result }
-    ensures calm { (told : Files) → S.files store.old ≡ Some told → HoldCalmPlan (Some told) (files_named (command_in (map string_bytes words.now))) → AnswersCalmly result }
-    ensures written { Writes (S.files store.old) (files_named (command_in (map string_bytes words.now)))
-        (record { whole = S.whole store.new; count = S.begun store.new - S.begun store.old }) (K.bytes out.old) (K.bytes out.new) result }
+    // Nothing is written but an answer that the files allow, whole or, where writing fails, a front part of it.
+    ensures written { (c : Command) → command_in (map string_bytes words.now) ≡ Some c
+        → Writes (IsAnswer (S.files store.old) c (record { whole = S.whole store.new; count = S.begun store.new - S.begun store.old })) (K.bytes out.old) (K.bytes out.new) result }
+
+    // An answer that the files allow is the one that is written, but for those that come in its place by a cause of their own.
+    ensures exact { (c : Command) (told : Files) (input : Input) (answer : Answer)
+        → command_in (map string_bytes words.now) ≡ Some c → S.files store.old ≡ Some told
+        → Allows (Some told) c input answer → Gives (K.bytes out.old) (K.bytes out.new) input answer result }
+
+    // Where nothing past range is looked at, no operation past range is the answer.
+    ensures calm { (c : Command) (told : Files) → command_in (map string_bytes words.now) ≡ Some c → S.files store.old ≡ Some told
+        → IsCalm (Some told) c → IsCalmStatus result }
 {
-    match command_of(words) {
-        Command::Check(files) => run_check(alloc, files, store, out),
-        Command::Unknown => Status::Usage,
+    plan_has_one_verdict();
+    files_stand_for_one_problem();
+    let Some(command) = command_of(words) else {
+        return Status::Usage;
+    };
+    match reply_to(alloc, store, command) {
+        Ok(reply) => send(out, &reply),
+        Err(status) => status,
     }
 }

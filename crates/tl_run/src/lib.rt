@@ -1,13 +1,19 @@
 //! A run of the program, from its words to its exit status.
+//!
+//! - `command`: `run`, and the writing of a reply.
+//! - `words`: the commands, their files and their words.
+//! - `input`: the files of a command, read in turn; `turn`: the bytes of one file, and what they add to what was read before.
+//! - `reply`: the reply to a command; `commands`: a module for each command.
+//! - `stop`: why a file is not read on; `status`: how a run ends.
 #![tactic(auto)]
 
-mod answer;
-mod check;
 mod command;
-mod files;
-mod reading;
+mod commands;
+mod input;
+mod reply;
 mod status;
 mod stop;
+mod turn;
 mod words;
 
 pub use command::run;

@@ -1,10 +1,13 @@
-// Why a file is not read on, and why no verdict was reached.
+// Why a file is refused, and why the files of a command are not read on.
 ghost use Rattle.std.specs.Prelude.{◌≡◌};
 ghost use Rattle.tl_run.specs.Refusals.{rule_number, refusal_offset};
-ghost use Rattle.tl_run.specs.Stops.{stop_at};
+ghost use Rattle.tl_run.specs.Stops.{stop_of_forms, stop_of_reading, stop_of_text};
+ghost use Rattle.tl_run.specs.declared.stop.Stop.TheVariants as stop;
 
-use crate::files::FileFault;
-use tl_forms::Rule;
+use std::alloc::AllocError;
+use tl_forms::{FormFault, Rule};
+use tl_outside::ReadFault;
+use tl_sexpr::TextFault;
 
 /// The rule by which a file is refused. The `u32` is the offset of the byte that it is about.
 #[derive(Clone, Copy, Debug, PartialEq, Eq)]
@@ -57,25 +60,58 @@ impl Broken {
     }
 }
 
-/// Why the check of a plan was not reached.
+/// Why the files of a command are not read on.
 #[derive(Clone, Copy, Debug, PartialEq, Eq)]
 pub(crate) enum Stop {
     /// A file could not be read.
     ReadFault,
     /// Want of memory.
     NoMemory,
-    /// The file of this place among the words, counted from 1, breaks this rule.
+    /// The file of this place among the command's files, counted from 1, breaks this rule.
     Refused(u8, Broken),
 }
 
 impl Stop {
-    /// Why the file of this place among the words was not read on.
-    pub(crate) fn at(number: u8, fault: FileFault) -> Stop
-        ensures { result ≡ stop_at number fault }
+    /// For the file of this number, which could not be read by this fault.
+    pub(crate) fn of_reading(number: u8, fault: ReadFault) -> Stop
+        ensures { result ≡ stop_of_reading number fault }
     {
         match fault {
-            FileFault::Breaks(broken) => Stop::Refused(number, broken),
-            FileFault::NoMemory => Stop::NoMemory,
+            ReadFault::Failed => Stop::ReadFault,
+            ReadFault::TooLong => Stop::Refused(number, Broken::TooLong),
+            ReadFault::NoMemory => Stop::NoMemory,
         }
+    }
+
+    /// For the file of this number, whose text has this fault.
+    pub(crate) fn of_text(number: u8, fault: TextFault) -> Stop
+        ensures { result ≡ stop_of_text number fault }
+    {
+        match fault {
+            TextFault::BadByte(at) => Stop::Refused(number, Broken::BadByte(at)),
+            TextFault::StrayClose(at) => Stop::Refused(number, Broken::StrayClose(at)),
+            TextFault::Unclosed(at) => Stop::Refused(number, Broken::Unclosed(at)),
+            TextFault::TooDeep(at) => Stop::Refused(number, Broken::TooDeep(at)),
+            TextFault::BigInteger(at) => Stop::Refused(number, Broken::BigInteger(at)),
+            TextFault::NoMemory => Stop::NoMemory,
+        }
+    }
+
+    /// For the file of this number, whose forms have this fault.
+    pub(crate) fn of_forms(number: u8, fault: FormFault) -> Stop
+        ensures { result ≡ stop_of_forms number fault }
+    {
+        match fault {
+            FormFault::Breaks { broken, at } => Stop::Refused(number, Broken::Form(broken, at)),
+            FormFault::NoMemory => Stop::NoMemory,
+        }
+    }
+}
+
+impl From<AllocError> for Stop {
+    ghost from_gives = { λ _ e. e ≡ stop.NoMemory };
+
+    fn from(_: AllocError) -> Self {
+        Stop::NoMemory
     }
 }

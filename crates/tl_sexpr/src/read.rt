@@ -71,6 +71,3 @@ pub fn read_forms(alloc: Global, bytes: &[u8]) -> Result<Forms, TextFault>
     }
     reader.finish()
 }
-
-#[cfg(test)]
-mod tests;

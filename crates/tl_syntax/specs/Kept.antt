@@ -62,10 +62,13 @@ pub record DomainKeeps (n : ℕ) (d : Domain) : Type 0 where
   pub name : d.name < n
   pub predicates : Each (DeclarationKeeps n) d.predicates
   pub functions : Each (DeclarationKeeps n) d.functions
+  pub few_predicates : length d.predicates ≤ 256
+  pub few_functions : length d.functions ≤ 256
   pub definitions : (i : ℕ) (x : Definition) → slice_get d.definitions i ≡ Some x → DefinitionKeeps (signature_of d) n i x
   pub few_definitions : length d.definitions ≤ 64
   pub few_levels : sum_by (λ x. x.levels) d.definitions ≤ 128
   pub operators : Each (OperatorKeeps (signature_of d) n) d.operators
+  pub few_operators : length d.operators ≤ 256
   pub control_closed : InScope [] (free_slots (tree_of_formula d.control))
   pub control_fits : Fits (signature_of d) [] (tree_of_formula d.control)
   pub control_named : IsNamed n (tree_of_formula d.control)

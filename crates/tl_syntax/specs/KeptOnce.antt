@@ -109,7 +109,7 @@ mutual
   effects-prop g around no_effect = hlevel
   effects-prop g around (more_effects e es) = hlevel (effect-prop g around e, effects-prop g around es)
 
-named_value-prop : (n : ℕ) (v : Value) → IsProp (ValueIsNamed n v)
+pub named_value-prop : (n : ℕ) (v : Value) → IsProp (ValueIsNamed n v)
 named_value-prop n (Int z) = hlevel
 named_value-prop n (Sym k) = hlevel props
 
@@ -261,7 +261,7 @@ domain-prop n d = hlevel (
   named-prop n (tree_of_formula d.control),
 )
 
-values-prop : (n : ℕ) (vs : List Value) → IsProp (Each (ValueIsNamed n) vs)
+pub values-prop : (n : ℕ) (vs : List Value) → IsProp (Each (ValueIsNamed n) vs)
 values-prop n vs = Each-prop (ValueIsNamed n) (named_value-prop n) vs
 
 fact-prop : (g : Signature) (n : ℕ) (f : Fact) → IsProp (FactKeeps g n f)

@@ -21,6 +21,7 @@ pub mod DerivedTests
 pub mod Signature
 pub mod FreeVariables
 pub mod Fits
+pub mod Junctions
 pub mod Kept
 pub mod KeptOnce
 pub mod SubstitutionKeeps

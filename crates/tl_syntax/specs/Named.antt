@@ -6,6 +6,8 @@ use Rattle.tl_syntax.specs.declared.variable.Var.{Var}
 use Rattle.tl_syntax.specs.declared.variable.Arg.{Arg}
 use Rattle.tl_syntax.specs.declared.variable.Arg.TheVariants as arg
 use Rattle.tl_syntax.specs.declared.bound.Bound.{Bound}
+use Rattle.tl_syntax.specs.declared.fact.Fact.{Fact}
+use Rattle.tl_syntax.specs.declared.place_value.PlaceValue.{PlaceValue}
 use Rattle.tl_syntax.specs.BoundVariables.{args_of}
 use Rattle.tl_syntax.specs.Effects.{EffectTree, EffectTrees, add, del, assign, when, each, no_effect, more_effects}
 use Rattle.tl_syntax.specs.Lists.{Each}
@@ -28,6 +30,14 @@ ArgIsNamed n (arg.Val v) = ValueIsNamed n v
 -- a bound of named things
 abbrev pub BoundIsNamed : ℕ → Bound → Type 0
 BoundIsNamed n b = Each (ArgIsNamed n) (args_of b)
+
+-- a fact of named values
+abbrev pub FactIsNamed : ℕ → Fact → Type 0
+FactIsNamed n f = Each (ValueIsNamed n) f.args
+
+-- a place of named values, with a named value
+abbrev pub PlaceIsNamed : ℕ → PlaceValue → Type 0
+PlaceIsNamed n x = Each (ValueIsNamed n) x.args × ValueIsNamed n x.value
 
 -- a term of named things, and a list of terms
 unfoldable mutual

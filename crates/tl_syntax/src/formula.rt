@@ -2,8 +2,10 @@
 ghost use Rattle.std.specs.Prelude.{◌≡◌, ◌↔◌, [], ◌∷◌, ◌++◌, true, IfOk, OnOk, OnErr};
 ghost use Rattle.tl_syntax.specs.Basic.{is_basic};
 ghost use Rattle.tl_syntax.specs.Bindings.{assignment_of};
-ghost use Rattle.tl_syntax.specs.Substitution.{substituted, substituted_all};
+ghost use Rattle.tl_syntax.specs.Substitution.{substituted, substituted_all, substituted_bound, substituted_term};
 ghost use Rattle.tl_syntax.specs.TreeOfFormula.{formulas_in, tree_of_formula, tree_of_formulas};
+ghost use Rattle.tl_syntax.specs.TreeOfTerm.{tree_of_term};
+ghost use Rattle.tl_syntax.specs.Trees.{compare, for_all, for_some};
 
 use crate::substitution::{
     Binding, arg_with_values, args_with_values, bindings_below, bound_with_values,
@@ -146,50 +148,28 @@ impl Formula {
             Formula::False => Ok(Formula::False),
             Formula::Atom(p, args) => Ok(Formula::Atom(*p, args.copy(alloc)?)),
             Formula::Defined(p, args) => Ok(Formula::Defined(*p, args.copy(alloc)?)),
-            Formula::Compare(cmp, left, right) => {
-                let left = left.copy(alloc)?;
-                let right = right.copy(alloc)?;
-                Ok(Formula::Compare(*cmp, left, right))
-            }
+            Formula::Compare(cmp, left, right) => copy_comparison(alloc, *cmp, left, right),
             Formula::GoalFact(p, args) => Ok(Formula::GoalFact(*p, args.copy(alloc)?)),
             Formula::GoalPlace(f, args, x) => Ok(Formula::GoalPlace(*f, args.copy(alloc)?, *x)),
             Formula::GoalNot(p, args) => Ok(Formula::GoalNot(*p, args.copy(alloc)?)),
-            Formula::Not(f) => Ok(Formula::Not(Box::new(alloc, f.copy(alloc)?)?)),
+            Formula::Not(f) => Formula::not(alloc, f.copy(alloc)?),
             Formula::And(parts) => Ok(Formula::And(parts.copy(alloc)?)),
             Formula::Or(parts) => Ok(Formula::Or(parts.copy(alloc)?)),
-            Formula::ForAll(vars, bound, f) => {
-                let vars = vars.copy(alloc)?;
-                let bound = bound.copy(alloc)?;
-                let f = Box::new(alloc, f.copy(alloc)?)?;
-                Ok(Formula::ForAll(vars, bound, f))
-            }
-            Formula::Exists(vars, bound, f) => {
-                let vars = vars.copy(alloc)?;
-                let bound = bound.copy(alloc)?;
-                let f = Box::new(alloc, f.copy(alloc)?)?;
-                Ok(Formula::Exists(vars, bound, f))
-            }
-            Formula::Next(f) => Ok(Formula::Next(Box::new(alloc, f.copy(alloc)?)?)),
-            Formula::Always(f) => Ok(Formula::Always(Box::new(alloc, f.copy(alloc)?)?)),
-            Formula::Eventually(f) => Ok(Formula::Eventually(Box::new(alloc, f.copy(alloc)?)?)),
-            Formula::Until(f, g) => {
-                let f = Box::new(alloc, f.copy(alloc)?)?;
-                let g = Box::new(alloc, g.copy(alloc)?)?;
-                Ok(Formula::Until(f, g))
-            }
-            Formula::Within(n, f) => Ok(Formula::Within(*n, Box::new(alloc, f.copy(alloc)?)?)),
-            Formula::During(n, f) => Ok(Formula::During(*n, Box::new(alloc, f.copy(alloc)?)?)),
+            Formula::ForAll(vars, bound, f) => copy_for_all(alloc, vars, bound, f.copy(alloc)?),
+            Formula::Exists(vars, bound, f) => copy_exists(alloc, vars, bound, f.copy(alloc)?),
+            Formula::Next(f) => Formula::next(alloc, f.copy(alloc)?),
+            Formula::Always(f) => Formula::always(alloc, f.copy(alloc)?),
+            Formula::Eventually(f) => Formula::eventually(alloc, f.copy(alloc)?),
+            Formula::Until(f, g) => Formula::until(alloc, f.copy(alloc)?, g.copy(alloc)?),
+            Formula::Within(n, f) => Formula::within(alloc, *n, f.copy(alloc)?),
+            Formula::During(n, f) => Formula::during(alloc, *n, f.copy(alloc)?),
         }
     }
 
-    /// The formula with the values put in for free variables. It fails for want of memory alone.
+    /// The formula with the values put in for free variables, where the first binding of a slot counts. It fails for want of memory alone.
     #[cycle(put_in_formulas)]
     #[tactic(auto, using(crate::proofs::FormulaTrees::formula_trees, crate::proofs::Bindings::assignment_below), unfolding(crate::specs::Substitution::substituted))]
-    pub(crate) fn with_values(
-        &self,
-        alloc: Global,
-        bindings: &[Binding],
-    ) -> Result<Formula, NoMemory>
+    pub fn with_values(&self, alloc: Global, bindings: &[Binding]) -> Result<Formula, NoMemory>
         ensures substituted { IfOk result (λ out. tree_of_formula out ≡ substituted (assignment_of bindings.now) (tree_of_formula self.now)) }
     {
         match self {
@@ -200,9 +180,7 @@ impl Formula {
                 Ok(Formula::Defined(*p, args.with_values(alloc, bindings)?))
             }
             Formula::Compare(cmp, left, right) => {
-                let left = left.with_values(alloc, bindings)?;
-                let right = right.with_values(alloc, bindings)?;
-                Ok(Formula::Compare(*cmp, left, right))
+                comparison_with_values(alloc, *cmp, left, right, bindings)
             }
             Formula::GoalFact(p, args) => {
                 Ok(Formula::GoalFact(*p, args_with_values(alloc, args, bindings)?))
@@ -215,51 +193,29 @@ impl Formula {
             Formula::GoalNot(p, args) => {
                 Ok(Formula::GoalNot(*p, args_with_values(alloc, args, bindings)?))
             }
-            Formula::Not(f) => {
-                let f = Box::new(alloc, f.with_values(alloc, bindings)?)?;
-                Ok(Formula::Not(f))
-            }
+            Formula::Not(f) => Formula::not(alloc, f.with_values(alloc, bindings)?),
             Formula::And(parts) => Ok(Formula::And(parts.with_values(alloc, bindings)?)),
             Formula::Or(parts) => Ok(Formula::Or(parts.with_values(alloc, bindings)?)),
             Formula::ForAll(vars, bound, f) => {
                 let below = bindings_below(alloc, vars, bindings)?;
-                let vars = vars.copy(alloc)?;
-                let bound = bound_with_values(alloc, bound, below.as_slice())?;
-                let f = Box::new(alloc, f.with_values(alloc, below.as_slice())?)?;
-                Ok(Formula::ForAll(vars, bound, f))
+                let f = f.with_values(alloc, below.as_slice())?;
+                for_all_with_values(alloc, vars, bound, f, below.as_slice())
             }
             Formula::Exists(vars, bound, f) => {
                 let below = bindings_below(alloc, vars, bindings)?;
-                let vars = vars.copy(alloc)?;
-                let bound = bound_with_values(alloc, bound, below.as_slice())?;
-                let f = Box::new(alloc, f.with_values(alloc, below.as_slice())?)?;
-                Ok(Formula::Exists(vars, bound, f))
+                let f = f.with_values(alloc, below.as_slice())?;
+                exists_with_values(alloc, vars, bound, f, below.as_slice())
             }
-            Formula::Next(f) => {
-                let f = Box::new(alloc, f.with_values(alloc, bindings)?)?;
-                Ok(Formula::Next(f))
-            }
-            Formula::Always(f) => {
-                let f = Box::new(alloc, f.with_values(alloc, bindings)?)?;
-                Ok(Formula::Always(f))
-            }
-            Formula::Eventually(f) => {
-                let f = Box::new(alloc, f.with_values(alloc, bindings)?)?;
-                Ok(Formula::Eventually(f))
-            }
+            Formula::Next(f) => Formula::next(alloc, f.with_values(alloc, bindings)?),
+            Formula::Always(f) => Formula::always(alloc, f.with_values(alloc, bindings)?),
+            Formula::Eventually(f) => Formula::eventually(alloc, f.with_values(alloc, bindings)?),
             Formula::Until(f, g) => {
-                let f = Box::new(alloc, f.with_values(alloc, bindings)?)?;
-                let g = Box::new(alloc, g.with_values(alloc, bindings)?)?;
-                Ok(Formula::Until(f, g))
+                let f = f.with_values(alloc, bindings)?;
+                let g = g.with_values(alloc, bindings)?;
+                Formula::until(alloc, f, g)
             }
-            Formula::Within(n, f) => {
-                let f = Box::new(alloc, f.with_values(alloc, bindings)?)?;
-                Ok(Formula::Within(*n, f))
-            }
-            Formula::During(n, f) => {
-                let f = Box::new(alloc, f.with_values(alloc, bindings)?)?;
-                Ok(Formula::During(*n, f))
-            }
+            Formula::Within(n, f) => Formula::within(alloc, *n, f.with_values(alloc, bindings)?),
+            Formula::During(n, f) => Formula::during(alloc, *n, f.with_values(alloc, bindings)?),
         }
     }
 
@@ -297,4 +253,78 @@ impl Formula {
             Formula::During(_, _) => false,
         }
     }
+}
+
+// A comparison of copied terms.
+#[tactic(auto, using(crate::proofs::FormulaTrees::formula_trees))]
+fn copy_comparison(alloc: Global, cmp: Cmp, left: &Term, right: &Term) -> Result<Formula, NoMemory>
+    ensures { IfOk result (λ out. tree_of_formula out ≡ compare cmp (tree_of_term left.now) (tree_of_term right.now)) }
+{
+    let left = left.copy(alloc)?;
+    let right = right.copy(alloc)?;
+    Ok(Formula::Compare(cmp, left, right))
+}
+
+// The formula for every tuple of a copied bound.
+fn copy_for_all(alloc: Global, vars: &Vars, bound: &Bound, f: Formula) -> Result<Formula, NoMemory>
+    ensures { IfOk result (λ out. tree_of_formula out ≡ for_all vars.now bound.now (tree_of_formula f)) }
+{
+    let vars = vars.copy(alloc)?;
+    let bound = bound.copy(alloc)?;
+    Formula::for_all(alloc, vars, bound, f)
+}
+
+// The formula for some tuple of a copied bound.
+fn copy_exists(alloc: Global, vars: &Vars, bound: &Bound, f: Formula) -> Result<Formula, NoMemory>
+    ensures { IfOk result (λ out. tree_of_formula out ≡ for_some vars.now bound.now (tree_of_formula f)) }
+{
+    let vars = vars.copy(alloc)?;
+    let bound = bound.copy(alloc)?;
+    Formula::exists(alloc, vars, bound, f)
+}
+
+// A comparison of terms with the values put in.
+#[tactic(auto, using(crate::proofs::FormulaTrees::formula_trees))]
+fn comparison_with_values(
+    alloc: Global,
+    cmp: Cmp,
+    left: &Term,
+    right: &Term,
+    bindings: &[Binding],
+) -> Result<Formula, NoMemory>
+    ensures { IfOk result (λ out. tree_of_formula out ≡ compare cmp (substituted_term (assignment_of bindings.now) (tree_of_term left.now)) (substituted_term (assignment_of bindings.now) (tree_of_term right.now))) }
+{
+    let left = left.with_values(alloc, bindings)?;
+    let right = right.with_values(alloc, bindings)?;
+    Ok(Formula::Compare(cmp, left, right))
+}
+
+// The formula for every tuple of the bound with the values put in.
+fn for_all_with_values(
+    alloc: Global,
+    vars: &Vars,
+    bound: &Bound,
+    f: Formula,
+    below: &[Binding],
+) -> Result<Formula, NoMemory>
+    ensures { IfOk result (λ out. tree_of_formula out ≡ for_all vars.now (substituted_bound (assignment_of below.now) bound.now) (tree_of_formula f)) }
+{
+    let vars = vars.copy(alloc)?;
+    let bound = bound_with_values(alloc, bound, below)?;
+    Formula::for_all(alloc, vars, bound, f)
+}
+
+// The formula for some tuple of the bound with the values put in.
+fn exists_with_values(
+    alloc: Global,
+    vars: &Vars,
+    bound: &Bound,
+    f: Formula,
+    below: &[Binding],
+) -> Result<Formula, NoMemory>
+    ensures { IfOk result (λ out. tree_of_formula out ≡ for_some vars.now (substituted_bound (assignment_of below.now) bound.now) (tree_of_formula f)) }
+{
+    let vars = vars.copy(alloc)?;
+    let bound = bound_with_values(alloc, bound, below)?;
+    Formula::exists(alloc, vars, bound, f)
 }

@@ -140,37 +140,3 @@ impl<T: Hash> Hash for Items<T> {
         self.items.hash(state);
     }
 }
-
-#[cfg(test)]
-mod tests {
-    use crate::{Action, Bytes, Numbers32, Value, Values};
-    use std::test::Fail;
-
-    #[test]
-    fn lists_keep_what_they_are_given(rt: HostRuntime) -> Result<(), Fail> {
-        let alloc = rt.alloc();
-        let mut numbers = Numbers32::new(alloc);
-        assert!(rt; numbers.is_empty());
-        numbers.push(1)?;
-        numbers.push(2)?;
-        assert_eq!(rt; numbers.as_slice(), [1, 2].as_slice());
-        assert_eq!(rt; numbers.len(), 2);
-        let mut bytes = Bytes::new(alloc);
-        bytes.extend(b"ab")?;
-        bytes.extend(b"c")?;
-        assert_eq!(rt; bytes.as_slice(), b"abc".as_slice());
-        Ok(())
-    }
-
-    #[test]
-    fn copies_are_equal(rt: HostRuntime) -> Result<(), Fail> {
-        let alloc = rt.alloc();
-        let mut args = Values::new(alloc);
-        args.push(Value::Int(-1))?;
-        args.push(Value::Sym(7))?;
-        let press = Action { op: 3, args };
-        let copy = press.copy(alloc)?;
-        assert!(rt; copy == press);
-        Ok(())
-    }
-}

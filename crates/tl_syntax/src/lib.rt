@@ -4,8 +4,10 @@
 //! - `names`: the table of names.
 //! - `items`: the one list type, of which every list here is a name.
 //! - `value`, `variable`, `bound`: what stands in facts and formulas.
+//! - `junction`: all parts, or any part.
 //! - `declared`: what a domain declares.
 //! - `term`, `formula`, `effect`: the trees, which hold themselves; `specs/` has their plain trees.
+//! - `compound`: formulas made of formulas.
 //! - `substitution`: formulas and bounds with values put in.
 //! - `definition`, `operator`, `domain`: what a domain file gives.
 //! - `fact`, `place_value`, `action`: ground facts, places with their values, and the steps of a plan.
@@ -17,6 +19,7 @@
 
 mod action;
 mod bound;
+mod compound;
 mod declared;
 mod definition;
 mod domain;
@@ -24,6 +27,7 @@ mod effect;
 mod fact;
 mod formula;
 mod items;
+mod junction;
 pub mod laws;
 mod memory;
 mod names;
@@ -32,8 +36,6 @@ mod place_value;
 mod problem;
 mod substitution;
 mod term;
-#[cfg(test)]
-mod tree_tests;
 mod value;
 mod variable;
 
@@ -46,12 +48,13 @@ pub use effect::{Effect, Effects};
 pub use fact::{Fact, Facts};
 pub use formula::{Formula, Formulas};
 pub use items::{Bytes, Ids, Items, Numbers32};
+pub use junction::Junction;
 pub use memory::NoMemory;
 pub use names::Names;
 pub use operator::{Operator, Operators};
 pub use place_value::{PlaceValue, PlaceValues};
 pub use problem::Problem;
-pub use substitution::{subst, subst_bound};
+pub use substitution::{Binding, Bindings, bindings_below, bound_with_values, subst, subst_bound};
 pub use term::{Term, Terms};
 pub use value::{Cmp, Op, Value, Values};
 pub use variable::{Arg, Args, Var, Vars};

@@ -14,5 +14,7 @@ pub mod PlanLaws
 pub mod PathLaws
 pub mod IdleLaws
 pub mod StepLaws
+pub mod NamedWorlds
+pub mod NamedSteps
 pub mod OrderLaws
 pub mod QuantifierExamples

@@ -50,10 +50,10 @@ Among-tuples_of vs (suc n) (x ∷ t) = (
 )
 
 -- the tuples of a bound: as many values as variables, all of the two worlds, that make it true
-abbrev worlds_of : Situation → List World
+abbrev pub worlds_of : Situation → List World
 worlds_of s = s.world ∷ s.goal ∷ s.avoid ∷ []
 
-Among-tuples : (s : Situation) (e : Assignment) (ss : List Var) (b : Bound) (t : List Value)
+pub Among-tuples : (s : Situation) (e : Assignment) (ss : List Var) (b : Bound) (t : List Value)
     → Among t (tuples s e ss b) ↔ (((length t ≡ length ss) × Each (λ v. Among v (values_of (worlds_of s))) t) × (bound_true s (bind ss t e) b ≡ true))
 unfolding tuples
 Among-tuples s e ss b t =
@@ -77,7 +77,7 @@ keys-map : (vs : List Value) → map (λ (e : Value × Unit {0}). e.0) (marked v
 keys-map [] = refl
 keys-map (v ∷ vs) = ap (λ us. v ∷ us) (keys-map vs)
 
-Among-values_of : (ws : List World) (v : Value) → Among v (values_of ws) ↔ Among v (flat_map values_in ws)
+pub Among-values_of : (ws : List World) (v : Value) → Among v (values_of ws) ↔ Among v (flat_map values_in ws)
 unfolding values_of
 Among-values_of ws v =
     let vs : List Value = flat_map values_in ws in

@@ -18,6 +18,7 @@ pub mod Idle
 pub mod Operations
 pub mod Looked
 pub mod Calm
+pub mod NamedWorlds
 pub mod LawsGoal
 pub mod LawsDefinitions
 pub mod LawsRun

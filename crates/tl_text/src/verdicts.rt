@@ -27,24 +27,3 @@ pub fn verdict_text(alloc: Global, verdict: &Verdict) -> Result<Bytes, NoMemory>
         Verdict::Disobeys => bytes_of(alloc, "; disobeys\n"),
     }
 }
-
-#[cfg(test)]
-mod tests {
-    use super::*;
-    use std::test::Fail;
-
-    #[test]
-    fn names_the_verdict(rt: HostRuntime) -> Result<(), Fail> {
-        let rows: [(Verdict, &str); 4] = [
-            (Verdict::Valid, "; valid\n"),
-            (Verdict::NotExecutable(12), "; not executable 12\n"),
-            (Verdict::GoalUnmet, "; goal unmet\n"),
-            (Verdict::Disobeys, "; disobeys\n"),
-        ];
-        for (verdict, want) in rows {
-            let text = verdict_text(rt.alloc(), &verdict)?;
-            assert_eq!(rt; text.as_slice(), want.as_bytes());
-        }
-        Ok(())
-    }
-}

@@ -20,8 +20,6 @@ mod places;
 mod row_match;
 mod table;
 mod task;
-#[cfg(test)]
-mod tests;
 mod world;
 
 pub use pattern::{Match, Part, Pattern};

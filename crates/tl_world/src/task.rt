@@ -1,6 +1,7 @@
 // A problem with its worlds.
-ghost use Rattle.std.specs.Prelude.{◌≡◌, IfOk};
+ghost use Rattle.std.specs.Prelude.{◌≡◌, length, IfOk};
 ghost use Rattle.tl_terms.specs.Acceptance.{meets_goal};
+ghost use Rattle.tl_terms.specs.NamedWorlds.{WorldIsNamed, world_named-prop};
 ghost use Rattle.tl_terms.specs.ProblemMeaning.{plain_problem};
 ghost use Rattle.tl_world.specs.Same.{world_paths};
 
@@ -8,7 +9,7 @@ use crate::World;
 use std::alloc::Global;
 use tl_syntax::{NoMemory, Problem};
 
-/// A problem with its initial world and its goal list, seen as worlds.
+/// A problem with its initial world and its goal list, seen as worlds, in which all is named as in the problem.
 #[derive(Drop)]
 pub struct Task {
     /// The problem.
@@ -22,6 +23,37 @@ pub struct Task {
     pub ghost first_is: { first ≡ (plain_problem problem).first } by { world_paths first (plain_problem problem).first },
     pub ghost goal_is: { goal ≡ (plain_problem problem).goal } by { world_paths goal (plain_problem problem).goal },
     pub ghost avoid_is: { avoid ≡ (plain_problem problem).avoid } by { world_paths avoid (plain_problem problem).avoid },
+    pub ghost first_named: { WorldIsNamed (length problem.names) first } by { world_named-prop (length problem.names) first },
+    pub ghost goal_named: { WorldIsNamed (length problem.names) goal } by { world_named-prop (length problem.names) goal },
+    pub ghost avoid_named: { WorldIsNamed (length problem.names) avoid } by { world_named-prop (length problem.names) avoid },
+}
+
+/// The worlds of a problem, which its task takes.
+#[derive(Drop)]
+struct Worlds {
+    first: World,
+    goal: World,
+    avoid: World,
+}
+
+/// The worlds of the problem. It fails for want of memory alone.
+fn worlds_of(alloc: Global, problem: &Problem) -> Result<Worlds, NoMemory>
+    ensures first { IfOk result (λ worlds. worlds.first ≡ (plain_problem problem.now).first) }
+    ensures goal { IfOk result (λ worlds. worlds.goal ≡ (plain_problem problem.now).goal) }
+    ensures avoid { IfOk result (λ worlds. worlds.avoid ≡ (plain_problem problem.now).avoid) }
+{
+    let first = World::of(
+        alloc,
+        problem.init_facts.as_slice(),
+        problem.init_values.as_slice(),
+    )?;
+    let goal = World::of(
+        alloc,
+        problem.goal_facts.as_slice(),
+        problem.goal_values.as_slice(),
+    )?;
+    let avoid = World::of(alloc, problem.goal_nots.as_slice(), &[])?;
+    Ok(Worlds { first, goal, avoid })
 }
 
 impl Task {
@@ -32,22 +64,12 @@ impl Task {
         ensures goal { IfOk result (λ task. task.goal ≡ (plain_problem problem).goal) }
         ensures avoid { IfOk result (λ task. task.avoid ≡ (plain_problem problem).avoid) }
     {
-        let first = World::of(
-            alloc,
-            problem.init_facts.as_slice(),
-            problem.init_values.as_slice(),
-        )?;
-        let goal = World::of(
-            alloc,
-            problem.goal_facts.as_slice(),
-            problem.goal_values.as_slice(),
-        )?;
-        let avoid = World::of(alloc, problem.goal_nots.as_slice(), &[])?;
+        let worlds = worlds_of(alloc, &problem)?;
         Ok(Task {
             problem,
-            first,
-            goal,
-            avoid,
+            first: worlds.first,
+            goal: worlds.goal,
+            avoid: worlds.avoid,
         })
     }
 

@@ -5,8 +5,10 @@ ghost use Rattle.std.specs.List.{list_all};
 ghost use Rattle.std.specs.Option.{option_map};
 ghost use Rattle.std.specs.Prelude.{◌≡◌, ◌↔◌, ◌<◌, ◌≤◌, ◌&&◌, ℕ, List, [], map, length, not, true, false, Some, None, IfNone, IfSome, IfOk};
 ghost use Rattle.tl_syntax.specs.Keys.{fact_key, place_entry};
-ghost use Rattle.tl_syntax.specs.Lists.{Among, Rises};
+ghost use Rattle.tl_syntax.specs.Lists.{Each, Among, Rises};
+ghost use Rattle.tl_syntax.specs.Named.{FactIsNamed, PlaceIsNamed};
 ghost use Rattle.tl_terms.specs.Acceptance.{is_value};
+ghost use Rattle.tl_terms.specs.NamedWorlds.{WorldIsNamed};
 ghost use Rattle.tl_terms.specs.ProblemMeaning.{world_of};
 ghost use Rattle.tl_terms.specs.Step.{with_all, without_all, overwritten};
 ghost use Rattle.tl_terms.specs.World.{has_fact, value_at};
@@ -88,6 +90,7 @@ impl World {
     /// The world with these facts and these places; of two values for one place the earlier counts. It fails for want of memory alone.
     pub fn of(alloc: Global, facts: &[Fact], places: &[PlaceValue]) -> Result<World, NoMemory>
         ensures same { IfOk result (λ w. w ≡ world_of facts.now places.now) }
+        ensures named { IfOk result (λ w. (n : ℕ) → Each (FactIsNamed n) facts.now → Each (PlaceIsNamed n) places.now → WorldIsNamed n w) }
     {
         World::new(alloc).changed(alloc, &[], facts, places)
     }
@@ -229,6 +232,7 @@ impl World {
     ) -> Result<World, NoMemory>
         ensures facts { IfOk result (λ w. w.facts ≡ with_all (without_all self.now.facts (map fact_key dels.now)) (map fact_key adds.now)) }
         ensures places { IfOk result (λ w. w.places ≡ overwritten self.now.places (map place_entry sets.now)) }
+        ensures named { IfOk result (λ w. (n : ℕ) → WorldIsNamed n self.now → Each (FactIsNamed n) adds.now → Each (PlaceIsNamed n) sets.now → WorldIsNamed n w) }
     {
         let mut facts = share(alloc, self.facts.as_slice())?;
         let mut places = share(alloc, self.places.as_slice())?;

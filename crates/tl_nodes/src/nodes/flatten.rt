@@ -11,36 +11,46 @@ use super::Nodes;
 use crate::Node;
 use indexmap::IndexSet;
 use std::alloc::{AllocError, Global};
-use tl_syntax::{Ids, NoMemory};
+use tl_syntax::{Ids, Junction, NoMemory};
 
 impl Nodes {
-    // The parts of a number that is itself a join of the same word.
-    fn nested(&self, id: usize, all: bool) -> Option<&Ids>
+    // The parts of a number that is itself a join of the same kind.
+    fn nested(&self, id: usize, junction: Junction) -> Option<&Ids>
         requires { id < length (trees self.now) }
-        ensures parts { MatchOption result (parts_of all (tree_at (trees self.now) id) ≡ tree_at (trees self.now) id ∷ []) (λ ids. parts_of all (tree_at (trees self.now) id) ≡ flat_map (parts_of all) (trees_at (trees self.now) ids.now)) }
+        ensures parts { MatchOption result (parts_of junction (tree_at (trees self.now) id) ≡ tree_at (trees self.now) id ∷ []) (λ ids. parts_of junction (tree_at (trees self.now) id) ≡ flat_map (parts_of junction) (trees_at (trees self.now) ids.now)) }
         ensures below { IfSome result (λ ids. all_below id ids.now ≡ true) }
         ensures smaller { IfSome result (λ ids. sum_by (λ i. breadth (tree_at (trees self.now) i)) ids.now < breadth (tree_at (trees self.now) id)) }
     {
         match self.get(id) {
-            Node::And(ids) => { if all { Some(ids) } else { None } }
-            Node::Or(ids) => { if all { None } else { Some(ids) } }
+            Node::And(ids) => match junction {
+                Junction::All => Some(ids),
+                Junction::Any => None,
+            },
+            Node::Or(ids) => match junction {
+                Junction::All => None,
+                Junction::Any => Some(ids),
+            },
             _ => None,
         }
     }
 
-    // The numbers that the parts open to, from the first part on, with each join of the same word replaced by its parts, at any depth.
+    // The numbers that the parts open to, from the first part on, with each join of the same kind replaced by its parts, at any depth.
     // Each join is opened once: what it opens to is there when it comes again, and of equal parts the first stays.
-    pub(crate) fn flatten(&self, parts: &[usize], all: bool) -> Result<Vec<usize>, NoMemory>
+    pub(crate) fn flatten(
+        &self,
+        parts: &[usize],
+        junction: Junction,
+    ) -> Result<Vec<usize>, NoMemory>
         requires { all_below (length (trees self.now)) parts.now ≡ true }
         ensures below { IfOk result (λ v. all_below (length (trees self.now)) v.items ≡ true) }
-        ensures flat { IfOk result (λ v. without_repeats (trees_at (trees self.now) v.items) ≡ without_repeats (flat_map (parts_of all) (trees_at (trees self.now) parts.now))) }
+        ensures flat { IfOk result (λ v. without_repeats (trees_at (trees self.now) v.items) ≡ without_repeats (flat_map (parts_of junction) (trees_at (trees self.now) parts.now))) }
     {
         let mut todo = Vec::new(self.alloc);
         push_turned(self.alloc, &mut todo, parts)?;
         let mut opened = IndexSet::new(self.alloc);
         let mut flat = Vec::new(self.alloc);
         while let Some(id) = todo.pop() {
-            match self.nested(id, all) {
+            match self.nested(id, junction) {
                 Some(ids) => {
                     if opened.insert(id)? {
                         push_turned(self.alloc, &mut todo, ids.as_slice())?;

@@ -2,7 +2,7 @@
 ghost use Rattle.std.specs.Prelude.{◌≡◌, ℕ, [], true, length, filter, not, nat_eq, IfOk, OnErr};
 ghost use Rattle.indexmap.specs.IndexSet.{insert_all};
 ghost use Rattle.tl_nodes.specs.Fits.{all_below};
-ghost use Rattle.tl_nodes.specs.Joins.{joined, dropped, decides, join_node};
+ghost use Rattle.tl_nodes.specs.Joins.{simplified_join, dropped, decides, join_node};
 ghost use Rattle.tl_nodes.specs.NodeTrees.{trees_at};
 ghost use Rattle.tl_nodes.specs.Numbering.{Keeps};
 ghost use Rattle.tl_nodes.specs.Numbers.{trees, Denotes};
@@ -12,7 +12,7 @@ use super::Nodes;
 use crate::Node;
 use indexmap::IndexSet;
 use std::alloc::Global;
-use tl_syntax::{Ids, NoMemory};
+use tl_syntax::{Ids, Junction, NoMemory};
 
 impl Nodes {
     /// The number of the parts' conjunction: inner conjunctions are opened, a part false gives false, each true is dropped,
@@ -24,7 +24,7 @@ impl Nodes {
         ensures kept { Keeps (trees self.old) (trees self.new) }
         ensures refused { OnErr result (trees self.new ≡ trees self.old) }
     {
-        self.join(parts, true)
+        self.join(parts, Junction::All)
     }
 
     /// The number of the parts' disjunction: as `and` with the constants exchanged.
@@ -35,19 +35,19 @@ impl Nodes {
         ensures kept { Keeps (trees self.old) (trees self.new) }
         ensures refused { OnErr result (trees self.new ≡ trees self.old) }
     {
-        self.join(parts, false)
+        self.join(parts, Junction::Any)
     }
 
-    fn join(&mut self, parts: &[usize], all: bool) -> Result<usize, NoMemory>
+    fn join(&mut self, parts: &[usize], junction: Junction) -> Result<usize, NoMemory>
         requires { all_below (length (trees self.old)) parts.now ≡ true }
-        ensures number { IfOk result (λ i. Denotes self.new i (joined all (trees_at (trees self.old) parts.now))) }
-        ensures known { (i : ℕ) → Denotes self.old i (joined all (trees_at (trees self.old) parts.now)) → trees self.new ≡ trees self.old }
+        ensures number { IfOk result (λ i. Denotes self.new i (simplified_join junction (trees_at (trees self.old) parts.now))) }
+        ensures known { (i : ℕ) → Denotes self.old i (simplified_join junction (trees_at (trees self.old) parts.now)) → trees self.new ≡ trees self.old }
         ensures kept { Keeps (trees self.old) (trees self.new) }
         ensures refused { OnErr result (trees self.new ≡ trees self.old) }
     {
-        let flat = self.flatten(parts, all)?;
-        let unit = unit_of(all);
-        let zero = zero_of(all);
+        let flat = self.flatten(parts, junction)?;
+        let unit = unit_of(junction);
+        let zero = zero_of(junction);
         if flat.contains(&zero) {
             return Ok(zero);
         }
@@ -60,29 +60,38 @@ impl Nodes {
             return Ok(kept[0]);
         }
         let ids = ids_of(self.alloc, kept)?;
-        let node = join_of(all, ids);
+        let node = join_of(junction, ids);
         self.intern(node)
     }
 }
 
-fn join_of(all: bool, ids: Ids) -> Node
-    ensures { result ≡ join_node all ids }
+fn join_of(junction: Junction, ids: Ids) -> Node
+    ensures { result ≡ join_node junction ids }
 {
-    if all { Node::And(ids) } else { Node::Or(ids) }
+    match junction {
+        Junction::All => Node::And(ids),
+        Junction::Any => Node::Or(ids),
+    }
 }
 
 // The constant that is dropped.
-fn unit_of(all: bool) -> usize
-    ensures { result ≡ dropped all }
+fn unit_of(junction: Junction) -> usize
+    ensures { result ≡ dropped junction }
 {
-    if all { 0 } else { 1 }
+    match junction {
+        Junction::All => 0,
+        Junction::Any => 1,
+    }
 }
 
 // The constant that decides.
-fn zero_of(all: bool) -> usize
-    ensures { result ≡ decides all }
+fn zero_of(junction: Junction) -> usize
+    ensures { result ≡ decides junction }
 {
-    if all { 1 } else { 0 }
+    match junction {
+        Junction::All => 1,
+        Junction::Any => 0,
+    }
 }
 
 // The numbers without `unit`, each once.

@@ -8,7 +8,7 @@ use Rattle.tl_terms.specs.ProblemMeaning.{plain_operator, plain_problem}
 use Rattle.tl_action.proofs.all_actions.actions.Goals as goal
 
 pub loop-op-init : goal.loop-op-init
-loop-op-init c = record { few = omega arith; found = actions-begun (plain_problem c.args.task.now.problem) c.args.w.now c.new-found.result c.new-found.ensures }
+loop-op-init c = actions-begun (plain_problem c.args.task.now.problem) c.args.w.now c.new-found.result c.new-found.ensures
 
 pub rows_of-requires : goal.rows_of-requires
 rows_of-requires c =
@@ -18,12 +18,6 @@ rows_of-requires c =
     let is : c.index-operators-op.result ≡ get_or ops c.loop-op.op c.index-operators-op.result = c.index-operators-op.is ∙ ap (λ (os : List Operator). get_or os c.loop-op.op c.index-operators-op.result) c.as_slice-operators.ensures in
     let there : slice_get (plain_problem c.args.task.now.problem).operators c.loop-op.op ≡ Some (plain_operator c.index-operators-op.result) = operator-there c.args.task.now.problem c.loop-op.op c.index-operators-op.result below is in
     operator-keeps c.args.task.now.problem c.loop-op.op c.index-operators-op.result below is
-
-pub returns-then-op-clause-actions : goal.returns-then-op-clause-actions
-returns-then-op-clause-actions c = actions-all (plain_problem c.args.task.now.problem) c.args.w.now c.loop-op.op c.loop-op.found c.loop-op.invariant.few (λ a few below. omega (arith, few, c.if-op.true)) c.loop-op.invariant.found
-
-pub returns-then-op-clause-fit : goal.returns-then-op-clause-fit
-returns-then-op-clause-fit c = actions-fit (plain_problem c.args.task.now.problem) c.args.w.now c.loop-op.op c.loop-op.found c.loop-op.invariant.found
 
 pub returns-in-Err-clause-cause : goal.returns-in-Err-clause-cause
 returns-in-Err-clause-cause c =
@@ -41,22 +35,16 @@ loop-op-preserved c =
     let below : c.loop-op.op < length ops = omega (arith, c.loop-op-test.true, many) in
     let is : c.index-operators-op.result ≡ get_or ops c.loop-op.op c.index-operators-op.result = c.index-operators-op.is ∙ ap (λ (os : List Operator). get_or os c.loop-op.op c.index-operators-op.result) c.as_slice-operators.ensures in
     let there : slice_get (plain_problem c.args.task.now.problem).operators c.loop-op.op ≡ Some (plain_operator c.index-operators-op.result) = operator-there c.args.task.now.problem c.loop-op.op c.index-operators-op.result below is in
-    record {
-      few = omega (arith, c.if-op.false);
-      found = actions-on (plain_problem c.args.task.now.problem) c.args.w.now c.loop-op.op (plain_operator c.index-operators-op.result) (assignment_in c.loop-op.env) c.in-Ok.rows.items c.loop-op.found c.push_rows.new.found there c.in-Ok.ensures.rows c.in_ok-push_rows-in-Ok.ensures c.loop-op.invariant.found;
-    }
+    actions-on (plain_problem c.args.task.now.problem) c.args.w.now c.loop-op.op (plain_operator c.index-operators-op.result) (assignment_in c.loop-op.env) c.in-Ok.rows.items c.loop-op.found c.push_rows.new.found there c.in-Ok.ensures.rows c.in_ok-push_rows-in-Ok.ensures c.loop-op.invariant
 
 pub returns-clause-actions : goal.returns-clause-actions
 returns-clause-actions c =
     let many = ap (λ (os : List Operator). length os) c.as_slice-operators.ensures in
     let count = operators-count c.args.task.now.problem in
-    actions-all (plain_problem c.args.task.now.problem) c.args.w.now c.loop-op.op c.loop-op.found c.loop-op.invariant.few (λ a few below. omega (arith, below, c.loop-op-test.false, many, count)) c.loop-op.invariant.found
+    actions-all (plain_problem c.args.task.now.problem) c.args.w.now c.loop-op.op c.loop-op.found (omega (arith, c.loop-op-test.false, many, count)) c.loop-op.invariant
 
 pub returns-clause-fit : goal.returns-clause-fit
-returns-clause-fit c = actions-fit (plain_problem c.args.task.now.problem) c.args.w.now c.loop-op.op c.loop-op.found c.loop-op.invariant.found
-
-pub returns-then-op-clause-named : goal.returns-then-op-clause-named
-returns-then-op-clause-named c = λ named. actions-named c.args.task.now.problem c.args.w.now named c.loop-op.op c.loop-op.found c.loop-op.invariant.found
+returns-clause-fit c = actions-fit (plain_problem c.args.task.now.problem) c.args.w.now c.loop-op.op c.loop-op.found c.loop-op.invariant
 
 pub returns-clause-named : goal.returns-clause-named
-returns-clause-named c = λ named. actions-named c.args.task.now.problem c.args.w.now named c.loop-op.op c.loop-op.found c.loop-op.invariant.found
+returns-clause-named c = λ named. actions-named c.args.task.now.problem c.args.w.now named c.loop-op.op c.loop-op.found c.loop-op.invariant

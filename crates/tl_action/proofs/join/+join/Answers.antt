@@ -41,7 +41,7 @@ returns-then-j-bounds-clause-frame t c = known-agree (take c.args.j c.args.opera
 pub bounds-levels-j : goal.bounds-levels-j
 bounds-levels-j t c =
     let many = ap (λ (bs : List Bound). length bs) c.as_slice-bounds.ensures in
-    let same = ap (λ (ls : List (List Var)). length ls) (c.as_slice-levels.ensures.value ∙ c.requires.plan.levels) ∙ levels-length c.args.operator.now.params [] c.args.operator.now.bounds in
+    let same = ap (λ (ls : List (List Var)). length ls) (c.as_slice-levels.ensures.value ∙ c.requires.order.levels) ∙ levels-length c.args.operator.now.params [] c.args.operator.now.bounds in
     omega (arith, c.requires.within, c.if-j-bounds.false, many, same)
 
 pub tuples_in-requires-clause-differ : goal.tuples_in-requires-clause-differ
@@ -51,7 +51,7 @@ tuples_in-requires-clause-differ t c =
     let below : c.args.j < length c.args.operator.now.bounds = omega (arith, c.requires.within, c.if-j-bounds.false, many) in
     let b-is = c.index-bounds-j.is ∙ ap (λ (bs : List Bound). get_or bs c.args.j c.index-bounds-j.result) c.as_slice-bounds.ensures in
     let vars-is = c.index-levels-j.is ∙ ap (λ (ls : List (List Var)). get_or ls c.args.j c.index-levels-j.result) c.as_slice-levels.ensures.value in
-    let node : Node (signature_of c.args.task.now.problem.domain) c.args.operator.now c.args.j c.index-bounds-j.result c.index-levels-j.result = node-at (signature_of c.args.task.now.problem.domain) (length c.args.task.now.problem.names) c.args.operator.now c.args.plan.now c.args.j c.index-bounds-j.result c.index-levels-j.result (declared-few _ _ keep.predicates) (declared-few _ _ keep.functions) c.requires.keeps c.requires.plan below b-is vars-is in
+    let node : Node (signature_of c.args.task.now.problem.domain) c.args.operator.now c.args.j c.index-bounds-j.result c.index-levels-j.result = node-at (signature_of c.args.task.now.problem.domain) (length c.args.task.now.problem.names) c.args.operator.now c.args.order.now c.args.j c.index-bounds-j.result c.index-levels-j.result (declared-few _ _ keep.predicates) (declared-few _ _ keep.functions) c.requires.keeps c.requires.order below b-is vars-is in
     node.differ
 
 pub tuples_in-requires-clause-occur : goal.tuples_in-requires-clause-occur
@@ -61,7 +61,7 @@ tuples_in-requires-clause-occur t c =
     let below : c.args.j < length c.args.operator.now.bounds = omega (arith, c.requires.within, c.if-j-bounds.false, many) in
     let b-is = c.index-bounds-j.is ∙ ap (λ (bs : List Bound). get_or bs c.args.j c.index-bounds-j.result) c.as_slice-bounds.ensures in
     let vars-is = c.index-levels-j.is ∙ ap (λ (ls : List (List Var)). get_or ls c.args.j c.index-levels-j.result) c.as_slice-levels.ensures.value in
-    let node : Node (signature_of c.args.task.now.problem.domain) c.args.operator.now c.args.j c.index-bounds-j.result c.index-levels-j.result = node-at (signature_of c.args.task.now.problem.domain) (length c.args.task.now.problem.names) c.args.operator.now c.args.plan.now c.args.j c.index-bounds-j.result c.index-levels-j.result (declared-few _ _ keep.predicates) (declared-few _ _ keep.functions) c.requires.keeps c.requires.plan below b-is vars-is in
+    let node : Node (signature_of c.args.task.now.problem.domain) c.args.operator.now c.args.j c.index-bounds-j.result c.index-levels-j.result = node-at (signature_of c.args.task.now.problem.domain) (length c.args.task.now.problem.names) c.args.operator.now c.args.order.now c.args.j c.index-bounds-j.result c.index-levels-j.result (declared-few _ _ keep.predicates) (declared-few _ _ keep.functions) c.requires.keeps c.requires.order below b-is vars-is in
     node.occur
 
 pub tuples_in-requires-clause-fits : goal.tuples_in-requires-clause-fits
@@ -71,7 +71,7 @@ tuples_in-requires-clause-fits t c =
     let below : c.args.j < length c.args.operator.now.bounds = omega (arith, c.requires.within, c.if-j-bounds.false, many) in
     let b-is = c.index-bounds-j.is ∙ ap (λ (bs : List Bound). get_or bs c.args.j c.index-bounds-j.result) c.as_slice-bounds.ensures in
     let vars-is = c.index-levels-j.is ∙ ap (λ (ls : List (List Var)). get_or ls c.args.j c.index-levels-j.result) c.as_slice-levels.ensures.value in
-    let node : Node (signature_of c.args.task.now.problem.domain) c.args.operator.now c.args.j c.index-bounds-j.result c.index-levels-j.result = node-at (signature_of c.args.task.now.problem.domain) (length c.args.task.now.problem.names) c.args.operator.now c.args.plan.now c.args.j c.index-bounds-j.result c.index-levels-j.result (declared-few _ _ keep.predicates) (declared-few _ _ keep.functions) c.requires.keeps c.requires.plan below b-is vars-is in
+    let node : Node (signature_of c.args.task.now.problem.domain) c.args.operator.now c.args.j c.index-bounds-j.result c.index-levels-j.result = node-at (signature_of c.args.task.now.problem.domain) (length c.args.task.now.problem.names) c.args.operator.now c.args.order.now c.args.j c.index-bounds-j.result c.index-levels-j.result (declared-few _ _ keep.predicates) (declared-few _ _ keep.functions) c.requires.keeps c.requires.order below b-is vars-is in
     node.fits
 
 pub returns-in_err-tuples-clause-frame : goal.returns-in_err-tuples-clause-frame
@@ -90,7 +90,7 @@ counted_values-requires t c =
     let below : c.args.j < length c.args.operator.now.bounds = omega (arith, c.requires.within, c.if-j-bounds.false, many) in
     let b-is = c.index-bounds-j.is ∙ ap (λ (bs : List Bound). get_or bs c.args.j c.index-bounds-j.result) c.as_slice-bounds.ensures in
     let vars-is = c.index-levels-j.is ∙ ap (λ (ls : List (List Var)). get_or ls c.args.j c.index-levels-j.result) c.as_slice-levels.ensures.value in
-    let node : Node (signature_of c.args.task.now.problem.domain) c.args.operator.now c.args.j c.index-bounds-j.result c.index-levels-j.result = node-at (signature_of c.args.task.now.problem.domain) (length c.args.task.now.problem.names) c.args.operator.now c.args.plan.now c.args.j c.index-bounds-j.result c.index-levels-j.result (declared-few _ _ keep.predicates) (declared-few _ _ keep.functions) c.requires.keeps c.requires.plan below b-is vars-is in
+    let node : Node (signature_of c.args.task.now.problem.domain) c.args.operator.now c.args.j c.index-bounds-j.result c.index-levels-j.result = node-at (signature_of c.args.task.now.problem.domain) (length c.args.task.now.problem.names) c.args.operator.now c.args.order.now c.args.j c.index-bounds-j.result c.index-levels-j.result (declared-few _ _ keep.predicates) (declared-few _ _ keep.functions) c.requires.keeps c.requires.order below b-is vars-is in
     let none : Match = record { values = []; len = 0 } in
     let m = get_or c.as_slice-tuple-items.result.now c.loop-tuple.tuple-index none in
     let long = each-at (λ (x : Match). x.len ≡ length c.index-levels-j.result) c.as_slice-tuple-items.result.now c.loop-tuple.tuple-index none (subst (Each (λ (x : Match). x.len ≡ length c.index-levels-j.result)) (sym c.as_slice-tuple-items.ensures.value) c.in_ok-tuples.ensures.lengths) c.loop-tuple-test.true in
@@ -103,7 +103,7 @@ put_values-requires-clause-slots t c =
     let below : c.args.j < length c.args.operator.now.bounds = omega (arith, c.requires.within, c.if-j-bounds.false, many) in
     let b-is = c.index-bounds-j.is ∙ ap (λ (bs : List Bound). get_or bs c.args.j c.index-bounds-j.result) c.as_slice-bounds.ensures in
     let vars-is = c.index-levels-j.is ∙ ap (λ (ls : List (List Var)). get_or ls c.args.j c.index-levels-j.result) c.as_slice-levels.ensures.value in
-    let node : Node (signature_of c.args.task.now.problem.domain) c.args.operator.now c.args.j c.index-bounds-j.result c.index-levels-j.result = node-at (signature_of c.args.task.now.problem.domain) (length c.args.task.now.problem.names) c.args.operator.now c.args.plan.now c.args.j c.index-bounds-j.result c.index-levels-j.result (declared-few _ _ keep.predicates) (declared-few _ _ keep.functions) c.requires.keeps c.requires.plan below b-is vars-is in
+    let node : Node (signature_of c.args.task.now.problem.domain) c.args.operator.now c.args.j c.index-bounds-j.result c.index-levels-j.result = node-at (signature_of c.args.task.now.problem.domain) (length c.args.task.now.problem.names) c.args.operator.now c.args.order.now c.args.j c.index-bounds-j.result c.index-levels-j.result (declared-few _ _ keep.predicates) (declared-few _ _ keep.functions) c.requires.keeps c.requires.order below b-is vars-is in
     subst (Each (λ (s : Var). s.slot < 32)) (sym c.as_slice.ensures) node.frame
 
 pub put_values-requires-clause-same : goal.put_values-requires-clause-same
@@ -120,7 +120,7 @@ returns-in-Err-clause-rows t c =
     let below : c.args.j < length c.args.operator.now.bounds = omega (arith, c.requires.within, c.if-j-bounds.false, many) in
     let b-is = c.index-bounds-j.is ∙ ap (λ (bs : List Bound). get_or bs c.args.j c.index-bounds-j.result) c.as_slice-bounds.ensures in
     let vars-is = c.index-levels-j.is ∙ ap (λ (ls : List (List Var)). get_or ls c.args.j c.index-levels-j.result) c.as_slice-levels.ensures.value in
-    let node : Node (signature_of c.args.task.now.problem.domain) c.args.operator.now c.args.j c.index-bounds-j.result c.index-levels-j.result = node-at (signature_of c.args.task.now.problem.domain) (length c.args.task.now.problem.names) c.args.operator.now c.args.plan.now c.args.j c.index-bounds-j.result c.index-levels-j.result (declared-few _ _ keep.predicates) (declared-few _ _ keep.functions) c.requires.keeps c.requires.plan below b-is vars-is in
+    let node : Node (signature_of c.args.task.now.problem.domain) c.args.operator.now c.args.j c.index-bounds-j.result c.index-levels-j.result = node-at (signature_of c.args.task.now.problem.domain) (length c.args.task.now.problem.names) c.args.operator.now c.args.order.now c.args.j c.index-bounds-j.result c.index-levels-j.result (declared-few _ _ keep.predicates) (declared-few _ _ keep.functions) c.requires.keeps c.requires.order below b-is vars-is in
     let none : Match = record { values = []; len = 0 } in
     let m = get_or c.as_slice-tuple-items.result.now c.loop-tuple.tuple-index none in
     let d = assignment_in c.put_values.new.self in
@@ -136,7 +136,7 @@ returns-in-Err-clause-frame t c =
     let below : c.args.j < length c.args.operator.now.bounds = omega (arith, c.requires.within, c.if-j-bounds.false, many) in
     let b-is = c.index-bounds-j.is ∙ ap (λ (bs : List Bound). get_or bs c.args.j c.index-bounds-j.result) c.as_slice-bounds.ensures in
     let vars-is = c.index-levels-j.is ∙ ap (λ (ls : List (List Var)). get_or ls c.args.j c.index-levels-j.result) c.as_slice-levels.ensures.value in
-    let node : Node (signature_of c.args.task.now.problem.domain) c.args.operator.now c.args.j c.index-bounds-j.result c.index-levels-j.result = node-at (signature_of c.args.task.now.problem.domain) (length c.args.task.now.problem.names) c.args.operator.now c.args.plan.now c.args.j c.index-bounds-j.result c.index-levels-j.result (declared-few _ _ keep.predicates) (declared-few _ _ keep.functions) c.requires.keeps c.requires.plan below b-is vars-is in
+    let node : Node (signature_of c.args.task.now.problem.domain) c.args.operator.now c.args.j c.index-bounds-j.result c.index-levels-j.result = node-at (signature_of c.args.task.now.problem.domain) (length c.args.task.now.problem.names) c.args.operator.now c.args.order.now c.args.j c.index-bounds-j.result c.index-levels-j.result (declared-few _ _ keep.predicates) (declared-few _ _ keep.functions) c.requires.keeps c.requires.order below b-is vars-is in
     let none : Match = record { values = []; len = 0 } in
     let m = get_or c.as_slice-tuple-items.result.now c.loop-tuple.tuple-index none in
     let d = assignment_in c.put_values.new.self in
@@ -150,7 +150,7 @@ loop-tuple-preserved t c =
     let below : c.args.j < length c.args.operator.now.bounds = omega (arith, c.requires.within, c.if-j-bounds.false, many) in
     let b-is = c.index-bounds-j.is ∙ ap (λ (bs : List Bound). get_or bs c.args.j c.index-bounds-j.result) c.as_slice-bounds.ensures in
     let vars-is = c.index-levels-j.is ∙ ap (λ (ls : List (List Var)). get_or ls c.args.j c.index-levels-j.result) c.as_slice-levels.ensures.value in
-    let node : Node (signature_of c.args.task.now.problem.domain) c.args.operator.now c.args.j c.index-bounds-j.result c.index-levels-j.result = node-at (signature_of c.args.task.now.problem.domain) (length c.args.task.now.problem.names) c.args.operator.now c.args.plan.now c.args.j c.index-bounds-j.result c.index-levels-j.result (declared-few _ _ keep.predicates) (declared-few _ _ keep.functions) c.requires.keeps c.requires.plan below b-is vars-is in
+    let node : Node (signature_of c.args.task.now.problem.domain) c.args.operator.now c.args.j c.index-bounds-j.result c.index-levels-j.result = node-at (signature_of c.args.task.now.problem.domain) (length c.args.task.now.problem.names) c.args.operator.now c.args.order.now c.args.j c.index-bounds-j.result c.index-levels-j.result (declared-few _ _ keep.predicates) (declared-few _ _ keep.functions) c.requires.keeps c.requires.order below b-is vars-is in
     let none : Match = record { values = []; len = 0 } in
     let m = get_or c.as_slice-tuple-items.result.now c.loop-tuple.tuple-index none in
     let d = assignment_in c.put_values.new.self in
@@ -171,7 +171,7 @@ returns-clause-rows t c =
     let below : c.args.j < length c.args.operator.now.bounds = omega (arith, c.requires.within, c.if-j-bounds.false, many) in
     let b-is = c.index-bounds-j.is ∙ ap (λ (bs : List Bound). get_or bs c.args.j c.index-bounds-j.result) c.as_slice-bounds.ensures in
     let vars-is = c.index-levels-j.is ∙ ap (λ (ls : List (List Var)). get_or ls c.args.j c.index-levels-j.result) c.as_slice-levels.ensures.value in
-    let node : Node (signature_of c.args.task.now.problem.domain) c.args.operator.now c.args.j c.index-bounds-j.result c.index-levels-j.result = node-at (signature_of c.args.task.now.problem.domain) (length c.args.task.now.problem.names) c.args.operator.now c.args.plan.now c.args.j c.index-bounds-j.result c.index-levels-j.result (declared-few _ _ keep.predicates) (declared-few _ _ keep.functions) c.requires.keeps c.requires.plan below b-is vars-is in
+    let node : Node (signature_of c.args.task.now.problem.domain) c.args.operator.now c.args.j c.index-bounds-j.result c.index-levels-j.result = node-at (signature_of c.args.task.now.problem.domain) (length c.args.task.now.problem.names) c.args.operator.now c.args.order.now c.args.j c.index-bounds-j.result c.index-levels-j.result (declared-few _ _ keep.predicates) (declared-few _ _ keep.functions) c.requires.keeps c.requires.order below b-is vars-is in
     let all : map tuple_of c.as_slice-tuple-items.result.now ≡ tuples (situation_of (plain_problem c.args.task.now.problem) c.args.w.now) (assignment_in c.args.env.now) c.index-levels-j.result c.index-bounds-j.result = ap (map tuple_of) c.as_slice-tuple-items.ensures.value ∙ c.in_ok-tuples.ensures.tuples in
     node-end (signature_of c.args.task.now.problem.domain) (plain_problem c.args.task.now.problem) c.args.w.now c.args.operator.now c.args.j c.index-bounds-j.result c.index-levels-j.result below b-is node (assignment_in c.args.env.now) (map tuple_of (take c.loop-tuple.tuple-index c.as_slice-tuple-items.result.now)) c.args.rows.now.items c.loop-tuple.rows.items
     (ap (map tuple_of) (take-past c.as_slice-tuple-items.result.now c.loop-tuple.tuple-index c.loop-tuple-test.false) ∙ all) c.loop-tuple.invariant.found

@@ -25,11 +25,11 @@ not-some o t p q = let e : None ≡ Some t = sym p ∙ q in cc
 
 pub values_of-requires : goal.values_of-requires
 values_of-requires c =
-    subst (TermsFit (signature_of c.args.task.now.problem.domain)) (sym c.requires.plan.terms) (variables-fit (signature_of c.args.task.now.problem.domain) c.args.operator.now.params (counted-slots c.args.operator.now.params c.requires.keeps.params.counted c.requires.keeps.params.few))
+    subst (TermsFit (signature_of c.args.task.now.problem.domain)) (sym c.requires.order.terms) (variables-fit (signature_of c.args.task.now.problem.domain) c.args.operator.now.params (counted-slots c.args.operator.now.params c.requires.keeps.params.counted c.requires.keeps.params.few))
 
 pub returns-in_ok-push-in-Ok-Some-prepared-clause-rows : goal.returns-in_ok-push-in-Ok-Some-prepared-clause-rows
 returns-in_ok-push-in-Ok-Some-prepared-clause-rows c =
-    let row : term_values c.args.w.now (assignment_in c.args.env.now) (variables c.args.operator.now.params) ≡ Some c.in-Ok-Some.row = ap (term_values c.args.w.now (assignment_in c.args.env.now)) (sym c.requires.plan.terms) ∙ (sym c.in-Ok-Some.ensures.values ∙ c.in-Ok-Some.field-0-is) in
+    let row : term_values c.args.w.now (assignment_in c.args.env.now) (variables c.args.operator.now.params) ≡ Some c.in-Ok-Some.row = ap (term_values c.args.w.now (assignment_in c.args.env.now)) (sym c.requires.order.terms) ∙ (sym c.in-Ok-Some.ensures.values ∙ c.in-Ok-Some.field-0-is) in
     let ready : is_prepared (plain_problem c.args.task.now.problem) c.args.w.now (assignment_in c.args.env.now) (plain_operator c.args.operator.now) ≡ true =
     ap (λ env. is_prepared (plain_problem c.args.task.now.problem) c.args.w.now (assignment_in env) (plain_operator c.args.operator.now)) (sym c.values_of.ensures.frame)
     ∙ (let k = subst (λ (r : Option Changes). Prepares (plain_problem c.args.task.now.problem) c.args.w.now (assignment_in c.values_of.new.env) (plain_operator c.args.operator.now) (Ok r)) c.in-Ok-Some-prepared.field-0-is c.in-Ok-Some-prepared.ensures.changes in k.0) in
@@ -45,13 +45,13 @@ returns-in-Ok-None-prepared-clause-rows c =
 
 pub returns-in-Err-prepared-clause-rows : goal.returns-in-Err-prepared-clause-rows
 returns-in-Err-prepared-clause-rows c =
-    let row : term_values c.args.w.now (assignment_in c.args.env.now) (variables c.args.operator.now.params) ≡ Some c.in-Ok-Some.row = ap (term_values c.args.w.now (assignment_in c.args.env.now)) (sym c.requires.plan.terms) ∙ (sym c.in-Ok-Some.ensures.values ∙ c.in-Ok-Some.field-0-is) in
+    let row : term_values c.args.w.now (assignment_in c.args.env.now) (variables c.args.operator.now.params) ≡ Some c.in-Ok-Some.row = ap (term_values c.args.w.now (assignment_in c.args.env.now)) (sym c.requires.order.terms) ∙ (sym c.in-Ok-Some.ensures.values ∙ c.in-Ok-Some.field-0-is) in
     row-fault (signature_of c.args.task.now.problem.domain) (length c.args.task.now.problem.names) (plain_problem c.args.task.now.problem) c.args.w.now c.args.operator.now c.requires.keeps (counted-differ c.args.operator.now.params c.requires.keeps.params.counted) (assignment_in c.args.env.now) c.in-Ok-Some.row c.in-Err-prepared.fault row
     (subst (λ env. IsCausedBy (looked_prepared (plain_problem c.args.task.now.problem) c.args.w.now (assignment_in env) (plain_operator c.args.operator.now)) c.in-Err-prepared.fault) c.values_of.ensures.frame c.in-Err-prepared.ensures.changes)
 
 pub returns-in-Ok-None-clause-rows : goal.returns-in-Ok-None-clause-rows
 returns-in-Ok-None-clause-rows c =
-    let none : term_values c.args.w.now (assignment_in c.args.env.now) (variables c.args.operator.now.params) ≡ None = ap (term_values c.args.w.now (assignment_in c.args.env.now)) (sym c.requires.plan.terms) ∙ (sym c.in-Ok-None.ensures.values ∙ c.in-Ok-None.field-0-is) in
+    let none : term_values c.args.w.now (assignment_in c.args.env.now) (variables c.args.operator.now.params) ≡ None = ap (term_values c.args.w.now (assignment_in c.args.env.now)) (sym c.requires.order.terms) ∙ (sym c.in-Ok-None.ensures.values ∙ c.in-Ok-None.field-0-is) in
     no-row (IsFound (plain_problem c.args.task.now.problem) c.args.w.now (plain_operator c.args.operator.now) c.args.operator.now.bounds [] (assignment_in c.args.env.now)) c.args.rows.now.items (λ t h. not-some (term_values c.args.w.now (assignment_in c.args.env.now) (variables c.args.operator.now.params)) t none (found-row (signature_of c.args.task.now.problem.domain) (length c.args.task.now.problem.names) (plain_problem c.args.task.now.problem) c.args.w.now c.args.operator.now c.requires.keeps (counted-differ c.args.operator.now.params c.requires.keeps.params.counted) (assignment_in c.args.env.now) t h).0)
 
 pub returns-in-Ok-None-clause-frame : goal.returns-in-Ok-None-clause-frame
@@ -59,7 +59,7 @@ returns-in-Ok-None-clause-frame c = subst (λ env. Agree (slots_of c.args.operat
 
 pub returns-in-Err-clause-rows : goal.returns-in-Err-clause-rows
 returns-in-Err-clause-rows c =
-    no-fault c.args.w.now (assignment_in c.args.env.now) (tree_of_terms c.args.plan.now.terms) c.args.operator.now.params (plain_problem c.args.task.now.problem) (plain_operator c.args.operator.now) c.args.operator.now.bounds [] (assignment_in c.args.env.now) c.in-Err.fault c.requires.plan.terms c.in-Err.ensures.values
+    no-fault c.args.w.now (assignment_in c.args.env.now) (tree_of_terms c.args.order.now.terms) c.args.operator.now.params (plain_problem c.args.task.now.problem) (plain_operator c.args.operator.now) c.args.operator.now.bounds [] (assignment_in c.args.env.now) c.in-Err.fault c.requires.order.terms c.in-Err.ensures.values
 
 pub returns-in-Err-clause-frame : goal.returns-in-Err-clause-frame
 returns-in-Err-clause-frame c = subst (λ env. Agree (slots_of c.args.operator.now.params) (assignment_in env) (assignment_in c.args.env.now)) (sym c.values_of.ensures.frame) (agree-self (slots_of c.args.operator.now.params) (assignment_in c.args.env.now))

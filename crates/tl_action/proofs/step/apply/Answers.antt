@@ -4,6 +4,7 @@ use Rattle.tl_action.specs.declared.changes.Changes.{Changes}
 use Rattle.tl_action.specs.Agreement.{Agree}
 use Rattle.tl_action.specs.Prepared.{Prepares}
 use Rattle.tl_action.proofs.AppliedOperators.{OperatorAt, operator-below, operator-at, step-stopped, step-unprepared, step-made, step-caused}
+use Rattle.tl_action.proofs.NextNamed.{next-named}
 use Rattle.tl_action.proofs.Operators.{bound-alike, counted-slots}
 use Rattle.tl_eval.specs.Frames.{assignment_in}
 use Rattle.tl_syntax.specs.declared.operator.Operator.{Operator}
@@ -88,3 +89,6 @@ returns-in-Err-clause-cause g c =
     let agrees : Agree (slots_of o.params) d (bind o.params c.args.a.now.args no_values) = subst (λ (e : Assignment). Agree (slots_of o.params) e (bind o.params c.args.a.now.args no_values)) (sym put) (bound-alike o.params c.args.a.now.args (assignment_in c.args.env.now) no_values) in
     let bounds = ap (list_all (bound_true (situation_of (plain_problem c.args.task.now.problem) c.args.w.now) d)) (sym c.as_slice-4.ensures) ∙ sym c.bounds_hold.ensures in
     step-caused c.args.task.now.problem c.args.w.now c.args.a.now o at d agrees (bounds ∙ c.if-not-bounds_hold.false) c.in-Err.fault c.in-Err.ensures.changes
+
+pub returns-in_ok-next-in-Ok-Some-clause-named : goal.returns-in_ok-next-in-Ok-Some-clause-named
+returns-in_ok-next-in-Ok-Some-clause-named g c = next-named c.args.task.now.problem c.args.w.now c.args.a.now c.in_ok-next-in-Ok-Some.next (returns-in_ok-next-in-Ok-Some-clause-world g c)

@@ -1,7 +1,7 @@
 use Rattle.std.specs.Option.{option_map}
 use Rattle.tl_action.proofs.BoundTuples.{found-begun, found-on, fewer-left, found-all}
 use Rattle.tl_eval.specs.Frames.{assignment_in}
-use Rattle.tl_eval.proofs.DecidedLaws.{none-left}
+use Rattle.tl_action.proofs.NoValue.{none-left}
 use Rattle.tl_terms.specs.Definitions.{situation_of}
 use Rattle.tl_terms.specs.ProblemMeaning.{plain_problem}
 use Rattle.tl_world.specs.Patterns.{tuple_of}

@@ -18,7 +18,7 @@ pub returns-then-is_next-clause-at : goal.returns-then-is_next-clause-at
 returns-then-is_next-clause-at c = λ f ws told at.
     let p = plain_problem c.args.task.now.problem in
     let e = assignment_in c.args.env.now in
-    let q : Quantifier = record { stop = c.args.stop; vars = c.args.vars.now; bound = c.args.bound.now; part = f } in
+    let q : Quantifier = record { junction = c.args.junction; vars = c.args.vars.now; bound = c.args.bound.now; part = f } in
     let n : Cursor = record { truth = c.join.result; next = c.next_tuple.result } in
     let is = c.is_next.ensures.0 c.if-is_next.true in
     let next = subst (λ (x : Option (List Value)). IsNext (length c.args.vars.now) (λ t. bound_true (situation_of p c.args.w.now) (bind c.args.vars.now t e) c.args.bound.now) x (option_map tuple_of c.next_tuple.result)) is c.next_tuple.ensures.next in
@@ -28,7 +28,7 @@ pub returns-then-is_next-clause-fewer : goal.returns-then-is_next-clause-fewer
 returns-then-is_next-clause-fewer c = λ ws same.
     let p = plain_problem c.args.task.now.problem in
     let e = assignment_in c.args.env.now in
-    let q : Quantifier = record { stop = c.args.stop; vars = c.args.vars.now; bound = c.args.bound.now; part = verum } in
+    let q : Quantifier = record { junction = c.args.junction; vars = c.args.vars.now; bound = c.args.bound.now; part = verum } in
     let n : Cursor = record { truth = c.join.result; next = c.next_tuple.result } in
     let is = c.is_next.ensures.0 c.if-is_next.true in
     let next = subst (λ (x : Option (List Value)). IsNext (length c.args.vars.now) (λ t. bound_true (situation_of p c.args.w.now) (bind c.args.vars.now t e) c.args.bound.now) x (option_map tuple_of c.next_tuple.result)) is c.next_tuple.ensures.next in

@@ -27,7 +27,7 @@ loop-i-preserved c =
       size = length-set c.loop-i.cursors i c.moved.result ∙ was.size;
       counts = counts-set (length c.args.vars.now) c.loop-i.cursors i c.moved.result was.counts c.moved.ensures.count;
       at = λ f told at.
-          let q : Quantifier = record { stop = c.args.stop; vars = c.args.vars.now; bound = c.args.bound.now; part = f } in
+          let q : Quantifier = record { junction = c.args.junction; vars = c.args.vars.now; bound = c.args.bound.now; part = f } in
           let so_far = was.at f told at in
           let label = c.at-label.ensures ∙ label-there (true_ahead p (bind c.args.vars.now (tuple_of c.args.found.now.tuple) e) f) ws c.args.found.now.at i w c.args.labels.now told c.loop-i.auto.i within c.index-worlds-i.is in
           at-set p e q c.loop-i.cursors ws i c.moved.result w so_far within c.index-worlds-i.is

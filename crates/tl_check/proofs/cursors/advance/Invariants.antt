@@ -14,7 +14,7 @@ invariant-loop-i l = record {
   size : length l.cursors ≡ length l.worlds;
   counts : HaveCounts (length l.vars) l.cursors;
   at : (f : FormulaTree) → l.labels ≡ marks (true_ahead (plain_problem l.task.problem) (bind l.vars (tuple_of l.found.tuple) (assignment_in l.env)) f) (drop l.found.at l.worlds)
-      → AreAt (plain_problem l.task.problem) (assignment_in l.env) (record { stop = l.stop; vars = l.vars; bound = l.bound; part = f }) l.fn.cursors l.worlds → AreAt (plain_problem l.task.problem) (assignment_in l.env) (record { stop = l.stop; vars = l.vars; bound = l.bound; part = f }) l.cursors l.worlds;
+      → AreAt (plain_problem l.task.problem) (assignment_in l.env) (record { junction = l.junction; vars = l.vars; bound = l.bound; part = f }) l.fn.cursors l.worlds → AreAt (plain_problem l.task.problem) (assignment_in l.env) (record { junction = l.junction; vars = l.vars; bound = l.bound; part = f }) l.cursors l.worlds;
   before : l.i ≡ l.found.at → l.cursors ≡ l.fn.cursors;
   fewer : l.found.at < l.i → work_left (plain_problem l.task.problem) (assignment_in l.env) l.vars l.bound l.cursors l.worlds < work_left (plain_problem l.task.problem) (assignment_in l.env) l.vars l.bound l.fn.cursors l.worlds;
 }

@@ -8,5 +8,5 @@ use Rattle.tl_check.proofs.cursors.cursors_at.Given as goal
 abbrev pub invariant-loop-i : goal.invariant-loop-i
 invariant-loop-i l = record {
   size : length l.cursors.items ≡ l.i;
-  at : (f : FormulaTree) → FirstAt (plain_problem l.task.problem) (assignment_in l.env) (record { stop = l.stop; vars = l.vars; bound = l.bound; part = f }) l.cursors.items l.worlds;
+  at : (f : FormulaTree) → FirstAt (plain_problem l.task.problem) (assignment_in l.env) (record { junction = l.junction; vars = l.vars; bound = l.bound; part = f }) l.cursors.items l.worlds;
 }

@@ -1,4 +1,4 @@
-use Rattle.std.proofs.Common.{◌≡◌, ◌<◌, ◌+◌, ◌-◌, [], List, length, drop, map, not, None, Option, IfNone, refl, sym, ap, ◌∙◌, subst, arith, length-drop}
+use Rattle.std.proofs.Common.{◌≡◌, ◌<◌, ◌+◌, ◌-◌, [], List, length, drop, map, replicate, Bool, not, None, Option, IfNone, refl, sym, ap, ◌∙◌, subst, arith, length-drop}
 use Rattle.tl_check.proofs.CursorLaws.{at-counts, at-size, at-end, found-count, found-within}
 use Rattle.tl_check.proofs.FitLaws.{quantified-parts, item-fits}
 use Rattle.tl_check.proofs.FormulaLabels.{state-True, state-False, state-Atom, state-Defined, state-Compare, state-GoalFact, state-GoalPlace, state-GoalNot, one-Not, one-Next, one-Always, one-Eventually, one-Within, one-During, one-labels, one-noted, until-parts, until-made, until-first-noted, until-second-noted, same-length, two-Until, all-And, all-Or, item-noted, body-ForAll, body-Exists, rest-whole, same-items, instance-on, instance-noted}
@@ -12,7 +12,7 @@ use Rattle.tl_check.specs.Labelled.{AreLabels}
 use Rattle.tl_check.specs.Passes.{next_labels, always_labels, eventually_labels, within_labels}
 use Rattle.tl_check.specs.declared.cursor.Cursor.{Cursor}
 use Rattle.tl_eval.proofs.BindLaws.{bind-through}
-use Rattle.tl_eval.proofs.DecidedLaws.{none-left}
+use Rattle.tl_action.proofs.NoValue.{none-left}
 use Rattle.tl_eval.specs.Frames.{assignment_in}
 use Rattle.tl_syntax.specs.declared.value.Value.{Value}
 use Rattle.tl_syntax.specs.declared.variable.Var.{Var}
@@ -208,7 +208,8 @@ until_labels-returns-in-Err-clause-labels t c =
 pub parts_labels-loop-part-init : goal.parts_labels-loop-part-init
 parts_labels-loop-part-init t c = record {
   frame = refl;
-  so_far = parts-begun (plain_problem c.args.task.now.problem) (assignment_in c.args.env.now) (drop c.args.from c.args.worlds.now) c.args.stop c.as_slice-part-items.result.now (length c.args.worlds.now - c.args.from) c.in-Ok.all (sym (length-drop c.args.from c.args.worlds.now)) c.in-Ok.ensures.same;
+  so_far = parts-begun (plain_problem c.args.task.now.problem) (assignment_in c.args.env.now) (drop c.args.from c.args.worlds.now) c.args.junction c.as_slice-part-items.result.now (length c.args.worlds.now - c.args.from) c.in-Ok.all (sym (length-drop c.args.from c.args.worlds.now))
+      (c.in-Ok.ensures.same ∙ ap (λ (b : Bool). replicate (length c.args.worlds.now - c.args.from) (not b)) c.deciding_truth.ensures);
 }
 
 pub parts_labels-labels_of-requires : goal.parts_labels-labels_of-requires
@@ -221,7 +222,7 @@ parts_labels-labels_of-requires t c =
           c.requires.from,
           (
             ap length c.loop-part.invariant.frame ∙ c.requires.frame,
-            item-fits (signature_of c.args.task.now.problem.domain) c.args.stop c.args.parts.now c.as_slice-part-items.result.now c.loop-part.part-index c.part-item.result c.as_slice-part-items.ensures c.loop-part-test.true c.part-item.is c.requires.fits,
+            item-fits (signature_of c.args.task.now.problem.domain) c.args.junction c.args.parts.now c.as_slice-part-items.result.now c.loop-part.part-index c.part-item.result c.as_slice-part-items.ensures c.loop-part-test.true c.part-item.is c.requires.fits,
           ),
         ),
       ),
@@ -235,133 +236,133 @@ parts_labels-join-requires t c =
 
 pub parts_labels-returns-in-Err-labels_of-clause-labels : goal.parts_labels-returns-in-Err-labels_of-clause-labels
 parts_labels-returns-in-Err-labels_of-clause-labels t c =
-    item-noted (plain_problem c.args.task.now.problem) c.args.worlds.now c.args.from (assignment_in c.args.env.now) (assignment_in c.loop-part.env) c.args.stop c.args.parts.now c.as_slice-part-items.result.now c.loop-part.part-index c.part-item.result
+    item-noted (plain_problem c.args.task.now.problem) c.args.worlds.now c.args.from (assignment_in c.args.env.now) (assignment_in c.loop-part.env) c.args.junction c.args.parts.now c.as_slice-part-items.result.now c.loop-part.part-index c.part-item.result
     c.as_slice-part-items.ensures c.loop-part-test.true c.part-item.is (ap assignment_in c.loop-part.invariant.frame) c.in-Err-labels_of.fault c.in-Err-labels_of.ensures.labels
 
 pub parts_labels-loop-part-preserved : goal.parts_labels-loop-part-preserved
 parts_labels-loop-part-preserved t c = record {
   frame = c.in-Ok-labels_of.ensures.frame ∙ c.loop-part.invariant.frame;
-  so_far = parts-on (plain_problem c.args.task.now.problem) (assignment_in c.args.env.now) (drop c.args.from c.args.worlds.now) c.args.stop c.as_slice-part-items.result.now c.loop-part.all c.in-Ok-labels_of.found c.join.new.self c.loop-part.part-index c.part-item.result c.loop-part-test.true c.part-item.is c.loop-part.invariant.so_far
+  so_far = parts-on (plain_problem c.args.task.now.problem) (assignment_in c.args.env.now) (drop c.args.from c.args.worlds.now) c.args.junction c.as_slice-part-items.result.now c.loop-part.all c.in-Ok-labels_of.found c.join.new.self c.loop-part.part-index c.part-item.result c.loop-part-test.true c.part-item.is c.loop-part.invariant.so_far
       (c.in-Ok-labels_of.ensures.labels ∙ ap (λ (x : Assignment). marks (true_ahead (plain_problem c.args.task.now.problem) x (tree_of_formula c.part-item.result)) (drop c.args.from c.args.worlds.now)) (ap assignment_in c.loop-part.invariant.frame)) c.join.ensures;
 }
 
 pub parts_labels-returns-clause-labels : goal.parts_labels-returns-clause-labels
-parts_labels-returns-clause-labels t c = parts-end (plain_problem c.args.task.now.problem) (assignment_in c.args.env.now) (drop c.args.from c.args.worlds.now) c.args.stop c.as_slice-part-items.result.now c.args.parts.now c.loop-part.all c.loop-part.part-index c.as_slice-part-items.ensures c.loop-part-test.false c.loop-part.invariant.so_far
+parts_labels-returns-clause-labels t c = parts-end (plain_problem c.args.task.now.problem) (assignment_in c.args.env.now) (drop c.args.from c.args.worlds.now) c.args.junction c.as_slice-part-items.result.now c.args.parts.now c.loop-part.all c.loop-part.part-index c.as_slice-part-items.ensures c.loop-part-test.false c.loop-part.invariant.so_far
 
 -- ---- the instances of quantifiers
 
 pub quantified_labels-cursors_at-requires-clause-differ : goal.quantified_labels-cursors_at-requires-clause-differ
 quantified_labels-cursors_at-requires-clause-differ t c =
-    let parts = quantified-parts c.args.task.now.problem c.args.stop c.args.vars.now c.args.bound.now (tree_of_formula c.args.part.now) c.requires.fits in
+    let parts = quantified-parts c.args.task.now.problem c.args.junction c.args.vars.now c.args.bound.now (tree_of_formula c.args.part.now) c.requires.fits in
     parts.differ
 
 pub quantified_labels-advance-requires-clause-differ : goal.quantified_labels-advance-requires-clause-differ
 quantified_labels-advance-requires-clause-differ t c =
-    let parts = quantified-parts c.args.task.now.problem c.args.stop c.args.vars.now c.args.bound.now (tree_of_formula c.args.part.now) c.requires.fits in
+    let parts = quantified-parts c.args.task.now.problem c.args.junction c.args.vars.now c.args.bound.now (tree_of_formula c.args.part.now) c.requires.fits in
     parts.differ
 
 pub quantified_labels-cursors_at-requires-clause-occur : goal.quantified_labels-cursors_at-requires-clause-occur
 quantified_labels-cursors_at-requires-clause-occur t c =
-    let parts = quantified-parts c.args.task.now.problem c.args.stop c.args.vars.now c.args.bound.now (tree_of_formula c.args.part.now) c.requires.fits in
+    let parts = quantified-parts c.args.task.now.problem c.args.junction c.args.vars.now c.args.bound.now (tree_of_formula c.args.part.now) c.requires.fits in
     parts.occur
 
 pub quantified_labels-advance-requires-clause-occur : goal.quantified_labels-advance-requires-clause-occur
 quantified_labels-advance-requires-clause-occur t c =
-    let parts = quantified-parts c.args.task.now.problem c.args.stop c.args.vars.now c.args.bound.now (tree_of_formula c.args.part.now) c.requires.fits in
+    let parts = quantified-parts c.args.task.now.problem c.args.junction c.args.vars.now c.args.bound.now (tree_of_formula c.args.part.now) c.requires.fits in
     parts.occur
 
 pub quantified_labels-cursors_at-requires-clause-fits : goal.quantified_labels-cursors_at-requires-clause-fits
 quantified_labels-cursors_at-requires-clause-fits t c =
-    let parts = quantified-parts c.args.task.now.problem c.args.stop c.args.vars.now c.args.bound.now (tree_of_formula c.args.part.now) c.requires.fits in
+    let parts = quantified-parts c.args.task.now.problem c.args.junction c.args.vars.now c.args.bound.now (tree_of_formula c.args.part.now) c.requires.fits in
     parts.bound
 
 pub quantified_labels-advance-requires-clause-fits : goal.quantified_labels-advance-requires-clause-fits
 quantified_labels-advance-requires-clause-fits t c =
-    let parts = quantified-parts c.args.task.now.problem c.args.stop c.args.vars.now c.args.bound.now (tree_of_formula c.args.part.now) c.requires.fits in
+    let parts = quantified-parts c.args.task.now.problem c.args.junction c.args.vars.now c.args.bound.now (tree_of_formula c.args.part.now) c.requires.fits in
     parts.bound
 
 pub quantified_labels-advance-requires-clause-few : goal.quantified_labels-advance-requires-clause-few
 quantified_labels-advance-requires-clause-few t c =
-    let parts = quantified-parts c.args.task.now.problem c.args.stop c.args.vars.now c.args.bound.now (tree_of_formula c.args.part.now) c.requires.fits in
+    let parts = quantified-parts c.args.task.now.problem c.args.junction c.args.vars.now c.args.bound.now (tree_of_formula c.args.part.now) c.requires.fits in
     parts.few
 
 pub quantified_labels-least-requires : goal.quantified_labels-least-requires
 quantified_labels-least-requires t c =
-    let parts = quantified-parts c.args.task.now.problem c.args.stop c.args.vars.now c.args.bound.now (tree_of_formula c.args.part.now) c.requires.fits in
+    let parts = quantified-parts c.args.task.now.problem c.args.junction c.args.vars.now c.args.bound.now (tree_of_formula c.args.part.now) c.requires.fits in
     omega (arith, parts.few, c.len.ensures)
 
 pub quantified_labels-counted_values-requires : goal.quantified_labels-counted_values-requires
 quantified_labels-counted_values-requires t c =
-    let parts = quantified-parts c.args.task.now.problem c.args.stop c.args.vars.now c.args.bound.now (tree_of_formula c.args.part.now) c.requires.fits in
+    let parts = quantified-parts c.args.task.now.problem c.args.junction c.args.vars.now c.args.bound.now (tree_of_formula c.args.part.now) c.requires.fits in
     let p = plain_problem c.args.task.now.problem in
     let e = assignment_in c.args.env.now in
-    let q : Quantifier = record { stop = c.args.stop; vars = c.args.vars.now; bound = c.args.bound.now; part = tree_of_formula c.args.part.now } in
+    let q : Quantifier = record { junction = c.args.junction; vars = c.args.vars.now; bound = c.args.bound.now; part = tree_of_formula c.args.part.now } in
     let found = subst (λ (cs : List Cursor). IsFound cs c.in-Some.found) c.as_slice.ensures.value c.in-Some.ensures.some in
     omega (arith, parts.few, found-count (length c.args.vars.now) c.loop-found.cursors.items c.in-Some.found (at-counts p e q c.loop-found.cursors.items (drop c.args.from c.args.worlds.now) c.loop-found.invariant.at) found)
 
 pub quantified_labels-put_values-requires-clause-slots : goal.quantified_labels-put_values-requires-clause-slots
 quantified_labels-put_values-requires-clause-slots t c =
-    let parts = quantified-parts c.args.task.now.problem c.args.stop c.args.vars.now c.args.bound.now (tree_of_formula c.args.part.now) c.requires.fits in
+    let parts = quantified-parts c.args.task.now.problem c.args.junction c.args.vars.now c.args.bound.now (tree_of_formula c.args.part.now) c.requires.fits in
     subst (Each (λ (s : Var). s.slot < 32)) (sym c.as_slice-in-Some.ensures) parts.in_frame
 
 pub quantified_labels-put_values-requires-clause-same : goal.quantified_labels-put_values-requires-clause-same
 quantified_labels-put_values-requires-clause-same t c =
-    let parts = quantified-parts c.args.task.now.problem c.args.stop c.args.vars.now c.args.bound.now (tree_of_formula c.args.part.now) c.requires.fits in
+    let parts = quantified-parts c.args.task.now.problem c.args.junction c.args.vars.now c.args.bound.now (tree_of_formula c.args.part.now) c.requires.fits in
     let p = plain_problem c.args.task.now.problem in
     let e = assignment_in c.args.env.now in
-    let q : Quantifier = record { stop = c.args.stop; vars = c.args.vars.now; bound = c.args.bound.now; part = tree_of_formula c.args.part.now } in
+    let q : Quantifier = record { junction = c.args.junction; vars = c.args.vars.now; bound = c.args.bound.now; part = tree_of_formula c.args.part.now } in
     let found = subst (λ (cs : List Cursor). IsFound cs c.in-Some.found) c.as_slice.ensures.value c.in-Some.ensures.some in
     omega (arith, ap length c.as_slice-in-Some.ensures, c.counted_values.ensures.count, found-count (length c.args.vars.now) c.loop-found.cursors.items c.in-Some.found (at-counts p e q c.loop-found.cursors.items (drop c.args.from c.args.worlds.now) c.loop-found.invariant.at) found)
 
 pub quantified_labels-overflow_add-from : goal.quantified_labels-overflow_add-from
 quantified_labels-overflow_add-from t c =
-    let parts = quantified-parts c.args.task.now.problem c.args.stop c.args.vars.now c.args.bound.now (tree_of_formula c.args.part.now) c.requires.fits in
+    let parts = quantified-parts c.args.task.now.problem c.args.junction c.args.vars.now c.args.bound.now (tree_of_formula c.args.part.now) c.requires.fits in
     let p = plain_problem c.args.task.now.problem in
     let e = assignment_in c.args.env.now in
-    let q : Quantifier = record { stop = c.args.stop; vars = c.args.vars.now; bound = c.args.bound.now; part = tree_of_formula c.args.part.now } in
+    let q : Quantifier = record { junction = c.args.junction; vars = c.args.vars.now; bound = c.args.bound.now; part = tree_of_formula c.args.part.now } in
     let found = subst (λ (cs : List Cursor). IsFound cs c.in-Some.found) c.as_slice.ensures.value c.in-Some.ensures.some in
     omega (arith, found-within c.loop-found.cursors.items c.in-Some.found found, at-size p e q c.loop-found.cursors.items (drop c.args.from c.args.worlds.now) c.loop-found.invariant.at, length-drop c.args.from c.args.worlds.now, c.requires.few, c.requires.from)
 
 pub quantified_labels-labels_of-requires : goal.quantified_labels-labels_of-requires
 quantified_labels-labels_of-requires t c =
-    let parts = quantified-parts c.args.task.now.problem c.args.stop c.args.vars.now c.args.bound.now (tree_of_formula c.args.part.now) c.requires.fits in
+    let parts = quantified-parts c.args.task.now.problem c.args.junction c.args.vars.now c.args.bound.now (tree_of_formula c.args.part.now) c.requires.fits in
     let p = plain_problem c.args.task.now.problem in
     let e = assignment_in c.args.env.now in
-    let q : Quantifier = record { stop = c.args.stop; vars = c.args.vars.now; bound = c.args.bound.now; part = tree_of_formula c.args.part.now } in
+    let q : Quantifier = record { junction = c.args.junction; vars = c.args.vars.now; bound = c.args.bound.now; part = tree_of_formula c.args.part.now } in
     let found = subst (λ (cs : List Cursor). IsFound cs c.in-Some.found) c.as_slice.ensures.value c.in-Some.ensures.some in
     (omega (arith, c.decreases), (c.requires.few, (omega (arith, found-within c.loop-found.cursors.items c.in-Some.found found, at-size p e q c.loop-found.cursors.items (drop c.args.from c.args.worlds.now) c.loop-found.invariant.at, length-drop c.args.from c.args.worlds.now, c.requires.from), (c.put_values.ensures.slots ∙ c.loop-found.invariant.slots, parts.body))))
 
 pub quantified_labels-advance-requires-clause-size : goal.quantified_labels-advance-requires-clause-size
 quantified_labels-advance-requires-clause-size t c =
-    let parts = quantified-parts c.args.task.now.problem c.args.stop c.args.vars.now c.args.bound.now (tree_of_formula c.args.part.now) c.requires.fits in
+    let parts = quantified-parts c.args.task.now.problem c.args.junction c.args.vars.now c.args.bound.now (tree_of_formula c.args.part.now) c.requires.fits in
     let p = plain_problem c.args.task.now.problem in
     let e = assignment_in c.args.env.now in
-    let q : Quantifier = record { stop = c.args.stop; vars = c.args.vars.now; bound = c.args.bound.now; part = tree_of_formula c.args.part.now } in
+    let q : Quantifier = record { junction = c.args.junction; vars = c.args.vars.now; bound = c.args.bound.now; part = tree_of_formula c.args.part.now } in
     ap length c.as_mut_slice.ensures.value ∙ (at-size p e q c.loop-found.cursors.items (drop c.args.from c.args.worlds.now) c.loop-found.invariant.at ∙ sym (ap length (rest-whole c.args.worlds.now c.args.from)))
 
 pub quantified_labels-advance-requires-clause-counts : goal.quantified_labels-advance-requires-clause-counts
 quantified_labels-advance-requires-clause-counts t c =
-    let parts = quantified-parts c.args.task.now.problem c.args.stop c.args.vars.now c.args.bound.now (tree_of_formula c.args.part.now) c.requires.fits in
+    let parts = quantified-parts c.args.task.now.problem c.args.junction c.args.vars.now c.args.bound.now (tree_of_formula c.args.part.now) c.requires.fits in
     let p = plain_problem c.args.task.now.problem in
     let e = assignment_in c.args.env.now in
-    let q : Quantifier = record { stop = c.args.stop; vars = c.args.vars.now; bound = c.args.bound.now; part = tree_of_formula c.args.part.now } in
+    let q : Quantifier = record { junction = c.args.junction; vars = c.args.vars.now; bound = c.args.bound.now; part = tree_of_formula c.args.part.now } in
     subst (λ (cs : List Cursor). HaveCounts (length c.args.vars.now) cs) (sym c.as_mut_slice.ensures.value) (at-counts p e q c.loop-found.cursors.items (drop c.args.from c.args.worlds.now) c.loop-found.invariant.at)
 
 pub quantified_labels-advance-requires-clause-labels : goal.quantified_labels-advance-requires-clause-labels
 quantified_labels-advance-requires-clause-labels t c =
-    let parts = quantified-parts c.args.task.now.problem c.args.stop c.args.vars.now c.args.bound.now (tree_of_formula c.args.part.now) c.requires.fits in
+    let parts = quantified-parts c.args.task.now.problem c.args.junction c.args.vars.now c.args.bound.now (tree_of_formula c.args.part.now) c.requires.fits in
     let p = plain_problem c.args.task.now.problem in
     let e = assignment_in c.args.env.now in
-    let q : Quantifier = record { stop = c.args.stop; vars = c.args.vars.now; bound = c.args.bound.now; part = tree_of_formula c.args.part.now } in
+    let q : Quantifier = record { junction = c.args.junction; vars = c.args.vars.now; bound = c.args.bound.now; part = tree_of_formula c.args.part.now } in
     let found = subst (λ (cs : List Cursor). IsFound cs c.in-Some.found) c.as_slice.ensures.value c.in-Some.ensures.some in
     omega (arith, ap length c.in-Ok-labels_of.ensures.labels, marks-length (true_ahead p (assignment_in c.put_values.new.self) (tree_of_formula c.args.part.now)) (drop (c.args.from + c.in-Some.found.at) c.args.worlds.now), length-drop (c.args.from + c.in-Some.found.at) c.args.worlds.now, ap length (rest-whole c.args.worlds.now c.args.from), found-within c.loop-found.cursors.items c.in-Some.found found, at-size p e q c.loop-found.cursors.items (drop c.args.from c.args.worlds.now) c.loop-found.invariant.at, length-drop c.args.from c.args.worlds.now, c.requires.from)
 
 pub quantified_labels-loop-found-preserved : goal.quantified_labels-loop-found-preserved
 quantified_labels-loop-found-preserved t c =
-    let parts = quantified-parts c.args.task.now.problem c.args.stop c.args.vars.now c.args.bound.now (tree_of_formula c.args.part.now) c.requires.fits in
+    let parts = quantified-parts c.args.task.now.problem c.args.junction c.args.vars.now c.args.bound.now (tree_of_formula c.args.part.now) c.requires.fits in
     let p = plain_problem c.args.task.now.problem in
     let e = assignment_in c.args.env.now in
-    let q : Quantifier = record { stop = c.args.stop; vars = c.args.vars.now; bound = c.args.bound.now; part = tree_of_formula c.args.part.now } in
+    let q : Quantifier = record { junction = c.args.junction; vars = c.args.vars.now; bound = c.args.bound.now; part = tree_of_formula c.args.part.now } in
     let scope : assignment_in c.put_values.new.self ≡ bind c.args.vars.now (tuple_of c.in-Some.found.tuple) e =
     c.put_values.ensures.values ∙ (ap (λ (ss : List Var). bind ss c.counted_values.result.now (assignment_in c.loop-found.inner)) c.as_slice-in-Some.ensures ∙ (ap (λ (u : List Value). bind c.args.vars.now u (assignment_in c.loop-found.inner)) c.counted_values.ensures.values ∙ c.loop-found.invariant.scope (tuple_of c.in-Some.found.tuple))) in
     record {
@@ -373,10 +374,10 @@ quantified_labels-loop-found-preserved t c =
 
 pub quantified_labels-returns-in-Err-labels_of-clause-labels : goal.quantified_labels-returns-in-Err-labels_of-clause-labels
 quantified_labels-returns-in-Err-labels_of-clause-labels t c =
-    let parts = quantified-parts c.args.task.now.problem c.args.stop c.args.vars.now c.args.bound.now (tree_of_formula c.args.part.now) c.requires.fits in
+    let parts = quantified-parts c.args.task.now.problem c.args.junction c.args.vars.now c.args.bound.now (tree_of_formula c.args.part.now) c.requires.fits in
     let p = plain_problem c.args.task.now.problem in
     let e = assignment_in c.args.env.now in
-    let q : Quantifier = record { stop = c.args.stop; vars = c.args.vars.now; bound = c.args.bound.now; part = tree_of_formula c.args.part.now } in
+    let q : Quantifier = record { junction = c.args.junction; vars = c.args.vars.now; bound = c.args.bound.now; part = tree_of_formula c.args.part.now } in
     let scope : assignment_in c.put_values.new.self ≡ bind c.args.vars.now (tuple_of c.in-Some.found.tuple) e =
     c.put_values.ensures.values ∙ (ap (λ (ss : List Var). bind ss c.counted_values.result.now (assignment_in c.loop-found.inner)) c.as_slice-in-Some.ensures ∙ (ap (λ (u : List Value). bind c.args.vars.now u (assignment_in c.loop-found.inner)) c.counted_values.ensures.values ∙ c.loop-found.invariant.scope (tuple_of c.in-Some.found.tuple))) in
     let found = subst (λ (cs : List Cursor). IsFound cs c.in-Some.found) c.as_slice.ensures.value c.in-Some.ensures.some in
@@ -384,10 +385,10 @@ quantified_labels-returns-in-Err-labels_of-clause-labels t c =
 
 pub quantified_labels-returns-in-Ok-truths_of-clause-labels : goal.quantified_labels-returns-in-Ok-truths_of-clause-labels
 quantified_labels-returns-in-Ok-truths_of-clause-labels t c =
-    let parts = quantified-parts c.args.task.now.problem c.args.stop c.args.vars.now c.args.bound.now (tree_of_formula c.args.part.now) c.requires.fits in
+    let parts = quantified-parts c.args.task.now.problem c.args.junction c.args.vars.now c.args.bound.now (tree_of_formula c.args.part.now) c.requires.fits in
     let p = plain_problem c.args.task.now.problem in
     let e = assignment_in c.args.env.now in
-    let q : Quantifier = record { stop = c.args.stop; vars = c.args.vars.now; bound = c.args.bound.now; part = tree_of_formula c.args.part.now } in
+    let q : Quantifier = record { junction = c.args.junction; vars = c.args.vars.now; bound = c.args.bound.now; part = tree_of_formula c.args.part.now } in
     let none = subst (λ (o : Option _). IfNone o (Each (λ (x : Cursor). x.next ≡ None) c.as_slice.result.now)) (none-left c.least.result c.in_default.not-Some) c.least.ensures.none in
     let all = subst (λ (cs : List Cursor). Each (λ (x : Cursor). x.next ≡ None) cs) c.as_slice.ensures.value none in
     c.in-Ok-truths_of.ensures ∙ (ap (map (λ (x : Cursor). x.truth)) c.as_slice-2.ensures.value ∙ at-end p e q c.loop-found.cursors.items (drop c.args.from c.args.worlds.now) c.loop-found.invariant.at all)

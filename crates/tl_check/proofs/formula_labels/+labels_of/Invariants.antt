@@ -24,14 +24,14 @@ decreases-quantified_labels l = 1 + size (tree_of_formula l.part.now)
 abbrev pub invariant-parts_labels-loop-part : goal.invariant-parts_labels-loop-part
 invariant-parts_labels-loop-part l = record {
   frame : l.env ≡ l.fn.env;
-  so_far : PartsSoFar (plain_problem l.task.problem) (assignment_in l.fn.env) (drop l.from l.worlds) l.stop l.part-items (drop l.part-index l.part-items) l.all;
+  so_far : PartsSoFar (plain_problem l.task.problem) (assignment_in l.fn.env) (drop l.from l.worlds) l.junction l.part-items (drop l.part-index l.part-items) l.all;
 }
 
 abbrev pub invariant-quantified_labels-loop-found : goal.invariant-quantified_labels-loop-found
 invariant-quantified_labels-loop-found l = record {
   slots : length l.inner ≡ 32;
   scope : (t : List Value) → bind l.vars t (assignment_in l.inner) ≡ bind l.vars t (assignment_in l.env);
-  at : AreAt (plain_problem l.task.problem) (assignment_in l.env) (record { stop = l.stop; vars = l.vars; bound = l.bound; part = tree_of_formula l.part }) l.cursors.items (drop l.from l.worlds);
+  at : AreAt (plain_problem l.task.problem) (assignment_in l.env) (record { junction = l.junction; vars = l.vars; bound = l.bound; part = tree_of_formula l.part }) l.cursors.items (drop l.from l.worlds);
 }
 
 abbrev pub decreases-quantified_labels-loop-found : goal.decreases-quantified_labels-loop-found

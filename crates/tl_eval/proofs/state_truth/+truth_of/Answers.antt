@@ -1,18 +1,21 @@
-use Rattle.std.proofs.Common.{◌≡◌, ◌+◌, ◌-◌, List, length, take, drop, Option, Some, Result, Ok, Err, Bool, false, refl, sym, ap, ◌∙◌, subst, suc, arith}
+use Rattle.std.proofs.Common.{◌≡◌, ◌<◌, ◌+◌, ◌-◌, List, length, take, drop, Option, Some, None, Result, Ok, Err, Bool, false, refl, sym, ap, ◌∙◌, subst, suc, arith}
 use Rattle.std.proofs.lemmas.List.{length-take, length-drop}
 use Rattle.std.proofs.lemmas.Slice.{take-put_mid_below}
-use Rattle.std.specs.Option.{option_map}
-use Rattle.tl_eval.specs.Frames.{assignment_in}
-use Rattle.tl_eval.specs.StateTruth.{IsTruth, quantified}
+use Rattle.tl_eval.specs.Frames.{assignment_in, tuple_in}
+use Rattle.tl_eval.specs.PutNext.{tuple_before}
+use Rattle.tl_eval.specs.StateTruth.{IsTruth}
 use Rattle.tl_eval.specs.declared.range.RangeNote.{RangeNote}
 use Rattle.tl_eval.proofs.ArityLaws.{AreFew, declared-few}
 use Rattle.tl_eval.proofs.BindLaws.{bind-through}
 use Rattle.tl_eval.proofs.BodyLaws.{at_definition, body-is, defined-few, few-visible}
-use Rattle.tl_eval.proofs.DecidedLaws.{same-truth, other-truth, none-left}
+use Rattle.tl_eval.proofs.DecidedLaws.{same-truth, other-truth}
 use Rattle.tl_eval.proofs.FormulaParts.{arguments-Atom, arguments-Defined, takes-Defined, sides-Compare, few-GoalFact, few-GoalNot, few-GoalPlace, part-Defined, part-Not, part-And, part-Or, part-ForAll, part-Exists, item-fits, tuples-fit}
 use Rattle.tl_eval.proofs.FormulaSizes.{formula_nodes, formulas_nodes, lighter, body-lighter}
+use Rattle.tl_eval.proofs.KeptLaws.{all-back, same-frame}
+use Rattle.tl_eval.proofs.PutLaws.{placed, none-placed, tuple-put}
 use Rattle.tl_eval.proofs.ReadingLaws.{read-closed, read-opened}
-use Rattle.tl_eval.proofs.StateLaws.{at-True, at-False, at-Next, at-Always, at-Eventually, at-Until, at-Within, at-During, at-Atom, at-Compare, at-GoalFact, at-GoalNot, at-GoalPlace, at-Not, at-Not-Err, at-Defined, at-And, at-Or, at-ForAll, at-Exists, defined-values, defined-None, defined-Err, parts-begun, parts-on, parts-stop, parts-noted, parts-end, closed-is, opened-is, count-values, tuples-begun, tuples-end, fewer-left, tuples-on, tuples-stop, tuples-noted}
+use Rattle.tl_eval.proofs.StateLaws.{TuplesPassed, tuples_read, at-True, at-False, at-Next, at-Always, at-Eventually, at-Until, at-Within, at-During, at-Atom, at-Compare, at-GoalFact, at-GoalNot, at-GoalPlace, at-Not, at-Not-Err, at-Defined, at-And, at-Or, at-ForAll, at-Exists, defined-values, defined-None, defined-Err, parts-begun, parts-on, parts-stop, parts-noted, parts-end, closed-is, opened-is, count-values, tuples-begun, tuples-end, fewer-left, tuples-on, tuples-stop, tuples-noted}
+use Rattle.tl_eval.proofs.TupleRest.{rest_after}
 use Rattle.tl_syntax.specs.declared.value.Value.{Value}
 use Rattle.tl_syntax.specs.declared.problem.Problem.{Problem}
 use Rattle.tl_syntax.specs.Assignment.{Assignment, bind}
@@ -20,9 +23,9 @@ use Rattle.tl_syntax.specs.Signature.{signature_of}
 use Rattle.tl_syntax.specs.TreeOfFormula.{tree_of_formula, tree_of_formulas}
 use Rattle.tl_syntax.specs.TreeOfTerm.{tree_of_terms}
 use Rattle.tl_syntax.specs.Trees.{defined}
+use Rattle.tl_terms.specs.Definitions.{situation_of}
 use Rattle.tl_terms.specs.ProblemMeaning.{plain_definition, plain_problem}
 use Rattle.tl_terms.specs.Terms.{term_values}
-use Rattle.tl_world.specs.Patterns.{tuple_of}
 use Rattle.tl_eval.proofs.state_truth.+truth_of.Goals as goal
 
 -- ---- the body of a definition
@@ -129,26 +132,26 @@ defined_true-returns-in-Err-clause-truth t c =
 pub parts_true-loop-part-init : goal.parts_true-loop-part-init
 parts_true-loop-part-init t c = record {
   frame = refl;
-  passed = parts-begun (plain_problem c.args.task.now.problem) c.args.w.now c.args.reading.number c.args.reading.level (assignment_in (take 32 c.args.frames.now)) c.args.stop c.as_slice-part-items.result.now;
+  passed = parts-begun (plain_problem c.args.task.now.problem) c.args.w.now c.args.reading.number c.args.reading.level (assignment_in (take 32 c.args.frames.now)) c.deciding_truth-stop.result c.as_slice-part-items.result.now;
 }
 
 pub parts_true-truth_of-requires : goal.parts_true-truth_of-requires
 parts_true-truth_of-requires t c =
     let p = plain_problem c.args.task.now.problem in
-    let item = item-fits (signature_of c.args.task.now.problem.domain) c.args.reading.number c.args.stop c.args.parts.now c.as_slice-part-items.result.now c.loop-part.part-index c.part-item.result c.as_slice-part-items.ensures c.loop-part-test.true c.part-item.is c.requires.fits in
+    let item = item-fits (signature_of c.args.task.now.problem.domain) c.args.reading.number c.args.junction c.args.parts.now c.as_slice-part-items.result.now c.loop-part.part-index c.part-item.result c.as_slice-part-items.ensures c.loop-part-test.true c.part-item.is c.requires.fits in
     let less = lighter p c.args.reading.number c.args.reading.level (formula_nodes (tree_of_formula c.part-item.result)) (formulas_nodes (tree_of_formulas c.args.parts.now)) item.smaller in
     (omega (arith, less, c.decreases), (item.fits, omega (arith, c.requires.room, c.loop-part.auto.frames)))
 
 pub parts_true-returns-then-truth-stop-clause-truth : goal.parts_true-returns-then-truth-stop-clause-truth
 parts_true-returns-then-truth-stop-clause-truth t c =
     let r : Result Bool RangeNote = Ok c.in-Ok.truth in
-    parts-stop (plain_problem c.args.task.now.problem) c.args.w.now c.args.reading.number c.args.reading.level (assignment_in (take 32 c.args.frames.now)) c.args.stop c.args.parts.now c.as_slice-part-items.result.now c.loop-part.part-index c.part-item.result c.in-Ok.truth c.as_slice-part-items.ensures c.loop-part-test.true c.part-item.is c.loop-part.invariant.passed
-    (subst (λ (x : List (Option Value)). IsTruth (plain_problem c.args.task.now.problem) c.args.w.now c.args.reading.number c.args.reading.level (assignment_in x) (tree_of_formula c.part-item.result) r) c.loop-part.invariant.frame c.in-Ok.ensures.truth) (same-truth c.in-Ok.truth c.args.stop c.if-truth-stop.true)
+    parts-stop (plain_problem c.args.task.now.problem) c.args.w.now c.args.reading.number c.args.reading.level (assignment_in (take 32 c.args.frames.now)) c.args.junction c.deciding_truth-stop.result c.deciding_truth-stop.ensures c.args.parts.now c.as_slice-part-items.result.now c.loop-part.part-index c.part-item.result c.in-Ok.truth c.as_slice-part-items.ensures c.loop-part-test.true c.part-item.is c.loop-part.invariant.passed
+    (subst (λ (x : List (Option Value)). IsTruth (plain_problem c.args.task.now.problem) c.args.w.now c.args.reading.number c.args.reading.level (assignment_in x) (tree_of_formula c.part-item.result) r) c.loop-part.invariant.frame c.in-Ok.ensures.truth) (same-truth c.in-Ok.truth c.deciding_truth-stop.result c.if-truth-stop.true)
 
 pub parts_true-returns-in-Err-clause-truth : goal.parts_true-returns-in-Err-clause-truth
 parts_true-returns-in-Err-clause-truth t c =
     let r : Result Bool RangeNote = Err c.in-Err.note in
-    parts-noted (plain_problem c.args.task.now.problem) c.args.w.now c.args.reading.number c.args.reading.level (assignment_in (take 32 c.args.frames.now)) c.args.stop c.args.parts.now c.as_slice-part-items.result.now c.loop-part.part-index c.part-item.result c.in-Err.note c.as_slice-part-items.ensures c.loop-part-test.true c.part-item.is c.loop-part.invariant.passed
+    parts-noted (plain_problem c.args.task.now.problem) c.args.w.now c.args.reading.number c.args.reading.level (assignment_in (take 32 c.args.frames.now)) c.args.junction c.deciding_truth-stop.result c.deciding_truth-stop.ensures c.args.parts.now c.as_slice-part-items.result.now c.loop-part.part-index c.part-item.result c.in-Err.note c.as_slice-part-items.ensures c.loop-part-test.true c.part-item.is c.loop-part.invariant.passed
     (subst (λ (x : List (Option Value)). IsTruth (plain_problem c.args.task.now.problem) c.args.w.now c.args.reading.number c.args.reading.level (assignment_in x) (tree_of_formula c.part-item.result) r) c.loop-part.invariant.frame c.in-Err.ensures.truth)
 
 pub parts_true-loop-part-preserved : goal.parts_true-loop-part-preserved
@@ -156,13 +159,13 @@ parts_true-loop-part-preserved t c =
     let r : Result Bool RangeNote = Ok c.in-Ok.truth in
     record {
       frame = c.truth_of.ensures.frame ∙ c.loop-part.invariant.frame;
-      passed = parts-on (plain_problem c.args.task.now.problem) c.args.w.now c.args.reading.number c.args.reading.level (assignment_in (take 32 c.args.frames.now)) c.args.stop c.as_slice-part-items.result.now c.loop-part.part-index c.part-item.result c.in-Ok.truth c.loop-part-test.true c.part-item.is c.loop-part.invariant.passed
-          (subst (λ (x : List (Option Value)). IsTruth (plain_problem c.args.task.now.problem) c.args.w.now c.args.reading.number c.args.reading.level (assignment_in x) (tree_of_formula c.part-item.result) r) c.loop-part.invariant.frame c.in-Ok.ensures.truth) (other-truth c.in-Ok.truth c.args.stop c.if-truth-stop.false);
+      passed = parts-on (plain_problem c.args.task.now.problem) c.args.w.now c.args.reading.number c.args.reading.level (assignment_in (take 32 c.args.frames.now)) c.deciding_truth-stop.result c.as_slice-part-items.result.now c.loop-part.part-index c.part-item.result c.in-Ok.truth c.loop-part-test.true c.part-item.is c.loop-part.invariant.passed
+          (subst (λ (x : List (Option Value)). IsTruth (plain_problem c.args.task.now.problem) c.args.w.now c.args.reading.number c.args.reading.level (assignment_in x) (tree_of_formula c.part-item.result) r) c.loop-part.invariant.frame c.in-Ok.ensures.truth) (other-truth c.in-Ok.truth c.deciding_truth-stop.result c.if-truth-stop.false);
     }
 
 pub parts_true-returns-clause-truth : goal.parts_true-returns-clause-truth
 parts_true-returns-clause-truth t c =
-    parts-end (plain_problem c.args.task.now.problem) c.args.w.now c.args.reading.number c.args.reading.level (assignment_in (take 32 c.args.frames.now)) c.args.stop c.args.parts.now c.as_slice-part-items.result.now c.loop-part.part-index c.as_slice-part-items.ensures c.loop-part-test.false c.loop-part.invariant.passed
+    parts-end (plain_problem c.args.task.now.problem) c.args.w.now c.args.reading.number c.args.reading.level (assignment_in (take 32 c.args.frames.now)) c.args.junction c.deciding_truth-stop.result c.deciding_truth-stop.ensures c.args.parts.now c.as_slice-part-items.result.now c.loop-part.part-index c.as_slice-part-items.ensures c.loop-part-test.false c.loop-part.invariant.passed
 
 -- ---- formulas by their forms
 
@@ -332,122 +335,144 @@ truth_of-returns-in-During-clause-truth t c =
 
 -- ---- quantifiers
 
+pub quantified_true-kept-outer-requires-clause-few : goal.quantified_true-kept-outer-requires-clause-few
+quantified_true-kept-outer-requires-clause-few t c =
+    let q = c.args.task.now.problem in
+    let fit = tuples-fit (signature_of q.domain) c.args.reading.number c.args.junction c.args.vars.now c.args.bound.now (tree_of_formula c.args.part.now) (predicates-few q) (functions-few q) c.requires.fits in
+    fit.few
+
 pub quantified_true-tuples_true-truth-requires : goal.quantified_true-tuples_true-truth-requires
 quantified_true-tuples_true-truth-requires t c =
     let less = lighter (plain_problem c.args.task.now.problem) c.args.reading.number c.args.reading.level (1 + formula_nodes (tree_of_formula c.args.part.now)) (2 + formula_nodes (tree_of_formula c.args.part.now)) (omega arith) in
-    (omega (arith, less, c.decreases), (c.requires.fits, (c.requires.room, sym c.saved-outer.ensures)))
+    (omega (arith, less, c.decreases), (c.requires.fits, c.requires.room))
 
-pub quantified_true-returns-clause-truth : goal.quantified_true-returns-clause-truth
-quantified_true-returns-clause-truth t c =
-    subst (λ (x : List (Option Value)). IsTruth (plain_problem c.args.task.now.problem) c.args.w.now c.args.reading.number c.args.reading.level (assignment_in x) (quantified c.args.stop c.args.vars.now c.args.bound.now (tree_of_formula c.args.part.now)) c.tuples_true-truth.result) c.saved-outer.ensures
-    c.tuples_true-truth.ensures
+pub quantified_true-give_back-requires-clause-slots : goal.quantified_true-give_back-requires-clause-slots
+quantified_true-give_back-requires-clause-slots t c =
+    let q = c.args.task.now.problem in
+    let fit = tuples-fit (signature_of q.domain) c.args.reading.number c.args.junction c.args.vars.now c.args.bound.now (tree_of_formula c.args.part.now) (predicates-few q) (functions-few q) c.requires.fits in
+    fit.in_frame
+
+pub quantified_true-give_back-requires-clause-few : goal.quantified_true-give_back-requires-clause-few
+quantified_true-give_back-requires-clause-few t c =
+    let q = c.args.task.now.problem in
+    let fit = tuples-fit (signature_of q.domain) c.args.reading.number c.args.junction c.args.vars.now c.args.bound.now (tree_of_formula c.args.part.now) (predicates-few q) (functions-few q) c.requires.fits in
+    fit.few
 
 pub quantified_true-returns-clause-frame : goal.quantified_true-returns-clause-frame
-quantified_true-returns-clause-frame t c = c.restore.ensures ∙ c.saved-outer.ensures
+quantified_true-returns-clause-frame t c =
+    let size : length (take 32 c.give_back.new.frames) ≡ length (take 32 c.args.frames.now) = omega (arith, length-take 32 c.give_back.new.frames, length-take 32 c.args.frames.now, c.give_back.auto.frames, c.tuples_true-truth.auto.frames) in
+    same-frame (take 32 c.give_back.new.frames) (take 32 c.args.frames.now) size
+    (c.give_back.ensures ∙ all-back c.args.vars.now c.kept-outer.result (assignment_in (take 32 c.tuples_true-truth.new.frames)) (assignment_in (take 32 c.args.frames.now)) c.tuples_true-truth.ensures.others c.kept-outer.ensures)
 
 -- ---- the tuples of a quantifier
 
-pub tuples_true-loop-tuple-init : goal.tuples_true-loop-tuple-init
-tuples_true-loop-tuple-init t c = record {
-  scope = λ u. ap (λ (x : List (Option Value)). bind c.args.vars.now u (assignment_in x)) c.requires.same;
-  after = tt;
-  passed = tuples-begun (plain_problem c.args.task.now.problem) c.args.w.now c.args.reading.number c.args.reading.level (assignment_in c.args.outer.now) c.args.vars.now c.args.bound.now (tree_of_formula c.args.part.now) c.args.stop;
-}
+pub tuples_true-loop-reading-init : goal.tuples_true-loop-reading-init
+tuples_true-loop-reading-init t c =
+    record {
+      scope = λ u. refl;
+      passed = tuples-begun (plain_problem c.args.task.now.problem) c.args.w.now c.args.reading.number c.args.reading.level (assignment_in (take 32 c.args.frames.now)) c.args.vars.now c.args.bound.now (tree_of_formula c.args.part.now) c.deciding_truth-stop.result;
+    }
 
-pub tuples_true-next_tuple_in-requires-clause-differ : goal.tuples_true-next_tuple_in-requires-clause-differ
-tuples_true-next_tuple_in-requires-clause-differ t c =
+pub tuples_true-put_next-requires-clause-slots : goal.tuples_true-put_next-requires-clause-slots
+tuples_true-put_next-requires-clause-slots t c =
     let q = c.args.task.now.problem in
-    let fit = tuples-fit (signature_of q.domain) c.args.reading.number c.args.stop c.args.vars.now c.args.bound.now (tree_of_formula c.args.part.now) (predicates-few q) (functions-few q) c.requires.fits in
-    fit.differ
-
-pub tuples_true-next_tuple_in-requires-clause-occur : goal.tuples_true-next_tuple_in-requires-clause-occur
-tuples_true-next_tuple_in-requires-clause-occur t c =
-    let q = c.args.task.now.problem in
-    let fit = tuples-fit (signature_of q.domain) c.args.reading.number c.args.stop c.args.vars.now c.args.bound.now (tree_of_formula c.args.part.now) (predicates-few q) (functions-few q) c.requires.fits in
-    fit.occur
-
-pub tuples_true-next_tuple_in-requires-clause-fits : goal.tuples_true-next_tuple_in-requires-clause-fits
-tuples_true-next_tuple_in-requires-clause-fits t c =
-    let q = c.args.task.now.problem in
-    let fit = tuples-fit (signature_of q.domain) c.args.reading.number c.args.stop c.args.vars.now c.args.bound.now (tree_of_formula c.args.part.now) (predicates-few q) (functions-few q) c.requires.fits in
-    fit.bound
-
-pub tuples_true-next_tuple_in-requires-clause-after : goal.tuples_true-next_tuple_in-requires-clause-after
-tuples_true-next_tuple_in-requires-clause-after t c =
-    let q = c.args.task.now.problem in
-    let fit = tuples-fit (signature_of q.domain) c.args.reading.number c.args.stop c.args.vars.now c.args.bound.now (tree_of_formula c.args.part.now) (predicates-few q) (functions-few q) c.requires.fits in
-    c.loop-tuple.invariant.after
-
-pub tuples_true-counted_values-requires : goal.tuples_true-counted_values-requires
-tuples_true-counted_values-requires t c =
-    let q = c.args.task.now.problem in
-    let fit = tuples-fit (signature_of q.domain) c.args.reading.number c.args.stop c.args.vars.now c.args.bound.now (tree_of_formula c.args.part.now) (predicates-few q) (functions-few q) c.requires.fits in
-    omega (arith, fit.few, c.in-Some.ensures.len)
-
-pub tuples_true-put_in_scope-requires-clause-room : goal.tuples_true-put_in_scope-requires-clause-room
-tuples_true-put_in_scope-requires-clause-room t c =
-    let q = c.args.task.now.problem in
-    let fit = tuples-fit (signature_of q.domain) c.args.reading.number c.args.stop c.args.vars.now c.args.bound.now (tree_of_formula c.args.part.now) (predicates-few q) (functions-few q) c.requires.fits in
-    omega (arith, c.requires.room, c.loop-tuple.auto.frames)
-
-pub tuples_true-put_in_scope-requires-clause-slots : goal.tuples_true-put_in_scope-requires-clause-slots
-tuples_true-put_in_scope-requires-clause-slots t c =
-    let q = c.args.task.now.problem in
-    let fit = tuples-fit (signature_of q.domain) c.args.reading.number c.args.stop c.args.vars.now c.args.bound.now (tree_of_formula c.args.part.now) (predicates-few q) (functions-few q) c.requires.fits in
+    let fit = tuples-fit (signature_of q.domain) c.args.reading.number c.args.junction c.args.vars.now c.args.bound.now (tree_of_formula c.args.part.now) (predicates-few q) (functions-few q) c.requires.fits in
     fit.in_frame
 
-pub tuples_true-put_in_scope-requires-clause-same : goal.tuples_true-put_in_scope-requires-clause-same
-tuples_true-put_in_scope-requires-clause-same t c =
+pub tuples_true-put_next-requires-clause-few : goal.tuples_true-put_next-requires-clause-few
+tuples_true-put_next-requires-clause-few t c =
     let q = c.args.task.now.problem in
-    let fit = tuples-fit (signature_of q.domain) c.args.reading.number c.args.stop c.args.vars.now c.args.bound.now (tree_of_formula c.args.part.now) (predicates-few q) (functions-few q) c.requires.fits in
-    omega (arith, c.counted_values.ensures.count, c.in-Some.ensures.len)
+    let fit = tuples-fit (signature_of q.domain) c.args.reading.number c.args.junction c.args.vars.now c.args.bound.now (tree_of_formula c.args.part.now) (predicates-few q) (functions-few q) c.requires.fits in
+    fit.few
+
+pub tuples_true-put_next-requires-clause-differ : goal.tuples_true-put_next-requires-clause-differ
+tuples_true-put_next-requires-clause-differ t c =
+    let q = c.args.task.now.problem in
+    let fit = tuples-fit (signature_of q.domain) c.args.reading.number c.args.junction c.args.vars.now c.args.bound.now (tree_of_formula c.args.part.now) (predicates-few q) (functions-few q) c.requires.fits in
+    fit.differ
+
+pub tuples_true-put_next-requires-clause-occur : goal.tuples_true-put_next-requires-clause-occur
+tuples_true-put_next-requires-clause-occur t c =
+    let q = c.args.task.now.problem in
+    let fit = tuples-fit (signature_of q.domain) c.args.reading.number c.args.junction c.args.vars.now c.args.bound.now (tree_of_formula c.args.part.now) (predicates-few q) (functions-few q) c.requires.fits in
+    fit.occur
+
+pub tuples_true-put_next-requires-clause-fits : goal.tuples_true-put_next-requires-clause-fits
+tuples_true-put_next-requires-clause-fits t c =
+    let q = c.args.task.now.problem in
+    let fit = tuples-fit (signature_of q.domain) c.args.reading.number c.args.junction c.args.vars.now c.args.bound.now (tree_of_formula c.args.part.now) (predicates-few q) (functions-few q) c.requires.fits in
+    fit.bound
 
 pub tuples_true-truth_of-requires : goal.tuples_true-truth_of-requires
 tuples_true-truth_of-requires t c =
     let q = c.args.task.now.problem in
-    let fit = tuples-fit (signature_of q.domain) c.args.reading.number c.args.stop c.args.vars.now c.args.bound.now (tree_of_formula c.args.part.now) (predicates-few q) (functions-few q) c.requires.fits in
+    let fit = tuples-fit (signature_of q.domain) c.args.reading.number c.args.junction c.args.vars.now c.args.bound.now (tree_of_formula c.args.part.now) (predicates-few q) (functions-few q) c.requires.fits in
     let less = lighter (plain_problem c.args.task.now.problem) c.args.reading.number c.args.reading.level (formula_nodes (tree_of_formula c.args.part.now)) (1 + formula_nodes (tree_of_formula c.args.part.now)) (omega arith) in
-    (omega (arith, less, c.decreases), (fit.body, omega (arith, c.requires.room, c.loop-tuple.auto.frames, c.put_in_scope.auto.frames)))
+    (omega (arith, less, c.decreases), (fit.body, omega (arith, c.requires.room, c.loop-reading.auto.frames, c.put_next.auto.frames)))
 
-pub tuples_true-returns-then-truth-stop : goal.tuples_true-returns-then-truth-stop
-tuples_true-returns-then-truth-stop t c =
+pub tuples_true-returns-then-truth-stop-clause-truth : goal.tuples_true-returns-then-truth-stop-clause-truth
+tuples_true-returns-then-truth-stop-clause-truth t c =
     let q = c.args.task.now.problem in
-    let fit = tuples-fit (signature_of q.domain) c.args.reading.number c.args.stop c.args.vars.now c.args.bound.now (tree_of_formula c.args.part.now) (predicates-few q) (functions-few q) c.requires.fits in
-    let scope : assignment_in (take 32 c.put_in_scope.new.frames) ≡ bind c.args.vars.now (tuple_of c.in-Some.tuple) (assignment_in c.args.outer.now) =
-    c.put_in_scope.ensures ∙ (ap (λ (u : List Value). bind c.args.vars.now u (assignment_in (take 32 c.loop-tuple.frames))) c.counted_values.ensures.values ∙ c.loop-tuple.invariant.scope (tuple_of c.in-Some.tuple)) in
+    let fit = tuples-fit (signature_of q.domain) c.args.reading.number c.args.junction c.args.vars.now c.args.bound.now (tree_of_formula c.args.part.now) (predicates-few q) (functions-few q) c.requires.fits in
+    let put = placed (situation_of (plain_problem c.args.task.now.problem) c.args.w.now) c.args.vars.now c.args.bound.now (assignment_in (take 32 c.args.frames.now)) (assignment_in (take 32 c.loop-reading.frames)) c.loop-reading.invariant.scope c.loop-reading.begun (assignment_in (take 32 c.put_next.new.frames)) c.put_next.result c.put_next.ensures c.loop-reading-test.true in
     let r : Result Bool RangeNote = Ok c.in-Ok.truth in
-    tuples-stop (plain_problem c.args.task.now.problem) c.args.w.now c.args.reading.number c.args.reading.level (assignment_in c.args.outer.now) c.args.vars.now c.args.bound.now (tree_of_formula c.args.part.now) fit.differ fit.occur c.args.stop (option_map tuple_of c.loop-tuple.after) c.loop-tuple.invariant.passed (option_map tuple_of c.next_tuple_in.result) (tuple_of c.in-Some.tuple) c.next_tuple_in.ensures.next (ap (option_map tuple_of) c.in-Some.is) c.in-Ok.truth (subst (λ (x : Assignment). IsTruth (plain_problem c.args.task.now.problem) c.args.w.now c.args.reading.number c.args.reading.level x (tree_of_formula c.args.part.now) r) scope c.in-Ok.ensures.truth) (same-truth c.in-Ok.truth c.args.stop c.if-truth-stop.true)
+    tuples-stop (plain_problem c.args.task.now.problem) c.args.w.now c.args.reading.number c.args.reading.level (assignment_in (take 32 c.args.frames.now)) c.args.vars.now c.args.bound.now (tree_of_formula c.args.part.now) fit.differ fit.occur c.args.junction c.deciding_truth-stop.result c.deciding_truth-stop.ensures (tuple_before c.loop-reading.begun c.args.vars.now (assignment_in (take 32 c.loop-reading.frames))) c.loop-reading.invariant.passed (Some put.tuple) put.tuple put.next refl c.in-Ok.truth (subst (λ (x : Assignment). IsTruth (plain_problem c.args.task.now.problem) c.args.w.now c.args.reading.number c.args.reading.level x (tree_of_formula c.args.part.now) r) put.here c.in-Ok.ensures.truth) (same-truth c.in-Ok.truth c.deciding_truth-stop.result c.if-truth-stop.true)
 
-pub tuples_true-returns-in-Err : goal.tuples_true-returns-in-Err
-tuples_true-returns-in-Err t c =
+pub tuples_true-returns-then-truth-stop-clause-others : goal.tuples_true-returns-then-truth-stop-clause-others
+tuples_true-returns-then-truth-stop-clause-others t c =
     let q = c.args.task.now.problem in
-    let fit = tuples-fit (signature_of q.domain) c.args.reading.number c.args.stop c.args.vars.now c.args.bound.now (tree_of_formula c.args.part.now) (predicates-few q) (functions-few q) c.requires.fits in
-    let scope : assignment_in (take 32 c.put_in_scope.new.frames) ≡ bind c.args.vars.now (tuple_of c.in-Some.tuple) (assignment_in c.args.outer.now) =
-    c.put_in_scope.ensures ∙ (ap (λ (u : List Value). bind c.args.vars.now u (assignment_in (take 32 c.loop-tuple.frames))) c.counted_values.ensures.values ∙ c.loop-tuple.invariant.scope (tuple_of c.in-Some.tuple)) in
+    let fit = tuples-fit (signature_of q.domain) c.args.reading.number c.args.junction c.args.vars.now c.args.bound.now (tree_of_formula c.args.part.now) (predicates-few q) (functions-few q) c.requires.fits in
+    let put = placed (situation_of (plain_problem c.args.task.now.problem) c.args.w.now) c.args.vars.now c.args.bound.now (assignment_in (take 32 c.args.frames.now)) (assignment_in (take 32 c.loop-reading.frames)) c.loop-reading.invariant.scope c.loop-reading.begun (assignment_in (take 32 c.put_next.new.frames)) c.put_next.result c.put_next.ensures c.loop-reading-test.true in
+    λ u. bind-through c.args.vars.now u put.tuple (assignment_in (take 32 c.truth_of.new.frames)) (assignment_in (take 32 c.args.frames.now)) (ap assignment_in c.truth_of.ensures.frame ∙ put.here)
+
+pub tuples_true-returns-in-Err-clause-truth : goal.tuples_true-returns-in-Err-clause-truth
+tuples_true-returns-in-Err-clause-truth t c =
+    let q = c.args.task.now.problem in
+    let fit = tuples-fit (signature_of q.domain) c.args.reading.number c.args.junction c.args.vars.now c.args.bound.now (tree_of_formula c.args.part.now) (predicates-few q) (functions-few q) c.requires.fits in
+    let put = placed (situation_of (plain_problem c.args.task.now.problem) c.args.w.now) c.args.vars.now c.args.bound.now (assignment_in (take 32 c.args.frames.now)) (assignment_in (take 32 c.loop-reading.frames)) c.loop-reading.invariant.scope c.loop-reading.begun (assignment_in (take 32 c.put_next.new.frames)) c.put_next.result c.put_next.ensures c.loop-reading-test.true in
     let r : Result Bool RangeNote = Err c.in-Err.note in
-    tuples-noted (plain_problem c.args.task.now.problem) c.args.w.now c.args.reading.number c.args.reading.level (assignment_in c.args.outer.now) c.args.vars.now c.args.bound.now (tree_of_formula c.args.part.now) fit.differ fit.occur c.args.stop (option_map tuple_of c.loop-tuple.after) c.loop-tuple.invariant.passed (option_map tuple_of c.next_tuple_in.result) (tuple_of c.in-Some.tuple) c.next_tuple_in.ensures.next (ap (option_map tuple_of) c.in-Some.is) c.in-Err.note (subst (λ (x : Assignment). IsTruth (plain_problem c.args.task.now.problem) c.args.w.now c.args.reading.number c.args.reading.level x (tree_of_formula c.args.part.now) r) scope c.in-Err.ensures.truth)
+    tuples-noted (plain_problem c.args.task.now.problem) c.args.w.now c.args.reading.number c.args.reading.level (assignment_in (take 32 c.args.frames.now)) c.args.vars.now c.args.bound.now (tree_of_formula c.args.part.now) fit.differ fit.occur c.args.junction c.deciding_truth-stop.result c.deciding_truth-stop.ensures (tuple_before c.loop-reading.begun c.args.vars.now (assignment_in (take 32 c.loop-reading.frames))) c.loop-reading.invariant.passed (Some put.tuple) put.tuple put.next refl c.in-Err.note (subst (λ (x : Assignment). IsTruth (plain_problem c.args.task.now.problem) c.args.w.now c.args.reading.number c.args.reading.level x (tree_of_formula c.args.part.now) r) put.here c.in-Err.ensures.truth)
 
-pub tuples_true-loop-tuple-preserved : goal.tuples_true-loop-tuple-preserved
-tuples_true-loop-tuple-preserved t c =
+pub tuples_true-returns-in-Err-clause-others : goal.tuples_true-returns-in-Err-clause-others
+tuples_true-returns-in-Err-clause-others t c =
     let q = c.args.task.now.problem in
-    let fit = tuples-fit (signature_of q.domain) c.args.reading.number c.args.stop c.args.vars.now c.args.bound.now (tree_of_formula c.args.part.now) (predicates-few q) (functions-few q) c.requires.fits in
-    let scope : assignment_in (take 32 c.put_in_scope.new.frames) ≡ bind c.args.vars.now (tuple_of c.in-Some.tuple) (assignment_in c.args.outer.now) =
-    c.put_in_scope.ensures ∙ (ap (λ (u : List Value). bind c.args.vars.now u (assignment_in (take 32 c.loop-tuple.frames))) c.counted_values.ensures.values ∙ c.loop-tuple.invariant.scope (tuple_of c.in-Some.tuple)) in
+    let fit = tuples-fit (signature_of q.domain) c.args.reading.number c.args.junction c.args.vars.now c.args.bound.now (tree_of_formula c.args.part.now) (predicates-few q) (functions-few q) c.requires.fits in
+    let put = placed (situation_of (plain_problem c.args.task.now.problem) c.args.w.now) c.args.vars.now c.args.bound.now (assignment_in (take 32 c.args.frames.now)) (assignment_in (take 32 c.loop-reading.frames)) c.loop-reading.invariant.scope c.loop-reading.begun (assignment_in (take 32 c.put_next.new.frames)) c.put_next.result c.put_next.ensures c.loop-reading-test.true in
+    λ u. bind-through c.args.vars.now u put.tuple (assignment_in (take 32 c.truth_of.new.frames)) (assignment_in (take 32 c.args.frames.now)) (ap assignment_in c.truth_of.ensures.frame ∙ put.here)
+
+pub tuples_true-loop-reading-preserved : goal.tuples_true-loop-reading-preserved
+tuples_true-loop-reading-preserved t c =
+    let q = c.args.task.now.problem in
+    let fit = tuples-fit (signature_of q.domain) c.args.reading.number c.args.junction c.args.vars.now c.args.bound.now (tree_of_formula c.args.part.now) (predicates-few q) (functions-few q) c.requires.fits in
+    let put = placed (situation_of (plain_problem c.args.task.now.problem) c.args.w.now) c.args.vars.now c.args.bound.now (assignment_in (take 32 c.args.frames.now)) (assignment_in (take 32 c.loop-reading.frames)) c.loop-reading.invariant.scope c.loop-reading.begun (assignment_in (take 32 c.put_next.new.frames)) c.put_next.result c.put_next.ensures c.loop-reading-test.true in
+    let stands : tuple_in c.args.vars.now (assignment_in (take 32 c.truth_of.new.frames)) ≡ Some put.tuple = ap (tuple_in c.args.vars.now) (ap assignment_in c.truth_of.ensures.frame ∙ put.here) ∙ tuple-put c.args.vars.now put.tuple (assignment_in (take 32 c.args.frames.now)) fit.differ put.size in
     let r : Result Bool RangeNote = Ok c.in-Ok.truth in
     record {
-      scope = λ u. bind-through c.args.vars.now u (tuple_of c.in-Some.tuple) (assignment_in (take 32 c.truth_of.new.frames)) (assignment_in c.args.outer.now) (ap assignment_in c.truth_of.ensures.frame ∙ scope);
-      after = c.in-Some.ensures.len;
-      passed = tuples-on (plain_problem c.args.task.now.problem) c.args.w.now c.args.reading.number c.args.reading.level (assignment_in c.args.outer.now) c.args.vars.now c.args.bound.now (tree_of_formula c.args.part.now) fit.differ fit.occur c.args.stop (option_map tuple_of c.loop-tuple.after) c.loop-tuple.invariant.passed (option_map tuple_of c.next_tuple_in.result) (tuple_of c.in-Some.tuple) c.next_tuple_in.ensures.next (ap (option_map tuple_of) c.in-Some.is) c.in-Ok.truth (subst (λ (x : Assignment). IsTruth (plain_problem c.args.task.now.problem) c.args.w.now c.args.reading.number c.args.reading.level x (tree_of_formula c.args.part.now) r) scope c.in-Ok.ensures.truth) (other-truth c.in-Ok.truth c.args.stop c.if-truth-stop.false);
+      scope = λ u. bind-through c.args.vars.now u put.tuple (assignment_in (take 32 c.truth_of.new.frames)) (assignment_in (take 32 c.args.frames.now)) (ap assignment_in c.truth_of.ensures.frame ∙ put.here);
+      passed = subst (TuplesPassed (plain_problem c.args.task.now.problem) c.args.w.now c.args.reading.number c.args.reading.level (assignment_in (take 32 c.args.frames.now)) c.args.vars.now c.args.bound.now (tree_of_formula c.args.part.now) c.deciding_truth-stop.result) (sym stands)
+          (tuples-on (plain_problem c.args.task.now.problem) c.args.w.now c.args.reading.number c.args.reading.level (assignment_in (take 32 c.args.frames.now)) c.args.vars.now c.args.bound.now (tree_of_formula c.args.part.now) fit.differ fit.occur c.args.junction c.deciding_truth-stop.result c.deciding_truth-stop.ensures (tuple_before c.loop-reading.begun c.args.vars.now (assignment_in (take 32 c.loop-reading.frames))) c.loop-reading.invariant.passed (Some put.tuple) put.tuple put.next refl c.in-Ok.truth (subst (λ (x : Assignment). IsTruth (plain_problem c.args.task.now.problem) c.args.w.now c.args.reading.number c.args.reading.level x (tree_of_formula c.args.part.now) r) put.here c.in-Ok.ensures.truth) (other-truth c.in-Ok.truth c.deciding_truth-stop.result c.if-truth-stop.false));
     }
 
-pub tuples_true-loop-tuple-smaller : goal.tuples_true-loop-tuple-smaller
-tuples_true-loop-tuple-smaller t c =
+pub tuples_true-loop-reading-smaller : goal.tuples_true-loop-reading-smaller
+tuples_true-loop-reading-smaller t c =
     let q = c.args.task.now.problem in
-    let fit = tuples-fit (signature_of q.domain) c.args.reading.number c.args.stop c.args.vars.now c.args.bound.now (tree_of_formula c.args.part.now) (predicates-few q) (functions-few q) c.requires.fits in
-    fewer-left (plain_problem c.args.task.now.problem) c.args.w.now c.args.reading.number c.args.reading.level (assignment_in c.args.outer.now) c.args.vars.now c.args.bound.now (tree_of_formula c.args.part.now) fit.differ fit.occur c.args.stop (option_map tuple_of c.loop-tuple.after) c.loop-tuple.invariant.passed (option_map tuple_of c.next_tuple_in.result) (tuple_of c.in-Some.tuple) c.next_tuple_in.ensures.next (ap (option_map tuple_of) c.in-Some.is)
+    let fit = tuples-fit (signature_of q.domain) c.args.reading.number c.args.junction c.args.vars.now c.args.bound.now (tree_of_formula c.args.part.now) (predicates-few q) (functions-few q) c.requires.fits in
+    let put = placed (situation_of (plain_problem c.args.task.now.problem) c.args.w.now) c.args.vars.now c.args.bound.now (assignment_in (take 32 c.args.frames.now)) (assignment_in (take 32 c.loop-reading.frames)) c.loop-reading.invariant.scope c.loop-reading.begun (assignment_in (take 32 c.put_next.new.frames)) c.put_next.result c.put_next.ensures c.loop-reading-test.true in
+    let stands : tuple_in c.args.vars.now (assignment_in (take 32 c.truth_of.new.frames)) ≡ Some put.tuple = ap (tuple_in c.args.vars.now) (ap assignment_in c.truth_of.ensures.frame ∙ put.here) ∙ tuple-put c.args.vars.now put.tuple (assignment_in (take 32 c.args.frames.now)) fit.differ put.size in
+    let all = tuples_read (plain_problem c.args.task.now.problem) c.args.w.now c.args.reading.number c.args.reading.level (assignment_in (take 32 c.args.frames.now)) c.args.vars.now c.args.bound.now (tree_of_formula c.args.part.now) in
+    subst (λ (o : Option (List Value)). length (rest_after o all) < length (rest_after (tuple_before c.loop-reading.begun c.args.vars.now (assignment_in (take 32 c.loop-reading.frames))) all)) (sym stands)
+    (fewer-left (plain_problem c.args.task.now.problem) c.args.w.now c.args.reading.number c.args.reading.level (assignment_in (take 32 c.args.frames.now)) c.args.vars.now c.args.bound.now (tree_of_formula c.args.part.now) fit.differ fit.occur c.args.junction c.deciding_truth-stop.result c.deciding_truth-stop.ensures (tuple_before c.loop-reading.begun c.args.vars.now (assignment_in (take 32 c.loop-reading.frames))) c.loop-reading.invariant.passed (Some put.tuple) put.tuple put.next refl)
 
-pub tuples_true-returns : goal.tuples_true-returns
-tuples_true-returns t c =
+pub tuples_true-returns-clause-truth : goal.tuples_true-returns-clause-truth
+tuples_true-returns-clause-truth t c =
     let q = c.args.task.now.problem in
-    let fit = tuples-fit (signature_of q.domain) c.args.reading.number c.args.stop c.args.vars.now c.args.bound.now (tree_of_formula c.args.part.now) (predicates-few q) (functions-few q) c.requires.fits in
-    tuples-end (plain_problem c.args.task.now.problem) c.args.w.now c.args.reading.number c.args.reading.level (assignment_in c.args.outer.now) c.args.vars.now c.args.bound.now (tree_of_formula c.args.part.now) fit.differ fit.occur c.args.stop (option_map tuple_of c.loop-tuple.after) c.loop-tuple.invariant.passed (option_map tuple_of c.next_tuple_in.result) c.next_tuple_in.ensures.next (ap (option_map tuple_of) (none-left c.next_tuple_in.result c.in_default.not-Some))
+    let fit = tuples-fit (signature_of q.domain) c.args.reading.number c.args.junction c.args.vars.now c.args.bound.now (tree_of_formula c.args.part.now) (predicates-few q) (functions-few q) c.requires.fits in
+    let put = none-placed (situation_of (plain_problem c.args.task.now.problem) c.args.w.now) c.args.vars.now c.args.bound.now (assignment_in (take 32 c.args.frames.now)) (assignment_in (take 32 c.loop-reading.frames)) c.loop-reading.invariant.scope c.loop-reading.begun (assignment_in (take 32 c.put_next.new.frames)) c.put_next.result c.put_next.ensures c.loop-reading-test.false in
+    tuples-end (plain_problem c.args.task.now.problem) c.args.w.now c.args.reading.number c.args.reading.level (assignment_in (take 32 c.args.frames.now)) c.args.vars.now c.args.bound.now (tree_of_formula c.args.part.now) fit.differ fit.occur c.args.junction c.deciding_truth-stop.result c.deciding_truth-stop.ensures (tuple_before c.loop-reading.begun c.args.vars.now (assignment_in (take 32 c.loop-reading.frames))) c.loop-reading.invariant.passed None put.none refl
+
+pub tuples_true-returns-clause-others : goal.tuples_true-returns-clause-others
+tuples_true-returns-clause-others t c =
+    let q = c.args.task.now.problem in
+    let fit = tuples-fit (signature_of q.domain) c.args.reading.number c.args.junction c.args.vars.now c.args.bound.now (tree_of_formula c.args.part.now) (predicates-few q) (functions-few q) c.requires.fits in
+    let put = none-placed (situation_of (plain_problem c.args.task.now.problem) c.args.w.now) c.args.vars.now c.args.bound.now (assignment_in (take 32 c.args.frames.now)) (assignment_in (take 32 c.loop-reading.frames)) c.loop-reading.invariant.scope c.loop-reading.begun (assignment_in (take 32 c.put_next.new.frames)) c.put_next.result c.put_next.ensures c.loop-reading-test.false in
+    λ u. ap (bind c.args.vars.now u) put.here ∙ c.loop-reading.invariant.scope u

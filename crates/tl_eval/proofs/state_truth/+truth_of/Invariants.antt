@@ -1,6 +1,6 @@
-use Rattle.std.proofs.Common.{◌≡◌, ◌+◌, List, drop, take, length, IfSome}
-use Rattle.std.specs.Option.{option_map}
+use Rattle.std.proofs.Common.{◌≡◌, ◌+◌, List, drop, take, length}
 use Rattle.tl_eval.specs.Frames.{assignment_in}
+use Rattle.tl_eval.specs.PutNext.{tuple_before}
 use Rattle.tl_eval.proofs.FormulaSizes.{formula_nodes, formulas_nodes, weight}
 use Rattle.tl_eval.proofs.StateLaws.{PartsPassed, TuplesPassed, tuples_read}
 use Rattle.tl_eval.proofs.TupleRest.{rest_after}
@@ -8,7 +8,6 @@ use Rattle.tl_syntax.specs.declared.value.Value.{Value}
 use Rattle.tl_syntax.specs.Assignment.{bind}
 use Rattle.tl_syntax.specs.TreeOfFormula.{tree_of_formula, tree_of_formulas}
 use Rattle.tl_terms.specs.ProblemMeaning.{plain_problem}
-use Rattle.tl_world.specs.Patterns.{tuple_of}
 use Rattle.tl_eval.proofs.state_truth.+truth_of.Given as goal
 
 abbrev pub decreases-truth_of : goal.decreases-truth_of
@@ -35,12 +34,11 @@ decreases-quantified_true l = weight (plain_problem l.task.now.problem) l.readin
 abbrev pub decreases-tuples_true : goal.decreases-tuples_true
 decreases-tuples_true l = weight (plain_problem l.task.now.problem) l.reading.number l.reading.level (1 + formula_nodes (tree_of_formula l.part.now))
 
-abbrev pub decreases-tuples_true-loop-tuple : goal.decreases-tuples_true-loop-tuple
-decreases-tuples_true-loop-tuple l = length (rest_after (option_map tuple_of l.after) (tuples_read (plain_problem l.task.problem) l.w l.reading.number l.reading.level (assignment_in l.outer) l.vars l.bound (tree_of_formula l.part)))
+abbrev pub decreases-tuples_true-loop-reading : goal.decreases-tuples_true-loop-reading
+decreases-tuples_true-loop-reading l = length (rest_after (tuple_before l.begun l.vars (assignment_in (take 32 l.frames))) (tuples_read (plain_problem l.task.problem) l.w l.reading.number l.reading.level (assignment_in (take 32 l.fn.frames)) l.vars l.bound (tree_of_formula l.part)))
 
-abbrev pub invariant-tuples_true-loop-tuple : goal.invariant-tuples_true-loop-tuple
-invariant-tuples_true-loop-tuple l = record {
-  scope : (t : List Value) → bind l.vars t (assignment_in (take 32 l.frames)) ≡ bind l.vars t (assignment_in l.outer);
-  after : IfSome l.after (λ m. m.len ≡ length l.vars);
-  passed : TuplesPassed (plain_problem l.task.problem) l.w l.reading.number l.reading.level (assignment_in l.outer) l.vars l.bound (tree_of_formula l.part) l.stop (option_map tuple_of l.after);
+abbrev pub invariant-tuples_true-loop-reading : goal.invariant-tuples_true-loop-reading
+invariant-tuples_true-loop-reading l = record {
+  scope : (t : List Value) → bind l.vars t (assignment_in (take 32 l.frames)) ≡ bind l.vars t (assignment_in (take 32 l.fn.frames));
+  passed : TuplesPassed (plain_problem l.task.problem) l.w l.reading.number l.reading.level (assignment_in (take 32 l.fn.frames)) l.vars l.bound (tree_of_formula l.part) l.stop (tuple_before l.begun l.vars (assignment_in (take 32 l.frames)));
 }

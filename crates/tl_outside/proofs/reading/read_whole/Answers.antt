@@ -1,4 +1,4 @@
-use Rattle.std.proofs.Common.{◌≡◌, ◌≤◌, ◌+◌, ◌++◌, length, take, arith, length-append, ◌∙◌, sym, ap}
+use Rattle.std.proofs.Common.{rules, ◌≡◌, ◌≤◌, ◌+◌, ◌++◌, length, take, arith, length-append, ◌∙◌, sym, ap}
 use Rattle.tl_outside.proofs.Front.{front_more, length_take_le}
 use Rattle.tl_outside.proofs.reading.read_whole.Goals as goal
 
@@ -21,3 +21,12 @@ takes-preserved g c =
       begun = omega (arith, t.begun, i.begun);
       later = omega (arith, t.cause.later);
     }
+
+pub takes-init : goal.takes-init
+takes-init g c = search rules
+
+pub returns-clause-too_long : goal.returns-clause-too_long
+returns-clause-too_long g c = search rules
+
+pub returns-clause-failed : goal.returns-clause-failed
+returns-clause-failed g c = search rules

@@ -5,7 +5,7 @@ use Rattle.tl_check.proofs.labels.Labels.join.Given as goal
 
 abbrev pub invariant-loop-i : goal.invariant-loop-i
 invariant-loop-i l = record {
-  back : Back (λ k. joined_labels l.stop (drop k l.initial.self-inside.truths.items) (drop k l.other)) l.i l.self-inside.truths.items l.initial.self-inside.truths.items;
+  back : Back (λ k. joined_labels l.junction (drop k l.initial.self-inside.truths.items) (drop k l.other)) l.i l.self-inside.truths.items l.initial.self-inside.truths.items;
 }
 
 abbrev pub decreases-loop-i : goal.decreases-loop-i

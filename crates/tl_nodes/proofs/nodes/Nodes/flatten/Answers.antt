@@ -10,7 +10,7 @@ use Rattle.tl_nodes.proofs.nodes.Nodes.flatten.Goals as goal
 
 pub loop-id-init : goal.loop-id-init
 loop-id-init c =
-    begun-walk (trees c.args.self.now) c.args.all c.args.parts.now _ _ _ _ c.requires c.new-todo.ensures.items c.in_ok-push_turned.ensures c.new-opened.ensures.empty c.new-flat.ensures.items
+    begun-walk (trees c.args.self.now) c.args.junction c.args.parts.now _ _ _ _ c.requires c.new-todo.ensures.items c.in_ok-push_turned.ensures c.new-opened.ensures.empty c.new-flat.ensures.items
 
 pub nested-requires : goal.nested-requires
 nested-requires c = top-inside _ _ _ _ _ _ c.in-Some.ensures.items _ _ c.loop-id.invariant
@@ -23,7 +23,7 @@ loop-id-smaller-in-Continue-branch-3 c =
 pub loop-id-preserved-in-Continue-branch-3 : goal.loop-id-preserved-in-Continue-branch-3
 loop-id-preserved-in-Continue-branch-3 c =
     let a = c.in_ok-insert-in-Some-nested.ensures in
-    opened-walk _ _ _ _ _ c.in-Some.id c.in-Some.ensures.items _ _ c.loop-id.invariant _ _ a.keys a.added _ _ c.if-branch.true (c.in-Some-nested.ensures.parts ∙ ap (leaves (trees c.args.self.now) c.args.all) (sym c.as_slice.ensures))
+    opened-walk _ _ _ _ _ c.in-Some.id c.in-Some.ensures.items _ _ c.loop-id.invariant _ _ a.keys a.added _ _ c.if-branch.true (c.in-Some-nested.ensures.parts ∙ ap (leaves (trees c.args.self.now) c.args.junction) (sym c.as_slice.ensures))
     (subst (λ is. all_below c.in-Some.id is ≡ true) (sym c.as_slice.ensures) c.in-Some-nested.ensures.below) c.in_ok-push_turned-in-Some-nested.ensures
 
 pub loop-id-preserved-else-branch : goal.loop-id-preserved-else-branch

@@ -1,11 +1,14 @@
-use Rattle.std.proofs.Common.{[], ap₂, ap, ◌∙◌}
-use Rattle.tl_terms.specs.ProblemMeaning.{world_of, plain_problem}
+use Rattle.std.proofs.Common.{length, sym, subst}
+use Rattle.tl_terms.specs.NamedWorlds.{WorldIsNamed}
 use Rattle.tl_world.proofs.task.Task.of.Goals as goal
+use Rattle.tl_terms.proofs.NamedWorlds.{first-named, goal-named, avoid-named}
 
 pub invariant_of-result : goal.invariant_of-result
-unfolding plain_problem
 invariant_of-result c = record {
-  first_is = c.in_ok-first.ensures.same ∙ ap₂ world_of c.as_slice.ensures c.as_slice-2.ensures;
-  goal_is = c.in_ok-goal.ensures.same ∙ ap₂ world_of c.as_slice-3.ensures c.as_slice-4.ensures;
-  avoid_is = c.in_ok-avoid.ensures.same ∙ ap (λ fs. world_of fs []) c.as_slice-5.ensures;
+  first_is = c.in_ok-worlds.ensures.first;
+  goal_is = c.in_ok-worlds.ensures.goal;
+  avoid_is = c.in_ok-worlds.ensures.avoid;
+  first_named = subst (WorldIsNamed (length c.args.problem.names)) (sym c.in_ok-worlds.ensures.first) (first-named c.args.problem);
+  goal_named = subst (WorldIsNamed (length c.args.problem.names)) (sym c.in_ok-worlds.ensures.goal) (goal-named c.args.problem);
+  avoid_named = subst (WorldIsNamed (length c.args.problem.names)) (sym c.in_ok-worlds.ensures.avoid) (avoid-named c.args.problem);
 }

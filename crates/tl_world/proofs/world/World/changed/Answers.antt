@@ -13,6 +13,7 @@ use Rattle.tl_syntax.specs.declared.place_value.PlaceValue.{PlaceValue}
 use Rattle.tl_world.specs.Plain.{PlainRows}
 use Rattle.tl_world.specs.Tables.{InOrder, plain_of, fact_row, place_row, fact_tables, place_tables, set_of, map_of}
 use Rattle.tl_syntax.specs.Keys.{fact_key, place_entry}
+use Rattle.tl_terms.proofs.NamedWorlds.{keys-named, entries-named, world-changed}
 use Rattle.tl_world.proofs.world.World.changed.Goals as goal
 
 -- shared tables stand for the same
@@ -67,3 +68,8 @@ returns-clause-places c =
     places_done _ _ _ c.args.sets.now c.loop-k.k (omega arith)
     (ap map_of (same-places _ _ _ c.in_ok-places.ensures.same c.as_slice-2.ensures.value) ∙ ap (λ (w : World). w.places) c.self.view_is)
     c.loop-k.invariant.now
+
+pub returns-clause-named : goal.returns-clause-named
+returns-clause-named c = λ n h a s.
+    world-changed n _ _ (map fact_key c.args.dels.now) (map fact_key c.args.adds.now) (map place_entry c.args.sets.now) (returns-clause-facts c) (returns-clause-places c) h
+    (keys-named n c.args.adds.now a) (entries-named n c.args.sets.now s)

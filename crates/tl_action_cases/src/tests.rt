@@ -1,4 +1,0 @@
-// Worked cases of actions.
-
-mod actions;
-mod steps;

@@ -1,0 +1,7 @@
+pub mod PathOrder
+pub mod Searched
+pub mod BreadthFirst
+pub mod Outcomes
+pub mod Events
+pub mod Reports
+pub mod Laws

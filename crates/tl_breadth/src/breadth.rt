@@ -1,0 +1,54 @@
+// Breadth-first search as its callers see it.
+ghost use Rattle.std.specs.Prelude.{◌≡◌, ◌≤◌, [], IfOk, IfErr};
+ghost use Rattle.tl_search.specs.NamedAnswers.{FaultIsNamed};
+ghost use Rattle.tl_search.specs.Reports.{BeginsRightly, PrunesRightly, ReportIsNamed, AnswersWhereCalm};
+ghost use Rattle.tl_breadth.specs.Events.{IsTicked};
+ghost use Rattle.tl_breadth.specs.Outcomes.{IsBreadthFirstFault};
+ghost use Rattle.tl_breadth.specs.Reports.{IsBreadthFirstReport, ReportsArrivals, EndsRightly};
+
+use crate::levels::BreadthFirst;
+use std::alloc::Global;
+use std::sync::ledger::Ledger;
+use tl_search::{Events, Pairs, Report, SearchFault};
+use tl_terms::Steps;
+
+/// Breadth-first search for a plan of at most `within` actions, among at most `nodes` pairs (Bacchus and Kabanza 2000).
+/// Pairs are tried in the order in which they were kept, and the actions of a pair in action order, so paths are met by their lengths and then by their actions (shortlex). The answer is the first accepted plan in this order, or that there is none, or none within the bound; `Spent` comes with the pair that is one too many. Where `watch` is true the report has an event for each arrival.
+/// It fails for want of memory, and at an operation past the 64 bits of an integer, with the path to it. Each action of a pair is tried once.
+pub fn search<S: Pairs, L: Ledger>(
+    alloc: Global,
+    space: &mut S,
+    within: u32,
+    nodes: u32,
+    watch: bool,
+    steps: &mut Steps<L>,
+) -> Result<Report, SearchFault>
+    requires empty { S.kept space.old ≡ [] }
+    requires within { within ≤ 100000 }
+    requires some_nodes { 1 ≤ nodes }
+    requires nodes { nodes ≤ 100000 }
+    ensures task { S.task space.new ≡ S.task space.old }
+    ensures problem { S.problem space.new ≡ S.problem space.old }
+    ensures outcome { IfOk result (IsBreadthFirstReport (S.problem space.old) within nodes (S.kept space.new)) }
+    ensures reported { IfOk result (ReportsArrivals (S.problem space.old) within watch steps.old (S.kept space.new) steps.new) }
+    ensures steps { IsTicked (S.problem space.old) within steps.old (S.kept space.new) steps.new }
+    ensures first { IfOk result (BeginsRightly (S.problem space.old) watch) }
+    ensures pruned { IfOk result (PrunesRightly (S.problem space.old) watch (S.kept space.new)) }
+    ensures calm { AnswersWhereCalm (S.problem space.old) within nodes result }
+    ensures ends { IfOk result (EndsRightly watch (S.kept space.new)) }
+    ensures fault { IfErr result (IsBreadthFirstFault (S.problem space.old) within) }
+    ensures named { IfOk result (ReportIsNamed (S.task space.old)) }
+    ensures path_named { IfErr result (FaultIsNamed (S.task space.old)) }
+{
+    let search = BreadthFirst {
+        alloc,
+        within,
+        nodes: nodes as usize,
+        watch,
+    };
+    let mut events = Events::new(alloc);
+    match search.outcome(space, &mut events, steps) {
+        Ok(outcome) => Ok(Report { outcome, events }),
+        Err(fault) => Err(fault),
+    }
+}

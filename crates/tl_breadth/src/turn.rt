@@ -1,0 +1,138 @@
+// What a search does with the pair whose turn it is.
+ghost use Rattle.std.specs.Prelude.{◌≡◌, ◌≤◌, ◌+◌, List, [], length, slice_get, Some, IfOk, IfErr, OnOk, OnErr};
+ghost use Rattle.tl_search.specs.KeptPairs.{KeptPair};
+ghost use Rattle.tl_search.specs.NamedAnswers.{IsNamedIn, EndIsNamed, FaultIsNamed, EventsAreNamed};
+ghost use Rattle.tl_breadth.specs.BreadthFirst.{NoneAccepted};
+ghost use Rattle.tl_breadth.specs.Events.{TicksArrival, Ticks, ReportsArrival, ReportsTurn, EndsAtLast, EndsWithPathIfAny};
+ghost use Rattle.tl_breadth.specs.Outcomes.{IsBreadthFirstFault, IsSearching, AwaitsJudgement, HasTurn, IsTriedThen, GrowsBy, IsReady, Leaves, EndsEarly};
+
+use crate::levels::BreadthFirst;
+use std::sync::ledger::Ledger;
+use tl_search::{Arrival, Events, Outcome, Pairs, SearchFault, SpaceFault, report_arrival};
+use tl_terms::{Action, Steps};
+
+impl BreadthFirst {
+    /// All actions of the pair whose turn it is are tried.
+    pub fn expand<S: Pairs, L: Ledger>(
+        &self,
+        space: &mut S,
+        at: usize,
+        events: &mut Events,
+        steps: &mut Steps<L>,
+    ) -> Result<Option<Outcome>, SearchFault>
+        requires ready { IsReady (S.problem space.old) self.now.within self.now.nodes (S.kept space.old) at }
+        requires events { EventsAreNamed (S.task space.old) events.old }
+        ensures task { S.task space.new ≡ S.task space.old }
+        ensures problem { S.problem space.new ≡ S.problem space.old }
+        ensures outcome { IfOk result (Leaves (S.problem space.old) self.now.within self.now.nodes (S.kept space.new) (IsSearching (S.problem space.old) self.now.within self.now.nodes (S.kept space.new) (at + 1) [])) }
+        ensures grows { OnOk result ((pair : KeptPair) → slice_get (S.kept space.old) at ≡ Some pair → GrowsBy (length pair.path + 1) (S.kept space.old) (S.kept space.new)) }
+        ensures reported { IfOk result (ReportsTurn (S.problem space.old) self.now.within self.now.watch (S.kept space.old) (S.kept space.new) at (at + 1) events.old events.new steps.old steps.new) }
+        ensures ticked { OnErr result (Ticks (S.problem space.old) self.now.within self.now.watch (S.kept space.old) (S.kept space.new) at events.old steps.old steps.new) }
+        ensures early { IfOk result EndsEarly }
+        ensures ends { IfOk result (EndsWithPathIfAny self.now.watch (S.kept space.new) events.new) }
+        ensures fault { IfErr result (IsBreadthFirstFault (S.problem space.old) self.now.within) }
+        ensures plan_named { IfOk result (EndIsNamed (S.task space.old)) }
+        ensures path_named { IfErr result (FaultIsNamed (S.task space.old)) }
+        ensures events_named { OnOk result (EventsAreNamed (S.task space.old) events.new) }
+    {
+        let actions = match space.actions(at) {
+            Ok(actions) => actions,
+            Err(SpaceFault::RangeHere(note)) => {
+                let path = space.path(self.alloc, at)?;
+                return Err(SearchFault::Range { path, note });
+            }
+            Err(SpaceFault::RangeAfter(_)) => unreachable!(),
+            Err(SpaceFault::NoMemory) => return Err(SearchFault::NoMemory),
+        };
+        for a in actions.as_slice() {
+            match self.arrive(space, at, a, events, steps)? {
+                Some(outcome) => return Ok(Some(outcome)),
+                None => {}
+            }
+        }
+        Ok(None)
+    }
+
+    /// The pair after an action of the pair whose turn it is arrives.
+    fn arrive<S: Pairs, L: Ledger>(
+        &self,
+        space: &mut S,
+        at: usize,
+        a: &Action,
+        events: &mut Events,
+        steps: &mut Steps<L>,
+    ) -> Result<Option<Outcome>, SearchFault>
+        requires turn { HasTurn (S.problem space.old) self.now.within self.now.nodes (S.kept space.old) at a.now }
+        requires named { IsNamedIn (S.task space.old) a.now }
+        requires events { EventsAreNamed (S.task space.old) events.old }
+        ensures task { S.task space.new ≡ S.task space.old }
+        ensures problem { S.problem space.new ≡ S.problem space.old }
+        ensures outcome { IfOk result (Leaves (S.problem space.old) self.now.within self.now.nodes (S.kept space.new) (IsTriedThen (S.problem space.old) self.now.within self.now.nodes (S.kept space.old) (S.kept space.new) at a.now)) }
+        ensures grows { OnOk result ((pair : KeptPair) → slice_get (S.kept space.old) at ≡ Some pair → GrowsBy (length pair.path + 1) (S.kept space.old) (S.kept space.new)) }
+        ensures reported { OnOk result (ReportsArrival (S.problem space.old) self.now.within self.now.watch (S.kept space.old) (S.kept space.new) at a.now events.old events.new steps.old steps.new) }
+        ensures ticked { OnErr result (TicksArrival (S.problem space.old) self.now.within self.now.watch (S.kept space.old) (S.kept space.new) at a.now events.old steps.old steps.new) }
+        ensures early { IfOk result EndsEarly }
+        ensures ends { IfOk result (EndsWithPathIfAny self.now.watch (S.kept space.new) events.new) }
+        ensures fault { IfErr result (IsBreadthFirstFault (S.problem space.old) self.now.within) }
+        ensures plan_named { IfOk result (EndIsNamed (S.task space.old)) }
+        ensures path_named { IfErr result (FaultIsNamed (S.task space.old)) }
+        ensures events_named { OnOk result (EventsAreNamed (S.task space.old) events.new) }
+    {
+        match space.child(at, a, steps) {
+            Ok(Arrival::Fresh(k)) => {
+                report_arrival(self.alloc, events, self.watch, at, a, Arrival::Fresh(k))?;
+                self.judged(space, k)
+            }
+            Ok(Arrival::Seen(k)) => {
+                report_arrival(self.alloc, events, self.watch, at, a, Arrival::Seen(k))?;
+                Ok(None)
+            }
+            Ok(Arrival::Pruned) => {
+                report_arrival(self.alloc, events, self.watch, at, a, Arrival::Pruned)?;
+                Ok(None)
+            }
+            Err(SpaceFault::RangeHere(note)) => {
+                let path = space.path(self.alloc, at)?;
+                Err(SearchFault::Range { path, note })
+            }
+            Err(SpaceFault::RangeAfter(note)) => {
+                let mut path = space.path(self.alloc, at)?;
+                let action = a.copy(self.alloc)?;
+                path.push(action)?;
+                Err(SearchFault::Range { path, note })
+            }
+            Err(SpaceFault::NoMemory) => Err(SearchFault::NoMemory),
+        }
+    }
+
+    /// The last pair that was kept ends the search where there are too many or where it is accepted.
+    pub fn judged<S: Pairs>(&self, space: &mut S, k: usize) -> Result<Option<Outcome>, SearchFault>
+        requires { AwaitsJudgement (S.problem space.old) self.now.within self.now.nodes (S.kept space.old) k }
+        ensures task { S.task space.new ≡ S.task space.old }
+        ensures problem { S.problem space.new ≡ S.problem space.old }
+        ensures kept { S.kept space.new ≡ S.kept space.old }
+        ensures outcome { IfOk result (Leaves (S.problem space.old) self.now.within self.now.nodes (S.kept space.old) (NoneAccepted (S.problem space.old) (S.kept space.old) (k + 1) × (k + 1 ≤ self.now.nodes))) }
+        ensures early { IfOk result EndsEarly }
+        ensures last { IfOk result (EndsAtLast (S.kept space.old)) }
+        ensures fault { IfErr result (IsBreadthFirstFault (S.problem space.old) self.now.within) }
+        ensures plan_named { IfOk result (EndIsNamed (S.task space.old)) }
+        ensures path_named { IfErr result (FaultIsNamed (S.task space.old)) }
+    {
+        if k == self.nodes {
+            return Ok(Some(Outcome::Spent));
+        }
+        match space.accepted(k) {
+            Ok(true) => {
+                let plan = space.path(self.alloc, k)?;
+                Ok(Some(Outcome::Plan(plan)))
+            }
+            Ok(false) => Ok(None),
+            Err(SpaceFault::RangeHere(note)) => {
+                let path = space.path(self.alloc, k)?;
+                Err(SearchFault::Range { path, note })
+            }
+            Err(SpaceFault::RangeAfter(_)) => unreachable!(),
+            Err(SpaceFault::NoMemory) => Err(SearchFault::NoMemory),
+        }
+    }
+}

@@ -1,0 +1,12 @@
+// Whole runs, over files in memory. The first line of a table says what its rows stand for.
+
+mod devices;
+mod gripper;
+mod lamps;
+mod levels;
+mod limits;
+mod refusals;
+mod run;
+mod spans;
+mod verdicts;
+mod words;

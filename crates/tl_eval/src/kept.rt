@@ -1,0 +1,46 @@
+// The values of a quantifier's own slots, kept while its tuples stand there.
+ghost use Rattle.std.specs.Prelude.{◌≡◌, ◌≤◌, ◌<◌, length, map, take};
+ghost use Rattle.tl_eval.specs.Frames.{assignment_in, given_back};
+ghost use Rattle.tl_syntax.specs.Lists.{Each};
+
+use crate::env::SLOTS;
+use crate::scope::current;
+use crate::term_value::value_in;
+use tl_syntax::{Value, Var};
+
+/// What the slots of the variables have in the first frame, in the variables' order, before others that do not count. It takes no memory.
+pub(crate) fn kept(frames: &[Option<Value>], vars: &[Var]) -> [Option<Value>; 9]
+    requires room { 32 ≤ length frames.now }
+    requires few { length vars.now ≤ 9 }
+    ensures { take (length vars.now) result ≡ map (λ s. assignment_in (take 32 frames.now) s.slot) vars.now }
+{
+    let frame = current(frames);
+    let mut values = [None; 9];
+    for (i, var) in vars.iter().enumerate() {
+        values[i] = value_in(frame, var.slot);
+    }
+    values
+}
+
+/// Gives the slots of the variables these values in a frame, in the variables' order. It takes no memory.
+fn give_values(frame: &mut [Option<Value>], vars: &[Var], values: &[Option<Value>; 9])
+    requires slots { Each (λ s. s.slot < length frame.old) vars.now }
+    requires few { length vars.now ≤ 9 }
+    ensures { assignment_in frame.new ≡ given_back vars.now values.now (assignment_in frame.old) }
+{
+    let mut i = vars.len();
+    while i > 0 {
+        i -= 1;
+        frame[vars[i].slot as usize] = values[i];
+    }
+}
+
+/// Gives the slots of the variables these values in the first frame, in the variables' order. It takes no memory.
+pub(crate) fn give_back(frames: &mut [Option<Value>], vars: &[Var], values: &[Option<Value>; 9])
+    requires room { 32 ≤ length frames.old }
+    requires slots { Each (λ s. s.slot < 32) vars.now }
+    requires few { length vars.now ≤ 9 }
+    ensures { assignment_in (take 32 frames.new) ≡ given_back vars.now values.now (assignment_in (take 32 frames.old)) }
+{
+    give_values(&mut frames[..SLOTS], vars, values);
+}

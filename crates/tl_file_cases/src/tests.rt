@@ -1,4 +1,0 @@
-// Worked cases of the rules of files.
-
-mod refusals;
-mod rows;

@@ -1,0 +1,82 @@
+-- Laws of the right answers of `check`.
+use Rattle.std.proofs.Common.{◌≡◌, inl, inr, ℕ, List, refl, sym, ap, ◌∙◌, subst}
+use Rattle.std.specs.Prelude.{Option}
+use Rattle.tl_check.specs.LawsVerdict.{OneVerdict}
+use Rattle.tl_check.specs.Verdicts.{IsVerdict, IsCause}
+use Rattle.tl_check.specs.declared.fault.CheckFault.TheVariants as fault
+use Rattle.tl_check.specs.declared.verdict.Verdict.{Verdict}
+use Rattle.tl_check.specs.declared.verdict.Verdict.TheVariants.{Valid, NotExecutable, GoalUnmet, Disobeys}
+use Rattle.tl_eval.specs.declared.range.RangeNote.{RangeNote}
+use Rattle.tl_outside.specs.Told.{Files}
+use Rattle.tl_syntax.specs.declared.action.Action.{Action}
+use Rattle.tl_syntax.specs.declared.problem.Problem.{Problem}
+use Rattle.tl_terms.specs.Problem.{PlainProblem}
+use Rattle.tl_terms.specs.ProblemMeaning.{plain_problem}
+use Rattle.tl_text.specs.Verdicts.{verdict_text}
+use Rattle.tl_run.specs.declared.status.Status.TheVariants.{Yes}
+use Rattle.tl_run.specs.Answers.{Answer, past_range, judged, IsRight, status_of, text_of, verdict_status}
+use Rattle.tl_run.specs.Check.{SaysAccepted}
+use Rattle.tl_run.specs.Commands.{check}
+use Rattle.tl_run.specs.Inputs.{Input, a_plan}
+use Rattle.tl_run.specs.Promises.{IsCalmStatus, Yields}
+use Rattle.tl_run.specs.Turns.{HoldInput}
+use Rattle.tl_run.proofs.Agreement.{Agrees}
+use Rattle.tl_run.proofs.OneProblem.{SameProblem}
+use Rattle.tl_run.proofs.SameInputs.{SameInput}
+
+-- of the plan of one problem, one verdict is right
+one_verdict : OneVerdict → (p q : Problem) (plan other : List Action) (v w : Verdict) → SameProblem p q → plan ≡ other → IsVerdict (plain_problem p) plan v → IsVerdict (plain_problem q) other w → w ≡ v
+one_verdict law p q plan other v w same e h k =
+    sym (law (plain_problem q) other v w (subst (λ (x : PlainProblem). IsVerdict x other v) same.meaning (subst (λ (x : List Action). IsVerdict (plain_problem p) x v) e h)) k)
+
+yields_to_verdict : (after : ℕ) (note : RangeNote) (path : List Action) (v : Verdict) → Yields (past_range after note path) (verdict_status v)
+yields_to_verdict after note path Valid = tt
+yields_to_verdict after note path (NotExecutable n) = tt
+yields_to_verdict after note path GoalUnmet = tt
+yields_to_verdict after note path Disobeys = tt
+
+judged_agrees : OneVerdict → (d p q : List ℕ) (m : Problem) (plan : List Action) (v : Verdict) (y : Input) (b : Answer) → SameInput (a_plan m plan) y → IsVerdict (plain_problem m) plan v → IsRight (check d p q) y b → Agrees (a_plan m plan) (judged v) (status_of b) (text_of y b)
+judged_agrees law d p q m plan v (a_plan n other) (judged w) same h k =
+    let e = one_verdict law m n plan other v w same.0 same.1 h k in
+    inl (ap verdict_status e, ap verdict_text e)
+judged_agrees law d p q m plan v (a_plan n other) (past_range after note path) same h k = inr tt
+judged_agrees law d p q m plan v y b same h k = absurd k
+
+past_range_agrees : (d p q : List ℕ) (x y : Input) (after : ℕ) (note : RangeNote) (path : List Action) (b : Answer) → IsRight (check d p q) y b → Agrees x (past_range after note path) (status_of b) (text_of y b)
+past_range_agrees d p q x (a_plan n other) after note path (judged w) k = inr (yields_to_verdict after note path w)
+past_range_agrees d p q x (a_plan n other) after note path (past_range since told route) k = inr tt
+past_range_agrees d p q x y after note path b k = absurd k
+
+-- of two right answers over the same input each agrees with the other
+pub check_agrees : OneVerdict → (d p q : List ℕ) (x y : Input) (a b : Answer) → SameInput x y → IsRight (check d p q) x a → IsRight (check d p q) y b → Agrees x a (status_of b) (text_of y b)
+check_agrees law d p q (a_plan m plan) y (judged v) b same h k = judged_agrees law d p q m plan v y b same h k
+check_agrees law d p q (a_plan m plan) y (past_range after note path) b same h k = past_range_agrees d p q (a_plan m plan) y after note path b k
+check_agrees law d p q x y a b same h k = absurd h
+
+accepts : (v : Verdict) → verdict_status v ≡ Yes → v ≡ Valid
+accepts Valid e = refl
+accepts (NotExecutable n) e = absurd (let k : ⊥ = cc in k)
+accepts GoalUnmet e = absurd (let k : ⊥ = cc in k)
+accepts Disobeys e = absurd (let k : ⊥ = cc in k)
+
+-- a right answer with the status Yes says that the plan is accepted
+pub check_accepts : (files : Option Files) (d p q : List ℕ) (x : Input) (a : Answer) (text : List ℕ) → HoldInput files (check d p q) x → IsRight (check d p q) x a → status_of a ≡ Yes → text ≡ text_of x a → SaysAccepted files (check d p q) text
+check_accepts files d p q (a_plan problem plan) (judged v) text stand right affirms line =
+    let valid = accepts v affirms in
+    record { problem = problem; plan = plan; stand = stand; accepted = subst (λ (w : Verdict). IsVerdict (plain_problem problem) plan w) valid right; line = line ∙ ap verdict_text valid }
+check_accepts files d p q (a_plan problem plan) (past_range after note path) text stand right affirms line = absurd (let k : ⊥ = cc in k)
+check_accepts files d p q x a text stand right affirms line = absurd right
+
+verdict_is_calm : (v : Verdict) → IsCalmStatus (verdict_status v)
+verdict_is_calm Valid = tt
+verdict_is_calm (NotExecutable n) = tt
+verdict_is_calm GoalUnmet = tt
+verdict_is_calm Disobeys = tt
+
+-- where nothing past range is looked at, no right answer has the status Range
+pub check_calm : (d p q : List ℕ) (problem : Problem) (plan : List Action) (x : Input) (a : Answer) → SameInput (a_plan problem plan) x → ((after : ℕ) (note : RangeNote) → ¬ IsCause (plain_problem problem) plan (fault.Range after note)) → IsRight (check d p q) x a → IsCalmStatus (status_of a)
+check_calm d p q problem plan (a_plan other actions) (judged v) same calm right = verdict_is_calm v
+check_calm d p q problem plan (a_plan other actions) (past_range after note path) same calm right =
+    let m = same.0 in
+    absurd (calm after note (subst (λ (u : PlainProblem). IsCause u plan (fault.Range after note)) (sym m.meaning) (subst (λ (u : List Action). IsCause (plain_problem other) u (fault.Range after note)) (sym same.1) right.0)))
+check_calm d p q problem plan x a same calm right = absurd right

@@ -1,0 +1,37 @@
+-- What is held after all files of a command is of the kind that the command goes over.
+use Rattle.std.proofs.Common.{ℕ, List, refl, subst}
+use Rattle.std.specs.Prelude.{Option}
+use Rattle.tl_outside.specs.Told.{Files}
+use Rattle.tl_sexpr.specs.Tree.{FormTrees}
+use Rattle.tl_run.specs.declared.turn.Input.{Input as Held}
+use Rattle.tl_run.specs.declared.turn.Input.TheVariants as held
+use Rattle.tl_run.specs.declared.words.Role.TheVariants as role
+use Rattle.tl_run.specs.Commands.{Command, check}
+use Rattle.tl_run.specs.Held.{IsHeld}
+use Rattle.tl_run.specs.Inputs.{Input, a_problem, a_plan, IsMeant}
+use Rattle.tl_run.specs.Replies.{Fits}
+use Rattle.tl_run.specs.Turns.{HoldInput}
+
+abbrev IsPlan : Input → Type 0
+IsPlan (a_plan p plan) = Unit {0}
+IsPlan x = ⊥
+
+plan_last : (before after : Input) (forms : FormTrees) → IsMeant role.Plan before forms after → IsPlan after
+plan_last (a_problem p) (a_plan q plan) forms h = tt
+plan_last before after forms h = absurd h
+
+plan_fits : (d p q : List ℕ) (h : Held) (x : Input) → IsPlan x → IsHeld h x → Fits (check d p q) h
+plan_fits d p q (held.Plan problem plan) x is h = refl
+plan_fits d p q held.Nothing (a_plan problem plan) is h = absurd h
+plan_fits d p q (held.Domain names domain) (a_plan problem plan) is h = absurd h
+plan_fits d p q (held.Problem other) (a_plan problem plan) is h = absurd h
+plan_fits d p q h x is k = absurd is
+
+-- one line for each command
+pub fits : (files : Option Files) (c : Command) (h : Held) (x : Input) → HoldInput files c x → IsHeld h x → Fits c h
+fits files (check d p q) h x stand is =
+    let second = stand.4 in
+    let third = second.4 in
+    let stands = third.3 in
+    let e = third.4 in
+    plan_fits d p q h x (subst IsPlan e (plan_last second.1 third.1 stands.forms stands.meant)) is

@@ -1,0 +1,84 @@
+-- Replies to commands.
+use Rattle.std.proofs.Common.{◌≡◌, ℕ, List, [], ◌∷◌, map, length, refl, sym, subst}
+use Rattle.std.specs.Prelude.{Option, Result, Ok, Err, IfOk}
+use Rattle.tl_action.specs.Actions.{HasOperator}
+use Rattle.tl_check.specs.Verdicts.{IsVerdict, IsCause}
+use Rattle.tl_check.specs.declared.fault.CheckFault.TheVariants as fault
+use Rattle.tl_check.specs.declared.verdict.Verdict.{Verdict}
+use Rattle.tl_eval.specs.declared.range.RangeNote.{RangeNote}
+use Rattle.tl_line.specs.NamedActions.{ActionIsNamed}
+use Rattle.tl_outside.specs.Told.{Files}
+use Rattle.tl_syntax.specs.declared.action.Action.{Action}
+use Rattle.tl_syntax.specs.declared.problem.Problem.{Problem}
+use Rattle.tl_syntax.specs.Lists.{Each}
+use Rattle.tl_syntax.specs.Signature.{Takes}
+use Rattle.tl_terms.specs.Problem.{PlainOperator}
+use Rattle.tl_terms.specs.ProblemMeaning.{plain_operator, plain_problem}
+use Rattle.tl_text.specs.Ranges.{range_text}
+use Rattle.tl_text.specs.Verdicts.{verdict_text}
+use Rattle.tl_run.specs.declared.reply.Reply.{Reply}
+use Rattle.tl_run.specs.declared.status.Status.{Status}
+use Rattle.tl_run.specs.declared.status.Status.TheVariants.{Refused, Range}
+use Rattle.tl_run.specs.declared.stop.Broken.{Broken}
+use Rattle.tl_run.specs.Answers.{Answer, refusal, past_range, judged, IsRight, verdict_status}
+use Rattle.tl_run.specs.Commands.{Command, check}
+use Rattle.tl_run.specs.Inputs.{Input, nothing, a_plan}
+use Rattle.tl_run.specs.Promises.{Allows, IsAnswer, LeavesOff}
+use Rattle.tl_run.specs.Refusals.{refusal_text}
+use Rattle.tl_run.specs.Replies.{Replies}
+use Rattle.tl_run.specs.Turns.{Begun, EndsAt, HoldInput, IsRefused}
+use Rattle.tl_run.proofs.SeenTwice.{map_seen}
+
+counts_seen : (p : Problem) → map (λ (o : PlainOperator). length o.params) (plain_problem p).operators ≡ map (λ o. length o.params) p.domain.operators
+unfolding plain_problem
+counts_seen p = map_seen (λ (o : PlainOperator). length o.params) plain_operator p.domain.operators
+
+-- each action that names only what a problem has is of an operator of it
+pub of_operators : (p : Problem) (plan : List Action) → Each (ActionIsNamed p.names p.domain.operators) plan → Each (HasOperator (plain_problem p)) plan
+of_operators p [] h = tt
+of_operators p (a ∷ plan) h =
+    let named = h.0 in
+    (subst (λ (counts : List ℕ). Takes counts a.op (length a.args)) (sym (counts_seen p)) named.takes, of_operators p plan h.1)
+
+-- the reply with a verdict
+pub verdict_replied : {E : Type 0} (d p q : List ℕ) (problem : Problem) (plan : List Action) (v : Verdict) (r : Result Reply E) → IsVerdict (plain_problem problem) plan v → IfOk r (λ reply. reply.status ≡ verdict_status v) → IfOk r (λ reply. reply.text ≡ verdict_text v) → IfOk r (Replies (check d p q) (a_plan problem plan))
+verdict_replied d p q problem plan v (Ok reply) right s t = record { answer = judged v; right = right; status_is = s; text_is = t }
+verdict_replied d p q problem plan v (Err e) right s t = tt
+
+-- the reply with an operation past range
+pub range_replied : (d p q : List ℕ) (problem : Problem) (plan : List Action) (after : ℕ) (note : RangeNote) (text : List ℕ) → IsCause (plain_problem problem) plan (fault.Range after note) → text ≡ range_text problem.names problem.domain.operators note after [] → Replies (check d p q) (a_plan problem plan) (record { status = Range; text = text })
+range_replied d p q problem plan after note text cause t = record { answer = past_range after note []; right = (cause, refl); status_is = refl; text_is = t }
+
+right_allowed : (files : Option Files) (c : Command) (x : Input) (a : Answer) → HoldInput files c x → IsRight c x a → Allows files c x a
+right_allowed files (check d p q) x (past_range after note path) stand right = (stand, right)
+right_allowed files (check d p q) x (judged v) stand right = (stand, right)
+right_allowed files (check d p q) (a_plan problem plan) (refusal number m) stand right = absurd right
+right_allowed files (check d p q) x (refusal number m) stand right = absurd right
+
+right_leaves : (files : Option Files) (c : Command) (begun : Begun) (x : Input) (a : Answer) → IsRight c x a → LeavesOff files c begun a
+right_leaves files (check d p q) begun x (past_range after note path) right = tt
+right_leaves files (check d p q) begun x (judged v) right = tt
+right_leaves files (check d p q) begun (a_plan problem plan) (refusal number m) right = absurd right
+right_leaves files (check d p q) begun x (refusal number m) right = absurd right
+
+-- a right reply over the input is an answer that the files allow
+pub reply_answers : (files : Option Files) (c : Command) (begun : Begun) (x : Input) (reply : Reply) → HoldInput files c x → Replies c x reply → IsAnswer files c begun reply.status reply.text
+reply_answers files c begun x reply stand r = record {
+  input = x;
+  answer = r.answer;
+  allowed = right_allowed files c x r.answer stand r.right;
+  leaves = right_leaves files c begun x r.answer r.right;
+  status_is = r.status_is;
+  text_is = r.text_is;
+}
+
+-- so is the line of a refusal
+pub refusal_answers : (files : Option Files) (c : Command) (begun : Begun) (number : ℕ) (m : Broken) (status : Status) (text : List ℕ) → IsRefused files c number m × EndsAt files c begun number → status ≡ Refused → text ≡ refusal_text number m → IsAnswer files c begun status text
+refusal_answers files c begun number m status text h s t = record {
+  input = nothing;
+  answer = refusal number m;
+  allowed = h.0;
+  leaves = h.1;
+  status_is = s;
+  text_is = t;
+}

@@ -1,0 +1,116 @@
+-- What the program holds of files that were read, and the stops at one file.
+use Rattle.std.proofs.Common.{◌≡◌, ◌⊎◌, inl, inr, ℕ, ◌≤◌, List, [], length, None, refl, sym, subst, arith}
+use Rattle.std.specs.Prelude.{Option, Result, Ok, Err, IfErr}
+use Rattle.std.specs.Result.{IsErrAnd, IsErrOf}
+use Rattle.tl_sexpr.specs.Faults.{IsFaultOf}
+use Rattle.tl_sexpr.specs.Spelling.{symbols_in_all}
+use Rattle.tl_sexpr.specs.Tree.{FormTrees}
+use Rattle.tl_sexpr.specs.declared.fault.TextFault.{TextFault}
+use Rattle.tl_sexpr.specs.declared.fault.TextFault.TheVariants as text
+use Rattle.tl_syntax.specs.declared.action.Action.{Action}
+use Rattle.tl_syntax.specs.declared.domain.Domain.{Domain}
+use Rattle.tl_syntax.specs.declared.problem.Problem.{Problem}
+use Rattle.tl_forms.specs.declared.rule.FormFault.{FormFault}
+use Rattle.tl_forms.specs.declared.rule.FormFault.TheVariants as form
+use Rattle.tl_forms.specs.Reads.{IsLeastFault}
+use Rattle.tl_forms.specs.Rules.{Break}
+use Rattle.tl_forms.proofs.NamesWith.{length-names_with_all}
+use Rattle.tl_domain.specs.Files.{IsDomainOf}
+use Rattle.tl_outside.specs.Causes.{Rose}
+use Rattle.tl_outside.specs.Told.{Files, IsContent, IsLonger, Lacks, told_file}
+use Rattle.tl_outside.specs.declared.reading.ReadFault.{ReadFault as Fault}
+use Rattle.tl_outside.specs.declared.reading.ReadFault.TheVariants as reading
+use Rattle.tl_run.specs.declared.stop.Broken.{Broken}
+use Rattle.tl_run.specs.declared.stop.Stop.{Stop}
+use Rattle.tl_run.specs.declared.stop.Stop.TheVariants.{ReadFault, NoMemory, Refused}
+use Rattle.tl_run.specs.declared.turn.Input.{Input as Held}
+use Rattle.tl_run.specs.declared.turn.Input.TheVariants as held
+use Rattle.tl_run.specs.declared.words.Command.{Command as HeldCommand}
+use Rattle.tl_run.specs.declared.words.Command.TheVariants.{Check}
+use Rattle.tl_run.specs.declared.words.Role.{Role}
+use Rattle.tl_run.specs.Commands.{Command, check}
+use Rattle.tl_run.specs.Files.{SpellShortly}
+use Rattle.tl_run.specs.Held.{IsHeld, last_role}
+use Rattle.tl_run.specs.Inputs.{Input, nothing, a_domain, a_problem, a_plan, breaks_of, IsBroken}
+use Rattle.tl_run.specs.Stops.{stop_of_forms, stop_of_reading, stop_of_text, IsFileStop, IsFormsStop, IsTurnStop}
+use Rattle.tl_run.specs.Words.{command_meant}
+
+-- what the reader of forms tells is a stop at the file
+pub text_stop : (number : ℕ) (r : Role) (before : Input) (bytes : List ℕ) (told : TextFault) → length bytes ≤ 4194304 → (told ≡ text.NoMemory) ⊎ IsFaultOf bytes told → IsFileStop number (IsBroken r before bytes) (stop_of_text number told)
+text_stop number r before bytes text.NoMemory short h = tt
+text_stop number r before bytes (text.BadByte at) short (inl e) = absurd (let k : ⊥ = cc in k)
+text_stop number r before bytes (text.StrayClose at) short (inl e) = absurd (let k : ⊥ = cc in k)
+text_stop number r before bytes (text.Unclosed at) short (inl e) = absurd (let k : ⊥ = cc in k)
+text_stop number r before bytes (text.TooDeep at) short (inl e) = absurd (let k : ⊥ = cc in k)
+text_stop number r before bytes (text.BigInteger at) short (inl e) = absurd (let k : ⊥ = cc in k)
+text_stop number r before bytes (text.BadByte at) short (inr h) = (refl, (short, h))
+text_stop number r before bytes (text.StrayClose at) short (inr h) = (refl, (short, h))
+text_stop number r before bytes (text.Unclosed at) short (inr h) = (refl, (short, h))
+text_stop number r before bytes (text.TooDeep at) short (inr h) = (refl, (short, h))
+text_stop number r before bytes (text.BigInteger at) short (inr h) = (refl, (short, h))
+
+-- the least rule that forms break is a stop at the file
+pub forms_stop : (number : ℕ) (breaks : List Break) (told : FormFault) → IsLeastFault breaks told → IsFormsStop number breaks (stop_of_forms number told)
+forms_stop number breaks (form.Breaks rule at) h = (refl, record { rule = (rule, at); is = refl; least = h })
+forms_stop number breaks form.NoMemory h = tt
+
+-- so it is for the bytes of the file
+pub file_stop : (number : ℕ) (r : Role) (before : Input) (bytes : List ℕ) (forms : FormTrees) (stop : Stop) → SpellShortly bytes forms → IsFormsStop number (breaks_of r before forms) stop → IsFileStop number (IsBroken r before bytes) stop
+file_stop number r before bytes forms ReadFault spelled h = absurd h
+file_stop number r before bytes forms NoMemory spelled h = tt
+file_stop number r before bytes forms (Refused k m) spelled h =
+    let l = h.1 in
+    let rule = l.rule in
+    (h.0, subst (λ (b : Broken). IsBroken r before bytes b) (sym l.is) (record { forms = forms; spelled = spelled; least = l.least }))
+
+-- what is held of no file, of a domain, of a problem and of a plan
+
+pub nothing_held : (P : Input → Type 0) (x : Input) → IsHeld held.Nothing x → P nothing → P x
+nothing_held P nothing h p = p
+nothing_held P x h p = absurd h
+
+pub domain_held : (P : Input → Type 0) (names : List (List ℕ)) (d : Domain) (x : Input) → IsHeld (held.Domain names d) x → ((first : FormTrees) → IsDomainOf first names d → P (a_domain first)) → P x
+domain_held P names d (a_domain first) h p = p first h
+domain_held P names d x h p = absurd h
+
+pub problem_held : (P : Input → Type 0) (q : Problem) (x : Input) → IsHeld (held.Problem q) x → P (a_problem q) → P x
+problem_held P q (a_problem p) h k = subst (λ (u : Problem). P (a_problem u)) (sym h) k
+problem_held P q x h k = absurd h
+
+pub plan_held : (P : Input → Type 0) (q : Problem) (plan : List Action) (x : Input) → IsHeld (held.Plan q plan) x → P (a_plan q plan) → P x
+plan_held P q plan (a_plan p actions) h k = subst (λ (u : Problem). P (a_plan u actions)) (sym h.0) (subst (λ (u : List Action). P (a_plan q u)) (sym h.1) k)
+plan_held P q plan x h k = absurd h
+
+-- the names of a domain file are not too many
+pub few_names : (first : FormTrees) (names : List (List ℕ)) (d : Domain) → IsDomainOf first names d → symbols_in_all first ≤ 4194304 → length names ≤ 4194304
+few_names first names d is few = rw is.named (omega (arith, length-names_with_all [] first, few))
+
+-- before the first file nothing is held
+pub nothing_before : (P : Input → Type 0) (h : Held) (x : Input) → None ≡ last_role h → IsHeld h x → P nothing → P x
+nothing_before P held.Nothing x e is p = nothing_held P x is p
+nothing_before P (held.Domain names d) x e is p = absurd (let k : ⊥ = cc in k)
+nothing_before P (held.Problem q) x e is p = absurd (let k : ⊥ = cc in k)
+nothing_before P (held.Plan q plan) x e is p = absurd (let k : ⊥ = cc in k)
+
+-- a fault of reading is a stop at the file
+pub read_stop : {T : Type 0} (files : Option Files) (r : Role) (name : List ℕ) (x : Input) (number : ℕ) (whole : Option (List ℕ)) (before now : ℕ) (told : Fault) → (IsErrOf {T = T} (Err told) reading.Failed → Lacks files name ⊎ Rose before now) → (IsErrOf {T = T} (Err told) reading.TooLong → IsLonger files name 4194304) → (IsErrOf {T = T} (Err told) reading.TooLong → whole ≡ told_file files name) → IsTurnStop files r name x number whole before now (stop_of_reading number told)
+read_stop files r name x number whole before now reading.Failed failed long whole_long = failed refl
+read_stop files r name x number whole before now reading.TooLong failed long whole_long =
+    let l = long refl in
+    (refl, whole_long refl, (l.0, l.1, l.2))
+read_stop files r name x number whole before now reading.NoMemory failed long whole_long = tt
+
+-- so is a stop over its bytes
+pub turn_stop : (files : Option Files) (r : Role) (name : List ℕ) (x : Input) (number : ℕ) (whole : Option (List ℕ)) (bytes : List ℕ) (before now : ℕ) (stop : Stop) → IsContent files name bytes → whole ≡ told_file files name → IsFileStop number (IsBroken r x bytes) stop → IsTurnStop files r name x number whole before now stop
+turn_stop files r name x number whole bytes before now ReadFault content told h = absurd h
+turn_stop files r name x number whole bytes before now NoMemory content told h = tt
+turn_stop files r name x number whole bytes before now (Refused k m) content told h = (h.0, told, (bytes, content, h.1))
+
+-- what holds of the stop that `?` hands on
+pub handed_on : {A : Type 0} (result : Result A Stop) (stop : Stop) (P : Stop → Type 0) → IsErrAnd result (λ told. told ≡ stop) → P stop → IfErr result P
+handed_on (Ok x) stop P same h = absurd same
+handed_on (Err told) stop P same h = subst P (sym same) h
+
+-- what holds of each command with the names of its files holds of the one that is held: one line for each command
+pub of_command : (P : Command → Type 0) (c : HeldCommand) → ((d p q : List ℕ) → P (check d p q)) → P (command_meant c)
+of_command P (Check d p q) h = h d.now p.now q.now

@@ -1,0 +1,71 @@
+-- What a run promises.
+use Rattle.std.specs.Prelude.{◌≡◌, ◌⊎◌, ℕ, List, Option, ⊤}
+use Rattle.std.specs.Io.KnownBytes.{append_known}
+use Rattle.tl_outside.specs.Told.{Files, GrowsByPart}
+use Rattle.tl_run.specs.declared.status.Status.{Status}
+use Rattle.tl_run.specs.declared.status.Status.TheVariants.{Yes, No, Range, ReadFault, WriteFault, NoMemory, Usage}
+use Rattle.tl_run.specs.Answers.{Answer, refusal, past_range, judged, IsRight, status_of, text_of}
+use Rattle.tl_run.specs.Check.{SaysAccepted, HasCalmPlan}
+use Rattle.tl_run.specs.Commands.{Command, check}
+use Rattle.tl_run.specs.Inputs.{Input}
+use Rattle.tl_run.specs.Turns.{Begun, EndsAt, HoldInput, IsRefused}
+
+-- the files allow this answer to the command: the refusal of a file in its turn, or what is right over all of them
+abbrev pub Allows : Option Files → Command → Input → Answer → Type 0
+Allows files c input (refusal number broken) = IsRefused files c number broken
+Allows files c input answer = HoldInput files c input × IsRight c input answer
+
+-- after a refusal no file was begun that comes after the refused one
+abbrev pub LeavesOff : Option Files → Command → Begun → Answer → Type 0
+LeavesOff files c begun (refusal number broken) = EndsAt files c begun number
+LeavesOff files c begun answer = ⊤
+
+-- a status with the lines of an answer that the files allow
+pub record IsAnswer (files : Option Files) (c : Command) (begun : Begun) (status : Status) (text : List ℕ) : Type 0 where
+  pub input : Input
+  pub answer : Answer
+  pub allowed : Allows files c input answer
+  pub leaves : LeavesOff files c begun answer
+  pub status_is : status ≡ status_of answer
+  pub text_is : text ≡ text_of input answer
+
+-- what is written: all of an answer of which P holds; a front part of one, where writing failed; or nothing
+abbrev pub Writes : (Status → List ℕ → Type 0) → Option (List ℕ) → Option (List ℕ) → Status → Type 0
+Writes P old new Usage = new ≡ old
+Writes P old new ReadFault = new ≡ old
+Writes P old new NoMemory = new ≡ old
+Writes P old new WriteFault = (status : Status) × (text : List ℕ) × P status text × GrowsByPart old new text
+Writes P old new status = (text : List ℕ) × P status text × (new ≡ append_known old text)
+
+-- the statuses that may come in place of a right answer, each by a cause of its own
+abbrev pub Yields : Answer → Status → Type 0
+Yields answer ReadFault = ⊤
+Yields answer WriteFault = ⊤
+Yields answer NoMemory = ⊤
+Yields (judged v) Range = ⊤
+Yields (past_range after note path) Range = ⊤
+Yields (past_range after note path) Yes = ⊤
+Yields (past_range after note path) No = ⊤
+Yields answer status = ⊥
+
+-- the right answer is written with its status, unless another comes in its place
+abbrev pub Gives : Option (List ℕ) → Option (List ℕ) → Input → Answer → Status → Type 0
+Gives old new input answer status = ((status ≡ status_of answer) × (new ≡ append_known old (text_of input answer))) ⊎ Yields answer status
+
+-- what a reader of the lines may rely on: `; valid` says that the plan is accepted
+abbrev pub Headline : Option Files → Command → Status → List ℕ → Type 0
+Headline files (check d p q) Yes text = SaysAccepted files (check d p q) text
+Headline files c status text = ⊤
+
+-- nothing past range is looked at
+abbrev pub IsCalm : Option Files → Command → Type 0
+IsCalm files (check d p q) = HasCalmPlan files (check d p q)
+
+-- an answer of the command itself, or one by a cause outside it
+abbrev pub IsCalmStatus : Status → Type 0
+IsCalmStatus Yes = ⊤
+IsCalmStatus No = ⊤
+IsCalmStatus ReadFault = ⊤
+IsCalmStatus WriteFault = ⊤
+IsCalmStatus NoMemory = ⊤
+IsCalmStatus status = ⊥

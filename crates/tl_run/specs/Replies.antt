@@ -1,0 +1,37 @@
+-- Replies as the program holds and sends them.
+use Rattle.std.specs.Prelude.{◌≡◌, ◌⊎◌, ℕ, List, Option, Some, ⊤}
+use Rattle.std.specs.Io.KnownBytes.{append_known}
+use Rattle.tl_outside.specs.Told.{GrowsByPart}
+use Rattle.tl_run.specs.declared.reply.Reply.{Reply}
+use Rattle.tl_run.specs.declared.status.Status.{Status}
+use Rattle.tl_run.specs.declared.status.Status.TheVariants.{Yes, No, Spent, Refused, Range, WriteFault}
+use Rattle.tl_run.specs.declared.turn.Input.{Input as Held}
+use Rattle.tl_run.specs.declared.words.Role.TheVariants as role
+use Rattle.tl_run.specs.Held.{last_role}
+use Rattle.tl_run.specs.Answers.{Answer, IsRight, status_of, text_of}
+use Rattle.tl_run.specs.Commands.{Command, check}
+use Rattle.tl_run.specs.Inputs.{Input}
+
+-- the status and the lines of a right answer
+pub record Replies (c : Command) (input : Input) (reply : Reply) : Type 0 where
+  pub answer : Answer
+  pub right : IsRight c input answer
+  pub status_is : reply.status ≡ status_of answer
+  pub text_is : reply.text ≡ text_of input answer
+
+-- the file that was read last is of the role that comes last for the command: one line for each command
+abbrev pub Fits : Command → Held → Type 0
+Fits (check d p q) held = last_role held ≡ Some role.Plan
+
+-- a status that comes with lines
+abbrev pub HasLines : Status → Type 0
+HasLines Yes = ⊤
+HasLines No = ⊤
+HasLines Spent = ⊤
+HasLines Refused = ⊤
+HasLines Range = ⊤
+HasLines status = ⊥
+
+-- all lines are sent, or writing fails after a front part of them
+abbrev pub Sends : Option (List ℕ) → Option (List ℕ) → Status → List ℕ → Status → Type 0
+Sends old new status text result = ((result ≡ status) × (new ≡ append_known old text)) ⊎ ((result ≡ WriteFault) × GrowsByPart old new text)

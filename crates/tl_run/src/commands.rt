@@ -1,0 +1,3 @@
+// The commands, each from its input to a reply.
+
+pub(crate) mod check;

@@ -1,0 +1,35 @@
+// The files of a command, read in turn.
+ghost use Rattle.std.specs.Prelude.{◌≡◌, ◌-◌, IfOk, IfErr};
+ghost use Rattle.tl_run.specs.Held.{IsHeld, KeepsBounds};
+ghost use Rattle.tl_run.specs.Inputs as inputs;
+ghost use Rattle.tl_run.specs.Stops.{IsStop};
+ghost use Rattle.tl_run.specs.Turns.{BegunInTurn, HoldInput};
+ghost use Rattle.tl_run.specs.Words.{command_meant};
+
+use crate::stop::Stop;
+use crate::turn::{Input, read_next};
+use crate::words::Command;
+use std::alloc::Global;
+use tl_outside::Store;
+
+/// What the files of the command stand for. Each is begun after those before it have passed.
+pub(crate) fn read_input<S: Store>(
+    alloc: Global,
+    store: &mut S,
+    command: Command<'_>,
+) -> Result<Input, Stop>
+    ensures held { IfOk result (λ held. (x : inputs.Input) × HoldInput (S.files store.old) (command_meant command.entry) x × IsHeld held x) }
+    ensures keeps { IfOk result KeepsBounds }
+    ensures stop { IfErr result (IsStop (S.files store.old) (command_meant command.entry)
+        (record { whole = S.whole store.new; count = S.begun store.new - S.begun store.old }) (S.faults store.old) (S.faults store.new)) }
+    ensures begun { BegunInTurn (S.files store.old) (command_meant command.entry) (S.begun store.new - S.begun store.old) }
+{
+    let files = command.files(alloc)?;
+    let mut input = Input::Nothing;
+    let mut number = 0;
+    for file in &files {
+        number += 1;
+        read_next(alloc, store, file, number, &mut input)?;
+    }
+    Ok(input)
+}

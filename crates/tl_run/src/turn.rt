@@ -1,0 +1,261 @@
+// One file of a command: its bytes, and what they add to what was read before.
+ghost use Rattle.std.specs.Prelude.{◌≡◌, ◌+◌, ◌≤◌, [], length, Some, IfOk, IfErr, OnOk};
+ghost use Rattle.tl_sexpr.specs.Offsets.{AreAsRead};
+ghost use Rattle.tl_sexpr.specs.Spelling.{Spells, symbols_in_all};
+ghost use Rattle.tl_sexpr.specs.Tree.{FormTrees, trees_of};
+ghost use Rattle.tl_syntax.specs.Kept.{DomainKeeps};
+ghost use Rattle.tl_syntax.specs.Lists.{Each};
+ghost use Rattle.tl_line.specs.NamedActions.{ActionIsNamed};
+ghost use Rattle.tl_text.specs.MeaningOfPlans.{plan_meant};
+ghost use Rattle.tl_run.specs.declared.words.Role.TheVariants as role;
+ghost use Rattle.tl_domain.specs.Files.{IsDomainOf};
+ghost use Rattle.tl_run.specs.Held.{HoldsFile, HoldsForms, IsHeld, KeepsBounds, last_role, role_before};
+ghost use Rattle.tl_run.specs.Inputs.{nothing, a_domain, a_problem, breaks_of, IsBroken, StandsFor};
+ghost use Rattle.tl_run.specs.Inputs as inputs;
+ghost use Rattle.tl_run.specs.Stops.{IsFileStop, IsFormsStop, IsTurnStop};
+
+use crate::stop::Stop;
+use crate::words::{File, Role};
+use std::alloc::Global;
+use std::mem;
+use tl_domain::{domain_of, problem_of};
+use tl_outside::{Store, read_whole};
+use tl_sexpr::{Forms, offsets_rise, read_forms};
+use tl_syntax::{Actions, Bytes, Domain, Names, Problem};
+use tl_text::plan_of;
+
+/// What the files of a command that were read so far stand for.
+pub(crate) enum Input {
+    /// No file was read.
+    Nothing,
+    /// A domain, and the names in it.
+    Domain(Names, Domain),
+    /// A problem.
+    Problem(Problem),
+    /// A problem with a plan.
+    Plan(Problem, Actions),
+}
+
+// Written out, so that what drops an input calls this.
+impl Drop for Input {
+    fn drop(self) {
+        match self {
+            Input::Nothing => {}
+            Input::Domain(_names, _domain) => {}
+            Input::Problem(_problem) => {}
+            Input::Plan(_problem, _actions) => {}
+        }
+    }
+}
+
+impl Input {
+    /// The domain that was read last, and the names in it.
+    fn into_domain(self) -> (Names, Domain)
+        requires { last_role self ≡ Some role.Domain }
+        ensures { self ≡ Input.Domain result.0 result.1 }
+    {
+        match self {
+            Input::Domain(names, domain) => (names, domain),
+            _ => unreachable!(),
+        }
+    }
+
+    /// The problem that was read last.
+    fn into_problem(self) -> Problem
+        requires { last_role self ≡ Some role.Problem }
+        ensures { self ≡ Input.Problem result }
+    {
+        match self {
+            Input::Problem(problem) => problem,
+            _ => unreachable!(),
+        }
+    }
+
+    /// The plan that was read last, and the problem before it.
+    pub(crate) fn into_plan(self) -> (Problem, Actions)
+        requires { last_role self ≡ Some role.Plan }
+        ensures { self ≡ Input.Plan result.0 result.1 }
+    {
+        match self {
+            Input::Plan(problem, plan) => (problem, plan),
+            _ => unreachable!(),
+        }
+    }
+}
+
+/// The greatest length of a file, in bytes.
+const LIMIT: usize = 4_194_304;
+
+/// The forms that the bytes of the file of this number spell.
+fn forms_of(alloc: Global, number: u8, bytes: &[u8]) -> Result<Forms, Stop>
+    requires { length bytes.now ≤ 4194304 }
+    ensures spelled { IfOk result (λ forms. Spells bytes.now (trees_of forms)) }
+    ensures few_symbols { IfOk result (λ forms. symbols_in_all (trees_of forms) ≤ length bytes.now) }
+    ensures as_read { IfOk result (λ forms. AreAsRead (trees_of forms)) }
+    ensures stop { (r : _) (before : inputs.Input) → IfErr result (IsFileStop number (IsBroken r before bytes.now)) }
+{
+    offsets_rise();
+    match read_forms(alloc, bytes) {
+        Ok(forms) => Ok(forms),
+        Err(fault) => Err(Stop::of_text(number, fault)),
+    }
+}
+
+/// The domain of the forms of a file, whose texts become names.
+fn domain_in(alloc: Global, number: u8, forms: &Forms) -> Result<Input, Stop>
+    requires as_read { AreAsRead (trees_of forms.now) }
+    requires few { symbols_in_all (trees_of forms.now) ≤ 4194304 }
+    ensures held { IfOk result (HoldsForms role.Domain nothing (trees_of forms.now)) }
+    ensures keeps { IfOk result KeepsBounds }
+    ensures last { IfOk result (λ held. last_role held ≡ Some role.Domain) }
+    ensures stop { IfErr result (IsFormsStop number (breaks_of role.Domain nothing (trees_of forms.now))) }
+{
+    let mut names = Names::new(alloc);
+    match domain_of(alloc, forms, &mut names) {
+        Ok(domain) => Ok(Input::Domain(names, domain)),
+        Err(fault) => Err(Stop::of_forms(number, fault)),
+    }
+}
+
+/// The problem of the forms of a file, after a domain file of these names and this domain.
+fn problem_in(
+    alloc: Global,
+    number: u8,
+    forms: &Forms,
+    names: Names,
+    domain: Domain,
+) -> Result<Input, Stop>
+    requires as_read { AreAsRead (trees_of forms.now) }
+    requires few { symbols_in_all (trees_of forms.now) ≤ 4194304 }
+    requires names { length names ≤ 4194304 }
+    requires keeps { DomainKeeps (length names) domain }
+    ensures held { (first : FormTrees) → IsDomainOf first names domain → IfOk result (HoldsForms role.Problem (a_domain first) (trees_of forms.now)) }
+    ensures keeps { IfOk result KeepsBounds }
+    ensures last { IfOk result (λ held. last_role held ≡ Some role.Problem) }
+    ensures stop { (first : FormTrees) → IsDomainOf first names domain → IfErr result (IsFormsStop number (breaks_of role.Problem (a_domain first) (trees_of forms.now))) }
+{
+    match problem_of(alloc, forms, domain, names) {
+        Ok(problem) => Ok(Input::Problem(problem)),
+        Err(fault) => Err(Stop::of_forms(number, fault)),
+    }
+}
+
+/// The actions of the forms of a file, after files that stand for this problem.
+fn actions_in(alloc: Global, number: u8, forms: &Forms, problem: &Problem) -> Result<Actions, Stop>
+    requires { AreAsRead (trees_of forms.now) }
+    ensures lawful { OnOk result (breaks_of role.Plan (a_problem problem.now) (trees_of forms.now) ≡ []) }
+    ensures meant { IfOk result (λ plan. plan ≡ plan_meant problem.now.names problem.now.domain.operators (trees_of forms.now)) }
+    ensures few { IfOk result (λ plan. length plan ≤ 100000) }
+    ensures named { IfOk result (λ plan. Each (ActionIsNamed problem.now.names problem.now.domain.operators) plan) }
+    ensures stop { IfErr result (IsFormsStop number (breaks_of role.Plan (a_problem problem.now) (trees_of forms.now))) }
+{
+    match plan_of(alloc, forms, problem) {
+        Ok(plan) => Ok(plan),
+        Err(fault) => Err(Stop::of_forms(number, fault)),
+    }
+}
+
+/// The plan of the forms of a file, after files that stand for this problem.
+fn plan_in(alloc: Global, number: u8, forms: &Forms, problem: Problem) -> Result<Input, Stop>
+    requires { AreAsRead (trees_of forms.now) }
+    ensures held { IfOk result (HoldsForms role.Plan (a_problem problem) (trees_of forms.now)) }
+    ensures keeps { IfOk result KeepsBounds }
+    ensures last { IfOk result (λ held. last_role held ≡ Some role.Plan) }
+    ensures stop { IfErr result (IsFormsStop number (breaks_of role.Plan (a_problem problem) (trees_of forms.now))) }
+{
+    let plan = actions_in(alloc, number, forms, &problem)?;
+    Ok(Input::Plan(problem, plan))
+}
+
+/// What the forms of a file of this role stand for, together with what was read before.
+fn forms_in(
+    alloc: Global,
+    number: u8,
+    role: Role,
+    forms: &Forms,
+    before: Input,
+) -> Result<Input, Stop>
+    requires as_read { AreAsRead (trees_of forms.now) }
+    requires few { symbols_in_all (trees_of forms.now) ≤ 4194304 }
+    requires keeps { KeepsBounds before }
+    requires in_order { role_before role ≡ last_role before }
+    ensures held { (x : inputs.Input) → IsHeld before x → IfOk result (HoldsForms role x (trees_of forms.now)) }
+    ensures keeps { IfOk result KeepsBounds }
+    ensures last { IfOk result (λ held. last_role held ≡ Some role) }
+    ensures stop { (x : inputs.Input) → IsHeld before x → IfErr result (IsFormsStop number (breaks_of role x (trees_of forms.now))) }
+{
+    match role {
+        Role::Domain => domain_in(alloc, number, forms),
+        Role::Problem => {
+            let (names, domain) = before.into_domain();
+            problem_in(alloc, number, forms, names, domain)
+        }
+        Role::Plan => plan_in(alloc, number, forms, before.into_problem()),
+    }
+}
+
+/// Adds what the forms of a file of this role stand for to what was read before. After a stop nothing is held.
+fn add_forms(
+    alloc: Global,
+    number: u8,
+    role: Role,
+    forms: &Forms,
+    input: &mut Input,
+) -> Result<(), Stop>
+    requires as_read { AreAsRead (trees_of forms.now) }
+    requires few { symbols_in_all (trees_of forms.now) ≤ 4194304 }
+    requires keeps { KeepsBounds input.old }
+    requires in_order { role_before role ≡ last_role input.old }
+    ensures held { (x : inputs.Input) → IsHeld input.old x → OnOk result (HoldsForms role x (trees_of forms.now) input.new) }
+    ensures keeps { OnOk result (KeepsBounds input.new) }
+    ensures last { OnOk result (last_role input.new ≡ Some role) }
+    ensures stop { (x : inputs.Input) → IsHeld input.old x → IfErr result (IsFormsStop number (breaks_of role x (trees_of forms.now))) }
+{
+    let before = mem::replace(input, Input::Nothing);
+    *input = forms_in(alloc, number, role, forms, before)?;
+    Ok(())
+}
+
+/// Adds what the bytes of the file of this number, which has this role, stand for to what was read before.
+fn add_bytes(
+    alloc: Global,
+    number: u8,
+    role: Role,
+    bytes: &[u8],
+    input: &mut Input,
+) -> Result<(), Stop>
+    requires short { length bytes.now ≤ 4194304 }
+    requires keeps { KeepsBounds input.old }
+    requires in_order { role_before role ≡ last_role input.old }
+    ensures held { (x : inputs.Input) → IsHeld input.old x → OnOk result ((y : inputs.Input) × StandsFor role x bytes.now y × IsHeld input.new y) }
+    ensures keeps { OnOk result (KeepsBounds input.new) }
+    ensures last { OnOk result (last_role input.new ≡ Some role) }
+    ensures stop { (x : inputs.Input) → IsHeld input.old x → IfErr result (IsFileStop number (IsBroken role x bytes.now)) }
+{
+    let forms = forms_of(alloc, number, bytes)?;
+    add_forms(alloc, number, role, &forms, input)
+}
+
+/// Adds what the command's file of this number stands for to what was read before. It is begun, and read to its end.
+pub(crate) fn read_next<S: Store>(
+    alloc: Global,
+    store: &mut S,
+    file: &File<'_>,
+    number: u8,
+    input: &mut Input,
+) -> Result<(), Stop>
+    requires keeps { KeepsBounds input.old }
+    requires in_order { role_before file.now.role ≡ last_role input.old }
+    ensures held { (x : inputs.Input) → IsHeld input.old x → OnOk result (HoldsFile (S.files store.old) file.now.role file.now.name.now x input.new) }
+    ensures keeps { OnOk result (KeepsBounds input.new) }
+    ensures last { OnOk result (last_role input.new ≡ Some file.now.role) }
+    ensures stop { (x : inputs.Input) → IsHeld input.old x → IfErr result (IsTurnStop (S.files store.old) file.now.role file.now.name.now x number (S.whole store.new) (S.faults store.old) (S.faults store.new)) }
+    ensures files { S.files store.new ≡ S.files store.old }
+    ensures begun { S.begun store.new ≤ S.begun store.old + 1 }
+    ensures later { S.faults store.old ≤ S.faults store.new }
+{
+    match read_whole(alloc, store, file.name, LIMIT) {
+        Ok(bytes) => add_bytes(alloc, number, file.role, bytes.as_slice(), input),
+        Err(fault) => Err(Stop::of_reading(number, fault)),
+    }
+}

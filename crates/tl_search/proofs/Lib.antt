@@ -1,0 +1,9 @@
+pub mod WalkLaws
+pub mod ListLaws
+pub mod PathLaws
+pub mod RangeLaws
+pub mod KeptLaws
+pub mod EventLaws
+pub mod HistoryLaws
+pub mod OutcomeLaws
+pub mod NamedLaws

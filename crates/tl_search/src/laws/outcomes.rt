@@ -1,0 +1,12 @@
+// What a search answers.
+ghost use Rattle.tl_search.specs.LawsOutcomes.{AnswersExcludeEachOther, FewPairsAreNotSpent};
+
+/// A plan within the bound, no plan, and no plan within the bound exclude each other.
+pub fn answers_exclude_each_other()
+    ensures { AnswersExcludeEachOther }
+{}
+
+/// A search among few pairs is not spent.
+pub fn few_pairs_are_not_spent()
+    ensures { FewPairsAreNotSpent }
+{}

@@ -1,0 +1,37 @@
+// Open paths, accepted plans, distances and leading paths.
+ghost use Rattle.tl_search.specs.LawsPaths.{PairGoesOn, WalksHavePairs, OpenPathsAreWalks, AcceptedPlansAreWalks, PrefixesAreOpen, DistanceIsOne, PrefixesAreLeading};
+
+/// The pair of a path with one more action is the pair after that action.
+pub fn pair_goes_on()
+    ensures { PairGoesOn }
+{}
+
+/// A walk in the graph of pairs leads to a pair exactly where it is a path with that pair, whose residual is not FALSE.
+pub fn walks_have_pairs()
+    ensures { WalksHavePairs }
+{}
+
+/// The open paths are the walks in the graph of pairs.
+pub fn open_paths_are_walks()
+    ensures { OpenPathsAreWalks }
+{}
+
+/// The accepted plans are the walks to accepted pairs.
+pub fn accepted_plans_are_walks()
+    ensures { AcceptedPlansAreWalks }
+{}
+
+/// Each prefix of an open path or of an accepted plan is open, so pruning loses no plan.
+pub fn prefixes_are_open()
+    ensures { PrefixesAreOpen }
+{}
+
+/// Two distances of one pair are the same.
+pub fn distance_is_one()
+    ensures { DistanceIsOne }
+{}
+
+/// Each prefix of a leading path is leading.
+pub fn prefixes_are_leading()
+    ensures { PrefixesAreLeading }
+{}

@@ -1,4 +1,0 @@
-// Worked cases of terms and bounds.
-
-mod sides;
-mod tuples;

@@ -1,3 +1,0 @@
-// Worked cases of truth.
-
-mod conditions;

@@ -1,4 +1,0 @@
-// Worked cases of worlds and tasks.
-
-mod goals;
-mod matches;
