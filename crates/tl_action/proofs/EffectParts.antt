@@ -10,7 +10,7 @@ use Rattle.tl_action.specs.Agreement.{Agree, EffectReads, EffectsRead, EachReads
 use Rattle.tl_action.specs.Collected.{HasMore, Collects, GivesFact, GivesPlace}
 use Rattle.tl_action.proofs.Agreement.{agree-both, agree-through, agree-under, bind-leaves, slot-of-two, EffectsAgree, effects-agree}
 use Rattle.tl_action.proofs.EffectSizes.{effect_nodes, effects_nodes}
-use Rattle.tl_action.proofs.FitsAlone.{fits-alone}
+use Rattle.tl_terms.proofs.FitsAlone.{fits-alone}
 use Rattle.tl_action.proofs.Passed.{caused-more, nothing-more}
 use Rattle.tl_eval.specs.Notes.{Tells, operation_of}
 use Rattle.tl_eval.specs.declared.range.RangeNote.{RangeNote}

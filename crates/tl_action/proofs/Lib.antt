@@ -4,7 +4,6 @@ pub mod TermLists
 pub mod Walks
 pub mod EffectSizes
 pub mod Passed
-pub mod FitsAlone
 pub mod EffectParts
 pub mod EffectLists
 pub mod EffectTuples

@@ -121,7 +121,7 @@ module _ (problem : Problem) (w : World) (named : WorldIsNamed (length problem.n
   operator-of (o ∷ os) zero x k q = (o, k.0, (let e : plain_operator o ≡ x = cc in e))
   operator-of (o ∷ os) (suc i) x k q = operator-of os i x k.1 q
 
-  action-named : (a : Action) → is_some (step (plain_problem problem) w a) ≡ true → ArgumentsAreNamed count a
+  pub action-named : (a : Action) → is_some (step (plain_problem problem) w a) ≡ true → ArgumentsAreNamed count a
   unfolding plain_problem
   action-named a h =
       let there = step-operator (plain_problem problem) w a h in

@@ -6,7 +6,7 @@ use Rattle.std.specs.List.{list_all}
 use Rattle.tl_action.specs.Agreement.{Agree, EffectsRead}
 use Rattle.tl_action.specs.Prepared.{instances_of, is_prepared, looked_prepared}
 use Rattle.tl_action.proofs.Agreement.{agree-within, bind-kept, bound-agrees, state-agrees, effects-agree}
-use Rattle.tl_action.proofs.FitsAlone.{fits-alone}
+use Rattle.tl_terms.proofs.FitsAlone.{fits-alone}
 use Rattle.tl_syntax.specs.declared.bound.Bound.{Bound}
 use Rattle.tl_syntax.specs.declared.operator.Operator.{Operator}
 use Rattle.tl_syntax.specs.declared.value.Value.{Value}

@@ -10,21 +10,48 @@
 //!
 //! What a row means stands above its table. In the tables of whole runs, in `runs`, the first line says it: it has the words, the files by name, the status, the lines of the output and, where the outside fails, which calls; `{0}`, `{1}` .. in it are the columns of the row.
 //!
-//! - `checks`: what a row compares; `rows`: columns, and what braces stand for; `shared`: the texts that have names.
-//! - `spelling`: the forms that bytes spell. `names`, `lists`: texts by number, and lists. `counts`: counts of steps. `adapters`: files and answers over the machine.
+//! - `checks`: what a row compares; `rows`: columns, and what braces stand for; `shared`: the texts that have names; `forms`: the forms of a text.
+//! - `tasks`: the task of two texts, the worlds of a problem, and the goal test; `answers`: values, worlds and notes as texts.
+//! - `spelling`: the forms that bytes spell. `files`: the rules that domain and problem files break. `lines`: the actions of plan files, and the texts of answers.
+//! - `names`, `lists`, `trees`: the parts of a problem. `renumbering`: other numbers for names. `nodes`: interned formulas.
+//! - `worlds`, `matches`: worlds without a domain, and the matches of patterns in them.
+//! - `truth`, `terms`, `tuples`: state formulas, terms and bounds. `actions`, `steps`: the actions of a world, and where they lead. `counts`: counts of steps.
+//! - `outside`, `adapters`: files and answers, in memory and over the machine.
+//! - `progression`: what formulas progress to, and their idling check.
+//! - `spaces`: what arrives at a search space, which pairs are accepted, and paths.
 //! - `runs`: whole runs. `runs::run` has the one call of `run`, which is costly to prove at each place where it stands.
 #![tactic(auto)]
 
 #[cfg(test)]
+mod actions;
+#[cfg(test)]
 mod adapters;
+#[cfg(test)]
+mod answers;
 #[cfg(test)]
 mod checks;
 #[cfg(test)]
 mod counts;
 #[cfg(test)]
+mod files;
+#[cfg(test)]
+mod forms;
+#[cfg(test)]
+mod lines;
+#[cfg(test)]
 mod lists;
 #[cfg(test)]
+mod matches;
+#[cfg(test)]
 mod names;
+#[cfg(test)]
+mod nodes;
+#[cfg(test)]
+mod outside;
+#[cfg(test)]
+mod progression;
+#[cfg(test)]
+mod renumbering;
 #[cfg(test)]
 mod rows;
 #[cfg(test)]
@@ -32,4 +59,20 @@ mod runs;
 #[cfg(test)]
 mod shared;
 #[cfg(test)]
+mod spaces;
+#[cfg(test)]
 mod spelling;
+#[cfg(test)]
+mod steps;
+#[cfg(test)]
+mod tasks;
+#[cfg(test)]
+mod terms;
+#[cfg(test)]
+mod trees;
+#[cfg(test)]
+mod truth;
+#[cfg(test)]
+mod tuples;
+#[cfg(test)]
+mod worlds;

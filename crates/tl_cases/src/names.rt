@@ -35,58 +35,82 @@ fn two_texts<R: Abort>(rt: &R, alloc: Global) -> Result<Names, Fail> {
     Ok(names)
 }
 
+/// Compares the numbers of the texts, and the text of a number.
+fn are_numbered<R: Abort>(rt: &R, names: &Names) {
+    for (text, number) in [("b", Some(0)), ("a", Some(1)), ("c", None), ("", None)] {
+        finds(rt, names, text, number);
+    }
+    is_true(rt, names.len() == 2, "two texts");
+    has_text(rt, names, 1, "a");
+}
+
 #[test]
 fn texts_are_numbered_in_the_order_of_addition(rt: HostRuntime) -> Result<(), Fail> {
     let names = two_texts(&rt, rt.alloc())?;
-    for (text, number) in [("b", Some(0)), ("a", Some(1)), ("c", None), ("", None)] {
-        finds(&rt, &names, text, number);
-    }
-    is_true(&rt, names.len() == 2, "two texts");
-    has_text(&rt, &names, 1, "a");
+    are_numbered(&rt, &names);
     Ok(())
 }
 
-/// A table of a thousand texts.
-fn thousand<R: Abort>(rt: &R, alloc: Global) -> Result<Names, Fail> {
-    let mut names = Names::new(alloc);
+/// Adds the text of a part, of which it is known what number it gets.
+fn adds_part<R: Abort>(
+    rt: &R,
+    alloc: Global,
+    names: &mut Names,
+    part: u32,
+    number: u32,
+) -> Result<(), Fail> {
+    let text = format!(in alloc; "name{part}")?;
+    adds(rt, names, text.as_str(), number)
+}
+
+/// Adds a thousand texts.
+fn add_thousand<R: Abort>(rt: &R, alloc: Global, names: &mut Names) -> Result<(), Fail> {
+    for number in 0..1000 {
+        adds_part(rt, alloc, names, number, number)?;
+    }
+    Ok(())
+}
+
+/// Compares the texts of a thousand numbers.
+fn has_thousand<R: Abort>(rt: &R, alloc: Global, names: &Names) -> Result<(), Fail> {
     for number in 0..1000 {
         let text = format!(in alloc; "name{number}")?;
-        adds(rt, &mut names, text.as_str(), number)?;
+        has_text(rt, names, number, text.as_str());
     }
-    Ok(names)
+    Ok(())
 }
 
 #[test]
 fn a_thousand_texts_are_numbered(rt: HostRuntime) -> Result<(), Fail> {
-    let names = thousand(&rt, rt.alloc())?;
-    for number in 0..1000 {
-        let text = format!(in rt.alloc(); "name{number}")?;
-        has_text(&rt, &names, number, text.as_str());
-    }
+    let mut names = Names::new(rt.alloc());
+    add_thousand(&rt, rt.alloc(), &mut names)?;
     is_true(&rt, names.len() == 1000, "a thousand texts");
-    Ok(())
+    has_thousand(&rt, rt.alloc(), &names)
+}
+
+/// Compares the table of two texts in their order, and the list of their new numbers.
+fn are_settled<R: Abort>(rt: &R, settled: &Names, numbers: &[u32]) {
+    is_true(rt, settled.len() == 2, "two texts");
+    for (text, number) in [("a", Some(0)), ("b", Some(1)), ("c", None)] {
+        finds(rt, settled, text, number);
+    }
+    is_true(rt, numbers == [1, 0].as_slice(), "two numbers");
 }
 
 #[test]
 fn two_texts_are_settled_by_their_order(rt: HostRuntime) -> Result<(), Fail> {
     let names = two_texts(&rt, rt.alloc())?;
     let (settled, numbers) = names.settled(rt.alloc())?;
-    is_true(&rt, settled.len() == 2, "two texts");
-    for (text, number) in [("a", Some(0)), ("b", Some(1)), ("c", None)] {
-        finds(&rt, &settled, text, number);
-    }
-    is_true(&rt, numbers.as_slice() == [1, 0].as_slice(), "two numbers");
+    are_settled(&rt, &settled, numbers.as_slice());
     Ok(())
 }
 
-/// Five hundred texts, in another order than that of their bytes.
-fn scrambled<R: Abort>(rt: &R, alloc: Global) -> Result<Names, Fail> {
-    let mut names = Names::new(alloc);
+/// Adds five hundred texts, in another order than that of their bytes.
+fn add_scrambled<R: Abort>(rt: &R, alloc: Global, names: &mut Names) -> Result<(), Fail> {
     for number in 0..500u32 {
-        let text = format!(in alloc; "name{}", 100 + number * 7 % 500)?;
-        adds(rt, &mut names, text.as_str(), number)?;
+        adds_part(rt, alloc, names, 100 + number * 7 % 500, number)?;
     }
-    Ok(names)
+    Ok(())
 }
 
 /// Compares the new number of a text, and the one that the list gives to the old number.
@@ -106,14 +130,25 @@ fn is_settled<R: Abort>(
     Ok(())
 }
 
-#[test]
-fn scrambled_texts_are_settled_by_their_order(rt: HostRuntime) -> Result<(), Fail> {
-    let names = scrambled(&rt, rt.alloc())?;
-    let (settled, numbers) = names.settled(rt.alloc())?;
-    is_true(&rt, settled.len() == 500, "all texts");
-    is_true(&rt, numbers.len() == 500, "all numbers");
+/// Compares the new numbers of all texts.
+fn all_are_settled<R: Abort>(
+    rt: &R,
+    alloc: Global,
+    settled: &Names,
+    numbers: &[u32],
+) -> Result<(), Fail> {
+    is_true(rt, settled.len() == 500, "all texts");
+    is_true(rt, numbers.len() == 500, "all numbers");
     for number in 0..500u32 {
-        is_settled(&rt, rt.alloc(), &settled, numbers.as_slice(), number)?;
+        is_settled(rt, alloc, settled, numbers, number)?;
     }
     Ok(())
+}
+
+#[test]
+fn scrambled_texts_are_settled_by_their_order(rt: HostRuntime) -> Result<(), Fail> {
+    let mut names = Names::new(rt.alloc());
+    add_scrambled(&rt, rt.alloc(), &mut names)?;
+    let (settled, numbers) = names.settled(rt.alloc())?;
+    all_are_settled(&rt, rt.alloc(), &settled, numbers.as_slice())
 }

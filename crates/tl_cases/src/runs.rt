@@ -1,10 +1,12 @@
 // Whole runs, over files in memory. The first line of a table says what its rows stand for.
 
+mod depth;
 mod devices;
 mod gripper;
 mod lamps;
 mod levels;
 mod limits;
+mod plans;
 mod refusals;
 mod run;
 mod spans;

@@ -212,6 +212,12 @@ one by one: one ball is carried after the other
 picked again: a ball is picked again in its goal room
 (pick 1 a left) (pick 2 a right) (move a b) (drop 1 b left) (pick 1 b left) (drop 1 b left) (drop 2 b right)
 
+six balls: two rooms, with the robot and six balls in the first
+(room rooma) (room roomb) (at-robby rooma) (free left) (free right) (at b0001 rooma) (at b0002 rooma) (at b0003 rooma) (at b0004 rooma) (at b0005 rooma) (at b0006 rooma)
+
+six there: the six balls are to be in the second room
+(at b0001 roomb) (at b0002 roomb) (at b0003 roomb) (at b0004 roomb) (at b0005 roomb) (at b0006 roomb)
+
 two balls: a problem of two balls
 (problem sample
  (init (room rooma) (room roomb) (at-robby rooma) (free left) (free right)

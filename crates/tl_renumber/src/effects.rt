@@ -1,14 +1,17 @@
 // Effects with other numbers for their names.
 ghost use Rattle.std.specs.Prelude.{◌≡◌, IfOk};
 ghost use Rattle.tl_renumber.specs.Numbers.{number_in};
-ghost use Rattle.tl_renumber.specs.Renumbered.{renumbered_effect, renumbered_effects};
+ghost use Rattle.tl_renumber.specs.Renumbered.{renumbered, renumbered_bound, renumbered_effect, renumbered_effects, renumbered_term, renumbered_terms, renumbered_variables};
+ghost use Rattle.tl_syntax.specs.Effects.{assign, each, when};
 ghost use Rattle.tl_syntax.specs.TreeOfEffect.{tree_of_effect, tree_of_effects};
+ghost use Rattle.tl_syntax.specs.TreeOfFormula.{tree_of_formula};
+ghost use Rattle.tl_syntax.specs.TreeOfTerm.{tree_of_term, tree_of_terms};
 
 use crate::formulas::renumber_formula;
-use crate::parts::{renumber_bound, renumber_variables};
+use crate::parts::renumber_scope;
 use crate::terms::{renumber_term, renumber_terms};
 use std::alloc::Global;
-use tl_syntax::{Effect, Effects, NoMemory};
+use tl_syntax::{Bound, Effect, Effects, Formula, NoMemory, Term, Terms, Vars};
 
 /// A list of effects with the new numbers of their names. It fails for want of memory alone.
 #[cycle(renumber_effect)]
@@ -36,21 +39,59 @@ pub fn renumber_effect(alloc: Global, effect: &Effect, numbers: &[u32]) -> Resul
     match effect {
         Effect::Add(p, args) => Ok(Effect::Add(*p, renumber_terms(alloc, args, numbers)?)),
         Effect::Del(p, args) => Ok(Effect::Del(*p, renumber_terms(alloc, args, numbers)?)),
-        Effect::Assign(f, args, value) => {
-            let args = renumber_terms(alloc, args, numbers)?;
-            let value = renumber_term(alloc, value, numbers)?;
-            Ok(Effect::Assign(*f, args, value))
-        }
+        Effect::Assign(f, args, value) => renumber_assignment(alloc, *f, args, value, numbers),
         Effect::When(condition, effects) => {
-            let condition = renumber_formula(alloc, condition, numbers)?;
             let effects = renumber_effects(alloc, effects, numbers)?;
-            Ok(Effect::When(condition, effects))
+            renumber_condition(alloc, condition, effects, numbers)
         }
         Effect::Each(vars, bound, inner) => {
-            let vars = renumber_variables(alloc, vars, numbers)?;
-            let bound = renumber_bound(alloc, bound, numbers)?;
             let inner = renumber_effects(alloc, inner, numbers)?;
-            Ok(Effect::Each(vars, bound, inner))
+            renumber_repetition(alloc, vars, bound, inner, numbers)
         }
     }
+}
+
+// An assignment to a place with the new numbers of its names.
+#[tactic(auto, using(crate::proofs::Trees::effect_trees))]
+fn renumber_assignment(
+    alloc: Global,
+    fun: u32,
+    args: &Terms,
+    value: &Term,
+    numbers: &[u32],
+) -> Result<Effect, NoMemory>
+    ensures { IfOk result (λ out. tree_of_effect out ≡ assign fun (renumbered_terms (number_in numbers.now) (tree_of_terms args.now)) (renumbered_term (number_in numbers.now) (tree_of_term value.now))) }
+{
+    let args = renumber_terms(alloc, args, numbers)?;
+    let value = renumber_term(alloc, value, numbers)?;
+    Ok(Effect::Assign(fun, args, value))
+}
+
+// The effects, where the condition with the new numbers of its names is true.
+#[tactic(auto, using(crate::proofs::Trees::effect_trees))]
+fn renumber_condition(
+    alloc: Global,
+    condition: &Formula,
+    effects: Effects,
+    numbers: &[u32],
+) -> Result<Effect, NoMemory>
+    ensures { IfOk result (λ out. tree_of_effect out ≡ when (renumbered (number_in numbers.now) (tree_of_formula condition.now)) (tree_of_effects effects)) }
+{
+    let condition = renumber_formula(alloc, condition, numbers)?;
+    Ok(Effect::When(condition, effects))
+}
+
+// The effects, for every tuple of the bound with the new numbers of its names.
+#[tactic(auto, using(crate::proofs::Trees::effect_trees))]
+fn renumber_repetition(
+    alloc: Global,
+    vars: &Vars,
+    bound: &Bound,
+    effects: Effects,
+    numbers: &[u32],
+) -> Result<Effect, NoMemory>
+    ensures { IfOk result (λ out. tree_of_effect out ≡ each (renumbered_variables (number_in numbers.now) vars.now) (renumbered_bound (number_in numbers.now) bound.now) (tree_of_effects effects)) }
+{
+    let (vars, bound) = renumber_scope(alloc, vars, bound, numbers)?;
+    Ok(Effect::Each(vars, bound, effects))
 }

@@ -1,15 +1,18 @@
 // Formulas with other numbers for their names.
 ghost use Rattle.std.specs.Prelude.{◌≡◌, IfOk};
 ghost use Rattle.tl_renumber.specs.Numbers.{number_in};
-ghost use Rattle.tl_renumber.specs.Renumbered.{renumbered, renumbered_all, renumbered_bound, renumbered_term, renumbered_variables};
+ghost use Rattle.tl_renumber.specs.Renumbered.{renumbered, renumbered_all, renumbered_bound, renumbered_variables};
+ghost use Rattle.tl_syntax.specs.Junctions.{quantified};
 ghost use Rattle.tl_syntax.specs.TreeOfFormula.{tree_of_formula, tree_of_formulas};
-ghost use Rattle.tl_syntax.specs.TreeOfTerm.{tree_of_term};
-ghost use Rattle.tl_syntax.specs.Trees.{compare, for_all, for_some};
+ghost use Rattle.tl_syntax.specs.Trees.{until};
 
-use crate::parts::{renumber_arg, renumber_args, renumber_bound, renumber_variables};
-use crate::terms::{renumber_term, renumber_terms};
+use crate::leaves::{
+    renumber_atom, renumber_comparison, renumber_defined, renumber_goal_fact, renumber_goal_not,
+    renumber_goal_place,
+};
+use crate::parts::renumber_scope;
 use std::alloc::Global;
-use tl_syntax::{Bound, Cmp, Formula, Formulas, NoMemory, Term, Vars};
+use tl_syntax::{Bound, Formula, Formulas, Junction, NoMemory, Vars};
 
 /// A list of formulas with the new numbers of their names. It fails for want of memory alone.
 #[cycle(renumber_formula)]
@@ -41,88 +44,62 @@ pub fn renumber_formula(
     match formula {
         Formula::True => Ok(Formula::True),
         Formula::False => Ok(Formula::False),
-        Formula::Atom(p, args) => Ok(Formula::Atom(*p, renumber_terms(alloc, args, numbers)?)),
-        Formula::Defined(p, args) => {
-            Ok(Formula::Defined(*p, renumber_terms(alloc, args, numbers)?))
-        }
+        Formula::Atom(p, args) => renumber_atom(alloc, *p, args, numbers),
+        Formula::Defined(p, args) => renumber_defined(alloc, *p, args, numbers),
         Formula::Compare(cmp, left, right) => {
             renumber_comparison(alloc, *cmp, left, right, numbers)
         }
-        Formula::GoalFact(p, args) => {
-            Ok(Formula::GoalFact(*p, renumber_args(alloc, args, numbers)?))
-        }
-        Formula::GoalPlace(f, args, x) => {
-            let args = renumber_args(alloc, args, numbers)?;
-            let x = renumber_arg(*x, numbers);
-            Ok(Formula::GoalPlace(*f, args, x))
-        }
-        Formula::GoalNot(p, args) => Ok(Formula::GoalNot(*p, renumber_args(alloc, args, numbers)?)),
+        Formula::GoalFact(p, args) => renumber_goal_fact(alloc, *p, args, numbers),
+        Formula::GoalPlace(f, args, x) => renumber_goal_place(alloc, *f, args, *x, numbers),
+        Formula::GoalNot(p, args) => renumber_goal_not(alloc, *p, args, numbers),
         Formula::Not(f) => Formula::not(alloc, renumber_formula(alloc, f, numbers)?),
         Formula::And(parts) => Ok(Formula::And(renumber_formulas(alloc, parts, numbers)?)),
         Formula::Or(parts) => Ok(Formula::Or(renumber_formulas(alloc, parts, numbers)?)),
         Formula::ForAll(vars, bound, f) => {
-            let f = renumber_formula(alloc, f, numbers)?;
-            renumber_for_all(alloc, vars, bound, f, numbers)
+            renumber_quantified(alloc, Junction::All, vars, bound, f, numbers)
         }
         Formula::Exists(vars, bound, f) => {
-            let f = renumber_formula(alloc, f, numbers)?;
-            renumber_exists(alloc, vars, bound, f, numbers)
+            renumber_quantified(alloc, Junction::Any, vars, bound, f, numbers)
         }
         Formula::Next(f) => Formula::next(alloc, renumber_formula(alloc, f, numbers)?),
         Formula::Always(f) => Formula::always(alloc, renumber_formula(alloc, f, numbers)?),
         Formula::Eventually(f) => Formula::eventually(alloc, renumber_formula(alloc, f, numbers)?),
         Formula::Until(f, g) => {
-            let f = renumber_formula(alloc, f, numbers)?;
             let g = renumber_formula(alloc, g, numbers)?;
-            Formula::until(alloc, f, g)
+            renumber_until(alloc, f, g, numbers)
         }
         Formula::Within(n, f) => Formula::within(alloc, *n, renumber_formula(alloc, f, numbers)?),
         Formula::During(n, f) => Formula::during(alloc, *n, renumber_formula(alloc, f, numbers)?),
     }
 }
 
-// A comparison with the new numbers of its names.
-#[tactic(auto, using(crate::proofs::Trees::formula_trees))]
-fn renumber_comparison(
+// That `g` holds now or later, and the first formula with the new numbers of its names until then.
+#[cycle(renumber_formula)]
+fn renumber_until(
     alloc: Global,
-    cmp: Cmp,
-    left: &Term,
-    right: &Term,
+    f: &Formula,
+    g: Formula,
     numbers: &[u32],
 ) -> Result<Formula, NoMemory>
-    ensures { IfOk result (λ out. tree_of_formula out ≡ compare cmp (renumbered_term (number_in numbers.now) (tree_of_term left.now)) (renumbered_term (number_in numbers.now) (tree_of_term right.now))) }
+    ensures { IfOk result (λ out. tree_of_formula out ≡ until (renumbered (number_in numbers.now) (tree_of_formula f.now)) (tree_of_formula g)) }
 {
-    let left = renumber_term(alloc, left, numbers)?;
-    let right = renumber_term(alloc, right, numbers)?;
-    Ok(Formula::Compare(cmp, left, right))
+    let f = renumber_formula(alloc, f, numbers)?;
+    Formula::until(alloc, f, g)
 }
 
-// The formula for every tuple of the bound with the new numbers of its names.
-fn renumber_for_all(
+// The formula for every tuple of the bound, or for some one, with the new numbers of its names.
+#[cycle(renumber_formula)]
+fn renumber_quantified(
     alloc: Global,
+    junction: Junction,
     vars: &Vars,
     bound: &Bound,
-    f: Formula,
+    f: &Formula,
     numbers: &[u32],
 ) -> Result<Formula, NoMemory>
-    ensures { IfOk result (λ out. tree_of_formula out ≡ for_all (renumbered_variables (number_in numbers.now) vars.now) (renumbered_bound (number_in numbers.now) bound.now) (tree_of_formula f)) }
+    ensures { IfOk result (λ out. tree_of_formula out ≡ quantified junction (renumbered_variables (number_in numbers.now) vars.now) (renumbered_bound (number_in numbers.now) bound.now) (renumbered (number_in numbers.now) (tree_of_formula f.now))) }
 {
-    let vars = renumber_variables(alloc, vars, numbers)?;
-    let bound = renumber_bound(alloc, bound, numbers)?;
-    Formula::for_all(alloc, vars, bound, f)
-}
-
-// The formula for some tuple of the bound with the new numbers of its names.
-fn renumber_exists(
-    alloc: Global,
-    vars: &Vars,
-    bound: &Bound,
-    f: Formula,
-    numbers: &[u32],
-) -> Result<Formula, NoMemory>
-    ensures { IfOk result (λ out. tree_of_formula out ≡ for_some (renumbered_variables (number_in numbers.now) vars.now) (renumbered_bound (number_in numbers.now) bound.now) (tree_of_formula f)) }
-{
-    let vars = renumber_variables(alloc, vars, numbers)?;
-    let bound = renumber_bound(alloc, bound, numbers)?;
-    Formula::exists(alloc, vars, bound, f)
+    let (vars, bound) = renumber_scope(alloc, vars, bound, numbers)?;
+    let f = renumber_formula(alloc, f, numbers)?;
+    Formula::quantified(alloc, junction, vars, bound, f)
 }

@@ -3,7 +3,7 @@
 //! A file's names are numbered by their first appearance, and a problem's by the order of their bytes. What was read has to get the new numbers.
 //!
 //! - `parts`: numbers, values, variables, arguments and bounds.
-//! - `terms`, `formulas`, `effects`: the trees.
+//! - `terms`, `leaves`, `formulas`, `effects`: the trees; formulas without a formula below them stand in `leaves`.
 //! - `domains`: declarations, definitions, operators and domains.
 //! - `facts`: facts and places with their values.
 //! - `laws`: what a settled table leaves as it was.
@@ -16,6 +16,7 @@ mod effects;
 mod facts;
 mod formulas;
 pub mod laws;
+mod leaves;
 mod parts;
 mod terms;
 

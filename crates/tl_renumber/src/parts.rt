@@ -108,3 +108,18 @@ pub fn renumber_bound(alloc: Global, bound: &Bound, numbers: &[u32]) -> Result<B
         }
     }
 }
+
+/// The variables of a scope and its bound with the new numbers of their names. It fails for want of memory alone.
+pub(crate) fn renumber_scope(
+    alloc: Global,
+    vars: &Vars,
+    bound: &Bound,
+    numbers: &[u32],
+) -> Result<(Vars, Bound), NoMemory>
+    ensures vars { IfOk result (λ scope. scope.0 ≡ renumbered_variables (number_in numbers.now) vars.now) }
+    ensures bound { IfOk result (λ scope. scope.1 ≡ renumbered_bound (number_in numbers.now) bound.now) }
+{
+    let vars = renumber_variables(alloc, vars, numbers)?;
+    let bound = renumber_bound(alloc, bound, numbers)?;
+    Ok((vars, bound))
+}

@@ -1,5 +1,5 @@
 -- Laws of the right answers of `check`.
-use Rattle.std.proofs.Common.{◌≡◌, inl, inr, ℕ, List, refl, sym, ap, ◌∙◌, subst}
+use Rattle.std.proofs.Common.{◌≡◌, inl, inr, ℕ, List, sym, ap, subst}
 use Rattle.std.specs.Prelude.{Option}
 use Rattle.tl_check.specs.LawsVerdict.{OneVerdict}
 use Rattle.tl_check.specs.Verdicts.{IsVerdict, IsCause}
@@ -13,12 +13,10 @@ use Rattle.tl_syntax.specs.declared.problem.Problem.{Problem}
 use Rattle.tl_terms.specs.Problem.{PlainProblem}
 use Rattle.tl_terms.specs.ProblemMeaning.{plain_problem}
 use Rattle.tl_text.specs.Verdicts.{verdict_text}
-use Rattle.tl_run.specs.declared.status.Status.TheVariants.{Yes}
 use Rattle.tl_run.specs.Answers.{Answer, past_range, judged, IsRight, status_of, text_of, verdict_status}
-use Rattle.tl_run.specs.Check.{SaysAccepted}
 use Rattle.tl_run.specs.Commands.{check}
 use Rattle.tl_run.specs.Inputs.{Input, a_plan}
-use Rattle.tl_run.specs.Promises.{IsCalmStatus, Yields}
+use Rattle.tl_run.specs.Promises.{Headline, IsCalmStatus, Yields}
 use Rattle.tl_run.specs.Turns.{HoldInput}
 use Rattle.tl_run.proofs.Agreement.{Agrees}
 use Rattle.tl_run.proofs.OneProblem.{SameProblem}
@@ -53,19 +51,17 @@ check_agrees law d p q (a_plan m plan) y (judged v) b same h k = judged_agrees l
 check_agrees law d p q (a_plan m plan) y (past_range after note path) b same h k = past_range_agrees d p q (a_plan m plan) y after note path b k
 check_agrees law d p q x y a b same h k = absurd h
 
-accepts : (v : Verdict) → verdict_status v ≡ Yes → v ≡ Valid
-accepts Valid e = refl
-accepts (NotExecutable n) e = absurd (let k : ⊥ = cc in k)
-accepts GoalUnmet e = absurd (let k : ⊥ = cc in k)
-accepts Disobeys e = absurd (let k : ⊥ = cc in k)
+verdict_says : (files : Option Files) (d p q : List ℕ) (problem : Problem) (plan : List Action) (v : Verdict) (text : List ℕ) → HoldInput files (check d p q) (a_plan problem plan) → IsVerdict (plain_problem problem) plan v → text ≡ verdict_text v → Headline files (check d p q) (verdict_status v) text
+verdict_says files d p q problem plan Valid text stand right line = record { problem = problem; plan = plan; stand = stand; accepted = right; line = line }
+verdict_says files d p q problem plan (NotExecutable n) text stand right line = tt
+verdict_says files d p q problem plan GoalUnmet text stand right line = tt
+verdict_says files d p q problem plan Disobeys text stand right line = tt
 
--- a right answer with the status Yes says that the plan is accepted
-pub check_accepts : (files : Option Files) (d p q : List ℕ) (x : Input) (a : Answer) (text : List ℕ) → HoldInput files (check d p q) x → IsRight (check d p q) x a → status_of a ≡ Yes → text ≡ text_of x a → SaysAccepted files (check d p q) text
-check_accepts files d p q (a_plan problem plan) (judged v) text stand right affirms line =
-    let valid = accepts v affirms in
-    record { problem = problem; plan = plan; stand = stand; accepted = subst (λ (w : Verdict). IsVerdict (plain_problem problem) plan w) valid right; line = line ∙ ap verdict_text valid }
-check_accepts files d p q (a_plan problem plan) (past_range after note path) text stand right affirms line = absurd (let k : ⊥ = cc in k)
-check_accepts files d p q x a text stand right affirms line = absurd right
+-- what the headline says of a right answer
+pub check_says : (files : Option Files) (d p q : List ℕ) (x : Input) (a : Answer) (text : List ℕ) → HoldInput files (check d p q) x → IsRight (check d p q) x a → text ≡ text_of x a → Headline files (check d p q) (status_of a) text
+check_says files d p q (a_plan problem plan) (judged v) text stand right line = verdict_says files d p q problem plan v text stand right line
+check_says files d p q (a_plan problem plan) (past_range after note path) text stand right line = tt
+check_says files d p q x a text stand right line = absurd right
 
 verdict_is_calm : (v : Verdict) → IsCalmStatus (verdict_status v)
 verdict_is_calm Valid = tt

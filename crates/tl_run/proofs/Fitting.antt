@@ -6,9 +6,10 @@ use Rattle.tl_sexpr.specs.Tree.{FormTrees}
 use Rattle.tl_run.specs.declared.turn.Input.{Input as Held}
 use Rattle.tl_run.specs.declared.turn.Input.TheVariants as held
 use Rattle.tl_run.specs.declared.words.Role.TheVariants as role
-use Rattle.tl_run.specs.Commands.{Command, check}
+use Rattle.tl_run.specs.Commands.{Command, check, search}
 use Rattle.tl_run.specs.Held.{IsHeld}
-use Rattle.tl_run.specs.Inputs.{Input, a_problem, a_plan, IsMeant}
+use Rattle.tl_run.specs.declared.search.Search.{Search}
+use Rattle.tl_run.specs.Inputs.{Input, a_domain, a_problem, a_plan, IsMeant}
 use Rattle.tl_run.specs.Replies.{Fits}
 use Rattle.tl_run.specs.Turns.{HoldInput}
 
@@ -27,6 +28,21 @@ plan_fits d p q (held.Domain names domain) (a_plan problem plan) is h = absurd h
 plan_fits d p q (held.Problem other) (a_plan problem plan) is h = absurd h
 plan_fits d p q h x is k = absurd is
 
+abbrev IsProblem : Input → Type 0
+IsProblem (a_problem p) = Unit {0}
+IsProblem x = ⊥
+
+problem_last : (before after : Input) (forms : FormTrees) → IsMeant role.Problem before forms after → IsProblem after
+problem_last (a_domain first) (a_problem p) forms h = tt
+problem_last before after forms h = absurd h
+
+problem_fits : (s : Search) (d p : List ℕ) (h : Held) (x : Input) → IsProblem x → IsHeld h x → Fits (search s d p) h
+problem_fits s d p (held.Problem problem) x is h = refl
+problem_fits s d p held.Nothing (a_problem problem) is h = absurd h
+problem_fits s d p (held.Domain names domain) (a_problem problem) is h = absurd h
+problem_fits s d p (held.Plan other plan) (a_problem problem) is h = absurd h
+problem_fits s d p h x is k = absurd is
+
 -- one line for each command
 pub fits : (files : Option Files) (c : Command) (h : Held) (x : Input) → HoldInput files c x → IsHeld h x → Fits c h
 fits files (check d p q) h x stand is =
@@ -35,3 +51,8 @@ fits files (check d p q) h x stand is =
     let stands = third.3 in
     let e = third.4 in
     plan_fits d p q h x (subst IsPlan e (plan_last second.1 third.1 stands.forms stands.meant)) is
+fits files (search s d p) h x stand is =
+    let second = stand.4 in
+    let stands = second.3 in
+    let e = second.4 in
+    problem_fits s d p h x (subst IsProblem e (problem_last stand.1 second.1 stands.forms stands.meant)) is

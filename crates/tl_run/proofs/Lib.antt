@@ -7,9 +7,15 @@ pub mod Exclusive
 pub mod InTurn
 pub mod Agreement
 pub mod CheckLaws
+pub mod SameLines
+pub mod OneOutcome
+pub mod SearchLaws
 pub mod Promised
 pub mod Sent
 pub mod Standing
 pub mod Reading
 pub mod Fitting
 pub mod Replied
+pub mod NamedPlans
+pub mod Numbers
+pub mod CommandWords

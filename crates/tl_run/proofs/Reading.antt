@@ -11,7 +11,7 @@ use Rattle.tl_run.specs.declared.turn.Input.{Input as Held}
 use Rattle.tl_run.specs.declared.turn.Input.TheVariants as held
 use Rattle.tl_run.specs.declared.words.File.{File as HeldFile}
 use Rattle.tl_run.specs.declared.words.Role.{Role}
-use Rattle.tl_run.specs.Commands.{Command, check, files_of}
+use Rattle.tl_run.specs.Commands.{Command, check, search, files_of}
 use Rattle.tl_run.specs.Held.{AreInOrder, HoldsFile, IsHeld, KeepsBounds, last_role, role_before}
 use Rattle.tl_run.specs.Inputs.{Input, nothing, StandsFor, IsBroken}
 use Rattle.tl_run.specs.Stops.{IsStop, IsTurnStop}
@@ -107,6 +107,7 @@ next_stops files c i f x begun start mid now (Refused number m) next later few h
 -- the files of each command come in the order of their roles
 pub in_order : (c : Command) → AreInOrder None (files_of c)
 in_order (check d p q) = (refl, (refl, (refl, tt)))
+in_order (search s d p) = (refl, (refl, tt))
 
 -- what is known after i files of a command have passed
 pub record HasRead (files : Option Files) (c : Command) (i : ℕ) (h : Held) : Type 0 where

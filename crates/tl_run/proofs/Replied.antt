@@ -20,16 +20,18 @@ use Rattle.tl_run.specs.declared.reply.Reply.{Reply}
 use Rattle.tl_run.specs.declared.status.Status.{Status}
 use Rattle.tl_run.specs.declared.status.Status.TheVariants.{Refused, Range}
 use Rattle.tl_run.specs.declared.stop.Broken.{Broken}
-use Rattle.tl_run.specs.Answers.{Answer, refusal, past_range, judged, IsRight, verdict_status}
-use Rattle.tl_run.specs.Commands.{Command, check}
-use Rattle.tl_run.specs.Inputs.{Input, nothing, a_plan}
+use Rattle.tl_run.specs.declared.search.Search.{Search}
+use Rattle.tl_run.specs.Answers.{Answer, refusal, past_range, judged, searched, IsRight, verdict_status}
+use Rattle.tl_run.specs.Commands.{Command, check, search}
+use Rattle.tl_run.specs.Inputs.{Input, nothing, a_problem, a_plan}
+use Rattle.tl_run.specs.Plan.{EndsPastRange}
 use Rattle.tl_run.specs.Promises.{Allows, IsAnswer, LeavesOff}
 use Rattle.tl_run.specs.Refusals.{refusal_text}
 use Rattle.tl_run.specs.Replies.{Replies}
 use Rattle.tl_run.specs.Turns.{Begun, EndsAt, HoldInput, IsRefused}
 use Rattle.tl_run.proofs.SeenTwice.{map_seen}
 
-counts_seen : (p : Problem) → map (λ (o : PlainOperator). length o.params) (plain_problem p).operators ≡ map (λ o. length o.params) p.domain.operators
+pub counts_seen : (p : Problem) → map (λ (o : PlainOperator). length o.params) (plain_problem p).operators ≡ map (λ o. length o.params) p.domain.operators
 unfolding plain_problem
 counts_seen p = map_seen (λ (o : PlainOperator). length o.params) plain_operator p.domain.operators
 
@@ -49,17 +51,28 @@ verdict_replied d p q problem plan v (Err e) right s t = tt
 pub range_replied : (d p q : List ℕ) (problem : Problem) (plan : List Action) (after : ℕ) (note : RangeNote) (text : List ℕ) → IsCause (plain_problem problem) plan (fault.Range after note) → text ≡ range_text problem.names problem.domain.operators note after [] → Replies (check d p q) (a_plan problem plan) (record { status = Range; text = text })
 range_replied d p q problem plan after note text cause t = record { answer = past_range after note []; right = (cause, refl); status_is = refl; text_is = t }
 
+-- the reply where a search ends at an operation past range
+pub search_range_replied : (s : Search) (d p : List ℕ) (problem : Problem) (note : RangeNote) (path : List Action) (text : List ℕ) → EndsPastRange s (plain_problem problem) path note → text ≡ range_text problem.names problem.domain.operators note (length path) path → Replies (search s d p) (a_problem problem) (record { status = Range; text = text })
+search_range_replied s d p problem note path text cause t = record { answer = past_range (length path) note path; right = (cause, refl); status_is = refl; text_is = t }
+
+-- a refusal is not right of what files stand for: one line for each command
+never_right : (c : Command) (x : Input) (number : ℕ) (m : Broken) → IsRight c x (refusal number m) → ⊥
+never_right (check d p q) (a_plan problem plan) number m right = right
+never_right (check d p q) x number m right = right
+never_right (search s d p) (a_problem problem) number m right = right
+never_right (search s d p) x number m right = right
+
 right_allowed : (files : Option Files) (c : Command) (x : Input) (a : Answer) → HoldInput files c x → IsRight c x a → Allows files c x a
-right_allowed files (check d p q) x (past_range after note path) stand right = (stand, right)
-right_allowed files (check d p q) x (judged v) stand right = (stand, right)
-right_allowed files (check d p q) (a_plan problem plan) (refusal number m) stand right = absurd right
-right_allowed files (check d p q) x (refusal number m) stand right = absurd right
+right_allowed files c x (refusal number m) stand right = absurd (never_right c x number m right)
+right_allowed files c x (past_range after note path) stand right = (stand, right)
+right_allowed files c x (judged v) stand right = (stand, right)
+right_allowed files c x (searched s o) stand right = (stand, right)
 
 right_leaves : (files : Option Files) (c : Command) (begun : Begun) (x : Input) (a : Answer) → IsRight c x a → LeavesOff files c begun a
-right_leaves files (check d p q) begun x (past_range after note path) right = tt
-right_leaves files (check d p q) begun x (judged v) right = tt
-right_leaves files (check d p q) begun (a_plan problem plan) (refusal number m) right = absurd right
-right_leaves files (check d p q) begun x (refusal number m) right = absurd right
+right_leaves files c begun x (refusal number m) right = absurd (never_right c x number m right)
+right_leaves files c begun x (past_range after note path) right = tt
+right_leaves files c begun x (judged v) right = tt
+right_leaves files c begun x (searched s o) right = tt
 
 -- a right reply over the input is an answer that the files allow
 pub reply_answers : (files : Option Files) (c : Command) (begun : Begun) (x : Input) (reply : Reply) → HoldInput files c x → Replies c x reply → IsAnswer files c begun reply.status reply.text

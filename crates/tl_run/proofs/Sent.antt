@@ -6,7 +6,7 @@ use Rattle.tl_outside.specs.Causes.{Rose}
 use Rattle.tl_outside.specs.Told.{Files}
 use Rattle.tl_run.specs.declared.status.Status.{Status}
 use Rattle.tl_run.specs.declared.status.Status.TheVariants.{Yes, No, Spent, Refused, Range, ReadFault, WriteFault, NoMemory, Usage}
-use Rattle.tl_run.specs.Answers.{Answer, refusal, past_range, judged}
+use Rattle.tl_run.specs.Answers.{Answer, refusal, past_range, judged, searched}
 use Rattle.tl_run.specs.Commands.{Command}
 use Rattle.tl_run.specs.Inputs.{Input}
 use Rattle.tl_run.specs.Promises.{Gives, IsCalmStatus, Writes, Yields}
@@ -39,6 +39,7 @@ yields_outside : (a : Answer) → Yields a ReadFault × Yields a WriteFault × Y
 yields_outside (refusal number m) = (tt, tt, tt)
 yields_outside (past_range after note path) = (tt, tt, tt)
 yields_outside (judged v) = (tt, tt, tt)
+yields_outside (searched s o) = (tt, tt, tt)
 
 agrees_gives : (old new : Option (List ℕ)) (x : Input) (a : Answer) (status : Status) (text : List ℕ) → Agrees x a status text → new ≡ append_known old text → Gives old new x a status
 agrees_gives old new x a status text (inl agrees) e = inl (agrees.0, e ∙ ap (append_known old) agrees.1)

@@ -7,7 +7,6 @@ use Rattle.tl_sexpr.specs.Spelling.{symbols_in_all}
 use Rattle.tl_sexpr.specs.Tree.{FormTrees}
 use Rattle.tl_sexpr.specs.declared.fault.TextFault.{TextFault}
 use Rattle.tl_sexpr.specs.declared.fault.TextFault.TheVariants as text
-use Rattle.tl_syntax.specs.declared.action.Action.{Action}
 use Rattle.tl_syntax.specs.declared.domain.Domain.{Domain}
 use Rattle.tl_syntax.specs.declared.problem.Problem.{Problem}
 use Rattle.tl_forms.specs.declared.rule.FormFault.{FormFault}
@@ -25,15 +24,11 @@ use Rattle.tl_run.specs.declared.stop.Stop.{Stop}
 use Rattle.tl_run.specs.declared.stop.Stop.TheVariants.{ReadFault, NoMemory, Refused}
 use Rattle.tl_run.specs.declared.turn.Input.{Input as Held}
 use Rattle.tl_run.specs.declared.turn.Input.TheVariants as held
-use Rattle.tl_run.specs.declared.words.Command.{Command as HeldCommand}
-use Rattle.tl_run.specs.declared.words.Command.TheVariants.{Check}
 use Rattle.tl_run.specs.declared.words.Role.{Role}
-use Rattle.tl_run.specs.Commands.{Command, check}
 use Rattle.tl_run.specs.Files.{SpellShortly}
 use Rattle.tl_run.specs.Held.{IsHeld, last_role}
-use Rattle.tl_run.specs.Inputs.{Input, nothing, a_domain, a_problem, a_plan, breaks_of, IsBroken}
+use Rattle.tl_run.specs.Inputs.{Input, nothing, a_domain, a_problem, breaks_of, IsBroken}
 use Rattle.tl_run.specs.Stops.{stop_of_forms, stop_of_reading, stop_of_text, IsFileStop, IsFormsStop, IsTurnStop}
-use Rattle.tl_run.specs.Words.{command_meant}
 
 -- what the reader of forms tells is a stop at the file
 pub text_stop : (number : ℕ) (r : Role) (before : Input) (bytes : List ℕ) (told : TextFault) → length bytes ≤ 4194304 → (told ≡ text.NoMemory) ⊎ IsFaultOf bytes told → IsFileStop number (IsBroken r before bytes) (stop_of_text number told)
@@ -63,7 +58,7 @@ file_stop number r before bytes forms (Refused k m) spelled h =
     let rule = l.rule in
     (h.0, subst (λ (b : Broken). IsBroken r before bytes b) (sym l.is) (record { forms = forms; spelled = spelled; least = l.least }))
 
--- what is held of no file, of a domain, of a problem and of a plan
+-- what is held of no file, of a domain and of a problem
 
 pub nothing_held : (P : Input → Type 0) (x : Input) → IsHeld held.Nothing x → P nothing → P x
 nothing_held P nothing h p = p
@@ -76,10 +71,6 @@ domain_held P names d x h p = absurd h
 pub problem_held : (P : Input → Type 0) (q : Problem) (x : Input) → IsHeld (held.Problem q) x → P (a_problem q) → P x
 problem_held P q (a_problem p) h k = subst (λ (u : Problem). P (a_problem u)) (sym h) k
 problem_held P q x h k = absurd h
-
-pub plan_held : (P : Input → Type 0) (q : Problem) (plan : List Action) (x : Input) → IsHeld (held.Plan q plan) x → P (a_plan q plan) → P x
-plan_held P q plan (a_plan p actions) h k = subst (λ (u : Problem). P (a_plan u actions)) (sym h.0) (subst (λ (u : List Action). P (a_plan q u)) (sym h.1) k)
-plan_held P q plan x h k = absurd h
 
 -- the names of a domain file are not too many
 pub few_names : (first : FormTrees) (names : List (List ℕ)) (d : Domain) → IsDomainOf first names d → symbols_in_all first ≤ 4194304 → length names ≤ 4194304
@@ -110,7 +101,3 @@ turn_stop files r name x number whole bytes before now (Refused k m) content tol
 pub handed_on : {A : Type 0} (result : Result A Stop) (stop : Stop) (P : Stop → Type 0) → IsErrAnd result (λ told. told ≡ stop) → P stop → IfErr result P
 handed_on (Ok x) stop P same h = absurd same
 handed_on (Err told) stop P same h = subst P (sym same) h
-
--- what holds of each command with the names of its files holds of the one that is held: one line for each command
-pub of_command : (P : Command → Type 0) (c : HeldCommand) → ((d p q : List ℕ) → P (check d p q)) → P (command_meant c)
-of_command P (Check d p q) h = h d.now p.now q.now

@@ -1,5 +1,5 @@
 -- The answers of commands: when each is right, its status and its lines.
-use Rattle.std.specs.Prelude.{◌≡◌, ℕ, List, []}
+use Rattle.std.specs.Prelude.{◌≡◌, ℕ, List, [], length}
 use Rattle.tl_syntax.specs.declared.action.Action.{Action}
 use Rattle.tl_syntax.specs.declared.operator.Operator.{Operator}
 use Rattle.tl_terms.specs.ProblemMeaning.{plain_problem}
@@ -8,25 +8,33 @@ use Rattle.tl_check.specs.Verdicts.{IsVerdict, IsCause}
 use Rattle.tl_check.specs.declared.fault.CheckFault.TheVariants as fault
 use Rattle.tl_check.specs.declared.verdict.Verdict.{Verdict}
 use Rattle.tl_check.specs.declared.verdict.Verdict.TheVariants.{Valid, NotExecutable, GoalUnmet, Disobeys}
+use Rattle.tl_search.specs.declared.outcome.Outcome.{Outcome}
+use Rattle.tl_search.specs.declared.outcome.Outcome.TheVariants as outcome
+use Rattle.tl_text.specs.Outcomes.{outcome_text}
 use Rattle.tl_text.specs.Ranges.{range_text}
 use Rattle.tl_text.specs.Verdicts.{verdict_text}
+use Rattle.tl_run.specs.declared.search.Search.{Search}
 use Rattle.tl_run.specs.declared.status.Status.{Status}
-use Rattle.tl_run.specs.declared.status.Status.TheVariants.{Yes, No, Refused, Range}
+use Rattle.tl_run.specs.declared.status.Status.TheVariants.{Yes, No, Spent, Refused, Range}
 use Rattle.tl_run.specs.declared.stop.Broken.{Broken}
-use Rattle.tl_run.specs.Commands.{Command, check}
+use Rattle.tl_run.specs.Commands.{Command, check, search}
 use Rattle.tl_run.specs.Inputs.{Input, nothing, a_domain, a_problem, a_plan}
+use Rattle.tl_run.specs.Plan.{IsOutcome, EndsPastRange}
 use Rattle.tl_run.specs.Refusals.{refusal_text}
 
--- the file of this number is refused by this rule; an operation is past range after so many actions, which are those of the path where one is shown; or the verdict on a plan
+-- the file of this number is refused by this rule; an operation is past range after so many actions, which are those of the path where one is shown; the verdict on a plan; or the outcome of a search
 pub data Answer : Type 0 where
   refusal : ℕ → Broken → Answer
   past_range : ℕ → RangeNote → List Action → Answer
   judged : Verdict → Answer
+  searched : Search → Outcome → Answer
 
 -- over what its files stand for, the answer is right for the command: one line for each command and answer
 abbrev pub IsRight : Command → Input → Answer → Type 0
 IsRight (check d p q) (a_plan problem plan) (judged v) = IsVerdict (plain_problem problem) plan v
 IsRight (check d p q) (a_plan problem plan) (past_range after note path) = IsCause (plain_problem problem) plan (fault.Range after note) × (path ≡ [])
+IsRight (search s d p) (a_problem problem) (searched t o) = (t ≡ s) × IsOutcome s (plain_problem problem) o
+IsRight (search s d p) (a_problem problem) (past_range after note path) = EndsPastRange s (plain_problem problem) path note × (after ≡ length path)
 IsRight command input answer = ⊥
 
 -- the status with a verdict
@@ -36,11 +44,19 @@ verdict_status (NotExecutable number) = No
 verdict_status GoalUnmet = No
 verdict_status Disobeys = No
 
+-- the status with an outcome
+abbrev pub outcome_status : Outcome → Status
+outcome_status (outcome.Plan plan) = Yes
+outcome_status outcome.NoPlan = No
+outcome_status outcome.NoneWithin = No
+outcome_status outcome.Spent = Spent
+
 -- the status with an answer
 abbrev pub status_of : Answer → Status
 status_of (refusal number broken) = Refused
 status_of (past_range after note path) = Range
 status_of (judged v) = verdict_status v
+status_of (searched s o) = outcome_status o
 
 -- the names that actions are written with
 abbrev pub names_in : Input → List (List ℕ)
@@ -61,3 +77,4 @@ abbrev pub text_of : Input → Answer → List ℕ
 text_of input (refusal number broken) = refusal_text number broken
 text_of input (past_range after note path) = range_text (names_in input) (operators_in input) note after path
 text_of input (judged v) = verdict_text v
+text_of input (searched s o) = outcome_text (names_in input) (operators_in input) s.within s.nodes o

@@ -1,4 +1,5 @@
 pub mod Words
+pub mod Searches
 pub mod Commands
 pub mod Files
 pub mod Inputs
@@ -7,7 +8,10 @@ pub mod Refusals
 pub mod Statuses
 pub mod Answers
 pub mod Check
+pub mod Plan
+pub mod Searched
 pub mod Promises
 pub mod Held
 pub mod Stops
 pub mod Replies
+pub mod Laws

@@ -2,12 +2,15 @@
 use Rattle.std.specs.Prelude.{◌≡◌, ◌⊎◌, ℕ, List, Option, ⊤}
 use Rattle.std.specs.Io.KnownBytes.{append_known}
 use Rattle.tl_outside.specs.Told.{Files, GrowsByPart}
+use Rattle.tl_search.specs.declared.outcome.Outcome.{Outcome}
+use Rattle.tl_search.specs.declared.outcome.Outcome.TheVariants as outcome
 use Rattle.tl_run.specs.declared.status.Status.{Status}
-use Rattle.tl_run.specs.declared.status.Status.TheVariants.{Yes, No, Range, ReadFault, WriteFault, NoMemory, Usage}
-use Rattle.tl_run.specs.Answers.{Answer, refusal, past_range, judged, IsRight, status_of, text_of}
+use Rattle.tl_run.specs.declared.status.Status.TheVariants.{Yes, No, Spent, Range, ReadFault, WriteFault, NoMemory, Usage}
+use Rattle.tl_run.specs.Answers.{Answer, refusal, past_range, judged, searched, IsRight, status_of, text_of}
 use Rattle.tl_run.specs.Check.{SaysAccepted, HasCalmPlan}
-use Rattle.tl_run.specs.Commands.{Command, check}
+use Rattle.tl_run.specs.Commands.{Command, check, search}
 use Rattle.tl_run.specs.Inputs.{Input}
+use Rattle.tl_run.specs.Plan.{PrintsPlan, SaysNoPlan, HasCalmSearch}
 use Rattle.tl_run.specs.Turns.{Begun, EndsAt, HoldInput, IsRefused}
 
 -- the files allow this answer to the command: the refusal of a file in its turn, or what is right over all of them
@@ -37,13 +40,23 @@ Writes P old new NoMemory = new ≡ old
 Writes P old new WriteFault = (status : Status) × (text : List ℕ) × P status text × GrowsByPart old new text
 Writes P old new status = (text : List ℕ) × P status text × (new ≡ append_known old text)
 
+-- the statuses that may come in place of the outcome of a search: past range and spent, each by its cause; to have met too many search nodes excludes no other answer
+abbrev pub OutcomeYields : Outcome → Status → Type 0
+OutcomeYields o Range = ⊤
+OutcomeYields o Spent = ⊤
+OutcomeYields outcome.Spent Yes = ⊤
+OutcomeYields outcome.Spent No = ⊤
+OutcomeYields o status = ⊥
+
 -- the statuses that may come in place of a right answer, each by a cause of its own
 abbrev pub Yields : Answer → Status → Type 0
 Yields answer ReadFault = ⊤
 Yields answer WriteFault = ⊤
 Yields answer NoMemory = ⊤
 Yields (judged v) Range = ⊤
+Yields (searched s o) status = OutcomeYields o status
 Yields (past_range after note path) Range = ⊤
+Yields (past_range after note path) Spent = ⊤
 Yields (past_range after note path) Yes = ⊤
 Yields (past_range after note path) No = ⊤
 Yields answer status = ⊥
@@ -52,14 +65,17 @@ Yields answer status = ⊥
 abbrev pub Gives : Option (List ℕ) → Option (List ℕ) → Input → Answer → Status → Type 0
 Gives old new input answer status = ((status ≡ status_of answer) × (new ≡ append_known old (text_of input answer))) ⊎ Yields answer status
 
--- what a reader of the lines may rely on: `; valid` says that the plan is accepted
+-- what a reader of the lines may rely on: `; valid` says that the plan is accepted; a printed plan is accepted and short enough, and breadth-first no accepted plan is shorter; `; none` says that no plan is accepted, and `; none within N` that none of at most N actions is
 abbrev pub Headline : Option Files → Command → Status → List ℕ → Type 0
 Headline files (check d p q) Yes text = SaysAccepted files (check d p q) text
+Headline files (search s d p) Yes text = PrintsPlan files (search s d p) s text
+Headline files (search s d p) No text = SaysNoPlan files (search s d p) s text
 Headline files c status text = ⊤
 
--- nothing past range is looked at
+-- nothing past range is looked at, and a search has room for the search nodes that it meets
 abbrev pub IsCalm : Option Files → Command → Type 0
 IsCalm files (check d p q) = HasCalmPlan files (check d p q)
+IsCalm files (search s d p) = HasCalmSearch files (search s d p) s
 
 -- an answer of the command itself, or one by a cause outside it
 abbrev pub IsCalmStatus : Status → Type 0

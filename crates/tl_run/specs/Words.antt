@@ -1,15 +1,16 @@
 -- Commands as the program holds them.
 use Rattle.std.specs.Prelude.{ℕ, List}
-use Rattle.tl_run.specs.Commands.{check}
+use Rattle.tl_run.specs.Commands.{check, search}
 use Rattle.tl_run.specs.Commands as commands
 use Rattle.tl_run.specs.declared.words.Command.{Command}
-use Rattle.tl_run.specs.declared.words.Command.TheVariants.{Check}
+use Rattle.tl_run.specs.declared.words.Command.TheVariants.{Check, Plan}
 use Rattle.tl_run.specs.declared.words.File.{File}
 use Rattle.tl_run.specs.declared.words.Role.{Role}
 
 -- the command with the names as bytes
 abbrev pub command_meant : Command → commands.Command
 command_meant (Check domain problem plan) = check domain.now problem.now plan.now
+command_meant (Plan s domain problem) = search s domain.now problem.now
 
 -- the role of a file and its name as bytes
 abbrev pub file_meant : File → Role × List ℕ

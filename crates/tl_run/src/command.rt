@@ -10,12 +10,11 @@ ghost use Rattle.tl_run.specs.Promises.{Allows, Gives, Headline, IsAnswer, IsCal
 ghost use Rattle.tl_run.specs.Replies.{HasLines, Sends};
 ghost use Rattle.tl_run.specs.Turns.{BegunInTurn, LacksFile};
 
+use crate::laws::laws;
 use crate::reply::{Reply, reply_to};
 use crate::status::Status;
 use crate::words::command_of;
 use std::alloc::Global;
-use tl_check::laws::plan_has_one_verdict;
-use tl_domain::files_stand_for_one_problem;
 use tl_outside::{Sink, Store, write_whole};
 
 /// Sends the lines of a reply, and answers how the run ends.
@@ -43,7 +42,7 @@ pub fn run<S: Store, K: Sink>(alloc: Global, words: &[String], store: &mut S, ou
         → LacksFile (S.files store.old) c ⊎ Rose (S.faults store.old) (S.faults store.new) }
     ensures write_fault { result ≡ Status.WriteFault → Rose (K.faults out.old) (K.faults out.new) }
 
-    // The plan is accepted where the answer is `; valid`.
+    // A plan is accepted where the answer is `; valid`. A printed plan is accepted and has at most N actions, and breadth-first no accepted plan is shorter; after `; none` no plan is accepted, and after `; none within N` none of at most N actions.
     ensures headline { (c : Command) → command_in (map string_bytes words.now) ≡ Some c
         → Writes (Headline (S.files store.old) c) (K.bytes out.old) (K.bytes out.new) result }
 
@@ -56,12 +55,11 @@ pub fn run<S: Store, K: Sink>(alloc: Global, words: &[String], store: &mut S, ou
         → command_in (map string_bytes words.now) ≡ Some c → S.files store.old ≡ Some told
         → Allows (Some told) c input answer → Gives (K.bytes out.old) (K.bytes out.new) input answer result }
 
-    // Where nothing past range is looked at, no operation past range is the answer.
+    // Where nothing past range is looked at, no operation past range is the answer; and where a search may keep all search nodes of at most N actions, it ends with a plan or without one.
     ensures calm { (c : Command) (told : Files) → command_in (map string_bytes words.now) ≡ Some c → S.files store.old ≡ Some told
         → IsCalm (Some told) c → IsCalmStatus result }
 {
-    plan_has_one_verdict();
-    files_stand_for_one_problem();
+    laws();
     let Some(command) = command_of(words) else {
         return Status::Usage;
     };

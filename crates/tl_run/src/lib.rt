@@ -1,16 +1,19 @@
 //! A run of the program, from its words to its exit status.
 //!
 //! - `command`: `run`, and the writing of a reply.
-//! - `words`: the commands, their files and their words.
+//! - `words`: the commands, their files and their words; `search`: a search, as words write it.
 //! - `input`: the files of a command, read in turn; `turn`: the bytes of one file, and what they add to what was read before.
 //! - `reply`: the reply to a command; `commands`: a module for each command.
 //! - `stop`: why a file is not read on; `status`: how a run ends.
+//! - `laws`: what is proved below of the definitions in the promises.
 #![tactic(auto)]
 
 mod command;
 mod commands;
 mod input;
+mod laws;
 mod reply;
+mod search;
 mod status;
 mod stop;
 mod turn;

@@ -1,6 +1,7 @@
 // The reply to a command.
 ghost use Rattle.std.specs.Prelude.{◌≡◌, ◌-◌, IfOk, IfErr};
 ghost use Rattle.tl_run.specs.declared.status.Status.TheVariants as status;
+ghost use Rattle.tl_run.specs.Commands.{KeepsLimits};
 ghost use Rattle.tl_run.specs.Held.{IsHeld, KeepsBounds};
 ghost use Rattle.tl_run.specs.Inputs as inputs;
 ghost use Rattle.tl_run.specs.Promises.{IsAnswer};
@@ -10,7 +11,7 @@ ghost use Rattle.tl_run.specs.Stops.{IsBareStatus};
 ghost use Rattle.tl_run.specs.Turns.{BegunInTurn};
 ghost use Rattle.tl_run.specs.Words.{command_meant};
 
-use crate::commands::check;
+use crate::commands::{check, plan};
 use crate::input::read_input;
 use crate::status::Status;
 use crate::stop::{Broken, Stop};
@@ -41,6 +42,7 @@ impl From<NoMemory> for Status {
 /// The reply to a command over its input: one line for each command.
 fn reply_over(alloc: Global, command: Command<'_>, input: Input) -> Result<Reply, NoMemory>
     requires fits { Fits (command_meant command) input }
+    requires limits { KeepsLimits (command_meant command) }
     requires keeps { KeepsBounds input }
     ensures { (x : inputs.Input) → IsHeld input x → IfOk result (Replies (command_meant command.entry) x) }
 {
@@ -49,6 +51,7 @@ fn reply_over(alloc: Global, command: Command<'_>, input: Input) -> Result<Reply
             let (problem, plan) = input.into_plan();
             check::reply(alloc, problem, plan.as_slice())
         }
+        Command::Plan { search, .. } => plan::reply(alloc, input.into_problem(), search),
     }
 }
 
@@ -68,6 +71,7 @@ pub(crate) fn reply_to<S: Store>(
     store: &mut S,
     command: Command<'_>,
 ) -> Result<Reply, Status>
+    requires { KeepsLimits (command_meant command) }
     ensures answer { IfOk result (λ reply. IsAnswer (S.files store.old) (command_meant command.entry)
         (record { whole = S.whole store.new; count = S.begun store.new - S.begun store.old }) reply.status reply.text) }
     ensures bare { IfErr result (IsBareStatus (S.files store.old) (command_meant command.entry) (S.faults store.old) (S.faults store.new)) }

@@ -61,7 +61,7 @@ impl Input {
     }
 
     /// The problem that was read last.
-    fn into_problem(self) -> Problem
+    pub(crate) fn into_problem(self) -> Problem
         requires { last_role self ≡ Some role.Problem }
         ensures { self ≡ Input.Problem result }
     {
@@ -163,8 +163,13 @@ fn plan_in(alloc: Global, number: u8, forms: &Forms, problem: Problem) -> Result
     ensures last { IfOk result (λ held. last_role held ≡ Some role.Plan) }
     ensures stop { IfErr result (IsFormsStop number (breaks_of role.Plan (a_problem problem) (trees_of forms.now))) }
 {
-    let plan = actions_in(alloc, number, forms, &problem)?;
-    Ok(Input::Plan(problem, plan))
+    match actions_in(alloc, number, forms, &problem) {
+        Ok(plan) => Ok(Input::Plan(problem, plan)),
+        Err(stop) => {
+            drop(problem);
+            Err(stop)
+        }
+    }
 }
 
 /// What the forms of a file of this role stand for, together with what was read before.

@@ -1,10 +1,11 @@
 // The words of a command line.
-ghost use Rattle.std.specs.Prelude.{◌≡◌, ◌≤◌, length, map, IfOk};
+ghost use Rattle.std.specs.Prelude.{◌≡◌, ◌≤◌, length, map, IfOk, IfSome};
 ghost use Rattle.std.specs.Option.{option_map};
 ghost use Rattle.std.specs.String.{string_bytes};
-ghost use Rattle.tl_run.specs.Commands.{command_in, files_of};
+ghost use Rattle.tl_run.specs.Commands.{command_in, files_of, KeepsLimits};
 ghost use Rattle.tl_run.specs.Words.{command_meant, file_meant};
 
+use crate::search::{Search, search_of};
 use std::alloc::{AllocError, Global};
 
 /// What a file of a command is read as.
@@ -39,6 +40,15 @@ pub(crate) enum Command<'a> {
         /// The name of the plan file.
         plan: &'a str,
     },
+    /// A search for a plan.
+    Plan {
+        /// The search.
+        search: Search,
+        /// The name of the domain file.
+        domain: &'a str,
+        /// The name of the problem file.
+        problem: &'a str,
+    },
 }
 
 impl<'a> Command<'a> {
@@ -57,6 +67,11 @@ impl<'a> Command<'a> {
                 Role::Problem.file(problem),
                 Role::Plan.file(plan),
             ]?),
+            Command::Plan {
+                domain,
+                problem,
+                ..
+            } => Ok(vec![in alloc; Role::Domain.file(domain), Role::Problem.file(problem)]?),
         }
     }
 }
@@ -72,7 +87,8 @@ impl Role {
 
 /// The command that the words write. It takes no memory.
 pub(crate) fn command_of(words: &[String]) -> Option<Command<'_>>
-    ensures { option_map command_meant result ≡ command_in (map string_bytes words.now) }
+    ensures command { option_map command_meant result ≡ command_in (map string_bytes words.now) }
+    ensures limits { IfSome result (λ command. KeepsLimits (command_meant command)) }
 {
     match words {
         [word, domain, problem, plan] if word.as_str() == "check" => Some(Command::Check {
@@ -80,6 +96,14 @@ pub(crate) fn command_of(words: &[String]) -> Option<Command<'_>>
             problem: problem.as_str(),
             plan: plan.as_str(),
         }),
+        [word, mode, within, nodes, domain, problem] if word.as_str() == "plan" => {
+            let search = search_of(mode.as_str(), within.as_str(), nodes.as_str())?;
+            Some(Command::Plan {
+                search,
+                domain: domain.as_str(),
+                problem: problem.as_str(),
+            })
+        }
         _ => None,
     }
 }

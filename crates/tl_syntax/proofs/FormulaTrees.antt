@@ -94,7 +94,4 @@ pub trees-Formulas : (xs : Formulas) → tree_of_formulas xs ≡ formulas_of_lis
 unfolding tree_of_formula tree_of_formulas
 trees-Formulas xs = fold_out-Formulas FormulaTree FormulaTrees formula_step formulas_step xs
 
-pub copied-Formulas : (ts us : Formulas) → map tree_of_formula us.items.items ≡ map tree_of_formula ts.items.items → tree_of_formulas us ≡ tree_of_formulas ts
-copied-Formulas ts us h = trees-Formulas us ∙ (ap formulas_of_list h ∙ sym (trees-Formulas ts))
-
 pub ruleset formula_trees = (tree-True, tree-False, tree-Atom, tree-Defined, tree-Compare, tree-GoalFact, tree-GoalPlace, tree-GoalNot, tree-Not, tree-And, tree-Or, tree-ForAll, tree-Exists, tree-Next, tree-Always, tree-Eventually, tree-Until, tree-Within, tree-During)

@@ -11,5 +11,6 @@ pub mod EffectTrees
 pub mod TermSame
 pub mod FormulaSame
 pub mod Bindings
+pub mod NothingPutIn
 pub mod SubstitutedFits
 pub mod SubstitutedLeaves

@@ -30,7 +30,4 @@ pub trees-Terms : (ts : Terms) → tree_of_terms ts ≡ terms_of_list (map tree_
 unfolding tree_of_term tree_of_terms
 trees-Terms ts = fold_out-Terms TermTree TermTrees term_step terms_step ts
 
-pub copied-Terms : (ts us : Terms) → map tree_of_term us.items.items ≡ map tree_of_term ts.items.items → tree_of_terms us ≡ tree_of_terms ts
-copied-Terms ts us h = trees-Terms us ∙ (ap terms_of_list h ∙ sym (trees-Terms ts))
-
 pub ruleset term_trees = (tree-Var, tree-Val, tree-Place, tree-Arith)

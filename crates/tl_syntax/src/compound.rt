@@ -1,9 +1,10 @@
 // Formulas made of formulas, each of which goes to the heap.
 ghost use Rattle.std.specs.Prelude.{◌≡◌, IfOk};
+ghost use Rattle.tl_syntax.specs.Junctions.{quantified};
 ghost use Rattle.tl_syntax.specs.TreeOfFormula.{tree_of_formula};
 ghost use Rattle.tl_syntax.specs.Trees.{negation, for_all, for_some, next, always, eventually, until, within, during};
 
-use crate::{Bound, Formula, NoMemory, Vars};
+use crate::{Bound, Formula, Junction, NoMemory, Vars};
 use std::alloc::Global;
 
 impl Formula {
@@ -81,5 +82,21 @@ impl Formula {
     {
         let f = Box::new(alloc, f)?;
         Ok(Formula::Exists(vars, bound, f))
+    }
+
+    /// That the formula holds for every tuple of the bound, or for some one. It fails for want of memory alone, and drops the parts then.
+    pub fn quantified(
+        alloc: Global,
+        junction: Junction,
+        vars: Vars,
+        bound: Bound,
+        f: Formula,
+    ) -> Result<Formula, NoMemory>
+        ensures made { IfOk result (λ out. tree_of_formula out ≡ quantified junction vars bound (tree_of_formula f)) }
+    {
+        match junction {
+            Junction::All => Formula::for_all(alloc, vars, bound, f),
+            Junction::Any => Formula::exists(alloc, vars, bound, f),
+        }
     }
 }

@@ -2,15 +2,16 @@
 ghost use Rattle.std.specs.Prelude.{◌≡◌, ◌↔◌, [], ◌∷◌, ◌++◌, true, IfOk, OnOk, OnErr};
 ghost use Rattle.tl_syntax.specs.Basic.{is_basic};
 ghost use Rattle.tl_syntax.specs.Bindings.{assignment_of};
-ghost use Rattle.tl_syntax.specs.Substitution.{substituted, substituted_all, substituted_bound, substituted_term};
+ghost use Rattle.tl_syntax.specs.Junctions.{quantified};
+ghost use Rattle.tl_syntax.specs.Substitution.{without, substituted, substituted_all, substituted_arg, substituted_args, substituted_bound, substituted_term, substituted_terms};
 ghost use Rattle.tl_syntax.specs.TreeOfFormula.{formulas_in, tree_of_formula, tree_of_formulas};
-ghost use Rattle.tl_syntax.specs.TreeOfTerm.{tree_of_term};
-ghost use Rattle.tl_syntax.specs.Trees.{compare, for_all, for_some};
+ghost use Rattle.tl_syntax.specs.TreeOfTerm.{tree_of_term, tree_of_terms};
+ghost use Rattle.tl_syntax.specs.Trees.{atom, compare, defined, goal_fact, goal_not, goal_place, until};
 
 use crate::substitution::{
     Binding, arg_with_values, args_with_values, bindings_below, bound_with_values,
 };
-use crate::{Arg, Args, Bound, Cmp, NoMemory, Term, Terms, Vars};
+use crate::{Arg, Args, Bound, Cmp, Junction, NoMemory, Term, Terms, Vars};
 use std::alloc::{AllocError, Global};
 
 /// A formula of first-order linear temporal logic with bounded quantifiers and a goal modality (Bacchus and Kabanza 2000).
@@ -95,18 +96,11 @@ impl Formulas {
     }
 
     /// The same list again. It fails for want of memory alone.
-    #[cycle(copy_formula)]
+    #[tactic(auto, using(crate::proofs::NothingPutIn::nothing_put_in))]
     pub fn copy(&self, alloc: Global) -> Result<Formulas, NoMemory>
         ensures same { IfOk result (λ copy. tree_of_formulas copy ≡ tree_of_formulas self.now) }
     {
-        let mut out = Formulas {
-            items: Vec::new(alloc),
-        };
-        for formula in self.items.iter() {
-            let one = formula.copy(alloc)?;
-            out.items.push(one)?;
-        }
-        Ok(out)
+        self.with_values(alloc, &[])
     }
 
     /// The list with the values put in for free variables. It fails for want of memory alone.
@@ -137,33 +131,12 @@ impl Formulas {
 }
 
 impl Formula {
-    /// The same formula again. It fails for want of memory alone.
-    #[cycle(copy_formula)]
-    #[tactic(auto, using(crate::proofs::FormulaTrees::formula_trees))]
+    /// The same formula again: no value is put in. It fails for want of memory alone.
+    #[tactic(auto, using(crate::proofs::NothingPutIn::nothing_put_in))]
     pub fn copy(&self, alloc: Global) -> Result<Formula, NoMemory>
         ensures same { IfOk result (λ copy. tree_of_formula copy ≡ tree_of_formula self.now) }
     {
-        match self {
-            Formula::True => Ok(Formula::True),
-            Formula::False => Ok(Formula::False),
-            Formula::Atom(p, args) => Ok(Formula::Atom(*p, args.copy(alloc)?)),
-            Formula::Defined(p, args) => Ok(Formula::Defined(*p, args.copy(alloc)?)),
-            Formula::Compare(cmp, left, right) => copy_comparison(alloc, *cmp, left, right),
-            Formula::GoalFact(p, args) => Ok(Formula::GoalFact(*p, args.copy(alloc)?)),
-            Formula::GoalPlace(f, args, x) => Ok(Formula::GoalPlace(*f, args.copy(alloc)?, *x)),
-            Formula::GoalNot(p, args) => Ok(Formula::GoalNot(*p, args.copy(alloc)?)),
-            Formula::Not(f) => Formula::not(alloc, f.copy(alloc)?),
-            Formula::And(parts) => Ok(Formula::And(parts.copy(alloc)?)),
-            Formula::Or(parts) => Ok(Formula::Or(parts.copy(alloc)?)),
-            Formula::ForAll(vars, bound, f) => copy_for_all(alloc, vars, bound, f.copy(alloc)?),
-            Formula::Exists(vars, bound, f) => copy_exists(alloc, vars, bound, f.copy(alloc)?),
-            Formula::Next(f) => Formula::next(alloc, f.copy(alloc)?),
-            Formula::Always(f) => Formula::always(alloc, f.copy(alloc)?),
-            Formula::Eventually(f) => Formula::eventually(alloc, f.copy(alloc)?),
-            Formula::Until(f, g) => Formula::until(alloc, f.copy(alloc)?, g.copy(alloc)?),
-            Formula::Within(n, f) => Formula::within(alloc, *n, f.copy(alloc)?),
-            Formula::During(n, f) => Formula::during(alloc, *n, f.copy(alloc)?),
-        }
+        self.with_values(alloc, &[])
     }
 
     /// The formula with the values put in for free variables, where the first binding of a slot counts. It fails for want of memory alone.
@@ -175,44 +148,31 @@ impl Formula {
         match self {
             Formula::True => Ok(Formula::True),
             Formula::False => Ok(Formula::False),
-            Formula::Atom(p, args) => Ok(Formula::Atom(*p, args.with_values(alloc, bindings)?)),
-            Formula::Defined(p, args) => {
-                Ok(Formula::Defined(*p, args.with_values(alloc, bindings)?))
-            }
+            Formula::Atom(p, args) => atom_with_values(alloc, *p, args, bindings),
+            Formula::Defined(p, args) => defined_with_values(alloc, *p, args, bindings),
             Formula::Compare(cmp, left, right) => {
                 comparison_with_values(alloc, *cmp, left, right, bindings)
             }
-            Formula::GoalFact(p, args) => {
-                Ok(Formula::GoalFact(*p, args_with_values(alloc, args, bindings)?))
-            }
+            Formula::GoalFact(p, args) => goal_fact_with_values(alloc, *p, args, bindings),
             Formula::GoalPlace(f, args, x) => {
-                let args = args_with_values(alloc, args, bindings)?;
-                let x = arg_with_values(*x, bindings);
-                Ok(Formula::GoalPlace(*f, args, x))
+                goal_place_with_values(alloc, *f, args, *x, bindings)
             }
-            Formula::GoalNot(p, args) => {
-                Ok(Formula::GoalNot(*p, args_with_values(alloc, args, bindings)?))
-            }
+            Formula::GoalNot(p, args) => goal_not_with_values(alloc, *p, args, bindings),
             Formula::Not(f) => Formula::not(alloc, f.with_values(alloc, bindings)?),
             Formula::And(parts) => Ok(Formula::And(parts.with_values(alloc, bindings)?)),
             Formula::Or(parts) => Ok(Formula::Or(parts.with_values(alloc, bindings)?)),
             Formula::ForAll(vars, bound, f) => {
-                let below = bindings_below(alloc, vars, bindings)?;
-                let f = f.with_values(alloc, below.as_slice())?;
-                for_all_with_values(alloc, vars, bound, f, below.as_slice())
+                quantified_with_values(alloc, Junction::All, vars, bound, f, bindings)
             }
             Formula::Exists(vars, bound, f) => {
-                let below = bindings_below(alloc, vars, bindings)?;
-                let f = f.with_values(alloc, below.as_slice())?;
-                exists_with_values(alloc, vars, bound, f, below.as_slice())
+                quantified_with_values(alloc, Junction::Any, vars, bound, f, bindings)
             }
             Formula::Next(f) => Formula::next(alloc, f.with_values(alloc, bindings)?),
             Formula::Always(f) => Formula::always(alloc, f.with_values(alloc, bindings)?),
             Formula::Eventually(f) => Formula::eventually(alloc, f.with_values(alloc, bindings)?),
             Formula::Until(f, g) => {
-                let f = f.with_values(alloc, bindings)?;
                 let g = g.with_values(alloc, bindings)?;
-                Formula::until(alloc, f, g)
+                until_with_values(alloc, f, g, bindings)
             }
             Formula::Within(n, f) => Formula::within(alloc, *n, f.with_values(alloc, bindings)?),
             Formula::During(n, f) => Formula::during(alloc, *n, f.with_values(alloc, bindings)?),
@@ -255,32 +215,30 @@ impl Formula {
     }
 }
 
-// A comparison of copied terms.
+// An atom with the values put in.
 #[tactic(auto, using(crate::proofs::FormulaTrees::formula_trees))]
-fn copy_comparison(alloc: Global, cmp: Cmp, left: &Term, right: &Term) -> Result<Formula, NoMemory>
-    ensures { IfOk result (λ out. tree_of_formula out ≡ compare cmp (tree_of_term left.now) (tree_of_term right.now)) }
+fn atom_with_values(
+    alloc: Global,
+    pred: u32,
+    args: &Terms,
+    bindings: &[Binding],
+) -> Result<Formula, NoMemory>
+    ensures { IfOk result (λ out. tree_of_formula out ≡ atom pred (substituted_terms (assignment_of bindings.now) (tree_of_terms args.now))) }
 {
-    let left = left.copy(alloc)?;
-    let right = right.copy(alloc)?;
-    Ok(Formula::Compare(cmp, left, right))
+    Ok(Formula::Atom(pred, args.with_values(alloc, bindings)?))
 }
 
-// The formula for every tuple of a copied bound.
-fn copy_for_all(alloc: Global, vars: &Vars, bound: &Bound, f: Formula) -> Result<Formula, NoMemory>
-    ensures { IfOk result (λ out. tree_of_formula out ≡ for_all vars.now bound.now (tree_of_formula f)) }
+// An atom of a definition with the values put in.
+#[tactic(auto, using(crate::proofs::FormulaTrees::formula_trees))]
+fn defined_with_values(
+    alloc: Global,
+    number: u32,
+    args: &Terms,
+    bindings: &[Binding],
+) -> Result<Formula, NoMemory>
+    ensures { IfOk result (λ out. tree_of_formula out ≡ defined number (substituted_terms (assignment_of bindings.now) (tree_of_terms args.now))) }
 {
-    let vars = vars.copy(alloc)?;
-    let bound = bound.copy(alloc)?;
-    Formula::for_all(alloc, vars, bound, f)
-}
-
-// The formula for some tuple of a copied bound.
-fn copy_exists(alloc: Global, vars: &Vars, bound: &Bound, f: Formula) -> Result<Formula, NoMemory>
-    ensures { IfOk result (λ out. tree_of_formula out ≡ for_some vars.now bound.now (tree_of_formula f)) }
-{
-    let vars = vars.copy(alloc)?;
-    let bound = bound.copy(alloc)?;
-    Formula::exists(alloc, vars, bound, f)
+    Ok(Formula::Defined(number, args.with_values(alloc, bindings)?))
 }
 
 // A comparison of terms with the values put in.
@@ -299,32 +257,91 @@ fn comparison_with_values(
     Ok(Formula::Compare(cmp, left, right))
 }
 
-// The formula for every tuple of the bound with the values put in.
-fn for_all_with_values(
+// A fact of the goal list with the values put in.
+#[tactic(auto, using(crate::proofs::FormulaTrees::formula_trees))]
+fn goal_fact_with_values(
     alloc: Global,
-    vars: &Vars,
-    bound: &Bound,
-    f: Formula,
-    below: &[Binding],
+    pred: u32,
+    args: &Args,
+    bindings: &[Binding],
 ) -> Result<Formula, NoMemory>
-    ensures { IfOk result (λ out. tree_of_formula out ≡ for_all vars.now (substituted_bound (assignment_of below.now) bound.now) (tree_of_formula f)) }
+    ensures { IfOk result (λ out. tree_of_formula out ≡ goal_fact pred (substituted_args (assignment_of bindings.now) args.now)) }
 {
-    let vars = vars.copy(alloc)?;
-    let bound = bound_with_values(alloc, bound, below)?;
-    Formula::for_all(alloc, vars, bound, f)
+    Ok(Formula::GoalFact(pred, args_with_values(alloc, args, bindings)?))
 }
 
-// The formula for some tuple of the bound with the values put in.
-fn exists_with_values(
+// A place of the goal list with the values put in.
+#[tactic(auto, using(crate::proofs::FormulaTrees::formula_trees))]
+fn goal_place_with_values(
+    alloc: Global,
+    fun: u32,
+    args: &Args,
+    value: Arg,
+    bindings: &[Binding],
+) -> Result<Formula, NoMemory>
+    ensures { IfOk result (λ out. tree_of_formula out ≡ goal_place fun (substituted_args (assignment_of bindings.now) args.now) (substituted_arg (assignment_of bindings.now) value)) }
+{
+    let args = args_with_values(alloc, args, bindings)?;
+    Ok(Formula::GoalPlace(fun, args, arg_with_values(value, bindings)))
+}
+
+// A negated fact of the goal list with the values put in.
+#[tactic(auto, using(crate::proofs::FormulaTrees::formula_trees))]
+fn goal_not_with_values(
+    alloc: Global,
+    pred: u32,
+    args: &Args,
+    bindings: &[Binding],
+) -> Result<Formula, NoMemory>
+    ensures { IfOk result (λ out. tree_of_formula out ≡ goal_not pred (substituted_args (assignment_of bindings.now) args.now)) }
+{
+    Ok(Formula::GoalNot(pred, args_with_values(alloc, args, bindings)?))
+}
+
+// That `g` holds now or later, and the first formula with the values put in until then.
+#[cycle(put_in_formulas)]
+fn until_with_values(
+    alloc: Global,
+    f: &Formula,
+    g: Formula,
+    bindings: &[Binding],
+) -> Result<Formula, NoMemory>
+    ensures { IfOk result (λ out. tree_of_formula out ≡ until (substituted (assignment_of bindings.now) (tree_of_formula f.now)) (tree_of_formula g)) }
+{
+    let f = f.with_values(alloc, bindings)?;
+    Formula::until(alloc, f, g)
+}
+
+// The formula for every tuple of the bound, or for some one, with the values put in for all variables but its own.
+#[cycle(put_in_formulas)]
+#[tactic(auto, using(crate::proofs::Bindings::assignment_below))]
+fn quantified_with_values(
+    alloc: Global,
+    junction: Junction,
+    vars: &Vars,
+    bound: &Bound,
+    f: &Formula,
+    bindings: &[Binding],
+) -> Result<Formula, NoMemory>
+    ensures { IfOk result (λ out. tree_of_formula out ≡ quantified junction vars.now (substituted_bound (without vars.now (assignment_of bindings.now)) bound.now) (substituted (without vars.now (assignment_of bindings.now)) (tree_of_formula f.now))) }
+{
+    let below = bindings_below(alloc, vars, bindings)?;
+    let (vars, bound) = scope_with_values(alloc, vars, bound, below.as_slice())?;
+    let f = f.with_values(alloc, below.as_slice())?;
+    Formula::quantified(alloc, junction, vars, bound, f)
+}
+
+// The variables again, and the bound with the values put in.
+fn scope_with_values(
     alloc: Global,
     vars: &Vars,
     bound: &Bound,
-    f: Formula,
-    below: &[Binding],
-) -> Result<Formula, NoMemory>
-    ensures { IfOk result (λ out. tree_of_formula out ≡ for_some vars.now (substituted_bound (assignment_of below.now) bound.now) (tree_of_formula f)) }
+    bindings: &[Binding],
+) -> Result<(Vars, Bound), NoMemory>
+    ensures vars { IfOk result (λ scope. scope.0 ≡ vars.now) }
+    ensures bound { IfOk result (λ scope. scope.1 ≡ substituted_bound (assignment_of bindings.now) bound.now) }
 {
     let vars = vars.copy(alloc)?;
-    let bound = bound_with_values(alloc, bound, below)?;
-    Formula::exists(alloc, vars, bound, f)
+    let bound = bound_with_values(alloc, bound, bindings)?;
+    Ok((vars, bound))
 }

@@ -58,18 +58,11 @@ impl Terms {
     }
 
     /// The same list again. It fails for want of memory alone.
-    #[cycle(copy_term)]
+    #[tactic(auto, using(crate::proofs::NothingPutIn::nothing_put_in))]
     pub fn copy(&self, alloc: Global) -> Result<Terms, NoMemory>
         ensures same { IfOk result (λ copy. tree_of_terms copy ≡ tree_of_terms self.now) }
     {
-        let mut out = Terms {
-            items: Vec::new(alloc),
-        };
-        for term in self.items.iter() {
-            let one = term.copy(alloc)?;
-            out.items.push(one)?;
-        }
-        Ok(out)
+        self.with_values(alloc, &[])
     }
 
     /// The list with the values put in. It fails for want of memory alone.
@@ -96,25 +89,12 @@ impl Terms {
 }
 
 impl Term {
-    /// The same term again. It fails for want of memory alone.
-    #[cycle(copy_term)]
-    #[tactic(auto, using(crate::proofs::TermTrees::term_trees))]
+    /// The same term again: no value is put in. It fails for want of memory alone.
+    #[tactic(auto, using(crate::proofs::NothingPutIn::nothing_put_in))]
     pub fn copy(&self, alloc: Global) -> Result<Term, NoMemory>
         ensures same { IfOk result (λ copy. tree_of_term copy ≡ tree_of_term self.now) }
     {
-        match self {
-            Term::Var(var) => Ok(Term::Var(*var)),
-            Term::Val(value) => Ok(Term::Val(*value)),
-            Term::Place(fun, args) => {
-                let args = args.copy(alloc)?;
-                Ok(Term::Place(*fun, args))
-            }
-            Term::Arith(op, left, right, at) => {
-                let left = Box::new(alloc, left.copy(alloc)?)?;
-                let right = Box::new(alloc, right.copy(alloc)?)?;
-                Ok(Term::Arith(*op, left, right, *at))
-            }
-        }
+        self.with_values(alloc, &[])
     }
 
     /// The term with the values put in. It fails for want of memory alone.

@@ -17,4 +17,5 @@ pub mod StepLaws
 pub mod NamedWorlds
 pub mod NamedSteps
 pub mod OrderLaws
+pub mod FitsAlone
 pub mod QuantifierExamples

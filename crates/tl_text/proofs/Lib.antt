@@ -2,3 +2,5 @@ pub mod Rulesets
 pub mod Placed
 pub mod PlanOrder
 pub mod LinesReadBack
+pub mod AfterLine
+pub mod PlanReadBack

@@ -1,6 +1,6 @@
 -- The lines of actions as the forms of a plan file.
 use Rattle.std.proofs.Common.{◌≡◌, ℕ, ◌+◌, ◌≤◌, List, [], ◌∷◌, length, map, refl, sym, subst, add-zero, length-append, lt-ltb, arith}
-use Rattle.tl_sexpr.specs.Spelling.{IsGap, IsItem, AreItems}
+use Rattle.tl_sexpr.specs.Spelling.{IsGap, IsItem, AreItems, Spells}
 use Rattle.tl_sexpr.specs.Tree.{FormTrees, no_form, more_forms}
 use Rattle.tl_sexpr.proofs.Spelled.{no_gap, gap_of_blank, gaps_join}
 use Rattle.tl_syntax.specs.declared.action.Action.{Action}
@@ -24,7 +24,7 @@ lines_forms names operators [] at = no_form
 lines_forms names operators (a ∷ plan) at = more_forms (action_form names operators a at) (lines_forms names operators plan (at + length (action_text names operators a) + 1))
 
 -- items with a longer gap before them
-items-later : (bytes : List ℕ) (around from mid to : ℕ) (fs : FormTrees) → IsGap bytes from mid → AreItems bytes around mid to fs → AreItems bytes around from to fs
+pub items-later : (bytes : List ℕ) (around from mid to : ℕ) (fs : FormTrees) → IsGap bytes from mid → AreItems bytes around mid to fs → AreItems bytes around from to fs
 unfolding IsItem AreItems
 items-later bytes around from mid to no_form gap h = gaps_join bytes from mid to gap h
 items-later bytes around from mid to (more_forms f fs) gap h = (h.0, h.1, gaps_join bytes from mid h.0 gap h.2, h.3, h.4)
@@ -55,25 +55,29 @@ clean-lines names operators (a ∷ plan) w =
     let rest = action_lines names operators plan in
     clean-both (action_text names operators a) (10 ∷ rest) (clean-text names operators a w.0) (clean-more 10 rest (λ e. apart 10 e refl) (clean-lines names operators plan w.1))
 
-lines-breaks : (names : List (List ℕ)) (operators : List Operator) (before : ℕ) (plan : List Action) (at : ℕ) → AreDistinct names → Differ (map (λ o. o.name) operators) → Each (IsWritable names operators) plan → before + length plan ≤ 100000 → actions_breaks names operators before (lines_forms names operators plan at) ≡ []
+pub lines-breaks : (names : List (List ℕ)) (operators : List Operator) (before : ℕ) (plan : List Action) (at : ℕ) → AreDistinct names → Differ (map (λ o. o.name) operators) → Each (IsWritable names operators) plan → before + length plan ≤ 100000 → actions_breaks names operators before (lines_forms names operators plan at) ≡ []
 lines-breaks names operators before [] at distinct differ w few = refl
 lines-breaks names operators before (a ∷ plan) at distinct differ w few =
     let within = lt-ltb before 100000 (omega arith) in
     rw (within, form-breaks names operators a at distinct differ w.0, lines-breaks names operators (before + 1) plan (at + length (action_text names operators a) + 1) distinct differ w.1 (omega arith)) refl
 
-lines-meant : (names : List (List ℕ)) (operators : List Operator) (plan : List Action) (at : ℕ) → AreDistinct names → Differ (map (λ o. o.name) operators) → Each (IsWritable names operators) plan → plan_meant names operators (lines_forms names operators plan at) ≡ plan
+pub lines-meant : (names : List (List ℕ)) (operators : List Operator) (plan : List Action) (at : ℕ) → AreDistinct names → Differ (map (λ o. o.name) operators) → Each (IsWritable names operators) plan → plan_meant names operators (lines_forms names operators plan at) ≡ plan
 lines-meant names operators [] at distinct differ w = refl
 lines-meant names operators (a ∷ plan) at distinct differ w =
     rw (form-meant names operators a at distinct differ w.0, lines-meant names operators plan (at + length (action_text names operators a) + 1) distinct differ w.1) refl
 
-pub lines-read-back : (names : List (List ℕ)) (operators : List Operator) (plan : List Action) → AreDistinct names → Differ (map (λ o. o.name) operators) → Each (IsWritable names operators) plan → length plan ≤ 100000 → AreReadAs names operators (action_lines names operators plan) plan
-lines-read-back names operators plan distinct differ w few =
+pub lines-spelled : (names : List (List ℕ)) (operators : List Operator) (plan : List Action) → Each (IsWritable names operators) plan → Spells (action_lines names operators plan) (lines_forms names operators plan 0)
+lines-spelled names operators plan w =
     let lines = action_lines names operators plan in
     let last : 0 + length lines ≡ length lines = omega arith in
     let I : ℕ → Type 0 = λ to. AreItems lines 0 0 to (lines_forms names operators plan 0) in
+    subst I last (lines-items names operators lines 0 plan (clean-lines names operators plan w) w (has-all lines))
+
+pub lines-read-back : (names : List (List ℕ)) (operators : List Operator) (plan : List Action) → AreDistinct names → Differ (map (λ o. o.name) operators) → Each (IsWritable names operators) plan → length plan ≤ 100000 → AreReadAs names operators (action_lines names operators plan) plan
+lines-read-back names operators plan distinct differ w few =
     record {
       forms = lines_forms names operators plan 0;
-      spelled = subst I last (lines-items names operators lines 0 plan (clean-lines names operators plan w) w (has-all lines));
+      spelled = lines-spelled names operators plan w;
       unbroken = lines-breaks names operators 0 plan 0 distinct differ w (omega arith);
       meant = lines-meant names operators plan 0 distinct differ w;
     }

@@ -1,4 +1,4 @@
--- Laws of the lines of actions.
+-- Laws of the lines of actions and of plans.
 use Rattle.std.specs.Prelude.{◌≡◌, ℕ, ◌≤◌, List, [], length, map}
 use Rattle.tl_sexpr.specs.Spelling.{Spells}
 use Rattle.tl_sexpr.specs.Tree.{FormTrees}
@@ -10,6 +10,7 @@ use Rattle.tl_syntax.specs.Texts.{AreDistinct}
 use Rattle.tl_line.specs.WritableActions.{IsWritable}
 use Rattle.tl_text.specs.Plans.{plan_breaks}
 use Rattle.tl_text.specs.MeaningOfPlans.{plan_meant}
+use Rattle.tl_text.specs.Outcomes.{plan_text}
 use Rattle.tl_text.specs.Ranges.{action_lines}
 
 -- the bytes spell forms that break no rule of plan files and stand for this plan
@@ -25,3 +26,10 @@ LinesAreReadBack =
     (names : List (List ℕ)) (operators : List Operator) (plan : List Action) →
     AreDistinct names → Differ (map (λ o. o.name) operators) → Each (IsWritable names operators) plan → length plan ≤ 100000 →
     AreReadAs names operators (action_lines names operators plan) plan
+
+-- so are the lines of a printed plan, of which the first is a comment
+abbrev pub PlansAreReadBack : Type 0
+PlansAreReadBack =
+    (names : List (List ℕ)) (operators : List Operator) (plan : List Action) →
+    AreDistinct names → Differ (map (λ o. o.name) operators) → Each (IsWritable names operators) plan → length plan ≤ 100000 →
+    AreReadAs names operators (plan_text names operators plan) plan

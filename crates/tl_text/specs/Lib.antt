@@ -2,6 +2,7 @@ pub mod Plans
 pub mod MeaningOfPlans
 pub mod Refusals
 pub mod Ranges
+pub mod Outcomes
 pub mod LawsOrder
 pub mod LawsReadBack
 pub mod Examples

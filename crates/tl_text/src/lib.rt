@@ -6,17 +6,20 @@
 //! - `refusals`: the text for a file that is refused.
 //! - `ranges`: the text for an operation that is past range.
 //! - `verdicts`: the text of the verdict on a plan.
+//! - `outcomes`: the text of what a search answers.
 //! - `lines`: lines of text as bytes, and a line for each action.
 //! - `laws`: the order of the breaks of a plan file.
 #![tactic(auto)]
 
 pub mod laws;
 mod lines;
+mod outcomes;
 mod plans;
 mod ranges;
 mod refusals;
 mod verdicts;
 
+pub use outcomes::outcome_text;
 pub use plans::plan_of;
 pub use ranges::range_text;
 pub use refusals::refused_text;

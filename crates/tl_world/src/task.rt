@@ -64,13 +64,18 @@ impl Task {
         ensures goal { IfOk result (λ task. task.goal ≡ (plain_problem problem).goal) }
         ensures avoid { IfOk result (λ task. task.avoid ≡ (plain_problem problem).avoid) }
     {
-        let worlds = worlds_of(alloc, &problem)?;
-        Ok(Task {
-            problem,
-            first: worlds.first,
-            goal: worlds.goal,
-            avoid: worlds.avoid,
-        })
+        match worlds_of(alloc, &problem) {
+            Ok(worlds) => Ok(Task {
+                problem,
+                first: worlds.first,
+                goal: worlds.goal,
+                avoid: worlds.avoid,
+            }),
+            Err(fault) => {
+                drop(problem);
+                Err(fault)
+            }
+        }
     }
 
     /// The goal test: whether each fact of the goal is in the world, each place of the goal has its value there, and no negated fact is in the world.

@@ -80,5 +80,7 @@ pub(crate) fn reply(alloc: Global, problem: Problem, plan: &[Action]) -> Result<
     ensures { (d p q : List ℕ) → IfOk result (Replies (check d p q) (a_plan problem plan.now)) }
 {
     let task = Task::of(alloc, problem)?;
-    task_reply(alloc, &task, plan)
+    let reply = task_reply(alloc, &task, plan);
+    drop(task);
+    reply
 }

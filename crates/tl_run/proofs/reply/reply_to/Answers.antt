@@ -8,7 +8,7 @@ use Rattle.tl_run.proofs.reply.reply_to.Goals as goal
 pub reply_over-requires : goal.reply_over-requires
 reply_over-requires g c =
     let h = c.in-Ok.ensures.held in
-    record { fits = fits (g.S.Store.files c.args.store.now) (command_meant c.args.command) c.in-Ok.input h.0 h.1 h.2; keeps = c.in-Ok.ensures.keeps }
+    record { fits = fits (g.S.Store.files c.args.store.now) (command_meant c.args.command) c.in-Ok.input h.0 h.1 h.2; limits = c.requires; keeps = c.in-Ok.ensures.keeps }
 
 pub returns-in_ok-reply_over-in-Ok-clause-answer : goal.returns-in_ok-reply_over-in-Ok-clause-answer
 returns-in_ok-reply_over-in-Ok-clause-answer g c =

@@ -5,10 +5,10 @@ use Rattle.tl_terms.proofs.NamedWorlds.{first-named, goal-named, avoid-named}
 
 pub invariant_of-result : goal.invariant_of-result
 invariant_of-result c = record {
-  first_is = c.in_ok-worlds.ensures.first;
-  goal_is = c.in_ok-worlds.ensures.goal;
-  avoid_is = c.in_ok-worlds.ensures.avoid;
-  first_named = subst (WorldIsNamed (length c.args.problem.names)) (sym c.in_ok-worlds.ensures.first) (first-named c.args.problem);
-  goal_named = subst (WorldIsNamed (length c.args.problem.names)) (sym c.in_ok-worlds.ensures.goal) (goal-named c.args.problem);
-  avoid_named = subst (WorldIsNamed (length c.args.problem.names)) (sym c.in_ok-worlds.ensures.avoid) (avoid-named c.args.problem);
+  first_is = c.in-Ok.ensures.first;
+  goal_is = c.in-Ok.ensures.goal;
+  avoid_is = c.in-Ok.ensures.avoid;
+  first_named = subst (WorldIsNamed (length c.args.problem.names)) (sym c.in-Ok.ensures.first) (first-named c.args.problem);
+  goal_named = subst (WorldIsNamed (length c.args.problem.names)) (sym c.in-Ok.ensures.goal) (goal-named c.args.problem);
+  avoid_named = subst (WorldIsNamed (length c.args.problem.names)) (sym c.in-Ok.ensures.avoid) (avoid-named c.args.problem);
 }

@@ -1,0 +1,2 @@
+pub mod FirstOperator
+pub mod GrownSpaces

@@ -1,0 +1,67 @@
+-- The top level and its next action, as the code reads them.
+use Rattle.std.proofs.Common.{◌≡◌, ◌<◌, ◌+◌, ◌-◌, ℕ, suc, List, [], ◌∷◌, ◌++◌, length, slice_index_or, Some, Result, IfOk, OnErr, sym, ap, subst, arith}
+use Rattle.std.specs.List.{slice_get}
+use Rattle.tl_syntax.specs.declared.action.Action.{Action}
+use Rattle.tl_terms.specs.Problem.{PlainProblem}
+use Rattle.tl_search.specs.Calls.{ChildArrives}
+use Rattle.tl_search.specs.KeptPairs.{KeptPair, pairs_of}
+use Rattle.tl_search.specs.declared.arrival.Arrival.{Arrival}
+use Rattle.tl_search.specs.declared.fault.SpaceFault.{SpaceFault}
+use Rattle.tl_depth.specs.declared.level.Level.{Level}
+use Rattle.tl_depth.specs.declared.stack.DepthFirst.{DepthFirst}
+use Rattle.tl_depth.specs.Ongoing.{IsOngoing, IsTop}
+use Rattle.tl_depth.specs.Outcomes.{AreFewCalls}
+use Rattle.tl_depth.proofs.Counting.{child-few}
+use Rattle.tl_depth.proofs.Ends.{last-of, some-length, top-is, action-is}
+use Rattle.tl_depth.proofs.Histories.{there}
+use Rattle.tl_depth.proofs.Trying.{top-placed, few-next}
+
+-- the level that is read at the place is the last one
+pub record ReadsLast (levels : List Level) (place : ℕ) (now : Level) : Type 0 where
+  pub front : List Level
+  pub is : levels ≡ front ++ now ∷ []
+  pub last : suc place ≡ length levels
+
+read-end : (levels counted read front : List Level) (now top : Level) → levels ≡ front ++ top ∷ [] → counted ≡ levels → read ≡ levels → now ≡ slice_index_or read (length counted - 1) now → ReadsLast levels (length counted - 1) now
+read-end levels counted read front now top is e f n = record {
+  front = front;
+  is = subst (λ (d : Level). levels ≡ front ++ d ∷ []) (sym (top-is levels read front top now (length counted - 1) is f last n)) is;
+  last = last;
+}
+  where
+    last : suc (length counted - 1) ≡ length levels
+    last = let long : length levels ≡ suc (length front) = some-length levels front top is in omega (arith, ap length e)
+
+pub reads-last : (levels counted read : List Level) (now : Level) → 0 < length levels → counted ≡ levels → read ≡ levels → now ≡ slice_index_or read (length counted - 1) now → ReadsLast levels (length counted - 1) now
+reads-last levels counted read now some e f n = let v = last-of levels some in read-end levels counted read v.0 now v.1 v.2 e f n
+
+-- and the action that is read of it is its next one
+pub record ReadsTop (levels : List Level) (place left : ℕ) (now : Level) (a : Action) : Type 0 where
+  pub level : ReadsLast levels place now
+  pub at_action : slice_get now.actions now.tried ≡ Some a
+  pub remaining : suc left ≡ now.left
+
+pub reads-top : (levels counted read : List Level) (left : ℕ) (now : Level) (us : List Action) (a : Action) → IsTop levels left → counted ≡ levels → read ≡ levels → now ≡ slice_index_or read (length counted - 1) now → us ≡ now.actions → a ≡ slice_index_or us now.tried a → ReadsTop levels (length counted - 1) left now a
+reads-top levels counted read left now us a t e f n m k = record {
+  level = level;
+  at_action = subst (λ (d : Level). slice_get d.actions d.tried ≡ Some a) (sym same) (action-is t.1 now us a same m k t.3);
+  remaining = subst (λ (d : Level). suc left ≡ d.left) (sym same) t.4;
+}
+  where
+    level : ReadsLast levels (length counted - 1) now
+    level = read-end levels counted read t.0 now t.1 t.2 e f n
+
+    same : now ≡ t.1
+    same = top-is levels read t.0 t.1 now (length counted - 1) t.2 f level.last n
+
+module _ (p : PlainProblem) (b : ℕ) (kept : List KeptPair) (w : DepthFirst) (calls place left : ℕ) (now : Level) (a : Action) (s : IsOngoing p b (pairs_of kept) w calls) (r : ReadsTop w.stack.items place left now a) where
+  now-placed : now.at < length (pairs_of kept)
+  now-placed = top-placed p b (pairs_of kept) w calls s r.level.front now r.level.is
+
+  -- the pair of the level
+  pub now-pair : (x : KeptPair) × (slice_get kept now.at ≡ Some x)
+  now-pair = there kept now.at now-placed
+
+  -- with the call of the action there are few calls still, whatever it answers
+  pub few-called : (new : List KeptPair) (answer : Result Arrival SpaceFault) → IfOk answer (ChildArrives p kept new now.at a) → OnErr answer (new ≡ kept) → AreFewCalls p w.within (pairs_of new) (calls + 1)
+  few-called new answer h stay = child-few p w.within (calls + 1) kept new now.at a answer now-placed h stay (few-next p b (pairs_of kept) w calls s r.level.front now r.level.is a r.at_action)

@@ -1,0 +1,108 @@
+use Rattle.std.proofs.Common.{◌≡◌, ◌≤◌, [], length, true, None, refl, sym, ap, ◌∙◌, subst}
+use Rattle.tl_search.specs.Calls.{AreNamedIn}
+use Rattle.tl_search.specs.Events.{events_after}
+use Rattle.tl_search.specs.Ends.{EndsByKeeping}
+use Rattle.tl_search.specs.History.{IsHistory}
+use Rattle.tl_search.specs.KeptPairs.{pairs_of}
+use Rattle.tl_search.specs.Plans.{IsFirstSimplePlan}
+use Rattle.tl_search.specs.declared.arrival.Arrival.TheVariants as arrival
+use Rattle.tl_search.specs.declared.event.Event.TheVariants as event
+use Rattle.tl_search.proofs.HistoryLaws.{history-pruned}
+use Rattle.tl_search.proofs.NamedLaws.{events-named}
+use Rattle.tl_depth.specs.Answers.{IsToldAlong}
+use Rattle.tl_depth.specs.NamedStacks.{StackIsNamed, SearchIsNamed}
+use Rattle.tl_depth.specs.Ongoing.{Begun}
+use Rattle.tl_depth.specs.Outcomes.{AreFewCalls, Reported, HasLastPair}
+use Rattle.tl_depth.proofs.Beginning.{RootIsKept, root-kept}
+use Rattle.tl_depth.proofs.Ending.{begins-pruned, fault-root, fault-first-idling, first-plan, first-kept}
+use Rattle.tl_depth.proofs.Histories.{root-not-seen, as-history}
+use Rattle.tl_depth.proofs.SeenPairs.{root-as-pairs, accepted-pair, idles-pair, never-pair}
+use Rattle.tl_depth.proofs.stack.DepthFirst.begin.Goals as goal
+
+pub returns-in-Err-RangeHere-clause-fault : goal.returns-in-Err-RangeHere-clause-fault
+returns-in-Err-RangeHere-clause-fault g c = fault-root _ _ c.new.result c.new.ensures c.in-Err-RangeHere.note (rw c.in-Err-RangeHere.field-0-is at c.in-Err-RangeHere.ensures.cause)
+
+pub returns-in-Ok-Pruned-clause-begun : goal.returns-in-Ok-Pruned-clause-begun
+returns-in-Ok-Pruned-clause-begun g c =
+    let a = root-as-pairs _ _ _ _ arrival.Pruned c.root.ensures.kept (rw c.in-Ok-Pruned.field-0-is at c.in-Ok-Pruned.ensures.arrival) in
+    begins-pruned _ _ _ _ _ _ (a.0 ∙ ap pairs_of c.requires.empty) a.1
+
+pub returns-in-Ok-true : goal.returns-in-Ok-true
+returns-in-Ok-true g c = record {
+  task = c.accepted.ensures.task ∙ c.root.ensures.task;
+  problem = c.accepted.ensures.problem ∙ c.root.ensures.problem;
+  begun = begun;
+  history = subst (λ xs. IsHistory (g.S.Pairs.problem c.args.space.now) c.args.self.now.watch xs c.report_root-2.new.events) (sym c.accepted.ensures.kept) r.history;
+  ends = subst (λ xs. c.args.self.now.watch ≡ true → EndsByKeeping xs c.report_root-2.new.events) (sym c.accepted.ensures.kept) r.ends;
+  fault = tt;
+  named = record { stack = subst (StackIsNamed (g.S.Pairs.task c.args.space.now)) (sym c.requires.new.stack) tt; events = events-named (g.S.Pairs.task c.args.space.now) c.args.self.now.watch [] c.report_root-2.new.events event.RootKept tt tt (c.in_ok-report_root.ensures ∙ ap (λ es. events_after c.args.self.now.watch es event.RootKept) c.requires.events) };
+  plan_named = subst (AreNamedIn (g.S.Pairs.task c.args.space.now)) (sym c.new-in-Ok-true.ensures) tt;
+  path_named = tt;
+}
+  where
+    r : RootIsKept (g.S.Pairs.problem c.args.space.now) c.args.self.now.watch (g.S.Pairs.kept c.root.new.self) c.report_root-2.new.events
+    r = root-kept _ _ c.args.self.now.watch (g.S.Pairs.kept c.args.space.now) (g.S.Pairs.kept c.root.new.self) c.in-Ok-Fresh.field-0-0 _ c.report_root-2.new.events c.requires.empty c.requires.events c.root.ensures.kept (rw c.in-Ok-Fresh.field-0-is at c.in-Ok-Fresh.ensures.arrival) c.in_ok-report_root.ensures
+
+    begun : (IsFirstSimplePlan (g.S.Pairs.problem c.args.space.now) c.args.self.now.within c.new-in-Ok-true.result × HasLastPair (g.S.Pairs.problem c.args.space.now) (pairs_of (g.S.Pairs.kept c.accepted.new.self)) c.new-in-Ok-true.result × (length (pairs_of (g.S.Pairs.kept c.accepted.new.self)) ≤ c.args.nodes)) × AreFewCalls (g.S.Pairs.problem c.args.space.now) c.args.self.now.within (pairs_of (g.S.Pairs.kept c.accepted.new.self)) 0 × IsToldAlong (g.S.Pairs.problem c.args.space.now) (Reported c.args.self.now.watch (pairs_of (g.S.Pairs.kept c.accepted.new.self)) c.report_root-2.new.events) c.new-in-Ok-true.result
+    begun = first-plan _ _ _ _ _ _ r.pair c.requires.nodes r.unpruned r.alone c.root.ensures.problem (ap pairs_of c.accepted.ensures.kept) ((accepted-pair _ _ 0 _ c.in-Ok-true.ensures.accepted r.pair r.numbered).0 c.in-Ok-true.field-0-test) c.new-in-Ok-true.result c.new-in-Ok-true.ensures (Reported c.args.self.now.watch (pairs_of (g.S.Pairs.kept c.accepted.new.self)) c.report_root-2.new.events)
+
+pub returns-in-Err-RangeHere-accepted : goal.returns-in-Err-RangeHere-accepted
+returns-in-Err-RangeHere-accepted g c =
+    let r = root-kept _ _ c.args.self.now.watch (g.S.Pairs.kept c.args.space.now) (g.S.Pairs.kept c.root.new.self) c.in-Ok-Fresh.field-0-0 _ c.report_root-2.new.events c.requires.empty c.requires.events c.root.ensures.kept (rw c.in-Ok-Fresh.field-0-is at c.in-Ok-Fresh.ensures.arrival) c.in_ok-report_root.ensures in
+    record {
+      task = c.accepted.ensures.task ∙ c.root.ensures.task;
+      problem = c.accepted.ensures.problem ∙ c.root.ensures.problem;
+      begun = tt;
+      history = tt;
+      ends = tt;
+      fault = fault-first-idling _ _ _ r.pair r.unpruned c.root.ensures.problem c.new-in-Err-RangeHere-accepted.result c.new-in-Err-RangeHere-accepted.ensures c.in-Err-RangeHere-accepted.note (idles-pair _ _ 0 _ (rw c.in-Err-RangeHere-accepted.field-0-is at c.in-Err-RangeHere-accepted.ensures.cause) r.pair r.numbered);
+      named = tt;
+      plan_named = tt;
+      path_named = subst (AreNamedIn (g.S.Pairs.task c.args.space.now)) (sym c.new-in-Err-RangeHere-accepted.ensures) tt;
+    }
+
+pub begun-requires-clause-first : goal.begun-requires-clause-first
+begun-requires-clause-first g c =
+    let r = root-kept _ _ c.args.self.now.watch (g.S.Pairs.kept c.args.space.now) (g.S.Pairs.kept c.root.new.self) c.in-Ok-Fresh.field-0-0 _ c.report_root-2.new.events c.requires.empty c.requires.events c.root.ensures.kept (rw c.in-Ok-Fresh.field-0-is at c.in-Ok-Fresh.ensures.arrival) c.in_ok-report_root.ensures in
+    first-kept _ _ _ _ _ _ _ r.pair c.requires.nodes r.unpruned r.alone c.root.ensures.problem c.accepted.ensures.problem (ap pairs_of c.accepted.ensures.kept)
+    (λ a. let t = (accepted-pair _ _ 0 _ c.in-Ok-false.ensures.accepted r.pair r.numbered).1 a in absurd (let z : c.in-Ok-false.field-0 ≡ true = t in let y = c.in-Ok-false.field-0-test in cc)) (record { most = c.requires.new.most; stack = c.requires.new.stack })
+
+pub returns-in-Ok-Pruned-clause-history : goal.returns-in-Ok-Pruned-clause-history
+returns-in-Ok-Pruned-clause-history g c = history-pruned (g.S.Pairs.problem c.args.space.now) c.args.self.now.watch (g.S.Pairs.kept c.args.space.now) (g.S.Pairs.kept c.root.new.self) c.report_root.new.events c.requires.empty
+    (rw c.in-Ok-Pruned.field-0-is at c.in-Ok-Pruned.ensures.arrival)
+    (c.in_ok-report_root-in-Ok-Pruned.ensures ∙ ap (λ es. events_after c.args.self.now.watch es event.RootPruned) c.requires.events)
+
+pub returns : goal.returns
+returns g c =
+    let r = root-kept _ _ c.args.self.now.watch (g.S.Pairs.kept c.args.space.now) (g.S.Pairs.kept c.root.new.self) c.in-Ok-Fresh.field-0-0 _ c.report_root-2.new.events c.requires.empty c.requires.events c.root.ensures.kept (rw c.in-Ok-Fresh.field-0-is at c.in-Ok-Fresh.ensures.arrival) c.in_ok-report_root.ensures in
+    record {
+      task = c.begun.ensures.task ∙ (c.accepted.ensures.task ∙ c.root.ensures.task);
+      problem = c.begun.ensures.problem ∙ (c.accepted.ensures.problem ∙ c.root.ensures.problem);
+      begun = subst (λ p. Begun p c.args.nodes (pairs_of (g.S.Pairs.kept c.begun.new.space)) c.args.self.now c.begun.new.self None) (c.accepted.ensures.problem ∙ c.root.ensures.problem) c.in_ok-begun.ensures.begun;
+      history = as-history _ _ _ _ _ _ _ _ refl refl (sym (c.begun.ensures.kept ∙ c.accepted.ensures.kept)) (sym c.begun.ensures.events) r.history;
+      ends = tt;
+      fault = tt;
+      named = subst (λ t. SearchIsNamed t c.begun.new.self) (c.accepted.ensures.task ∙ c.root.ensures.task) c.in_ok-begun.ensures.named;
+      plan_named = tt;
+      path_named = tt;
+    }
+
+pub unreachable-requires : goal.unreachable-requires
+unreachable-requires g c = root-not-seen _ _ _ _ c.requires.empty (rw c.in-Ok-Seen.field-0-is at c.in-Ok-Seen.ensures.arrival)
+
+pub unreachable-requires-in-Err-RangeAfter : goal.unreachable-requires-in-Err-RangeAfter
+unreachable-requires-in-Err-RangeAfter g c = rw c.in-Err-RangeAfter.field-0-is at c.in-Err-RangeAfter.ensures.cause
+
+pub unreachable-requires-in-Err-RangeAfter-accepted : goal.unreachable-requires-in-Err-RangeAfter-accepted
+unreachable-requires-in-Err-RangeAfter-accepted g c =
+    let r = root-kept _ _ c.args.self.now.watch (g.S.Pairs.kept c.args.space.now) (g.S.Pairs.kept c.root.new.self) c.in-Ok-Fresh.field-0-0 _ c.report_root-2.new.events c.requires.empty c.requires.events c.root.ensures.kept (rw c.in-Ok-Fresh.field-0-is at c.in-Ok-Fresh.ensures.arrival) c.in_ok-report_root.ensures in
+    never-pair _ 0 (rw c.in-Err-RangeAfter-accepted.field-0-is at c.in-Err-RangeAfter-accepted.ensures.cause) r.pair r.numbered
+
+pub begun-requires-clause-named : goal.begun-requires-clause-named
+begun-requires-clause-named g c = record { stack = subst (StackIsNamed (g.S.Pairs.task c.accepted.new.self)) (sym c.requires.new.stack) tt; events = events-named (g.S.Pairs.task c.accepted.new.self) c.args.self.now.watch [] c.report_root-2.new.events event.RootKept tt tt (c.in_ok-report_root.ensures ∙ ap (λ es. events_after c.args.self.now.watch es event.RootKept) c.requires.events) }
+
+pub returns-in-Ok-Pruned-clause-named : goal.returns-in-Ok-Pruned-clause-named
+returns-in-Ok-Pruned-clause-named g c = record { stack = subst (StackIsNamed (g.S.Pairs.task c.args.space.now)) (sym c.requires.new.stack) tt; events = events-named (g.S.Pairs.task c.args.space.now) c.args.self.now.watch [] c.report_root.new.events event.RootPruned tt tt (c.in_ok-report_root-in-Ok-Pruned.ensures ∙ ap (λ es. events_after c.args.self.now.watch es event.RootPruned) c.requires.events) }
+
+pub returns-in-Err-RangeHere-clause-path_named : goal.returns-in-Err-RangeHere-clause-path_named
+returns-in-Err-RangeHere-clause-path_named g c = subst (AreNamedIn (g.S.Pairs.task c.args.space.now)) (sym c.new.ensures) tt

@@ -1,0 +1,20 @@
+use Rattle.tl_search.specs.KeptPairs.{pairs_of}
+use Rattle.std.proofs.Common.{◌≡◌, ◌+◌, ℕ}
+use Rattle.tl_search.specs.History.{IsHistory}
+use Rattle.tl_depth.specs.NamedStacks.{SearchIsNamed}
+use Rattle.tl_depth.specs.Ongoing.{IsOngoing, to_do}
+use Rattle.tl_depth.proofs.stack.DepthFirst.run.Given as goal
+
+abbrev pub invariant-turns : goal.invariant-turns
+invariant-turns g l = record {
+  task : g.S.Pairs.task l.space ≡ g.S.Pairs.task l.fn.space;
+  named : SearchIsNamed (g.S.Pairs.task l.space) l.self;
+  problem : g.S.Pairs.problem l.space ≡ g.S.Pairs.problem l.fn.space;
+  within : l.self.within ≡ l.fn.self.within;
+  watch : l.self.watch ≡ l.fn.self.watch;
+  history : IsHistory (g.S.Pairs.problem l.space) l.self.watch (g.S.Pairs.kept l.space) l.self.events;
+  ongoing : (calls : ℕ) × IsOngoing (g.S.Pairs.problem l.space) l.nodes (pairs_of (g.S.Pairs.kept l.space)) l.self calls × (calls + l.fn.steps ≡ l.steps);
+}
+
+abbrev pub decreases-turns : goal.decreases-turns
+decreases-turns g l = to_do l.nodes l.self

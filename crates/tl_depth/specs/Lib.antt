@@ -1,0 +1,16 @@
+pub mod ActionGraphs
+pub mod Search
+pub mod Tables
+pub mod Levels
+pub mod SamePairs
+pub mod PairGraph
+pub mod Answers
+pub mod Arrivals
+pub mod Stacks
+pub mod Outcomes
+pub mod Reports
+pub mod Ongoing
+pub mod Turns
+pub mod Endings
+pub mod NamedStacks
+pub mod Laws

@@ -1,0 +1,36 @@
+-- What the parts of a step do to the stack and to the events.
+use Rattle.std.specs.Prelude.{◌≡◌, ◌<◌, ◌^◌, ℕ, List, [], ◌∷◌, ◌++◌, length, slice_get, Bool, true, false, Some}
+use Rattle.tl_syntax.specs.declared.action.Action.{Action}
+use Rattle.tl_syntax.specs.Lists.{Each}
+use Rattle.tl_eval.specs.declared.range.RangeNote.{RangeNote}
+use Rattle.tl_depth.specs.declared.level.Level.{Level}
+use Rattle.tl_search.specs.declared.fault.SearchFault.{SearchFault}
+use Rattle.tl_search.specs.declared.fault.SearchFault.TheVariants as fault
+use Rattle.tl_search.specs.declared.event.Event.{Event}
+use Rattle.tl_search.specs.declared.event.Event.TheVariants as event
+
+-- the last level has an action that it is not done with
+abbrev pub IsStepped : List Level → Type 0
+IsStepped levels = (front : List Level) × (c : Level) × (levels ≡ front ++ c ∷ []) × (c.tried < length c.actions) × (length c.actions < 2 ^ 64)
+
+-- there is a last level, and each level below it has an action that it is not done with
+abbrev pub IsLeft : List Level → Type 0
+IsLeft levels = (front : List Level) × (c : Level) × (levels ≡ front ++ c ∷ []) × Each (λ (h : Level). (h.tried < length h.actions) × (length h.actions < 2 ^ 64)) front
+
+-- past range at that operation, after that path; or want of memory
+abbrev pub IsRangeAfter : List Action → RangeNote → SearchFault → Type 0
+IsRangeAfter at note (fault.Range path told) = (path ≡ at) × (told ≡ note)
+IsRangeAfter at note fault.NoMemory = Unit {0}
+
+-- the event is of the action at the pair of the number
+abbrev pub IsEventOf : ℕ → Action → Event → Type 0
+IsEventOf j a event.RootKept = ⊥
+IsEventOf j a event.RootPruned = ⊥
+IsEventOf j a (event.Kept i b k) = (i ≡ j) × (b ≡ a)
+IsEventOf j a (event.Seen i b k) = (i ≡ j) × (b ≡ a)
+IsEventOf j a (event.Pruned i b) = (i ≡ j) × (b ≡ a)
+
+-- where events are wanted, one more is there, of the level's next action
+abbrev pub IsToldOf : Bool → List Event → List Event → Level → Type 0
+IsToldOf false before after c = after ≡ before
+IsToldOf true before after c = (e : Event) × (after ≡ before ++ e ∷ []) × ((a : Action) → slice_get c.actions c.tried ≡ Some a → IsEventOf c.at a e)

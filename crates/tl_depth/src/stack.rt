@@ -1,0 +1,99 @@
+// What a search has beside its space: the stack, and with how many remaining actions each pair was met.
+ghost use Rattle.std.specs.Prelude.{◌≡◌, List, [], ◌∷◌, ◌++◌, slice_get, Some, IfOk, OnOk};
+ghost use Rattle.tl_syntax.specs.declared.action.Action.{Action};
+ghost use Rattle.tl_depth.specs.Levels.{path_of, stepped};
+ghost use Rattle.tl_depth.specs.Stacks.{IsStepped, IsLeft, IsRangeAfter};
+ghost use Rattle.tl_search.specs.Events.{event_of, events_after};
+
+mod arrivals;
+mod turns;
+mod whole;
+
+use crate::level::Level;
+use std::alloc::Global;
+use tl_eval::RangeNote;
+use tl_search::{Arrival, Events, SearchFault, report_arrival};
+use tl_terms::{Actions, NoMemory};
+
+/// What the search has beside its space.
+#[derive(Drop)]
+pub struct DepthFirst {
+    /// How many actions a plan may have.
+    pub within: u32,
+    /// Whether events are wanted.
+    pub watch: bool,
+    /// With how many remaining actions each pair was met, at most.
+    pub most: Vec<u32>,
+    /// The levels of the stack, the root's first.
+    pub stack: Vec<Level>,
+    /// The events so far.
+    pub events: Events,
+}
+
+/// The actions that the levels are at.
+pub fn path(alloc: Global, levels: &[Level]) -> Result<Actions, NoMemory>
+    ensures { IfOk result (λ path. path ≡ path_of levels.now) }
+{
+    let mut found = Actions::new(alloc);
+    for level in levels {
+        if level.tried < level.actions.len() {
+            let action = level.actions.as_slice()[level.tried].copy(alloc)?;
+            found.push(action)?;
+        }
+    }
+    Ok(found)
+}
+
+/// The fault at an operation past range after the actions that the levels are at, or want of memory where there is no room for them.
+pub fn past_range(alloc: Global, levels: &[Level], note: RangeNote) -> SearchFault
+    ensures { IsRangeAfter (path_of levels.now) note result }
+{
+    match path(alloc, levels) {
+        Ok(path) => SearchFault::Range { path, note },
+        Err(_) => SearchFault::NoMemory,
+    }
+}
+
+impl DepthFirst {
+    /// The top level is done with its next action.
+    pub fn pass(&mut self)
+        requires { IsStepped self.old.stack.items }
+        ensures stack { (front : List Level) (c : Level) → self.old.stack.items ≡ front ++ c ∷ [] → self.new.stack.items ≡ front ++ stepped c ∷ [] }
+        ensures rest { self.new ≡ record self.old { stack = self.new.stack } }
+    {
+        let len = self.stack.as_slice().len();
+        self.stack[len - 1].tried += 1;
+    }
+
+    /// The top level is done with.
+    pub fn leave(&mut self)
+        requires { IsLeft self.old.stack.items }
+        ensures root { (c : Level) → self.old.stack.items ≡ c ∷ [] → self.new.stack.items ≡ [] }
+        ensures stack { (front : List Level) (h c : Level) → self.old.stack.items ≡ (front ++ h ∷ []) ++ c ∷ [] → self.new.stack.items ≡ front ++ stepped h ∷ [] }
+        ensures rest { self.new ≡ record self.old { stack = self.new.stack } }
+    {
+        let len = self.stack.as_slice().len();
+        self.stack.truncate(len - 1);
+        if len > 1 {
+            self.stack[len - 2].tried += 1;
+        }
+    }
+
+    /// Reports what came of the top level's next action.
+    pub fn report(&mut self, alloc: Global, arrival: Arrival) -> Result<(), NoMemory>
+        requires { IsStepped self.old.stack.items }
+        ensures told { OnOk result ((front : List Level) (c : Level) (a : Action) → self.old.stack.items ≡ front ++ c ∷ [] → slice_get c.actions c.tried ≡ Some a → self.new.events ≡ events_after self.old.watch self.old.events (event_of c.at a arrival)) }
+        ensures rest { self.new ≡ record self.old { events = self.new.events } }
+    {
+        let top = self.stack.as_slice().len() - 1;
+        let level = &self.stack[top];
+        report_arrival(
+            alloc,
+            &mut self.events,
+            self.watch,
+            level.at,
+            &level.actions.as_slice()[level.tried],
+            arrival,
+        )
+    }
+}

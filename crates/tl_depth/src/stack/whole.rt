@@ -1,0 +1,167 @@
+// The search from its first pair on until nothing is left to expand.
+ghost use Rattle.std.specs.Prelude.{◌≡◌, ◌≤◌, ℕ, [], slice_get, Some, None, true, false, IfOk, IfErr, OnOk};
+ghost use Rattle.tl_search.specs.KeptPairs.{pairs_of};
+ghost use Rattle.tl_search.specs.NamedAnswers.{OutcomeIsNamed, EndIsNamed, FaultIsNamed, EventsAreNamed};
+ghost use Rattle.tl_depth.specs.NamedStacks.{SearchIsNamed, EndsUnnamed};
+ghost use Rattle.tl_search.specs.History.{IsHistory};
+ghost use Rattle.tl_search.specs.Ends.{Ends, EndsIfAny};
+ghost use Rattle.tl_depth.specs.Endings.{EndsUnkept};
+ghost use Rattle.tl_depth.specs.Outcomes.{IsDepthFirstFault, IsDepthFirstOutcome, IsToldOutcome};
+ghost use Rattle.tl_depth.specs.Reports.{AreFewSteps};
+ghost use Rattle.tl_depth.specs.Turns.{GoesOn};
+ghost use Rattle.tl_depth.specs.Ongoing.{IsNew, IsFirst, Begun};
+
+use crate::stack::DepthFirst;
+use std::alloc::Global;
+use std::sync::ledger::Ledger;
+use tl_search::{Arrival, Event, Outcome, Pairs, SearchFault, SpaceFault, report_root};
+use tl_terms::{Actions, Steps};
+
+/// Whether some pair was met with no remaining action, and never with any.
+fn is_cut(most: &[u32]) -> bool
+    ensures cut { result ≡ true → (k : ℕ) × (slice_get most.now k ≡ Some 0) }
+    ensures uncut { result ≡ false → (k : ℕ) → slice_get most.now k ≡ Some 0 → ⊥ }
+{
+    for left in most {
+        if *left == 0 {
+            return true;
+        }
+    }
+    false
+}
+
+impl DepthFirst {
+    /// The search, from its first pair on until nothing is left to expand.
+    pub fn run<S: Pairs, L: Ledger>(
+        &mut self,
+        alloc: Global,
+        space: &mut S,
+        nodes: usize,
+        steps: &mut Steps<L>,
+    ) -> Result<Outcome, SearchFault>
+        requires empty { S.kept space.old ≡ [] }
+        requires nodes { 1 ≤ nodes }
+        requires new { IsNew self.old }
+        requires events { self.old.events ≡ [] }
+        ensures task { S.task space.new ≡ S.task space.old }
+        ensures problem { S.problem space.new ≡ S.problem space.old }
+        ensures outcome { IfOk result (IsDepthFirstOutcome (S.problem space.old) self.old.within nodes (pairs_of (S.kept space.new))) }
+        ensures calls { AreFewSteps (S.problem space.old) self.old.within (S.kept space.new) steps.old steps.new }
+        ensures told { IfOk result (IsToldOutcome (S.problem space.old) self.old.within self.old.watch (pairs_of (S.kept space.new)) self.new.events) }
+        ensures history { OnOk result (IsHistory (S.problem space.old) self.old.watch (S.kept space.new) self.new.events) }
+        ensures ends { IfOk result (Ends self.old.watch (S.kept space.new) self.new.events) }
+        ensures fault { IfErr result (IsDepthFirstFault (S.problem space.old) self.old.within) }
+        ensures events_named { OnOk result (EventsAreNamed (S.task space.old) self.new.events) }
+        ensures plan_named { IfOk result (OutcomeIsNamed (S.task space.old)) }
+        ensures path_named { IfErr result (FaultIsNamed (S.task space.old)) }
+    {
+        match self.begin(alloc, space, nodes)? {
+            Some(outcome) => return Ok(outcome),
+            None => {}
+        }
+        'turns: while self.stack.as_slice().len() > 0 {
+            match self.turn(alloc, space, nodes, steps)? {
+                Some(outcome) => return Ok(outcome),
+                None => {}
+            }
+        }
+        Ok(self.none(space, nodes))
+    }
+
+    /// The first pair begins the search, or ends it.
+    fn begin<S: Pairs>(
+        &mut self,
+        alloc: Global,
+        space: &mut S,
+        nodes: usize,
+    ) -> Result<Option<Outcome>, SearchFault>
+        requires empty { S.kept space.old ≡ [] }
+        requires nodes { 1 ≤ nodes }
+        requires new { IsNew self.old }
+        requires events { self.old.events ≡ [] }
+        ensures task { S.task space.new ≡ S.task space.old }
+        ensures problem { S.problem space.new ≡ S.problem space.old }
+        ensures begun { IfOk result (Begun (S.problem space.old) nodes (pairs_of (S.kept space.new)) self.old self.new) }
+        ensures history { OnOk result (IsHistory (S.problem space.old) self.old.watch (S.kept space.new) self.new.events) }
+        ensures ends { IfOk result (EndsIfAny self.old.watch (S.kept space.new) self.new.events) }
+        ensures fault { IfErr result (IsDepthFirstFault (S.problem space.old) self.old.within) }
+        ensures named { OnOk result (SearchIsNamed (S.task space.old) self.new) }
+        ensures plan_named { IfOk result (EndIsNamed (S.task space.old)) }
+        ensures path_named { IfErr result (FaultIsNamed (S.task space.old)) }
+    {
+        match space.root() {
+            Ok(Arrival::Fresh(_)) => {}
+            Ok(Arrival::Seen(_)) => unreachable!(),
+            Ok(Arrival::Pruned) => {
+                report_root(&mut self.events, self.watch, Event::RootPruned)?;
+                return Ok(Some(Outcome::NoPlan));
+            }
+            Err(SpaceFault::RangeHere(note)) => {
+                return Err(SearchFault::Range {
+                    path: Actions::new(alloc),
+                    note,
+                });
+            }
+            Err(SpaceFault::RangeAfter(_)) => unreachable!(),
+            Err(SpaceFault::NoMemory) => return Err(SearchFault::NoMemory),
+        }
+        report_root(&mut self.events, self.watch, Event::RootKept)?;
+        match space.accepted(0) {
+            Ok(true) => return Ok(Some(Outcome::Plan(Actions::new(alloc)))),
+            Ok(false) => {}
+            Err(SpaceFault::RangeHere(note)) => {
+                return Err(SearchFault::Range {
+                    path: Actions::new(alloc),
+                    note,
+                });
+            }
+            Err(SpaceFault::RangeAfter(_)) => unreachable!(),
+            Err(SpaceFault::NoMemory) => return Err(SearchFault::NoMemory),
+        }
+        self.begun(alloc, space, nodes)?;
+        Ok(None)
+    }
+
+    /// The first pair, which is kept and not accepted, begins the search.
+    fn begun<S: Pairs>(
+        &mut self,
+        alloc: Global,
+        space: &mut S,
+        nodes: usize,
+    ) -> Result<(), SearchFault>
+        requires first { IsFirst (S.problem space.old) nodes (pairs_of (S.kept space.old)) self.old }
+        requires named { SearchIsNamed (S.task space.old) self.old }
+        ensures task { S.task space.new ≡ S.task space.old }
+        ensures problem { S.problem space.new ≡ S.problem space.old }
+        ensures kept { S.kept space.new ≡ S.kept space.old }
+        ensures events { self.new.events ≡ self.old.events }
+        ensures begun { OnOk result (Begun (S.problem space.old) nodes (pairs_of (S.kept space.new)) self.old self.new None) }
+        ensures fault { IfErr result (IsDepthFirstFault (S.problem space.old) self.old.within) }
+        ensures named { OnOk result (SearchIsNamed (S.task space.old) self.new) }
+        ensures path_named { IfErr result (FaultIsNamed (S.task space.old)) }
+    {
+        let left = self.within;
+        if self.most.push(left).is_err() {
+            return Err(SearchFault::NoMemory);
+        }
+        if left == 0 {
+            return Ok(());
+        }
+        self.enter(alloc, space, 0, left)
+    }
+
+    /// Nothing is left to expand.
+    fn none<S: Pairs>(&self, space: &S, nodes: usize) -> Outcome
+        requires ongoing { GoesOn (S.problem space.now) nodes (S.kept space.now) self.now }
+        requires none { self.now.stack.items ≡ [] }
+        ensures outcome { IsDepthFirstOutcome (S.problem space.now) self.now.within nodes (pairs_of (S.kept space.now)) result }
+        ensures ends { EndsUnkept result }
+        ensures named { EndsUnnamed result }
+        ensures told { IsToldOutcome (S.problem space.now) self.now.within self.now.watch (pairs_of (S.kept space.now)) self.now.events result }
+    {
+        if is_cut(self.most.as_slice()) {
+            return Outcome::NoneWithin;
+        }
+        Outcome::NoPlan
+    }
+}

@@ -1,0 +1,18 @@
+use Rattle.std.proofs.Common.{◌≡◌, true, length, nat_eq}
+use Rattle.indexmap.specs.IndexMap.{get}
+use Rattle.tl_nodes.specs.Numbers.{trees}
+use Rattle.tl_syntax.specs.Lists.{Each}
+use Rattle.tl_terms.specs.ProblemMeaning.{plain_problem}
+use Rattle.tl_progress.specs.Known.{AreTruths}
+use Rattle.tl_progress.specs.Parts.{IsBelow}
+use Rattle.tl_progress.proofs.idling.sentence_truth.Given as goal
+
+abbrev pub invariant-loop-at : goal.invariant-loop-at
+invariant-loop-at l = record {
+  frame : l.env ≡ l.fn.env;
+  order : Each (IsBelow true (trees l.nodes) l.id) l.order.items;
+  known : AreTruths (plain_problem l.task.problem) l.w (trees l.nodes) (get nat_eq l.known);
+}
+
+abbrev pub decreases-loop-at : goal.decreases-loop-at
+decreases-loop-at l = length l.order.items

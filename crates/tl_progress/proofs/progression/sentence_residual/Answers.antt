@@ -1,0 +1,27 @@
+use Rattle.std.proofs.Common.{true≢false, Some, List, sym, ap, ◌∙◌, subst}
+use Rattle.tl_eval.specs.Frames.{assignment_in}
+use Rattle.tl_nodes.specs.NodeTrees.{tree_at}
+use Rattle.tl_nodes.specs.Numbers.{trees}
+use Rattle.tl_syntax.specs.Trees.{FormulaTree}
+use Rattle.tl_terms.specs.Operations.{Operation}
+use Rattle.tl_terms.specs.ProblemMeaning.{plain_problem}
+use Rattle.tl_progress.specs.Answers.{IsCausedBy}
+use Rattle.tl_progress.proofs.StateFormulas.{constant-next, looked-same}
+use Rattle.tl_progress.proofs.progression.sentence_residual.Goals as goal
+
+pub returns-then-temporal-clause-same : goal.returns-then-temporal-clause-same
+returns-then-temporal-clause-same c = λ h. absurd (true≢false (sym c.if-temporal.true ∙ c.temporal.ensures.state.1 h))
+
+pub returns-then-temporal-clause-constant : goal.returns-then-temporal-clause-constant
+returns-then-temporal-clause-constant c = λ h. absurd (true≢false (sym c.if-temporal.true ∙ c.temporal.ensures.state.1 h))
+
+pub returns-in-Ok-clause-number : goal.returns-in-Ok-clause-number
+returns-in-Ok-clause-number c =
+    c.constant_number.ensures.number ∙ ap (λ (f : FormulaTree). Some f) (constant-next (plain_problem c.args.task.now.problem) c.args.w.now (assignment_in c.args.env.now) (tree_at (trees c.args.nodes.now) c.args.id) c.in-Ok.truth (c.temporal.ensures.state.0 c.if-temporal.false) c.in-Ok.ensures.truth)
+
+pub returns-in-Ok-clause-constant : goal.returns-in-Ok-clause-constant
+returns-in-Ok-clause-constant c = λ h. c.constant_number.ensures.small
+
+pub returns-in-Err-clause-cause : goal.returns-in-Err-clause-cause
+returns-in-Err-clause-cause c =
+    subst (λ (x : List Operation). IsCausedBy x c.in-Err.fault) (looked-same (plain_problem c.args.task.now.problem) c.args.w.now (assignment_in c.args.env.now) (tree_at (trees c.args.nodes.now) c.args.id) (c.temporal.ensures.state.0 c.if-temporal.false)) c.in-Err.ensures.cause

@@ -1,0 +1,481 @@
+use Rattle.std.proofs.Common.{◌≡◌, ◌<◌, ◌+◌, ℕ, List, true, false, map, drop, length, inl, inr, Option, Some, IfOk, IfErr, slice_get, refl, sym, ap, ◌∙◌, subst, arith}
+use Rattle.std.proofs.lemmas.Option.{slice_get_within}
+use Rattle.std.specs.Option.{option_map}
+use Rattle.tl_eval.specs.Frames.{assignment_in}
+use Rattle.tl_nodes.specs.Fits.{all_below}
+use Rattle.tl_nodes.specs.Joins.{simplified_join}
+use Rattle.tl_nodes.specs.NodeTrees.{tree_at, trees_at}
+use Rattle.tl_nodes.specs.Numbers.{trees, Denotes}
+use Rattle.tl_syntax.specs.declared.value.Value.{Value}
+use Rattle.tl_syntax.specs.declared.variable.Var.{Var}
+use Rattle.tl_syntax.specs.Assignment.{Assignment, bind}
+use Rattle.tl_syntax.specs.Lists.{Each, Among}
+use Rattle.tl_syntax.specs.Signature.{signature_of}
+use Rattle.tl_syntax.specs.Trees.{FormulaTree}
+use Rattle.tl_terms.specs.Bounds.{bound_true}
+use Rattle.tl_terms.specs.Definitions.{situation_of}
+use Rattle.tl_terms.specs.ProblemMeaning.{plain_problem}
+use Rattle.tl_world.specs.Next.{IsNext}
+use Rattle.tl_world.specs.Patterns.{tuple_of}
+use Rattle.tl_progress.specs.Answers.{IsCausedBy, looked_for_residual, residual}
+use Rattle.tl_progress.specs.Parts.{parts, join_parts}
+use Rattle.tl_progress.specs.Quantifiers.{quantifier_tree}
+use Rattle.tl_progress.specs.declared.quantifier.Quantifier.{Quantifier}
+use Rattle.tl_progress.specs.Sentences.{FitsSomewhere}
+use Rattle.tl_progress.proofs.Below.{part-lower, part-among}
+use Rattle.tl_progress.proofs.Found.{none-found, handed-on, fits-below, residual-fault}
+use Rattle.tl_progress.proofs.Instances.{quantifier-fits, no-more, fewer-left, one-more, is-tuple}
+use Rattle.tl_progress.proofs.Gathering.{Gathered, gather-begun, below-still, gather-on, gather-decided, gather-end}
+use Rattle.tl_progress.proofs.NextInstances.{instance_next, next_after, next_of_all, instances-begun, quantified-next, next-caused}
+use Rattle.tl_progress.proofs.ResidualLayers.{state-True, state-False, state-Basic, is-and, is-or, next-Next, next-Not, next-Always, next-Eventually, next-Until, next-Until-now, next-Within, next-During, join-next, part-next, parts-done, right-still}
+use Rattle.tl_progress.proofs.PutLayers.{stays, longer, less-Next}
+use Rattle.tl_progress.proofs.TruthLayers.{shown-ForAll, shown-Exists, less-ForAll, less-Exists}
+use Rattle.tl_progress.proofs.residual.+residual_of.Goals as goal
+
+-- ---- one number
+
+pub residual_of-state_residual-requires-clause-state : goal.residual_of-state_residual-requires-clause-state
+residual_of-state_residual-requires-clause-state t c = c.temporal.ensures.state.0 c.if-not-temporal.true
+
+-- ---- one layer
+
+pub layer_residual-state_residual-requires-clause-state : goal.layer_residual-state_residual-requires-clause-state
+layer_residual-state_residual-requires-clause-state t c = state-True (trees c.args.nodes.now) c.args.at c.get.result.now c.get.ensures.tree c.in-True.is
+
+pub layer_residual-state_residual-requires-in-False-clause-state : goal.layer_residual-state_residual-requires-in-False-clause-state
+layer_residual-state_residual-requires-in-False-clause-state t c = state-False (trees c.args.nodes.now) c.args.at c.get.result.now c.get.ensures.tree c.in-False.is
+
+pub layer_residual-state_residual-requires-in-Basic-clause-state : goal.layer_residual-state_residual-requires-in-Basic-clause-state
+layer_residual-state_residual-requires-in-Basic-clause-state t c = state-Basic (trees c.args.nodes.now) c.args.at c.get.result.now c.get.ensures.tree c.get.ensures.parts c.in-Basic.field-0 c.in-Basic.is
+
+pub layer_residual-residual_of-requires : goal.layer_residual-residual_of-requires
+layer_residual-residual_of-requires t c =
+    let low = part-lower false (trees c.args.nodes.now) c.args.at c.in-Not.part c.get.result.now c.get.ensures.tree c.get.ensures.parts (subst (λ n. Among c.in-Not.part (parts false n)) (sym c.in-Not.is) (inl refl)) in
+    let less = low.less in
+    (omega (arith, less, c.decreases), (omega (arith, less, c.requires.at), (fits-below false (trees c.args.nodes.now) (signature_of c.args.task.now.problem.domain) c.args.at c.in-Not.part low.below c.requires.fits, c.requires.known)))
+
+pub layer_residual-returns-in_err-answer-in-Not-clause-cause : goal.layer_residual-returns-in_err-answer-in-Not-clause-cause
+layer_residual-returns-in_err-answer-in-Not-clause-cause t c =
+    let low = part-lower false (trees c.args.nodes.now) c.args.at c.in-Not.part c.get.result.now c.get.ensures.tree c.get.ensures.parts (subst (λ n. Among c.in-Not.part (parts false n)) (sym c.in-Not.is) (inl refl)) in
+    handed-on _ _ _ c.from_residual.ensures.1 (residual-fault (plain_problem c.args.task.now.problem) c.args.w.now (assignment_in c.args.env.now) (trees c.args.nodes.now) c.args.at c.in-Not.part low.below c.in_err-answer-in-Not.field-0.0 c.in_err-answer-in-Not.ensures.cause)
+
+pub layer_residual-not-requires : goal.layer_residual-not-requires
+layer_residual-not-requires t c = slice_get_within (trees c.residual_of.new.nodes) c.in_ok-answer-in-Not.answer _ c.in_ok-answer-in-Not.ensures.number
+
+pub layer_residual-returns-in_ok-number-in-Not-clause-kept : goal.layer_residual-returns-in_ok-number-in-Not-clause-kept
+layer_residual-returns-in_ok-number-in-Not-clause-kept t c = λ i f h. c.in_ok-number-in-Not.ensures.kept i f (c.in_ok-answer-in-Not.ensures.kept i f h)
+
+pub layer_residual-returns-in_ok-number-in-Not-clause-number : goal.layer_residual-returns-in_ok-number-in-Not-clause-number
+layer_residual-returns-in_ok-number-in-Not-clause-number t c =
+    c.in_ok-number-in-Not.ensures.number ∙ ap (λ (f : FormulaTree). Some f) (next-Not (plain_problem c.args.task.now.problem) c.args.w.now (assignment_in c.args.env.now) (trees c.args.nodes.now) c.args.at c.get.result.now c.get.ensures.tree c.requires.at (trees c.residual_of.new.nodes) c.in_ok-answer-in-Not.ensures.kept c.in-Not.part c.in_ok-answer-in-Not.answer c.in-Not.is c.in_ok-answer-in-Not.ensures.number)
+
+pub layer_residual-join_residual-requires : goal.layer_residual-join_residual-requires
+layer_residual-join_residual-requires t c = (omega (arith, c.decreases), (c.requires.at, (is-and (trees c.args.nodes.now) c.args.at c.get.result.now c.get.ensures.tree c.in-And.field-0 c.in-And.is, (c.requires.fits, c.requires.known))))
+
+pub layer_residual-join_residual-requires-in-Or : goal.layer_residual-join_residual-requires-in-Or
+layer_residual-join_residual-requires-in-Or t c = (omega (arith, c.decreases), (c.requires.at, (is-or (trees c.args.nodes.now) c.args.at c.get.result.now c.get.ensures.tree c.in-Or.field-0 c.in-Or.is, (c.requires.fits, c.requires.known))))
+
+pub layer_residual-remaining-requires : goal.layer_residual-remaining-requires
+layer_residual-remaining-requires t c = let less = less-Next (trees c.args.nodes.now) c.args.at c.get.result.now c.get.ensures.parts c.in-Next.part c.in-Next.is in let k = c.requires.at in omega arith
+
+pub layer_residual-returns-in_ok-number-in-Next-clause-number : goal.layer_residual-returns-in_ok-number-in-Next-clause-number
+layer_residual-returns-in_ok-number-in-Next-clause-number t c = c.in_ok-number-in-Next.ensures.number ∙ ap (λ (f : FormulaTree). Some f) (next-Next (plain_problem c.args.task.now.problem) c.args.w.now (assignment_in c.args.env.now) (trees c.args.nodes.now) c.args.at c.get.result.now c.get.ensures.tree c.requires.at (trees c.args.nodes.now) (λ i f h. h) c.in-Next.part c.in-Next.is)
+
+pub layer_residual-residual_of-requires-in-Always : goal.layer_residual-residual_of-requires-in-Always
+layer_residual-residual_of-requires-in-Always t c =
+    let low = part-lower false (trees c.args.nodes.now) c.args.at c.in-Always.part c.get.result.now c.get.ensures.tree c.get.ensures.parts (subst (λ n. Among c.in-Always.part (parts false n)) (sym c.in-Always.is) (inl refl)) in
+    let less = low.less in
+    (omega (arith, less, c.decreases), (omega (arith, less, c.requires.at), (fits-below false (trees c.args.nodes.now) (signature_of c.args.task.now.problem.domain) c.args.at c.in-Always.part low.below c.requires.fits, c.requires.known)))
+
+pub layer_residual-returns-in_err-answer-in-Always-clause-cause : goal.layer_residual-returns-in_err-answer-in-Always-clause-cause
+layer_residual-returns-in_err-answer-in-Always-clause-cause t c =
+    let low = part-lower false (trees c.args.nodes.now) c.args.at c.in-Always.part c.get.result.now c.get.ensures.tree c.get.ensures.parts (subst (λ n. Among c.in-Always.part (parts false n)) (sym c.in-Always.is) (inl refl)) in
+    handed-on _ _ _ c.from_residual-in_err-answer-in-Always.ensures.1 (residual-fault (plain_problem c.args.task.now.problem) c.args.w.now (assignment_in c.args.env.now) (trees c.args.nodes.now) c.args.at c.in-Always.part low.below c.in_err-answer-in-Always.field-0.0 c.in_err-answer-in-Always.ensures.cause)
+
+pub layer_residual-with_remaining-requires-clause-part : goal.layer_residual-with_remaining-requires-clause-part
+layer_residual-with_remaining-requires-clause-part t c = slice_get_within (trees c.residual_of-in-Always.new.nodes) c.in_ok-answer-in-Always.answer _ c.in_ok-answer-in-Always.ensures.number
+
+pub layer_residual-with_remaining-requires-clause-at : goal.layer_residual-with_remaining-requires-clause-at
+layer_residual-with_remaining-requires-clause-at t c = longer (trees c.args.nodes.now) (trees c.residual_of-in-Always.new.nodes) c.in_ok-answer-in-Always.ensures.kept c.args.at c.requires.at
+
+pub layer_residual-returns-in_ok-number-in-Always-clause-kept : goal.layer_residual-returns-in_ok-number-in-Always-clause-kept
+layer_residual-returns-in_ok-number-in-Always-clause-kept t c = λ i f h. c.in_ok-number-in-Always.ensures.kept i f (c.in_ok-answer-in-Always.ensures.kept i f h)
+
+pub layer_residual-returns-in_ok-number-in-Always-clause-number : goal.layer_residual-returns-in_ok-number-in-Always-clause-number
+layer_residual-returns-in_ok-number-in-Always-clause-number t c =
+    c.in_ok-number-in-Always.ensures.number ∙ ap (λ (f : FormulaTree). Some f) (next-Always (plain_problem c.args.task.now.problem) c.args.w.now (assignment_in c.args.env.now) (trees c.args.nodes.now) c.args.at c.get.result.now c.get.ensures.tree c.requires.at (trees c.residual_of-in-Always.new.nodes) c.in_ok-answer-in-Always.ensures.kept (assignment_in c.residual_of-in-Always.new.env) (ap assignment_in c.in_ok-answer-in-Always.ensures.frame) c.in-Always.part c.in_ok-answer-in-Always.answer c.in-Always.is c.in_ok-answer-in-Always.ensures.number)
+
+pub layer_residual-residual_of-requires-in-Eventually : goal.layer_residual-residual_of-requires-in-Eventually
+layer_residual-residual_of-requires-in-Eventually t c =
+    let low = part-lower false (trees c.args.nodes.now) c.args.at c.in-Eventually.part c.get.result.now c.get.ensures.tree c.get.ensures.parts (subst (λ n. Among c.in-Eventually.part (parts false n)) (sym c.in-Eventually.is) (inl refl)) in
+    let less = low.less in
+    (omega (arith, less, c.decreases), (omega (arith, less, c.requires.at), (fits-below false (trees c.args.nodes.now) (signature_of c.args.task.now.problem.domain) c.args.at c.in-Eventually.part low.below c.requires.fits, c.requires.known)))
+
+pub layer_residual-returns-in_err-answer-in-Eventually-clause-cause : goal.layer_residual-returns-in_err-answer-in-Eventually-clause-cause
+layer_residual-returns-in_err-answer-in-Eventually-clause-cause t c =
+    let low = part-lower false (trees c.args.nodes.now) c.args.at c.in-Eventually.part c.get.result.now c.get.ensures.tree c.get.ensures.parts (subst (λ n. Among c.in-Eventually.part (parts false n)) (sym c.in-Eventually.is) (inl refl)) in
+    handed-on _ _ _ c.from_residual-in_err-answer-in-Eventually.ensures.1 (residual-fault (plain_problem c.args.task.now.problem) c.args.w.now (assignment_in c.args.env.now) (trees c.args.nodes.now) c.args.at c.in-Eventually.part low.below c.in_err-answer-in-Eventually.field-0.0 c.in_err-answer-in-Eventually.ensures.cause)
+
+pub layer_residual-with_remaining-requires-in-Eventually-clause-part : goal.layer_residual-with_remaining-requires-in-Eventually-clause-part
+layer_residual-with_remaining-requires-in-Eventually-clause-part t c = slice_get_within (trees c.residual_of-in-Eventually.new.nodes) c.in_ok-answer-in-Eventually.answer _ c.in_ok-answer-in-Eventually.ensures.number
+
+pub layer_residual-with_remaining-requires-in-Eventually-clause-at : goal.layer_residual-with_remaining-requires-in-Eventually-clause-at
+layer_residual-with_remaining-requires-in-Eventually-clause-at t c = longer (trees c.args.nodes.now) (trees c.residual_of-in-Eventually.new.nodes) c.in_ok-answer-in-Eventually.ensures.kept c.args.at c.requires.at
+
+pub layer_residual-returns-in_ok-number-in-Eventually-clause-kept : goal.layer_residual-returns-in_ok-number-in-Eventually-clause-kept
+layer_residual-returns-in_ok-number-in-Eventually-clause-kept t c = λ i f h. c.in_ok-number-in-Eventually.ensures.kept i f (c.in_ok-answer-in-Eventually.ensures.kept i f h)
+
+pub layer_residual-returns-in_ok-number-in-Eventually-clause-number : goal.layer_residual-returns-in_ok-number-in-Eventually-clause-number
+layer_residual-returns-in_ok-number-in-Eventually-clause-number t c =
+    c.in_ok-number-in-Eventually.ensures.number ∙ ap (λ (f : FormulaTree). Some f) (next-Eventually (plain_problem c.args.task.now.problem) c.args.w.now (assignment_in c.args.env.now) (trees c.args.nodes.now) c.args.at c.get.result.now c.get.ensures.tree c.requires.at (trees c.residual_of-in-Eventually.new.nodes) c.in_ok-answer-in-Eventually.ensures.kept (assignment_in c.residual_of-in-Eventually.new.env) (ap assignment_in c.in_ok-answer-in-Eventually.ensures.frame) c.in-Eventually.part c.in_ok-answer-in-Eventually.answer c.in-Eventually.is c.in_ok-answer-in-Eventually.ensures.number)
+
+pub layer_residual-residual_of-requires-in-Until : goal.layer_residual-residual_of-requires-in-Until
+layer_residual-residual_of-requires-in-Until t c =
+    let low = part-lower false (trees c.args.nodes.now) c.args.at c.in-Until.second c.get.result.now c.get.ensures.tree c.get.ensures.parts (subst (λ n. Among c.in-Until.second (parts false n)) (sym c.in-Until.is) (inr (inl refl))) in
+    let less = low.less in
+    (omega (arith, less, c.decreases), (omega (arith, less, c.requires.at), (fits-below false (trees c.args.nodes.now) (signature_of c.args.task.now.problem.domain) c.args.at c.in-Until.second low.below c.requires.fits, c.requires.known)))
+
+pub layer_residual-returns-in_err-after-in-Until-clause-cause : goal.layer_residual-returns-in_err-after-in-Until-clause-cause
+layer_residual-returns-in_err-after-in-Until-clause-cause t c =
+    let low = part-lower false (trees c.args.nodes.now) c.args.at c.in-Until.second c.get.result.now c.get.ensures.tree c.get.ensures.parts (subst (λ n. Among c.in-Until.second (parts false n)) (sym c.in-Until.is) (inr (inl refl))) in
+    handed-on _ _ _ c.from_residual-in_err-after-in-Until.ensures.1 (residual-fault (plain_problem c.args.task.now.problem) c.args.w.now (assignment_in c.args.env.now) (trees c.args.nodes.now) c.args.at c.in-Until.second low.below c.in_err-after-in-Until.field-0.0 c.in_err-after-in-Until.ensures.cause)
+
+pub layer_residual-decides-requires : goal.layer_residual-decides-requires
+layer_residual-decides-requires t c = slice_get_within (trees c.residual_of-in-Until.new.nodes) c.in_ok-after-in-Until.after _ c.in_ok-after-in-Until.ensures.number
+
+pub layer_residual-returns-then-decides-clause-number : goal.layer_residual-returns-then-decides-clause-number
+layer_residual-returns-then-decides-clause-number t c = next-Until-now (plain_problem c.args.task.now.problem) c.args.w.now (assignment_in c.args.env.now) (trees c.args.nodes.now) c.args.at c.get.result.now c.get.ensures.tree c.requires.at (trees c.residual_of-in-Until.new.nodes) c.in_ok-after-in-Until.ensures.kept c.in-Until.first c.in-Until.second c.in_ok-after-in-Until.after c.in-Until.is c.in_ok-after-in-Until.ensures.number (c.decides.ensures c.if-decides.true)
+
+pub layer_residual-residual_of-requires-in-Until-2 : goal.layer_residual-residual_of-requires-in-Until-2
+layer_residual-residual_of-requires-in-Until-2 t c =
+    let low = part-lower false (trees c.args.nodes.now) c.args.at c.in-Until.first c.get.result.now c.get.ensures.tree c.get.ensures.parts (subst (λ n. Among c.in-Until.first (parts false n)) (sym c.in-Until.is) (inl refl)) in
+    let less = low.less in
+    let first : c.in-Until.first < length (trees c.args.nodes.now) = omega (arith, less, c.requires.at) in
+    (omega (arith, less, c.decreases), (longer (trees c.args.nodes.now) (trees c.residual_of-in-Until.new.nodes) c.in_ok-after-in-Until.ensures.kept c.in-Until.first first, (subst (FitsSomewhere (signature_of c.args.task.now.problem.domain)) (sym (stays (trees c.args.nodes.now) (trees c.residual_of-in-Until.new.nodes) c.in_ok-after-in-Until.ensures.kept c.in-Until.first first)) (fits-below false (trees c.args.nodes.now) (signature_of c.args.task.now.problem.domain) c.args.at c.in-Until.first low.below c.requires.fits), right-still (plain_problem c.args.task.now.problem) c.args.w.now (trees c.args.nodes.now) (trees c.residual_of-in-Until.new.nodes) c.in_ok-after-in-Until.ensures.kept c.args.known.now c.requires.known)))
+
+pub layer_residual-returns-in_err-before-in-Until-clause-kept : goal.layer_residual-returns-in_err-before-in-Until-clause-kept
+layer_residual-returns-in_err-before-in-Until-clause-kept t c = λ i f h. c.in_err-before-in-Until.ensures.kept i f (c.in_ok-after-in-Until.ensures.kept i f h)
+
+pub layer_residual-returns-in_err-before-in-Until-clause-cause : goal.layer_residual-returns-in_err-before-in-Until-clause-cause
+layer_residual-returns-in_err-before-in-Until-clause-cause t c =
+    let low = part-lower false (trees c.args.nodes.now) c.args.at c.in-Until.first c.get.result.now c.get.ensures.tree c.get.ensures.parts (subst (λ n. Among c.in-Until.first (parts false n)) (sym c.in-Until.is) (inl refl)) in
+    let less = low.less in
+    let first : c.in-Until.first < length (trees c.args.nodes.now) = omega (arith, less, c.requires.at) in
+    handed-on _ _ _ c.from_residual-in_err-before-in-Until.ensures.1 (residual-fault (plain_problem c.args.task.now.problem) c.args.w.now (assignment_in c.args.env.now) (trees c.args.nodes.now) c.args.at c.in-Until.first low.below c.in_err-before-in-Until.field-0.0
+    (subst (λ (f : FormulaTree). IsCausedBy (looked_for_residual (plain_problem c.args.task.now.problem) c.args.w.now (assignment_in c.args.env.now) f) c.in_err-before-in-Until.field-0.0) (stays (trees c.args.nodes.now) (trees c.residual_of-in-Until.new.nodes) c.in_ok-after-in-Until.ensures.kept c.in-Until.first first)
+    (subst (λ (v : List (Option Value)). IsCausedBy (looked_for_residual (plain_problem c.args.task.now.problem) c.args.w.now (assignment_in v) (tree_at (trees c.residual_of-in-Until.new.nodes) c.in-Until.first)) c.in_err-before-in-Until.field-0.0) c.in_ok-after-in-Until.ensures.frame c.in_err-before-in-Until.ensures.cause)))
+
+pub layer_residual-returns-in_err-before-in-Until-clause-frame : goal.layer_residual-returns-in_err-before-in-Until-clause-frame
+layer_residual-returns-in_err-before-in-Until-clause-frame t c = c.residual_of-in-Until-2.ensures.frame ∙ c.in_ok-after-in-Until.ensures.frame
+
+pub layer_residual-residual_of-requires-in-Within : goal.layer_residual-residual_of-requires-in-Within
+layer_residual-residual_of-requires-in-Within t c =
+    let low = part-lower false (trees c.args.nodes.now) c.args.at c.in-Within.part c.get.result.now c.get.ensures.tree c.get.ensures.parts (subst (λ n. Among c.in-Within.part (parts false n)) (sym c.in-Within.is) (inl refl)) in
+    let less = low.less in
+    (omega (arith, less, c.decreases), (omega (arith, less, c.requires.at), (fits-below false (trees c.args.nodes.now) (signature_of c.args.task.now.problem.domain) c.args.at c.in-Within.part low.below c.requires.fits, c.requires.known)))
+
+pub layer_residual-returns-in_err-answer-in-Within-clause-cause : goal.layer_residual-returns-in_err-answer-in-Within-clause-cause
+layer_residual-returns-in_err-answer-in-Within-clause-cause t c =
+    let low = part-lower false (trees c.args.nodes.now) c.args.at c.in-Within.part c.get.result.now c.get.ensures.tree c.get.ensures.parts (subst (λ n. Among c.in-Within.part (parts false n)) (sym c.in-Within.is) (inl refl)) in
+    handed-on _ _ _ c.from_residual-in_err-answer-in-Within.ensures.1 (residual-fault (plain_problem c.args.task.now.problem) c.args.w.now (assignment_in c.args.env.now) (trees c.args.nodes.now) c.args.at c.in-Within.part low.below c.in_err-answer-in-Within.field-0.0 c.in_err-answer-in-Within.ensures.cause)
+
+pub layer_residual-residual_of-requires-in-During : goal.layer_residual-residual_of-requires-in-During
+layer_residual-residual_of-requires-in-During t c =
+    let low = part-lower false (trees c.args.nodes.now) c.args.at c.in-During.part c.get.result.now c.get.ensures.tree c.get.ensures.parts (subst (λ n. Among c.in-During.part (parts false n)) (sym c.in-During.is) (inl refl)) in
+    let less = low.less in
+    (omega (arith, less, c.decreases), (omega (arith, less, c.requires.at), (fits-below false (trees c.args.nodes.now) (signature_of c.args.task.now.problem.domain) c.args.at c.in-During.part low.below c.requires.fits, c.requires.known)))
+
+pub layer_residual-returns-in_err-answer-in-During-clause-cause : goal.layer_residual-returns-in_err-answer-in-During-clause-cause
+layer_residual-returns-in_err-answer-in-During-clause-cause t c =
+    let low = part-lower false (trees c.args.nodes.now) c.args.at c.in-During.part c.get.result.now c.get.ensures.tree c.get.ensures.parts (subst (λ n. Among c.in-During.part (parts false n)) (sym c.in-During.is) (inl refl)) in
+    handed-on _ _ _ c.from_residual-in_err-answer-in-During.ensures.1 (residual-fault (plain_problem c.args.task.now.problem) c.args.w.now (assignment_in c.args.env.now) (trees c.args.nodes.now) c.args.at c.in-During.part low.below c.in_err-answer-in-During.field-0.0 c.in_err-answer-in-During.ensures.cause)
+
+pub layer_residual-until_remaining-requires : goal.layer_residual-until_remaining-requires
+layer_residual-until_remaining-requires t c = record {
+  second = slice_get_within (trees c.residual_of-in-Until-2.new.nodes) c.in_ok-after-in-Until.after _ (c.in_ok-before-in-Until.ensures.kept _ _ c.in_ok-after-in-Until.ensures.number);
+  first = slice_get_within (trees c.residual_of-in-Until-2.new.nodes) c.in_ok-before-in-Until.before _ c.in_ok-before-in-Until.ensures.number;
+  at = longer (trees c.args.nodes.now) (trees c.residual_of-in-Until-2.new.nodes) (λ i f h. c.in_ok-before-in-Until.ensures.kept i f (c.in_ok-after-in-Until.ensures.kept i f h)) c.args.at c.requires.at;
+}
+
+pub layer_residual-returns-in_ok-number-in-Until-clause-kept : goal.layer_residual-returns-in_ok-number-in-Until-clause-kept
+layer_residual-returns-in_ok-number-in-Until-clause-kept t c = λ i f h. c.in_ok-number-in-Until.ensures.kept i f (c.in_ok-before-in-Until.ensures.kept i f (c.in_ok-after-in-Until.ensures.kept i f h))
+
+pub layer_residual-returns-in_err-number-in-Until-clause-kept : goal.layer_residual-returns-in_err-number-in-Until-clause-kept
+layer_residual-returns-in_err-number-in-Until-clause-kept t c = λ i f h. c.in_err-number-in-Until.ensures.kept i f (c.in_ok-before-in-Until.ensures.kept i f (c.in_ok-after-in-Until.ensures.kept i f h))
+
+pub layer_residual-returns-in_ok-number-in-Until-clause-number : goal.layer_residual-returns-in_ok-number-in-Until-clause-number
+layer_residual-returns-in_ok-number-in-Until-clause-number t c =
+    let low = part-lower false (trees c.args.nodes.now) c.args.at c.in-Until.first c.get.result.now c.get.ensures.tree c.get.ensures.parts (subst (λ n. Among c.in-Until.first (parts false n)) (sym c.in-Until.is) (inl refl)) in
+    let less = low.less in
+    let first : c.in-Until.first < length (trees c.args.nodes.now) = omega (arith, less, c.requires.at) in
+    c.in_ok-number-in-Until.ensures.number ∙ ap (λ (f : FormulaTree). Some f) (next-Until (plain_problem c.args.task.now.problem) c.args.w.now (assignment_in c.args.env.now) (trees c.args.nodes.now) c.args.at c.get.result.now c.get.ensures.tree c.requires.at (trees c.residual_of-in-Until-2.new.nodes) (λ i f h. c.in_ok-before-in-Until.ensures.kept i f (c.in_ok-after-in-Until.ensures.kept i f h)) (assignment_in c.residual_of-in-Until-2.new.env) (ap assignment_in (c.in_ok-before-in-Until.ensures.frame ∙ c.in_ok-after-in-Until.ensures.frame)) c.in-Until.first c.in-Until.second c.in_ok-before-in-Until.before c.in_ok-after-in-Until.after c.in-Until.is
+    (subst (λ (f : FormulaTree). slice_get (trees c.residual_of-in-Until-2.new.nodes) c.in_ok-before-in-Until.before ≡ Some (residual (plain_problem c.args.task.now.problem) c.args.w.now (assignment_in c.args.env.now) f)) (stays (trees c.args.nodes.now) (trees c.residual_of-in-Until.new.nodes) c.in_ok-after-in-Until.ensures.kept c.in-Until.first first) (subst (λ (v : List (Option Value)). slice_get (trees c.residual_of-in-Until-2.new.nodes) c.in_ok-before-in-Until.before ≡ Some (residual (plain_problem c.args.task.now.problem) c.args.w.now (assignment_in v) (tree_at (trees c.residual_of-in-Until.new.nodes) c.in-Until.first))) c.in_ok-after-in-Until.ensures.frame c.in_ok-before-in-Until.ensures.number))
+    (c.in_ok-before-in-Until.ensures.kept _ _ c.in_ok-after-in-Until.ensures.number))
+
+pub layer_residual-with_fewer_steps-requires : goal.layer_residual-with_fewer_steps-requires
+layer_residual-with_fewer_steps-requires t c =
+    let low = part-lower false (trees c.args.nodes.now) c.args.at c.in-Within.part c.get.result.now c.get.ensures.tree c.get.ensures.parts (subst (λ n. Among c.in-Within.part (parts false n)) (sym c.in-Within.is) (inl refl)) in
+    let less = low.less in
+    let part : c.in-Within.part < length (trees c.args.nodes.now) = omega (arith, less, c.requires.at) in
+    record {
+      answer = slice_get_within (trees c.residual_of-in-Within.new.nodes) c.in_ok-answer-in-Within.answer _ c.in_ok-answer-in-Within.ensures.number;
+      part = longer (trees c.args.nodes.now) (trees c.residual_of-in-Within.new.nodes) c.in_ok-answer-in-Within.ensures.kept c.in-Within.part part;
+    }
+
+pub layer_residual-returns-in_ok-number-in-Within-clause-kept : goal.layer_residual-returns-in_ok-number-in-Within-clause-kept
+layer_residual-returns-in_ok-number-in-Within-clause-kept t c = λ i f h. c.in_ok-number-in-Within.ensures.kept i f (c.in_ok-answer-in-Within.ensures.kept i f h)
+
+pub layer_residual-returns-in_ok-number-in-Within-clause-number : goal.layer_residual-returns-in_ok-number-in-Within-clause-number
+layer_residual-returns-in_ok-number-in-Within-clause-number t c =
+    let low = part-lower false (trees c.args.nodes.now) c.args.at c.in-Within.part c.get.result.now c.get.ensures.tree c.get.ensures.parts (subst (λ n. Among c.in-Within.part (parts false n)) (sym c.in-Within.is) (inl refl)) in
+    let less = low.less in
+    let part : c.in-Within.part < length (trees c.args.nodes.now) = omega (arith, less, c.requires.at) in
+    c.in_ok-number-in-Within.ensures.number ∙ ap (λ (f : FormulaTree). Some f) (next-Within (plain_problem c.args.task.now.problem) c.args.w.now (assignment_in c.args.env.now) (trees c.args.nodes.now) c.args.at c.get.result.now c.get.ensures.tree c.requires.at (trees c.residual_of-in-Within.new.nodes) c.in_ok-answer-in-Within.ensures.kept (assignment_in c.residual_of-in-Within.new.env) (ap assignment_in c.in_ok-answer-in-Within.ensures.frame) c.in-Within.steps c.in-Within.part c.in_ok-answer-in-Within.answer part c.in-Within.is c.in_ok-answer-in-Within.ensures.number)
+
+pub layer_residual-with_fewer_steps-requires-in-During : goal.layer_residual-with_fewer_steps-requires-in-During
+layer_residual-with_fewer_steps-requires-in-During t c =
+    let low = part-lower false (trees c.args.nodes.now) c.args.at c.in-During.part c.get.result.now c.get.ensures.tree c.get.ensures.parts (subst (λ n. Among c.in-During.part (parts false n)) (sym c.in-During.is) (inl refl)) in
+    let less = low.less in
+    let part : c.in-During.part < length (trees c.args.nodes.now) = omega (arith, less, c.requires.at) in
+    record {
+      answer = slice_get_within (trees c.residual_of-in-During.new.nodes) c.in_ok-answer-in-During.answer _ c.in_ok-answer-in-During.ensures.number;
+      part = longer (trees c.args.nodes.now) (trees c.residual_of-in-During.new.nodes) c.in_ok-answer-in-During.ensures.kept c.in-During.part part;
+    }
+
+pub layer_residual-returns-in_ok-number-in-During-clause-kept : goal.layer_residual-returns-in_ok-number-in-During-clause-kept
+layer_residual-returns-in_ok-number-in-During-clause-kept t c = λ i f h. c.in_ok-number-in-During.ensures.kept i f (c.in_ok-answer-in-During.ensures.kept i f h)
+
+pub layer_residual-returns-in_ok-number-in-During-clause-number : goal.layer_residual-returns-in_ok-number-in-During-clause-number
+layer_residual-returns-in_ok-number-in-During-clause-number t c =
+    let low = part-lower false (trees c.args.nodes.now) c.args.at c.in-During.part c.get.result.now c.get.ensures.tree c.get.ensures.parts (subst (λ n. Among c.in-During.part (parts false n)) (sym c.in-During.is) (inl refl)) in
+    let less = low.less in
+    let part : c.in-During.part < length (trees c.args.nodes.now) = omega (arith, less, c.requires.at) in
+    c.in_ok-number-in-During.ensures.number ∙ ap (λ (f : FormulaTree). Some f) (next-During (plain_problem c.args.task.now.problem) c.args.w.now (assignment_in c.args.env.now) (trees c.args.nodes.now) c.args.at c.get.result.now c.get.ensures.tree c.requires.at (trees c.residual_of-in-During.new.nodes) c.in_ok-answer-in-During.ensures.kept (assignment_in c.residual_of-in-During.new.env) (ap assignment_in c.in_ok-answer-in-During.ensures.frame) c.in-During.steps c.in-During.part c.in_ok-answer-in-During.answer part c.in-During.is c.in_ok-answer-in-During.ensures.number)
+
+pub layer_residual-instances_residual-requires : goal.layer_residual-instances_residual-requires
+layer_residual-instances_residual-requires t c =
+    let less = less-ForAll (trees c.args.nodes.now) c.args.at c.get.result.now c.get.ensures.tree c.get.ensures.parts c.in-ForAll.vars c.in-ForAll.bound c.in-ForAll.part c.in-ForAll.is in
+    let same : c.in_ok-quantifier-in-ForAll.quantifier.part ≡ c.in-ForAll.part = ap (λ (q : Quantifier). q.part) c.in_ok-quantifier-in-ForAll.ensures in
+    (omega (arith, less, same, c.decreases), (omega (arith, less, same, c.requires.at), (subst (FitsSomewhere (signature_of c.args.task.now.problem.domain)) (shown-ForAll (trees c.args.nodes.now) c.args.at c.get.result.now c.get.ensures.tree c.in-ForAll.vars c.in-ForAll.bound c.in-ForAll.part c.in-ForAll.is ∙ ap (quantifier_tree (trees c.args.nodes.now)) (sym c.in_ok-quantifier-in-ForAll.ensures)) c.requires.fits, c.requires.known)))
+
+pub layer_residual-returns-in_ok-quantifier-in-ForAll-clause-number : goal.layer_residual-returns-in_ok-quantifier-in-ForAll-clause-number
+layer_residual-returns-in_ok-quantifier-in-ForAll-clause-number t c =
+    subst (λ (f : FormulaTree). IfOk c.instances_residual.result (λ i. Denotes c.instances_residual.new.nodes i (residual (plain_problem c.args.task.now.problem) c.args.w.now (assignment_in c.args.env.now) f))) (sym (shown-ForAll (trees c.args.nodes.now) c.args.at c.get.result.now c.get.ensures.tree c.in-ForAll.vars c.in-ForAll.bound c.in-ForAll.part c.in-ForAll.is ∙ ap (quantifier_tree (trees c.args.nodes.now)) (sym c.in_ok-quantifier-in-ForAll.ensures))) c.instances_residual.ensures.number
+
+pub layer_residual-returns-in_ok-quantifier-in-ForAll-clause-cause : goal.layer_residual-returns-in_ok-quantifier-in-ForAll-clause-cause
+layer_residual-returns-in_ok-quantifier-in-ForAll-clause-cause t c =
+    subst (λ (f : FormulaTree). IfErr c.instances_residual.result (IsCausedBy (looked_for_residual (plain_problem c.args.task.now.problem) c.args.w.now (assignment_in c.args.env.now) f))) (sym (shown-ForAll (trees c.args.nodes.now) c.args.at c.get.result.now c.get.ensures.tree c.in-ForAll.vars c.in-ForAll.bound c.in-ForAll.part c.in-ForAll.is ∙ ap (quantifier_tree (trees c.args.nodes.now)) (sym c.in_ok-quantifier-in-ForAll.ensures))) c.instances_residual.ensures.cause
+
+pub layer_residual-instances_residual-requires-in-Exists : goal.layer_residual-instances_residual-requires-in-Exists
+layer_residual-instances_residual-requires-in-Exists t c =
+    let less = less-Exists (trees c.args.nodes.now) c.args.at c.get.result.now c.get.ensures.tree c.get.ensures.parts c.in-Exists.vars c.in-Exists.bound c.in-Exists.part c.in-Exists.is in
+    let same : c.in_ok-quantifier-in-Exists.quantifier.part ≡ c.in-Exists.part = ap (λ (q : Quantifier). q.part) c.in_ok-quantifier-in-Exists.ensures in
+    (omega (arith, less, same, c.decreases), (omega (arith, less, same, c.requires.at), (subst (FitsSomewhere (signature_of c.args.task.now.problem.domain)) (shown-Exists (trees c.args.nodes.now) c.args.at c.get.result.now c.get.ensures.tree c.in-Exists.vars c.in-Exists.bound c.in-Exists.part c.in-Exists.is ∙ ap (quantifier_tree (trees c.args.nodes.now)) (sym c.in_ok-quantifier-in-Exists.ensures)) c.requires.fits, c.requires.known)))
+
+pub layer_residual-returns-in_ok-quantifier-in-Exists-clause-number : goal.layer_residual-returns-in_ok-quantifier-in-Exists-clause-number
+layer_residual-returns-in_ok-quantifier-in-Exists-clause-number t c =
+    subst (λ (f : FormulaTree). IfOk c.instances_residual-in-Exists.result (λ i. Denotes c.instances_residual-in-Exists.new.nodes i (residual (plain_problem c.args.task.now.problem) c.args.w.now (assignment_in c.args.env.now) f))) (sym (shown-Exists (trees c.args.nodes.now) c.args.at c.get.result.now c.get.ensures.tree c.in-Exists.vars c.in-Exists.bound c.in-Exists.part c.in-Exists.is ∙ ap (quantifier_tree (trees c.args.nodes.now)) (sym c.in_ok-quantifier-in-Exists.ensures))) c.instances_residual-in-Exists.ensures.number
+
+pub layer_residual-returns-in_ok-quantifier-in-Exists-clause-cause : goal.layer_residual-returns-in_ok-quantifier-in-Exists-clause-cause
+layer_residual-returns-in_ok-quantifier-in-Exists-clause-cause t c =
+    subst (λ (f : FormulaTree). IfErr c.instances_residual-in-Exists.result (IsCausedBy (looked_for_residual (plain_problem c.args.task.now.problem) c.args.w.now (assignment_in c.args.env.now) f))) (sym (shown-Exists (trees c.args.nodes.now) c.args.at c.get.result.now c.get.ensures.tree c.in-Exists.vars c.in-Exists.bound c.in-Exists.part c.in-Exists.is ∙ ap (quantifier_tree (trees c.args.nodes.now)) (sym c.in_ok-quantifier-in-Exists.ensures))) c.instances_residual-in-Exists.ensures.cause
+
+-- ---- the parts of a join
+
+pub join_residual-loop-i-init : goal.join_residual-loop-i-init
+join_residual-loop-i-init t c = record { frame = refl; kept = λ i f h. h; passed = gather-begun c.args.junction (trees c.args.nodes.now) _ (map (residual (plain_problem c.args.task.now.problem) c.args.w.now (assignment_in c.args.env.now)) (join_parts (tree_at (trees c.args.nodes.now) c.args.at))) c.new-answers.ensures.items }
+
+pub join_residual-part_at-part-requires : goal.join_residual-part_at-part-requires
+join_residual-part_at-part-requires t c = record {
+  at = longer (trees c.args.nodes.now) (trees c.loop-i.nodes) c.loop-i.invariant.kept c.args.at c.requires.at;
+  i = subst (λ (f : FormulaTree). c.loop-i.i < length (join_parts f)) (sym (stays (trees c.args.nodes.now) (trees c.loop-i.nodes) c.loop-i.invariant.kept c.args.at c.requires.at)) (omega (arith, c.loop-i-test.true, c.part_count-i-end.ensures));
+}
+
+pub join_residual-residual_of-requires : goal.join_residual-residual_of-requires
+join_residual-residual_of-requires t c =
+    let less = c.part_at-part.ensures.smaller in
+    let part : c.part_at-part.result < length (trees c.args.nodes.now) = omega (arith, less, c.requires.at) in
+    let there = subst (λ (f : FormulaTree). slice_get (join_parts f) c.loop-i.i ≡ Some (tree_at (trees c.loop-i.nodes) c.part_at-part.result)) (stays (trees c.args.nodes.now) (trees c.loop-i.nodes) c.loop-i.invariant.kept c.args.at c.requires.at) c.part_at-part.ensures.tree ∙ ap Some (stays (trees c.args.nodes.now) (trees c.loop-i.nodes) c.loop-i.invariant.kept c.part_at-part.result part) in
+    let low = part-among false (trees c.args.nodes.now) c.args.at c.args.junction c.requires.join c.loop-i.i c.part_at-part.result less there in
+    (omega (arith, less, c.decreases), (longer (trees c.args.nodes.now) (trees c.loop-i.nodes) c.loop-i.invariant.kept c.part_at-part.result part, (subst (FitsSomewhere (signature_of c.args.task.now.problem.domain)) (sym (stays (trees c.args.nodes.now) (trees c.loop-i.nodes) c.loop-i.invariant.kept c.part_at-part.result part)) (fits-below false (trees c.args.nodes.now) (signature_of c.args.task.now.problem.domain) c.args.at c.part_at-part.result low c.requires.fits), right-still (plain_problem c.args.task.now.problem) c.args.w.now (trees c.args.nodes.now) (trees c.loop-i.nodes) c.loop-i.invariant.kept c.args.known.now c.requires.known)))
+
+pub join_residual-decides-requires : goal.join_residual-decides-requires
+join_residual-decides-requires t c = slice_get_within (trees c.residual_of.new.nodes) c.in-Ok.answer _ c.in-Ok.ensures.number
+
+pub join_residual-returns-then-decides-clause-kept : goal.join_residual-returns-then-decides-clause-kept
+join_residual-returns-then-decides-clause-kept t c = λ i f h. c.in-Ok.ensures.kept i f (c.loop-i.invariant.kept i f h)
+
+pub join_residual-returns-then-decides-clause-number : goal.join_residual-returns-then-decides-clause-number
+join_residual-returns-then-decides-clause-number t c =
+    let less = c.part_at-part.ensures.smaller in
+    let part : c.part_at-part.result < length (trees c.args.nodes.now) = omega (arith, less, c.requires.at) in
+    let there = subst (λ (f : FormulaTree). slice_get (join_parts f) c.loop-i.i ≡ Some (tree_at (trees c.loop-i.nodes) c.part_at-part.result)) (stays (trees c.args.nodes.now) (trees c.loop-i.nodes) c.loop-i.invariant.kept c.args.at c.requires.at) c.part_at-part.ensures.tree ∙ ap Some (stays (trees c.args.nodes.now) (trees c.loop-i.nodes) c.loop-i.invariant.kept c.part_at-part.result part) in
+    let low = part-among false (trees c.args.nodes.now) c.args.at c.args.junction c.requires.join c.loop-i.i c.part_at-part.result less there in
+    gather-decided c.args.junction (trees c.loop-i.nodes) (trees c.residual_of.new.nodes) c.in-Ok.ensures.kept c.loop-i.answers.items ((residual (plain_problem c.args.task.now.problem) c.args.w.now (assignment_in c.args.env.now)) (tree_at (trees c.args.nodes.now) c.part_at-part.result)) (map (residual (plain_problem c.args.task.now.problem) c.args.w.now (assignment_in c.args.env.now)) (drop (c.loop-i.i + 1) (join_parts (tree_at (trees c.args.nodes.now) c.args.at)))) (map (residual (plain_problem c.args.task.now.problem) c.args.w.now (assignment_in c.args.env.now)) (join_parts (tree_at (trees c.args.nodes.now) c.args.at))) (subst (λ (fs : List FormulaTree). Gathered c.args.junction (trees c.loop-i.nodes) c.loop-i.answers.items fs (map (residual (plain_problem c.args.task.now.problem) c.args.w.now (assignment_in c.args.env.now)) (join_parts (tree_at (trees c.args.nodes.now) c.args.at)))) (part-next (residual (plain_problem c.args.task.now.problem) c.args.w.now (assignment_in c.args.env.now)) (join_parts (tree_at (trees c.args.nodes.now) c.args.at)) c.loop-i.i (tree_at (trees c.args.nodes.now) c.part_at-part.result) there) c.loop-i.invariant.passed) c.in-Ok.answer (subst (λ (f : FormulaTree). slice_get (trees c.residual_of.new.nodes) c.in-Ok.answer ≡ Some (residual (plain_problem c.args.task.now.problem) c.args.w.now (assignment_in c.args.env.now) f)) (stays (trees c.args.nodes.now) (trees c.loop-i.nodes) c.loop-i.invariant.kept c.part_at-part.result part) (subst (λ (v : List (Option Value)). slice_get (trees c.residual_of.new.nodes) c.in-Ok.answer ≡ Some (residual (plain_problem c.args.task.now.problem) c.args.w.now (assignment_in v) (tree_at (trees c.loop-i.nodes) c.part_at-part.result))) c.loop-i.invariant.frame c.in-Ok.ensures.number)) (c.decides.ensures c.if-decides.true) ∙ ap (λ (f : FormulaTree). Some f) (join-next (plain_problem c.args.task.now.problem) c.args.w.now (assignment_in c.args.env.now) c.args.junction (tree_at (trees c.args.nodes.now) c.args.at) c.requires.join)
+
+pub join_residual-returns-then-decides-clause-frame : goal.join_residual-returns-then-decides-clause-frame
+join_residual-returns-then-decides-clause-frame t c = c.residual_of.ensures.frame ∙ c.loop-i.invariant.frame
+
+pub join_residual-gather-requires : goal.join_residual-gather-requires
+join_residual-gather-requires t c = record {
+  parts =
+      let less = c.part_at-part.ensures.smaller in
+      let part : c.part_at-part.result < length (trees c.args.nodes.now) = omega (arith, less, c.requires.at) in
+      let there = subst (λ (f : FormulaTree). slice_get (join_parts f) c.loop-i.i ≡ Some (tree_at (trees c.loop-i.nodes) c.part_at-part.result)) (stays (trees c.args.nodes.now) (trees c.loop-i.nodes) c.loop-i.invariant.kept c.args.at c.requires.at) c.part_at-part.ensures.tree ∙ ap Some (stays (trees c.args.nodes.now) (trees c.loop-i.nodes) c.loop-i.invariant.kept c.part_at-part.result part) in
+      let low = part-among false (trees c.args.nodes.now) c.args.at c.args.junction c.requires.join c.loop-i.i c.part_at-part.result less there in
+      below-still c.args.junction (trees c.loop-i.nodes) (trees c.residual_of.new.nodes) c.in-Ok.ensures.kept c.loop-i.answers.items ((residual (plain_problem c.args.task.now.problem) c.args.w.now (assignment_in c.args.env.now)) (tree_at (trees c.args.nodes.now) c.part_at-part.result)) (map (residual (plain_problem c.args.task.now.problem) c.args.w.now (assignment_in c.args.env.now)) (drop (c.loop-i.i + 1) (join_parts (tree_at (trees c.args.nodes.now) c.args.at)))) (map (residual (plain_problem c.args.task.now.problem) c.args.w.now (assignment_in c.args.env.now)) (join_parts (tree_at (trees c.args.nodes.now) c.args.at))) (subst (λ (fs : List FormulaTree). Gathered c.args.junction (trees c.loop-i.nodes) c.loop-i.answers.items fs (map (residual (plain_problem c.args.task.now.problem) c.args.w.now (assignment_in c.args.env.now)) (join_parts (tree_at (trees c.args.nodes.now) c.args.at)))) (part-next (residual (plain_problem c.args.task.now.problem) c.args.w.now (assignment_in c.args.env.now)) (join_parts (tree_at (trees c.args.nodes.now) c.args.at)) c.loop-i.i (tree_at (trees c.args.nodes.now) c.part_at-part.result) there) c.loop-i.invariant.passed) c.in-Ok.answer (subst (λ (f : FormulaTree). slice_get (trees c.residual_of.new.nodes) c.in-Ok.answer ≡ Some (residual (plain_problem c.args.task.now.problem) c.args.w.now (assignment_in c.args.env.now) f)) (stays (trees c.args.nodes.now) (trees c.loop-i.nodes) c.loop-i.invariant.kept c.part_at-part.result part) (subst (λ (v : List (Option Value)). slice_get (trees c.residual_of.new.nodes) c.in-Ok.answer ≡ Some (residual (plain_problem c.args.task.now.problem) c.args.w.now (assignment_in v) (tree_at (trees c.loop-i.nodes) c.part_at-part.result))) c.loop-i.invariant.frame c.in-Ok.ensures.number));
+  part = slice_get_within (trees c.residual_of.new.nodes) c.in-Ok.answer _ c.in-Ok.ensures.number;
+}
+
+pub join_residual-loop-i-preserved : goal.join_residual-loop-i-preserved
+join_residual-loop-i-preserved t c =
+    let less = c.part_at-part.ensures.smaller in
+    let part : c.part_at-part.result < length (trees c.args.nodes.now) = omega (arith, less, c.requires.at) in
+    let there = subst (λ (f : FormulaTree). slice_get (join_parts f) c.loop-i.i ≡ Some (tree_at (trees c.loop-i.nodes) c.part_at-part.result)) (stays (trees c.args.nodes.now) (trees c.loop-i.nodes) c.loop-i.invariant.kept c.args.at c.requires.at) c.part_at-part.ensures.tree ∙ ap Some (stays (trees c.args.nodes.now) (trees c.loop-i.nodes) c.loop-i.invariant.kept c.part_at-part.result part) in
+    let low = part-among false (trees c.args.nodes.now) c.args.at c.args.junction c.requires.join c.loop-i.i c.part_at-part.result less there in
+    record {
+      frame = c.residual_of.ensures.frame ∙ c.loop-i.invariant.frame;
+      kept = λ i f h. c.in-Ok.ensures.kept i f (c.loop-i.invariant.kept i f h);
+      passed = gather-on c.args.junction (trees c.loop-i.nodes) (trees c.residual_of.new.nodes) c.in-Ok.ensures.kept c.loop-i.answers.items ((residual (plain_problem c.args.task.now.problem) c.args.w.now (assignment_in c.args.env.now)) (tree_at (trees c.args.nodes.now) c.part_at-part.result)) (map (residual (plain_problem c.args.task.now.problem) c.args.w.now (assignment_in c.args.env.now)) (drop (c.loop-i.i + 1) (join_parts (tree_at (trees c.args.nodes.now) c.args.at)))) (map (residual (plain_problem c.args.task.now.problem) c.args.w.now (assignment_in c.args.env.now)) (join_parts (tree_at (trees c.args.nodes.now) c.args.at))) (subst (λ (fs : List FormulaTree). Gathered c.args.junction (trees c.loop-i.nodes) c.loop-i.answers.items fs (map (residual (plain_problem c.args.task.now.problem) c.args.w.now (assignment_in c.args.env.now)) (join_parts (tree_at (trees c.args.nodes.now) c.args.at)))) (part-next (residual (plain_problem c.args.task.now.problem) c.args.w.now (assignment_in c.args.env.now)) (join_parts (tree_at (trees c.args.nodes.now) c.args.at)) c.loop-i.i (tree_at (trees c.args.nodes.now) c.part_at-part.result) there) c.loop-i.invariant.passed) c.in-Ok.answer (subst (λ (f : FormulaTree). slice_get (trees c.residual_of.new.nodes) c.in-Ok.answer ≡ Some (residual (plain_problem c.args.task.now.problem) c.args.w.now (assignment_in c.args.env.now) f)) (stays (trees c.args.nodes.now) (trees c.loop-i.nodes) c.loop-i.invariant.kept c.part_at-part.result part) (subst (λ (v : List (Option Value)). slice_get (trees c.residual_of.new.nodes) c.in-Ok.answer ≡ Some (residual (plain_problem c.args.task.now.problem) c.args.w.now (assignment_in v) (tree_at (trees c.loop-i.nodes) c.part_at-part.result))) c.loop-i.invariant.frame c.in-Ok.ensures.number)) c.gather.new.parts.items c.in_ok-gather-in-Ok.ensures.below c.in_ok-gather-in-Ok.ensures.same;
+    }
+
+pub join_residual-returns-in_err-gather-in-Ok-clause-kept : goal.join_residual-returns-in_err-gather-in-Ok-clause-kept
+join_residual-returns-in_err-gather-in-Ok-clause-kept t c = λ i f h. c.in-Ok.ensures.kept i f (c.loop-i.invariant.kept i f h)
+
+pub join_residual-returns-in_err-gather-in-Ok-clause-frame : goal.join_residual-returns-in_err-gather-in-Ok-clause-frame
+join_residual-returns-in_err-gather-in-Ok-clause-frame t c = c.residual_of.ensures.frame ∙ c.loop-i.invariant.frame
+
+pub join_residual-returns-in-Err-clause-kept : goal.join_residual-returns-in-Err-clause-kept
+join_residual-returns-in-Err-clause-kept t c = λ i f h. c.in-Err.ensures.kept i f (c.loop-i.invariant.kept i f h)
+
+pub join_residual-returns-in-Err-clause-cause : goal.join_residual-returns-in-Err-clause-cause
+join_residual-returns-in-Err-clause-cause t c =
+    let less = c.part_at-part.ensures.smaller in
+    let part : c.part_at-part.result < length (trees c.args.nodes.now) = omega (arith, less, c.requires.at) in
+    let there = subst (λ (f : FormulaTree). slice_get (join_parts f) c.loop-i.i ≡ Some (tree_at (trees c.loop-i.nodes) c.part_at-part.result)) (stays (trees c.args.nodes.now) (trees c.loop-i.nodes) c.loop-i.invariant.kept c.args.at c.requires.at) c.part_at-part.ensures.tree ∙ ap Some (stays (trees c.args.nodes.now) (trees c.loop-i.nodes) c.loop-i.invariant.kept c.part_at-part.result part) in
+    let low = part-among false (trees c.args.nodes.now) c.args.at c.args.junction c.requires.join c.loop-i.i c.part_at-part.result less there in
+    residual-fault (plain_problem c.args.task.now.problem) c.args.w.now (assignment_in c.args.env.now) (trees c.args.nodes.now) c.args.at c.part_at-part.result low c.in-Err.fault
+    (subst (λ (f : FormulaTree). IsCausedBy (looked_for_residual (plain_problem c.args.task.now.problem) c.args.w.now (assignment_in c.args.env.now) f) c.in-Err.fault) (stays (trees c.args.nodes.now) (trees c.loop-i.nodes) c.loop-i.invariant.kept c.part_at-part.result part)
+    (subst (λ (v : List (Option Value)). IsCausedBy (looked_for_residual (plain_problem c.args.task.now.problem) c.args.w.now (assignment_in v) (tree_at (trees c.loop-i.nodes) c.part_at-part.result)) c.in-Err.fault) c.loop-i.invariant.frame c.in-Err.ensures.cause))
+
+pub join_residual-returns-in-Err-clause-frame : goal.join_residual-returns-in-Err-clause-frame
+join_residual-returns-in-Err-clause-frame t c = c.residual_of.ensures.frame ∙ c.loop-i.invariant.frame
+
+pub join_residual-join-requires : goal.join_residual-join-requires
+join_residual-join-requires t c = subst (λ (ids : List ℕ). all_below (length (trees c.loop-i.nodes)) ids ≡ true) (sym c.as_slice.ensures.value) c.loop-i.invariant.passed.below
+
+pub join_residual-returns-clause-kept : goal.join_residual-returns-clause-kept
+join_residual-returns-clause-kept t c = λ i f h. c.in_ok-number.ensures.kept i f (c.loop-i.invariant.kept i f h)
+
+pub join_residual-returns-in_err-number-clause-kept : goal.join_residual-returns-in_err-number-clause-kept
+join_residual-returns-in_err-number-clause-kept t c = λ i f h. c.in_err-number.ensures.kept i f (c.loop-i.invariant.kept i f h)
+
+pub join_residual-returns-clause-number : goal.join_residual-returns-clause-number
+join_residual-returns-clause-number t c =
+    c.in_ok-number.ensures.number ∙ ap (λ (f : FormulaTree). Some f) (ap (λ (ids : List ℕ). simplified_join c.args.junction (trees_at (trees c.loop-i.nodes) ids)) c.as_slice.ensures.value
+    ∙ (gather-end c.args.junction (trees c.loop-i.nodes) c.loop-i.answers.items (map (residual (plain_problem c.args.task.now.problem) c.args.w.now (assignment_in c.args.env.now)) (drop c.loop-i.i (join_parts (tree_at (trees c.args.nodes.now) c.args.at)))) (map (residual (plain_problem c.args.task.now.problem) c.args.w.now (assignment_in c.args.env.now)) (join_parts (tree_at (trees c.args.nodes.now) c.args.at))) c.loop-i.invariant.passed (parts-done (residual (plain_problem c.args.task.now.problem) c.args.w.now (assignment_in c.args.env.now)) (join_parts (tree_at (trees c.args.nodes.now) c.args.at)) c.loop-i.i (omega (arith, c.loop-i-test.false, c.part_count-i-end.ensures)))
+    ∙ join-next (plain_problem c.args.task.now.problem) c.args.w.now (assignment_in c.args.env.now) c.args.junction (tree_at (trees c.args.nodes.now) c.args.at) c.requires.join))
+
+-- ---- the instances of a quantifier
+
+pub instances_residual-loop-tuple-init : goal.instances_residual-loop-tuple-init
+instances_residual-loop-tuple-init t c = record { frame = refl; kept = λ i f h. h; after = tt; passed = instances-begun (plain_problem c.args.task.now.problem) c.args.w.now (assignment_in c.args.env.now) c.args.quantifier.now.vars c.args.quantifier.now.bound (tree_at (trees c.args.nodes.now) c.args.quantifier.now.part) c.args.quantifier.now.junction (trees c.args.nodes.now) c.new-answers.result.items c.new-answers.ensures.items }
+
+pub instances_residual-next_tuple-requires-clause-differ : goal.instances_residual-next_tuple-requires-clause-differ
+instances_residual-next_tuple-requires-clause-differ t c = let q = quantifier-fits c.args.task.now.problem c.args.quantifier.now.junction c.args.quantifier.now.vars c.args.quantifier.now.bound (tree_at (trees c.args.nodes.now) c.args.quantifier.now.part) c.requires.fits in q.differ
+
+pub instances_residual-next_tuple-requires-clause-occur : goal.instances_residual-next_tuple-requires-clause-occur
+instances_residual-next_tuple-requires-clause-occur t c = let q = quantifier-fits c.args.task.now.problem c.args.quantifier.now.junction c.args.quantifier.now.vars c.args.quantifier.now.bound (tree_at (trees c.args.nodes.now) c.args.quantifier.now.part) c.requires.fits in q.occur
+
+pub instances_residual-next_tuple-requires-clause-fits : goal.instances_residual-next_tuple-requires-clause-fits
+instances_residual-next_tuple-requires-clause-fits t c = let q = quantifier-fits c.args.task.now.problem c.args.quantifier.now.junction c.args.quantifier.now.vars c.args.quantifier.now.bound (tree_at (trees c.args.nodes.now) c.args.quantifier.now.part) c.requires.fits in q.bound
+
+pub instances_residual-counted_values-requires : goal.instances_residual-counted_values-requires
+instances_residual-counted_values-requires t c = let q = quantifier-fits c.args.task.now.problem c.args.quantifier.now.junction c.args.quantifier.now.vars c.args.quantifier.now.bound (tree_at (trees c.args.nodes.now) c.args.quantifier.now.part) c.requires.fits in let few = q.few in let len = c.in-Some.ensures.len in omega arith
+
+pub instances_residual-put_values-requires-clause-slots : goal.instances_residual-put_values-requires-clause-slots
+instances_residual-put_values-requires-clause-slots t c = let q = quantifier-fits c.args.task.now.problem c.args.quantifier.now.junction c.args.quantifier.now.vars c.args.quantifier.now.bound (tree_at (trees c.args.nodes.now) c.args.quantifier.now.part) c.requires.fits in subst (λ (ss : List Var). Each (λ s. s.slot < 32) ss) (sym c.as_slice.ensures) q.in_frame
+
+pub instances_residual-residual_of-answer-requires : goal.instances_residual-residual_of-answer-requires
+instances_residual-residual_of-answer-requires t c =
+    let q = quantifier-fits c.args.task.now.problem c.args.quantifier.now.junction c.args.quantifier.now.vars c.args.quantifier.now.bound (tree_at (trees c.args.nodes.now) c.args.quantifier.now.part) c.requires.fits in
+    let same = stays (trees c.args.nodes.now) (trees c.loop-tuple.nodes) c.loop-tuple.invariant.kept c.args.quantifier.now.part c.requires.part in
+    (omega (arith, c.decreases), (longer (trees c.args.nodes.now) (trees c.loop-tuple.nodes) c.loop-tuple.invariant.kept c.args.quantifier.now.part c.requires.part, (subst (FitsSomewhere (signature_of c.args.task.now.problem.domain)) (sym same) q.part, right-still (plain_problem c.args.task.now.problem) c.args.w.now (trees c.args.nodes.now) (trees c.loop-tuple.nodes) c.loop-tuple.invariant.kept c.args.known.now c.requires.known)))
+
+pub instances_residual-returns-in-Err-clause-kept : goal.instances_residual-returns-in-Err-clause-kept
+instances_residual-returns-in-Err-clause-kept t c = λ i f h. c.in-Err.ensures.kept i f (c.loop-tuple.invariant.kept i f h)
+
+pub instances_residual-returns-in-Err-clause-cause : goal.instances_residual-returns-in-Err-clause-cause
+instances_residual-returns-in-Err-clause-cause t c =
+    let q = quantifier-fits c.args.task.now.problem c.args.quantifier.now.junction c.args.quantifier.now.vars c.args.quantifier.now.bound (tree_at (trees c.args.nodes.now) c.args.quantifier.now.part) c.requires.fits in
+    let next = subst (λ (v : List (Option Value)). IsNext (length c.args.quantifier.now.vars) (λ t. bound_true (situation_of (plain_problem c.args.task.now.problem) c.args.w.now) (bind c.args.quantifier.now.vars t (assignment_in v)) c.args.quantifier.now.bound) (option_map tuple_of c.loop-tuple.after) (option_map tuple_of c.next_tuple.result)) c.loop-tuple.invariant.frame c.next_tuple.ensures.next in
+    let bound = c.put_values.ensures.values ∙ (ap (λ (ss : List Var). bind ss c.counted_values.result.now (assignment_in c.loop-tuple.env)) c.as_slice.ensures ∙ (ap (λ (u : List Value). bind c.args.quantifier.now.vars u (assignment_in c.loop-tuple.env)) c.counted_values.ensures.values ∙ ap (λ (v : List (Option Value)). bind c.args.quantifier.now.vars (tuple_of c.in-Some.tuple) (assignment_in v)) c.loop-tuple.invariant.frame)) in
+    let same = stays (trees c.args.nodes.now) (trees c.loop-tuple.nodes) c.loop-tuple.invariant.kept c.args.quantifier.now.part c.requires.part in
+    next-caused (plain_problem c.args.task.now.problem) c.args.w.now (assignment_in c.args.env.now) c.args.quantifier.now.vars c.args.quantifier.now.bound (tree_at (trees c.args.nodes.now) c.args.quantifier.now.part) c.args.quantifier.now.junction (tuple_of c.in-Some.tuple) c.in-Err.fault (is-tuple (plain_problem c.args.task.now.problem) c.args.w.now (assignment_in c.args.env.now) c.args.quantifier.now.vars c.args.quantifier.now.bound (tree_at (trees c.args.nodes.now) c.args.quantifier.now.part) q.differ q.occur (option_map tuple_of c.loop-tuple.after) (option_map tuple_of c.next_tuple.result) (tuple_of c.in-Some.tuple) next (ap (option_map tuple_of) c.in-Some.is))
+    (subst (λ (f : FormulaTree). IsCausedBy (looked_for_residual (plain_problem c.args.task.now.problem) c.args.w.now (bind c.args.quantifier.now.vars (tuple_of c.in-Some.tuple) (assignment_in c.args.env.now)) f) c.in-Err.fault) same
+    (subst (λ (d : Assignment). IsCausedBy (looked_for_residual (plain_problem c.args.task.now.problem) c.args.w.now d (tree_at (trees c.loop-tuple.nodes) c.args.quantifier.now.part)) c.in-Err.fault) bound c.in-Err.ensures.cause))
+
+pub instances_residual-decides-requires : goal.instances_residual-decides-requires
+instances_residual-decides-requires t c = slice_get_within (trees c.residual_of-answer.new.nodes) c.in-Ok.number _ c.in-Ok.ensures.number
+
+pub instances_residual-returns-then-decides-clause-kept : goal.instances_residual-returns-then-decides-clause-kept
+instances_residual-returns-then-decides-clause-kept t c = λ i f h. c.in-Ok.ensures.kept i f (c.loop-tuple.invariant.kept i f h)
+
+pub instances_residual-returns-then-decides-clause-number : goal.instances_residual-returns-then-decides-clause-number
+instances_residual-returns-then-decides-clause-number t c =
+    let q = quantifier-fits c.args.task.now.problem c.args.quantifier.now.junction c.args.quantifier.now.vars c.args.quantifier.now.bound (tree_at (trees c.args.nodes.now) c.args.quantifier.now.part) c.requires.fits in
+    let next = subst (λ (v : List (Option Value)). IsNext (length c.args.quantifier.now.vars) (λ t. bound_true (situation_of (plain_problem c.args.task.now.problem) c.args.w.now) (bind c.args.quantifier.now.vars t (assignment_in v)) c.args.quantifier.now.bound) (option_map tuple_of c.loop-tuple.after) (option_map tuple_of c.next_tuple.result)) c.loop-tuple.invariant.frame c.next_tuple.ensures.next in
+    let bound = c.put_values.ensures.values ∙ (ap (λ (ss : List Var). bind ss c.counted_values.result.now (assignment_in c.loop-tuple.env)) c.as_slice.ensures ∙ (ap (λ (u : List Value). bind c.args.quantifier.now.vars u (assignment_in c.loop-tuple.env)) c.counted_values.ensures.values ∙ ap (λ (v : List (Option Value)). bind c.args.quantifier.now.vars (tuple_of c.in-Some.tuple) (assignment_in v)) c.loop-tuple.invariant.frame)) in
+    let same = stays (trees c.args.nodes.now) (trees c.loop-tuple.nodes) c.loop-tuple.invariant.kept c.args.quantifier.now.part c.requires.part in
+    gather-decided c.args.quantifier.now.junction (trees c.loop-tuple.nodes) (trees c.residual_of-answer.new.nodes) c.in-Ok.ensures.kept c.loop-tuple.answers.items (instance_next (plain_problem c.args.task.now.problem) c.args.w.now (assignment_in c.args.env.now) c.args.quantifier.now.vars c.args.quantifier.now.bound (tree_at (trees c.args.nodes.now) c.args.quantifier.now.part) (tuple_of c.in-Some.tuple)) (next_after (plain_problem c.args.task.now.problem) c.args.w.now (assignment_in c.args.env.now) c.args.quantifier.now.vars c.args.quantifier.now.bound (tree_at (trees c.args.nodes.now) c.args.quantifier.now.part) (Some (tuple_of c.in-Some.tuple))) (next_of_all (plain_problem c.args.task.now.problem) c.args.w.now (assignment_in c.args.env.now) c.args.quantifier.now.vars c.args.quantifier.now.bound (tree_at (trees c.args.nodes.now) c.args.quantifier.now.part)) (subst (λ (ts : List (List Value)). Gathered c.args.quantifier.now.junction (trees c.loop-tuple.nodes) c.loop-tuple.answers.items (map (instance_next (plain_problem c.args.task.now.problem) c.args.w.now (assignment_in c.args.env.now) c.args.quantifier.now.vars c.args.quantifier.now.bound (tree_at (trees c.args.nodes.now) c.args.quantifier.now.part)) ts) (next_of_all (plain_problem c.args.task.now.problem) c.args.w.now (assignment_in c.args.env.now) c.args.quantifier.now.vars c.args.quantifier.now.bound (tree_at (trees c.args.nodes.now) c.args.quantifier.now.part))) (one-more (plain_problem c.args.task.now.problem) c.args.w.now (assignment_in c.args.env.now) c.args.quantifier.now.vars c.args.quantifier.now.bound (tree_at (trees c.args.nodes.now) c.args.quantifier.now.part) q.differ q.occur (option_map tuple_of c.loop-tuple.after) (option_map tuple_of c.next_tuple.result) (tuple_of c.in-Some.tuple) next (ap (option_map tuple_of) c.in-Some.is)) c.loop-tuple.invariant.passed) c.in-Ok.number (subst (λ (f : FormulaTree). slice_get (trees c.residual_of-answer.new.nodes) c.in-Ok.number ≡ Some (residual (plain_problem c.args.task.now.problem) c.args.w.now (bind c.args.quantifier.now.vars (tuple_of c.in-Some.tuple) (assignment_in c.args.env.now)) f)) same (subst (λ (d : Assignment). slice_get (trees c.residual_of-answer.new.nodes) c.in-Ok.number ≡ Some (residual (plain_problem c.args.task.now.problem) c.args.w.now d (tree_at (trees c.loop-tuple.nodes) c.args.quantifier.now.part))) bound c.in-Ok.ensures.number)) (c.decides.ensures c.if-decides.true) ∙ ap (λ (f : FormulaTree). Some f) (quantified-next (plain_problem c.args.task.now.problem) c.args.w.now (assignment_in c.args.env.now) c.args.quantifier.now.vars c.args.quantifier.now.bound (tree_at (trees c.args.nodes.now) c.args.quantifier.now.part) c.args.quantifier.now.junction)
+
+pub instances_residual-gather-requires : goal.instances_residual-gather-requires
+instances_residual-gather-requires t c = record {
+  parts =
+      let q = quantifier-fits c.args.task.now.problem c.args.quantifier.now.junction c.args.quantifier.now.vars c.args.quantifier.now.bound (tree_at (trees c.args.nodes.now) c.args.quantifier.now.part) c.requires.fits in
+      let next = subst (λ (v : List (Option Value)). IsNext (length c.args.quantifier.now.vars) (λ t. bound_true (situation_of (plain_problem c.args.task.now.problem) c.args.w.now) (bind c.args.quantifier.now.vars t (assignment_in v)) c.args.quantifier.now.bound) (option_map tuple_of c.loop-tuple.after) (option_map tuple_of c.next_tuple.result)) c.loop-tuple.invariant.frame c.next_tuple.ensures.next in
+      let bound = c.put_values.ensures.values ∙ (ap (λ (ss : List Var). bind ss c.counted_values.result.now (assignment_in c.loop-tuple.env)) c.as_slice.ensures ∙ (ap (λ (u : List Value). bind c.args.quantifier.now.vars u (assignment_in c.loop-tuple.env)) c.counted_values.ensures.values ∙ ap (λ (v : List (Option Value)). bind c.args.quantifier.now.vars (tuple_of c.in-Some.tuple) (assignment_in v)) c.loop-tuple.invariant.frame)) in
+      let same = stays (trees c.args.nodes.now) (trees c.loop-tuple.nodes) c.loop-tuple.invariant.kept c.args.quantifier.now.part c.requires.part in
+      below-still c.args.quantifier.now.junction (trees c.loop-tuple.nodes) (trees c.residual_of-answer.new.nodes) c.in-Ok.ensures.kept c.loop-tuple.answers.items (instance_next (plain_problem c.args.task.now.problem) c.args.w.now (assignment_in c.args.env.now) c.args.quantifier.now.vars c.args.quantifier.now.bound (tree_at (trees c.args.nodes.now) c.args.quantifier.now.part) (tuple_of c.in-Some.tuple)) (next_after (plain_problem c.args.task.now.problem) c.args.w.now (assignment_in c.args.env.now) c.args.quantifier.now.vars c.args.quantifier.now.bound (tree_at (trees c.args.nodes.now) c.args.quantifier.now.part) (Some (tuple_of c.in-Some.tuple))) (next_of_all (plain_problem c.args.task.now.problem) c.args.w.now (assignment_in c.args.env.now) c.args.quantifier.now.vars c.args.quantifier.now.bound (tree_at (trees c.args.nodes.now) c.args.quantifier.now.part)) (subst (λ (ts : List (List Value)). Gathered c.args.quantifier.now.junction (trees c.loop-tuple.nodes) c.loop-tuple.answers.items (map (instance_next (plain_problem c.args.task.now.problem) c.args.w.now (assignment_in c.args.env.now) c.args.quantifier.now.vars c.args.quantifier.now.bound (tree_at (trees c.args.nodes.now) c.args.quantifier.now.part)) ts) (next_of_all (plain_problem c.args.task.now.problem) c.args.w.now (assignment_in c.args.env.now) c.args.quantifier.now.vars c.args.quantifier.now.bound (tree_at (trees c.args.nodes.now) c.args.quantifier.now.part))) (one-more (plain_problem c.args.task.now.problem) c.args.w.now (assignment_in c.args.env.now) c.args.quantifier.now.vars c.args.quantifier.now.bound (tree_at (trees c.args.nodes.now) c.args.quantifier.now.part) q.differ q.occur (option_map tuple_of c.loop-tuple.after) (option_map tuple_of c.next_tuple.result) (tuple_of c.in-Some.tuple) next (ap (option_map tuple_of) c.in-Some.is)) c.loop-tuple.invariant.passed) c.in-Ok.number (subst (λ (f : FormulaTree). slice_get (trees c.residual_of-answer.new.nodes) c.in-Ok.number ≡ Some (residual (plain_problem c.args.task.now.problem) c.args.w.now (bind c.args.quantifier.now.vars (tuple_of c.in-Some.tuple) (assignment_in c.args.env.now)) f)) same (subst (λ (d : Assignment). slice_get (trees c.residual_of-answer.new.nodes) c.in-Ok.number ≡ Some (residual (plain_problem c.args.task.now.problem) c.args.w.now d (tree_at (trees c.loop-tuple.nodes) c.args.quantifier.now.part))) bound c.in-Ok.ensures.number));
+  part = slice_get_within (trees c.residual_of-answer.new.nodes) c.in-Ok.number _ c.in-Ok.ensures.number;
+}
+
+pub instances_residual-returns-in_err-gather-in-Ok-clause-kept : goal.instances_residual-returns-in_err-gather-in-Ok-clause-kept
+instances_residual-returns-in_err-gather-in-Ok-clause-kept t c = λ i f h. c.in-Ok.ensures.kept i f (c.loop-tuple.invariant.kept i f h)
+
+pub instances_residual-loop-tuple-smaller : goal.instances_residual-loop-tuple-smaller
+instances_residual-loop-tuple-smaller t c =
+    let q = quantifier-fits c.args.task.now.problem c.args.quantifier.now.junction c.args.quantifier.now.vars c.args.quantifier.now.bound (tree_at (trees c.args.nodes.now) c.args.quantifier.now.part) c.requires.fits in
+    let next = subst (λ (v : List (Option Value)). IsNext (length c.args.quantifier.now.vars) (λ t. bound_true (situation_of (plain_problem c.args.task.now.problem) c.args.w.now) (bind c.args.quantifier.now.vars t (assignment_in v)) c.args.quantifier.now.bound) (option_map tuple_of c.loop-tuple.after) (option_map tuple_of c.next_tuple.result)) c.loop-tuple.invariant.frame c.next_tuple.ensures.next in
+    fewer-left (plain_problem c.args.task.now.problem) c.args.w.now (assignment_in c.args.env.now) c.args.quantifier.now.vars c.args.quantifier.now.bound (tree_at (trees c.args.nodes.now) c.args.quantifier.now.part) q.differ q.occur (option_map tuple_of c.loop-tuple.after) (option_map tuple_of c.next_tuple.result) (tuple_of c.in-Some.tuple) next (ap (option_map tuple_of) c.in-Some.is)
+
+pub instances_residual-loop-tuple-preserved : goal.instances_residual-loop-tuple-preserved
+instances_residual-loop-tuple-preserved t c =
+    let q = quantifier-fits c.args.task.now.problem c.args.quantifier.now.junction c.args.quantifier.now.vars c.args.quantifier.now.bound (tree_at (trees c.args.nodes.now) c.args.quantifier.now.part) c.requires.fits in
+    let next = subst (λ (v : List (Option Value)). IsNext (length c.args.quantifier.now.vars) (λ t. bound_true (situation_of (plain_problem c.args.task.now.problem) c.args.w.now) (bind c.args.quantifier.now.vars t (assignment_in v)) c.args.quantifier.now.bound) (option_map tuple_of c.loop-tuple.after) (option_map tuple_of c.next_tuple.result)) c.loop-tuple.invariant.frame c.next_tuple.ensures.next in
+    let bound = c.put_values.ensures.values ∙ (ap (λ (ss : List Var). bind ss c.counted_values.result.now (assignment_in c.loop-tuple.env)) c.as_slice.ensures ∙ (ap (λ (u : List Value). bind c.args.quantifier.now.vars u (assignment_in c.loop-tuple.env)) c.counted_values.ensures.values ∙ ap (λ (v : List (Option Value)). bind c.args.quantifier.now.vars (tuple_of c.in-Some.tuple) (assignment_in v)) c.loop-tuple.invariant.frame)) in
+    let same = stays (trees c.args.nodes.now) (trees c.loop-tuple.nodes) c.loop-tuple.invariant.kept c.args.quantifier.now.part c.requires.part in
+    record {
+      frame = c.restore.ensures ∙ c.saved-outer.ensures;
+      kept = λ i f h. c.in-Ok.ensures.kept i f (c.loop-tuple.invariant.kept i f h);
+      after = c.in-Some.ensures.len;
+      passed = gather-on c.args.quantifier.now.junction (trees c.loop-tuple.nodes) (trees c.residual_of-answer.new.nodes) c.in-Ok.ensures.kept c.loop-tuple.answers.items (instance_next (plain_problem c.args.task.now.problem) c.args.w.now (assignment_in c.args.env.now) c.args.quantifier.now.vars c.args.quantifier.now.bound (tree_at (trees c.args.nodes.now) c.args.quantifier.now.part) (tuple_of c.in-Some.tuple)) (next_after (plain_problem c.args.task.now.problem) c.args.w.now (assignment_in c.args.env.now) c.args.quantifier.now.vars c.args.quantifier.now.bound (tree_at (trees c.args.nodes.now) c.args.quantifier.now.part) (Some (tuple_of c.in-Some.tuple))) (next_of_all (plain_problem c.args.task.now.problem) c.args.w.now (assignment_in c.args.env.now) c.args.quantifier.now.vars c.args.quantifier.now.bound (tree_at (trees c.args.nodes.now) c.args.quantifier.now.part)) (subst (λ (ts : List (List Value)). Gathered c.args.quantifier.now.junction (trees c.loop-tuple.nodes) c.loop-tuple.answers.items (map (instance_next (plain_problem c.args.task.now.problem) c.args.w.now (assignment_in c.args.env.now) c.args.quantifier.now.vars c.args.quantifier.now.bound (tree_at (trees c.args.nodes.now) c.args.quantifier.now.part)) ts) (next_of_all (plain_problem c.args.task.now.problem) c.args.w.now (assignment_in c.args.env.now) c.args.quantifier.now.vars c.args.quantifier.now.bound (tree_at (trees c.args.nodes.now) c.args.quantifier.now.part))) (one-more (plain_problem c.args.task.now.problem) c.args.w.now (assignment_in c.args.env.now) c.args.quantifier.now.vars c.args.quantifier.now.bound (tree_at (trees c.args.nodes.now) c.args.quantifier.now.part) q.differ q.occur (option_map tuple_of c.loop-tuple.after) (option_map tuple_of c.next_tuple.result) (tuple_of c.in-Some.tuple) next (ap (option_map tuple_of) c.in-Some.is)) c.loop-tuple.invariant.passed) c.in-Ok.number (subst (λ (f : FormulaTree). slice_get (trees c.residual_of-answer.new.nodes) c.in-Ok.number ≡ Some (residual (plain_problem c.args.task.now.problem) c.args.w.now (bind c.args.quantifier.now.vars (tuple_of c.in-Some.tuple) (assignment_in c.args.env.now)) f)) same (subst (λ (d : Assignment). slice_get (trees c.residual_of-answer.new.nodes) c.in-Ok.number ≡ Some (residual (plain_problem c.args.task.now.problem) c.args.w.now d (tree_at (trees c.loop-tuple.nodes) c.args.quantifier.now.part))) bound c.in-Ok.ensures.number)) c.gather.new.parts.items c.in_ok-gather-in-Ok.ensures.below c.in_ok-gather-in-Ok.ensures.same;
+    }
+
+pub instances_residual-join-requires : goal.instances_residual-join-requires
+instances_residual-join-requires t c = subst (λ (ids : List ℕ). all_below (length (trees c.loop-tuple.nodes)) ids ≡ true) (sym c.as_slice-2.ensures.value) c.loop-tuple.invariant.passed.below
+
+pub instances_residual-returns-clause-kept : goal.instances_residual-returns-clause-kept
+instances_residual-returns-clause-kept t c = λ i f h. c.in_ok-number.ensures.kept i f (c.loop-tuple.invariant.kept i f h)
+
+pub instances_residual-returns-in_err-number-clause-kept : goal.instances_residual-returns-in_err-number-clause-kept
+instances_residual-returns-in_err-number-clause-kept t c = λ i f h. c.in_err-number.ensures.kept i f (c.loop-tuple.invariant.kept i f h)
+
+pub instances_residual-returns-clause-number : goal.instances_residual-returns-clause-number
+instances_residual-returns-clause-number t c =
+    let q = quantifier-fits c.args.task.now.problem c.args.quantifier.now.junction c.args.quantifier.now.vars c.args.quantifier.now.bound (tree_at (trees c.args.nodes.now) c.args.quantifier.now.part) c.requires.fits in
+    let next = subst (λ (v : List (Option Value)). IsNext (length c.args.quantifier.now.vars) (λ t. bound_true (situation_of (plain_problem c.args.task.now.problem) c.args.w.now) (bind c.args.quantifier.now.vars t (assignment_in v)) c.args.quantifier.now.bound) (option_map tuple_of c.loop-tuple.after) (option_map tuple_of c.next_tuple.result)) c.loop-tuple.invariant.frame c.next_tuple.ensures.next in
+    c.in_ok-number.ensures.number ∙ ap (λ (f : FormulaTree). Some f) (ap (λ (ids : List ℕ). simplified_join c.args.quantifier.now.junction (trees_at (trees c.loop-tuple.nodes) ids)) c.as_slice-2.ensures.value
+    ∙ (gather-end c.args.quantifier.now.junction (trees c.loop-tuple.nodes) c.loop-tuple.answers.items (next_after (plain_problem c.args.task.now.problem) c.args.w.now (assignment_in c.args.env.now) c.args.quantifier.now.vars c.args.quantifier.now.bound (tree_at (trees c.args.nodes.now) c.args.quantifier.now.part) (option_map tuple_of c.loop-tuple.after)) (next_of_all (plain_problem c.args.task.now.problem) c.args.w.now (assignment_in c.args.env.now) c.args.quantifier.now.vars c.args.quantifier.now.bound (tree_at (trees c.args.nodes.now) c.args.quantifier.now.part)) c.loop-tuple.invariant.passed
+    (ap (map (instance_next (plain_problem c.args.task.now.problem) c.args.w.now (assignment_in c.args.env.now) c.args.quantifier.now.vars c.args.quantifier.now.bound (tree_at (trees c.args.nodes.now) c.args.quantifier.now.part))) (no-more (plain_problem c.args.task.now.problem) c.args.w.now (assignment_in c.args.env.now) c.args.quantifier.now.vars c.args.quantifier.now.bound (tree_at (trees c.args.nodes.now) c.args.quantifier.now.part) q.differ q.occur (option_map tuple_of c.loop-tuple.after) (option_map tuple_of c.next_tuple.result) next (ap (option_map tuple_of) (none-found c.next_tuple.result c.in_default.not-Some))))
+    ∙ quantified-next (plain_problem c.args.task.now.problem) c.args.w.now (assignment_in c.args.env.now) c.args.quantifier.now.vars c.args.quantifier.now.bound (tree_at (trees c.args.nodes.now) c.args.quantifier.now.part) c.args.quantifier.now.junction))

@@ -1,0 +1,77 @@
+// Joins of numbers.
+ghost use Rattle.std.specs.Prelude.{◌≡◌, ◌<◌, ◌++◌, ◌∷◌, List, true, length, IsTrue, IfOk, OnOk};
+ghost use Rattle.tl_nodes.specs.Fits.{all_below};
+ghost use Rattle.tl_nodes.specs.Joins.{simplified_join};
+ghost use Rattle.tl_nodes.specs.NodeTrees.{tree_at, trees_at};
+ghost use Rattle.tl_nodes.specs.Numbering.{Keeps};
+ghost use Rattle.tl_nodes.specs.Numbers.{trees, Denotes};
+ghost use Rattle.tl_syntax.specs.Junctions.{deciding_truth};
+ghost use Rattle.tl_syntax.specs.Trees.{FormulaTree};
+ghost use Rattle.tl_terms.specs.Progression.{constant};
+
+use tl_nodes::{Node, Nodes};
+use tl_syntax::{Junction, NoMemory};
+
+/// The number of a constant.
+pub(crate) fn constant_number(nodes: &Nodes, truth: bool) -> usize
+    ensures number { Denotes nodes.now result (constant truth) }
+    ensures small { result < 2 }
+{
+    let _ = nodes.len();
+    if truth { 0 } else { 1 }
+}
+
+/// Whether the number's tree is the constant. It takes no memory.
+pub(crate) fn is_constant(nodes: &Nodes, id: usize, truth: bool) -> bool
+    requires { id < length (trees nodes.now) }
+    ensures { IsTrue result → tree_at (trees nodes.now) id ≡ constant truth }
+{
+    match nodes.get(id) {
+        Node::True => truth,
+        Node::False => !truth,
+        _ => false,
+    }
+}
+
+/// Whether the number's tree is the constant that decides a join. It takes no memory.
+pub(crate) fn decides(nodes: &Nodes, id: usize, junction: Junction) -> bool
+    requires { id < length (trees nodes.now) }
+    ensures { IsTrue result → tree_at (trees nodes.now) id ≡ constant (deciding_truth junction) }
+{
+    is_constant(nodes, id, junction.deciding_truth())
+}
+
+/// Adds a part to those of a join. The constant that the join drops is left out.
+pub(crate) fn gather(
+    nodes: &Nodes,
+    parts: &mut Vec<usize>,
+    part: usize,
+    junction: Junction,
+) -> Result<(), NoMemory>
+    requires parts { all_below (length (trees nodes.now)) parts.old.items ≡ true }
+    requires part { part < length (trees nodes.now) }
+    ensures below { OnOk result (all_below (length (trees nodes.now)) parts.new.items ≡ true) }
+    ensures same { OnOk result ((rest : List FormulaTree) → simplified_join junction (trees_at (trees nodes.now) parts.new.items ++ rest) ≡ simplified_join junction (trees_at (trees nodes.now) parts.old.items ++ tree_at (trees nodes.now) part ∷ rest)) }
+{
+    if is_constant(nodes, part, !junction.deciding_truth()) {
+        return Ok(());
+    }
+    parts.push(part)?;
+    Ok(())
+}
+
+/// The number of the conjunction or of the disjunction of the parts.
+pub(crate) fn join(
+    nodes: &mut Nodes,
+    parts: &[usize],
+    junction: Junction,
+) -> Result<usize, NoMemory>
+    requires { all_below (length (trees nodes.old)) parts.now ≡ true }
+    ensures kept { Keeps (trees nodes.old) (trees nodes.new) }
+    ensures number { IfOk result (λ i. Denotes nodes.new i (simplified_join junction (trees_at (trees nodes.old) parts.now))) }
+{
+    match junction {
+        Junction::All => nodes.and(parts),
+        Junction::Any => nodes.or(parts),
+    }
+}

@@ -1,0 +1,35 @@
+//! Progression of interned formulas through a world, and their truth where a world is repeated for ever (Bacchus and Kabanza 2000).
+//!
+//! A quantifier's body is read under the values of a frame, and values are put only into what remains. Outside of quantifiers each number is worked out once,
+//! parts before wholes, so that no call goes as deep as a residual is nested: a call calls itself only below a quantifier, whose body is as deep as in the domain file.
+//!
+//! - `fault`: why a call gives no answer.
+//! - `known`: what a call has worked out.
+//! - `order`: the numbers that a call works out, parts before wholes.
+//! - `frames`: the values of a frame.
+//! - `truth`: truth where a world is repeated for ever, under a frame.
+//! - `idling`: the idling check.
+//! - `parts`, `joins`: parts of joins, and joins of numbers.
+//! - `substitution`, `remaining`: values put into what remains.
+//! - `quantifier`: a quantifier, apart from its node.
+//! - `residual`: what has to hold next, under a frame.
+//! - `progression`: progression.
+#![tactic(auto)]
+
+mod fault;
+mod frames;
+mod idling;
+mod joins;
+mod known;
+mod order;
+mod parts;
+mod progression;
+mod quantifier;
+mod remaining;
+mod residual;
+mod substitution;
+mod truth;
+
+pub use fault::ProgressFault;
+pub use idling::idle;
+pub use progression::progress;

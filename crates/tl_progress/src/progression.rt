@@ -1,0 +1,156 @@
+// Progression.
+ghost use Rattle.std.specs.Prelude.{◌≡◌, ◌↔◌, ◌<◌, ℕ, suc, length, IfOk, IfErr, OnOk};
+ghost use Rattle.tl_eval.specs.Frames.{assignment_in};
+ghost use Rattle.tl_nodes.specs.NodeTrees.{tree_at};
+ghost use Rattle.tl_nodes.specs.Numbering.{Keeps};
+ghost use Rattle.tl_nodes.specs.Numbers.{trees, Denotes};
+ghost use Rattle.tl_progress.specs.Answers.{IsCausedBy, looked_for_residual, residual};
+ghost use Rattle.tl_progress.specs.Known.{IsRight};
+ghost use Rattle.tl_progress.specs.Sentences.{IsSentence};
+ghost use Rattle.tl_syntax.specs.Assignment.{no_values};
+ghost use Rattle.tl_syntax.specs.Named.{IsNamed};
+ghost use Rattle.tl_syntax.specs.Signature.{signature_of};
+ghost use Rattle.tl_syntax.specs.StateFormulas.{IsState};
+ghost use Rattle.tl_terms.specs.Definitions.{situation_of};
+ghost use Rattle.tl_terms.specs.Looked.{looked_by_progressing};
+ghost use Rattle.tl_terms.specs.NamedWorlds.{WorldIsNamed};
+ghost use Rattle.tl_terms.specs.ProblemMeaning.{plain_problem};
+ghost use Rattle.tl_terms.specs.Progression.{progressed};
+ghost use Rattle.tl_terms.specs.Run.{Run, Satisfies, state_at};
+
+use crate::ProgressFault;
+use crate::frames::empty_frame;
+use crate::idling::sentence_truth;
+use crate::joins::constant_number;
+use crate::known::Known;
+use crate::order::reached;
+use crate::residual::residual_of;
+use crate::truth::truth_of;
+use std::alloc::Global;
+use tl_eval::Env;
+use tl_nodes::Nodes;
+use tl_world::{Task, World};
+
+// Works out what has to hold next for a number's tree, or its truth where it has no temporal word, and keeps it. The tree has no free variable.
+fn learn(
+    alloc: Global,
+    nodes: &mut Nodes,
+    task: &Task,
+    w: &World,
+    env: &mut Env,
+    known: &mut Known,
+    at: usize,
+) -> Result<(), ProgressFault>
+    requires at { at < length (trees nodes.old) }
+    requires sentence { IsSentence (signature_of task.now.problem.domain) (tree_at (trees nodes.old) at) }
+    requires known { IsRight (plain_problem task.now.problem) w.now (trees nodes.old) known.old }
+    ensures kept { Keeps (trees nodes.old) (trees nodes.new) }
+    ensures known { OnOk result (IsRight (plain_problem task.now.problem) w.now (trees nodes.new) known.new) }
+    ensures cause { IfErr result (IsCausedBy (looked_for_residual (plain_problem task.now.problem) w.now (assignment_in env.old) (tree_at (trees nodes.old) at))) }
+    ensures frame { env.new ≡ env.old }
+{
+    if nodes.temporal(at) {
+        match residual_of(alloc, nodes, task, w, env, known, at) {
+            Ok(number) => {
+                known.residuals.insert(at, number)?;
+                Ok(())
+            }
+            Err(fault) => Err(fault),
+        }
+    } else {
+        match truth_of(nodes, task, w, env, &known.truths, at) {
+            Ok(truth) => {
+                known.truths.insert(at, truth)?;
+                Ok(())
+            }
+            Err(fault) => Err(fault),
+        }
+    }
+}
+
+// The number of what has to hold next for a number's tree, which has no free variable. What it is made of outside of quantifiers is worked out before it.
+fn temporal_residual(
+    alloc: Global,
+    nodes: &mut Nodes,
+    task: &Task,
+    w: &World,
+    env: &mut Env,
+    id: usize,
+) -> Result<usize, ProgressFault>
+    requires id { id < length (trees nodes.old) }
+    requires sentence { IsSentence (signature_of task.now.problem.domain) (tree_at (trees nodes.old) id) }
+    ensures kept { Keeps (trees nodes.old) (trees nodes.new) }
+    ensures number { IfOk result (λ i. Denotes nodes.new i (residual (plain_problem task.now.problem) w.now (assignment_in env.old) (tree_at (trees nodes.old) id))) }
+    ensures cause { IfErr result (IsCausedBy (looked_for_residual (plain_problem task.now.problem) w.now (assignment_in env.old) (tree_at (trees nodes.old) id))) }
+    ensures frame { env.new ≡ env.old }
+{
+    let mut order = reached(alloc, nodes, id, false)?;
+    let mut known = Known::new(alloc);
+    while let Some(at) = order.pop() {
+        match learn(alloc, nodes, task, w, env, &mut known, at) {
+            Ok(()) => {}
+            Err(fault) => return Err(fault),
+        }
+    }
+    residual_of(alloc, nodes, task, w, env, &known, id)
+}
+
+// The number of what has to hold next for a number's tree, which has no free variable. Where it has no temporal word, it is a constant.
+fn sentence_residual(
+    alloc: Global,
+    nodes: &mut Nodes,
+    task: &Task,
+    w: &World,
+    env: &mut Env,
+    id: usize,
+) -> Result<usize, ProgressFault>
+    requires id { id < length (trees nodes.old) }
+    requires sentence { IsSentence (signature_of task.now.problem.domain) (tree_at (trees nodes.old) id) }
+    ensures kept { Keeps (trees nodes.old) (trees nodes.new) }
+    ensures number { IfOk result (λ i. Denotes nodes.new i (residual (plain_problem task.now.problem) w.now (assignment_in env.old) (tree_at (trees nodes.old) id))) }
+    ensures same { IsState (tree_at (trees nodes.old) id) → trees nodes.new ≡ trees nodes.old }
+    ensures constant { IsState (tree_at (trees nodes.old) id) → IfOk result (λ i. i < 2) }
+    ensures cause { IfErr result (IsCausedBy (looked_for_residual (plain_problem task.now.problem) w.now (assignment_in env.old) (tree_at (trees nodes.old) id))) }
+    ensures frame { env.new ≡ env.old }
+{
+    if nodes.temporal(id) {
+        return temporal_residual(alloc, nodes, task, w, env, id);
+    }
+    match sentence_truth(alloc, nodes, task, w, env, id) {
+        Ok(truth) => Ok(constant_number(nodes, truth)),
+        Err(fault) => Err(fault),
+    }
+}
+
+/// The number of what has to hold from the next position on, for the number's tree to hold in this world and on (progression, Bacchus and Kabanza 2000).
+/// `Range` notes an operation that is looked at and past the 64 bits of an integer. The caller's frame stays as it was.
+/// Where the tree has no temporal word, the answer is 0 or 1, and no node is added. A refused call may have added nodes.
+///
+/// The time grows with the parts of the tree, outside of quantifiers each counted once, with the tuples of its quantifiers, and with what the answer adds.
+pub fn progress(
+    alloc: Global,
+    nodes: &mut Nodes,
+    task: &Task,
+    w: &World,
+    env: &mut Env,
+    id: usize,
+) -> Result<usize, ProgressFault>
+    requires id { id < length (trees nodes.old) }
+    requires sentence { IsSentence (signature_of task.now.problem.domain) (tree_at (trees nodes.old) id) }
+    ensures number { IfOk result (λ n. Denotes nodes.new n (progressed (situation_of (plain_problem task.now.problem) w.now) no_values (tree_at (trees nodes.old) id))) }
+    ensures lemma { IfOk result (λ n. (r : Run) (k : ℕ) → state_at r k ≡ w.now → Satisfies (plain_problem task.now.problem) r k (tree_at (trees nodes.old) id) ↔ Satisfies (plain_problem task.now.problem) r (suc k) (tree_at (trees nodes.new) n)) }
+    ensures sentence { IfOk result (λ n. IsSentence (signature_of task.now.problem.domain) (tree_at (trees nodes.new) n)) }
+    ensures named { IfOk result (λ n. WorldIsNamed (length task.now.problem.names) w.now → IsNamed (length task.now.problem.names) (tree_at (trees nodes.old) id) → IsNamed (length task.now.problem.names) (tree_at (trees nodes.new) n)) }
+    ensures kept { Keeps (trees nodes.old) (trees nodes.new) }
+    ensures same { IsState (tree_at (trees nodes.old) id) → trees nodes.new ≡ trees nodes.old }
+    ensures constant { IsState (tree_at (trees nodes.old) id) → IfOk result (λ n. n < 2) }
+    ensures cause { IfErr result (IsCausedBy (looked_by_progressing (plain_problem task.now.problem) w.now (tree_at (trees nodes.old) id))) }
+    ensures frame { env.new ≡ env.old }
+{
+    let frame = env.saved();
+    let empty = empty_frame();
+    env.restore(&empty);
+    let answer = sentence_residual(alloc, nodes, task, w, env, id);
+    env.restore(&frame);
+    answer
+}

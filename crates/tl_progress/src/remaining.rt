@@ -1,0 +1,109 @@
+// What remains of a formula for the positions that follow.
+ghost use Rattle.std.specs.Prelude.{◌≡◌, ◌<◌, ◌∷◌, [], length, IfOk};
+ghost use Rattle.tl_eval.specs.Frames.{assignment_in};
+ghost use Rattle.tl_nodes.specs.Joins.{simplified_join};
+ghost use Rattle.tl_nodes.specs.NodeTrees.{tree_at};
+ghost use Rattle.tl_nodes.specs.Numbering.{Keeps};
+ghost use Rattle.tl_nodes.specs.Numbers.{trees, Denotes};
+ghost use Rattle.tl_progress.specs.Steps.{step_node, steps_left};
+ghost use Rattle.tl_syntax.specs.declared.junction.Junction.TheVariants.{All, Any};
+ghost use Rattle.tl_syntax.specs.Substitution.{substituted};
+
+use crate::frames::frame_bindings;
+use crate::joins::{decides, join};
+use crate::substitution::put_in;
+use std::alloc::Global;
+use tl_eval::Env;
+use tl_nodes::{Node, Nodes};
+use tl_syntax::{Junction, NoMemory};
+
+/// The number of the tree with the frame's values put in.
+pub(crate) fn remaining(
+    alloc: Global,
+    nodes: &mut Nodes,
+    env: &Env,
+    at: usize,
+) -> Result<usize, NoMemory>
+    requires { at < length (trees nodes.old) }
+    ensures kept { Keeps (trees nodes.old) (trees nodes.new) }
+    ensures number { IfOk result (λ i. Denotes nodes.new i (substituted (assignment_in env.now) (tree_at (trees nodes.old) at))) }
+{
+    let bindings = frame_bindings(alloc, env)?;
+    if bindings.is_empty() {
+        return Ok(at);
+    }
+    put_in(alloc, nodes, bindings.as_slice(), at)
+}
+
+/// The number of the join of a part and of what remains of a tree. Where the part decides, nothing is put in.
+pub(crate) fn with_remaining(
+    alloc: Global,
+    nodes: &mut Nodes,
+    env: &Env,
+    part: usize,
+    at: usize,
+    junction: Junction,
+) -> Result<usize, NoMemory>
+    requires part { part < length (trees nodes.old) }
+    requires at { at < length (trees nodes.old) }
+    ensures kept { Keeps (trees nodes.old) (trees nodes.new) }
+    ensures number { IfOk result (λ i. Denotes nodes.new i (simplified_join junction (tree_at (trees nodes.old) part ∷ substituted (assignment_in env.now) (tree_at (trees nodes.old) at) ∷ []))) }
+{
+    if decides(nodes, part, junction) {
+        return Ok(part);
+    }
+    let rest = remaining(alloc, nodes, env, at)?;
+    join(nodes, &[part, rest], junction)
+}
+
+/// The number of what has to hold next for an `until`, from those for its second part and its first.
+pub(crate) fn until_remaining(
+    alloc: Global,
+    nodes: &mut Nodes,
+    env: &Env,
+    second: usize,
+    first: usize,
+    at: usize,
+) -> Result<usize, NoMemory>
+    requires second { second < length (trees nodes.old) }
+    requires first { first < length (trees nodes.old) }
+    requires at { at < length (trees nodes.old) }
+    ensures kept { Keeps (trees nodes.old) (trees nodes.new) }
+    ensures number { IfOk result (λ i. Denotes nodes.new i (simplified_join Any (tree_at (trees nodes.old) second ∷ simplified_join All (tree_at (trees nodes.old) first ∷ substituted (assignment_in env.now) (tree_at (trees nodes.old) at) ∷ []) ∷ []))) }
+{
+    let both = with_remaining(alloc, nodes, env, first, at, Junction::All)?;
+    join(nodes, &[second, both], Junction::Any)
+}
+
+// The node of a `within` or a `for`.
+fn step_node(junction: Junction, steps: u32, part: usize) -> Node
+    ensures { result ≡ step_node junction steps part }
+{
+    match junction {
+        Junction::All => Node::During(steps, part),
+        Junction::Any => Node::Within(steps, part),
+    }
+}
+
+/// The number of what has to hold next for a `within` or a `for`, from that for its part: it has one step less.
+pub(crate) fn with_fewer_steps(
+    alloc: Global,
+    nodes: &mut Nodes,
+    env: &Env,
+    junction: Junction,
+    steps: u32,
+    answer: usize,
+    part: usize,
+) -> Result<usize, NoMemory>
+    requires answer { answer < length (trees nodes.old) }
+    requires part { part < length (trees nodes.old) }
+    ensures kept { Keeps (trees nodes.old) (trees nodes.new) }
+    ensures number { IfOk result (λ i. Denotes nodes.new i (steps_left junction (assignment_in env.now) steps (tree_at (trees nodes.old) answer) (tree_at (trees nodes.old) part))) }
+{
+    if steps == 0 {
+        return Ok(answer);
+    }
+    let node = step_node(junction, steps - 1, part);
+    let fewer = nodes.intern(node)?;
+    with_remaining(alloc, nodes, env, answer, fewer, junction)
+}

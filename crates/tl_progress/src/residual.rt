@@ -1,0 +1,245 @@
+// What has to hold from the next position on, under the values of a frame.
+ghost use Rattle.std.specs.Prelude.{◌≡◌, ◌<◌, length, IfOk, IfErr, nat_eq};
+ghost use Rattle.indexmap.specs.IndexMap.{get};
+ghost use Rattle.tl_eval.specs.Frames.{assignment_in};
+ghost use Rattle.tl_nodes.specs.NodeTrees.{tree_at};
+ghost use Rattle.tl_nodes.specs.Numbering.{Keeps};
+ghost use Rattle.tl_nodes.specs.Numbers.{trees, Denotes};
+ghost use Rattle.tl_progress.specs.Answers.{IsCausedBy, looked_for_residual, residual};
+ghost use Rattle.tl_progress.specs.Known.{AreTruths, IsRight};
+ghost use Rattle.tl_progress.specs.Parts.{IsJoin};
+ghost use Rattle.tl_progress.specs.Quantifiers.{quantifier_tree};
+ghost use Rattle.tl_progress.specs.Sentences.{FitsSomewhere};
+ghost use Rattle.tl_syntax.specs.Signature.{signature_of};
+ghost use Rattle.tl_syntax.specs.StateFormulas.{IsState};
+ghost use Rattle.tl_terms.specs.ProblemMeaning.{plain_problem};
+
+use crate::ProgressFault;
+use crate::joins::{constant_number, decides, gather, join};
+use crate::known::Known;
+use crate::parts::{part_at, part_count};
+use crate::quantifier::Quantifier;
+use crate::remaining::{remaining, until_remaining, with_fewer_steps, with_remaining};
+use crate::truth::truth_of;
+use indexmap::IndexMap;
+use std::alloc::Global;
+use tl_eval::{Env, next_tuple};
+use tl_nodes::{Node, Nodes};
+use tl_syntax::Junction;
+use tl_world::{Task, World};
+
+/// The number of what has to hold next, where the number's tree has no temporal word: a constant. No node is added, and it takes no memory.
+pub(crate) fn state_residual(
+    nodes: &Nodes,
+    task: &Task,
+    w: &World,
+    env: &mut Env,
+    known: &IndexMap<usize, bool>,
+    at: usize,
+) -> Result<usize, ProgressFault>
+    requires at { at < length (trees nodes.now) }
+    requires fits { FitsSomewhere (signature_of task.now.problem.domain) (tree_at (trees nodes.now) at) }
+    requires state { IsState (tree_at (trees nodes.now) at) }
+    requires known { AreTruths (plain_problem task.now.problem) w.now (trees nodes.now) (get nat_eq known.now) }
+    ensures number { IfOk result (λ i. Denotes nodes.now i (residual (plain_problem task.now.problem) w.now (assignment_in env.old) (tree_at (trees nodes.now) at))) }
+    ensures constant { IfOk result (λ i. i < 2) }
+    ensures cause { IfErr result (IsCausedBy (looked_for_residual (plain_problem task.now.problem) w.now (assignment_in env.old) (tree_at (trees nodes.now) at))) }
+    ensures frame { env.new ≡ env.old }
+{
+    match truth_of(nodes, task, w, env, known, at) {
+        Ok(truth) => Ok(constant_number(nodes, truth)),
+        Err(fault) => Err(fault),
+    }
+}
+
+/// The number of what has to hold next for a number's tree: the one that is known, or else the one that is worked out from its parts.
+#[cycle(residual_of)]
+pub(crate) fn residual_of(
+    alloc: Global,
+    nodes: &mut Nodes,
+    task: &Task,
+    w: &World,
+    env: &mut Env,
+    known: &Known,
+    at: usize,
+) -> Result<usize, ProgressFault>
+    requires at { at < length (trees nodes.old) }
+    requires fits { FitsSomewhere (signature_of task.now.problem.domain) (tree_at (trees nodes.old) at) }
+    requires known { IsRight (plain_problem task.now.problem) w.now (trees nodes.old) known.now }
+    ensures kept { Keeps (trees nodes.old) (trees nodes.new) }
+    ensures number { IfOk result (λ i. Denotes nodes.new i (residual (plain_problem task.now.problem) w.now (assignment_in env.old) (tree_at (trees nodes.old) at))) }
+    ensures cause { IfErr result (IsCausedBy (looked_for_residual (plain_problem task.now.problem) w.now (assignment_in env.old) (tree_at (trees nodes.old) at))) }
+    ensures frame { env.new ≡ env.old }
+{
+    if !nodes.temporal(at) {
+        return state_residual(nodes, task, w, env, &known.truths, at);
+    }
+    match known.residuals.get(&at) {
+        Some(number) => Ok(*number),
+        None => layer_residual(alloc, nodes, task, w, env, known, at),
+    }
+}
+
+// The number of what has to hold next for a number's tree, from those of its parts.
+#[cycle(residual_of)]
+fn layer_residual(
+    alloc: Global,
+    nodes: &mut Nodes,
+    task: &Task,
+    w: &World,
+    env: &mut Env,
+    known: &Known,
+    at: usize,
+) -> Result<usize, ProgressFault>
+    requires at { at < length (trees nodes.old) }
+    requires fits { FitsSomewhere (signature_of task.now.problem.domain) (tree_at (trees nodes.old) at) }
+    requires known { IsRight (plain_problem task.now.problem) w.now (trees nodes.old) known.now }
+    ensures kept { Keeps (trees nodes.old) (trees nodes.new) }
+    ensures number { IfOk result (λ i. Denotes nodes.new i (residual (plain_problem task.now.problem) w.now (assignment_in env.old) (tree_at (trees nodes.old) at))) }
+    ensures cause { IfErr result (IsCausedBy (looked_for_residual (plain_problem task.now.problem) w.now (assignment_in env.old) (tree_at (trees nodes.old) at))) }
+    ensures frame { env.new ≡ env.old }
+{
+    match nodes.get(at) {
+        Node::True => state_residual(nodes, task, w, env, &known.truths, at),
+        Node::False => state_residual(nodes, task, w, env, &known.truths, at),
+        Node::Basic(_) => state_residual(nodes, task, w, env, &known.truths, at),
+        Node::Not(part) => {
+            let part = *part;
+            let answer = residual_of(alloc, nodes, task, w, env, known, part)?;
+            let number = nodes.not(answer)?;
+            Ok(number)
+        }
+        Node::And(_) => join_residual(alloc, nodes, task, w, env, known, at, Junction::All),
+        Node::Or(_) => join_residual(alloc, nodes, task, w, env, known, at, Junction::Any),
+        Node::Next(part) => {
+            let part = *part;
+            let number = remaining(alloc, nodes, env, part)?;
+            Ok(number)
+        }
+        Node::Always(part) => {
+            let part = *part;
+            let answer = residual_of(alloc, nodes, task, w, env, known, part)?;
+            let number = with_remaining(alloc, nodes, env, answer, at, Junction::All)?;
+            Ok(number)
+        }
+        Node::Eventually(part) => {
+            let part = *part;
+            let answer = residual_of(alloc, nodes, task, w, env, known, part)?;
+            let number = with_remaining(alloc, nodes, env, answer, at, Junction::Any)?;
+            Ok(number)
+        }
+        Node::Until(first, second) => {
+            let first = *first;
+            let second = *second;
+            let after = residual_of(alloc, nodes, task, w, env, known, second)?;
+            if decides(nodes, after, Junction::Any) {
+                return Ok(after);
+            }
+            let before = residual_of(alloc, nodes, task, w, env, known, first)?;
+            let number = until_remaining(alloc, nodes, env, after, before, at)?;
+            Ok(number)
+        }
+        Node::Within(steps, part) => {
+            let steps = *steps;
+            let part = *part;
+            let answer = residual_of(alloc, nodes, task, w, env, known, part)?;
+            let number = with_fewer_steps(alloc, nodes, env, Junction::Any, steps, answer, part)?;
+            Ok(number)
+        }
+        Node::During(steps, part) => {
+            let steps = *steps;
+            let part = *part;
+            let answer = residual_of(alloc, nodes, task, w, env, known, part)?;
+            let number = with_fewer_steps(alloc, nodes, env, Junction::All, steps, answer, part)?;
+            Ok(number)
+        }
+        Node::ForAll(vars, bound, part) => {
+            let quantifier = Quantifier::copied(alloc, Junction::All, vars, bound, *part)?;
+            instances_residual(alloc, nodes, task, w, env, known, &quantifier)
+        }
+        Node::Exists(vars, bound, part) => {
+            let quantifier = Quantifier::copied(alloc, Junction::Any, vars, bound, *part)?;
+            instances_residual(alloc, nodes, task, w, env, known, &quantifier)
+        }
+    }
+}
+
+// The number for a conjunction or a disjunction: the first part that decides it ends it.
+#[cycle(residual_of)]
+fn join_residual(
+    alloc: Global,
+    nodes: &mut Nodes,
+    task: &Task,
+    w: &World,
+    env: &mut Env,
+    known: &Known,
+    at: usize,
+    junction: Junction,
+) -> Result<usize, ProgressFault>
+    requires at { at < length (trees nodes.old) }
+    requires join { IsJoin junction (tree_at (trees nodes.old) at) }
+    requires fits { FitsSomewhere (signature_of task.now.problem.domain) (tree_at (trees nodes.old) at) }
+    requires known { IsRight (plain_problem task.now.problem) w.now (trees nodes.old) known.now }
+    ensures kept { Keeps (trees nodes.old) (trees nodes.new) }
+    ensures number { IfOk result (λ i. Denotes nodes.new i (residual (plain_problem task.now.problem) w.now (assignment_in env.old) (tree_at (trees nodes.old) at))) }
+    ensures cause { IfErr result (IsCausedBy (looked_for_residual (plain_problem task.now.problem) w.now (assignment_in env.old) (tree_at (trees nodes.old) at))) }
+    ensures frame { env.new ≡ env.old }
+{
+    let mut answers = Vec::new(alloc);
+    for i in 0..part_count(nodes, at) {
+        let part = part_at(nodes, at, i);
+        match residual_of(alloc, nodes, task, w, env, known, part) {
+            Ok(answer) => {
+                if decides(nodes, answer, junction) {
+                    return Ok(answer);
+                }
+                gather(nodes, &mut answers, answer, junction)?;
+            }
+            Err(fault) => return Err(fault),
+        }
+    }
+    let number = join(nodes, answers.as_slice(), junction)?;
+    Ok(number)
+}
+
+// The number for a quantifier: the join of those for its instances, in tuple order. The first instance that decides ends it.
+#[cycle(residual_of)]
+fn instances_residual(
+    alloc: Global,
+    nodes: &mut Nodes,
+    task: &Task,
+    w: &World,
+    env: &mut Env,
+    known: &Known,
+    quantifier: &Quantifier,
+) -> Result<usize, ProgressFault>
+    requires part { quantifier.now.part < length (trees nodes.old) }
+    requires fits { FitsSomewhere (signature_of task.now.problem.domain) (quantifier_tree (trees nodes.old) quantifier.now) }
+    requires known { IsRight (plain_problem task.now.problem) w.now (trees nodes.old) known.now }
+    ensures kept { Keeps (trees nodes.old) (trees nodes.new) }
+    ensures number { IfOk result (λ i. Denotes nodes.new i (residual (plain_problem task.now.problem) w.now (assignment_in env.old) (quantifier_tree (trees nodes.old) quantifier.now))) }
+    ensures cause { IfErr result (IsCausedBy (looked_for_residual (plain_problem task.now.problem) w.now (assignment_in env.old) (quantifier_tree (trees nodes.old) quantifier.now))) }
+    ensures frame { env.new ≡ env.old }
+{
+    let outer = env.saved();
+    let vars = &quantifier.vars;
+    let mut answers = Vec::new(alloc);
+    let mut after = None;
+    while let Some(tuple) = next_tuple(task, w, env, vars, &quantifier.bound, after) {
+        env.put_values(vars.as_slice(), tuple.counted_values());
+        let answer = residual_of(alloc, nodes, task, w, env, known, quantifier.part);
+        env.restore(&outer);
+        match answer {
+            Ok(number) => {
+                if decides(nodes, number, quantifier.junction) {
+                    return Ok(number);
+                }
+                gather(nodes, &mut answers, number, quantifier.junction)?;
+            }
+            Err(fault) => return Err(fault),
+        }
+        after = Some(tuple);
+    }
+    let number = join(nodes, answers.as_slice(), quantifier.junction)?;
+    Ok(number)
+}

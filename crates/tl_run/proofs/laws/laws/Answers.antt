@@ -1,0 +1,11 @@
+use Rattle.tl_run.proofs.laws.laws.Goals as goal
+
+pub returns : goal.returns
+returns c = record {
+  verdicts = c.plan_has_one_verdict.ensures;
+  problems = c.files_stand_for_one_problem.ensures;
+  orders = c.plan_order_is_total.ensures;
+  exclusions = c.answers_exclude_each_other.ensures;
+  few_pairs = c.few_pairs_are_not_spent.ensures;
+  calm = c.calm_has_no_cause.ensures;
+}

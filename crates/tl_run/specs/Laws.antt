@@ -1,0 +1,15 @@
+-- What is proved below of the definitions in the promises.
+use Rattle.tl_check.specs.LawsVerdict.{OneVerdict}
+use Rattle.tl_domain.specs.LawsFiles.{FilesStandForOneProblem}
+use Rattle.tl_search.specs.LawsOutcomes.{AnswersExcludeEachOther, FewPairsAreNotSpent}
+use Rattle.tl_search.specs.LawsRange.{CalmHasNoCause}
+use Rattle.tl_terms.specs.LawsOrders.{PlanOrderIsTotal}
+
+-- one verdict is right of a plan, two files stand for one problem, plans are totally ordered, and what a search answers excludes what else it could answer
+pub record Laws : Type 0 where
+  pub verdicts : OneVerdict
+  pub problems : FilesStandForOneProblem
+  pub orders : PlanOrderIsTotal
+  pub exclusions : AnswersExcludeEachOther
+  pub few_pairs : FewPairsAreNotSpent
+  pub calm : CalmHasNoCause

@@ -1,0 +1,19 @@
+// What is proved below of the definitions in the promises.
+ghost use Rattle.tl_run.specs.Laws.{Laws};
+
+use tl_check::laws::plan_has_one_verdict;
+use tl_domain::files_stand_for_one_problem;
+use tl_search::laws::{answers_exclude_each_other, calm_has_no_cause, few_pairs_are_not_spent};
+use tl_terms::laws::plan_order_is_total;
+
+/// One verdict is right of a plan, two files stand for one problem, plans are totally ordered, and what a search answers excludes what else it could answer.
+pub(crate) fn laws()
+    ensures { Laws }
+{
+    plan_has_one_verdict();
+    files_stand_for_one_problem();
+    plan_order_is_total();
+    answers_exclude_each_other();
+    few_pairs_are_not_spent();
+    calm_has_no_cause();
+}

@@ -1,0 +1,9 @@
+pub mod Inserting
+pub mod Growing
+pub mod Remembering
+pub mod SpaceLaws
+pub mod Keeping
+pub mod Arriving
+pub mod Judging
+pub mod PathNames
+pub mod Walked

@@ -1,0 +1,5 @@
+use Rattle.std.proofs.Common.{arith}
+use Rattle.tl_space.proofs.space.Space.make_room.Goals as goal
+
+pub returns-clause-room : goal.returns-clause-room
+returns-clause-room c = record { from = omega (arith, c.in_ok-reserve.ensures.ok); arrivals = omega (arith, c.in_ok-reserve-2.ensures.ok) }

@@ -1,0 +1,14 @@
+use Rattle.tl_space.proofs.SpaceLaws.{kept-still, remembered-still, if-ok-then, control-label}
+use Rattle.tl_space.proofs.space.Space.number_of_control.Goals as goal
+
+pub invariant_of-self : goal.invariant_of-self
+invariant_of-self c =
+    let s = c.args.self.now in
+    record {
+      named_worlds = s.named_worlds;
+      kept = kept-still s _ _ (λ i x e. e) c.number_control.ensures.kept;
+      remembered = remembered-still s _ _ (λ i x e. e) c.number_control.ensures.kept;
+    }
+
+pub returns-clause-label : goal.returns-clause-label
+returns-clause-label c = if-ok-then c.number_control.result _ _ c.number_control.ensures.number (λ n e. control-label c.args.self.now _ n e)

@@ -1,0 +1,31 @@
+// Pairs by numbers.
+
+use tl_search::Arrival;
+use tl_terms::Action;
+
+/// A world and a formula, each by its number: a pair, or an arrival in a world with the formula that comes in.
+#[derive(Clone, Copy, Debug, PartialEq, Eq, Hash)]
+pub(crate) struct Numbers {
+    /// The number of the world.
+    pub(crate) world: usize,
+    /// The number of the formula.
+    pub(crate) label: usize,
+}
+
+/// How a pair was met first.
+#[derive(Drop)]
+pub(crate) enum Met {
+    /// By the empty path.
+    First,
+    /// By an action from the pair of this number.
+    After(usize, Action),
+}
+
+/// What is found of an arrival before a pair is kept.
+#[derive(Clone, Copy, Debug)]
+pub(crate) enum Found {
+    /// The pair is pruned, or is kept already.
+    Known(Arrival),
+    /// The pair of these numbers, which is to be kept.
+    New(Numbers),
+}

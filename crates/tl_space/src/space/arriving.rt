@@ -1,0 +1,92 @@
+// What is known of an arrival.
+ghost use Rattle.std.specs.Prelude.{IfOk, IfErr, IfSome, IfNone};
+ghost use Rattle.tl_space.specs.Inner.{node_in, nodes_in, arriving_in, AreNumbersIn, IsKnownIn, KeepsPairs, IsNew, IsFound, IsProgressFault};
+ghost use Rattle.tl_space.specs.Remembered.{IsKnown};
+
+use super::Space;
+use crate::numbers::{Found, Numbers};
+use tl_progress::ProgressFault;
+use tl_search::Arrival;
+use tl_terms::NoMemory;
+
+/// The number of the formula FALSE.
+const FALSE: usize = 1;
+
+impl Space {
+    /// What came of the arrival in this world with this formula before, where it is remembered.
+    fn remembered(&self, key: Numbers) -> Option<Arrival>
+        ensures { IfSome result (IsKnownIn self.now key) }
+    {
+        match self.arrivals.get(&key) {
+            Some(arrival) => Some(*arrival),
+            None => None,
+        }
+    }
+
+    /// What is known of the pair of these numbers: it is pruned where its formula is FALSE, or is kept already.
+    fn known(&self, numbers: Numbers) -> Option<Arrival>
+        requires { AreNumbersIn self.now numbers }
+        ensures known { IfSome result (IsKnown (nodes_in self.now) (node_in self.now numbers)) }
+        ensures fresh { IfNone result (IsNew self.now numbers) }
+    {
+        if numbers.label == FALSE {
+            return Some(Arrival::Pruned);
+        }
+        match self.pairs.get_index_of(&numbers) {
+            Some(at) => Some(Arrival::Seen(at)),
+            None => None,
+        }
+    }
+
+    /// Remembers what came of the arrival.
+    fn remember(&mut self, key: Numbers, arrival: Arrival) -> Result<(), NoMemory>
+        requires key { AreNumbersIn self.old key }
+        requires known { IsKnownIn self.old key arrival }
+        ensures { KeepsPairs self.old self.new }
+    {
+        match self.arrivals.insert(key, arrival) {
+            Ok(_) => Ok(()),
+            Err(_) => Err(NoMemory),
+        }
+    }
+
+    /// What is found of the arrival in this world with this formula: by memory, or else by progression. Nothing is kept yet.
+    pub(crate) fn find(&mut self, key: Numbers) -> Result<Found, ProgressFault>
+        requires { AreNumbersIn self.old key }
+        ensures keeps { KeepsPairs self.old self.new }
+        ensures found { IfOk result (IsFound self.new key) }
+        ensures cause { IfErr result (IsProgressFault self.old key) }
+    {
+        match self.remembered(key) {
+            Some(arrival) => Ok(Found::Known(arrival)),
+            None => self.find_anew(key),
+        }
+    }
+
+    /// What is found of the arrival by progression.
+    fn find_anew(&mut self, key: Numbers) -> Result<Found, ProgressFault>
+        requires { AreNumbersIn self.old key }
+        ensures keeps { KeepsPairs self.old self.new }
+        ensures found { IfOk result (IsFound self.new key) }
+        ensures cause { IfErr result (IsProgressFault self.old key) }
+    {
+        let label = match self.number_of_residual(key) {
+            Ok(label) => label,
+            Err(fault) => return Err(fault),
+        };
+        let numbers = Numbers {
+            world: key.world,
+            label,
+        };
+        match self.known(numbers) {
+            Some(arrival) => match self.remember(key, arrival) {
+                Ok(()) => Ok(Found::Known(arrival)),
+                Err(_) => Err(ProgressFault::NoMemory),
+            },
+            None => match self.make_room() {
+                Ok(()) => Ok(Found::New(numbers)),
+                Err(_) => Err(ProgressFault::NoMemory),
+            },
+        }
+    }
+}

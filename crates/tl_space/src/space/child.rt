@@ -1,0 +1,132 @@
+// The pair after an action.
+ghost use Rattle.std.specs.Prelude.{◌≡◌, ◌<◌, ◌+◌, length, IfOk, IfErr, OnErr};
+ghost use Rattle.tl_action.specs.Actions.{ArgumentsAreNamed};
+ghost use Rattle.tl_search.specs.Calls.{IsExecutableAt, ChildArrives, IsChildFault};
+ghost use Rattle.tl_search.specs.Kept.{AreKept};
+ghost use Rattle.tl_search.specs.PairGraph.{pair_graph};
+ghost use Rattle.tl_space.specs.Inner.{node_in, AreNumbersIn, KeepsPairs, IsToKeep, IsChildKey, IsProgressFault, way_after, IsWalk, LeadsTo, ArrivesBy, IsKeptLast};
+ghost use Rattle.tl_space.specs.Spaces.{problem_of, name_count, kept_of, Grows};
+
+use super::Space;
+use crate::numbers::{Found, Met, Numbers};
+use std::sync::ledger::Ledger;
+use tl_action::{ActFault, apply};
+use tl_progress::ProgressFault;
+use tl_search::{Arrival, SpaceFault};
+use tl_terms::{Action, NoMemory, Steps};
+
+impl Space {
+    /// The pair after an executable action of the pair `at` arrives. It is pruned exactly where its residual is FALSE, is seen exactly where it is kept already, and else is kept under the next number, with the path of `at` and the action.
+    /// Each call applies the action once and counts one step. A refused call leaves all kept pairs as they were, and can be made again.
+    pub fn child<L: Ledger>(
+        &mut self,
+        at: usize,
+        a: &Action,
+        steps: &mut Steps<L>,
+    ) -> Result<Arrival, SpaceFault>
+        requires at { at < length (kept_of self.old) }
+        requires executable { IsExecutableAt (problem_of self.old) (kept_of self.old) at a.now }
+        ensures grows { Grows self.old self.new }
+        ensures arrival { IfOk result (ChildArrives (problem_of self.old) (kept_of self.old) (kept_of self.new) at a.now) }
+        ensures kept { AreKept (pair_graph (problem_of self.new)) (kept_of self.new) }
+        ensures refused { OnErr result (kept_of self.new ≡ kept_of self.old) }
+        ensures cause { IfErr result (IsChildFault (problem_of self.old) (kept_of self.old) at a.now) }
+        ensures ticks { steps.new ≡ steps.old + 1 }
+    {
+        let key = match self.child_key(at, a, steps) {
+            Ok(key) => key,
+            Err(fault) => return Err(fault),
+        };
+        match self.arrive_after(key, at, a) {
+            Ok(arrival) => Ok(arrival),
+            Err(ProgressFault::Range(note)) => Err(SpaceFault::RangeAfter(note)),
+            Err(ProgressFault::NoMemory) => Err(SpaceFault::NoMemory),
+        }
+    }
+
+    /// The pair after an action of the pair `at` arrives, in this world with this formula. The action is copied only for a new pair.
+    fn arrive_after(
+        &mut self,
+        key: Numbers,
+        at: usize,
+        a: &Action,
+    ) -> Result<Arrival, ProgressFault>
+        requires key { AreNumbersIn self.old key }
+        requires at { at < length (kept_of self.old) }
+        requires named { ArgumentsAreNamed (name_count self.old) a.now }
+        requires walk { LeadsTo self.old (way_after self.old at a.now) key }
+        ensures grows { Grows self.old self.new }
+        ensures arrival { IfOk result (ArrivesBy self.old self.new key (way_after self.old at a.now)) }
+        ensures refused { OnErr result (kept_of self.new ≡ kept_of self.old) }
+        ensures cause { IfErr result (IsProgressFault self.old key) }
+    {
+        match self.find(key) {
+            Ok(Found::Known(arrival)) => Ok(arrival),
+            Ok(Found::New(numbers)) => match self.keep_after(key, numbers, at, a) {
+                Ok(k) => Ok(Arrival::Fresh(k)),
+                Err(_) => Err(ProgressFault::NoMemory),
+            },
+            Err(fault) => Err(fault),
+        }
+    }
+
+    /// Keeps the new pair of these numbers, met first by an action of the pair `at`.
+    fn keep_after(
+        &mut self,
+        key: Numbers,
+        numbers: Numbers,
+        at: usize,
+        a: &Action,
+    ) -> Result<usize, NoMemory>
+        requires key { AreNumbersIn self.old key }
+        requires new { IsToKeep self.old key numbers }
+        requires at { at < length (kept_of self.old) }
+        requires named { ArgumentsAreNamed (name_count self.old) a.now }
+        requires walk { IsWalk self.old (way_after self.old at a.now) (node_in self.old numbers) }
+        ensures grows { Grows self.old self.new }
+        ensures number { IfOk result (λ k. k ≡ length (kept_of self.old)) }
+        ensures kept { IfOk result (λ k. IsKeptLast self.old self.new (node_in self.old numbers) (way_after self.old at a.now)) }
+        ensures refused { OnErr result (kept_of self.new ≡ kept_of self.old) }
+    {
+        let action = a.copy(self.alloc)?;
+        self.keep(key, numbers, Met::After(at, action))
+    }
+
+    /// The numbers of the world after the action and of the pair's residual, which comes in there.
+    fn child_key<L: Ledger>(
+        &mut self,
+        at: usize,
+        a: &Action,
+        steps: &mut Steps<L>,
+    ) -> Result<Numbers, SpaceFault>
+        requires at { at < length (kept_of self.old) }
+        requires executable { IsExecutableAt (problem_of self.old) (kept_of self.old) at a.now }
+        ensures keeps { KeepsPairs self.old self.new }
+        ensures numbers { IfOk result (AreNumbersIn self.new) }
+        ensures key { IfOk result (IsChildKey self.old self.new at a.now) }
+        ensures cause { IfErr result (IsChildFault (problem_of self.old) (kept_of self.old) at a.now) }
+        ensures ticks { steps.new ≡ steps.old + 1 }
+    {
+        let from = self.numbers(at);
+        let next = match apply(
+            self.alloc,
+            &self.task,
+            self.worlds.get(from.world),
+            &mut self.env,
+            a,
+            steps,
+        ) {
+            Ok(Some(next)) => next,
+            Ok(None) => unreachable!(),
+            Err(ActFault::Range(note)) => return Err(SpaceFault::RangeHere(note)),
+            Err(ActFault::NoMemory) => return Err(SpaceFault::NoMemory),
+        };
+        match self.number_of_world(next) {
+            Ok(world) => Ok(Numbers {
+                world,
+                label: from.label,
+            }),
+            Err(_) => Err(SpaceFault::NoMemory),
+        }
+    }
+}

@@ -1,0 +1,79 @@
+// Worlds and formulas get their numbers. The pairs stay.
+ghost use Rattle.std.specs.Prelude.{◌≡◌, slice_get, Some, IfOk, IfErr};
+ghost use Rattle.tl_nodes.specs.Numbering.{Keeps};
+ghost use Rattle.tl_nodes.specs.Numbers.{trees, Denotes};
+ghost use Rattle.tl_space.specs.Inner.{arriving_in, IsLabelIn, AreNumbersIn, KeepsPairs, IsProgressFault};
+ghost use Rattle.tl_space.specs.Spaces.{problem_of, name_count};
+ghost use Rattle.tl_space.specs.WorldNumbers.{worlds_in};
+ghost use Rattle.tl_terms.specs.NamedWorlds.{WorldIsNamed};
+ghost use Rattle.tl_terms.specs.ProblemMeaning.{plain_problem};
+
+use super::Space;
+use crate::numbers::Numbers;
+use std::alloc::Global;
+use tl_nodes::Nodes;
+use tl_progress::{ProgressFault, progress};
+use tl_terms::NoMemory;
+use tl_world::{Task, World};
+
+/// The first world again, which shares its tables.
+fn first_of(alloc: Global, task: &Task) -> Result<World, NoMemory>
+    ensures { IfOk result (λ w. w ≡ (plain_problem task.now.problem).first) }
+{
+    task.first.changed(alloc, &[], &[], &[])
+}
+
+/// The number of the control formula.
+fn number_control(nodes: &mut Nodes, task: &Task) -> Result<usize, NoMemory>
+    ensures number { IfOk result (λ n. Denotes nodes.new n (plain_problem task.now.problem).control) }
+    ensures kept { Keeps (trees nodes.old) (trees nodes.new) }
+{
+    nodes.of_tree(&task.problem.domain.control)
+}
+
+impl Space {
+    /// The number of the world: the one that it has, or else the next one. A refused call drops the world.
+    pub(crate) fn number_of_world(&mut self, world: World) -> Result<usize, NoMemory>
+        requires named { WorldIsNamed (name_count self.old) world }
+        ensures keeps { KeepsPairs self.old self.new }
+        ensures number { IfOk result (λ n. slice_get (worlds_in self.new.worlds) n ≡ Some world) }
+    {
+        self.worlds.number(world)
+    }
+
+    /// The number of the first world.
+    pub(crate) fn number_of_first(&mut self) -> Result<usize, NoMemory>
+        ensures keeps { KeepsPairs self.old self.new }
+        ensures number { IfOk result (λ n. slice_get (worlds_in self.new.worlds) n ≡ Some (problem_of self.old).first) }
+    {
+        let first = first_of(self.alloc, &self.task)?;
+        self.number_of_world(first)
+    }
+
+    /// The number of the control formula.
+    pub(crate) fn number_of_control(&mut self) -> Result<usize, NoMemory>
+        ensures keeps { KeepsPairs self.old self.new }
+        ensures number { IfOk result (λ n. slice_get (trees self.new.nodes) n ≡ Some (problem_of self.old).control) }
+        ensures label { IfOk result (IsLabelIn self.new) }
+    {
+        number_control(&mut self.nodes, &self.task)
+    }
+
+    /// The number of the arrival's formula progressed through its world.
+    pub(crate) fn number_of_residual(&mut self, key: Numbers) -> Result<usize, ProgressFault>
+        requires { AreNumbersIn self.old key }
+        ensures keeps { KeepsPairs self.old self.new }
+        ensures number { IfOk result (λ n. slice_get (trees self.new.nodes) n ≡ Some (arriving_in self.old key).formula) }
+        ensures label { IfOk result (IsLabelIn self.new) }
+        ensures cause { IfErr result (IsProgressFault self.old key) }
+    {
+        progress(
+            self.alloc,
+            &mut self.nodes,
+            &self.task,
+            self.worlds.get(key.world),
+            &mut self.env,
+            key.label,
+        )
+    }
+}

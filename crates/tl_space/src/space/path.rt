@@ -1,0 +1,30 @@
+// The path of a pair.
+ghost use Rattle.std.specs.Prelude.{◌≡◌, ◌<◌, length, IfOk};
+ghost use Rattle.tl_search.specs.Calls.{IsPathOf, AreNamedIn};
+ghost use Rattle.tl_space.specs.Spaces.{task_of, kept_of};
+
+use super::Space;
+use crate::numbers::Met;
+use std::alloc::Global;
+use tl_terms::{Action, Actions, NoMemory};
+
+impl Space {
+    /// The path by which the pair was met first: an open path with that pair. It fails for want of memory alone.
+    pub fn path(&self, alloc: Global, at: usize) -> Result<Actions, NoMemory>
+        requires { at < length (kept_of self.now) }
+        ensures path { IfOk result (IsPathOf (kept_of self.now) at) }
+        ensures named { IfOk result (AreNamedIn (task_of self.now)) }
+    {
+        let mut back: Vec<Action> = Vec::new(alloc);
+        let mut i = at;
+        while let Met::After(j, action) = &self.from[i] {
+            back.push(action.copy(alloc)?)?;
+            i = *j;
+        }
+        let mut path = Actions::new(alloc);
+        while let Some(action) = back.pop() {
+            path.push(action)?;
+        }
+        Ok(path)
+    }
+}
