@@ -1,16 +1,24 @@
-# make            proves and builds the program, as bin/tlplan; what it does is printed line by line, and kept in bin/build.log
+# make            proves and builds the program, as bin/tlplan, where it is not there or a source is newer than it; what is
+#                 done is printed line by line, and kept in bin/build.log
 # make test       the gate: every proof, every test, every must-fail edit, every stored run
-# make install    puts the program below PREFIX (/usr/local)
+# make examples   runs every example and compares what comes with what is expected
+# make install    puts the program and its manual page below PREFIX (/usr/local)
 # make clean      removes what was built
 
 PREFIX ?= /usr/local
 
 # The run of the program that proves and builds it, crate by crate.
-BUILD = cd crates/tl_main && rt run -- check data/one.domain data/one.problem data/one.plan
+BUILD = cd crates/tl_main && rt run -- sample 6
 
-.PHONY: all test install clean
+# What the program is made of: all but the worked cases, the must-fail edits and what was built.
+SOURCES := crates.txt $(shell find crates \( -name out -o -name must-fail -o -name tl_cases \) -prune \
+    -o \( -name '*.rt' -o -name '*.antt' \) -print)
 
-all:
+.PHONY: all test examples install clean
+
+all: bin/tlplan
+
+bin/tlplan: $(SOURCES)
 	@rm -f bin/tlplan
 	@mkdir -p bin
 	@echo 'Each line names the crate whose proofs it is about. From nothing it should take about half an hour on four processors.'
@@ -21,8 +29,12 @@ all:
 test:
 	rt ci
 
-install: all
+examples: bin/tlplan
+	examples/run
+
+install: bin/tlplan
 	install -D -m 755 bin/tlplan $(DESTDIR)$(PREFIX)/bin/tlplan
+	install -D -m 644 tlplan.1 $(DESTDIR)$(PREFIX)/share/man/man1/tlplan.1
 
 clean:
 	rm -rf bin crates/*/out

@@ -1,5 +1,5 @@
 -- The rows that complete a frame, before and after a bound.
-use Rattle.std.proofs.Common.{◌≡◌, ◌⊎◌, ℕ, List, [], ◌∷◌, ◌++◌, map, filter, flat_map, length, Bool, true, false, true≢false, cond, ◌==◌, ◌&&◌, ◌||◌, not, Option, Some, None, is_some, IsTrue, inl, inr, refl, sym, ap, ◌∙◌, subst, arith, eqb-true}
+use Rattle.std.proofs.Common.{◌≡◌, ◌↔◌, ◌⊎◌, ℕ, List, [], ◌∷◌, ◌++◌, map, filter, flat_map, length, Bool, true, false, true≢false, cond, ◌==◌, ◌&&◌, ◌||◌, not, Option, Some, None, is_some, IsTrue, inl, inr, refl, sym, ap, ◌∙◌, subst, arith, eqb-true}
 use Rattle.std.specs.List.{list_any}
 use Rattle.std.proofs.lemmas.Bool.{eq-eqb}
 use Rattle.std.proofs.lemmas.List.{length-map}
@@ -212,6 +212,22 @@ module _ (p : PlainProblem) (w : World) (o : PlainOperator) (seen : List Bound) 
             ∙ (Each-Among (λ (x : Var). stands_in_one seen x ≡ true → bind fresh u e x.slot ≡ e x.slot) o.params).0 (known-kept u e) s n k);
         bounds = (bound-alike (given o t) (bind fresh u e) h.agrees ∙ is, h.bounds);
       }
+
+  -- a bound without a new variable that is true of the frame is passed by the same rows
+  pub completion-past : fresh ≡ [] → (e : Assignment) → bound_true (situation_of p w) e b ≡ true → (t : List Value) → IsCompletion p w o seen (b ∷ rest) e t ↔ IsCompletion p w o (seen ++ b ∷ []) rest e t
+  completion-past z e is t = (
+    λ h. record { arity = h.arity; agrees = old-values t e z h.arity h.agrees; bounds = h.bounds.1 },
+    λ h. record { arity = h.arity; agrees = known-before (given o t) e h.agrees; bounds = (bound-alike (given o t) e h.agrees ∙ is, h.bounds) },
+  )
+    where
+      old-values : (t : List Value) (e : Assignment) → fresh ≡ [] → length t ≡ length o.params → Known seen o.params (given o t) e → Known (seen ++ b ∷ []) o.params (given o t) e
+      old-values t e z n k = subst (λ (ss : List Var). Known (seen ++ b ∷ []) o.params (given o t) (bind ss (copied ss (given o t)) e)) z (new-values t e n k)
+
+  -- and one that is false of it by none
+  pub completion-none : fresh ≡ [] → (e : Assignment) → bound_true (situation_of p w) e b ≡ false → (t : List Value) → ¬ IsCompletion p w o seen (b ∷ rest) e t
+  completion-none z e is t h =
+      let k = subst (λ (ss : List Var). Known (seen ++ b ∷ []) o.params (given o t) (bind ss (copied ss (given o t)) e)) z (new-values t e h.arity h.agrees) in
+      true≢false (sym h.bounds.0 ∙ (bound-alike (given o t) e k ∙ is))
 
 -- frames that agree on what is known are completed by the same rows
 pub completion-alike : (p : PlainProblem) (w : World) (o : PlainOperator) (seen rest : List Bound) (d e : Assignment) (t : List Value) → Known seen o.params d e → IsCompletion p w o seen rest d t → IsCompletion p w o seen rest e t

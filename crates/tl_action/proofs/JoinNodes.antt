@@ -1,9 +1,10 @@
 -- A bound of an operator with its new variables.
-use Rattle.std.proofs.Common.{◌≡◌, ◌↔◌, ◌⊎◌, ◌<◌, ◌≤◌, ◌+◌, ℕ, List, [], ◌∷◌, ◌++◌, filter, take, drop, length, get_or, Bool, true, false, cond, ◌&&◌, not, refl, sym, ap, ◌∙◌, subst}
+use Rattle.std.proofs.Common.{◌≡◌, ◌↔◌, ◌⊎◌, ◌<◌, ◌≤◌, ◌+◌, ℕ, List, [], ◌∷◌, ◌++◌, filter, take, drop, length, get_or, Bool, true, false, cond, ◌&&◌, not, Result, Ok, Err, inl, inr, refl, sym, ap, ◌∙◌, subst, arith}
 use Rattle.tl_action.specs.declared.fault.ActFault.{ActFault}
+use Rattle.tl_action.specs.declared.fault.ActFault.TheVariants as fault
 use Rattle.tl_action.specs.declared.join.JoinOrder.{JoinOrder}
-use Rattle.tl_action.specs.Join.{stands_in_one, is_new, Known, IsJoinOrder, IsFound, IsRowFault}
-use Rattle.tl_action.proofs.Completions.{known-before, known-kept}
+use Rattle.tl_action.specs.Join.{stands_in_one, is_new, Known, HasNoCompletion, IsCompletion, IsJoinOrder, IsFound, IsPassed, IsRowFault, Joins}
+use Rattle.tl_action.proofs.Completions.{known-before, known-kept, completion-past, completion-none}
 use Rattle.tl_action.proofs.NewVariables.{level-is}
 use Rattle.tl_action.proofs.Operators.{counted-differ, counted-slots}
 use Rattle.tl_action.proofs.Rows.{RowsSoFar, rows-on, rows-end, rows-fault}
@@ -21,7 +22,7 @@ use Rattle.tl_syntax.specs.FreeVariables.{slots_of, bound_slots, InScope}
 use Rattle.tl_syntax.specs.Kept.{OperatorKeeps}
 use Rattle.tl_syntax.specs.Lists.{Each, Among}
 use Rattle.tl_syntax.specs.Signature.{Signature}
-use Rattle.tl_terms.specs.Bounds.{tuples}
+use Rattle.tl_terms.specs.Bounds.{bound_true, tuples}
 use Rattle.tl_terms.specs.Definitions.{situation_of}
 use Rattle.tl_terms.specs.Problem.{PlainProblem}
 use Rattle.tl_terms.specs.ProblemMeaning.{plain_operator}
@@ -123,3 +124,35 @@ module _ (g : Signature) (p : PlainProblem) (w : World) (o : Operator) (j : ℕ)
       subst (λ (bs : List Bound). IsRowFault p w (plain_operator o) seen bs e x) (sym (drop-opened o.bounds j b k q))
       (rows-fault p w (plain_operator o) seen b rest node.scope (subst DifferInSlot node.is node.differ) (subst (λ (ss : List Var). OccurIn ss b) node.is node.occur) e c d u
       (z ∙ ap (λ (ss : List Var). bind ss u c) node.is) l (subst (λ (ss : List Var). Among u (tuples (situation_of p w) e ss b)) node.is m) x (subst (λ (bs : List Bound). IsRowFault p w (plain_operator o) bs rest d x) ends f))
+
+  -- a bound without new variables that is true of the frame is passed
+  pub node-past : (e : Assignment) → vars ≡ [] → bound_true (situation_of p w) e b ≡ true → (i : ℕ) → IsPassed p w o e i j → IsPassed p w o e i (j + 1)
+  node-past e z is i h =
+      let ends = take-opened o.bounds j b k q in
+      let opens = drop-opened o.bounds j b k q in
+      let past = completion-past p w (plain_operator o) seen b rest node.scope (sym node.is ∙ z) e is in
+      record {
+        later = omega (arith, h.later);
+        inside = omega (arith, k);
+        same = λ t. (
+          λ c. subst (λ (bs : List Bound). IsCompletion p w (plain_operator o) bs rest e t) (sym ends) ((past t).0 (subst (λ (bs : List Bound). IsCompletion p w (plain_operator o) seen bs e t) opens ((h.same t).0 c))),
+          λ c. (h.same t).1 (subst (λ (bs : List Bound). IsCompletion p w (plain_operator o) seen bs e t) (sym opens) ((past t).1 (subst (λ (bs : List Bound). IsCompletion p w (plain_operator o) bs rest e t) ends c))),
+        );
+        known = λ d a m. h.known d a (known-before p w (plain_operator o) seen b rest node.scope d a (subst (λ (bs : List Bound). Known bs o.params d a) ends m));
+      }
+
+  -- and one that is false of it by no row
+  pub node-none : (e : Assignment) → vars ≡ [] → bound_true (situation_of p w) e b ≡ false → (i : ℕ) → IsPassed p w o e i j → HasNoCompletion p w o e i
+  node-none e z is i h t c =
+      completion-none p w (plain_operator o) seen b rest node.scope (sym node.is ∙ z) e is t
+      (subst (λ (bs : List Bound). IsCompletion p w (plain_operator o) seen bs e t) (drop-opened o.bounds j b k q) ((h.same t).0 c))
+
+-- rows and faults from the k-th bound on are those from the j-th on
+pub joins-past : (p : PlainProblem) (w : World) (o : Operator) (e : Assignment) (j k : ℕ) → IsPassed p w o e j k → (before after : List (List Value)) (r : Result (Unit {0}) ActFault)
+    → Joins p w (plain_operator o) (take k o.bounds) (drop k o.bounds) e before after r → Joins p w (plain_operator o) (take j o.bounds) (drop j o.bounds) e before after r
+joins-past p w o e j k h before after (Ok done) f = λ t. (
+  λ m. elim ((f t).0 m) [ inl a ↦ inl a | inr x ↦ inr (record { completes = (h.same t).1 x.completes; prepared = x.prepared }) ],
+  λ m. (f t).1 (elim m [ inl a ↦ inl a | inr x ↦ inr (record { completes = (h.same t).0 x.completes; prepared = x.prepared }) ]),
+)
+joins-past p w o e j k h before after (Err (fault.Range note)) f = (f.0, (h.same f.0).1 f.1, f.2)
+joins-past p w o e j k h before after (Err fault.NoMemory) f = tt

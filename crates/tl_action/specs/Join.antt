@@ -1,5 +1,5 @@
 -- The rows of values that an operator's bounds allow, bound by bound.
-use Rattle.std.specs.Prelude.{◌≡◌, ◌↔◌, ◌⊎◌, ◌&&◌, List, [], ◌∷◌, ◌++◌, filter, length, Bool, true, not, Result, Ok, Err}
+use Rattle.std.specs.Prelude.{◌≡◌, ◌↔◌, ◌⊎◌, ◌≤◌, ◌&&◌, ℕ, List, [], ◌∷◌, ◌++◌, drop, filter, length, take, Bool, true, not, Result, Ok, Err}
 use Rattle.std.specs.List.{list_any}
 use Rattle.tl_action.specs.declared.fault.ActFault.{ActFault}
 use Rattle.tl_action.specs.declared.fault.ActFault.TheVariants as fault
@@ -18,6 +18,7 @@ use Rattle.tl_syntax.specs.Trees.{TermTrees, variable, no_term, more_terms}
 use Rattle.tl_terms.specs.Bounds.{bound_true}
 use Rattle.tl_terms.specs.Definitions.{situation_of}
 use Rattle.tl_terms.specs.Problem.{PlainOperator, PlainProblem}
+use Rattle.tl_terms.specs.ProblemMeaning.{plain_operator}
 use Rattle.tl_terms.specs.World.{World}
 
 -- the variable stands in one of the bounds
@@ -56,6 +57,21 @@ pub record IsCompletion (p : PlainProblem) (w : World) (o : PlainOperator) (seen
   pub arity : length t ≡ length o.params
   pub agrees : Known seen o.params (given o t) e
   pub bounds : Each (λ b. bound_true (situation_of p w) (given o t) b ≡ true) rest
+
+-- whether a row completes the frame from the k-th bound on
+abbrev pub CompletesFrom : PlainProblem → World → Operator → Assignment → ℕ → List Value → Type 0
+CompletesFrom p w o e k t = IsCompletion p w (plain_operator o) (take k o.bounds) (drop k o.bounds) e t
+
+-- no row completes the frame from the j-th bound on
+abbrev pub HasNoCompletion : PlainProblem → World → Operator → Assignment → ℕ → Type 0
+HasNoCompletion p w o e j = (t : List Value) → ¬ CompletesFrom p w o e j t
+
+-- the bounds from the j-th to the k-th have no new parameter and are true, so from either on the same rows complete the frame, and what is known after the k-th was known before the j-th
+pub record IsPassed (p : PlainProblem) (w : World) (o : Operator) (e : Assignment) (j k : ℕ) : Type 0 where
+  pub later : j ≤ k
+  pub inside : k ≤ length o.bounds
+  pub same : (t : List Value) → CompletesFrom p w o e j t ↔ CompletesFrom p w o e k t
+  pub known : (d a : Assignment) → Known (take k o.bounds) o.params d a → Known (take j o.bounds) o.params d a
 
 -- and the operator can be applied with these values
 pub record IsFound (p : PlainProblem) (w : World) (o : PlainOperator) (seen rest : List Bound) (e : Assignment) (t : List Value) : Type 0 where

@@ -1,7 +1,7 @@
 // The rows of values with which an operator can be applied, by a join of its bounds.
-ghost use Rattle.std.specs.Prelude.{◌≡◌, ◌≤◌, [], drop, length, take, IfOk};
+ghost use Rattle.std.specs.Prelude.{◌≡◌, ◌<◌, ◌≤◌, [], drop, length, take, IfNone, IfOk, IfSome};
 ghost use Rattle.tl_action.specs.Agreement.{Agree};
-ghost use Rattle.tl_action.specs.Join.{new_from, variables, IsJoinOrder, Joins, Known};
+ghost use Rattle.tl_action.specs.Join.{new_from, variables, HasNoCompletion, IsJoinOrder, IsPassed, Joins, Known};
 ghost use Rattle.tl_eval.specs.Frames.{assignment_in};
 ghost use Rattle.tl_syntax.specs.FreeVariables.{slots_of};
 ghost use Rattle.tl_syntax.specs.Kept.{OperatorKeeps};
@@ -11,7 +11,7 @@ ghost use Rattle.tl_terms.specs.ProblemMeaning.{plain_operator, plain_problem};
 use crate::ActFault;
 use crate::levels::{levels_of, terms_of};
 use crate::prepared::prepared;
-use crate::tuples::tuples_in;
+use crate::tuples::{bound_holds, tuples_in};
 use crate::values::values_of;
 use std::alloc::Global;
 use tl_eval::Env;
@@ -68,11 +68,75 @@ fn find_row(
     }
 }
 
+/// The first bound from the `j`-th on that gives a parameter its value, or how many bounds there are: None where a bound before it is false. The bounds before it are true, and have no parameter but those that have their values already.
+/// It takes no memory.
+fn next_level(
+    alloc: Global,
+    task: &Task,
+    w: &World,
+    env: &Env,
+    operator: &Operator,
+    order: &JoinOrder,
+    j: usize,
+) -> Option<usize>
+    requires keeps { OperatorKeeps (signature_of task.now.problem.domain) (length task.now.problem.names) operator.now }
+    requires order { IsJoinOrder operator.now order.now }
+    requires within { j ≤ length operator.now.bounds }
+    ensures passed { IfSome result (IsPassed (plain_problem task.now.problem) w.now operator.now (assignment_in env.now) j) }
+    ensures none { IfNone result (HasNoCompletion (plain_problem task.now.problem) w.now operator.now (assignment_in env.now) j) }
+{
+    let bounds = operator.bounds.as_slice();
+    let levels = order.levels.as_slice();
+    let mut k = j;
+    while k < bounds.len() && levels[k].is_empty() {
+        if !bound_holds(alloc, task, w, env, &bounds[k]) {
+            return None;
+        }
+        k += 1;
+    }
+    Some(k)
+}
+
+/// Adds the rows that complete the frame with a tuple of the `j`-th bound for its new parameters: those that agree with it on the parameters of the bounds before it, make it and the bounds after it true, and with which the operator can be applied.
+/// The parameters of the first `j` bounds keep their values in the frame.
+#[cycle(joined)]
+fn join_level(
+    alloc: Global,
+    task: &Task,
+    w: &World,
+    env: &mut Env,
+    operator: &Operator,
+    order: &JoinOrder,
+    j: usize,
+    rows: &mut Vec<Values>,
+) -> Result<(), ActFault>
+    requires keeps { OperatorKeeps (signature_of task.now.problem.domain) (length task.now.problem.names) operator.now }
+    requires order { IsJoinOrder operator.now order.now }
+    requires within { j < length operator.now.bounds }
+    ensures rows { Joins (plain_problem task.now.problem) w.now (plain_operator operator.now) (take j operator.now.bounds) (drop j operator.now.bounds) (assignment_in env.old) rows.old.items rows.new.items result }
+    ensures frame { Known (take j operator.now.bounds) operator.now.params (assignment_in env.new) (assignment_in env.old) }
+{
+    let bounds = operator.bounds.as_slice();
+    let levels = order.levels.as_slice();
+    let vars = &levels[j];
+    let tuples = tuples_in(alloc, task, w, env, vars, &bounds[j])?;
+    for tuple in tuples.as_slice() {
+        env.put_values(vars.as_slice(), tuple.counted_values());
+        match join(alloc, task, w, env, operator, order, j + 1, rows) {
+            Ok(()) => {}
+            Err(fault) => return Err(fault),
+        }
+    }
+    Ok(())
+}
+
 /// Adds the rows that complete the frame: those that agree with it on the parameters of the first `j` bounds, make the other bounds true, and with which the operator can be applied.
 /// The parameters of the first `j` bounds keep their values in the frame.
 ///
 /// Each bound gives its new parameters their values, by its tuples in order under the values of the earlier ones, and a bound without new parameters is tested.
 /// So a row of values is given up at the first bound that it makes false, and what is looked up is one tuple more than there are for each row of the bounds before.
+/// It goes one level deeper for each bound with new parameters, so never deeper than an operator has parameters.
+#[cycle(joined)]
 pub(crate) fn join(
     alloc: Global,
     task: &Task,
@@ -89,19 +153,14 @@ pub(crate) fn join(
     ensures rows { Joins (plain_problem task.now.problem) w.now (plain_operator operator.now) (take j operator.now.bounds) (drop j operator.now.bounds) (assignment_in env.old) rows.old.items rows.new.items result }
     ensures frame { Known (take j operator.now.bounds) operator.now.params (assignment_in env.new) (assignment_in env.old) }
 {
-    let bounds = operator.bounds.as_slice();
-    if j == bounds.len() {
-        return find_row(alloc, task, w, env, operator, order, rows);
-    }
-    let levels = order.levels.as_slice();
-    let vars = &levels[j];
-    let tuples = tuples_in(alloc, task, w, env, vars, &bounds[j])?;
-    for tuple in tuples.as_slice() {
-        env.put_values(vars.as_slice(), tuple.counted_values());
-        match join(alloc, task, w, env, operator, order, j + 1, rows) {
-            Ok(()) => {}
-            Err(fault) => return Err(fault),
+    match next_level(alloc, task, w, env, operator, order, j) {
+        Some(k) => {
+            if k < operator.bounds.len() {
+                join_level(alloc, task, w, env, operator, order, k, rows)
+            } else {
+                find_row(alloc, task, w, env, operator, order, rows)
+            }
         }
+        None => Ok(()),
     }
-    Ok(())
 }

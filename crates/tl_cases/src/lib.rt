@@ -17,9 +17,9 @@
 //! - `worlds`, `matches`: worlds without a domain, and the matches of patterns in them.
 //! - `truth`, `terms`, `tuples`: state formulas, terms and bounds. `actions`, `steps`: the actions of a world, and where they lead. `counts`: counts of steps.
 //! - `outside`, `adapters`: files and answers, in memory and over the machine.
-//! - `progression`: what formulas progress to, and their idling check.
+//! - `progression`: what formulas progress to, and their idling check. `labels`: formulas as texts.
 //! - `spaces`: what arrives at a search space, which pairs are accepted, and paths.
-//! - `runs`: whole runs. `runs::run` has the one call of `run`, which is costly to prove at each place where it stands.
+//! - `runs`: whole runs; in `samples`, those of generated problems. `runs::run` has the one call of `run`, which is costly to prove at each place where it stands.
 #![tactic(auto)]
 
 #[cfg(test)]
@@ -36,6 +36,8 @@ mod counts;
 mod files;
 #[cfg(test)]
 mod forms;
+#[cfg(test)]
+mod labels;
 #[cfg(test)]
 mod lines;
 #[cfg(test)]

@@ -2,6 +2,8 @@
 
 mod depth;
 mod devices;
+mod explanations;
+mod failing;
 mod gripper;
 mod lamps;
 mod levels;
@@ -9,6 +11,8 @@ mod limits;
 mod plans;
 mod refusals;
 mod run;
+mod samples;
 mod spans;
+mod traces;
 mod verdicts;
 mod words;

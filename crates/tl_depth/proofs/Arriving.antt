@@ -17,6 +17,7 @@ use Rattle.tl_eval.specs.declared.range.RangeNote.{RangeNote}
 use Rattle.tl_eval.specs.Notes.{Tells, operation_of}
 use Rattle.tl_terms.specs.Looked.{looked_by_idling}
 use Rattle.tl_search.specs.Plans.{IsFirstSimplePlan}
+use Rattle.tl_search.specs.Spent.{AreNear}
 use Rattle.tl_depth.specs.Answers.{AreLed, IsToldAlong, IsActionSum}
 use Rattle.tl_depth.specs.declared.level.Level.{Level}
 use Rattle.tl_depth.proofs.LevelFacts.{get-rest, get-within}
@@ -26,7 +27,7 @@ use Rattle.tl_depth.proofs.SearchSteps.{reporting}
 use Rattle.tl_depth.proofs.Running as run
 use Rattle.tl_depth.proofs.PairAnswers as answers
 use Rattle.tl_depth.proofs.PairWalks.{pairs-lawful, pairs-actions}
-use Rattle.tl_depth.specs.Outcomes.{Reported, AreFewCalls, IsDepthFirstOutcome, IsDepthFirstFault, HasLastPair}
+use Rattle.tl_depth.specs.Outcomes.{Reported, AreFewCalls, IsDepthFirstOutcome, IsDepthFirstFault}
 use Rattle.tl_depth.specs.Ongoing.{AreSized, IsArrived, IsEntered, to_do, IsEntryFault, Turned}
 use Rattle.tl_search.specs.declared.arrival.Arrival.{Arrival}
 use Rattle.tl_depth.specs.declared.stack.DepthFirst.{DepthFirst}
@@ -34,7 +35,7 @@ use Rattle.tl_search.specs.declared.fault.SearchFault.{SearchFault}
 use Rattle.tl_search.specs.declared.fault.SearchFault.TheVariants as fault
 use Rattle.tl_search.specs.declared.outcome.Outcome.{Outcome}
 use Rattle.tl_search.specs.declared.outcome.Outcome.TheVariants as outcome
-use Rattle.tl_depth.proofs.Spending.{led-spent}
+use Rattle.tl_depth.proofs.Spending.{led-near, led-spent}
 use Rattle.tl_depth.proofs.GoingOn.{told-reports, get-more, height-stepped, to-do-is, less-pass, less-enter, low, ongoing, sized-last, sized-stepped}
 
 module _ (p : PlainProblem) (b : ℕ) (kept : List Pair) (w : DepthFirst) (arrival : Arrival) (left calls : ℕ) (s : IsArrived p b kept w arrival left calls) where
@@ -230,16 +231,21 @@ module _ (p : PlainProblem) (b : ℕ) (kept : List Pair) (w : DepthFirst) (arriv
         (led-spent p w.within b kept (subst (λ z. AreLed p w.within b z) (sym more) (subst (λ z. AreLed p w.within z (s.old ++ q ∷ [])) e t)) (omega (arith, long, number, e)), few-calls-more q more, tt)
 
     -- it is accepted
-    pub judged-plan : k < b → IsPairAccepted p q → (path : List Action) → path ≡ path_of w.stack.items → (IsFirstSimplePlan p w.within path × HasLastPair p kept path × (length kept ≤ b)) × AreFewCalls p w.within kept (calls + 1) × IsToldAlong p (Reported w.watch kept w.events) path
+    pub judged-plan : k < b → IsPairAccepted p q → (path : List Action) → path ≡ path_of w.stack.items → IsDepthFirstOutcome p w.within b kept (outcome.Plan path) × AreFewCalls p w.within kept (calls + 1) × IsToldAlong p (Reported w.watch kept w.events) path
     unfolding graph_of
     judged-plan l a path e =
         let t = answers.next-plan p w.within s.unpruned (Reported w.watch s.old s.before) s.old w.most.items s.front s.top calls s.action s.from s.running s.at_action s.at_node q leads new a in (
-          (subst (IsFirstSimplePlan p w.within) (sym (e ∙ path-is)) t, (k, q, long, its-pair, ap (pair_of p) (e ∙ path-is) ∙ led.1), omega (arith, long)),
+          (subst (IsFirstSimplePlan p w.within) (sym (e ∙ path-is)) t, (k, q, long, its-pair, ap (pair_of p) (e ∙ path-is) ∙ led.1), omega (arith, long), near),
           few-calls-more q more,
           subst (IsToldAlong p (Reported w.watch kept w.events)) (sym (e ∙ path-is))
               (answers.told-along p w.within s.unpruned (Reported w.watch kept w.events) s.old w.most.items s.front s.top calls s.action s.from reporting-now s.at_action s.at_node told-more.this led.0),
         )
       where
+        near : AreNear p w.within kept
+        near =
+            let t = answers.next-spent p w.within s.unpruned (Reported w.watch s.old s.before) s.old w.most.items s.front s.top calls s.action s.from s.running s.at_action s.at_node q leads new in
+            subst (AreNear p w.within) (sym more) (led-near p w.within (length s.old) (s.old ++ q ∷ []) t)
+
         led : IsOpen p (path_of (s.front ++ s.top ∷ [])) × (pair_of p (path_of (s.front ++ s.top ∷ [])) ≡ Some q)
         led = answers.leads-next p w.within s.unpruned (Reported w.watch s.old s.before) s.old w.most.items s.front s.top calls s.action s.from s.running s.at_action s.at_node q leads new
 

@@ -1,6 +1,6 @@
 -- How a search begins and ends.
 use Rattle.std.specs.Prelude.{IsTrue, is_some}
-use Rattle.std.proofs.Common.{◌≡◌, ◌≢◌, ◌≤◌, ◌<◌, ◌+◌, ℕ, List, [], ◌∷◌, ◌++◌, length, Bool, true, false, cond, Option, Some, None, refl, sym, ap, ◌∙◌, subst, inl, arith}
+use Rattle.std.proofs.Common.{◌≡◌, ◌≢◌, ◌≤◌, ◌<◌, ◌+◌, ℕ, zero, suc, List, [], ◌∷◌, ◌++◌, length, Bool, true, false, cond, Option, Some, None, refl, sym, ap, ◌∙◌, subst, inl, arith}
 use Rattle.std.specs.List.{slice_get}
 use Rattle.tl_syntax.specs.declared.action.Action.{Action}
 use Rattle.tl_syntax.specs.Trees.{falsum}
@@ -19,14 +19,15 @@ use Rattle.tl_eval.specs.declared.range.RangeNote.{RangeNote}
 use Rattle.tl_eval.specs.Notes.{Tells, operation_of}
 use Rattle.tl_terms.specs.Looked.{looked_by_progressing, looked_by_idling}
 use Rattle.tl_terms.proofs.PathLaws.{open-by-residual}
-use Rattle.tl_search.specs.Plans.{IsFirstSimplePlan}
+use Rattle.tl_search.specs.Plans.{IsFirstSimplePlan, IsNear}
+use Rattle.tl_search.specs.Spent.{AreNear}
 use Rattle.tl_depth.specs.Answers.{IsActionSum, IsExhausted, IsToldAlong}
 use Rattle.tl_depth.proofs.WalkLaws.{simple-empty}
 use Rattle.tl_depth.proofs.OrderFacts.{none-before}
 use Rattle.tl_depth.proofs.Running as run
-use Rattle.tl_depth.proofs.PairAnswers.{nothing-left, calls-few}
+use Rattle.tl_depth.proofs.PairAnswers.{differ-places, kept-near, nothing-left, calls-few}
 use Rattle.tl_depth.proofs.PairWalks.{by_falsum, none-open, none-accepted, leading-walks, pairs-lawful, pairs-actions}
-use Rattle.tl_depth.specs.Outcomes.{Reported, AreFewCalls, IsDepthFirstOutcome, IsDepthFirstFault, HasLastPair, IsToldOutcome}
+use Rattle.tl_depth.specs.Outcomes.{Reported, AreFewCalls, IsDepthFirstOutcome, IsDepthFirstFault, IsToldOutcome}
 use Rattle.tl_depth.specs.Ongoing.{IsOngoing, IsEntered, IsEntryFault, IsNew, IsFirst, Begun, TurnedTo, to_do}
 use Rattle.tl_search.specs.declared.event.Event.{Event}
 use Rattle.tl_depth.specs.Search.{Reports}
@@ -45,6 +46,9 @@ module _ (p : PlainProblem) (b : ℕ) (kept : List Pair) (w : DepthFirst) (calls
   pub few-made : AreFewCalls p w.within kept calls
   few-made = calls-few p w.within s.unpruned (Reported w.watch kept w.events) kept w.most.items w.stack.items calls s.running
 
+  near-kept : AreNear p w.within kept
+  near-kept = kept-near p w.within s.unpruned (Reported w.watch kept w.events) kept w.most.items w.stack.items calls s.running
+
   pub exhausted : w.stack.items ≡ [] → IsExhausted p w.within (Reported w.watch kept w.events) kept w.most.items
   exhausted e = nothing-left p w.within s.unpruned (Reported w.watch kept w.events) kept w.most.items calls (subst (λ us. IsRunning pair_discrete (graph_of p) w.within (Reported w.watch kept w.events) kept w.most.items us calls) e s.running)
 
@@ -52,10 +56,10 @@ module _ (p : PlainProblem) (b : ℕ) (kept : List Pair) (w : DepthFirst) (calls
   ends-told e = (exhausted e).told
 
   pub ends-cut : w.stack.items ≡ [] → ((k : ℕ) × (slice_get w.most.items k ≡ Some 0)) → IsDepthFirstOutcome p w.within b kept outcome.NoneWithin
-  ends-cut e k = let x = exhausted e in (x.none, x.cut.0 k, s.few)
+  ends-cut e k = let x = exhausted e in (x.none, x.cut.0 k, s.few, near-kept)
 
   pub ends-uncut : w.stack.items ≡ [] → ((k : ℕ) → slice_get w.most.items k ≡ Some 0 → ⊥) → IsDepthFirstOutcome p w.within b kept outcome.NoPlan
-  ends-uncut e h = let x = (exhausted e).uncut h in (x.0, x.1, s.few)
+  ends-uncut e h = let x = (exhausted e).uncut h in (x.0, x.1, s.few, near-kept)
 
 -- ---- the beginning
 
@@ -76,10 +80,20 @@ unfolding IsActionSum
 none-calls p n [] = (0, refl, omega arith)
 none-calls p n (x ∷ kept) = let t = none-calls p n kept in (t.0, inl t.1, omega arith)
 
+none-near : (p : PlainProblem) (n : ℕ) → AreNear p n []
+none-near p n = record { differ = λ i j x e f. absurd (let z : ⊥ = cc in z); near = λ i x e. absurd (let z : ⊥ = cc in z) }
+
+one-near : (p : PlainProblem) (n : ℕ) (x : Pair) → IsNear p n x → AreNear p n (x ∷ [])
+one-near p n x h = record { differ = λ i j y e f. differ-places (x ∷ []) (tt, tt) i j y e f; near = at }
+  where
+    at : (i : ℕ) (y : Pair) → slice_get (x ∷ []) i ≡ Some y → IsNear p n y
+    at zero y e = let same : x ≡ y = cc in subst (IsNear p n) same h
+    at (suc i) y e = absurd (let z : ⊥ = cc in z)
+
 pub begins-pruned : (watch : Bool) (events : List Event) (p : PlainProblem) (n b : ℕ) (kept : List Pair) → kept ≡ [] → unless_pruned (Some (first_pair p)) ≡ None → IsDepthFirstOutcome p n b kept outcome.NoPlan × AreFewCalls p n kept 0 × ((x : Pair) (d : ℕ) → IsDistance p x d → d < n → (a : Action) → IsTrue (is_some (step p x.world a)) → Reported watch kept events x a)
 begins-pruned watch events p n b kept e u =
     let f = pruned-false p u in
-    ((none-accepted p f, λ x m d. absurd (none-open p f d.path d.open_path), omega (arith, ap length e)), none-calls p n kept, λ x d h. absurd (none-open p f h.path h.open_path))
+    ((none-accepted p f, λ x m d. absurd (none-open p f d.path d.open_path), omega (arith, ap length e), subst (AreNear p n) (sym e) (none-near p n)), none-calls p n kept, λ x d h. absurd (none-open p f h.path h.open_path))
 
 none-before-empty : (p : PlainProblem) (n : ℕ) → HasNoSimplePlanBefore p n []
 none-before-empty p n other l t v = none-before other
@@ -112,7 +126,7 @@ module _ (p : PlainProblem) (b : ℕ) (kept : List Pair) (x : Pair) (some : 1 �
   only : kept ≡ first_pair p ∷ []
   only = is ∙ ap (λ y. y ∷ []) (sym (unpruned-first p x first).1)
 
-  pub begins-plan : (n : ℕ) → IsPairAccepted p x → (path : List Action) → path ≡ [] → (reported : Reports Pair) → (IsFirstSimplePlan p n path × HasLastPair p kept path × (length kept ≤ b)) × AreFewCalls p n kept 0 × IsToldAlong p reported path
+  pub begins-plan : (n : ℕ) → IsPairAccepted p x → (path : List Action) → path ≡ [] → (reported : Reports Pair) → IsDepthFirstOutcome p n b kept (outcome.Plan path) × AreFewCalls p n kept 0 × IsToldAlong p reported path
   begins-plan n a path e reported =
       let u = unpruned-first p x first in (
         (
@@ -122,6 +136,7 @@ module _ (p : PlainProblem) (b : ℕ) (kept : List Pair) (x : Pair) (some : 1 �
           }),
           (0, x, ap length is, ap (λ k. slice_get k 0) is, ap (pair_of p) e ∙ (pair-first p ∙ ap Some u.1)),
           omega (arith, ap length is),
+          subst (AreNear p n) (sym is) (let l = first-leads p x first in one-near p n x (record { path = []; open_path = l.0; its_pair = l.1; short = omega arith })),
         ),
         none-calls p n kept,
         record { told = λ front rest c y h. absurd (nothing front c rest (h ∙ e)) },
@@ -162,7 +177,7 @@ as-begun p q b kept more w after o e f t = subst (λ z. Begun q b z w after o) f
 
 -- the first pair is accepted, by the problem and the pairs as later calls leave them
 pub first-plan : (p q : PlainProblem) (b n : ℕ) (kept more : List Pair) (x : Pair) → 1 ≤ b → unless_pruned (Some (first_pair p)) ≡ Some x → kept ≡ [] ++ x ∷ [] → q ≡ p → more ≡ kept → IsPairAccepted q x → (path : List Action) → path ≡ []
-    → (reported : Reports Pair) → (IsFirstSimplePlan p n path × HasLastPair p more path × (length more ≤ b)) × AreFewCalls p n more 0 × IsToldAlong p reported path
+    → (reported : Reports Pair) → IsDepthFirstOutcome p n b more (outcome.Plan path) × AreFewCalls p n more 0 × IsToldAlong p reported path
 first-plan p q b n kept more x l u k e f a path h reported = begins-plan p b more x l u (f ∙ k) n (subst (λ r. IsPairAccepted r x) e a) path h reported
 
 pub first-kept : (p q r : PlainProblem) (b : ℕ) (kept more : List Pair) (w : DepthFirst) (x : Pair) → 1 ≤ b → unless_pruned (Some (first_pair p)) ≡ Some x → kept ≡ [] ++ x ∷ [] → q ≡ p → r ≡ q → more ≡ kept → (IsPairAccepted q x → ⊥) → IsNew w → IsFirst r b more w

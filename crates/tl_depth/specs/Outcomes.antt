@@ -6,7 +6,7 @@ use Rattle.tl_terms.specs.Problem.{PlainProblem}
 use Rattle.tl_terms.specs.Pairs.{Pair, pair_of}
 use Rattle.tl_terms.specs.Paths.{IsDistance}
 use Rattle.tl_terms.specs.Step.{step}
-use Rattle.tl_search.specs.Spent.{IsSpent, IsSpentDepthFirst}
+use Rattle.tl_search.specs.Spent.{AreNear, IsSpent, IsSpentDepthFirst}
 use Rattle.tl_search.specs.Plans.{HasNoPlan, HasNoPlanWithin, HasPairAt, HasNoPairFrom, IsFirstSimplePlan}
 use Rattle.tl_search.specs.RangeCauses.{IsRangeCause, HasNoSimplePlanBefore}
 use Rattle.tl_eval.specs.Notes.{operation_of}
@@ -30,11 +30,11 @@ AreFewCalls p n kept calls = (s : ℕ) × IsActionSum p n kept s × (calls ≤ n
 abbrev pub HasLastPair : PlainProblem → List Pair → List Action → Type 0
 HasLastPair p kept plan = (k : ℕ) × (x : Pair) × (length kept ≡ k + 1) × (slice_get kept k ≡ Some x) × (pair_of p plan ≡ Some x)
 
--- what the search answers
+-- what the search answers: where it is not spent, at most b pairs are kept, which differ and each have a distance of at most n
 abbrev pub IsDepthFirstOutcome : PlainProblem → ℕ → ℕ → List Pair → Outcome → Type 0
-IsDepthFirstOutcome p n b kept (outcome.Plan plan) = IsFirstSimplePlan p n plan × HasLastPair p kept plan × (length kept ≤ b)
-IsDepthFirstOutcome p n b kept outcome.NoPlan = HasNoPlan p × HasNoPairFrom p n × (length kept ≤ b)
-IsDepthFirstOutcome p n b kept outcome.NoneWithin = HasNoPlanWithin p n × HasPairAt p n × (length kept ≤ b)
+IsDepthFirstOutcome p n b kept (outcome.Plan plan) = IsFirstSimplePlan p n plan × HasLastPair p kept plan × (length kept ≤ b) × AreNear p n kept
+IsDepthFirstOutcome p n b kept outcome.NoPlan = HasNoPlan p × HasNoPairFrom p n × (length kept ≤ b) × AreNear p n kept
+IsDepthFirstOutcome p n b kept outcome.NoneWithin = HasNoPlanWithin p n × HasPairAt p n × (length kept ≤ b) × AreNear p n kept
 IsDepthFirstOutcome p n b kept outcome.Spent = IsSpent p n b kept × IsSpentDepthFirst p n kept
 
 -- past range has its cause, and no accepted plan of at most n actions that repeats no pair comes before the path; want of memory has no cause

@@ -1,16 +1,17 @@
 -- What is held after all files of a command is of the kind that the command goes over.
-use Rattle.std.proofs.Common.{ℕ, List, refl, subst}
+use Rattle.std.proofs.Common.{ℕ, List, [], refl, subst}
 use Rattle.std.specs.Prelude.{Option}
 use Rattle.tl_outside.specs.Told.{Files}
 use Rattle.tl_sexpr.specs.Tree.{FormTrees}
 use Rattle.tl_run.specs.declared.turn.Input.{Input as Held}
 use Rattle.tl_run.specs.declared.turn.Input.TheVariants as held
 use Rattle.tl_run.specs.declared.words.Role.TheVariants as role
-use Rattle.tl_run.specs.Commands.{Command, check, search}
+use Rattle.tl_run.specs.Commands.{Command, check, search, trace, explain, sample}
 use Rattle.tl_run.specs.Held.{IsHeld}
 use Rattle.tl_run.specs.declared.search.Search.{Search}
 use Rattle.tl_run.specs.Inputs.{Input, a_domain, a_problem, a_plan, IsMeant}
 use Rattle.tl_run.specs.Replies.{Fits}
+use Rattle.tl_run.specs.Sample.{sample_search}
 use Rattle.tl_run.specs.Turns.{HoldInput}
 
 abbrev IsPlan : Input → Type 0
@@ -28,6 +29,9 @@ plan_fits d p q (held.Domain names domain) (a_plan problem plan) is h = absurd h
 plan_fits d p q (held.Problem other) (a_plan problem plan) is h = absurd h
 plan_fits d p q h x is k = absurd is
 
+explain_fits : (d p q : List ℕ) (h : Held) (x : Input) → IsPlan x → IsHeld h x → Fits (explain d p q) h
+explain_fits d p q h x is k = plan_fits d p q h x is k
+
 abbrev IsProblem : Input → Type 0
 IsProblem (a_problem p) = Unit {0}
 IsProblem x = ⊥
@@ -43,6 +47,13 @@ problem_fits s d p (held.Domain names domain) (a_problem problem) is h = absurd 
 problem_fits s d p (held.Plan other plan) (a_problem problem) is h = absurd h
 problem_fits s d p h x is k = absurd is
 
+search_fits : (files : Option Files) (s : Search) (d p : List ℕ) (h : Held) (x : Input) → HoldInput files (search s d p) x → IsHeld h x → Fits (search s d p) h
+search_fits files s d p h x stand is =
+    let second = stand.4 in
+    let stands = second.3 in
+    let e = second.4 in
+    problem_fits s d p h x (subst IsProblem e (problem_last stand.1 second.1 stands.forms stands.meant)) is
+
 -- one line for each command
 pub fits : (files : Option Files) (c : Command) (h : Held) (x : Input) → HoldInput files c x → IsHeld h x → Fits c h
 fits files (check d p q) h x stand is =
@@ -51,8 +62,14 @@ fits files (check d p q) h x stand is =
     let stands = third.3 in
     let e = third.4 in
     plan_fits d p q h x (subst IsPlan e (plan_last second.1 third.1 stands.forms stands.meant)) is
-fits files (search s d p) h x stand is =
+fits files (search s d p) h x stand is = search_fits files s d p h x stand is
+fits files (trace s d p) h x stand is = search_fits files s d p h x stand is
+fits files (explain d p q) h x stand is =
     let second = stand.4 in
-    let stands = second.3 in
-    let e = second.4 in
-    problem_fits s d p h x (subst IsProblem e (problem_last stand.1 second.1 stands.forms stands.meant)) is
+    let third = second.4 in
+    let stands = third.3 in
+    let e = third.4 in
+    explain_fits d p q h x (subst IsPlan e (plan_last second.1 third.1 stands.forms stands.meant)) is
+fits files (sample balls) h x stand is =
+    let stands = stand.2 in
+    problem_fits (sample_search balls) [] [] h x (problem_last stand.0 x stands.forms stands.meant) is

@@ -4,9 +4,12 @@ use Rattle.std.specs.Prelude.{Option, Some}
 use Rattle.tl_domain.specs.LawsFiles.{FilesStandForOneProblem}
 use Rattle.tl_outside.specs.Told.{Files, IsContent}
 use Rattle.tl_run.specs.declared.stop.Broken.{Broken}
+use Rattle.tl_gen.specs.Samples.{domain_text, problem_text}
 use Rattle.tl_run.specs.declared.words.Role.{Role}
-use Rattle.tl_run.specs.Commands.{Command, files_of}
+use Rattle.tl_run.specs.declared.words.Role.TheVariants as role
+use Rattle.tl_run.specs.Commands.{Command, sample, files_of}
 use Rattle.tl_run.specs.Inputs.{Input, nothing, StandsFor, IsBroken}
+use Rattle.tl_run.specs.SampleTexts.{SampleStandsFor, BreaksSample}
 use Rattle.tl_run.specs.Turns.{StandTogether, Reaches, HoldInput, IsRefused}
 use Rattle.tl_run.proofs.Exclusive.{broken_one, passes_or_breaks}
 use Rattle.tl_run.proofs.SameInputs.{SameInput, same_back, stands_one}
@@ -49,14 +52,38 @@ module _ (law : FilesStandForOneProblem) (files : Files) where
   one_place (f ∷ fs) k a b i j m n same (inr s) (inl t) = absurd (passed_here f.0 f.1 b a s.1 k j n s.0 (same_back a b same) t s.2 s.3)
   one_place (f ∷ fs) k a b i j m n same (inr s) (inr t) = one_place fs (k + 1) s.1 t.1 i j m n (next_same f.0 f.1 a b s.1 t.1 s.0 t.0 same s.2 s.3 t.2 t.3) s.4 t.4
 
+-- the same of the two texts of a sample
+
+module _ (law : FilesStandForOneProblem) (balls : ℕ) where
+  sample_one : (x y : Input) → SampleStandsFor balls x → SampleStandsFor balls y → SameInput x y
+  sample_one x y h k = stands_one law role.Problem h.0 k.0 x y (problem_text balls) (stands_one law role.Domain nothing nothing h.0 k.0 domain_text tt h.1 k.1) h.2 k.2
+
+  no_broken_text : (x : Input) (number : ℕ) (b : Broken) → SampleStandsFor balls x → BreaksSample balls number b → ⊥
+  no_broken_text x number b h (inl t) = passes_or_breaks role.Domain nothing nothing h.0 domain_text b tt h.1 t.1
+  no_broken_text x number b h (inr t) =
+      let second = t.1 in
+      passes_or_breaks role.Problem h.0 second.0 x (problem_text balls) b (stands_one law role.Domain nothing nothing h.0 second.0 domain_text tt h.1 second.1) h.2 second.2
+
+  one_broken_text : (i j : ℕ) (a b : Broken) → BreaksSample balls i a → BreaksSample balls j b → (i ≡ j) × (a ≡ b)
+  one_broken_text i j a b (inl s) (inl t) = (s.0 ∙ sym t.0, broken_one role.Domain nothing nothing domain_text a b tt s.1 t.1)
+  one_broken_text i j a b (inl s) (inr t) = let second = t.1 in absurd (passes_or_breaks role.Domain nothing nothing second.0 domain_text a tt second.1 s.1)
+  one_broken_text i j a b (inr s) (inl t) = let second = s.1 in absurd (passes_or_breaks role.Domain nothing nothing second.0 domain_text b tt second.1 t.1)
+  one_broken_text i j a b (inr s) (inr t) =
+      let first = s.1 in
+      let second = t.1 in
+      (s.0 ∙ sym t.0, broken_one role.Problem first.0 second.0 (problem_text balls) a b (stands_one law role.Domain nothing nothing first.0 second.0 domain_text tt first.1 second.1) first.2 second.2)
+
 -- told files stand for one thing
 pub one_input : FilesStandForOneProblem → (files : Files) (c : Command) (x y : Input) → HoldInput (Some files) c x → HoldInput (Some files) c y → SameInput x y
+one_input law files (sample balls) x y h k = sample_one law balls x y h k
 one_input law files c x y h k = stand_same law files (files_of c) nothing nothing x y tt h k
 
 -- told files that stand for something are not refused
 pub no_refusal : FilesStandForOneProblem → (files : Files) (c : Command) (x : Input) (number : ℕ) (m : Broken) → HoldInput (Some files) c x → IsRefused (Some files) c number m → ⊥
+no_refusal law files (sample balls) x number m h t = no_broken_text law balls x number m h t
 no_refusal law files c x number m h t = no_pass law files (files_of c) 1 nothing nothing x number m tt h t
 
 -- one of them at most is refused, by one rule
 pub one_refusal : FilesStandForOneProblem → (files : Files) (c : Command) (i j : ℕ) (m n : Broken) → IsRefused (Some files) c i m → IsRefused (Some files) c j n → (i ≡ j) × (m ≡ n)
+one_refusal law files (sample balls) i j m n s t = one_broken_text law balls i j m n s t
 one_refusal law files c i j m n s t = one_place law files (files_of c) 1 nothing nothing i j m n tt s t

@@ -28,10 +28,10 @@ use Rattle.tl_run.proofs.OneOutcome.{plan_within}
 use Rattle.tl_run.proofs.Replied.{counts_seen}
 
 -- the operator of the action is there and takes its arguments
-abbrev IsOfOperator : PlainProblem → Action → Type 0
+abbrev pub IsOfOperator : PlainProblem → Action → Type 0
 IsOfOperator p a = Takes (map (λ (o : PlainOperator). length o.params) p.operators) a.op (length a.args)
 
-step_takes : StepByItsConditions → (p : PlainProblem) (w v : World) (a : Action) → step p w a ≡ Some v → IsOfOperator p a
+pub step_takes : StepByItsConditions → (p : PlainProblem) (w v : World) (a : Action) → step p w a ≡ Some v → IsOfOperator p a
 step_takes law p w v a e =
     let s : IsStep p w a v = (law p w a v).0 e in
     slice_get-map (λ (o : PlainOperator). length o.params) p.operators a.op ∙ ap (option_map (λ (o : PlainOperator). length o.params)) s.exists ∙ ap (λ (n : ℕ). Some n) (sym s.arity)
@@ -52,7 +52,7 @@ states_take law p w (a ∷ plan) ws e = by_step (step p w a) refl (λ v vs t. st
     by_step None s others = absurd (no_states w ws (sym (ap (λ (x : Option World). then_states w (states_from p x plan)) s) ∙ e))
     by_step (Some v) s others = (step_takes law p w v a s, by_rest v (states_from p (Some v) plan) s refl others)
 
-named_both : (p : Problem) (plan : List Action) → Each (IsOfOperator (plain_problem p)) plan → Each (λ a. Each (ValueIsNamed (length p.names)) a.args) plan → Each (ActionIsNamed p.names p.domain.operators) plan
+pub named_both : (p : Problem) (plan : List Action) → Each (IsOfOperator (plain_problem p)) plan → Each (λ a. Each (ValueIsNamed (length p.names)) a.args) plan → Each (ActionIsNamed p.names p.domain.operators) plan
 named_both p [] takes named = tt
 named_both p (a ∷ plan) takes named = (
   record { takes = subst (λ (counts : List ℕ). Takes counts a.op (length a.args)) (counts_seen p) takes.0; named = named.0 },

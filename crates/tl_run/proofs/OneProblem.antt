@@ -1,5 +1,6 @@
--- Files stand for at most one problem, as far as meaning, names and operators' heads go.
+-- Files stand for at most one problem, as far as meaning, names and the words of the domain go.
 use Rattle.std.proofs.Common.{◌≡◌, List, [], map, length, sym, ap, ◌∙◌}
+use Rattle.tl_syntax.specs.declared.definition.Definition.{Definition}
 use Rattle.tl_syntax.specs.declared.fact.Fact.{Fact}
 use Rattle.tl_syntax.specs.declared.place_value.PlaceValue.{PlaceValue}
 use Rattle.tl_syntax.specs.declared.problem.Problem.{Problem}
@@ -7,6 +8,7 @@ use Rattle.tl_domain.specs.DomainTrees.{DefinitionTree, DomainTree, OperatorTree
 use Rattle.tl_domain.specs.LawsFiles.{SameParts}
 use Rattle.tl_terms.specs.Problem.{PlainDefinition, PlainOperator, PlainProblem}
 use Rattle.tl_terms.specs.ProblemMeaning.{plain_problem, world_of}
+use Rattle.tl_run.proofs.SameLabels.{SameWords}
 use Rattle.tl_run.proofs.SeenTwice.{map_seen}
 use Rattle.tl_run.proofs.SameOperators.{Head, head_of}
 
@@ -48,11 +50,23 @@ head_in o = (o.name, length o.params)
 heads_seen : (p : Problem) → map head_of p.domain.operators ≡ map head_in (domain_tree p.domain).operators
 heads_seen p = sym (map_seen head_in operator_tree p.domain.operators)
 
--- the two problems mean the same, and plan files are read alike for them
+-- the two problems mean the same, and plan files are read and formulas are written alike for them
 pub record SameProblem (p q : Problem) : Type 0 where
   pub meaning : plain_problem p ≡ plain_problem q
   pub names : p.names ≡ q.names
   pub heads : map head_of p.domain.operators ≡ map head_of q.domain.operators
+  pub words : SameWords p.domain q.domain
+
+definitions_seen : (p : Problem) → map (λ (d : Definition). d.name) p.domain.definitions ≡ map (λ (d : DefinitionTree). d.name) (domain_tree p.domain).definitions
+definitions_seen p = sym (map_seen (λ (d : DefinitionTree). d.name) definition_tree p.domain.definitions)
+
+same_words : (p q : Problem) → SameParts p q → SameWords p.domain q.domain
+same_words p q s = record {
+  predicates = ap (λ (t : DomainTree). t.predicates) s.domain;
+  functions = ap (λ (t : DomainTree). t.functions) s.domain;
+  definitions = definitions_seen p ∙ ap (λ (t : DomainTree). map (λ (d : DefinitionTree). d.name) t.definitions) s.domain ∙ sym (definitions_seen q);
+  operators = heads_seen p ∙ ap (λ (t : DomainTree). map head_in t.operators) s.domain ∙ sym (heads_seen q);
+}
 
 -- problems of the same parts are the same
 pub same_problem : (p q : Problem) → SameParts p q → SameProblem p q
@@ -60,4 +74,5 @@ same_problem p q s = record {
   meaning = problem_seen p ∙ (λ i. seen_as (s.said i).init.facts (s.said i).init.values (s.said i).goal.facts (s.said i).goal.values (s.said i).goal.nots (s.domain i)) ∙ sym (problem_seen q);
   names = s.names;
   heads = heads_seen p ∙ ap (λ (t : DomainTree). map head_in t.operators) s.domain ∙ sym (heads_seen q);
+  words = same_words p q s;
 }

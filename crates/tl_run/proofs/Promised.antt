@@ -9,19 +9,22 @@ use Rattle.tl_search.specs.declared.outcome.Outcome.TheVariants as outcome
 use Rattle.tl_run.specs.declared.status.Status.{Status}
 use Rattle.tl_run.specs.declared.status.Status.TheVariants.{Refused}
 use Rattle.tl_run.specs.declared.stop.Broken.{Broken}
-use Rattle.tl_run.specs.Answers.{Answer, refusal, past_range, judged, searched, IsRight, status_of, text_of, outcome_status, verdict_status}
-use Rattle.tl_run.specs.Commands.{Command, check, search}
+use Rattle.tl_run.specs.Answers.{Answer, refusal, past_range, judged, searched, traced, IsRight, status_of, text_of, outcome_status, verdict_status, explained, sampled}
+use Rattle.tl_run.specs.Commands.{Command, check, search, trace, explain, sample}
 use Rattle.tl_run.specs.Inputs.{Input, a_problem, a_plan}
 use Rattle.tl_run.specs.Laws.{Laws}
-use Rattle.tl_run.specs.Promises.{Allows, Headline, IsAnswer, IsCalm, IsCalmStatus}
+use Rattle.tl_run.specs.Promises.{Allows, Headline, IsAnswer, IsCalm, IsCalmStatus, IsTextOf}
 use Rattle.tl_run.specs.Refusals.{refusal_text}
 use Rattle.tl_run.specs.Replies.{HasLines}
 use Rattle.tl_run.specs.Turns.{Begun, HoldInput, IsRefused}
 use Rattle.tl_run.proofs.Agreement.{Agrees}
 use Rattle.tl_run.proofs.CheckLaws.{check_agrees, check_calm, check_says}
+use Rattle.tl_run.proofs.ExplainLaws.{explain_agrees, explain_calm, explain_says}
 use Rattle.tl_run.proofs.InTurn.{no_refusal, one_input, one_refusal}
 use Rattle.tl_run.proofs.SameInputs.{SameInput}
+use Rattle.tl_run.proofs.SampleLaws.{sample_agrees, sample_calm, sample_says}
 use Rattle.tl_run.proofs.SearchLaws.{search_agrees, search_calm, search_says}
+use Rattle.tl_run.proofs.TraceLaws.{trace_agrees, trace_calm, trace_says}
 
 verdict_has_lines : (v : Verdict) → HasLines (verdict_status v)
 verdict_has_lines Valid = tt
@@ -40,6 +43,9 @@ answer_has_lines (refusal number m) = tt
 answer_has_lines (past_range after note path) = tt
 answer_has_lines (judged v) = verdict_has_lines v
 answer_has_lines (searched s o) = outcome_has_lines o
+answer_has_lines (traced s kept events o) = outcome_has_lines o
+answer_has_lines explained = tt
+answer_has_lines (sampled n kept o v) = tt
 
 -- the status of an answer comes with lines
 pub has_lines : (files : Option Files) (c : Command) (begun : Begun) (status : Status) (text : List ℕ) → IsAnswer files c begun status text → HasLines status
@@ -49,26 +55,38 @@ has_lines files c begun status text h = subst HasLines (sym h.status_is) (answer
 refused_says : (files : Option Files) (c : Command) (text : List ℕ) → Headline files c Refused text
 refused_says files (check d p q) text = tt
 refused_says files (search s d p) text = tt
+refused_says files (trace s d p) text = tt
+refused_says files (explain d p q) text = tt
+refused_says files (sample m) text = tt
 
 -- what it says of a right answer: one line for each command
-right_says : (files : Option Files) (c : Command) (x : Input) (a : Answer) (text : List ℕ) → HoldInput files c x → IsRight c x a → text ≡ text_of x a → Headline files c (status_of a) text
-right_says files (check d p q) x a text stand right line = check_says files d p q x a text stand right line
-right_says files (search s d p) x a text stand right line = search_says files s d p x a text stand right line
+right_says : Laws → (files : Option Files) (c : Command) (x : Input) (a : Answer) (text : List ℕ) → HoldInput files c x → IsRight c x a → text ≡ text_of x a → Headline files c (status_of a) text
+right_says laws files (check d p q) x a text stand right line = check_says files d p q x a text stand right line
+right_says laws files (search s d p) x a text stand right line = search_says files s d p x a text stand right line
+right_says laws files (trace s d p) x a text stand right line = trace_says files s d p x a text stand right line
+right_says laws files (explain d p q) x a text stand right line = explain_says files d p q x a text stand right line
+right_says laws files (sample m) x a text stand right line = sample_says laws files m x a text stand right line
 
-allowed_says : (files : Option Files) (c : Command) (x : Input) (a : Answer) (text : List ℕ) → Allows files c x a → text ≡ text_of x a → Headline files c (status_of a) text
-allowed_says files c x (refusal number m) text allowed line = refused_says files c text
-allowed_says files c x (past_range after note path) text allowed line = right_says files c x (past_range after note path) text allowed.0 allowed.1 line
-allowed_says files c x (judged v) text allowed line = right_says files c x (judged v) text allowed.0 allowed.1 line
-allowed_says files c x (searched s o) text allowed line = right_says files c x (searched s o) text allowed.0 allowed.1 line
+allowed_says : Laws → (files : Option Files) (c : Command) (x : Input) (a : Answer) (text : List ℕ) → Allows files c x a → text ≡ text_of x a → Headline files c (status_of a) text
+allowed_says laws files c x (refusal number m) text allowed line = refused_says files c text
+allowed_says laws files c x (past_range after note path) text allowed line = right_says laws files c x (past_range after note path) text allowed.0 allowed.1 line
+allowed_says laws files c x (judged v) text allowed line = right_says laws files c x (judged v) text allowed.0 allowed.1 line
+allowed_says laws files c x (searched s o) text allowed line = right_says laws files c x (searched s o) text allowed.0 allowed.1 line
+allowed_says laws files c x (traced s kept events o) text allowed line = right_says laws files c x (traced s kept events o) text allowed.0 allowed.1 line
+allowed_says laws files c x explained text allowed line = right_says laws files c x explained text allowed.0 allowed.1 line
+allowed_says laws files c x (sampled n kept o v) text allowed line = right_says laws files c x (sampled n kept o v) text allowed.0 allowed.1 line
 
 -- an answer that the files allow says what the headline says
-pub headline_of : (files : Option Files) (c : Command) (begun : Begun) (status : Status) (text : List ℕ) → IsAnswer files c begun status text → Headline files c status text
-headline_of files c begun status text h = subst (λ (s : Status). Headline files c s text) (sym h.status_is) (allowed_says files c h.input h.answer text h.allowed h.text_is)
+pub headline_of : Laws → (files : Option Files) (c : Command) (begun : Begun) (status : Status) (text : List ℕ) → IsAnswer files c begun status text → Headline files c status text
+headline_of laws files c begun status text h = subst (λ (s : Status). Headline files c s text) (sym h.status_is) (allowed_says laws files c h.input h.answer text h.allowed h.text_is)
 
 -- two right answers over the same input: one line for each command
 right_agrees : Laws → (c : Command) (x y : Input) (a b : Answer) → SameInput x y → IsRight c x a → IsRight c y b → Agrees x a (status_of b) (text_of y b)
 right_agrees laws (check d p q) x y a b same h k = check_agrees laws.verdicts d p q x y a b same h k
 right_agrees laws (search s d p) x y a b same h k = search_agrees laws s d p x y a b same h k
+right_agrees laws (trace s d p) x y a b same h k = trace_agrees laws s d p x y a b same h k
+right_agrees laws (explain d p q) x y a b same h k = explain_agrees d p q x y a b same h k
+right_agrees laws (sample m) x y a b same h k = sample_agrees laws m x y a b same h k
 
 -- over told files, an answer that is right of what they stand for is no refusal
 abbrev Stands : Files → Command → Input → Answer → Type 0
@@ -86,11 +104,14 @@ splits files c x (refusal number m) h = inl (number, m, refl, h)
 splits files c x (past_range after note path) h = inr h
 splits files c x (judged v) h = inr h
 splits files c x (searched s o) h = inr h
+splits files c x (traced s kept events o) h = inr h
+splits files c x explained h = inr h
+splits files c x (sampled n kept o v) h = inr h
 
 split_agree : Laws → (files : Files) (c : Command) (x y : Input) (a b : Answer) → Splits files c x a → Splits files c y b → Agrees x a (status_of b) (text_of y b)
 split_agree laws files c x y a b (inl h) (inl k) =
     let one = one_refusal laws.problems files c h.0 k.0 h.1 k.1 h.3 k.3 in
-    inl (ap status_of k.2 ∙ sym (ap status_of h.2), ap (text_of y) k.2 ∙ (λ t. refusal_text (sym one.0 t) (sym one.1 t)) ∙ sym (ap (text_of x) h.2))
+    inl (ap status_of k.2 ∙ sym (ap status_of h.2), subst (λ (u : Answer). IsTextOf x u (text_of y b)) (sym h.2) (ap (text_of y) k.2 ∙ (λ t. refusal_text (sym one.0 t) (sym one.1 t))))
 split_agree laws files c x y a b (inl h) (inr k) = absurd (no_refusal laws.problems files c y h.0 h.1 k.0 h.3)
 split_agree laws files c x y a b (inr h) (inl k) = absurd (no_refusal laws.problems files c x k.0 k.1 h.0 k.3)
 split_agree laws files c x y a b (inr h) (inr k) = stand_agree laws files c x y a b h k
@@ -109,6 +130,9 @@ answer_agrees laws files c begun x a status text allowed h =
 calm_passes : (files : Files) (c : Command) → IsCalm (Some files) c → (x : Input) × HoldInput (Some files) c x
 calm_passes files (check d p q) calm = (a_plan calm.problem calm.plan, calm.stand)
 calm_passes files (search s d p) calm = (a_problem calm.problem, calm.stand)
+calm_passes files (trace s d p) calm = (a_problem calm.problem, calm.stand)
+calm_passes files (explain d p q) calm = (a_plan calm.problem calm.plan, calm.stand)
+calm_passes files (sample m) calm = (a_problem calm.problem, calm.stand)
 
 -- right answers where nothing past range is looked at: one line for each command
 right_calm : Laws → (files : Files) (c : Command) (x : Input) (a : Answer) → IsCalm (Some files) c → Stands files c x a → IsCalmStatus (status_of a)
@@ -116,6 +140,12 @@ right_calm laws files (check d p q) x a calm h =
     check_calm d p q calm.problem calm.plan x a (one_input laws.problems files (check d p q) (a_plan calm.problem calm.plan) x calm.stand h.0) calm.calm h.1
 right_calm laws files (search s d p) x a calm h =
     search_calm laws s d p calm.problem x a (one_input laws.problems files (search s d p) (a_problem calm.problem) x calm.stand h.0) calm.calm calm.few h.1
+right_calm laws files (trace s d p) x a calm h =
+    trace_calm laws s d p calm.problem x a (one_input laws.problems files (trace s d p) (a_problem calm.problem) x calm.stand h.0) calm.calm calm.few h.1
+right_calm laws files (explain d p q) x a calm h =
+    explain_calm d p q calm.problem calm.plan x a (one_input laws.problems files (explain d p q) (a_plan calm.problem calm.plan) x calm.stand h.0) calm.calm h.1
+right_calm laws files (sample m) x a calm h =
+    sample_calm laws m calm.problem x a (one_input laws.problems files (sample m) (a_problem calm.problem) x calm.stand h.0) calm.calm calm.checked h.1
 
 split_calm : Laws → (files : Files) (c : Command) (x : Input) (a : Answer) → IsCalm (Some files) c → Splits files c x a → IsCalmStatus (status_of a)
 split_calm laws files c x a calm (inl h) =

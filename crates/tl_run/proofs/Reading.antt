@@ -11,11 +11,11 @@ use Rattle.tl_run.specs.declared.turn.Input.{Input as Held}
 use Rattle.tl_run.specs.declared.turn.Input.TheVariants as held
 use Rattle.tl_run.specs.declared.words.File.{File as HeldFile}
 use Rattle.tl_run.specs.declared.words.Role.{Role}
-use Rattle.tl_run.specs.Commands.{Command, check, search, files_of}
+use Rattle.tl_run.specs.Commands.{Command, check, search, trace, files_of, explain, sample}
 use Rattle.tl_run.specs.Held.{AreInOrder, HoldsFile, IsHeld, KeepsBounds, last_role, role_before}
 use Rattle.tl_run.specs.Inputs.{Input, nothing, StandsFor, IsBroken}
-use Rattle.tl_run.specs.Stops.{IsStop, IsTurnStop}
-use Rattle.tl_run.specs.Turns.{StandTogether, Reaches, ReachesFile, HoldInput, IsRefused, Begun, BegunInTurn, EndsAt, told_of}
+use Rattle.tl_run.specs.Stops.{IsSampleStop, IsStop, IsTurnStop, ReadsFiles}
+use Rattle.tl_run.specs.Turns.{StandTogether, Reaches, ReachesFile, HoldInput, IsRefused, Begun, BegunInTurn, EndsAt, LeavesOffAt, told_of}
 use Rattle.tl_run.specs.Words.{file_meant}
 
 -- a file of a command
@@ -88,26 +88,33 @@ told_next files c i f x next =
     let e : i + 1 - 1 ≡ i = omega arith in
     ap (λ (n : ℕ). told_of files (slice_get (files_of c) n)) e ∙ ap (told_of files) next.at
 
-refused_next : (files : Option Files) (c : Command) (i : ℕ) (f : File) (x : Input) (begun : Begun) (bytes : List ℕ) (number : ℕ) (m : Broken) → IsNext files c i f x → begun.whole ≡ told_file files f.1 → begun.count ≤ i + 1 → IsContent files f.1 bytes → IsBroken f.0 x bytes m → number ≡ i + 1 → IsRefused files c number m × EndsAt files c begun number
-refused_next files c i f x begun bytes number m next whole few content broken e =
-    subst (λ (n : ℕ). IsRefused files c n m × EndsAt files c begun n) (sym e) (
-      reaches_next (λ k r name before. (k ≡ i + 1) × ((bs : List ℕ) × IsContent files name bs × IsBroken r before bs m)) files c i f x next (refl, (bytes, content, broken)),
-      record { whole = whole ∙ sym (told_next files c i f x next); few = few },
-    )
+-- a command that reads files is refused where one of them is
+files_refused : (files : Option Files) (c : Command) (begun : Begun) (number : ℕ) (m : Broken) → ReadsFiles c → ReachesFile (λ k r name before. (k ≡ number) × ((bs : List ℕ) × IsContent files name bs × IsBroken r before bs m)) files c → EndsAt files c begun number → IsRefused files c number m × LeavesOffAt files c begun number
+files_refused files (sample balls) begun number m reads h e = absurd reads
+files_refused files c begun number m reads h e = (h, e)
+
+refused_next : (files : Option Files) (c : Command) (i : ℕ) (f : File) (x : Input) (begun : Begun) (bytes : List ℕ) (number : ℕ) (m : Broken) → ReadsFiles c → IsNext files c i f x → begun.whole ≡ told_file files f.1 → begun.count ≤ i + 1 → IsContent files f.1 bytes → IsBroken f.0 x bytes m → number ≡ i + 1 → IsRefused files c number m × LeavesOffAt files c begun number
+refused_next files c i f x begun bytes number m reads next whole few content broken e =
+    let reached = reaches_next (λ k r name before. (k ≡ i + 1) × ((bs : List ℕ) × IsContent files name bs × IsBroken r before bs m)) files c i f x next (refl, (bytes, content, broken)) in
+    let ends : EndsAt files c begun (i + 1) = record { whole = whole ∙ sym (told_next files c i f x next); few = few } in
+    subst (λ (n : ℕ). IsRefused files c n m × LeavesOffAt files c begun n) (sym e) (files_refused files c begun (i + 1) m reads reached ends)
 
 -- why the next file adds nothing
-pub next_stops : (files : Option Files) (c : Command) (i : ℕ) (f : File) (x : Input) (begun : Begun) (start mid now : ℕ) (stop : Stop) → IsNext files c i f x → start ≤ mid → begun.count ≤ i + 1 → IsTurnStop files f.0 f.1 x (i + 1) begun.whole mid now stop → IsStop files c begun start now stop
-next_stops files c i f x begun start mid now ReadFault next later few (inl lacks) = inl (reaches_next (λ k r name before. Lacks files name) files c i f x next lacks)
-next_stops files c i f x begun start mid now ReadFault next later few (inr rose) = inr (omega (arith, later, rose))
-next_stops files c i f x begun start mid now NoMemory next later few h = tt
-next_stops files c i f x begun start mid now (Refused number m) next later few h =
+pub next_stops : (files : Option Files) (c : Command) (i : ℕ) (f : File) (x : Input) (begun : Begun) (start mid now : ℕ) (stop : Stop) → ReadsFiles c → IsNext files c i f x → start ≤ mid → begun.count ≤ i + 1 → IsTurnStop files f.0 f.1 x (i + 1) begun.whole mid now stop → IsStop files c begun start now stop
+next_stops files c i f x begun start mid now ReadFault reads next later few (inl lacks) = inl (reaches_next (λ k r name before. Lacks files name) files c i f x next lacks)
+next_stops files c i f x begun start mid now ReadFault reads next later few (inr rose) = inr (omega (arith, later, rose))
+next_stops files c i f x begun start mid now NoMemory reads next later few h = tt
+next_stops files c i f x begun start mid now (Refused number m) reads next later few h =
     let broken = h.2 in
-    refused_next files c i f x begun broken.0 number m next h.1 few broken.1 broken.2 h.0
+    refused_next files c i f x begun broken.0 number m reads next h.1 few broken.1 broken.2 h.0
 
 -- the files of each command come in the order of their roles
 pub in_order : (c : Command) → AreInOrder None (files_of c)
 in_order (check d p q) = (refl, (refl, (refl, tt)))
 in_order (search s d p) = (refl, (refl, tt))
+in_order (trace s d p) = (refl, (refl, tt))
+in_order (explain d p q) = (refl, (refl, (refl, tt)))
+in_order (sample balls) = tt
 
 -- what is known after i files of a command have passed
 pub record HasRead (files : Option Files) (c : Command) (i : ℕ) (h : Held) : Type 0 where
@@ -153,6 +160,17 @@ taken_all [] (suc i) h = refl
 taken_all (f ∷ fs) zero h = absurd (omega (arith, h))
 taken_all (f ∷ fs) (suc i) h = let le : length fs ≤ i = omega (arith, h) in ap (λ (xs : List File). f ∷ xs) (taken_all fs i le)
 
+-- a command that reads files is over what they stand for
+files_hold : (files : Option Files) (c : Command) (x : Input) → ReadsFiles c → StandTogether files (files_of c) nothing x → HoldInput files c x
+files_hold files (sample balls) x reads h = absurd reads
+files_hold files c x reads h = h
+
 -- all files have passed
-pub has_read_all : (files : Option Files) (c : Command) (i : ℕ) (h : Held) → length (files_of c) ≤ i → HasRead files c i h → (x : Input) × HoldInput files c x × IsHeld h x
-has_read_all files c i h all read = (read.input, subst (λ (xs : List File). StandTogether files xs nothing read.input) (taken_all (files_of c) i all) read.stand, read.is_held)
+pub has_read_all : (files : Option Files) (c : Command) (i : ℕ) (h : Held) → ReadsFiles c → length (files_of c) ≤ i → HasRead files c i h → (x : Input) × HoldInput files c x × IsHeld h x
+has_read_all files c i h reads all read = (read.input, files_hold files c read.input reads (subst (λ (xs : List File). StandTogether files xs nothing read.input) (taken_all (files_of c) i all) read.stand), read.is_held)
+
+-- why a text of a sample adds nothing, where no file was begun
+pub sample_stops : (files : Option Files) (balls : ℕ) (begun : Begun) (before now : ℕ) (stop : Stop) → begun.count ≡ 0 → IsSampleStop balls stop → IsStop files (sample balls) begun before now stop
+sample_stops files balls begun before now ReadFault none h = absurd h
+sample_stops files balls begun before now NoMemory none h = tt
+sample_stops files balls begun before now (Refused number m) none h = (h, none)

@@ -1,5 +1,5 @@
 -- Replies to commands.
-use Rattle.std.proofs.Common.{◌≡◌, ℕ, List, [], ◌∷◌, map, length, refl, sym, subst}
+use Rattle.std.proofs.Common.{◌≡◌, inl, inr, ℕ, List, [], ◌∷◌, map, length, refl, sym, subst}
 use Rattle.std.specs.Prelude.{Option, Result, Ok, Err, IfOk}
 use Rattle.tl_action.specs.Actions.{HasOperator}
 use Rattle.tl_check.specs.Verdicts.{IsVerdict, IsCause}
@@ -8,27 +8,32 @@ use Rattle.tl_check.specs.declared.verdict.Verdict.{Verdict}
 use Rattle.tl_eval.specs.declared.range.RangeNote.{RangeNote}
 use Rattle.tl_line.specs.NamedActions.{ActionIsNamed}
 use Rattle.tl_outside.specs.Told.{Files}
+use Rattle.tl_search.specs.declared.outcome.Outcome.{Outcome}
+use Rattle.tl_search.specs.declared.outcome.Outcome.TheVariants as outcome
 use Rattle.tl_syntax.specs.declared.action.Action.{Action}
 use Rattle.tl_syntax.specs.declared.problem.Problem.{Problem}
 use Rattle.tl_syntax.specs.Lists.{Each}
 use Rattle.tl_syntax.specs.Signature.{Takes}
 use Rattle.tl_terms.specs.Problem.{PlainOperator}
 use Rattle.tl_terms.specs.ProblemMeaning.{plain_operator, plain_problem}
+use Rattle.tl_explain.specs.Causes.{IsPastInExplanation}
+use Rattle.tl_explain.specs.Explain.{explain_text}
 use Rattle.tl_text.specs.Ranges.{range_text}
 use Rattle.tl_text.specs.Verdicts.{verdict_text}
 use Rattle.tl_run.specs.declared.reply.Reply.{Reply}
 use Rattle.tl_run.specs.declared.status.Status.{Status}
-use Rattle.tl_run.specs.declared.status.Status.TheVariants.{Refused, Range}
+use Rattle.tl_run.specs.declared.status.Status.TheVariants.{Yes, Refused, Range}
 use Rattle.tl_run.specs.declared.stop.Broken.{Broken}
 use Rattle.tl_run.specs.declared.search.Search.{Search}
-use Rattle.tl_run.specs.Answers.{Answer, refusal, past_range, judged, searched, IsRight, verdict_status}
-use Rattle.tl_run.specs.Commands.{Command, check, search}
+use Rattle.tl_run.specs.Answers.{Answer, refusal, past_range, judged, searched, traced, IsRight, verdict_status, explained, sampled}
+use Rattle.tl_run.specs.Commands.{Command, check, search, trace, explain, sample}
 use Rattle.tl_run.specs.Inputs.{Input, nothing, a_problem, a_plan}
-use Rattle.tl_run.specs.Plan.{EndsPastRange}
+use Rattle.tl_run.specs.Plan.{IsOutcome, EndsPastRange}
 use Rattle.tl_run.specs.Promises.{Allows, IsAnswer, LeavesOff}
 use Rattle.tl_run.specs.Refusals.{refusal_text}
 use Rattle.tl_run.specs.Replies.{Replies}
-use Rattle.tl_run.specs.Turns.{Begun, EndsAt, HoldInput, IsRefused}
+use Rattle.tl_run.specs.Sample.{IsSummary, sample_search, sample_text}
+use Rattle.tl_run.specs.Turns.{Begun, HoldInput, IsRefused, LeavesOffAt}
 use Rattle.tl_run.proofs.SeenTwice.{map_seen}
 
 pub counts_seen : (p : Problem) → map (λ (o : PlainOperator). length o.params) (plain_problem p).operators ≡ map (λ o. length o.params) p.domain.operators
@@ -55,24 +60,71 @@ range_replied d p q problem plan after note text cause t = record { answer = pas
 pub search_range_replied : (s : Search) (d p : List ℕ) (problem : Problem) (note : RangeNote) (path : List Action) (text : List ℕ) → EndsPastRange s (plain_problem problem) path note → text ≡ range_text problem.names problem.domain.operators note (length path) path → Replies (search s d p) (a_problem problem) (record { status = Range; text = text })
 search_range_replied s d p problem note path text cause t = record { answer = past_range (length path) note path; right = (cause, refl); status_is = refl; text_is = t }
 
+-- and so does a trace
+pub trace_range_replied : (s : Search) (d p : List ℕ) (problem : Problem) (note : RangeNote) (path : List Action) (text : List ℕ) → EndsPastRange s (plain_problem problem) path note → text ≡ range_text problem.names problem.domain.operators note (length path) path → Replies (trace s d p) (a_problem problem) (record { status = Range; text = text })
+trace_range_replied s d p problem note path text cause t = record { answer = past_range (length path) note path; right = (cause, refl); status_is = refl; text_is = t }
+
+-- the reply with the lines that explain a plan
+pub explained_replied : (d p q : List ℕ) (problem : Problem) (plan : List Action) (text : List ℕ) → text ≡ explain_text problem plan → Replies (explain d p q) (a_plan problem plan) (record { status = Yes; text = text })
+explained_replied d p q problem plan text t = record { answer = explained; right = tt; status_is = refl; text_is = t }
+
+-- the reply with an operation past range that is looked at along a plan
+pub explain_range_replied : (d p q : List ℕ) (problem : Problem) (plan : List Action) (after : ℕ) (note : RangeNote) (text : List ℕ) → IsPastInExplanation (plain_problem problem) plan after note → text ≡ range_text problem.names problem.domain.operators note after [] → Replies (explain d p q) (a_plan problem plan) (record { status = Range; text = text })
+explain_range_replied d p q problem plan after note text cause t = record { answer = past_range after note []; right = (cause, refl); status_is = refl; text_is = t }
+
+-- the reply with the lines of a sample
+pub summary_replied : {E : Type 0} (m : ℕ) (problem : Problem) (kept : ℕ) (o : Outcome) (v : Option Verdict) (r : Result Reply E) → IsSummary m (plain_problem problem) kept o v → IfOk r (λ reply. reply.status ≡ Yes) → IfOk r (λ reply. reply.text ≡ sample_text m kept o v) → IfOk r (Replies (sample m) (a_problem problem))
+summary_replied m problem kept o v (Ok reply) right s t = record { answer = sampled m kept o v; right = (refl, right); status_is = s; text_is = t }
+summary_replied m problem kept o v (Err e) right s t = tt
+
+-- the reply where the search of a sample ends at an operation past range
+pub sample_range_replied : (m : ℕ) (s : Search) (problem : Problem) (note : RangeNote) (path : List Action) (text : List ℕ) → s ≡ sample_search m → EndsPastRange s (plain_problem problem) path note → text ≡ range_text problem.names problem.domain.operators note (length path) path → Replies (sample m) (a_problem problem) (record { status = Range; text = text })
+sample_range_replied m s problem note path text e cause t = record {
+  answer = past_range (length path) note path;
+  right = inl (subst (λ (u : Search). EndsPastRange u (plain_problem problem) path note) e cause, refl);
+  status_is = refl;
+  text_is = t;
+}
+
+-- the reply where the check of its plan does
+pub check_range_replied : (m : ℕ) (problem : Problem) (plan : List Action) (after : ℕ) (note : RangeNote) (text : List ℕ) → IsOutcome (sample_search m) (plain_problem problem) (outcome.Plan plan) → IsCause (plain_problem problem) plan (fault.Range after note) → text ≡ range_text problem.names problem.domain.operators note after [] → Replies (sample m) (a_problem problem) (record { status = Range; text = text })
+check_range_replied m problem plan after note text found cause t = record {
+  answer = past_range after note [];
+  right = inr (record { plan = plan; found = found; cause = cause }, refl);
+  status_is = refl;
+  text_is = t;
+}
+
 -- a refusal is not right of what files stand for: one line for each command
 never_right : (c : Command) (x : Input) (number : ℕ) (m : Broken) → IsRight c x (refusal number m) → ⊥
 never_right (check d p q) (a_plan problem plan) number m right = right
 never_right (check d p q) x number m right = right
 never_right (search s d p) (a_problem problem) number m right = right
 never_right (search s d p) x number m right = right
+never_right (trace s d p) (a_problem problem) number m right = right
+never_right (trace s d p) x number m right = right
+never_right (explain d p q) (a_plan problem plan) number m right = right
+never_right (explain d p q) x number m right = right
+never_right (sample n) (a_problem problem) number m right = right
+never_right (sample n) x number m right = right
 
 right_allowed : (files : Option Files) (c : Command) (x : Input) (a : Answer) → HoldInput files c x → IsRight c x a → Allows files c x a
 right_allowed files c x (refusal number m) stand right = absurd (never_right c x number m right)
 right_allowed files c x (past_range after note path) stand right = (stand, right)
 right_allowed files c x (judged v) stand right = (stand, right)
 right_allowed files c x (searched s o) stand right = (stand, right)
+right_allowed files c x (traced s kept events o) stand right = (stand, right)
+right_allowed files c x explained stand right = (stand, right)
+right_allowed files c x (sampled n kept o v) stand right = (stand, right)
 
 right_leaves : (files : Option Files) (c : Command) (begun : Begun) (x : Input) (a : Answer) → IsRight c x a → LeavesOff files c begun a
 right_leaves files c begun x (refusal number m) right = absurd (never_right c x number m right)
 right_leaves files c begun x (past_range after note path) right = tt
 right_leaves files c begun x (judged v) right = tt
 right_leaves files c begun x (searched s o) right = tt
+right_leaves files c begun x (traced s kept events o) right = tt
+right_leaves files c begun x explained right = tt
+right_leaves files c begun x (sampled n kept o v) right = tt
 
 -- a right reply over the input is an answer that the files allow
 pub reply_answers : (files : Option Files) (c : Command) (begun : Begun) (x : Input) (reply : Reply) → HoldInput files c x → Replies c x reply → IsAnswer files c begun reply.status reply.text
@@ -86,7 +138,7 @@ reply_answers files c begun x reply stand r = record {
 }
 
 -- so is the line of a refusal
-pub refusal_answers : (files : Option Files) (c : Command) (begun : Begun) (number : ℕ) (m : Broken) (status : Status) (text : List ℕ) → IsRefused files c number m × EndsAt files c begun number → status ≡ Refused → text ≡ refusal_text number m → IsAnswer files c begun status text
+pub refusal_answers : (files : Option Files) (c : Command) (begun : Begun) (number : ℕ) (m : Broken) (status : Status) (text : List ℕ) → IsRefused files c number m × LeavesOffAt files c begun number → status ≡ Refused → text ≡ refusal_text number m → IsAnswer files c begun status text
 refusal_answers files c begun number m status text h s t = record {
   input = nothing;
   answer = refusal number m;

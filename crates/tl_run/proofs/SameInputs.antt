@@ -25,7 +25,14 @@ SameInput (a_plan p plan) (a_plan q other) = SameProblem p q × (plan ≡ other)
 SameInput a b = ⊥
 
 same_problem_back : (p q : Problem) → SameProblem p q → SameProblem q p
-same_problem_back p q same = record { meaning = sym same.meaning; names = sym same.names; heads = sym same.heads }
+same_problem_back p q same =
+    let w = same.words in
+    record {
+      meaning = sym same.meaning;
+      names = sym same.names;
+      heads = sym same.heads;
+      words = record { predicates = sym w.predicates; functions = sym w.functions; definitions = sym w.definitions; operators = sym w.operators };
+    }
 
 pub same_back : (a b : Input) → SameInput a b → SameInput b a
 same_back nothing nothing same = tt

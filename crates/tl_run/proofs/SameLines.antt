@@ -24,7 +24,7 @@ head_text : (names : List (List ℕ)) (os : List Operator) (op : ℕ) → operat
 head_text names os op = name_by_head names (slice_get os op) ∙ ap (name_in names) (sym (slice_get-map head_of os op))
 
 module _ (names : List (List ℕ)) (os us : List Operator) (alike : map head_of os ≡ map head_of us) where
-  same_name : (op : ℕ) → operator_text names os op ≡ operator_text names us op
+  pub same_name : (op : ℕ) → operator_text names os op ≡ operator_text names us op
   same_name op = head_text names os op ∙ ap (λ (hs : List Head). name_in names (slice_get hs op)) alike ∙ sym (head_text names us op)
 
   same_lines : (plan : List Action) → action_lines names os plan ≡ action_lines names us plan

@@ -13,13 +13,13 @@ use Rattle.tl_syntax.specs.declared.problem.Problem.{Problem}
 use Rattle.tl_terms.specs.Calm as calm
 use Rattle.tl_terms.specs.Problem.{PlainProblem}
 use Rattle.tl_terms.specs.ProblemMeaning.{plain_problem}
-use Rattle.tl_text.specs.Outcomes.{outcome_text}
+use Rattle.tl_text.specs.Outcomes.{none_text, none_within_text, outcome_text, plan_text}
 use Rattle.tl_run.specs.declared.search.Search.{Search}
 use Rattle.tl_run.specs.Answers.{Answer, past_range, searched, IsRight, outcome_status, status_of, text_of}
-use Rattle.tl_run.specs.Commands.{search}
+use Rattle.tl_run.specs.Commands.{Command, search}
 use Rattle.tl_run.specs.Inputs.{Input, a_problem}
 use Rattle.tl_run.specs.Laws.{Laws}
-use Rattle.tl_run.specs.Plan.{IsOutcome, PrintsPlan}
+use Rattle.tl_run.specs.Plan.{IsOutcome, PrintsPlan, SaysNoPlan}
 use Rattle.tl_run.specs.Promises.{Headline, IsCalmStatus, OutcomeYields, Yields}
 use Rattle.tl_run.specs.Turns.{HoldInput}
 use Rattle.tl_run.proofs.Agreement.{Agrees}
@@ -35,7 +35,7 @@ yields_to_outcome s o outcome.NoPlan y = y
 yields_to_outcome s o outcome.NoneWithin y = y
 yields_to_outcome s o outcome.Spent y = y
 
-past_range_yields : (after : ℕ) (note : RangeNote) (path : List Action) (u : Outcome) → Yields (past_range after note path) (outcome_status u)
+pub past_range_yields : (after : ℕ) (note : RangeNote) (path : List Action) (u : Outcome) → Yields (past_range after note path) (outcome_status u)
 past_range_yields after note path (outcome.Plan plan) = tt
 past_range_yields after note path outcome.NoPlan = tt
 past_range_yields after note path outcome.NoneWithin = tt
@@ -65,8 +65,10 @@ search_agrees laws s d p (a_problem m) y (searched t o) b same h k = searched_ag
 search_agrees laws s d p (a_problem m) y (past_range after note path) b same h k = past_range_agrees s d p (a_problem m) y after note path b k
 search_agrees laws s d p x y a b same h k = absurd h
 
-prints_plan : (files : Option Files) (s : Search) (d p : List ℕ) (m : Problem) (plan : List Action) (text : List ℕ) → HoldInput files (search s d p) (a_problem m) → IsOutcome s (plain_problem m) (outcome.Plan plan) → text ≡ text_of (a_problem m) (searched s (outcome.Plan plan)) → PrintsPlan files (search s d p) s text
-prints_plan files s d p m plan text stand right line =
+-- what the lines of an outcome say, whatever the command
+
+pub prints_plan : (files : Option Files) (c : Command) (s : Search) (m : Problem) (plan : List Action) (text : List ℕ) → HoldInput files c (a_problem m) → IsOutcome s (plain_problem m) (outcome.Plan plan) → text ≡ plan_text m.names m.domain.operators plan → PrintsPlan files c s text
+prints_plan files c s m plan text stand right line =
     let within = plan_within s.mode s.within s.nodes (plain_problem m) plan right in
     record {
       problem = m;
@@ -78,10 +80,16 @@ prints_plan files s d p m plan text stand right line =
       shortest = plan_shortest s.mode s.within s.nodes (plain_problem m) plan right;
     }
 
+pub says_none : (files : Option Files) (c : Command) (s : Search) (m : Problem) (text : List ℕ) → HoldInput files c (a_problem m) → IsOutcome s (plain_problem m) outcome.NoPlan → text ≡ none_text → SaysNoPlan files c s text
+says_none files c s m text stand right line = record { problem = m; stand = stand; none = inl (line, no_plan s.mode s.within s.nodes (plain_problem m) right) }
+
+pub says_none_within : (files : Option Files) (c : Command) (s : Search) (m : Problem) (text : List ℕ) → HoldInput files c (a_problem m) → IsOutcome s (plain_problem m) outcome.NoneWithin → text ≡ none_within_text s.within → SaysNoPlan files c s text
+says_none_within files c s m text stand right line = record { problem = m; stand = stand; none = inr (line, no_plan_within s.mode s.within s.nodes (plain_problem m) right) }
+
 outcome_says : (files : Option Files) (s : Search) (d p : List ℕ) (m : Problem) (o : Outcome) (text : List ℕ) → HoldInput files (search s d p) (a_problem m) → IsOutcome s (plain_problem m) o → text ≡ text_of (a_problem m) (searched s o) → Headline files (search s d p) (outcome_status o) text
-outcome_says files s d p m (outcome.Plan plan) text stand right line = prints_plan files s d p m plan text stand right line
-outcome_says files s d p m outcome.NoPlan text stand right line = record { problem = m; stand = stand; none = inl (line, no_plan s.mode s.within s.nodes (plain_problem m) right) }
-outcome_says files s d p m outcome.NoneWithin text stand right line = record { problem = m; stand = stand; none = inr (line, no_plan_within s.mode s.within s.nodes (plain_problem m) right) }
+outcome_says files s d p m (outcome.Plan plan) text stand right line = prints_plan files (search s d p) s m plan text stand right line
+outcome_says files s d p m outcome.NoPlan text stand right line = says_none files (search s d p) s m text stand right line
+outcome_says files s d p m outcome.NoneWithin text stand right line = says_none_within files (search s d p) s m text stand right line
 outcome_says files s d p m outcome.Spent text stand right line = tt
 
 -- what the headline says of a right answer

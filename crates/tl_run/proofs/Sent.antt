@@ -1,12 +1,12 @@
 -- What a run has written at its end.
-use Rattle.std.proofs.Common.{◌≡◌, ◌⊎◌, inl, inr, ℕ, List, sym, ap, ◌∙◌, subst}
+use Rattle.std.proofs.Common.{◌≡◌, ◌⊎◌, inl, inr, ℕ, List, sym, ◌∙◌, subst}
 use Rattle.std.specs.Prelude.{Option, Some, None}
 use Rattle.std.specs.Io.KnownBytes.{append_known}
 use Rattle.tl_outside.specs.Causes.{Rose}
 use Rattle.tl_outside.specs.Told.{Files}
 use Rattle.tl_run.specs.declared.status.Status.{Status}
 use Rattle.tl_run.specs.declared.status.Status.TheVariants.{Yes, No, Spent, Refused, Range, ReadFault, WriteFault, NoMemory, Usage}
-use Rattle.tl_run.specs.Answers.{Answer, refusal, past_range, judged, searched}
+use Rattle.tl_run.specs.Answers.{Answer, refusal, past_range, judged, searched, traced, explained, sampled}
 use Rattle.tl_run.specs.Commands.{Command}
 use Rattle.tl_run.specs.Inputs.{Input}
 use Rattle.tl_run.specs.Promises.{Gives, IsCalmStatus, Writes, Yields}
@@ -40,9 +40,12 @@ yields_outside (refusal number m) = (tt, tt, tt)
 yields_outside (past_range after note path) = (tt, tt, tt)
 yields_outside (judged v) = (tt, tt, tt)
 yields_outside (searched s o) = (tt, tt, tt)
+yields_outside (traced s kept events o) = (tt, tt, tt)
+yields_outside explained = (tt, tt, tt)
+yields_outside (sampled n kept o v) = (tt, tt, tt)
 
 agrees_gives : (old new : Option (List ℕ)) (x : Input) (a : Answer) (status : Status) (text : List ℕ) → Agrees x a status text → new ≡ append_known old text → Gives old new x a status
-agrees_gives old new x a status text (inl agrees) e = inl (agrees.0, e ∙ ap (append_known old) agrees.1)
+agrees_gives old new x a status text (inl agrees) e = inl (agrees.0, (text, agrees.1, e))
 agrees_gives old new x a status text (inr yields) e = inr yields
 
 -- what is sent is the right answer, or it yields

@@ -1,5 +1,5 @@
 -- The answers of commands: when each is right, its status and its lines.
-use Rattle.std.specs.Prelude.{◌≡◌, ℕ, List, [], length}
+use Rattle.std.specs.Prelude.{◌≡◌, ℕ, List, [], ◌++◌, length, ⊤, Option}
 use Rattle.tl_syntax.specs.declared.action.Action.{Action}
 use Rattle.tl_syntax.specs.declared.operator.Operator.{Operator}
 use Rattle.tl_terms.specs.ProblemMeaning.{plain_problem}
@@ -8,26 +8,36 @@ use Rattle.tl_check.specs.Verdicts.{IsVerdict, IsCause}
 use Rattle.tl_check.specs.declared.fault.CheckFault.TheVariants as fault
 use Rattle.tl_check.specs.declared.verdict.Verdict.{Verdict}
 use Rattle.tl_check.specs.declared.verdict.Verdict.TheVariants.{Valid, NotExecutable, GoalUnmet, Disobeys}
+use Rattle.tl_search.specs.KeptPairs.{KeptPair}
+use Rattle.tl_search.specs.declared.event.Event.{Event}
 use Rattle.tl_search.specs.declared.outcome.Outcome.{Outcome}
 use Rattle.tl_search.specs.declared.outcome.Outcome.TheVariants as outcome
+use Rattle.tl_explain.specs.Causes.{IsPastInExplanation}
+use Rattle.tl_explain.specs.Explain.{explain_text}
 use Rattle.tl_text.specs.Outcomes.{outcome_text}
 use Rattle.tl_text.specs.Ranges.{range_text}
+use Rattle.tl_text.specs.Traces.{trace_text}
 use Rattle.tl_text.specs.Verdicts.{verdict_text}
 use Rattle.tl_run.specs.declared.search.Search.{Search}
 use Rattle.tl_run.specs.declared.status.Status.{Status}
 use Rattle.tl_run.specs.declared.status.Status.TheVariants.{Yes, No, Spent, Refused, Range}
 use Rattle.tl_run.specs.declared.stop.Broken.{Broken}
-use Rattle.tl_run.specs.Commands.{Command, check, search}
+use Rattle.tl_run.specs.Commands.{Command, check, search, trace, explain, sample}
 use Rattle.tl_run.specs.Inputs.{Input, nothing, a_domain, a_problem, a_plan}
 use Rattle.tl_run.specs.Plan.{IsOutcome, EndsPastRange}
 use Rattle.tl_run.specs.Refusals.{refusal_text}
+use Rattle.tl_run.specs.Trace.{IsTrace}
+use Rattle.tl_run.specs.Sample.{IsSummary, SampleEndsPastRange, sample_text}
 
--- the file of this number is refused by this rule; an operation is past range after so many actions, which are those of the path where one is shown; the verdict on a plan; or the outcome of a search
+-- the file of this number is refused by this rule; an operation is past range after so many actions, which are those of the path where one is shown; the verdict on a plan; the outcome of a search, or this with the search nodes that it kept and its events; the residuals along a plan, which its files determine; or, of the sample of so many balls, how many search nodes were kept, the outcome of its search and the verdict on its plan
 pub data Answer : Type 0 where
   refusal : ℕ → Broken → Answer
   past_range : ℕ → RangeNote → List Action → Answer
   judged : Verdict → Answer
   searched : Search → Outcome → Answer
+  traced : Search → List KeptPair → List Event → Outcome → Answer
+  explained : Answer
+  sampled : ℕ → ℕ → Outcome → Option Verdict → Answer
 
 -- over what its files stand for, the answer is right for the command: one line for each command and answer
 abbrev pub IsRight : Command → Input → Answer → Type 0
@@ -35,6 +45,12 @@ IsRight (check d p q) (a_plan problem plan) (judged v) = IsVerdict (plain_proble
 IsRight (check d p q) (a_plan problem plan) (past_range after note path) = IsCause (plain_problem problem) plan (fault.Range after note) × (path ≡ [])
 IsRight (search s d p) (a_problem problem) (searched t o) = (t ≡ s) × IsOutcome s (plain_problem problem) o
 IsRight (search s d p) (a_problem problem) (past_range after note path) = EndsPastRange s (plain_problem problem) path note × (after ≡ length path)
+IsRight (trace s d p) (a_problem problem) (traced t kept events o) = (t ≡ s) × IsTrace s (plain_problem problem) kept events o
+IsRight (trace s d p) (a_problem problem) (past_range after note path) = EndsPastRange s (plain_problem problem) path note × (after ≡ length path)
+IsRight (explain d p q) (a_plan problem plan) explained = ⊤
+IsRight (explain d p q) (a_plan problem plan) (past_range after note path) = IsPastInExplanation (plain_problem problem) plan after note × (path ≡ [])
+IsRight (sample m) (a_problem problem) (sampled n kept o v) = (n ≡ m) × IsSummary m (plain_problem problem) kept o v
+IsRight (sample m) (a_problem problem) (past_range after note path) = SampleEndsPastRange m (plain_problem problem) after note path
 IsRight command input answer = ⊥
 
 -- the status with a verdict
@@ -57,6 +73,9 @@ status_of (refusal number broken) = Refused
 status_of (past_range after note path) = Range
 status_of (judged v) = verdict_status v
 status_of (searched s o) = outcome_status o
+status_of (traced s kept events o) = outcome_status o
+status_of explained = Yes
+status_of (sampled n kept o v) = Yes
 
 -- the names that actions are written with
 abbrev pub names_in : Input → List (List ℕ)
@@ -72,9 +91,26 @@ operators_in (a_domain forms) = []
 operators_in (a_problem p) = p.domain.operators
 operators_in (a_plan p plan) = p.domain.operators
 
+-- the lines of events, over the problem that the files stand for
+abbrev pub events_text : Input → List KeptPair → List Event → List ℕ
+events_text nothing kept events = []
+events_text (a_domain forms) kept events = []
+events_text (a_problem p) kept events = trace_text p.names p.domain kept events
+events_text (a_plan p plan) kept events = trace_text p.names p.domain kept events
+
+-- the lines that explain the plan of the files
+abbrev pub explanation_in : Input → List ℕ
+explanation_in nothing = []
+explanation_in (a_domain forms) = []
+explanation_in (a_problem p) = []
+explanation_in (a_plan p plan) = explain_text p plan
+
 -- the lines of an answer
 abbrev pub text_of : Input → Answer → List ℕ
 text_of input (refusal number broken) = refusal_text number broken
 text_of input (past_range after note path) = range_text (names_in input) (operators_in input) note after path
 text_of input (judged v) = verdict_text v
 text_of input (searched s o) = outcome_text (names_in input) (operators_in input) s.within s.nodes o
+text_of input (traced s kept events o) = events_text input kept events ++ outcome_text (names_in input) (operators_in input) s.within s.nodes o
+text_of input explained = explanation_in input
+text_of input (sampled n kept o v) = sample_text n kept o v

@@ -3,12 +3,16 @@ pub mod Searches
 pub mod Commands
 pub mod Files
 pub mod Inputs
+pub mod SampleTexts
 pub mod Turns
 pub mod Refusals
 pub mod Statuses
 pub mod Answers
 pub mod Check
 pub mod Plan
+pub mod Trace
+pub mod Explain
+pub mod Sample
 pub mod Searched
 pub mod Promises
 pub mod Held

@@ -1,17 +1,24 @@
 -- What a run promises.
 use Rattle.std.specs.Prelude.{◌≡◌, ◌⊎◌, ℕ, List, Option, ⊤}
 use Rattle.std.specs.Io.KnownBytes.{append_known}
+use Rattle.tl_check.specs.declared.verdict.Verdict.{Verdict}
 use Rattle.tl_outside.specs.Told.{Files, GrowsByPart}
+use Rattle.tl_search.specs.KeptPairs.{KeptPair}
+use Rattle.tl_search.specs.declared.event.Event.{Event}
 use Rattle.tl_search.specs.declared.outcome.Outcome.{Outcome}
 use Rattle.tl_search.specs.declared.outcome.Outcome.TheVariants as outcome
 use Rattle.tl_run.specs.declared.status.Status.{Status}
 use Rattle.tl_run.specs.declared.status.Status.TheVariants.{Yes, No, Spent, Range, ReadFault, WriteFault, NoMemory, Usage}
-use Rattle.tl_run.specs.Answers.{Answer, refusal, past_range, judged, searched, IsRight, status_of, text_of}
+use Rattle.tl_text.specs.Outcomes.{spent_text}
+use Rattle.tl_run.specs.Answers.{Answer, refusal, past_range, judged, searched, traced, IsRight, status_of, text_of, explained, sampled, outcome_status}
 use Rattle.tl_run.specs.Check.{SaysAccepted, HasCalmPlan}
-use Rattle.tl_run.specs.Commands.{Command, check, search}
+use Rattle.tl_run.specs.Commands.{Command, check, search, trace, explain, sample}
+use Rattle.tl_run.specs.Explain.{ExplainsPlan, HasCalmStates}
 use Rattle.tl_run.specs.Inputs.{Input}
 use Rattle.tl_run.specs.Plan.{PrintsPlan, SaysNoPlan, HasCalmSearch}
-use Rattle.tl_run.specs.Turns.{Begun, EndsAt, HoldInput, IsRefused}
+use Rattle.tl_run.specs.Trace.{IsTraceOver, TellsEvents}
+use Rattle.tl_run.specs.Turns.{Begun, HoldInput, IsRefused, LeavesOffAt}
+use Rattle.tl_run.specs.Sample.{IsSummaryOver, SaysSummary, HasCalmSample, sample_text}
 
 -- the files allow this answer to the command: the refusal of a file in its turn, or what is right over all of them
 abbrev pub Allows : Option Files → Command → Input → Answer → Type 0
@@ -20,7 +27,7 @@ Allows files c input answer = HoldInput files c input × IsRight c input answer
 
 -- after a refusal no file was begun that comes after the refused one
 abbrev pub LeavesOff : Option Files → Command → Begun → Answer → Type 0
-LeavesOff files c begun (refusal number broken) = EndsAt files c begun number
+LeavesOff files c begun (refusal number broken) = LeavesOffAt files c begun number
 LeavesOff files c begun answer = ⊤
 
 -- a status with the lines of an answer that the files allow
@@ -55,27 +62,56 @@ Yields answer WriteFault = ⊤
 Yields answer NoMemory = ⊤
 Yields (judged v) Range = ⊤
 Yields (searched s o) status = OutcomeYields o status
+Yields (traced s kept events o) status = OutcomeYields o status
+Yields explained Range = ⊤
+Yields (sampled n kept o v) Range = ⊤
 Yields (past_range after note path) Range = ⊤
 Yields (past_range after note path) Spent = ⊤
 Yields (past_range after note path) Yes = ⊤
 Yields (past_range after note path) No = ⊤
 Yields answer status = ⊥
 
+-- the lines of the sample of so many balls with this outcome, or with one that may come in its place
+pub record SummarizesAlike (input : Input) (balls : ℕ) (o : Outcome) (text : List ℕ) : Type 0 where
+  pub kept : ℕ
+  pub ended : Outcome
+  pub verdict : Option Verdict
+  pub right : IsSummaryOver input balls kept ended verdict
+  pub alike : (ended ≡ o) ⊎ OutcomeYields o (outcome_status ended)
+  pub lines : text ≡ sample_text balls kept ended verdict
+
+-- the lines are those of the answer; a trace may tell of other events that are right of its search and its outcome, and a sample of another number of kept search nodes
+abbrev pub IsTextOf : Input → Answer → List ℕ → Type 0
+IsTextOf input (traced s kept events o) text =
+    (others : List KeptPair) × (told : List Event) × IsTraceOver input s others told o × (text ≡ text_of input (traced s others told o))
+IsTextOf input (sampled n kept o v) text = SummarizesAlike input n o text
+IsTextOf input answer text = text ≡ text_of input answer
+
 -- the right answer is written with its status, unless another comes in its place
 abbrev pub Gives : Option (List ℕ) → Option (List ℕ) → Input → Answer → Status → Type 0
-Gives old new input answer status = ((status ≡ status_of answer) × (new ≡ append_known old (text_of input answer))) ⊎ Yields answer status
+Gives old new input answer status = ((status ≡ status_of answer) × ((text : List ℕ) × IsTextOf input answer text × (new ≡ append_known old text))) ⊎ Yields answer status
 
--- what a reader of the lines may rely on: `; valid` says that the plan is accepted; a printed plan is accepted and short enough, and breadth-first no accepted plan is shorter; `; none` says that no plan is accepted, and `; none within N` that none of at most N actions is
+-- what a reader of the lines may rely on: `; valid` says that the plan is accepted; a printed plan is accepted and short enough, and breadth-first no accepted plan is shorter; `; none` says that no plan is accepted, and `; none within N` that none of at most N actions is; each branch that a trace reports as pruned begins no run that satisfies the control formula; the lines that explain a plan show the residual after each of its states, and which action is the first without a step; and the lines of a sample say so too, and no sample ends with another status than Yes
 abbrev pub Headline : Option Files → Command → Status → List ℕ → Type 0
 Headline files (check d p q) Yes text = SaysAccepted files (check d p q) text
 Headline files (search s d p) Yes text = PrintsPlan files (search s d p) s text
 Headline files (search s d p) No text = SaysNoPlan files (search s d p) s text
+Headline files (trace s d p) Yes text = TellsEvents files (trace s d p) (PrintsPlan files (trace s d p) s) text
+Headline files (trace s d p) No text = TellsEvents files (trace s d p) (SaysNoPlan files (trace s d p) s) text
+Headline files (trace s d p) Spent text = TellsEvents files (trace s d p) (λ rest. rest ≡ spent_text s.nodes) text
+Headline files (explain d p q) Yes text = ExplainsPlan files (explain d p q) text
+Headline files (sample balls) Yes text = SaysSummary balls text
+Headline files (sample balls) No text = ⊥
+Headline files (sample balls) Spent text = ⊥
 Headline files c status text = ⊤
 
 -- nothing past range is looked at, and a search has room for the search nodes that it meets
 abbrev pub IsCalm : Option Files → Command → Type 0
 IsCalm files (check d p q) = HasCalmPlan files (check d p q)
 IsCalm files (search s d p) = HasCalmSearch files (search s d p) s
+IsCalm files (trace s d p) = HasCalmSearch files (trace s d p) s
+IsCalm files (explain d p q) = HasCalmStates files (explain d p q)
+IsCalm files (sample balls) = HasCalmSample balls
 
 -- an answer of the command itself, or one by a cause outside it
 abbrev pub IsCalmStatus : Status → Type 0

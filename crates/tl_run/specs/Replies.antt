@@ -9,7 +9,7 @@ use Rattle.tl_run.specs.declared.turn.Input.{Input as Held}
 use Rattle.tl_run.specs.declared.words.Role.TheVariants as role
 use Rattle.tl_run.specs.Held.{last_role}
 use Rattle.tl_run.specs.Answers.{Answer, IsRight, status_of, text_of}
-use Rattle.tl_run.specs.Commands.{Command, check, search}
+use Rattle.tl_run.specs.Commands.{Command, check, search, trace, explain, sample}
 use Rattle.tl_run.specs.Inputs.{Input}
 
 -- the status and the lines of a right answer
@@ -23,6 +23,9 @@ pub record Replies (c : Command) (input : Input) (reply : Reply) : Type 0 where
 abbrev pub Fits : Command → Held → Type 0
 Fits (check d p q) held = last_role held ≡ Some role.Plan
 Fits (search s d p) held = last_role held ≡ Some role.Problem
+Fits (trace s d p) held = last_role held ≡ Some role.Problem
+Fits (explain d p q) held = last_role held ≡ Some role.Plan
+Fits (sample balls) held = last_role held ≡ Some role.Problem
 
 -- a status that comes with lines
 abbrev pub HasLines : Status → Type 0

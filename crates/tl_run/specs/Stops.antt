@@ -16,9 +16,10 @@ use Rattle.tl_run.specs.declared.stop.Broken.TheVariants as broken
 use Rattle.tl_run.specs.declared.stop.Stop.{Stop}
 use Rattle.tl_run.specs.declared.stop.Stop.TheVariants.{ReadFault, NoMemory, Refused}
 use Rattle.tl_run.specs.declared.words.Role.{Role}
-use Rattle.tl_run.specs.Commands.{Command}
+use Rattle.tl_run.specs.Commands.{Command, sample}
 use Rattle.tl_run.specs.Inputs.{Input, IsBroken}
-use Rattle.tl_run.specs.Turns.{Begun, EndsAt, IsRefused, LacksFile}
+use Rattle.tl_run.specs.SampleTexts.{BreaksSample}
+use Rattle.tl_run.specs.Turns.{Begun, IsRefused, LacksFile, LeavesOffAt}
 
 -- the stop at the file of this number, whose text has this fault
 abbrev pub stop_of_text : ℕ → TextFault → Stop
@@ -64,11 +65,22 @@ IsFileStop number Breaks ReadFault = ⊥
 IsFileStop number Breaks NoMemory = ⊤
 IsFileStop number Breaks (Refused k b) = (k ≡ number) × Breaks b
 
+-- the command reads files
+abbrev pub ReadsFiles : Command → Type 0
+ReadsFiles (sample balls) = ⊥
+ReadsFiles c = ⊤
+
+-- why a text of the sample of so many balls stands for nothing
+abbrev pub IsSampleStop : ℕ → Stop → Type 0
+IsSampleStop balls ReadFault = ⊥
+IsSampleStop balls NoMemory = ⊤
+IsSampleStop balls (Refused number b) = BreaksSample balls number b
+
 -- why the files of a command were not read to their ends
 abbrev pub IsStop : Option Files → Command → Begun → ℕ → ℕ → Stop → Type 0
 IsStop files c begun before now ReadFault = LacksFile files c ⊎ Rose before now
 IsStop files c begun before now NoMemory = ⊤
-IsStop files c begun before now (Refused number b) = IsRefused files c number b × EndsAt files c begun number
+IsStop files c begun before now (Refused number b) = IsRefused files c number b × LeavesOffAt files c begun number
 
 -- why a command is answered with this status alone, and no line
 abbrev pub IsBareStatus : Option Files → Command → ℕ → ℕ → Status → Type 0

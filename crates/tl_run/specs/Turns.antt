@@ -3,8 +3,9 @@ use Rattle.std.specs.Prelude.{◌≡◌, ◌⊎◌, ℕ, ◌+◌, ◌-◌, ◌�
 use Rattle.tl_outside.specs.Told.{Files, IsContent, Lacks, told_file}
 use Rattle.tl_run.specs.declared.words.Role.{Role}
 use Rattle.tl_run.specs.declared.stop.Broken.{Broken}
-use Rattle.tl_run.specs.Commands.{Command, files_of}
+use Rattle.tl_run.specs.Commands.{Command, sample, files_of}
 use Rattle.tl_run.specs.Inputs.{Input, nothing, StandsFor, IsBroken}
+use Rattle.tl_run.specs.SampleTexts.{SampleStandsFor, BreaksSample}
 
 -- all files pass, and together with what was read before they stand for this
 abbrev pub StandTogether : Option Files → List (Role × List ℕ) → Input → Input → Type 0
@@ -18,8 +19,9 @@ Reaches P files [] k before = ⊥
 Reaches P files (f ∷ fs) k before =
     P k f.0 f.1 before ⊎ ((bytes : List ℕ) × (after : Input) × IsContent files f.1 bytes × StandsFor f.0 before bytes after × Reaches P files fs (k + 1) after)
 
--- the files of a command all pass, and stand for this together
+-- the files of a command all pass, and stand for this together; those of a sample are its two texts
 abbrev pub HoldInput : Option Files → Command → Input → Type 0
+HoldInput files (sample balls) input = SampleStandsFor balls input
 HoldInput files c input = StandTogether files (files_of c) nothing input
 
 -- some file of a command is reached, the first one with the number 1, and P holds of it
@@ -30,8 +32,9 @@ ReachesFile P files c = Reaches P files (files_of c) 1 nothing
 abbrev pub LacksFile : Option Files → Command → Type 0
 LacksFile files c = ReachesFile (λ k r name before. Lacks files name) files c
 
--- the file of this number has its turn and breaks this rule
+-- the file of this number, or the text of a sample, has its turn and breaks this rule
 abbrev pub IsRefused : Option Files → Command → ℕ → Broken → Type 0
+IsRefused files (sample balls) number b = BreaksSample balls number b
 IsRefused files c number b =
     ReachesFile (λ k r name before. (k ≡ number) × ((bytes : List ℕ) × IsContent files name bytes × IsBroken r before bytes b)) files c
 
@@ -53,3 +56,8 @@ told_of files (Some f) = told_file files f.1
 pub record EndsAt (files : Option Files) (c : Command) (begun : Begun) (number : ℕ) : Type 0 where
   pub whole : begun.whole ≡ told_of files (slice_get (files_of c) (number - 1))
   pub few : begun.count ≤ number
+
+-- reading was left off at the file of this number; for a sample no file was begun
+abbrev pub LeavesOffAt : Option Files → Command → Begun → ℕ → Type 0
+LeavesOffAt files (sample balls) begun number = begun.count ≡ 0
+LeavesOffAt files c begun number = EndsAt files c begun number

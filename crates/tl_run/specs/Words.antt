@@ -1,9 +1,9 @@
 -- Commands as the program holds them.
 use Rattle.std.specs.Prelude.{ℕ, List}
-use Rattle.tl_run.specs.Commands.{check, search}
+use Rattle.tl_run.specs.Commands.{check, search, trace, explain, sample}
 use Rattle.tl_run.specs.Commands as commands
 use Rattle.tl_run.specs.declared.words.Command.{Command}
-use Rattle.tl_run.specs.declared.words.Command.TheVariants.{Check, Plan}
+use Rattle.tl_run.specs.declared.words.Command.TheVariants.{Check, Plan, Trace, Explain, Sample}
 use Rattle.tl_run.specs.declared.words.File.{File}
 use Rattle.tl_run.specs.declared.words.Role.{Role}
 
@@ -11,6 +11,9 @@ use Rattle.tl_run.specs.declared.words.Role.{Role}
 abbrev pub command_meant : Command → commands.Command
 command_meant (Check domain problem plan) = check domain.now problem.now plan.now
 command_meant (Plan s domain problem) = search s domain.now problem.now
+command_meant (Trace s domain problem) = trace s domain.now problem.now
+command_meant (Explain domain problem plan) = explain domain.now problem.now plan.now
+command_meant (Sample balls) = sample balls
 
 -- the role of a file and its name as bytes
 abbrev pub file_meant : File → Role × List ℕ

@@ -43,6 +43,7 @@ pub fn run<S: Store, K: Sink>(alloc: Global, words: &[String], store: &mut S, ou
     ensures write_fault { result ≡ Status.WriteFault → Rose (K.faults out.old) (K.faults out.new) }
 
     // A plan is accepted where the answer is `; valid`. A printed plan is accepted and has at most N actions, and breadth-first no accepted plan is shorter; after `; none` no plan is accepted, and after `; none within N` none of at most N actions.
+    // The lines of `explain` show the residual in each state of the plan, and which action is the first without a step.
     ensures headline { (c : Command) → command_in (map string_bytes words.now) ≡ Some c
         → Writes (Headline (S.files store.old) c) (K.bytes out.old) (K.bytes out.new) result }
 

@@ -1,4 +1,8 @@
 // The commands, each from its input to a reply.
 
 pub(crate) mod check;
+pub(crate) mod explain;
 pub(crate) mod plan;
+pub(crate) mod sample;
+mod searching;
+pub(crate) mod trace;

@@ -1,23 +1,22 @@
-// The files of a command, read in turn.
+// What a command is over: its files, read in turn, or the texts of a sample.
 ghost use Rattle.std.specs.Prelude.{◌≡◌, ◌-◌, IfOk, IfErr};
+ghost use Rattle.tl_run.specs.Commands.{KeepsLimits};
 ghost use Rattle.tl_run.specs.Held.{IsHeld, KeepsBounds};
 ghost use Rattle.tl_run.specs.Inputs as inputs;
-ghost use Rattle.tl_run.specs.Stops.{IsStop};
+ghost use Rattle.tl_run.specs.Stops.{IsStop, ReadsFiles};
 ghost use Rattle.tl_run.specs.Turns.{BegunInTurn, HoldInput};
 ghost use Rattle.tl_run.specs.Words.{command_meant};
 
 use crate::stop::Stop;
+use crate::texts::read_sample;
 use crate::turn::{Input, read_next};
 use crate::words::Command;
 use std::alloc::Global;
 use tl_outside::Store;
 
 /// What the files of the command stand for. Each is begun after those before it have passed.
-pub(crate) fn read_input<S: Store>(
-    alloc: Global,
-    store: &mut S,
-    command: Command<'_>,
-) -> Result<Input, Stop>
+fn read_files<S: Store>(alloc: Global, store: &mut S, command: Command<'_>) -> Result<Input, Stop>
+    requires { ReadsFiles (command_meant command) }
     ensures held { IfOk result (λ held. (x : inputs.Input) × HoldInput (S.files store.old) (command_meant command.entry) x × IsHeld held x) }
     ensures keeps { IfOk result KeepsBounds }
     ensures stop { IfErr result (IsStop (S.files store.old) (command_meant command.entry)
@@ -32,4 +31,23 @@ pub(crate) fn read_input<S: Store>(
         read_next(alloc, store, file, number, &mut input)?;
     }
     Ok(input)
+}
+
+/// What the files of the command stand for, or the texts of its sample.
+pub(crate) fn read_input<S: Store>(
+    alloc: Global,
+    store: &mut S,
+    command: Command<'_>,
+) -> Result<Input, Stop>
+    requires { KeepsLimits (command_meant command) }
+    ensures held { IfOk result (λ held. (x : inputs.Input) × HoldInput (S.files store.old) (command_meant command.entry) x × IsHeld held x) }
+    ensures keeps { IfOk result KeepsBounds }
+    ensures stop { IfErr result (IsStop (S.files store.old) (command_meant command.entry)
+        (record { whole = S.whole store.new; count = S.begun store.new - S.begun store.old }) (S.faults store.old) (S.faults store.new)) }
+    ensures begun { BegunInTurn (S.files store.old) (command_meant command.entry) (S.begun store.new - S.begun store.old) }
+{
+    match command {
+        Command::Sample { balls } => read_sample(alloc, balls),
+        _ => read_files(alloc, store, command),
+    }
 }

@@ -2,7 +2,7 @@
 //!
 //! - `command`: `run`, and the writing of a reply.
 //! - `words`: the commands, their files and their words; `search`: a search, as words write it.
-//! - `input`: the files of a command, read in turn; `turn`: the bytes of one file, and what they add to what was read before.
+//! - `input`: what a command is over; `turn`: the bytes of one file, and what they add to what was read before; `texts`: the two texts of a sample, read in turn.
 //! - `reply`: the reply to a command; `commands`: a module for each command.
 //! - `stop`: why a file is not read on; `status`: how a run ends.
 //! - `laws`: what is proved below of the definitions in the promises.
@@ -16,6 +16,7 @@ mod reply;
 mod search;
 mod status;
 mod stop;
+mod texts;
 mod turn;
 mod words;
 

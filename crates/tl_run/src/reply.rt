@@ -11,7 +11,7 @@ ghost use Rattle.tl_run.specs.Stops.{IsBareStatus};
 ghost use Rattle.tl_run.specs.Turns.{BegunInTurn};
 ghost use Rattle.tl_run.specs.Words.{command_meant};
 
-use crate::commands::{check, plan};
+use crate::commands::{check, explain, plan, sample, trace};
 use crate::input::read_input;
 use crate::status::Status;
 use crate::stop::{Broken, Stop};
@@ -52,6 +52,12 @@ fn reply_over(alloc: Global, command: Command<'_>, input: Input) -> Result<Reply
             check::reply(alloc, problem, plan.as_slice())
         }
         Command::Plan { search, .. } => plan::reply(alloc, input.into_problem(), search),
+        Command::Trace { search, .. } => trace::reply(alloc, input.into_problem(), search),
+        Command::Explain { .. } => {
+            let (problem, plan) = input.into_plan();
+            explain::reply(alloc, problem, plan.as_slice())
+        }
+        Command::Sample { balls } => sample::reply(alloc, input.into_problem(), balls),
     }
 }
 

@@ -31,7 +31,7 @@ fn is_digits(word: &str) -> bool
 }
 
 /// The number that the word writes in decimal digits, where it is from `least` to `most`. Zeros may stand before it. It takes no memory.
-fn number_of(word: &str, least: u32, most: u32) -> Option<u32>
+pub(crate) fn number_of(word: &str, least: u32, most: u32) -> Option<u32>
     ensures number { result ≡ number_in least most word.now }
     ensures least { IfSome result (λ number. least ≤ number) }
     ensures most { IfSome result (λ number. number ≤ most) }

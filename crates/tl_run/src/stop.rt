@@ -8,6 +8,7 @@ use std::alloc::AllocError;
 use tl_forms::{FormFault, Rule};
 use tl_outside::ReadFault;
 use tl_sexpr::TextFault;
+use tl_syntax::NoMemory;
 
 /// The rule by which a file is refused. The `u32` is the offset of the byte that it is about.
 #[derive(Clone, Copy, Debug, PartialEq, Eq)]
@@ -105,6 +106,14 @@ impl Stop {
             FormFault::Breaks { broken, at } => Stop::Refused(number, Broken::Form(broken, at)),
             FormFault::NoMemory => Stop::NoMemory,
         }
+    }
+}
+
+impl From<NoMemory> for Stop {
+    ghost from_gives = { λ _ e. e ≡ stop.NoMemory };
+
+    fn from(_: NoMemory) -> Self {
+        Stop::NoMemory
     }
 }
 

@@ -222,7 +222,7 @@ fn add_forms(
 }
 
 /// Adds what the bytes of the file of this number, which has this role, stand for to what was read before.
-fn add_bytes(
+pub(crate) fn add_bytes(
     alloc: Global,
     number: u8,
     role: Role,

@@ -2,10 +2,11 @@
 ghost use Rattle.std.specs.Prelude.{◌≡◌, ◌≤◌, length, map, IfOk, IfSome};
 ghost use Rattle.std.specs.Option.{option_map};
 ghost use Rattle.std.specs.String.{string_bytes};
-ghost use Rattle.tl_run.specs.Commands.{command_in, files_of, KeepsLimits};
+ghost use Rattle.tl_run.specs.Commands.{check, command_in, files_of, plan_command, sample_command, search_command, KeepsLimits};
+ghost use Rattle.tl_run.specs.Searches.{IsWithinLimits};
 ghost use Rattle.tl_run.specs.Words.{command_meant, file_meant};
 
-use crate::search::{Search, search_of};
+use crate::search::{Search, number_of, search_of};
 use std::alloc::{AllocError, Global};
 
 /// What a file of a command is read as.
@@ -28,7 +29,7 @@ pub(crate) struct File<'a> {
     pub(crate) name: &'a str,
 }
 
-/// A command, with the names of its files.
+/// A command, with the names of its files, or with the number of balls of its sample.
 #[derive(Clone, Copy)]
 pub(crate) enum Command<'a> {
     /// The verdict on a plan.
@@ -49,6 +50,29 @@ pub(crate) enum Command<'a> {
         /// The name of the problem file.
         problem: &'a str,
     },
+    /// A search for a plan, with its events.
+    Trace {
+        /// The search.
+        search: Search,
+        /// The name of the domain file.
+        domain: &'a str,
+        /// The name of the problem file.
+        problem: &'a str,
+    },
+    /// The residuals along a plan.
+    Explain {
+        /// The name of the domain file.
+        domain: &'a str,
+        /// The name of the problem file.
+        problem: &'a str,
+        /// The name of the plan file.
+        plan: &'a str,
+    },
+    /// The search of a sample, and the check of its plan.
+    Sample {
+        /// The number of balls, from 1 to 100.
+        balls: u32,
+    },
 }
 
 impl<'a> Command<'a> {
@@ -62,16 +86,23 @@ impl<'a> Command<'a> {
                 domain,
                 problem,
                 plan,
-            } => Ok(vec![in alloc;
-                Role::Domain.file(domain),
-                Role::Problem.file(problem),
-                Role::Plan.file(plan),
-            ]?),
+            } => files_with_plan(alloc, domain, problem, plan),
             Command::Plan {
                 domain,
                 problem,
                 ..
             } => Ok(vec![in alloc; Role::Domain.file(domain), Role::Problem.file(problem)]?),
+            Command::Trace {
+                domain,
+                problem,
+                ..
+            } => Ok(vec![in alloc; Role::Domain.file(domain), Role::Problem.file(problem)]?),
+            Command::Explain {
+                domain,
+                problem,
+                plan,
+            } => files_with_plan(alloc, domain, problem, plan),
+            Command::Sample { .. } => Ok(Vec::new(alloc)),
         }
     }
 }
@@ -85,24 +116,103 @@ impl Role {
     }
 }
 
+/// The files of a command on a plan.
+fn files_with_plan<'a>(
+    alloc: Global,
+    domain: &'a str,
+    problem: &'a str,
+    plan: &'a str,
+) -> Result<Vec<File<'a>>, AllocError>
+    ensures { IfOk result (λ files. map file_meant files.items ≡ files_of (check domain.now problem.now plan.now)) }
+{
+    let files = vec![in alloc;
+        Role::Domain.file(domain),
+        Role::Problem.file(problem),
+        Role::Plan.file(plan),
+    ]?;
+    Ok(files)
+}
+
+/// The command on a sample that the word names. It takes no memory.
+fn sample_command<'a>(word: &str, balls: &str) -> Option<Command<'a>>
+    ensures command { option_map command_meant result ≡ sample_command word.now balls.now }
+    ensures limits { IfSome result (λ command. KeepsLimits (command_meant command)) }
+{
+    match word {
+        "sample" => Some(Command::Sample {
+            balls: number_of(balls, 1, 100)?,
+        }),
+        _ => None,
+    }
+}
+
+/// The command on a plan that the word names. It takes no memory.
+fn plan_command<'a>(
+    word: &str,
+    domain: &'a str,
+    problem: &'a str,
+    plan: &'a str,
+) -> Option<Command<'a>>
+    ensures command { option_map command_meant result ≡ plan_command word.now domain.now problem.now plan.now }
+    ensures limits { IfSome result (λ command. KeepsLimits (command_meant command)) }
+{
+    match word {
+        "check" => Some(Command::Check {
+            domain,
+            problem,
+            plan,
+        }),
+        "explain" => Some(Command::Explain {
+            domain,
+            problem,
+            plan,
+        }),
+        _ => None,
+    }
+}
+
+/// The command with a search that the word names. It takes no memory.
+fn search_command<'a>(
+    word: &str,
+    search: Search,
+    domain: &'a str,
+    problem: &'a str,
+) -> Option<Command<'a>>
+    requires { IsWithinLimits search }
+    ensures command { option_map command_meant result ≡ search_command word.now domain.now problem.now search }
+    ensures limits { IfSome result (λ command. KeepsLimits (command_meant command)) }
+{
+    match word {
+        "plan" => Some(Command::Plan {
+            search,
+            domain,
+            problem,
+        }),
+        "trace" => Some(Command::Trace {
+            search,
+            domain,
+            problem,
+        }),
+        _ => None,
+    }
+}
+
 /// The command that the words write. It takes no memory.
 pub(crate) fn command_of(words: &[String]) -> Option<Command<'_>>
     ensures command { option_map command_meant result ≡ command_in (map string_bytes words.now) }
     ensures limits { IfSome result (λ command. KeepsLimits (command_meant command)) }
 {
     match words {
-        [word, domain, problem, plan] if word.as_str() == "check" => Some(Command::Check {
-            domain: domain.as_str(),
-            problem: problem.as_str(),
-            plan: plan.as_str(),
-        }),
-        [word, mode, within, nodes, domain, problem] if word.as_str() == "plan" => {
+        [word, balls] => sample_command(word.as_str(), balls.as_str()),
+        [word, domain, problem, plan] => plan_command(
+            word.as_str(),
+            domain.as_str(),
+            problem.as_str(),
+            plan.as_str(),
+        ),
+        [word, mode, within, nodes, domain, problem] => {
             let search = search_of(mode.as_str(), within.as_str(), nodes.as_str())?;
-            Some(Command::Plan {
-                search,
-                domain: domain.as_str(),
-                problem: problem.as_str(),
-            })
+            search_command(word.as_str(), search, domain.as_str(), problem.as_str())
         }
         _ => None,
     }

@@ -4,3 +4,4 @@ pub mod PlanOrder
 pub mod LinesReadBack
 pub mod AfterLine
 pub mod PlanReadBack
+pub mod TraceLines

@@ -3,6 +3,7 @@ pub mod MeaningOfPlans
 pub mod Refusals
 pub mod Ranges
 pub mod Outcomes
+pub mod Traces
 pub mod LawsOrder
 pub mod LawsReadBack
 pub mod Examples

@@ -7,6 +7,7 @@
 //! - `ranges`: the text for an operation that is past range.
 //! - `verdicts`: the text of the verdict on a plan.
 //! - `outcomes`: the text of what a search answers.
+//! - `traces`: the lines of what a search reports.
 //! - `lines`: lines of text as bytes, and a line for each action.
 //! - `laws`: the order of the breaks of a plan file.
 #![tactic(auto)]
@@ -17,10 +18,13 @@ mod outcomes;
 mod plans;
 mod ranges;
 mod refusals;
+mod traces;
 mod verdicts;
 
 pub use outcomes::outcome_text;
 pub use plans::plan_of;
 pub use ranges::range_text;
 pub use refusals::refused_text;
+pub use tl_label::label_text;
+pub use traces::trace_text;
 pub use verdicts::verdict_text;

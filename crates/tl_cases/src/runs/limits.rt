@@ -1,11 +1,11 @@
 // The longest and the deepest files, the deepest evaluation, and each prefix of a file.
 
 use crate::checks::{are_bytes, is_true};
-use crate::rows::filled;
 use crate::runs::run::{answer_to, are_run, is_run};
 use std::alloc::Global;
 use std::process::Abort;
 use std::test::Fail;
+use tl_gen::sample;
 use tl_outside::{FileList, MemorySink, MemoryStore, Numbers};
 
 /// Rows of the three files, the status, and the output.
@@ -99,11 +99,34 @@ fn the_deepest_evaluation_has_its_stack(rt: HostRuntime) -> Result<(), Fail> {
     is_run(&rt, rt.alloc(), DEEP, domain.as_str())
 }
 
+/// A domain with an operator of so many bounds, each the same.
+fn domain_of_bounds(alloc: Global, bounds: usize) -> Result<String, Fail> {
+    let mut text = String::from_str(
+        alloc,
+        "(domain d (predicate p 0) (predicate q 0) (operator (go) (bounds",
+    )?;
+    for _ in 0..bounds {
+        text.push_str(" (p)")?;
+    }
+    text.push_str(") (effects (add (q)))))")?;
+    Ok(text)
+}
+
+/// The form of the row of the domain with many bounds.
+const MANY_BOUNDS: &str =
+    "plan depth 1 10 d p | d = {0} & p = (problem d (init (p)) (goal (q))) | 0 | ; plan of 1 actions / (go)";
+
+#[test]
+fn two_hundred_thousand_bounds_need_no_stack(rt: HostRuntime) -> Result<(), Fail> {
+    let domain = domain_of_bounds(rt.alloc(), 200_000)?;
+    is_run(&rt, rt.alloc(), MANY_BOUNDS, domain.as_str())
+}
+
 /// A store of a domain file of these bytes, a problem file, and an empty plan.
-fn store_with(alloc: Global, domain: &[u8], problem: &str) -> Result<MemoryStore, Fail> {
+fn store_with(alloc: Global, domain: &[u8], problem: &[u8]) -> Result<MemoryStore, Fail> {
     let mut files = FileList::new(alloc);
     files.add("d", domain)?;
-    files.add("p", problem.as_bytes())?;
+    files.add("p", problem)?;
     files.add("q", b"")?;
     Ok(MemoryStore::new(files, 65_536, Numbers::new(alloc)))
 }
@@ -113,7 +136,7 @@ fn is_judged<R: Abort>(
     rt: &R,
     alloc: Global,
     domain: &[u8],
-    problem: &str,
+    problem: &[u8],
     (status, text): (u8, &str),
 ) -> Result<(), Fail> {
     let mut store = store_with(alloc, domain, problem)?;
@@ -138,15 +161,14 @@ fn answer_for(k: usize, whole: usize) -> (u8, &'static str) {
 #[test]
 fn each_prefix_of_a_domain_is_judged(rt: HostRuntime) -> Result<(), Fail> {
     let alloc = rt.alloc();
-    let file = filled(alloc, "{gripper} (control {useful})){lf}", "")?;
-    let problem = filled(alloc, "{two balls}", "")?;
-    let whole = file.as_bytes();
+    let texts = sample(alloc, 2)?;
+    let whole = texts.domain.as_slice();
     for (k, _) in whole.iter().enumerate() {
         is_judged(
             &rt,
             alloc,
             &whole[..k],
-            problem.as_str(),
+            texts.problem.as_slice(),
             answer_for(k, whole.len()),
         )?;
     }

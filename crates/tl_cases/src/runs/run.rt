@@ -102,7 +102,7 @@ fn sink_of(alloc: Global, outside: &str) -> Result<MemorySink, Fail> {
 }
 
 /// The bytes of an output, by its lines.
-fn output_of(alloc: Global, lines: &str) -> Result<String, Fail> {
+pub(crate) fn output_of(alloc: Global, lines: &str) -> Result<String, Fail> {
     let mut out = String::new(alloc);
     if !lines.is_empty() {
         for line in lines.split(" / ") {

@@ -10,7 +10,11 @@ const WORDS: &str = "
 check d p q more | - | 8 | -
 checks d p q | - | 8 | -
 plan d p q | - | 8 | -
+sample | - | 8 | -
+samples 1 | - | 8 | -
 plan deep 5 100 d p | - | 8 | -
+explain d p | - | 8 | -
+explain d p q more | - | 8 | -
 --help | - | 8 | -
 # one word for the domain and the problem: the file is read twice, and is no problem
 check d d q | d = (domain one) & q = - | 3 | ; refused file 2 rule 10 at 0

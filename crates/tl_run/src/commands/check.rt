@@ -8,9 +8,12 @@ ghost use Rattle.tl_terms.specs.ProblemMeaning.{plain_problem};
 ghost use Rattle.tl_text.specs.Ranges.{range_text};
 ghost use Rattle.tl_text.specs.Verdicts.{verdict_text};
 ghost use Rattle.tl_run.specs.Answers.{verdict_status};
-ghost use Rattle.tl_run.specs.Commands.{check};
-ghost use Rattle.tl_run.specs.Inputs.{a_plan};
+ghost use Rattle.tl_search.specs.declared.outcome.Outcome.TheVariants as outcome;
+ghost use Rattle.tl_run.specs.Commands.{check, sample};
+ghost use Rattle.tl_run.specs.Inputs.{a_problem, a_plan};
+ghost use Rattle.tl_run.specs.Plan.{IsOutcome};
 ghost use Rattle.tl_run.specs.Replies.{Replies};
+ghost use Rattle.tl_run.specs.Sample.{sample_search};
 
 use crate::reply::Reply;
 use crate::status::Status;
@@ -41,15 +44,16 @@ fn verdict_reply(alloc: Global, verdict: Verdict) -> Result<Reply, NoMemory>
     Ok(Reply { status, text })
 }
 
-/// The reply where the check of a plan ends with a fault.
-fn fault_reply(
+/// The reply where the check of a plan ends with a fault: to `check`, and to `sample` where its search gave the plan.
+pub(crate) fn fault_reply(
     alloc: Global,
     problem: &Problem,
     plan: &[Action],
     fault: CheckFault,
 ) -> Result<Reply, NoMemory>
     requires { IsCause (plain_problem problem.now) plan.now fault }
-    ensures { (d p q : List ℕ) → IfOk result (Replies (check d p q) (a_plan problem.now plan.now)) }
+    ensures check { (d p q : List ℕ) → IfOk result (Replies (check d p q) (a_plan problem.now plan.now)) }
+    ensures sample { (m : ℕ) → IsOutcome (sample_search m) (plain_problem problem.now) (outcome.Plan plan.now) → IfOk result (Replies (sample m) (a_problem problem.now)) }
 {
     match fault {
         CheckFault::Range { after, note } => {

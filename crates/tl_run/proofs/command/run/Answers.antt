@@ -31,7 +31,7 @@ returns-in-Ok-clause-headline g c = λ cmd e.
     let new = g.K.Sink.bytes c.send.new.out in
     let answer = c.in-Ok.ensures.answer in
     subst (λ (x : Command). Writes (Headline files x) old new c.send.result) (same_command (command_in (map string_bytes c.args.words.now)) a cmd c.in-Some.ensures.command e)
-    (sent_writes (Headline files a) old new reply.status c.send.result reply.text (has_lines files a begun reply.status reply.text answer) (headline_of files a begun reply.status reply.text answer) c.send.ensures.sent)
+    (sent_writes (Headline files a) old new reply.status c.send.result reply.text (has_lines files a begun reply.status reply.text answer) (headline_of c.laws.ensures files a begun reply.status reply.text answer) c.send.ensures.sent)
 
 pub returns-in-Ok-clause-written : goal.returns-in-Ok-clause-written
 returns-in-Ok-clause-written g c = λ cmd e.

@@ -1,18 +1,18 @@
-use Rattle.std.proofs.Common.{◌≡◌, ◌≤◌, [], length, true, None, refl, sym, ap, ◌∙◌, subst}
+use Rattle.std.proofs.Common.{◌≡◌, [], true, None, refl, sym, ap, ◌∙◌, subst}
 use Rattle.tl_search.specs.Calls.{AreNamedIn}
 use Rattle.tl_search.specs.Events.{events_after}
 use Rattle.tl_search.specs.Ends.{EndsByKeeping}
 use Rattle.tl_search.specs.History.{IsHistory}
 use Rattle.tl_search.specs.KeptPairs.{pairs_of}
-use Rattle.tl_search.specs.Plans.{IsFirstSimplePlan}
 use Rattle.tl_search.specs.declared.arrival.Arrival.TheVariants as arrival
 use Rattle.tl_search.specs.declared.event.Event.TheVariants as event
+use Rattle.tl_search.specs.declared.outcome.Outcome.TheVariants as outcome
 use Rattle.tl_search.proofs.HistoryLaws.{history-pruned}
 use Rattle.tl_search.proofs.NamedLaws.{events-named}
 use Rattle.tl_depth.specs.Answers.{IsToldAlong}
 use Rattle.tl_depth.specs.NamedStacks.{StackIsNamed, SearchIsNamed}
 use Rattle.tl_depth.specs.Ongoing.{Begun}
-use Rattle.tl_depth.specs.Outcomes.{AreFewCalls, Reported, HasLastPair}
+use Rattle.tl_depth.specs.Outcomes.{AreFewCalls, IsDepthFirstOutcome, Reported}
 use Rattle.tl_depth.proofs.Beginning.{RootIsKept, root-kept}
 use Rattle.tl_depth.proofs.Ending.{begins-pruned, fault-root, fault-first-idling, first-plan, first-kept}
 use Rattle.tl_depth.proofs.Histories.{root-not-seen, as-history}
@@ -43,7 +43,7 @@ returns-in-Ok-true g c = record {
     r : RootIsKept (g.S.Pairs.problem c.args.space.now) c.args.self.now.watch (g.S.Pairs.kept c.root.new.self) c.report_root-2.new.events
     r = root-kept _ _ c.args.self.now.watch (g.S.Pairs.kept c.args.space.now) (g.S.Pairs.kept c.root.new.self) c.in-Ok-Fresh.field-0-0 _ c.report_root-2.new.events c.requires.empty c.requires.events c.root.ensures.kept (rw c.in-Ok-Fresh.field-0-is at c.in-Ok-Fresh.ensures.arrival) c.in_ok-report_root.ensures
 
-    begun : (IsFirstSimplePlan (g.S.Pairs.problem c.args.space.now) c.args.self.now.within c.new-in-Ok-true.result × HasLastPair (g.S.Pairs.problem c.args.space.now) (pairs_of (g.S.Pairs.kept c.accepted.new.self)) c.new-in-Ok-true.result × (length (pairs_of (g.S.Pairs.kept c.accepted.new.self)) ≤ c.args.nodes)) × AreFewCalls (g.S.Pairs.problem c.args.space.now) c.args.self.now.within (pairs_of (g.S.Pairs.kept c.accepted.new.self)) 0 × IsToldAlong (g.S.Pairs.problem c.args.space.now) (Reported c.args.self.now.watch (pairs_of (g.S.Pairs.kept c.accepted.new.self)) c.report_root-2.new.events) c.new-in-Ok-true.result
+    begun : IsDepthFirstOutcome (g.S.Pairs.problem c.args.space.now) c.args.self.now.within c.args.nodes (pairs_of (g.S.Pairs.kept c.accepted.new.self)) (outcome.Plan c.new-in-Ok-true.result) × AreFewCalls (g.S.Pairs.problem c.args.space.now) c.args.self.now.within (pairs_of (g.S.Pairs.kept c.accepted.new.self)) 0 × IsToldAlong (g.S.Pairs.problem c.args.space.now) (Reported c.args.self.now.watch (pairs_of (g.S.Pairs.kept c.accepted.new.self)) c.report_root-2.new.events) c.new-in-Ok-true.result
     begun = first-plan _ _ _ _ _ _ r.pair c.requires.nodes r.unpruned r.alone c.root.ensures.problem (ap pairs_of c.accepted.ensures.kept) ((accepted-pair _ _ 0 _ c.in-Ok-true.ensures.accepted r.pair r.numbered).0 c.in-Ok-true.field-0-test) c.new-in-Ok-true.result c.new-in-Ok-true.ensures (Reported c.args.self.now.watch (pairs_of (g.S.Pairs.kept c.accepted.new.self)) c.report_root-2.new.events)
 
 pub returns-in-Err-RangeHere-accepted : goal.returns-in-Err-RangeHere-accepted

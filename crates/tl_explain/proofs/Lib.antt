@@ -1,0 +1,5 @@
+pub mod ExplainLaws
+pub mod Reaching
+pub mod Following
+pub mod Beginning
+pub mod Failing

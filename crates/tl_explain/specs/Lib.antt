@@ -1,0 +1,4 @@
+pub mod Explain
+pub mod Causes
+pub mod LawsExplain
+pub mod Explanations
