@@ -11,6 +11,9 @@ pub mod Matching
 pub mod Least
 pub mod Filled
 pub mod Fronts
+pub mod Halves
+pub mod Turns
+pub mod Putting
 pub mod Skipping
 pub mod WholeRows
 pub mod Chains

@@ -1,6 +1,6 @@
 // The leading values of a row that a pattern asks for, for a search by halves.
-ghost use Rattle.std.specs.Prelude.{◌≡◌, ◌<◌, ◌≤◌, length, take};
-ghost use Rattle.tl_world.specs.Front.{known_value, seen_after, front, front_cmp, known_of};
+ghost use Rattle.std.specs.Prelude.{◌≡◌, ◌<◌, ◌≤◌, length, take, IfSome};
+ghost use Rattle.tl_world.specs.Front.{known_value, seen_after, front, front_cmp, known_of, is_in_turn, are_in_turn};
 
 use crate::{Match, Part};
 use std::cmp::Ordering;
@@ -41,6 +41,33 @@ fn count_seen(part: Part, seen: usize) -> usize
     }
 }
 
+/// Whether the part is fixed, or one of the first variables, of which `seen` came before, or the next one.
+fn is_in_turn(part: Part, seen: usize) -> bool
+    ensures { result ≡ is_in_turn seen part }
+{
+    match part {
+        Part::Fixed(_) => true,
+        Part::Free(n) => n as usize <= seen,
+    }
+}
+
+/// Whether the variables first stand in the order of their numbers.
+pub(crate) fn are_in_turn(parts: &[Part]) -> bool
+    requires { length parts.now ≤ 9 }
+    ensures { result ≡ are_in_turn 0 parts.now }
+{
+    let mut seen = 0;
+    let mut k = 0;
+    while k < parts.len() {
+        if !is_in_turn(parts[k], seen) {
+            return false;
+        }
+        seen = count_seen(parts[k], seen);
+        k += 1;
+    }
+    true
+}
+
 /// The values of the leading parts, as far as they are fixed or known in turn.
 pub(crate) fn front_of(lead: &[Part], known: &[Value]) -> Front
     requires { length lead.now ≤ 9 }
@@ -75,7 +102,8 @@ pub(crate) fn order_to(front: &[Value], row: &[Value]) -> Ordering
 /// The values that the match knows.
 pub(crate) fn values_of(found: &Option<Match>, free: u32) -> &[Value]
     requires { free ≤ 9 }
-    ensures { result.now ≡ known_of found.now free }
+    ensures value { result.now ≡ known_of found.now free }
+    ensures size { IfSome found.now (λ _. length result.now ≡ free) }
 {
     match found {
         Some(m) => &m.values[..free as usize],

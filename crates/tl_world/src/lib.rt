@@ -7,10 +7,11 @@
 //! - `task`: a problem with its initial world and its goal as worlds, and the goal test.
 //! - `pattern`: patterns of facts and of places, and the tuples that make them true.
 //! - `laws`: what is proved of the equality of worlds and of the matches of a pattern.
-//! - `row_match`, `front`, `next`: the tuple of one row, the leading values of a row, and the least tuple of a table.
+//! - `row_match`, `front`, `first`, `next`: the tuple of one row, the leading values of a row, the first row that a pattern fits, and the least tuple of a table.
 #![tactic(auto)]
 
 mod facts;
+mod first;
 mod front;
 pub mod laws;
 mod named;

@@ -1,17 +1,19 @@
 // The least tuple above another one in a table.
 ghost use Rattle.std.specs.Ordering.{is_lt};
-ghost use Rattle.std.specs.Prelude.{◌≡◌, ◌<◌, ◌≤◌, ◌&&◌, ◌+◌, ℕ, length, map, take, true};
+ghost use Rattle.std.specs.Prelude.{◌≡◌, ◌<◌, ◌≤◌, ◌&&◌, ◌+◌, ℕ, length, map, take, drop, true, false};
 ghost use Rattle.std.specs.declared.cmp.Ordering.TheVariants.{Greater};
 ghost use Rattle.tl_syntax.specs.Lists.{Each, Rises};
 ghost use Rattle.tl_world.specs.Fits.{occurs};
-ghost use Rattle.tl_world.specs.Front.{front, front_cmp, known_of};
+ghost use Rattle.tl_world.specs.Front.{front, front_cmp, known_of, is_passed};
 ghost use Rattle.tl_world.specs.Least.{IsLeast, above, lower, lesser, fits_some};
 ghost use Rattle.tl_world.specs.Tables.{row_cmp, whole_row};
 
-use crate::front::{front_of, order_to, values_of};
+use crate::first::first_fit;
+use crate::front::{are_in_turn, front_of, order_to, values_of};
 use crate::row_match::{match_place, match_row};
-use crate::{Match, Part, PlaceRow};
-use tl_syntax::{Value, Values};
+use crate::{Match, Part, PlaceRow, Rows};
+use std::cmp::Ordering;
+use tl_syntax::Value;
 
 #[tactic(auto, using(crate::proofs::Order::orders))]
 fn is_above(after: &Option<Match>, m: &Match, free: u32) -> bool
@@ -77,13 +79,35 @@ fn is_past(lead: &[Part], best: &Option<Match>, free: u32, row: &[Value]) -> boo
     order_to(&stop.values[..stop.len], row).is_lt()
 }
 
-/// How many rows come before the first whose leading values are at least the front, found by halves.
-fn rows_before(rows: &[Values], front: &[Value]) -> usize
+/// Whether a row to which the front stands so is passed over, with those that tie or without them.
+fn is_passed(ties: bool, order: Ordering) -> bool
+    ensures { result ≡ is_passed ties order }
+{
+    match order {
+        Ordering::Less => false,
+        Ordering::Equal => ties,
+        Ordering::Greater => true,
+    }
+}
+
+/// How many rows come before the first whose leading values are at least the front, or with `ties` exceed it, found by halves.
+pub(crate) fn rows_before(rows: &Rows, front: &[Value], ties: bool) -> usize
     requires { Rises row_cmp rows.now }
     ensures bound { result ≤ length rows.now }
-    ensures before { Each (λ r. front_cmp front.now r ≡ Greater) (take result rows.now) }
+    ensures before { Each (λ r. is_passed ties (front_cmp front.now r) ≡ true) (take result rows.now) }
+    ensures after { Each (λ r. is_passed ties (front_cmp front.now r) ≡ false) (drop result rows.now) }
 {
-    rows.partition_point(|r| order_to(front, r.as_slice()).is_gt())
+    let mut low = 0;
+    let mut high = rows.len();
+    while low < high {
+        let middle = low + (high - low) / 2;
+        if is_passed(ties, order_to(front, rows.row(middle))) {
+            low = middle + 1;
+        } else {
+            high = middle;
+        }
+    }
+    low
 }
 
 /// How many places come before the first whose leading arguments are at least the front, found by halves.
@@ -97,14 +121,34 @@ fn places_before(rows: &[PlaceRow], front: &[Value]) -> usize
 
 /// The least tuple above `after` that makes the parts one of the rows.
 ///
-/// The first row is found by halves, by the leading parts that are fixed or have their values from `after`.
-/// Rows are looked at up to the first whose leading parts exceed the fixed ones, or those of the best match so far.
+/// Where the variables first stand in the order of their numbers, it is that of the first row after those up to `after` that the parts fit.
 pub(crate) fn next_in_rows(
-    rows: &[Values],
+    rows: &Rows,
     parts: &[Part],
     free: u32,
     after: &Option<Match>,
 ) -> Option<Match>
+    requires few { free ≤ 9 }
+    requires each { (n : ℕ) → n < free → occurs n parts.now ≡ true }
+    requires slots { (n : ℕ) → occurs n parts.now ≡ true → n < free }
+    requires short { length parts.now ≤ 9 }
+    requires order { Rises row_cmp rows.now }
+    ensures { IsLeast free (λ t. fits_some parts.now rows.now t && above after.now free t) result }
+{
+    if are_in_turn(parts) {
+        let low = front_of(parts, values_of(after, free));
+        let from = rows_before(rows, &low.values[..low.len], after.is_some());
+        first_fit(rows, parts, free, from)
+    } else {
+        least_in_rows(rows, parts, free, after)
+    }
+}
+
+/// The least tuple above `after` that makes the parts one of the rows, whatever the order of the variables.
+///
+/// The first row is found by halves, by the leading parts that are fixed or have their values from `after`.
+/// Rows are looked at up to the first whose leading parts exceed the fixed ones, or those of the best match so far.
+fn least_in_rows(rows: &Rows, parts: &[Part], free: u32, after: &Option<Match>) -> Option<Match>
     requires few { free ≤ 9 }
     requires each { (n : ℕ) → n < free → occurs n parts.now ≡ true }
     requires short { length parts.now ≤ 9 }
@@ -112,10 +156,10 @@ pub(crate) fn next_in_rows(
     ensures { IsLeast free (λ t. fits_some parts.now rows.now t && above after.now free t) result }
 {
     let low = front_of(parts, values_of(after, free));
-    let mut k = rows_before(rows, &low.values[..low.len]);
+    let mut k = rows_before(rows, &low.values[..low.len], false);
     let mut best = None;
     while k < rows.len() {
-        let row = rows[k].as_slice();
+        let row = rows.row(k);
         if is_past(parts, &best, free, row) {
             return best;
         }

@@ -195,7 +195,7 @@ impl World {
         ensures { IsLeast free (λ t. is_true_of self.now false pred (filled parts.now t) && above after.now free t) result }
     {
         match self.rows(pred) {
-            Some(rows) => next_in_rows(rows.as_slice(), parts, free, after),
+            Some(rows) => next_in_rows(rows, parts, free, after),
             None => None,
         }
     }

@@ -1,49 +1,29 @@
-use Rattle.std.proofs.Common.{◌≡◌, ◌+◌, List, take, ap, sym, ◌∙◌, subst, arith, ◌&&◌}
-use Rattle.std.proofs.lemmas.List.{map-id}
-use Rattle.std.specs.Ordering.{is_lt}
-use Rattle.std.specs.declared.cmp.Ordering.TheVariants.{Greater}
+use Rattle.std.proofs.Common.{◌≡◌, ◌&&◌, Option, Some, None, true, false, length, take, drop, sym, ap, ◌∙◌, subst, ℕ, List}
+use Rattle.std.specs.Prelude.{IfSome}
+use Rattle.tl_syntax.specs.Lists.{Each}
 use Rattle.tl_syntax.specs.declared.value.Value.{Value}
-use Rattle.tl_syntax.specs.Lists.{Each, Rises}
-use Rattle.tl_world.specs.Plain.{row_cmp}
-use Rattle.tl_world.specs.Fits.{IsMatch}
-use Rattle.tl_world.specs.Least.{IsLeast, fits_some, above}
-use Rattle.tl_world.specs.Front.{front, front_cmp, known_of}
-use Rattle.tl_world.proofs.Least.{least-step}
-use Rattle.tl_world.proofs.Skipping.{least-skipped, least-past}
+use Rattle.tl_world.specs.declared.pattern.Match.{Match}
+use Rattle.tl_world.specs.Front.{front, front_cmp, known_of, is_passed}
+use Rattle.tl_world.specs.Least.{fits_some, above}
+use Rattle.tl_world.proofs.Least.{least-same}
+use Rattle.tl_world.proofs.Turns.{HasValues, only-later}
 use Rattle.tl_world.proofs.next.next_in_rows.Goals as goal
 
-pub loop-k-init : goal.loop-k-init
-loop-k-init c =
-    let same : List Value → List Value = λ r. r in
-    let parts = c.args.parts.now in
-    let rows = c.args.rows.now in
-    let before = subst (λ f. Each (λ r. front_cmp f r ≡ Greater) (take c.rows_before-k.result rows)) (c.front_of-low.ensures.value ∙ ap (front 0 parts) c.values_of.ensures) c.rows_before-k.ensures.before in
-    record {
-      within = c.rows_before-k.ensures.bound;
-      least = subst (λ ws. IsLeast c.args.free (λ t. fits_some parts (take c.rows_before-k.result ws) t && above c.args.after.now c.args.free t) _) (map-id rows)
-          (least-skipped same same parts parts (λ a t h. h) c.args.after.now c.args.free rows c.rows_before-k.result before);
-    }
+has-values : (k : ℕ) (after : Option Match) (values : List Value) → values ≡ known_of after k → IfSome after (λ _. length values ≡ k) → HasValues k after
+has-values k None values e h = tt
+has-values k (Some m) values e h = ap length (sym e) ∙ h
 
-pub returns-then-is_past : goal.returns-then-is_past
-returns-then-is_past c =
-    let same : List Value → List Value = λ r. r in
+pub returns-then-are_in_turn : goal.returns-then-are_in_turn
+returns-then-are_in_turn c =
     let parts = c.args.parts.now in
     let rows = c.args.rows.now in
-    let best = c.loop-k.best in
-    let row = c.index-rows-k.result in
-    let past = subst (λ r. is_lt (front_cmp (front 0 parts (known_of best c.args.free)) r) ≡ _) (c.as_slice-row.ensures ∙ c.index-rows-k.is) (sym c.is_past.ensures ∙ c.if-is_past.true) in
-    subst (λ ws. IsLeast c.args.free (λ t. fits_some parts ws t && above c.args.after.now c.args.free t) best) (map-id rows)
-    (least-past same same parts parts (λ a t h. h) c.args.after.now best c.args.free rows c.loop-k.k row c.loop-k-test.true (subst (Rises row_cmp) (sym (map-id rows)) c.requires.order) past
-    (subst (λ ws. IsLeast c.args.free (λ t. fits_some parts (take c.loop-k.k ws) t && above c.args.after.now c.args.free t) best) (sym (map-id rows)) c.loop-k.invariant.least))
-
-pub loop-k-preserved : goal.loop-k-preserved
-loop-k-preserved c =
-    let parts = c.args.parts.now in
-    let rows = c.args.rows.now in
-    let row = c.index-rows-k.result in
-    let fit = subst (λ r. IsMatch parts r c.args.free c.match_row.result) c.as_slice-row.ensures c.match_row.ensures in
-    record {
-      within = omega (arith, c.loop-k-test.true);
-      least = subst (λ b. IsLeast c.args.free (λ t. fits_some parts (take (c.loop-k.k + 1) rows) t && above c.args.after.now c.args.free t) b) (sym c.lesser-best.ensures)
-          (least-step parts c.args.free c.args.after.now rows c.loop-k.k c.loop-k-test.true row (sym c.index-rows-k.is) c.loop-k.best c.match_row.result fit c.loop-k.invariant.least);
-    }
+    let free = c.args.free in
+    let after = c.args.after.now in
+    let i = c.rows_before-from.result in
+    let f = c.front_of-low.ensures.value ∙ ap (front 0 parts) c.values_of.ensures.value in
+    let ties = c.is_some.ensures in
+    least-same free c.first_fit.result (λ t. fits_some parts (drop i rows) t) (λ t. fits_some parts rows t && above after free t)
+    (only-later parts free (sym c.are_in_turn.ensures ∙ c.if-are_in_turn.true) c.requires.each c.requires.slots after rows i (has-values free after c.values_of.result.now c.values_of.ensures.value c.values_of.ensures.size)
+    (subst (λ b. Each (λ r. is_passed b (front_cmp (front 0 parts (known_of after free)) r) ≡ true) (take i rows)) ties (subst (λ g. Each (λ r. is_passed c.is_some.result (front_cmp g r) ≡ true) (take i rows)) f c.rows_before-from.ensures.before))
+    (subst (λ b. Each (λ r. is_passed b (front_cmp (front 0 parts (known_of after free)) r) ≡ false) (drop i rows)) ties (subst (λ g. Each (λ r. is_passed c.is_some.result (front_cmp g r) ≡ false) (drop i rows)) f c.rows_before-from.ensures.after)))
+    c.first_fit.ensures

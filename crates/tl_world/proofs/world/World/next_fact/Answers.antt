@@ -1,4 +1,4 @@
-use Rattle.std.proofs.Common.{false, ap, ◌∙◌, ◌&&◌}
+use Rattle.std.proofs.Common.{false, ap, ◌&&◌}
 use Rattle.tl_world.specs.Least.{IsLeast, fits_some, above}
 use Rattle.tl_world.specs.Patterns.{filled, is_true_of}
 use Rattle.tl_world.proofs.Least.{least-same}
@@ -9,8 +9,8 @@ pub returns-in-Some : goal.returns-in-Some
 returns-in-Some c =
     let parts = c.args.parts.now in
     let free = c.args.free in
-    least-same free c.next_in_rows.result (λ t. fits_some parts c.as_slice.result.now t && above c.args.after.now free t) (λ t. is_true_of c.args.self.now false c.args.pred (filled parts t) && above c.args.after.now free t)
-    (λ t size. ap (λ b. b && above c.args.after.now free t) (ap (λ rows. fits_some parts rows t) c.as_slice.ensures ∙ fact-truth c.args.self.now c.args.pred c.in-Some.rows.now c.in-Some.ensures.facts parts t free c.requires.slots size))
+    least-same free c.next_in_rows.result (λ t. fits_some parts c.in-Some.rows.now t && above c.args.after.now free t) (λ t. is_true_of c.args.self.now false c.args.pred (filled parts t) && above c.args.after.now free t)
+    (λ t size. ap (λ b. b && above c.args.after.now free t) (fact-truth c.args.self.now c.args.pred c.in-Some.rows.now c.in-Some.ensures.facts parts t free c.requires.slots size))
     c.next_in_rows.ensures
 
 pub returns-in-None : goal.returns-in-None
