@@ -1,3 +1,6 @@
+pub mod Cuts
+pub mod Runs
+pub mod Narrowing
 pub mod Search
 pub mod Lookup
 pub mod Order

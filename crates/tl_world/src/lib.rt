@@ -1,6 +1,8 @@
 //! Worlds: a finite set of facts and a finite map of places to values.
 //!
-//! - `table`: the rows of one predicate or function, as a world lends them.
+//! - `flat`, `rows`: the facts of one predicate, in one list, with a code that is kept.
+//! - `table`: the places of one function with their values.
+//! - `row_search`: the place of a row, found by halves.
 //! - `named`: a table with the number of its predicate or function, shared between worlds.
 //! - `facts`, `places`: the tables of facts and of places, and edits of them.
 //! - `world`: the world itself, with its look-ups, its matches and its changes.
@@ -12,6 +14,7 @@
 
 mod facts;
 mod first;
+mod flat;
 mod front;
 pub mod laws;
 mod named;
@@ -19,11 +22,14 @@ mod next;
 mod pattern;
 mod places;
 mod row_match;
+mod row_search;
+mod rows;
 mod table;
 mod task;
 mod world;
 
 pub use pattern::{Match, Part, Pattern};
-pub use table::{PlaceRow, PlaceRows, Rows, Table};
+pub use rows::Rows;
+pub use table::{PlaceRow, PlaceRows, Table};
 pub use task::Task;
 pub use world::World;

@@ -12,28 +12,31 @@ ghost use Rattle.tl_terms.specs.NamedWorlds.{WorldIsNamed};
 ghost use Rattle.tl_terms.specs.ProblemMeaning.{world_of};
 ghost use Rattle.tl_terms.specs.Step.{with_all, without_all, overwritten};
 ghost use Rattle.tl_terms.specs.World.{has_fact, value_at};
+ghost use Rattle.tl_world.specs.Codes.{tables_code};
 ghost use Rattle.tl_world.specs.Fits.{occurs};
 ghost use Rattle.tl_world.specs.Least.{IsLeast, above};
 ghost use Rattle.tl_world.specs.Next.{IsNext};
 ghost use Rattle.tl_world.specs.Patterns.{IsLawful, makes_true, is_true_of, filled, tuple_of};
 ghost use Rattle.tl_world.specs.Same.{world_eq, world-tells, tells-partial, tells-equivalence, world_fed, world-alike};
-ghost use Rattle.tl_world.specs.Tables.{row_cmp, place_row};
+ghost use Rattle.tl_world.specs.Tables.{InOrder, fact_tables, place_tables, set_of, map_of, row_cmp, place_row};
 
-use crate::facts::{find_row, with_fact, without};
+use crate::facts::{with_fact, without};
 use crate::named::{Named, find_table, share};
 use crate::next::{next_in_places, next_in_rows};
 use crate::places::{find_place, with_place};
+use crate::row_search::find_row;
 use crate::{Match, Part, Pattern, PlaceRow, PlaceRows, Rows};
 use std::alloc::Global;
-use std::hash::{Hash, Hasher};
+use std::hash::{FoldHasher, Hash, Hasher};
 use std::marker::Model;
-use tl_syntax::{Fact, NoMemory, PlaceValue, Value, Values};
+use tl_syntax::{Fact, NoMemory, PlaceValue, Value};
 
 /// A set of facts and a finite map of places.
 #[derive(Drop)]
 pub struct World {
-    facts: Vec<Named<Values>>,
-    places: Vec<Named<PlaceRow>>,
+    facts: Vec<Named<Rows>>,
+    places: Vec<Named<PlaceRows>>,
+    code: u64,
 }
 
 impl Model for World {
@@ -44,11 +47,13 @@ impl Model for World {
 
     ghost coded = { coded_world };
 
+    ghost use Rattle.std.specs.Prelude.{◌≡◌};
+    ghost use Rattle.tl_world.specs.Codes.{tables_code};
     ghost use Rattle.tl_world.specs.Tables.{InOrder, fact_tables, place_tables, set_of, map_of};
 
     ghost view = { λ w. record { facts = set_of (fact_tables w.facts.items); places = map_of (place_tables w.places.items) } };
 
-    ghost invariant = { λ w. InOrder (fact_tables w.facts.items) × InOrder (place_tables w.places.items) };
+    ghost invariant = { λ w. (InOrder (fact_tables w.facts.items) × InOrder (place_tables w.places.items)) × (w.code ≡ tables_code (fact_tables w.facts.items) (place_tables w.places.items)) };
 }
 
 impl PartialEq for World {
@@ -57,6 +62,9 @@ impl PartialEq for World {
     ghost laws = { tells-partial world_eq world-tells };
 
     fn eq(&self, other: &World) -> bool {
+        if self.code != other.code {
+            return false;
+        }
         self.facts == other.facts && self.places == other.places
     }
 }
@@ -71,8 +79,33 @@ impl Hash for World {
     ghost respects_eq = { world-alike.fed };
 
     fn hash<H: Hasher>(&self, state: &mut H) {
-        self.facts.hash(state);
-        self.places.hash(state);
+        self.code.hash(state);
+    }
+}
+
+/// The code of the tables.
+#[tactic(auto, unfolding(crate::specs::Codes::tables_code))]
+fn code_of_tables(facts: &[Named<Rows>], places: &[Named<PlaceRows>]) -> u64
+    ensures { result ≡ tables_code (fact_tables facts.now) (place_tables places.now) }
+{
+    let mut hasher = FoldHasher::default();
+    facts.hash(&mut hasher);
+    places.hash(&mut hasher);
+    hasher.finish()
+}
+
+/// The world of the tables.
+fn whole(facts: Vec<Named<Rows>>, places: Vec<Named<PlaceRows>>) -> World
+    requires facts { InOrder (fact_tables facts.items) }
+    requires places { InOrder (place_tables places.items) }
+    ensures facts { result.facts ≡ set_of (fact_tables facts.items) }
+    ensures places { result.places ≡ map_of (place_tables places.items) }
+{
+    let code = code_of_tables(facts.as_slice(), places.as_slice());
+    World {
+        facts,
+        places,
+        code,
     }
 }
 
@@ -81,10 +114,7 @@ impl World {
     pub fn new(alloc: Global) -> World
         ensures { result ≡ world_of [] [] }
     {
-        World {
-            facts: Vec::new(alloc),
-            places: Vec::new(alloc),
-        }
+        whole(Vec::new(alloc), Vec::new(alloc))
     }
 
     /// The world with these facts and these places; of two values for one place the earlier counts. It fails for want of memory alone.
@@ -102,7 +132,7 @@ impl World {
         match find_table(self.facts.as_slice(), pred) {
             Ok(i) => {
                 let t = &self.facts[i];
-                let found = find_row(t.rows.as_slice(), args);
+                let found = find_row(t.rows.flat(), args);
                 found.is_ok()
             }
             Err(_) => false,
@@ -254,7 +284,7 @@ impl World {
             let p = &sets[k];
             with_place(alloc, &mut places, p.fun, &p.args, p.value)?;
         }
-        Ok(World { facts, places })
+        Ok(whole(facts, places))
     }
 
     /// Whether all facts of the other world are in this one.
@@ -278,23 +308,23 @@ impl World {
         self.gives_each(other.places.as_slice())
     }
 
-    fn holds_each(&self, tables: &[Named<Values>]) -> bool
+    fn holds_each(&self, tables: &[Named<Rows>]) -> bool
         ensures { result ≡ list_all (λ t. list_all (λ a. has_fact self.now (t.name, a)) t.rows.value) tables.now }
     {
         tables
             .iter()
-            .all(|t| self.holds_rows(t.name, t.rows.as_slice()))
+            .all(|t| self.holds_rows(t.name, t.rows.as_ref()))
     }
 
-    fn holds_none(&self, tables: &[Named<Values>]) -> bool
+    fn holds_none(&self, tables: &[Named<Rows>]) -> bool
         ensures { result ≡ list_all (λ t. list_all (λ a. not (has_fact self.now (t.name, a))) t.rows.value) tables.now }
     {
         tables
             .iter()
-            .all(|t| self.holds_no_row(t.name, t.rows.as_slice()))
+            .all(|t| self.holds_no_row(t.name, t.rows.as_ref()))
     }
 
-    fn gives_each(&self, tables: &[Named<PlaceRow>]) -> bool
+    fn gives_each(&self, tables: &[Named<PlaceRows>]) -> bool
         ensures { result ≡ list_all (λ t. list_all (λ r. is_value (value_at self.now (t.name, r.args)) r.value) t.rows.value) tables.now }
     {
         tables
@@ -302,16 +332,30 @@ impl World {
             .all(|t| self.gives_rows(t.name, t.rows.as_slice()))
     }
 
-    fn holds_rows(&self, pred: u32, rows: &[Values]) -> bool
+    fn holds_rows(&self, pred: u32, rows: &Rows) -> bool
         ensures { result ≡ list_all (λ a. has_fact self.now (pred, a)) rows.now }
     {
-        rows.iter().all(|r| self.holds(pred, r.as_slice()))
+        let mut k = 0;
+        while k < rows.len() {
+            if !self.holds(pred, rows.row(k)) {
+                return false;
+            }
+            k += 1;
+        }
+        true
     }
 
-    fn holds_no_row(&self, pred: u32, rows: &[Values]) -> bool
+    fn holds_no_row(&self, pred: u32, rows: &Rows) -> bool
         ensures { result ≡ list_all (λ a. not (has_fact self.now (pred, a))) rows.now }
     {
-        rows.iter().all(|r| !self.holds(pred, r.as_slice()))
+        let mut k = 0;
+        while k < rows.len() {
+            if self.holds(pred, rows.row(k)) {
+                return false;
+            }
+            k += 1;
+        }
+        true
     }
 
     fn gives_rows(&self, fun: u32, rows: &[PlaceRow]) -> bool

@@ -21,15 +21,15 @@ module _ {R X : Type 0} (g : R → List Value × X) where
   rowed : ℕ × List R → ℕ × PlainRows X
   rowed t = (t.0, map g t.1)
 
-  through : (ts : List (Named R)) → map (λ (t : Named R). (t.name, map g t.rows.value)) ts ≡ map rowed (map plain_of ts)
+  through : (ts : List (Named (List R))) → map (λ (t : Named (List R)). (t.name, map g t.rows.value)) ts ≡ map rowed (map plain_of ts)
   unfolding rowed
   through [] = refl
   through (t ∷ ts) = ap (λ us. (t.name, map g t.rows.value) ∷ us) (through ts)
 
-same-facts : (ts us vs : List (Named (List Value))) → map plain_of ts ≡ map plain_of us → us ≡ vs → fact_tables ts ≡ fact_tables vs
+same-facts : (ts us vs : List (Named (List (List Value)))) → map plain_of ts ≡ map plain_of us → us ≡ vs → fact_tables ts ≡ fact_tables vs
 same-facts ts us vs e d = through fact_row ts ∙ (ap (map (rowed fact_row)) (e ∙ ap (map plain_of) d) ∙ sym (through fact_row vs))
 
-same-places : (ts us vs : List (Named PlaceRow)) → map plain_of ts ≡ map plain_of us → us ≡ vs → place_tables ts ≡ place_tables vs
+same-places : (ts us vs : List (Named (List PlaceRow))) → map plain_of ts ≡ map plain_of us → us ≡ vs → place_tables ts ≡ place_tables vs
 same-places ts us vs e d = through place_row ts ∙ (ap (map (rowed place_row)) (e ∙ ap (map plain_of) d) ∙ sym (through place_row vs))
 
 all_of : {A : Type 0} (xs : List A) (i : ℕ) → i ≤ 0 → drop i xs ≡ xs
@@ -46,26 +46,28 @@ places_done m0 m1 w0 sets k p e d = d ∙ λ n. overwritten (e n) (map place_ent
 pub loop-i-init : goal.loop-i-init
 loop-i-init c = record {
   within = omega arith;
-  order = subst InOrder (sym (same-facts _ _ _ c.in_ok-facts.ensures.same c.as_slice.ensures.value)) c.self.invariant.0;
+  order = subst InOrder (sym (same-facts _ _ _ c.in_ok-facts.ensures.same c.as_slice.ensures.value)) c.self.invariant.0.0;
   now = sym (ap (λ xs. without_all (set_of (fact_tables c.in_ok-facts.facts.items)) (map fact_key xs)) (drop-length c.args.dels.now));
 }
 
 pub loop-k-init : goal.loop-k-init
 loop-k-init c = record {
   within = omega arith;
-  order = subst InOrder (sym (same-places _ _ _ c.in_ok-places.ensures.same c.as_slice-2.ensures.value)) c.self.invariant.1;
+  order = subst InOrder (sym (same-places _ _ _ c.in_ok-places.ensures.same c.as_slice-2.ensures.value)) c.self.invariant.0.1;
   now = sym (ap (λ xs. overwritten (map_of (place_tables c.in_ok-places.places.items)) (map place_entry xs)) (drop-length c.args.sets.now));
 }
 
 pub returns-clause-facts : goal.returns-clause-facts
 returns-clause-facts c =
-    facts_done _ _ _ _ c.args.dels.now c.args.adds.now c.loop-i.i c.loop-j.j (omega arith) (omega arith)
+    c.whole.ensures.facts
+    ∙ facts_done _ _ _ _ c.args.dels.now c.args.adds.now c.loop-i.i c.loop-j.j (omega arith) (omega arith)
     (ap set_of (same-facts _ _ _ c.in_ok-facts.ensures.same c.as_slice.ensures.value) ∙ ap (λ (w : World). w.facts) c.self.view_is)
     c.loop-i.invariant.now c.loop-j.invariant.now
 
 pub returns-clause-places : goal.returns-clause-places
 returns-clause-places c =
-    places_done _ _ _ c.args.sets.now c.loop-k.k (omega arith)
+    c.whole.ensures.places
+    ∙ places_done _ _ _ c.args.sets.now c.loop-k.k (omega arith)
     (ap map_of (same-places _ _ _ c.in_ok-places.ensures.same c.as_slice-2.ensures.value) ∙ ap (λ (w : World). w.places) c.self.view_is)
     c.loop-k.invariant.now
 
