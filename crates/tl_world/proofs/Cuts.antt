@@ -1,7 +1,8 @@
 -- Rows of a list that is cut by the places at which they end.
-use Rattle.std.proofs.Common.{◌≡◌, ℕ, zero, suc, ◌+◌, ◌-◌, ◌<◌, ◌≤◌, List, [], ◌∷◌, ◌++◌, length, get_or, take, drop, refl, sym, ap, ◌∙◌, arith}
+use Rattle.std.proofs.Common.{◌≡◌, ℕ, zero, suc, ◌+◌, ◌-◌, ◌<◌, ◌≤◌, List, [], ◌∷◌, ◌++◌, length, map, get_or, take, drop, refl, sym, ap, ◌∙◌, subst, arith}
 use Rattle.std.proofs.lemmas.List.{take_all, drop_all, take-append-le, drop-append-le, take-append-drop, length-drop, length-take-le}
 use Rattle.std.proofs.Math.Seq.{drop-append_seam}
+use Rattle.tl_syntax.specs.Lists.{Each}
 use Rattle.tl_world.specs.Cuts.{rows_between, AreEnds, begin}
 
 pub begin-after : (from : ℕ) (es : List ℕ) (k d : ℕ) → k < length es → begin from es (suc k) ≡ get_or es k d
@@ -91,5 +92,134 @@ module _ {X : Type 0} where
   -- the list and the ends are those of the rows
   pub cuts-back : (es fs : List ℕ) (xs ys : List X) → AreEnds 0 es (length xs) → AreEnds 0 fs (length ys) → rows_between 0 es xs ≡ rows_between 0 fs ys → (es ≡ fs) × (xs ≡ ys)
   cuts-back es fs xs ys h k e = (sym (ends-back 0 es xs h) ∙ (ap (ends_of 0) e ∙ ends-back 0 fs ys k), sym (values-back 0 es xs h) ∙ (ap joined e ∙ values-back 0 fs ys k))
+
+-- ends that are moved
+abbrev pub moved : ℕ → ℕ → List ℕ → List ℕ
+moved start place es = map (λ e. e - start + place) es
+
+taken-ends : (from n m : ℕ) (es : List ℕ) → AreEnds from es n → m ≤ length es → AreEnds from (take m es) (begin from es m)
+taken-ends from n zero es h p = first from es
+  where
+    first : (from : ℕ) (es : List ℕ) → AreEnds from (take zero es) (begin from es zero)
+    first from es = refl
+taken-ends from n (suc m) [] h p = absurd (omega arith)
+taken-ends from n (suc m) (e ∷ es) h p = (h.0, taken-ends e n m es h.1 (omega arith))
+
+-- the ends of rows that follow one another
+pub run-ends : (from n k m j : ℕ) (es : List ℕ) → j ≡ k + m → AreEnds from es n → j ≤ length es → AreEnds (begin from es k) (take m (drop k es)) (begin from es j)
+run-ends from n zero m j es e h p =
+    let q : m ≡ j = omega (arith, e) in
+    subst (λ i. AreEnds (begin from es zero) (take m es) (begin from es i)) q (taken-ends from n m es h (omega (arith, p, q)))
+run-ends from n (suc k) m zero es e h p = absurd (omega (arith, e))
+run-ends from n (suc k) m (suc j) [] e h p = absurd (omega (arith, p))
+run-ends from n (suc k) m (suc j) (x ∷ es) e h p = run-ends x n k m j es (omega (arith, e)) h.1 (omega (arith, p))
+
+pub begin-within : (from n k : ℕ) (es : List ℕ) → AreEnds from es n → k ≤ length es → begin from es k ≤ n
+begin-within from n zero es h p = start-within from es n h
+  where
+    start-within : (from : ℕ) (es : List ℕ) (n : ℕ) → AreEnds from es n → begin from es zero ≤ n
+    start-within from es n h = within from es n h
+begin-within from n (suc k) [] h p = absurd (omega arith)
+begin-within from n (suc k) (e ∷ es) h p = begin-within e n k es h.1 (omega arith)
+
+pub begin-rises : (from n k m : ℕ) (es : List ℕ) → AreEnds from es n → k ≤ m → m ≤ length es → begin from es k ≤ begin from es m
+begin-rises from n k m es h p q = within _ _ _ (run-ends from n k (m - k) m es (let e : m ≡ k + (m - k) = omega (arith, p) in e) h q)
+
+-- the ends counted from the last one
+pub moved-same : (start place a end after : ℕ) (hs : List ℕ) → start ≤ a → AreEnds a hs end → after ≡ end - start + place → map (λ e. after - (end - e)) hs ≡ moved start place hs
+moved-same start place a end after [] p h is = refl
+moved-same start place a end after (e ∷ hs) p h is =
+    let w = within e hs end h.1 in
+    let here : after - (end - e) ≡ e - start + place = omega (arith, is, p, h.0, w) in
+    λ i. here i ∷ moved-same start place e end after hs (omega (arith, p, h.0)) h.1 is i
+
+pub each-counted : (a end after : ℕ) (hs : List ℕ) → AreEnds a hs end → end - a ≤ after → Each (λ e. (e ≤ end) × (end - e ≤ after)) hs
+each-counted a end after [] h p = tt
+each-counted a end after (e ∷ hs) h p = let w = within e hs end h.1 in ((w, omega (arith, h.0, p)), each-counted e end after hs h.1 (omega (arith, h.0, p)))
+
+moved-ends : (start place a : ℕ) (hs : List ℕ) (end : ℕ) → start ≤ a → AreEnds a hs end → AreEnds (a - start + place) (moved start place hs) (end - start + place)
+moved-ends start place a [] end p h = ap (λ x. x - start + place) h
+moved-ends start place a (e ∷ hs) end p h = ((let q : a - start + place ≤ e - start + place = omega (arith, p, h.0) in q), moved-ends start place e hs end (omega (arith, p, h.0)) h.1)
+
+append-ends : (from m n : ℕ) (es gs : List ℕ) → AreEnds from es m → AreEnds m gs n → AreEnds from (es ++ gs) n
+append-ends from m n [] gs h k = subst (λ x. AreEnds x gs n) (sym h) k
+append-ends from m n (e ∷ es) gs h k = (h.0, append-ends e m n es gs h.1 k)
+
+module _ {X : Type 0} where
+  append-between : (from : ℕ) (es gs : List ℕ) (xs zs : List X) → AreEnds from es (length xs) → rows_between from (es ++ gs) (xs ++ zs) ≡ rows_between from es xs ++ rows_between (length xs) gs (xs ++ zs)
+  append-between from [] gs xs zs h = λ i. rows_between (h i) gs (xs ++ zs)
+  append-between from (e ∷ es) gs xs zs h = λ i. same-row from e xs zs h.0 (within e es (length xs) h.1) i ∷ append-between e es gs xs zs h.1 i
+
+  drop-past : (xs zs : List X) (n m : ℕ) → n ≡ length xs + m → drop n (xs ++ zs) ≡ drop m zs
+  drop-past [] zs n m e = ap (λ i. drop i zs) (let p : n ≡ m = omega (arith, e) in p)
+  drop-past (x ∷ xs) zs zero m e = absurd (omega (arith, e))
+  drop-past (x ∷ xs) zs (suc n) m e = drop-past xs zs n m (omega (arith, e))
+
+  take-less : (n m : ℕ) (xs : List X) → n ≤ m → take n (take m xs) ≡ take n xs
+  take-less zero m xs p = refl
+  take-less (suc n) zero xs p = absurd (omega (arith, p))
+  take-less (suc n) (suc m) [] p = refl
+  take-less (suc n) (suc m) (x ∷ xs) p = ap (λ ys. x ∷ ys) (take-less n m xs (omega (arith, p)))
+
+  drop-taken : (n m k : ℕ) (xs : List X) → m ≡ n + k → drop n (take m xs) ≡ take k (drop n xs)
+  drop-taken zero m k xs e = ap (λ i. take i xs) (let p : m ≡ k = omega (arith, e) in p)
+  drop-taken (suc n) zero k xs e = absurd (omega (arith, e))
+  drop-taken (suc n) (suc m) k [] e = sym (ap (take k) (drop_all (suc n) [] (let p : 0 ≤ suc n = omega arith in p)) ∙ take_all k [] (let p : 0 ≤ k = omega arith in p))
+  drop-taken (suc n) (suc m) k (x ∷ xs) e = drop-taken n m k xs (omega (arith, e))
+
+  -- a row of the part that was moved
+  moved-row : (xs ys : List X) (start end a e : ℕ) → start ≤ a → a ≤ e → e ≤ end
+      → take (e - start + length xs - (a - start + length xs)) (drop (a - start + length xs) (xs ++ take (end - start) (drop start ys))) ≡ take (e - a) (drop a ys)
+  moved-row xs ys start end a e p q r =
+      let n : e - start + length xs - (a - start + length xs) ≡ e - a = omega (arith, p, q) in
+      let here : drop (a - start + length xs) (xs ++ take (end - start) (drop start ys)) ≡ take (end - a) (drop a ys) =
+      drop-past xs (take (end - start) (drop start ys)) (a - start + length xs) (a - start) (let m : a - start + length xs ≡ length xs + (a - start) = omega arith in m)
+      ∙ (drop-taken (a - start) (end - start) (end - a) (drop start ys) (let m : end - start ≡ a - start + (end - a) = omega (arith, p, q, r) in m)
+      ∙ ap (take (end - a)) (drop-more start (a - start) a ys (let m : a ≡ start + (a - start) = omega (arith, p) in m))) in
+      (λ i. take (n i) (here i)) ∙ take-less (e - a) (end - a) (drop a ys) (let m : e - a ≤ end - a = omega (arith, q, r) in m)
+
+  moved-between : (xs ys : List X) (start end a : ℕ) (hs : List ℕ) → start ≤ a → AreEnds a hs end → rows_between (a - start + length xs) (moved start (length xs) hs) (xs ++ take (end - start) (drop start ys)) ≡ rows_between a hs ys
+  moved-between xs ys start end a [] p h = refl
+  moved-between xs ys start end a (e ∷ hs) p h =
+      λ i. moved-row xs ys start end a e p h.0 (within e hs end h.1) i ∷ moved-between xs ys start end e hs (omega (arith, p, h.0)) h.1 i
+
+  take-between : (from m : ℕ) (es : List ℕ) (ys : List X) → take m (rows_between from es ys) ≡ rows_between from (take m es) ys
+  take-between from zero es ys = refl
+  take-between from (suc m) [] ys = refl
+  take-between from (suc m) (e ∷ es) ys = ap (λ rs. take (e - from) (drop from ys) ∷ rs) (take-between e m es ys)
+
+  drop-between : (from k : ℕ) (es : List ℕ) (ys : List X) → drop k (rows_between from es ys) ≡ rows_between (begin from es k) (drop k es) ys
+  drop-between from zero es ys = first from es
+    where
+      first : (from : ℕ) (es : List ℕ) → rows_between from es ys ≡ rows_between (begin from es zero) es ys
+      first from es = refl
+  drop-between from (suc k) [] ys = refl
+  drop-between from (suc k) (e ∷ es) ys = drop-between e k es ys
+
+  -- rows that follow one another in another list, put at the end
+  pub run-between : (es fs : List ℕ) (xs ys : List X) (from to : ℕ) → AreEnds 0 es (length xs) → AreEnds 0 fs (length ys) → from ≤ to → to ≤ length fs
+      → rows_between 0 (es ++ moved (begin 0 fs from) (length xs) (take (to - from) (drop from fs))) (xs ++ take (begin 0 fs to - begin 0 fs from) (drop (begin 0 fs from) ys)) ≡ rows_between 0 es xs ++ take (to - from) (drop from (rows_between 0 fs ys))
+  run-between es fs xs ys from to h k p q =
+      let a = begin 0 fs from in
+      let end = begin 0 fs to in
+      let hs = take (to - from) (drop from fs) in
+      let zs = take (end - a) (drop a ys) in
+      let run : AreEnds a hs end = run-ends 0 (length ys) from (to - from) to fs (let n : to ≡ from + (to - from) = omega (arith, p) in n) k q in
+      let low : length xs ≡ a - a + length xs = omega arith in
+      append-between 0 es (moved a (length xs) hs) xs zs h
+      ∙ ap (λ rs. rows_between 0 es xs ++ rs) (
+      (λ i. rows_between (low i) (moved a (length xs) hs) (xs ++ zs))
+      ∙ (moved-between xs ys a end a hs (let r : a ≤ a = omega arith in r) run
+      ∙ sym (ap (take (to - from)) (drop-between 0 from fs ys) ∙ take-between a (to - from) (drop from fs) ys)))
+
+  pub run-fits : (es fs : List ℕ) (xs : List X) (n from to m : ℕ) → AreEnds 0 es (length xs) → AreEnds 0 fs n → from ≤ to → to ≤ length fs → m ≡ begin 0 fs to - begin 0 fs from + length xs
+      → AreEnds 0 (es ++ moved (begin 0 fs from) (length xs) (take (to - from) (drop from fs))) m
+  run-fits es fs xs n from to m h k p q e =
+      let a = begin 0 fs from in
+      let hs = take (to - from) (drop from fs) in
+      let run : AreEnds a hs (begin 0 fs to) = run-ends 0 n from (to - from) to fs (let i : to ≡ from + (to - from) = omega (arith, p) in i) k q in
+      let low : a - a + length xs ≡ length xs = omega arith in
+      append-ends 0 (length xs) m es (moved a (length xs) hs) h
+      (subst (λ z. AreEnds (length xs) (moved a (length xs) hs) z) (sym e) (subst (λ z. AreEnds z (moved a (length xs) hs) (begin 0 fs to - a + length xs)) low (moved-ends a (length xs) a hs (begin 0 fs to) (let r : a ≤ a = omega arith in r) run)))
 
 pub ruleset cuts = (length-between)

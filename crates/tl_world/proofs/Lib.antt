@@ -1,4 +1,5 @@
 pub mod Cuts
+pub mod Pushing
 pub mod Runs
 pub mod Narrowing
 pub mod Search

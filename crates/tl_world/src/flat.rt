@@ -1,6 +1,7 @@
 // Rows one after another in one list.
 ghost use Rattle.std.specs.List.{insert, remove};
-ghost use Rattle.std.specs.Prelude.{◌≡◌, ◌<◌, ◌≤◌, ◌+◌, ◌-◌, List, [], ◌∷◌, ◌++◌, length, take, drop, slice_index_or, IfOk, OnOk};
+ghost use Rattle.std.specs.Prelude.{◌≡◌, ◌<◌, ◌≤◌, ◌+◌, ◌-◌, List, [], ◌∷◌, ◌++◌, length, map, take, drop, slice_index_or, IfOk, OnOk};
+ghost use Rattle.tl_syntax.specs.Lists.{Each};
 ghost use Rattle.tl_world.specs.Cuts.{begin};
 ghost use Rattle.tl_world.specs.RowTests.{rows_eq, rows-tell};
 ghost use Rattle.tl_world.specs.Same.{tells-partial};
@@ -43,6 +44,32 @@ fn part(values: &[Value], from: usize, to: usize) -> &[Value]
     ensures { result.now ≡ take (to - from) (drop from values.now) }
 {
     &values[from..to]
+}
+
+/// The ends from a place on up to another.
+fn part_of_ends(ends: &[usize], from: usize, to: usize) -> &[usize]
+    requires order { from ≤ to }
+    requires bound { to ≤ length ends.now }
+    ensures { result.now ≡ take (to - from) (drop from ends.now) }
+{
+    &ends[from..to]
+}
+
+/// More ends, moved so that `last` becomes `after`. After a failure the first ends are those of before.
+fn push_moved(
+    ends: &mut Vec<usize>,
+    more: &[usize],
+    last: usize,
+    after: usize,
+) -> Result<(), NoMemory>
+    requires low { Each (λ e. (e ≤ last) × (last - e ≤ after)) more.now }
+    ensures all { OnOk result (ends.new.items ≡ ends.old.items ++ map (λ e. after - (last - e)) more.now) }
+    ensures first { take (length ends.old.items) ends.new.items ≡ ends.old.items }
+{
+    for e in more {
+        ends.push(after - (last - e))?;
+    }
+    Ok(())
 }
 
 impl PartialEq for Flat {
@@ -105,12 +132,21 @@ impl Flat {
         requires bound { to ≤ length other.now }
         ensures { OnOk result (self.new ≡ self.old ++ take (to - from) (drop from other.now)) }
     {
-        let mut k = from;
-        while k < to {
-            self.push(other.row(k))?;
-            k += 1;
+        let ends = other.ends.as_slice();
+        let last = begin(ends, to);
+        let rows = self.ends.as_slice().len();
+        let values = self.values.as_slice().len();
+        self.values
+            .extend_from_slice(part(other.values.as_slice(), begin(ends, from), last))?;
+        let after = self.values.as_slice().len();
+        match push_moved(&mut self.ends, part_of_ends(ends, from, to), last, after) {
+            Ok(()) => Ok(()),
+            Err(fault) => {
+                self.ends.truncate(rows);
+                self.values.truncate(values);
+                Err(fault)
+            }
         }
-        Ok(())
     }
 
     /// The rows with one more at place `k`.
