@@ -15,6 +15,7 @@ pub mod Matching
 pub mod Least
 pub mod Filled
 pub mod Fronts
+pub mod Leading
 pub mod Halves
 pub mod Turns
 pub mod Putting

@@ -3,11 +3,11 @@ ghost use Rattle.std.specs.Prelude.{◌≡◌, ◌<◌, ◌≤◌, ℕ, List, le
 ghost use Rattle.tl_syntax.specs.Lists.{Rises};
 ghost use Rattle.tl_world.specs.Fits.{fits_at, fits_all, occurs, BeginsAs};
 ghost use Rattle.tl_world.specs.Front.{seen_after, is_in_turn, are_in_turn};
-ghost use Rattle.tl_world.specs.Least.{IsLeast, fits_some};
+ghost use Rattle.tl_world.specs.Least.{IsLeast, fits_some, found_in};
 ghost use Rattle.tl_world.specs.Tables.{row_cmp};
 
-use crate::front::{front_of, order_to};
-use crate::{Match, Part, Rows};
+use crate::front::order_of_front;
+use crate::{Part, Rows};
 use tl_syntax::Value;
 
 /// How many first variables have values after the part, where a tuple that begins with the first `seen` values can make it the value `v`. A new variable gets its value.
@@ -59,31 +59,34 @@ fn put_values(parts: &[Part], free: u32, row: &[Value], values: &mut [Value; 9])
     true
 }
 
-/// The least tuple that makes the parts one of the rows from a place on.
+/// Whether some tuple makes the parts one of the rows from a place on. The values of the least one are then put into the first places of `values`.
 ///
 /// It is that of the first such row. Rows are looked at up to the first whose leading values exceed the fixed leading parts.
-pub(crate) fn first_fit(rows: &Rows, parts: &[Part], free: u32, from: usize) -> Option<Match>
+pub(crate) fn put_first(
+    rows: &Rows,
+    parts: &[Part],
+    free: u32,
+    from: usize,
+    values: &mut [Value; 9],
+) -> bool
     requires few { free ≤ 9 }
     requires each { (n : ℕ) → n < free → occurs n parts.now ≡ true }
     requires slots { (n : ℕ) → occurs n parts.now ≡ true → n < free }
-    requires short { length parts.now ≤ 9 }
     requires turn { are_in_turn 0 parts.now ≡ true }
     requires order { Rises row_cmp rows.now }
     requires bound { from ≤ length rows.now }
-    ensures { IsLeast free (λ t. fits_some parts.now (drop from rows.now) t) result }
+    ensures { IsLeast free (λ t. fits_some parts.now (drop from rows.now) t) (found_in result free values.new) }
 {
-    let lead = front_of(parts, &[]);
-    let mut values = [Value::Sym(0); 9];
     let mut k = from;
     while k < rows.len() {
         let row = rows.row(k);
-        if put_values(parts, free, row, &mut values) {
-            return Some(Match { values, len: free });
+        if put_values(parts, free, row, values) {
+            return true;
         }
-        if order_to(&lead.values[..lead.len], row).is_lt() {
-            return None;
+        if order_of_front(parts, &[], row).is_lt() {
+            return false;
         }
         k += 1;
     }
-    None
+    false
 }

@@ -14,15 +14,15 @@ ghost use Rattle.tl_terms.specs.Step.{with_all, without_all, overwritten};
 ghost use Rattle.tl_terms.specs.World.{has_fact, value_at};
 ghost use Rattle.tl_world.specs.Codes.{tables_code};
 ghost use Rattle.tl_world.specs.Fits.{occurs};
-ghost use Rattle.tl_world.specs.Least.{IsLeast, above};
+ghost use Rattle.tl_world.specs.Least.{IsLeast, above, found_in};
 ghost use Rattle.tl_world.specs.Next.{IsNext};
-ghost use Rattle.tl_world.specs.Patterns.{IsLawful, makes_true, is_true_of, filled, tuple_of};
+ghost use Rattle.tl_world.specs.Patterns.{IsLawful, makes_true, is_true_of, filled, parts_of, tuple_of};
 ghost use Rattle.tl_world.specs.Same.{world_eq, world-tells, tells-partial, tells-equivalence, world_fed, world-alike};
 ghost use Rattle.tl_world.specs.Tables.{InOrder, fact_tables, place_tables, set_of, map_of, row_cmp, place_row};
 
 use crate::facts::{with_fact, without};
 use crate::named::{Named, find_table, share};
-use crate::next::{next_in_places, next_in_rows};
+use crate::next::{next_in_places, put_next};
 use crate::places::{find_place, with_place};
 use crate::row_search::find_row;
 use crate::{Match, Part, Pattern, PlaceRow, PlaceRows, Rows};
@@ -202,31 +202,38 @@ impl World {
         ensures next { IsNext pattern.now.free (makes_true self.now pattern.now) (option_map tuple_of after) (option_map tuple_of result) }
         ensures len { IfSome result (λ m. m.len ≡ pattern.now.free) }
     {
-        let parts = &pattern.parts[..pattern.len as usize];
         if pattern.place {
+            let parts = &pattern.parts[..pattern.len as usize];
             self.next_place(pattern.name, parts, pattern.free, &after)
         } else {
-            self.next_fact(pattern.name, parts, pattern.free, &after)
+            let mut values = [Value::Sym(0); 9];
+            if self.put_next_fact(pattern, &after, &mut values) {
+                Some(Match {
+                    values,
+                    len: pattern.free,
+                })
+            } else {
+                None
+            }
         }
     }
 
-    /// The least tuple above `after` that makes the parts the arguments of a fact of `pred`.
-    fn next_fact(
+    /// Whether some tuple above `after` makes the pattern a fact. The values of the least one are then put into the first places of `values`.
+    fn put_next_fact(
         &self,
-        pred: u32,
-        parts: &[Part],
-        free: u32,
+        pattern: &Pattern,
         after: &Option<Match>,
-    ) -> Option<Match>
-        requires few { free ≤ 9 }
-        requires each { (n : ℕ) → n < free → occurs n parts.now ≡ true }
-        requires slots { (n : ℕ) → occurs n parts.now ≡ true → n < free }
-        requires short { length parts.now ≤ 9 }
-        ensures { IsLeast free (λ t. is_true_of self.now false pred (filled parts.now t) && above after.now free t) result }
+        values: &mut [Value; 9],
+    ) -> bool
+        requires pattern { IsLawful pattern.now }
+        ensures { IsLeast pattern.now.free (λ t. is_true_of self.now false pattern.now.name (filled (parts_of pattern.now) t) && above after.now pattern.now.free t) (found_in result pattern.now.free values.new) }
     {
-        match self.rows(pred) {
-            Some(rows) => next_in_rows(rows, parts, free, after),
-            None => None,
+        match self.rows(pattern.name) {
+            Some(rows) => {
+                let parts = &pattern.parts[..pattern.len as usize];
+                put_next(rows, parts, pattern.free, after, values)
+            }
+            None => false,
         }
     }
 

@@ -17,8 +17,8 @@ loop-k-init c =
     let same : List Value → List Value = λ r. r in
     let parts = c.args.parts.now in
     let rows = c.args.rows.now in
-    let f = take c.front_of-low.result.len c.front_of-low.result.values in
-    let before = subst (λ f. Each (λ r. front_cmp f r ≡ Greater) (take c.rows_before-k.result rows)) (c.front_of-low.ensures.value ∙ ap (front 0 parts) c.values_of.ensures.value) (passed-greater f (take c.rows_before-k.result rows) c.rows_before-k.ensures.before) in
+    let f = front 0 parts c.values_of.result.now in
+    let before = subst (λ f. Each (λ r. front_cmp f r ≡ Greater) (take c.rows_before-k.result rows)) (ap (front 0 parts) c.values_of.ensures.value) (passed-greater f (take c.rows_before-k.result rows) c.rows_before-k.ensures.before) in
     record {
       within = c.rows_before-k.ensures.bound;
       least = subst (λ ws. IsLeast c.args.free (λ t. fits_some parts (take c.rows_before-k.result ws) t && above c.args.after.now c.args.free t) _) (map-id rows)

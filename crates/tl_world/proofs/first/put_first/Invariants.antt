@@ -1,12 +1,11 @@
 use Rattle.std.proofs.Common.{◌≡◌, ◌≤◌, ◌-◌, List, length, drop}
 use Rattle.tl_syntax.specs.declared.value.Value.{Value}
 use Rattle.tl_world.specs.Least.{fits_some}
-use Rattle.tl_world.proofs.first.first_fit.Given as goal
+use Rattle.tl_world.proofs.first.put_first.Given as goal
 
 abbrev pub invariant-loop-k : goal.invariant-loop-k
 invariant-loop-k l = record {
   within : l.k ≤ length l.rows;
-  size : length l.values ≡ 9;
   same : (t : List Value) → fits_some l.parts (drop l.from l.rows) t ≡ fits_some l.parts (drop l.k l.rows) t;
 }
 

@@ -6,7 +6,7 @@ use Rattle.tl_world.specs.Front.{front, front_cmp}
 use Rattle.tl_world.specs.Least.{IsLeast, fits_some}
 use Rattle.tl_world.proofs.Least.{least-same}
 use Rattle.tl_world.proofs.Turns.{least-first, past-none}
-use Rattle.tl_world.proofs.first.first_fit.Goals as goal
+use Rattle.tl_world.proofs.first.put_first.Goals as goal
 
 pub returns-then-put_values : goal.returns-then-put_values
 returns-then-put_values c =
@@ -23,7 +23,7 @@ unfolding IsLeast
 returns-then-is_lt c t size =
     let parts = c.args.parts.now in
     let rows = c.args.rows.now in
-    let less : is_lt (front_cmp (front 0 parts []) c.row-row.result.now) ≡ true = ap (λ f. is_lt (front_cmp f c.row-row.result.now)) (sym c.front_of-lead.ensures.value) ∙ (ap is_lt (sym c.order_to.ensures) ∙ (sym c.is_lt.ensures ∙ c.if-is_lt.true)) in
+    let less : is_lt (front_cmp (front 0 parts []) c.row-row.result.now) ≡ true = ap is_lt (sym c.order_of_front.ensures) ∙ (sym c.is_lt.ensures ∙ c.if-is_lt.true) in
     c.loop-k.invariant.same t
     ∙ past-none parts c.args.free c.requires.turn c.requires.each c.requires.slots rows c.loop-k.k c.row-row.result.now (omega (arith, c.loop-k-test.true, c.len.ensures)) c.row-row.ensures c.requires.order less t
 
