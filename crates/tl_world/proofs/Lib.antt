@@ -23,6 +23,7 @@ pub mod Skipping
 pub mod WholeRows
 pub mod Chains
 pub mod Truths
+pub mod Orders
 pub mod Contents
 pub mod GoalTests
 pub mod Finite

@@ -1,6 +1,10 @@
 // Tables of facts, and what changes them.
 ghost use Rattle.std.specs.FinSet as set;
-ghost use Rattle.std.specs.Prelude.{◌≡◌, OnOk};
+ghost use Rattle.std.specs.List.{insert};
+ghost use Rattle.std.specs.List.Sorted.{IsPermutation};
+ghost use Rattle.std.specs.Prelude.{◌≡◌, ◌≤◌, length, map, IfOk, OnOk};
+ghost use Rattle.tl_syntax.specs.Keys.{fact_key};
+ghost use Rattle.tl_terms.specs.Step.{with_all};
 ghost use Rattle.tl_world.specs.Tables.{InOrder, fact_tables, set_of};
 
 use crate::Rows;
@@ -8,7 +12,7 @@ use crate::named::{Named, find_table};
 use crate::row_search::find_row;
 use std::alloc::Global;
 use std::rc::Rc;
-use tl_syntax::{NoMemory, Value, Values};
+use tl_syntax::{Fact, NoMemory, Value, Values};
 
 /// Takes the fact out of the tables, where it is there.
 pub(crate) fn without(
@@ -46,6 +50,17 @@ pub(crate) fn without(
     }
 }
 
+/// The rows with one more at place `k`. They are copied where another world shares them.
+fn rows_with(alloc: Global, rows: Rc<Rows>, k: usize, row: &[Value]) -> Result<Rows, NoMemory>
+    requires { k ≤ length rows.value }
+    ensures { IfOk result (λ r. r ≡ insert rows.value k row.now) }
+{
+    match Rc::try_unwrap(rows) {
+        Ok(own) => own.put(alloc, k, row),
+        Err(shared) => shared.with(alloc, k, row),
+    }
+}
+
 /// Puts the fact into the tables, where it is not there.
 pub(crate) fn with_fact(
     alloc: Global,
@@ -74,7 +89,7 @@ pub(crate) fn with_fact(
                 Ok(_) => Ok(()),
                 Err(k) => {
                     let old = tables.remove(i);
-                    let rows = old.rows.with(alloc, k, args.as_slice())?;
+                    let rows = rows_with(alloc, old.rows, k, args.as_slice())?;
                     let shared = Rc::new(alloc, rows)?;
                     let fresh = Named {
                         name: pred,
@@ -85,5 +100,50 @@ pub(crate) fn with_fact(
                 }
             }
         }
+    }
+}
+
+/// Puts the facts into the tables, from the last on.
+fn with_each(alloc: Global, tables: &mut Vec<Named<Rows>>, adds: &[Fact]) -> Result<(), NoMemory>
+    requires { InOrder (fact_tables tables.old.items) }
+    ensures order { OnOk result (InOrder (fact_tables tables.new.items)) }
+    ensures facts { OnOk result (set_of (fact_tables tables.new.items) ≡ with_all (set_of (fact_tables tables.old.items)) (map fact_key adds.now)) }
+{
+    let mut j = adds.len();
+    while j > 0 {
+        j -= 1;
+        let a = &adds[j];
+        with_fact(alloc, tables, a.pred, &a.args)?;
+    }
+    Ok(())
+}
+
+/// The facts in falling order.
+fn falling(alloc: Global, facts: &[Fact]) -> Result<Vec<Fact>, NoMemory>
+    ensures { IfOk result (λ v. IsPermutation facts.now v.items) }
+{
+    let mut out = Vec::with_capacity(alloc, facts.len())?;
+    for f in facts {
+        out.push(f.copy(alloc)?)?;
+    }
+    out.sort_unstable_by(|a, b| b.order(a));
+    Ok(out)
+}
+
+/// Puts the facts into the tables. Many are sorted first, so that each comes after the rows that are there, where a table is new.
+pub(crate) fn with_facts(
+    alloc: Global,
+    tables: &mut Vec<Named<Rows>>,
+    adds: &[Fact],
+) -> Result<(), NoMemory>
+    requires { InOrder (fact_tables tables.old.items) }
+    ensures order { OnOk result (InOrder (fact_tables tables.new.items)) }
+    ensures facts { OnOk result (set_of (fact_tables tables.new.items) ≡ with_all (set_of (fact_tables tables.old.items)) (map fact_key adds.now)) }
+{
+    if adds.len() < 8 {
+        with_each(alloc, tables, adds)
+    } else {
+        let sorted = falling(alloc, adds)?;
+        with_each(alloc, tables, sorted.as_slice())
     }
 }

@@ -95,6 +95,20 @@ impl Rows {
         })
     }
 
+    /// The rows with one more at place `k`. At the end it takes its place in these, and else they are copied.
+    pub(crate) fn put(self, alloc: Global, k: usize, row: &[Value]) -> Result<Rows, NoMemory>
+        requires { k ≤ length self }
+        ensures { IfOk result (λ r. r ≡ insert self k row.now) }
+    {
+        if k < self.flat.len() {
+            return self.with(alloc, k, row);
+        }
+        let code = self.code.wrapping_add(code_of_row(row));
+        let mut flat = self.flat;
+        flat.push(row)?;
+        Ok(Rows { flat, code })
+    }
+
     /// The rows without that at place `k`.
     pub(crate) fn without(&self, alloc: Global, k: usize) -> Result<Rows, NoMemory>
         requires { k < length self.now }

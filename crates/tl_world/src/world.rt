@@ -20,7 +20,7 @@ ghost use Rattle.tl_world.specs.Patterns.{IsLawful, makes_true, is_true_of, fill
 ghost use Rattle.tl_world.specs.Same.{world_eq, world-tells, tells-partial, tells-equivalence, world_fed, world-alike};
 ghost use Rattle.tl_world.specs.Tables.{InOrder, fact_tables, place_tables, set_of, map_of, row_cmp, place_row};
 
-use crate::facts::{with_fact, without};
+use crate::facts::{with_facts, without};
 use crate::named::{Named, find_table, share};
 use crate::next::{next_in_places, put_next};
 use crate::places::{find_place, with_place};
@@ -259,7 +259,7 @@ impl World {
     }
 
     /// This world without the facts of `dels`, with those of `adds`, and with the values of `sets`; of two values for one place the earlier counts.
-    /// This world stays as it is. Tables that do not change are shared, and each of the others is copied once. It fails for want of memory alone.
+    /// This world stays as it is. Tables that do not change are shared. It fails for want of memory alone.
     pub fn changed(
         &self,
         alloc: Global,
@@ -279,12 +279,7 @@ impl World {
             let d = &dels[i];
             without(alloc, &mut facts, d.pred, d.args.as_slice())?;
         }
-        let mut j = adds.len();
-        while j > 0 {
-            j -= 1;
-            let a = &adds[j];
-            with_fact(alloc, &mut facts, a.pred, &a.args)?;
-        }
+        with_facts(alloc, &mut facts, adds)?;
         let mut k = sets.len();
         while k > 0 {
             k -= 1;

@@ -45,7 +45,7 @@ returns-in_ok-insert-in-Err-find_row-clause-order c =
     let row = c.as_slice-in-Err-find_row.result.now in
     let more = change.row-put fact_row _ _ _ _ found c.args.args.now tt k _ row same (ap fact_row c.as_slice-in-Err-find_row.ensures) c.in-Err-find_row.ensures.range (rw c.as_slice-in-Ok.ensures at c.in-Err-find_row.ensures.place) in
     let fresh : Named (List (List Value)) = record { name = c.args.pred; rows = c.in_ok-shared-in-Err-find_row.shared } in
-    let held = c.in_ok-shared-in-Err-find_row.ensures.ok ∙ (c.in_ok-rows-in-Err-find_row.ensures ∙ ap (λ xs. insert xs k row) c.deref-in-Err-find_row.ensures) in
+    let held = c.in_ok-shared-in-Err-find_row.ensures.ok ∙ c.in_ok-rows-in-Err-find_row.ensures in
     subst (λ ts. InOrder (fact_tables ts)) (sym (c.in_ok-insert-in-Err-find_row.ensures.items ∙ ap (λ ts. insert ts c.in-Ok.i fresh) c.remove-old.ensures.items))
     (change.order-put fact_row _ _ _ _ found fresh refl c.args.args.now tt (ap (map fact_row) held ∙ more))
 
@@ -57,7 +57,7 @@ returns-in_ok-insert-in-Err-find_row-clause-facts c =
     let row = c.as_slice-in-Err-find_row.result.now in
     let more = change.row-put fact_row _ _ _ _ found c.args.args.now tt k _ row same (ap fact_row c.as_slice-in-Err-find_row.ensures) c.in-Err-find_row.ensures.range (rw c.as_slice-in-Ok.ensures at c.in-Err-find_row.ensures.place) in
     let fresh : Named (List (List Value)) = record { name = c.args.pred; rows = c.in_ok-shared-in-Err-find_row.shared } in
-    let held = c.in_ok-shared-in-Err-find_row.ensures.ok ∙ (c.in_ok-rows-in-Err-find_row.ensures ∙ ap (λ xs. insert xs k row) c.deref-in-Err-find_row.ensures) in
+    let held = c.in_ok-shared-in-Err-find_row.ensures.ok ∙ c.in_ok-rows-in-Err-find_row.ensures in
     set-put (fact_tables c.args.tables.now.items) (fact_tables c.insert-in-Err-find_row.new.self.items) (c.args.pred, c.args.args.now)
     (λ q. ap (λ ts. dict.find key_cmp q (entries_of (fact_tables ts))) (c.in_ok-insert-in-Err-find_row.ensures.items ∙ ap (λ ts. insert ts c.in-Ok.i fresh) c.remove-old.ensures.items)
     ∙ change.find-put fact_row _ _ _ _ found fresh refl c.args.args.now tt (ap (map fact_row) held ∙ more) q)

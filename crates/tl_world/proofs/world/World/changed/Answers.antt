@@ -36,9 +36,9 @@ all_of : {A : Type 0} (xs : List A) (i : ℕ) → i ≤ 0 → drop i xs ≡ xs
 all_of xs zero p = refl
 all_of xs (suc i) p = absurd (omega arith)
 
-facts_done : (s0 s1 s2 w0 : set.FinSet key_cmp) (dels adds : List Fact) (i j : ℕ) → i ≤ 0 → j ≤ 0 → s0 ≡ w0
-    → s1 ≡ without_all s0 (map fact_key (drop i dels)) → s2 ≡ with_all s1 (map fact_key (drop j adds)) → s2 ≡ with_all (without_all w0 (map fact_key dels)) (map fact_key adds)
-facts_done s0 s1 s2 w0 dels adds i j p q e d f = f ∙ λ k. with_all ((d ∙ λ n. without_all (e n) (map fact_key (all_of dels i p n))) k) (map fact_key (all_of adds j q k))
+facts_done : (s0 s1 s2 w0 : set.FinSet key_cmp) (dels adds : List Fact) (i : ℕ) → i ≤ 0 → s0 ≡ w0
+    → s1 ≡ without_all s0 (map fact_key (drop i dels)) → s2 ≡ with_all s1 (map fact_key adds) → s2 ≡ with_all (without_all w0 (map fact_key dels)) (map fact_key adds)
+facts_done s0 s1 s2 w0 dels adds i p e d f = f ∙ ap (λ s. with_all s (map fact_key adds)) (d ∙ λ n. without_all (e n) (map fact_key (all_of dels i p n)))
 
 places_done : (m0 m1 w0 : dict.FinMap key_cmp Value) (sets : List PlaceValue) (k : ℕ) → k ≤ 0 → m0 ≡ w0 → m1 ≡ overwritten m0 (map place_entry (drop k sets)) → m1 ≡ overwritten w0 (map place_entry sets)
 places_done m0 m1 w0 sets k p e d = d ∙ λ n. overwritten (e n) (map place_entry (all_of sets k p n))
@@ -60,9 +60,9 @@ loop-k-init c = record {
 pub returns-clause-facts : goal.returns-clause-facts
 returns-clause-facts c =
     c.whole.ensures.facts
-    ∙ facts_done _ _ _ _ c.args.dels.now c.args.adds.now c.loop-i.i c.loop-j.j (omega arith) (omega arith)
+    ∙ facts_done _ _ _ _ c.args.dels.now c.args.adds.now c.loop-i.i (omega arith)
     (ap set_of (same-facts _ _ _ c.in_ok-facts.ensures.same c.as_slice.ensures.value) ∙ ap (λ (w : World). w.facts) c.self.view_is)
-    c.loop-i.invariant.now c.loop-j.invariant.now
+    c.loop-i.invariant.now c.in_ok-with_facts.ensures.facts
 
 pub returns-clause-places : goal.returns-clause-places
 returns-clause-places c =
