@@ -1,7 +1,8 @@
 -- Rows of a list that is cut by the places at which they end.
 use Rattle.std.proofs.Common.{◌≡◌, ℕ, zero, suc, ◌+◌, ◌-◌, ◌<◌, ◌≤◌, List, [], ◌∷◌, ◌++◌, length, map, get_or, take, drop, refl, sym, ap, ◌∙◌, subst, arith}
 use Rattle.std.proofs.lemmas.List.{take_all, drop_all, take-append-le, drop-append-le, take-append-drop, length-drop, length-take-le}
-use Rattle.std.proofs.Math.Seq.{drop-append_seam}
+use Rattle.std.proofs.Math.Seq.{take-append_seam, drop-append_seam}
+use Rattle.std.specs.Prelude.{slice_set}
 use Rattle.tl_syntax.specs.Lists.{Each}
 use Rattle.tl_world.specs.Cuts.{rows_between, AreEnds, begin}
 
@@ -221,5 +222,78 @@ module _ {X : Type 0} where
       let low : a - a + length xs ≡ length xs = omega arith in
       append-ends 0 (length xs) m es (moved a (length xs) hs) h
       (subst (λ z. AreEnds (length xs) (moved a (length xs) hs) z) (sym e) (subst (λ z. AreEnds z (moved a (length xs) hs) (begin 0 fs to - a + length xs)) low (moved-ends a (length xs) a hs (begin 0 fs to) (let r : a ≤ a = omega arith in r) run)))
+
+-- numbers that grew
+abbrev pub grown : ℕ → List ℕ → List ℕ
+grown w es = map (λ n. n + w) es
+
+-- the numbers after a place grew, and now that at it
+pub set-grown : (w : ℕ) (ns : List ℕ) (k d : ℕ) → k < length ns → slice_set (take (suc k) ns ++ grown w (drop (suc k) ns)) k (get_or (take (suc k) ns ++ grown w (drop (suc k) ns)) k d + w) ≡ take k ns ++ grown w (drop k ns)
+set-grown w [] k d p = absurd (omega arith)
+set-grown w (n ∷ ns) zero d p = refl
+set-grown w (n ∷ ns) (suc k) d p = ap (λ ms. n ∷ ms) (set-grown w ns k d (omega arith))
+
+pub next-fits : (w m : ℕ) (ns : List ℕ) (from k d : ℕ) → from ≤ k → k < length ns → Each (λ n. n + w < m) (drop from ns) → get_or (take (suc k) ns ++ grown w (drop (suc k) ns)) k d + w < m
+next-fits w m [] from k d q p h = absurd (omega arith)
+next-fits w m (n ∷ ns) zero zero d q p h = h.0
+next-fits w m (n ∷ ns) zero (suc k) d q p h = next-fits w m ns zero k d (omega arith) (omega arith) h.1
+next-fits w m (n ∷ ns) (suc from) zero d q p h = absurd (omega (arith, q))
+next-fits w m (n ∷ ns) (suc from) (suc k) d q p h = next-fits w m ns from k d (omega (arith, q)) (omega arith) h
+
+pub grown-ends : (a w n : ℕ) (es : List ℕ) → AreEnds a es n → AreEnds (a + w) (grown w es) (n + w)
+grown-ends a w n [] h = ap (λ m. m + w) h
+grown-ends a w n (e ∷ es) h = ((let p : a + w ≤ e + w = omega (arith, h.0) in p), grown-ends e w n es h.1)
+
+pub put-ends : (from w n : ℕ) (es : List ℕ) (k : ℕ) → AreEnds from es n → k ≤ length es → AreEnds from (take k es ++ grown w (begin from es k ∷ drop k es)) (n + w)
+put-ends from w n es zero h p = ((let q : from ≤ from + w = omega arith in q), grown-ends from w n es h)
+put-ends from w n [] (suc k) h p = absurd (omega (arith, p))
+put-ends from w n (e ∷ es) (suc k) h p = (h.0, put-ends e w n es k h.1 (omega (arith, p)))
+
+pub each-fits : (w m : ℕ) (from n : ℕ) (es : List ℕ) (k : ℕ) → AreEnds from es n → k ≤ length es → n + w < m → Each (λ e. e + w < m) (begin from es k ∷ drop k es)
+each-fits w m from n es zero h p q = ((let r = within from es n h in let t : from + w < m = omega (arith, r, q) in t), all-fit from n es h q)
+  where
+    all-fit : (from n : ℕ) (es : List ℕ) → AreEnds from es n → n + w < m → Each (λ e. e + w < m) es
+    all-fit from n [] h q = tt
+    all-fit from n (e ∷ es) h q = ((let r = within e es n h.1 in let t : e + w < m = omega (arith, r, q) in t), all-fit e n es h.1 q)
+each-fits w m from n [] (suc k) h p q = absurd (omega (arith, p))
+each-fits w m from n (e ∷ es) (suc k) h p q = each-fits w m e n es k h.1 (omega (arith, p)) q
+
+module _ {X : Type 0} where
+  -- what stood from a place on stands w further on
+  grown-between : (s w a : ℕ) (es : List ℕ) (xs row : List X) → length row ≡ w → s ≤ length xs → s ≤ a → AreEnds a es (length xs) → rows_between (a + w) (grown w es) (take s xs ++ (row ++ drop s xs)) ≡ rows_between a es xs
+  grown-between s w a [] xs row e low p h = refl
+  grown-between s w a (b ∷ es) xs row e low p h =
+      let n : b + w - (a + w) ≡ b - a = omega arith in
+      let l : length (take s xs) ≡ s = length-take-le s xs low in
+      let here : drop (a + w) (take s xs ++ (row ++ drop s xs)) ≡ drop a xs =
+      drop-past (take s xs) (row ++ drop s xs) (a + w) (a - s + w) (let m : a + w ≡ length (take s xs) + (a - s + w) = omega (arith, l, p) in m)
+      ∙ (drop-past row (drop s xs) (a - s + w) (a - s) (let m : a - s + w ≡ length row + (a - s) = omega (arith, e) in m)
+      ∙ drop-more s (a - s) a xs (let m : a ≡ s + (a - s) = omega (arith, p) in m)) in
+      λ i. take (n i) (here i) ∷ grown-between s w b es xs row e low (omega (arith, p, h.0)) h.1 i
+
+  -- a row that ends before a place stays
+  kept-row : (from e s : ℕ) (xs zs : List X) → from ≤ e → e ≤ s → s ≤ length xs → take (e - from) (drop from (take s xs ++ zs)) ≡ take (e - from) (drop from xs)
+  kept-row from e s xs zs p q r =
+      let l : length (take s xs) ≡ s = length-take-le s xs r in
+      let within_part : e ≤ length (take s xs) = omega (arith, l, q) in
+      same-row from e (take s xs) zs p within_part
+      ∙ sym (ap (λ ys. take (e - from) (drop from ys)) (sym (take-append-drop s xs)) ∙ same-row from e (take s xs) (drop s xs) p within_part)
+
+  -- one more row at a place
+  pub put-between : (from w : ℕ) (es : List ℕ) (xs row : List X) (k : ℕ) → length row ≡ w → AreEnds from es (length xs) → k ≤ length es
+      → rows_between from (take k es ++ grown w (begin from es k ∷ drop k es)) (take (begin from es k) xs ++ (row ++ drop (begin from es k) xs)) ≡ take k (rows_between from es xs) ++ row ∷ drop k (rows_between from es xs)
+  put-between from w es xs row zero e h p =
+      let low = within from es (length xs) h in
+      let l : length (take from xs) ≡ from = length-take-le from xs low in
+      let here : take (from + w - from) (drop from (take from xs ++ (row ++ drop from xs))) ≡ row =
+      (λ i. take ((let n : from + w - from ≡ length row = omega (arith, e) in n) i) (drop-past (take from xs) (row ++ drop from xs) from 0 (let m : from ≡ length (take from xs) + 0 = omega (arith, l) in m) i))
+      ∙ take-append_seam row (drop from xs) in
+      λ i. here i ∷ grown-between from w from es xs row e low (let r : from ≤ from = omega arith in r) h i
+  put-between from w [] xs row (suc k) e h p = absurd (omega (arith, p))
+  put-between from w (x ∷ es) xs row (suc k) e h p =
+      let s = begin x es k in
+      let b = begin-within x (length xs) k es h.1 (omega (arith, p)) in
+      let a = within x (take k es) s (taken-ends x (length xs) k es h.1 (omega (arith, p))) in
+      λ i. kept-row from x s xs (row ++ drop s xs) h.0 a b i ∷ put-between x w es xs row k e h.1 (omega (arith, p)) i
 
 pub ruleset cuts = (length-between)

@@ -1,5 +1,6 @@
 pub mod Cuts
 pub mod Pushing
+pub mod Inserting
 pub mod Runs
 pub mod Narrowing
 pub mod Search

@@ -56,7 +56,7 @@ fn rows_with(alloc: Global, rows: Rc<Rows>, k: usize, row: &[Value]) -> Result<R
     ensures { IfOk result (λ r. r ≡ insert rows.value k row.now) }
 {
     match Rc::try_unwrap(rows) {
-        Ok(own) => own.put(alloc, k, row),
+        Ok(own) => own.put(k, row),
         Err(shared) => shared.with(alloc, k, row),
     }
 }

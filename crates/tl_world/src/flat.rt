@@ -1,6 +1,6 @@
 // Rows one after another in one list.
 ghost use Rattle.std.specs.List.{insert, remove};
-ghost use Rattle.std.specs.Prelude.{◌≡◌, ◌<◌, ◌≤◌, ◌+◌, ◌-◌, List, [], ◌∷◌, ◌++◌, length, map, take, drop, slice_index_or, IfOk, OnOk};
+ghost use Rattle.std.specs.Prelude.{◌≡◌, ◌<◌, ◌≤◌, ◌+◌, ◌-◌, ◌^◌, List, [], ◌∷◌, ◌++◌, length, map, take, drop, slice_index_or, IfOk, OnOk};
 ghost use Rattle.tl_syntax.specs.Lists.{Each};
 ghost use Rattle.tl_world.specs.Cuts.{begin};
 ghost use Rattle.tl_world.specs.RowTests.{rows_eq, rows-tell};
@@ -70,6 +70,27 @@ fn push_moved(
         ends.push(after - (last - e))?;
     }
     Ok(())
+}
+
+/// Adds to each number from a place on.
+fn add_to_rest(numbers: &mut [usize], from: usize, more: usize)
+    requires bound { from ≤ length numbers.old }
+    requires fit { Each (λ n. n + more < 2 ^ 64) (drop from numbers.old) }
+    ensures { numbers.new ≡ take from numbers.old ++ map (λ n. n + more) (drop from numbers.old) }
+{
+    let mut k = numbers.len();
+    while k > from {
+        k -= 1;
+        numbers[k] += more;
+    }
+}
+
+/// Puts the last `count` values before the others from a place on.
+fn turn_rest(values: &mut [Value], from: usize, count: usize)
+    requires { from + count ≤ length values.old }
+    ensures { values.new ≡ take from values.old ++ (drop (length values.old - from - count) (drop from values.old) ++ take (length values.old - from - count) (drop from values.old)) }
+{
+    values[from..].rotate_right(count);
 }
 
 impl PartialEq for Flat {
@@ -163,6 +184,21 @@ impl Flat {
         out.push(row)?;
         out.push_rows(self, k, self.len())?;
         Ok(out)
+    }
+
+    /// The rows with one more at place `k`, which is put into them.
+    pub(crate) fn put(self, k: usize, row: &[Value]) -> Result<Flat, NoMemory>
+        requires { k ≤ length self }
+        ensures { IfOk result (λ f. f ≡ insert self k row.now) }
+    {
+        let mut ends = self.ends;
+        let mut values = self.values;
+        let start = begin(ends.as_slice(), k);
+        values.extend_from_slice(row)?;
+        turn_rest(values.as_mut_slice(), start, row.len());
+        ends.insert(k, start)?;
+        add_to_rest(ends.as_mut_slice(), k, row.len());
+        Ok(Flat { ends, values })
     }
 
     /// The rows without that at place `k`.

@@ -95,18 +95,15 @@ impl Rows {
         })
     }
 
-    /// The rows with one more at place `k`. At the end it takes its place in these, and else they are copied.
-    pub(crate) fn put(self, alloc: Global, k: usize, row: &[Value]) -> Result<Rows, NoMemory>
+    /// The rows with one more at place `k`, which is put into them.
+    pub(crate) fn put(self, k: usize, row: &[Value]) -> Result<Rows, NoMemory>
         requires { k ≤ length self }
         ensures { IfOk result (λ r. r ≡ insert self k row.now) }
     {
-        if k < self.flat.len() {
-            return self.with(alloc, k, row);
-        }
-        let code = self.code.wrapping_add(code_of_row(row));
-        let mut flat = self.flat;
-        flat.push(row)?;
-        Ok(Rows { flat, code })
+        Ok(Rows {
+            flat: self.flat.put(k, row)?,
+            code: self.code.wrapping_add(code_of_row(row)),
+        })
     }
 
     /// The rows without that at place `k`.
