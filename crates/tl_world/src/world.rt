@@ -118,6 +118,8 @@ impl World {
     }
 
     /// The world with these facts and these places; of two values for one place the earlier counts. It fails for want of memory alone.
+    ///
+    /// More than a few facts are sorted first, so that each is found by halves and stands at the end of its table.
     pub fn of(alloc: Global, facts: &[Fact], places: &[PlaceValue]) -> Result<World, NoMemory>
         ensures same { IfOk result (λ w. w ≡ world_of facts.now places.now) }
         ensures named { IfOk result (λ w. (n : ℕ) → Each (FactIsNamed n) facts.now → Each (PlaceIsNamed n) places.now → WorldIsNamed n w) }
@@ -259,7 +261,9 @@ impl World {
     }
 
     /// This world without the facts of `dels`, with those of `adds`, and with the values of `sets`; of two values for one place the earlier counts.
-    /// This world stays as it is. Tables that do not change are shared. It fails for want of memory alone.
+    /// This world stays as it is, and tables that do not change are shared. It fails for want of memory alone.
+    ///
+    /// The first fact that is added to a table of this world copies it, and later ones are put into the copy. Each fact that is deleted copies its table once.
     pub fn changed(
         &self,
         alloc: Global,
