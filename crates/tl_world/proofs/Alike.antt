@@ -1,5 +1,5 @@
 -- Tests of tables, and what tables feed a hasher.
-use Rattle.std.proofs.Common.{◌≡◌, ℕ, Bool, false, ◌&&◌, true≢false, List, [], ◌∷◌, ◌++◌, map, refl, sym, ap, ap₂, ◌∙◌, Decides, eqb-true, eq-eqb}
+use Rattle.std.proofs.Common.{◌≡◌, ℕ, Bool, false, ◌&&◌, true, true≢false, ◌≢◌, List, [], ◌∷◌, ◌++◌, map, refl, sym, ap, ap₂, ◌∙◌, Decides, eqb-true, eq-eqb}
 use Rattle.std.specs.Prelude.{nat_eq}
 use Rattle.std.specs.Hash as fed
 use Rattle.std.specs.Hash.{HashWrites}
@@ -14,7 +14,11 @@ use Rattle.tl_world.specs.declared.named.Named.{Named}
 use Rattle.tl_world.specs.declared.table.PlaceRow.{PlaceRow}
 use Rattle.tl_world.specs.Tables.{PlainRows, InOrder, fact_row, place_row, fact_table, place_table, fact_tables, place_tables}
 use Rattle.tl_syntax.specs.contracts.value.ValueHash.TheImpl as value_hash_impl
-use Rattle.tl_world.specs.Same.{world_eq, world-tells, told_alike, values_fed, fact_table_fed, place_table_fed, world_fed}
+use Rattle.std.specs.Hash.FoldHasher as folding
+use Rattle.std.specs.declared.hash.FoldHasher.{FoldHasher}
+use Rattle.tl_world.specs.Codes.{values_fed, rows_code, fact_table_fed, place_table_fed, tables_code}
+use Rattle.tl_world.specs.Same.{world_eq, world-tells, told_alike, world_fed}
+use Rattle.tl_world.proofs.Lent.{bare}
 use Rattle.tl_world.proofs.Group.{whole, same-facts, same-places, facts-back, places-back}
 
 abbrev pub values_eq : List Value → List Value → Bool
@@ -46,13 +50,13 @@ place_row-tells x y = (
   λ e. with_both ((values-tell x.args y.args).1 (ap (λ (r : List Value × Value). r.0) e)) ((value-tells x.value y.value).1 (ap (λ (r : List Value × Value). r.1) e)),
 )
 
-abbrev pub fact_table_eq : Named (List Value) → Named (List Value) → Bool
+abbrev pub fact_table_eq : Named (List (List Value)) → Named (List (List Value)) → Bool
 fact_table_eq x y = nat_eq x.name y.name && pointwise values_eq x.rows.value y.rows.value
 
-abbrev pub place_table_eq : Named PlaceRow → Named PlaceRow → Bool
+abbrev pub place_table_eq : Named (List PlaceRow) → Named (List PlaceRow) → Bool
 place_table_eq x y = nat_eq x.name y.name && pointwise place_row_eq x.rows.value y.rows.value
 
-fact_table-tells : (x y : Named (List Value)) → Decides (fact_table_eq x y) (fact_table x ≡ fact_table y)
+fact_table-tells : (x y : Named (List (List Value))) → Decides (fact_table_eq x y) (fact_table x ≡ fact_table y)
 fact_table-tells x y =
     let rows = mapped-tells fact_row values_eq fact_row-tells x.rows.value y.rows.value in (
       λ h. let k = both (nat_eq x.name y.name) (pointwise values_eq x.rows.value y.rows.value) h in
@@ -60,7 +64,7 @@ fact_table-tells x y =
       λ e. with_both (eq-eqb x.name y.name (ap (λ (t : ℕ × PlainRows (Unit {0})). t.0) e)) (rows.1 (ap (λ (t : ℕ × PlainRows (Unit {0})). t.1) e)),
     )
 
-place_table-tells : (x y : Named PlaceRow) → Decides (place_table_eq x y) (place_table x ≡ place_table y)
+place_table-tells : (x y : Named (List PlaceRow)) → Decides (place_table_eq x y) (place_table x ≡ place_table y)
 place_table-tells x y =
     let rows = mapped-tells place_row place_row_eq place_row-tells x.rows.value y.rows.value in (
       λ h. let k = both (nat_eq x.name y.name) (pointwise place_row_eq x.rows.value y.rows.value) h in
@@ -69,7 +73,7 @@ place_table-tells x y =
     )
 
 -- what the code compares is whether the worlds are the same
-pub tables_eq : (fs gs : List (Named (List Value))) (ps qs : List (Named PlaceRow)) → InOrder (fact_tables fs) → InOrder (fact_tables gs) → InOrder (place_tables ps) → InOrder (place_tables qs)
+pub tables_eq : (fs gs : List (Named (List (List Value)))) (ps qs : List (Named (List PlaceRow))) → InOrder (fact_tables fs) → InOrder (fact_tables gs) → InOrder (place_tables ps) → InOrder (place_tables qs)
     → (pointwise fact_table_eq fs gs && pointwise place_table_eq ps qs) ≡ world_eq (whole (fact_tables fs) (place_tables ps)) (whole (fact_tables gs) (place_tables qs))
 tables_eq fs gs ps qs hf hg hp hq = told_alike _ _ (
   λ h. let k = both (pointwise fact_table_eq fs gs) (pointwise place_table_eq ps qs) h in
@@ -80,14 +84,14 @@ tables_eq fs gs ps qs hf hg hp hq = told_alike _ _ (
       ((mapped-tells place_table place_table_eq place_table-tells ps qs).1 (same-places _ _ hp hq (ap (λ (w : World). w.places) e))),
 ) (world-tells _ _)
 
-pub eq_whole : (fs gs : List (Named (List Value))) (ps qs : List (Named PlaceRow)) (a b : Bool) (v w : World)
+pub eq_whole : (fs gs : List (Named (List (List Value)))) (ps qs : List (Named (List PlaceRow))) (a b : Bool) (v w : World)
     → InOrder (fact_tables fs) × InOrder (place_tables ps) → InOrder (fact_tables gs) × InOrder (place_tables qs)
     → a ≡ pointwise fact_table_eq fs gs → b ≡ pointwise place_table_eq ps qs
     → whole (fact_tables fs) (place_tables ps) ≡ v → whole (fact_tables gs) (place_tables qs) ≡ w
     → (a && b) ≡ world_eq v w
 eq_whole fs gs ps qs a b v w h k p q e d = (λ i. p i && q i) ∙ (tables_eq fs gs ps qs h.0 k.0 h.1 k.1 ∙ λ i. world_eq (e i) (d i))
 
-pub eq_first : (fs gs : List (Named (List Value))) (ps qs : List (Named PlaceRow)) (a : Bool) (v w : World)
+pub eq_first : (fs gs : List (Named (List (List Value)))) (ps qs : List (Named (List PlaceRow))) (a : Bool) (v w : World)
     → InOrder (fact_tables fs) × InOrder (place_tables ps) → InOrder (fact_tables gs) × InOrder (place_tables qs)
     → a ≡ pointwise fact_table_eq fs gs → a ≡ false
     → whole (fact_tables fs) (place_tables ps) ≡ v → whole (fact_tables gs) (place_tables qs) ≡ w
@@ -102,30 +106,50 @@ flat_map-map f F (x ∷ xs) = ap (λ w. F (f x) ++ w) (flat_map-map f F xs)
 fed-map : {A B : Type 0} (f : A → B) (F : B → HashWrites) (xs : List A) → fed.slice F (map f xs) ≡ fed.slice (λ x. F (f x)) xs
 fed-map f F xs = λ i. fed.usize (length-map xs f i) ++ flat_map-map f F xs i
 
-abbrev pub fact_named_fed : Named (List Value) → HashWrites
-fact_named_fed t = fed.u32 t.name ++ fed.slice values_fed t.rows.value
+abbrev pub fact_named_fed : Named (List (List Value)) → HashWrites
+fact_named_fed t = fed.u32 t.name ++ fed.u64 (rows_code t.rows.value)
 
-abbrev pub place_named_fed : Named PlaceRow → HashWrites
+abbrev pub place_named_fed : Named (List PlaceRow) → HashWrites
 place_named_fed t = fed.u32 t.name ++ fed.slice (λ (r : PlaceRow). values_fed r.args ++ (value_hash_impl.ghosts).hash_input r.value) t.rows.value
 
-facts_fed : (fs : List (Named (List Value))) → fed.slice fact_table_fed (fact_tables fs) ≡ fed.slice fact_named_fed fs
+facts_fed : (fs : List (Named (List (List Value)))) → fed.slice fact_table_fed (fact_tables fs) ≡ fed.slice fact_named_fed fs
 facts_fed fs = fed-map fact_table fact_table_fed fs
-    ∙ (λ i. fed.slice (λ (t : Named (List Value)). fed.u32 t.name ++ fed-map fact_row (λ (r : List Value × Unit {0}). values_fed r.0) t.rows.value i) fs)
+    ∙ (λ i. fed.slice (λ (t : Named (List (List Value))). fed.u32 t.name ++ fed.u64 (rows_code (bare t.rows.value i))) fs)
 
-places_fed : (ps : List (Named PlaceRow)) → fed.slice place_table_fed (place_tables ps) ≡ fed.slice place_named_fed ps
+places_fed : (ps : List (Named (List PlaceRow))) → fed.slice place_table_fed (place_tables ps) ≡ fed.slice place_named_fed ps
 places_fed ps = fed-map place_table place_table_fed ps
-    ∙ (λ i. fed.slice (λ (t : Named PlaceRow). fed.u32 t.name ++ fed-map place_row (λ (r : List Value × Value). values_fed r.0 ++ (value_hash_impl.ghosts).hash_input r.1) t.rows.value i) ps)
-
-pub fed_whole : (fs : List (Named (List Value))) (ps : List (Named PlaceRow)) (w : World) → InOrder (fact_tables fs) × InOrder (place_tables ps) → whole (fact_tables fs) (place_tables ps) ≡ w
-    → world_fed w ≡ fed.slice fact_named_fed fs ++ fed.slice place_named_fed ps
-unfolding world_fed
-fed_whole fs ps w h e = sym (ap world_fed e) ∙ λ i. ((ap (fed.slice fact_table_fed) (facts-back (fact_tables fs) h.0) ∙ facts_fed fs) i) ++ ((ap (fed.slice place_table_fed) (places-back (place_tables ps) h.1) ∙ places_fed ps) i)
+    ∙ (λ i. fed.slice (λ (t : Named (List PlaceRow)). fed.u32 t.name ++ fed-map place_row (λ (r : List Value × Value). values_fed r.0 ++ (value_hash_impl.ghosts).hash_input r.1) t.rows.value i) ps)
 
 pub fold-two : {S : Type 0} (f : S → List ℕ → S) (s : S) (xs ys : HashWrites) → fold f s (xs ++ ys) ≡ fold f (fold f s xs) ys
 fold-two f s [] ys = refl
 fold-two f s (x ∷ xs) ys = fold-two f (f s x) xs ys
 
-pub hashed : {S : Type 0} (f : S → List ℕ → S) (s t u : S) (fs : List (Named (List Value))) (ps : List (Named PlaceRow)) (w : World)
-    → InOrder (fact_tables fs) × InOrder (place_tables ps) → whole (fact_tables fs) (place_tables ps) ≡ w
-    → t ≡ fold f s (fed.slice fact_named_fed fs) → u ≡ fold f t (fed.slice place_named_fed ps) → u ≡ fold f s (world_fed w)
-hashed f s t u fs ps w h e p q = q ∙ (ap (λ x. fold f x (fed.slice place_named_fed ps)) p ∙ (sym (fold-two f s (fed.slice fact_named_fed fs) (fed.slice place_named_fed ps)) ∙ ap (fold f s) (sym (fed_whole fs ps w h e))))
+-- what a hasher makes of the tables is their code
+pub tables-coded : (s t u : FoldHasher) (fs : List (Named (List (List Value)))) (ps : List (Named (List PlaceRow)))
+    → s ≡ folding.initial → t ≡ fold folding.write s (fed.slice fact_named_fed fs) → u ≡ fold folding.write t (fed.slice place_named_fed ps) → folding.finish u ≡ tables_code (fact_tables fs) (place_tables ps)
+unfolding tables_code
+tables-coded s t u fs ps is p q =
+    ap folding.finish (q ∙ (ap (λ x. fold folding.write x (fed.slice place_named_fed ps)) (p ∙ ap (λ x. fold folding.write x (fed.slice fact_named_fed fs)) is)
+    ∙ (sym (fold-two folding.write folding.initial (fed.slice fact_named_fed fs) (fed.slice place_named_fed ps))
+    ∙ λ i. fold folding.write folding.initial (sym (facts_fed fs) i ++ sym (places_fed ps) i))))
+
+-- a world feeds the code that it keeps
+pub hashed : {S : Type 0} (f : S → List ℕ → S) (s u : S) (code : ℕ) (fs : List (Named (List (List Value)))) (ps : List (Named (List PlaceRow))) (w : World)
+    → (InOrder (fact_tables fs) × InOrder (place_tables ps)) × (code ≡ tables_code (fact_tables fs) (place_tables ps)) → whole (fact_tables fs) (place_tables ps) ≡ w → u ≡ fold f s (fed.u64 code) → u ≡ fold f s (world_fed w)
+unfolding world_fed
+hashed f s u code fs ps w h e p =
+    p ∙ ((λ i. fold f s (fed.u64 ((h.1 ∙ λ j. tables_code (sym (facts-back (fact_tables fs) h.0.0) j) (sym (places-back (place_tables ps) h.0.1) j)) i)))
+    ∙ ap (λ v. fold f s (world_fed v)) e)
+
+-- worlds with different codes differ
+pub eq_codes : (fs gs : List (Named (List (List Value)))) (ps qs : List (Named (List PlaceRow))) (a b : ℕ) (v w : World)
+    → (InOrder (fact_tables fs) × InOrder (place_tables ps)) × (a ≡ tables_code (fact_tables fs) (place_tables ps)) → (InOrder (fact_tables gs) × InOrder (place_tables qs)) × (b ≡ tables_code (fact_tables gs) (place_tables qs))
+    → whole (fact_tables fs) (place_tables ps) ≡ v → whole (fact_tables gs) (place_tables qs) ≡ w → a ≢ b → false ≡ world_eq v w
+eq_codes fs gs ps qs a b v w h k e d other = (elim (world_eq v w) as (λ c. world_eq v w ≡ c → false ≡ c) [
+  | false ↦ λ _. refl
+  | true ↦ λ t.
+      let same : whole (fact_tables fs) (place_tables ps) ≡ whole (fact_tables gs) (place_tables qs) = e ∙ ((world-tells v w).0 t ∙ sym d) in
+      let p = same-facts (fact_tables fs) (fact_tables gs) h.0.0 k.0.0 (ap (λ (u : World). u.facts) same) in
+      let q = same-places (place_tables ps) (place_tables qs) h.0.1 k.0.1 (ap (λ (u : World). u.places) same) in
+      absurd (other (h.1 ∙ ((λ i. tables_code (p i) (q i)) ∙ sym k.1)))
+]) refl

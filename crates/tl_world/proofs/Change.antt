@@ -18,44 +18,44 @@ use Rattle.tl_world.proofs.Edits.{other_than, insert-put, replace-put, remove-wh
 use Rattle.tl_world.proofs.Step.{filled-put, put-order, where-order, row-put-order, row-where-order, find-put-in, find-taken, find-emptied}
 
 module _ {R X : Type 0} (g : R → List Value × X) where
-  abbrev pub named : Named R → ℕ × PlainRows X
+  abbrev pub named : Named (List R) → ℕ × PlainRows X
   named t = (t.name, map g t.rows.value)
 
   -- the table with the number n stands at i
-  pub record Found (ts : List (Named R)) (n i : ℕ) (old : Named R) : Type 0 where
+  pub record Found (ts : List (Named (List R))) (n i : ℕ) (old : Named (List R)) : Type 0 where
     pub below : i < length ts
     pub is : old ≡ get_or ts i old
     pub tie : nat_cmp (get_or ts i old).name n ≡ Equal
     pub order : InOrder (map named ts)
 
-  pub found-at : (s ts : List (Named R)) (n i : ℕ) (old : Named R) → s ≡ ts → InOrder (map named ts) → i < length s → HoldsAt (λ (u : Named R). nat_cmp u.name n ≡ Equal) s i → old ≡ get_or ts i old → Found ts n i old
+  pub found-at : (s ts : List (Named (List R))) (n i : ℕ) (old : Named (List R)) → s ≡ ts → InOrder (map named ts) → i < length s → HoldsAt (λ (u : Named (List R)). nat_cmp u.name n ≡ Equal) s i → old ≡ get_or ts i old → Found ts n i old
   found-at s ts n i old same h p e is = record {
     below = subst (λ x. i < length x) same p;
     is = is;
-    tie = subst (λ x. HoldsAt (λ (u : Named R). nat_cmp u.name n ≡ Equal) x i) same e old;
+    tie = subst (λ x. HoldsAt (λ (u : Named (List R)). nat_cmp u.name n ≡ Equal) x i) same e old;
     order = h;
   }
 
-  pub same-rows : (ts : List (Named R)) (n i : ℕ) (t old : Named R) (rows : List R) → Found ts n i old → t ≡ get_or ts i t → rows ≡ t.rows.value → rows ≡ old.rows.value
-  same-rows ts n i t old rows f is held = held ∙ ap (λ (u : Named R). u.rows.value) (is ∙ (get_or_default ts i t old f.below ∙ sym f.is))
+  pub same-rows : (ts : List (Named (List R))) (n i : ℕ) (t old : Named (List R)) (rows : List R) → Found ts n i old → t ≡ get_or ts i t → rows ≡ t.rows.value → rows ≡ old.rows.value
+  same-rows ts n i t old rows f is held = held ∙ ap (λ (u : Named (List R)). u.rows.value) (is ∙ (get_or_default ts i t old f.below ∙ sym f.is))
 
-  module _ (ts : List (Named R)) (n i : ℕ) (old : Named R) (f : Found ts n i old) where
+  module _ (ts : List (Named (List R))) (n i : ℕ) (old : Named (List R)) (f : Found ts n i old) where
     number : (get_or ts i old).name ≡ n
     number = set.nat_cmp-IsAntisymmetric (get_or ts i old).name n f.tie
 
     pub rows-rise : T (dict.is_sorted row_cmp (map g old.rows.value))
-    rows-rise = subst (λ (u : Named R). T (dict.is_sorted row_cmp (map g u.rows.value))) (sym f.is) (each-at named ts i old f.below f.order.1)
+    rows-rise = subst (λ (u : Named (List R)). T (dict.is_sorted row_cmp (map g u.rows.value))) (sym f.is) (each-at named ts i old f.below f.order.1)
 
     pub rows-found : (b : List Value) → in_rows (dict.find nat_cmp n (map named ts)) b ≡ dict.find row_cmp b (map g old.rows.value)
-    rows-found b = ap (λ u. in_rows u b) (find-at nat_cmp_total named n ts i old f.below f.order.0 f.tie) ∙ ap (λ (u : Named R). dict.find row_cmp b (map g u.rows.value)) (sym f.is)
+    rows-found b = ap (λ u. in_rows u b) (find-at nat_cmp_total named n ts i old f.below f.order.0 f.tie) ∙ ap (λ (u : Named (List R)). dict.find row_cmp b (map g u.rows.value)) (sym f.is)
 
-    replaced : (fresh : Named R) → fresh.name ≡ n → map named (insert (remove ts i) i fresh) ≡ dict.put nat_cmp n (map g fresh.rows.value) (map named ts)
+    replaced : (fresh : Named (List R)) → fresh.name ≡ n → map named (insert (remove ts i) i fresh) ≡ dict.put nat_cmp n (map g fresh.rows.value) (map named ts)
     replaced fresh e = replace-put nat_cmp_total named n (map g fresh.rows.value) ts i fresh old (e ∙ sym number) refl f.below f.order.0 f.tie
 
     dropped : map named (remove ts i) ≡ where_key nat_cmp (other_than nat_cmp n) (map named ts)
     dropped = remove-where nat_cmp_total named n ts i old f.below f.order.0 f.tie
 
-    module _ (fresh : Named R) (e : fresh.name ≡ n) (a : List Value) where
+    module _ (fresh : Named (List R)) (e : fresh.name ≡ n) (a : List Value) where
       pub order-put : (v : X) → map g fresh.rows.value ≡ dict.put row_cmp a v (map g old.rows.value) → InOrder (map named (insert (remove ts i) i fresh))
       order-put v w = subst InOrder (sym (replaced fresh e ∙ ap (λ rs. dict.put nat_cmp n rs (map named ts)) w))
           (put-order n (dict.put row_cmp a v (map g old.rows.value)) (map named ts) (filled-put a v (map g old.rows.value)) (row-put-order a v (map g old.rows.value) rows-rise) f.order)
@@ -100,23 +100,23 @@ module _ {R X : Type 0} (g : R → List Value × X) where
 
     pub row-absent : (a : List Value) (k : ℕ) (rows : List R) → rows ≡ old.rows.value → IsBinarySearchResult (λ r. row_cmp (g r).0 a) rows (Err k) → dict.find row_cmp a (map g (get_or ts i old).rows.value) ≡ None
     row-absent a k rows same place =
-        ap (λ (u : Named R). dict.find row_cmp a (map g u.rows.value)) (sym f.is)
+        ap (λ (u : Named (List R)). dict.find row_cmp a (map g u.rows.value)) (sym f.is)
         ∙ search-err row_total g a old.rows.value k rows-rise (subst (λ xs. IsBinarySearchResult (λ r. row_cmp (g r).0 a) xs (Err k)) same place)
 
     pub row-present : (a : List Value) (k : ℕ) (d : R) (rows : List R) → rows ≡ old.rows.value → k < length rows → HoldsAt (λ r. row_cmp (g r).0 a ≡ Equal) rows k → dict.find row_cmp a (map g (get_or ts i old).rows.value) ≡ Some (g (get_or old.rows.value k d)).1
     row-present a k d rows same p t =
-        ap (λ (u : Named R). dict.find row_cmp a (map g u.rows.value)) (sym f.is)
+        ap (λ (u : Named (List R)). dict.find row_cmp a (map g u.rows.value)) (sym f.is)
         ∙ search-ok row_total g a old.rows.value k rows-rise (subst (λ xs. k < length xs) same p) (subst (λ xs. HoldsAt (λ r. row_cmp (g r).0 a ≡ Equal) xs k) same t) d
 
   -- no table has the number n
-  module _ (s ts : List (Named R)) (n i : ℕ) (same : s ≡ ts) (h : InOrder (map named ts)) (p : i ≤ length s) (place : IsBinarySearchResult (λ (u : Named R). nat_cmp u.name n) s (Err i)) where
-    none_at : IsBinarySearchResult (λ (u : Named R). nat_cmp u.name n) ts (Err i)
-    none_at = subst (λ x. IsBinarySearchResult (λ (u : Named R). nat_cmp u.name n) x (Err i)) same place
+  module _ (s ts : List (Named (List R))) (n i : ℕ) (same : s ≡ ts) (h : InOrder (map named ts)) (p : i ≤ length s) (place : IsBinarySearchResult (λ (u : Named (List R)). nat_cmp u.name n) s (Err i)) where
+    none_at : IsBinarySearchResult (λ (u : Named (List R)). nat_cmp u.name n) ts (Err i)
+    none_at = subst (λ x. IsBinarySearchResult (λ (u : Named (List R)). nat_cmp u.name n) x (Err i)) same place
 
     pub not-found : dict.find nat_cmp n (map named ts) ≡ None
     not-found = search-err nat_cmp_total named n ts i h.0 none_at
 
-    module _ (fresh : Named R) (a : List Value) (v : X) (e : fresh.name ≡ n) (w : map g fresh.rows.value ≡ (a, v) ∷ []) where
+    module _ (fresh : Named (List R)) (a : List Value) (v : X) (e : fresh.name ≡ n) (w : map g fresh.rows.value ≡ (a, v) ∷ []) where
       added : map named (insert ts i fresh) ≡ dict.put nat_cmp n ((a, v) ∷ []) (map named ts)
       added =
           let parts = none_at (searchable nat_cmp_total named ts n h.0) in

@@ -46,7 +46,7 @@ module _ {R X : Type 0} (g : R → List Value × X) (p : Key × X → Bool) wher
   rows-all n (r ∷ rs) = ap (λ b. p ((n, (g r).0), (g r).1) && b) (rows-all n rs)
 
   -- row by row, or entry by entry
-  tables-all : (ts : List (Named R)) → list_all (λ t. list_all (λ r. p ((t.name, (g r).0), (g r).1)) t.rows.value) ts ≡ list_all p (entries_of (map (λ t. (t.name, map g t.rows.value)) ts))
+  tables-all : (ts : List (Named (List R))) → list_all (λ t. list_all (λ r. p ((t.name, (g r).0), (g r).1)) t.rows.value) ts ≡ list_all p (entries_of (map (λ t. (t.name, map g t.rows.value)) ts))
   tables-all [] = refl
   tables-all (t ∷ ts) =
       (λ i. rows-all t.name t.rows.value i && tables-all ts i)
@@ -57,7 +57,7 @@ keys-all p [] = refl
 keys-all p (e ∷ es) = ap (λ b. p e.0 && b) (keys-all p es)
 
 -- the facts in the tables are the facts of the world
-pub facts-all : (p : Key → Bool) (ts : List (Named (List Value))) (w : World) → set_of (fact_tables ts) ≡ w.facts → list_all (λ t. list_all (λ a. p (t.name, a)) t.rows.value) ts ≡ list_all p (set.items w.facts)
+pub facts-all : (p : Key → Bool) (ts : List (Named (List (List Value)))) (w : World) → set_of (fact_tables ts) ≡ w.facts → list_all (λ t. list_all (λ a. p (t.name, a)) t.rows.value) ts ≡ list_all p (set.items w.facts)
 facts-all p ts w is =
     let keys : List Key = map (λ e. e.0) (entries_of (fact_tables ts)) in
     tables-all fact_row (λ e. p e.0) ts
@@ -68,7 +68,7 @@ facts-all p ts w is =
     ∙ ap (λ s. list_all p (set.items s)) is))
 
 -- the places in the tables are the places of the world
-pub places-all : (p : Key × Value → Bool) (ts : List (Named PlaceRow)) (w : World) → InOrder (place_tables ts) → map_of (place_tables ts) ≡ w.places → list_all (λ t. list_all (λ r. p ((t.name, r.args), r.value)) t.rows.value) ts ≡ list_all p (dict.entries w.places)
+pub places-all : (p : Key × Value → Bool) (ts : List (Named (List PlaceRow))) (w : World) → InOrder (place_tables ts) → map_of (place_tables ts) ≡ w.places → list_all (λ t. list_all (λ r. p ((t.name, r.args), r.value)) t.rows.value) ts ≡ list_all p (dict.entries w.places)
 places-all p ts w order is =
     tables-all place_row p ts
     ∙ (ap (list_all p) (sym (dict.entries-from_sorted key_cmp (entries_of (place_tables ts)) (entries-rise (place_tables ts) order)))

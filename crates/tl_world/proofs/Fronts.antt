@@ -69,7 +69,7 @@ record SameTo (n : ℕ) (a t : List Value) : Type 0 where
 same-to-none : (a t : List Value) → SameTo 0 a t
 same-to-none a t = record { order = refl; same = λ m p. absurd (omega arith) }
 
-rest-of : (xs : List Value) (n : ℕ) (v : Value) → slice_get xs n ≡ Some v → drop n xs ≡ v ∷ drop (n + 1) xs
+pub rest-of : (xs : List Value) (n : ℕ) (v : Value) → slice_get xs n ≡ Some v → drop n xs ≡ v ∷ drop (n + 1) xs
 rest-of [] n v e = cc
 rest-of (x ∷ xs) zero v e = let h : x ≡ v = cc in ap (λ y. y ∷ xs) h
 rest-of (x ∷ xs) (suc n) v e = rest-of xs n v e ∙ ap (λ m. v ∷ drop m (x ∷ xs)) (let h : suc (n + 1) ≡ suc n + 1 = omega arith in h)

@@ -1,3 +1,8 @@
+pub mod Cuts
+pub mod Pushing
+pub mod Inserting
+pub mod Runs
+pub mod Narrowing
 pub mod Search
 pub mod Lookup
 pub mod Order
@@ -11,10 +16,15 @@ pub mod Matching
 pub mod Least
 pub mod Filled
 pub mod Fronts
+pub mod Leading
+pub mod Halves
+pub mod Turns
+pub mod Putting
 pub mod Skipping
 pub mod WholeRows
 pub mod Chains
 pub mod Truths
+pub mod Orders
 pub mod Contents
 pub mod GoalTests
 pub mod Finite

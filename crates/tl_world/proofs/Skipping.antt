@@ -18,18 +18,18 @@ use Rattle.tl_world.specs.Front.{front, front_cmp, known_of}
 use Rattle.tl_world.proofs.Least.{NotBelow, keep}
 use Rattle.tl_world.proofs.Fronts.{earlier-too, later-too, follows}
 
-is_greater : (o : Ordering) → is_gt o ≡ true → o ≡ Greater
+pub is_greater : (o : Ordering) → is_gt o ≡ true → o ≡ Greater
 is_greater Less h = absurd (true≢false (sym h))
 is_greater Equal h = absurd (true≢false (sym h))
 is_greater Greater h = refl
 
 module _ {A : Type 0} (key : A → List Value) where
-  each-key : (P : List Value → Type 0) (xs : List A) (i : ℕ) (d : A) → i < length xs → Each P (map key xs) → P (key (get_or xs i d))
+  pub each-key : (P : List Value → Type 0) (xs : List A) (i : ℕ) (d : A) → i < length xs → Each P (map key xs) → P (key (get_or xs i d))
   each-key P [] i d p h = absurd (omega arith)
   each-key P (x ∷ xs) zero d p h = h.0
   each-key P (x ∷ xs) (suc i) d p h = each-key P xs i d (omega arith) h.1
 
-  rises-at : (xs : List A) (i j : ℕ) (d : A) → Rises row_cmp (map key xs) → i < j → j < length xs → row_cmp (key (get_or xs i d)) (key (get_or xs j d)) ≡ Less
+  pub rises-at : (xs : List A) (i j : ℕ) (d : A) → Rises row_cmp (map key xs) → i < j → j < length xs → row_cmp (key (get_or xs i d)) (key (get_or xs j d)) ≡ Less
   rises-at [] i j d r p q = absurd (omega arith)
   rises-at (x ∷ xs) i zero d r p q = absurd (omega arith)
   rises-at (x ∷ xs) zero (suc j) d r p q = each-key (λ y. row_cmp (key x) y ≡ Less) xs j d (omega arith) r.0
@@ -52,7 +52,7 @@ module _ {A : Type 0} (key : A → List Value) where
   each-after f x (a ∷ xs) less h = (later-too f x (key a) h.0 less, each-after f x xs less h.1)
 
   -- from a row above the front on, all rows are
-  each-from : (f : List Value) (xs : List A) (i : ℕ) (d : A) → i < length xs → Rises row_cmp (map key xs) → front_cmp f (key (get_or xs i d)) ≡ Less → Each (λ a. front_cmp f (key a) ≡ Less) (drop i xs)
+  pub each-from : (f : List Value) (xs : List A) (i : ℕ) (d : A) → i < length xs → Rises row_cmp (map key xs) → front_cmp f (key (get_or xs i d)) ≡ Less → Each (λ a. front_cmp f (key a) ≡ Less) (drop i xs)
   each-from f [] i d p r less = absurd (omega arith)
   each-from f (x ∷ xs) zero d p r less = (less, each-after f (key x) xs less r.0)
   each-from f (x ∷ xs) (suc i) d p r less = each-from f xs i d (omega arith) r.1 less

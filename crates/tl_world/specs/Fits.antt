@@ -41,3 +41,7 @@ Known ps vs values = (t : List Value) → fits_all ps vs t ≡ true → (n : ℕ
 abbrev pub IsMatch : List Part → List Value → ℕ → Option Match → Type 0
 IsMatch ps vs k None = (t : List Value) → length t ≡ k → fits_all ps vs t ≡ false
 IsMatch ps vs k (Some m) = (m.len ≡ k) × (length (take k m.values) ≡ k) × (fits_all ps vs (take k m.values) ≡ true) × ((t : List Value) → length t ≡ k → fits_all ps vs t ≡ true → take k m.values ≡ t)
+
+-- the tuple begins with the first n of the values
+abbrev pub BeginsAs : ℕ → List Value → List Value → Type 0
+BeginsAs n values t = (m : ℕ) → m < n → slice_get values m ≡ slice_get t m

@@ -1,6 +1,7 @@
 -- The leading values of a row that a pattern asks for, as far as the values of its first variables are known.
-use Rattle.std.specs.Prelude.{ℕ, ◌+◌, List, [], ◌∷◌, cond, ◌==◌, nat_le, Option, Some, None, slice_get, length, take}
+use Rattle.std.specs.Prelude.{ℕ, ◌+◌, List, [], ◌∷◌, Bool, true, false, ◌&&◌, cond, ◌==◌, nat_le, Option, Some, None, slice_get, length, take}
 use Rattle.std.specs.declared.cmp.Ordering.{Ordering}
+use Rattle.std.specs.declared.cmp.Ordering.TheVariants.{Less, Equal, Greater}
 use Rattle.tl_syntax.specs.declared.value.Value.{Value}
 use Rattle.tl_world.specs.declared.pattern.Match.{Match}
 use Rattle.tl_world.specs.declared.pattern.Part.{Part}
@@ -35,3 +36,19 @@ front_cmp f row = row_cmp f (take (length f) row)
 abbrev pub known_of : Option Match → ℕ → List Value
 known_of None k = []
 known_of (Some m) k = take k m.values
+
+-- whether a row to which the front stands so is passed over, with those that tie or without them
+abbrev pub is_passed : Bool → Ordering → Bool
+is_passed ties Less = false
+is_passed ties Equal = ties
+is_passed ties Greater = true
+
+-- whether the part is fixed, or one of the first variables, of which n came before, or the next one
+abbrev pub is_in_turn : ℕ → Part → Bool
+is_in_turn n (Fixed v) = true
+is_in_turn n (Free m) = nat_le m n
+
+-- whether the variables after the first n first stand in the order of their numbers
+abbrev pub are_in_turn : ℕ → List Part → Bool
+are_in_turn n [] = true
+are_in_turn n (p ∷ ps) = is_in_turn n p && are_in_turn (seen_after n p) ps

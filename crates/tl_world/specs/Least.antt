@@ -31,3 +31,8 @@ IsLeast k c (Some m) = (m.len ≡ k) × (length (take k m.values) ≡ k) × (c (
 abbrev pub lesser : Option Match → Option Match → Option Match → ℕ → Option Match
 lesser best None after k = best
 lesser best (Some m) after k = cond (above after k (take k m.values) && lower best k (take k m.values)) (Some m) best
+
+-- what was found: the first k of the values, or nothing
+abbrev pub found_in : Bool → ℕ → List Value → Option Match
+found_in true k values = Some (record { values = values; len = k })
+found_in false k values = None

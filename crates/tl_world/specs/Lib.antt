@@ -1,5 +1,8 @@
 pub mod View
 pub mod Plain
+pub mod Codes
+pub mod RowTests
+pub mod Cuts
 pub mod Tables
 pub mod Same
 pub mod Patterns

@@ -1,5 +1,5 @@
 -- When two worlds are the same, and what a world feeds a hasher.
-use Rattle.std.specs.Prelude.{◌≡◌, ℕ, List, [], ◌∷◌, ◌++◌, Bool, true, false, cond, ◌&&◌, nat_eq, refl}
+use Rattle.std.specs.Prelude.{◌≡◌, ℕ, List, [], ◌∷◌, Bool, true, false, cond, ◌&&◌, nat_eq, refl}
 use Rattle.std.specs.Bool.{Decides}
 use Rattle.std.specs.Cmp.{IsTotalOrder, IsEquivalence, IsPartialEquivalence, tied_itself}
 use Rattle.std.specs.Hash as fed
@@ -11,12 +11,12 @@ use lib.Pointwise.{pointwise}
 use Rattle.std.specs.FinSet as set
 use Rattle.std.specs.FinMap as dict
 use Rattle.tl_syntax.specs.declared.value.Value.{Value}
-use Rattle.tl_syntax.specs.contracts.value.ValueHash.TheImpl as value_hash_impl
 use Rattle.tl_syntax.specs.Keys.{Key, key_cmp, value_cmp}
 use Rattle.tl_syntax.specs.TotalOrders.{key_total, value_total, key_ties, value_ties}
 use Rattle.tl_terms.specs.World.{World}
 use Rattle.tl_syntax.proofs.Plain.{Tells, both, with_both, list-tells}
-use Rattle.tl_world.specs.Plain.{PlainRows, PlainTables}
+use Rattle.tl_world.specs.Plain.{PlainTables}
+use Rattle.tl_world.specs.Codes.{tables_code}
 
 -- the same place with the same value
 abbrev pub entry_eq : Key × Value → Key × Value → Bool
@@ -111,21 +111,13 @@ facts_in w = group (dict.entries (ordered w.facts))
 abbrev pub places_in : World → PlainTables Value
 places_in w = group (dict.entries w.places)
 
--- what a list of values feeds a hasher
-abbrev pub values_fed : List Value → HashWrites
-values_fed = fed.slice (value_hash_impl.ghosts).hash_input
+-- the code of a world, which is that of its tables
+abbrev pub world_code : World → ℕ
+world_code w = tables_code (facts_in w) (places_in w)
 
--- what a table of facts feeds a hasher
-abbrev pub fact_table_fed : ℕ × PlainRows (Unit {0}) → HashWrites
-fact_table_fed t = fed.u32 t.0 ++ fed.slice (λ (r : List Value × Unit {0}). values_fed r.0) t.1
-
--- what a table of places feeds a hasher
-abbrev pub place_table_fed : ℕ × PlainRows Value → HashWrites
-place_table_fed t = fed.u32 t.0 ++ fed.slice (λ (r : List Value × Value). values_fed r.0 ++ (value_hash_impl.ghosts).hash_input r.1) t.1
-
--- what a world feeds a hasher: its tables of facts and then those of places
+-- what a world feeds a hasher: its code
 unfoldable pub world_fed : World → HashWrites
-world_fed w = fed.slice fact_table_fed (facts_in w) ++ fed.slice place_table_fed (places_in w)
+world_fed w = fed.u64 (world_code w)
 
 -- worlds that are the same feed the same
 pub world-alike : Alike world_eq world_fed

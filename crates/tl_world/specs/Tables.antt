@@ -18,21 +18,21 @@ abbrev pub whole_row : PlaceRow → List Value
 whole_row r = r.args ++ r.value ∷ []
 
 -- the facts of one predicate
-abbrev pub fact_table : Named (List Value) → ℕ × PlainRows (Unit {0})
+abbrev pub fact_table : Named (List (List Value)) → ℕ × PlainRows (Unit {0})
 fact_table t = (t.name, map fact_row t.rows.value)
 
 -- the places of one function
-abbrev pub place_table : Named PlaceRow → ℕ × PlainRows Value
+abbrev pub place_table : Named (List PlaceRow) → ℕ × PlainRows Value
 place_table t = (t.name, map place_row t.rows.value)
 
 -- the facts of a world, predicate by predicate
-abbrev pub fact_tables : List (Named (List Value)) → PlainTables (Unit {0})
+abbrev pub fact_tables : List (Named (List (List Value))) → PlainTables (Unit {0})
 fact_tables = map fact_table
 
 -- the places of a world, function by function
-abbrev pub place_tables : List (Named PlaceRow) → PlainTables Value
+abbrev pub place_tables : List (Named (List PlaceRow)) → PlainTables Value
 place_tables = map place_table
 
 -- a table by its number and its rows
-abbrev pub plain_of : {R : Type 0} → Named R → ℕ × List R
+abbrev pub plain_of : {R : Type 0} → Named R → ℕ × R
 plain_of t = (t.name, t.rows.value)

@@ -1,51 +1,23 @@
 // Tables of facts, and what changes them.
-ghost use Rattle.std.specs.Cmp.Lexicographic.{slice_cmp};
 ghost use Rattle.std.specs.FinSet as set;
-ghost use Rattle.std.specs.List.Sorted.{IsBinarySearchResult, IsSearchInRange};
-ghost use Rattle.std.specs.Prelude.{◌≡◌, length, IfOk, OnOk};
-ghost use Rattle.tl_syntax.specs.Keys.{value_cmp};
+ghost use Rattle.std.specs.List.{insert};
+ghost use Rattle.std.specs.List.Sorted.{IsPermutation};
+ghost use Rattle.std.specs.Prelude.{◌≡◌, ◌≤◌, length, map, IfOk, OnOk};
+ghost use Rattle.tl_syntax.specs.Keys.{fact_key};
+ghost use Rattle.tl_terms.specs.Step.{with_all};
 ghost use Rattle.tl_world.specs.Tables.{InOrder, fact_tables, set_of};
 
-use crate::Table;
+use crate::Rows;
 use crate::named::{Named, find_table};
+use crate::row_search::find_row;
 use std::alloc::Global;
 use std::rc::Rc;
-use tl_syntax::{NoMemory, Value, Values};
-
-/// The place of the row with these arguments, or the place at which it would stand.
-pub(crate) fn find_row(rows: &[Values], args: &[Value]) -> Result<usize, usize>
-    ensures range { IsSearchInRange result (length rows.now) }
-    ensures place { IsBinarySearchResult (λ r. slice_cmp value_cmp r args.now) rows.now result }
-{
-    rows.binary_search_by(|r| r.as_slice().cmp(args))
-}
-
-/// A copy of rows.
-fn copy_facts(alloc: Global, rows: &[Values]) -> Result<Vec<Values>, NoMemory>
-    ensures same { IfOk result (λ v. v.items ≡ rows.now) }
-{
-    let mut out = Vec::new(alloc);
-    for r in rows {
-        let one = r.copy(alloc)?;
-        out.push(one)?;
-    }
-    Ok(out)
-}
-
-/// The rows, copied only where another world shares them.
-fn own_facts(alloc: Global, rows: Rc<Table<Values>>) -> Result<Vec<Values>, NoMemory>
-    ensures same { IfOk result (λ v. v.items ≡ rows.value) }
-{
-    match Rc::try_unwrap(rows) {
-        Ok(table) => Ok(table.rows),
-        Err(shared) => copy_facts(alloc, shared.as_slice()),
-    }
-}
+use tl_syntax::{Fact, NoMemory, Value, Values};
 
 /// Takes the fact out of the tables, where it is there.
 pub(crate) fn without(
     alloc: Global,
-    tables: &mut Vec<Named<Values>>,
+    tables: &mut Vec<Named<Rows>>,
     pred: u32,
     args: &[Value],
 ) -> Result<(), NoMemory>
@@ -57,16 +29,15 @@ pub(crate) fn without(
         Err(_) => Ok(()),
         Ok(i) => {
             let t = &tables[i];
-            match find_row(t.rows.as_slice(), args) {
+            match find_row(t.rows.flat(), args) {
                 Err(_) => Ok(()),
                 Ok(k) => {
                     let old = tables.remove(i);
-                    let mut rows = own_facts(alloc, old.rows)?;
-                    rows.remove(k);
-                    if rows.as_slice().is_empty() {
+                    let rows = old.rows.without(alloc, k)?;
+                    if rows.is_empty() {
                         return Ok(());
                     }
-                    let shared = Rc::new(alloc, Table { rows })?;
+                    let shared = Rc::new(alloc, rows)?;
                     let fresh = Named {
                         name: pred,
                         rows: shared,
@@ -79,10 +50,21 @@ pub(crate) fn without(
     }
 }
 
+/// The rows with one more at place `k`. They are copied where another world shares them.
+fn rows_with(alloc: Global, rows: Rc<Rows>, k: usize, row: &[Value]) -> Result<Rows, NoMemory>
+    requires { k ≤ length rows.value }
+    ensures { IfOk result (λ r. r ≡ insert rows.value k row.now) }
+{
+    match Rc::try_unwrap(rows) {
+        Ok(own) => own.put(k, row),
+        Err(shared) => shared.with(alloc, k, row),
+    }
+}
+
 /// Puts the fact into the tables, where it is not there.
 pub(crate) fn with_fact(
     alloc: Global,
-    tables: &mut Vec<Named<Values>>,
+    tables: &mut Vec<Named<Rows>>,
     pred: u32,
     args: &Values,
 ) -> Result<(), NoMemory>
@@ -92,10 +74,8 @@ pub(crate) fn with_fact(
 {
     match find_table(tables.as_slice(), pred) {
         Err(i) => {
-            let row = args.copy(alloc)?;
-            let mut rows = Vec::new(alloc);
-            rows.push(row)?;
-            let shared = Rc::new(alloc, Table { rows })?;
+            let rows = Rows::of_one(alloc, args.as_slice())?;
+            let shared = Rc::new(alloc, rows)?;
             let fresh = Named {
                 name: pred,
                 rows: shared,
@@ -105,14 +85,12 @@ pub(crate) fn with_fact(
         }
         Ok(i) => {
             let t = &tables[i];
-            match find_row(t.rows.as_slice(), args.as_slice()) {
+            match find_row(t.rows.flat(), args.as_slice()) {
                 Ok(_) => Ok(()),
                 Err(k) => {
-                    let row = args.copy(alloc)?;
                     let old = tables.remove(i);
-                    let mut rows = own_facts(alloc, old.rows)?;
-                    rows.insert(k, row)?;
-                    let shared = Rc::new(alloc, Table { rows })?;
+                    let rows = rows_with(alloc, old.rows, k, args.as_slice())?;
+                    let shared = Rc::new(alloc, rows)?;
                     let fresh = Named {
                         name: pred,
                         rows: shared,
@@ -122,5 +100,50 @@ pub(crate) fn with_fact(
                 }
             }
         }
+    }
+}
+
+/// Puts the facts into the tables, from the last on.
+fn with_each(alloc: Global, tables: &mut Vec<Named<Rows>>, adds: &[Fact]) -> Result<(), NoMemory>
+    requires { InOrder (fact_tables tables.old.items) }
+    ensures order { OnOk result (InOrder (fact_tables tables.new.items)) }
+    ensures facts { OnOk result (set_of (fact_tables tables.new.items) ≡ with_all (set_of (fact_tables tables.old.items)) (map fact_key adds.now)) }
+{
+    let mut j = adds.len();
+    while j > 0 {
+        j -= 1;
+        let a = &adds[j];
+        with_fact(alloc, tables, a.pred, &a.args)?;
+    }
+    Ok(())
+}
+
+/// The facts in falling order.
+fn falling(alloc: Global, facts: &[Fact]) -> Result<Vec<Fact>, NoMemory>
+    ensures { IfOk result (λ v. IsPermutation facts.now v.items) }
+{
+    let mut out = Vec::with_capacity(alloc, facts.len())?;
+    for f in facts {
+        out.push(f.copy(alloc)?)?;
+    }
+    out.sort_unstable_by(|a, b| b.order(a));
+    Ok(out)
+}
+
+/// Puts the facts into the tables. Many are sorted first, so that each comes after the rows that are there, where a table is new.
+pub(crate) fn with_facts(
+    alloc: Global,
+    tables: &mut Vec<Named<Rows>>,
+    adds: &[Fact],
+) -> Result<(), NoMemory>
+    requires { InOrder (fact_tables tables.old.items) }
+    ensures order { OnOk result (InOrder (fact_tables tables.new.items)) }
+    ensures facts { OnOk result (set_of (fact_tables tables.new.items) ≡ with_all (set_of (fact_tables tables.old.items)) (map fact_key adds.now)) }
+{
+    if adds.len() < 8 {
+        with_each(alloc, tables, adds)
+    } else {
+        let sorted = falling(alloc, adds)?;
+        with_each(alloc, tables, sorted.as_slice())
     }
 }

@@ -1,16 +1,20 @@
 //! Worlds: a finite set of facts and a finite map of places to values.
 //!
-//! - `table`: the rows of one predicate or function, as a world lends them.
+//! - `flat`, `rows`: the facts of one predicate, in one list, with a code that is kept.
+//! - `table`: the places of one function with their values.
+//! - `row_search`: the place of a row, found by halves.
 //! - `named`: a table with the number of its predicate or function, shared between worlds.
 //! - `facts`, `places`: the tables of facts and of places, and edits of them.
 //! - `world`: the world itself, with its look-ups, its matches and its changes.
 //! - `task`: a problem with its initial world and its goal as worlds, and the goal test.
 //! - `pattern`: patterns of facts and of places, and the tuples that make them true.
 //! - `laws`: what is proved of the equality of worlds and of the matches of a pattern.
-//! - `row_match`, `front`, `next`: the tuple of one row, the leading values of a row, and the least tuple of a table.
+//! - `row_match`, `front`, `first`, `next`: the tuple of one row, the leading values of a row, the first row that a pattern fits, and the least tuple of a table.
 #![tactic(auto)]
 
 mod facts;
+mod first;
+mod flat;
 mod front;
 pub mod laws;
 mod named;
@@ -18,11 +22,14 @@ mod next;
 mod pattern;
 mod places;
 mod row_match;
+mod row_search;
+mod rows;
 mod table;
 mod task;
 mod world;
 
 pub use pattern::{Match, Part, Pattern};
-pub use table::{PlaceRow, PlaceRows, Rows, Table};
+pub use rows::Rows;
+pub use table::{PlaceRow, PlaceRows, Table};
 pub use task::Task;
 pub use world::World;

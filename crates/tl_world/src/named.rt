@@ -4,7 +4,6 @@ ghost use Rattle.std.specs.Ordering.{nat_cmp};
 ghost use Rattle.std.specs.Prelude.{◌≡◌, length, map, IfOk};
 ghost use Rattle.tl_world.specs.Tables.{plain_of};
 
-use crate::Table;
 use std::alloc::Global;
 use std::rc::Rc;
 use tl_syntax::NoMemory;
@@ -13,7 +12,7 @@ use tl_syntax::NoMemory;
 #[derive(PartialEq, Eq, Hash, Drop)]
 pub(crate) struct Named<R> {
     pub(crate) name: u32,
-    pub(crate) rows: Rc<Table<R>>,
+    pub(crate) rows: Rc<R>,
 }
 
 /// The place of the table with this number, or the place at which it would stand.

@@ -7,7 +7,7 @@ ghost use Rattle.tl_syntax.specs.Keys.{value_cmp};
 ghost use Rattle.tl_world.specs.Tables.{InOrder, place_row, place_tables, map_of, row_cmp};
 
 use crate::named::{Named, find_table};
-use crate::{PlaceRow, Table};
+use crate::{PlaceRow, PlaceRows, Table};
 use std::alloc::Global;
 use std::rc::Rc;
 use tl_syntax::{NoMemory, Value, Values};
@@ -67,7 +67,7 @@ fn put_place(rows: &mut Vec<PlaceRow>, row: PlaceRow) -> Result<(), NoMemory>
 /// Gives the place the value.
 pub(crate) fn with_place(
     alloc: Global,
-    tables: &mut Vec<Named<PlaceRow>>,
+    tables: &mut Vec<Named<PlaceRows>>,
     fun: u32,
     args: &Values,
     value: Value,

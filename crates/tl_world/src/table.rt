@@ -1,4 +1,4 @@
-// The rows of one predicate or function.
+// The places of one function.
 ghost use Rattle.std.specs.Cmp.Lexicographic.{pointwise, lists_per, lists_equiv};
 ghost use Rattle.std.specs.Hash as fed;
 ghost use Rattle.std.specs.Hash.{items_Alike};
@@ -8,7 +8,7 @@ use std::hash::{Hash, Hasher};
 use std::marker::Model;
 use tl_syntax::{Value, Values};
 
-/// The rows of one predicate or function. Contracts see it as the list of its rows.
+/// The places of one function. Contracts see it as the list of its rows.
 #[derive(Drop)]
 pub struct Table<R> {
     pub(crate) rows: Vec<R>,
@@ -22,9 +22,6 @@ pub struct PlaceRow {
     /// The value of the place.
     pub value: Value,
 }
-
-/// The argument lists of one predicate's facts.
-pub type Rows = Table<Values>;
 
 /// The places of one function with their values.
 pub type PlaceRows = Table<PlaceRow>;
@@ -56,16 +53,6 @@ impl<R> Table<R> {
         ensures { result.now ≡ self.now }
     {
         self.rows.as_slice()
-    }
-}
-
-impl Table<Values> {
-    /// The arguments of the fact at place `k`, counted from 0.
-    pub fn row(&self, k: usize) -> &[Value]
-        requires { k < length self.now }
-        ensures { result.now ≡ slice_index_or self.now k result.now }
-    {
-        self.rows[k].as_slice()
     }
 }
 

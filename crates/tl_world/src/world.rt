@@ -12,28 +12,31 @@ ghost use Rattle.tl_terms.specs.NamedWorlds.{WorldIsNamed};
 ghost use Rattle.tl_terms.specs.ProblemMeaning.{world_of};
 ghost use Rattle.tl_terms.specs.Step.{with_all, without_all, overwritten};
 ghost use Rattle.tl_terms.specs.World.{has_fact, value_at};
+ghost use Rattle.tl_world.specs.Codes.{tables_code};
 ghost use Rattle.tl_world.specs.Fits.{occurs};
-ghost use Rattle.tl_world.specs.Least.{IsLeast, above};
+ghost use Rattle.tl_world.specs.Least.{IsLeast, above, found_in};
 ghost use Rattle.tl_world.specs.Next.{IsNext};
-ghost use Rattle.tl_world.specs.Patterns.{IsLawful, makes_true, is_true_of, filled, tuple_of};
+ghost use Rattle.tl_world.specs.Patterns.{IsLawful, makes_true, is_true_of, filled, parts_of, tuple_of};
 ghost use Rattle.tl_world.specs.Same.{world_eq, world-tells, tells-partial, tells-equivalence, world_fed, world-alike};
-ghost use Rattle.tl_world.specs.Tables.{row_cmp, place_row};
+ghost use Rattle.tl_world.specs.Tables.{InOrder, fact_tables, place_tables, set_of, map_of, row_cmp, place_row};
 
-use crate::facts::{find_row, with_fact, without};
+use crate::facts::{with_facts, without};
 use crate::named::{Named, find_table, share};
-use crate::next::{next_in_places, next_in_rows};
+use crate::next::{next_in_places, put_next};
 use crate::places::{find_place, with_place};
+use crate::row_search::find_row;
 use crate::{Match, Part, Pattern, PlaceRow, PlaceRows, Rows};
 use std::alloc::Global;
-use std::hash::{Hash, Hasher};
+use std::hash::{FoldHasher, Hash, Hasher};
 use std::marker::Model;
-use tl_syntax::{Fact, NoMemory, PlaceValue, Value, Values};
+use tl_syntax::{Fact, NoMemory, PlaceValue, Value};
 
 /// A set of facts and a finite map of places.
 #[derive(Drop)]
 pub struct World {
-    facts: Vec<Named<Values>>,
-    places: Vec<Named<PlaceRow>>,
+    facts: Vec<Named<Rows>>,
+    places: Vec<Named<PlaceRows>>,
+    code: u64,
 }
 
 impl Model for World {
@@ -44,11 +47,13 @@ impl Model for World {
 
     ghost coded = { coded_world };
 
+    ghost use Rattle.std.specs.Prelude.{◌≡◌};
+    ghost use Rattle.tl_world.specs.Codes.{tables_code};
     ghost use Rattle.tl_world.specs.Tables.{InOrder, fact_tables, place_tables, set_of, map_of};
 
     ghost view = { λ w. record { facts = set_of (fact_tables w.facts.items); places = map_of (place_tables w.places.items) } };
 
-    ghost invariant = { λ w. InOrder (fact_tables w.facts.items) × InOrder (place_tables w.places.items) };
+    ghost invariant = { λ w. (InOrder (fact_tables w.facts.items) × InOrder (place_tables w.places.items)) × (w.code ≡ tables_code (fact_tables w.facts.items) (place_tables w.places.items)) };
 }
 
 impl PartialEq for World {
@@ -57,6 +62,9 @@ impl PartialEq for World {
     ghost laws = { tells-partial world_eq world-tells };
 
     fn eq(&self, other: &World) -> bool {
+        if self.code != other.code {
+            return false;
+        }
         self.facts == other.facts && self.places == other.places
     }
 }
@@ -71,8 +79,33 @@ impl Hash for World {
     ghost respects_eq = { world-alike.fed };
 
     fn hash<H: Hasher>(&self, state: &mut H) {
-        self.facts.hash(state);
-        self.places.hash(state);
+        self.code.hash(state);
+    }
+}
+
+/// The code of the tables.
+#[tactic(auto, unfolding(crate::specs::Codes::tables_code))]
+fn code_of_tables(facts: &[Named<Rows>], places: &[Named<PlaceRows>]) -> u64
+    ensures { result ≡ tables_code (fact_tables facts.now) (place_tables places.now) }
+{
+    let mut hasher = FoldHasher::default();
+    facts.hash(&mut hasher);
+    places.hash(&mut hasher);
+    hasher.finish()
+}
+
+/// The world of the tables.
+fn whole(facts: Vec<Named<Rows>>, places: Vec<Named<PlaceRows>>) -> World
+    requires facts { InOrder (fact_tables facts.items) }
+    requires places { InOrder (place_tables places.items) }
+    ensures facts { result.facts ≡ set_of (fact_tables facts.items) }
+    ensures places { result.places ≡ map_of (place_tables places.items) }
+{
+    let code = code_of_tables(facts.as_slice(), places.as_slice());
+    World {
+        facts,
+        places,
+        code,
     }
 }
 
@@ -81,13 +114,12 @@ impl World {
     pub fn new(alloc: Global) -> World
         ensures { result ≡ world_of [] [] }
     {
-        World {
-            facts: Vec::new(alloc),
-            places: Vec::new(alloc),
-        }
+        whole(Vec::new(alloc), Vec::new(alloc))
     }
 
     /// The world with these facts and these places; of two values for one place the earlier counts. It fails for want of memory alone.
+    ///
+    /// More than a few facts are sorted first, so that each is found by halves and stands at the end of its table.
     pub fn of(alloc: Global, facts: &[Fact], places: &[PlaceValue]) -> Result<World, NoMemory>
         ensures same { IfOk result (λ w. w ≡ world_of facts.now places.now) }
         ensures named { IfOk result (λ w. (n : ℕ) → Each (FactIsNamed n) facts.now → Each (PlaceIsNamed n) places.now → WorldIsNamed n w) }
@@ -102,7 +134,7 @@ impl World {
         match find_table(self.facts.as_slice(), pred) {
             Ok(i) => {
                 let t = &self.facts[i];
-                let found = find_row(t.rows.as_slice(), args);
+                let found = find_row(t.rows.flat(), args);
                 found.is_ok()
             }
             Err(_) => false,
@@ -172,31 +204,38 @@ impl World {
         ensures next { IsNext pattern.now.free (makes_true self.now pattern.now) (option_map tuple_of after) (option_map tuple_of result) }
         ensures len { IfSome result (λ m. m.len ≡ pattern.now.free) }
     {
-        let parts = &pattern.parts[..pattern.len as usize];
         if pattern.place {
+            let parts = &pattern.parts[..pattern.len as usize];
             self.next_place(pattern.name, parts, pattern.free, &after)
         } else {
-            self.next_fact(pattern.name, parts, pattern.free, &after)
+            let mut values = [Value::Sym(0); 9];
+            if self.put_next_fact(pattern, &after, &mut values) {
+                Some(Match {
+                    values,
+                    len: pattern.free,
+                })
+            } else {
+                None
+            }
         }
     }
 
-    /// The least tuple above `after` that makes the parts the arguments of a fact of `pred`.
-    fn next_fact(
+    /// Whether some tuple above `after` makes the pattern a fact. The values of the least one are then put into the first places of `values`.
+    fn put_next_fact(
         &self,
-        pred: u32,
-        parts: &[Part],
-        free: u32,
+        pattern: &Pattern,
         after: &Option<Match>,
-    ) -> Option<Match>
-        requires few { free ≤ 9 }
-        requires each { (n : ℕ) → n < free → occurs n parts.now ≡ true }
-        requires slots { (n : ℕ) → occurs n parts.now ≡ true → n < free }
-        requires short { length parts.now ≤ 9 }
-        ensures { IsLeast free (λ t. is_true_of self.now false pred (filled parts.now t) && above after.now free t) result }
+        values: &mut [Value; 9],
+    ) -> bool
+        requires pattern { IsLawful pattern.now }
+        ensures { IsLeast pattern.now.free (λ t. is_true_of self.now false pattern.now.name (filled (parts_of pattern.now) t) && above after.now pattern.now.free t) (found_in result pattern.now.free values.new) }
     {
-        match self.rows(pred) {
-            Some(rows) => next_in_rows(rows.as_slice(), parts, free, after),
-            None => None,
+        match self.rows(pattern.name) {
+            Some(rows) => {
+                let parts = &pattern.parts[..pattern.len as usize];
+                put_next(rows, parts, pattern.free, after, values)
+            }
+            None => false,
         }
     }
 
@@ -222,7 +261,9 @@ impl World {
     }
 
     /// This world without the facts of `dels`, with those of `adds`, and with the values of `sets`; of two values for one place the earlier counts.
-    /// This world stays as it is. Tables that do not change are shared, and each of the others is copied once. It fails for want of memory alone.
+    /// This world stays as it is, and tables that do not change are shared. It fails for want of memory alone.
+    ///
+    /// The first fact that is added to a table of this world copies it, and later ones are put into the copy. Each fact that is deleted copies its table once.
     pub fn changed(
         &self,
         alloc: Global,
@@ -242,19 +283,14 @@ impl World {
             let d = &dels[i];
             without(alloc, &mut facts, d.pred, d.args.as_slice())?;
         }
-        let mut j = adds.len();
-        while j > 0 {
-            j -= 1;
-            let a = &adds[j];
-            with_fact(alloc, &mut facts, a.pred, &a.args)?;
-        }
+        with_facts(alloc, &mut facts, adds)?;
         let mut k = sets.len();
         while k > 0 {
             k -= 1;
             let p = &sets[k];
             with_place(alloc, &mut places, p.fun, &p.args, p.value)?;
         }
-        Ok(World { facts, places })
+        Ok(whole(facts, places))
     }
 
     /// Whether all facts of the other world are in this one.
@@ -278,23 +314,23 @@ impl World {
         self.gives_each(other.places.as_slice())
     }
 
-    fn holds_each(&self, tables: &[Named<Values>]) -> bool
+    fn holds_each(&self, tables: &[Named<Rows>]) -> bool
         ensures { result ≡ list_all (λ t. list_all (λ a. has_fact self.now (t.name, a)) t.rows.value) tables.now }
     {
         tables
             .iter()
-            .all(|t| self.holds_rows(t.name, t.rows.as_slice()))
+            .all(|t| self.holds_rows(t.name, t.rows.as_ref()))
     }
 
-    fn holds_none(&self, tables: &[Named<Values>]) -> bool
+    fn holds_none(&self, tables: &[Named<Rows>]) -> bool
         ensures { result ≡ list_all (λ t. list_all (λ a. not (has_fact self.now (t.name, a))) t.rows.value) tables.now }
     {
         tables
             .iter()
-            .all(|t| self.holds_no_row(t.name, t.rows.as_slice()))
+            .all(|t| self.holds_no_row(t.name, t.rows.as_ref()))
     }
 
-    fn gives_each(&self, tables: &[Named<PlaceRow>]) -> bool
+    fn gives_each(&self, tables: &[Named<PlaceRows>]) -> bool
         ensures { result ≡ list_all (λ t. list_all (λ r. is_value (value_at self.now (t.name, r.args)) r.value) t.rows.value) tables.now }
     {
         tables
@@ -302,16 +338,30 @@ impl World {
             .all(|t| self.gives_rows(t.name, t.rows.as_slice()))
     }
 
-    fn holds_rows(&self, pred: u32, rows: &[Values]) -> bool
+    fn holds_rows(&self, pred: u32, rows: &Rows) -> bool
         ensures { result ≡ list_all (λ a. has_fact self.now (pred, a)) rows.now }
     {
-        rows.iter().all(|r| self.holds(pred, r.as_slice()))
+        let mut k = 0;
+        while k < rows.len() {
+            if !self.holds(pred, rows.row(k)) {
+                return false;
+            }
+            k += 1;
+        }
+        true
     }
 
-    fn holds_no_row(&self, pred: u32, rows: &[Values]) -> bool
+    fn holds_no_row(&self, pred: u32, rows: &Rows) -> bool
         ensures { result ≡ list_all (λ a. not (has_fact self.now (pred, a))) rows.now }
     {
-        rows.iter().all(|r| !self.holds(pred, r.as_slice()))
+        let mut k = 0;
+        while k < rows.len() {
+            if self.holds(pred, rows.row(k)) {
+                return false;
+            }
+            k += 1;
+        }
+        true
     }
 
     fn gives_rows(&self, fun: u32, rows: &[PlaceRow]) -> bool

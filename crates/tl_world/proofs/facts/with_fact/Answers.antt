@@ -1,4 +1,4 @@
-use Rattle.std.proofs.Common.{◌≡◌, List, [], ◌∷◌, ◌++◌, map, sym, ap, ◌∙◌, subst, refl}
+use Rattle.std.proofs.Common.{◌≡◌, List, [], ◌∷◌, map, sym, ap, ◌∙◌, subst, refl}
 use Rattle.std.specs.List.{insert}
 use Rattle.std.specs.FinMap as dict
 use Rattle.tl_syntax.specs.declared.value.Value.{Value}
@@ -11,20 +11,20 @@ use Rattle.tl_world.proofs.Step.{set-put, set-present}
 use Rattle.tl_world.proofs.facts.with_fact.Goals as goal
 
 -- a table of one row
-one : (xs : List (List Value)) (r a : List Value) → xs ≡ [] ++ r ∷ [] → r ≡ a → map fact_row xs ≡ (a, tt) ∷ []
+one : (xs : List (List Value)) (r a : List Value) → xs ≡ r ∷ [] → r ≡ a → map fact_row xs ≡ (a, tt) ∷ []
 one xs r a e is = ap (map fact_row) e ∙ ap (λ x. fact_row x ∷ []) is
 
 pub returns-in_ok-insert-in-Err-clause-order : goal.returns-in_ok-insert-in-Err-clause-order
 returns-in_ok-insert-in-Err-clause-order c =
-    let fresh : Named (List Value) = record { name = c.args.pred; rows = c.in_ok-shared-in-Err.shared } in
-    let row = one _ c.in_ok-row-in-Err.row c.args.args.now (c.in_ok-shared-in-Err.ensures.ok ∙ (c.in_ok-push-in-Err.ensures.items ∙ ap (λ xs. xs ++ c.in_ok-row-in-Err.row ∷ []) c.new-rows.ensures.items)) c.in_ok-row-in-Err.ensures.same in
+    let fresh : Named (List (List Value)) = record { name = c.args.pred; rows = c.in_ok-shared-in-Err.shared } in
+    let row = one _ c.as_slice-in-Err.result.now c.args.args.now (c.in_ok-shared-in-Err.ensures.ok ∙ c.in_ok-rows-in-Err.ensures) c.as_slice-in-Err.ensures in
     subst (λ ts. InOrder (fact_tables ts)) (sym c.in_ok-insert-in-Err.ensures.items)
     (change.order-new fact_row _ c.args.tables.now.items c.args.pred c.in-Err.i c.as_slice.ensures.value c.requires c.in-Err.ensures.range c.in-Err.ensures.place fresh c.args.args.now tt refl row)
 
 pub returns-in_ok-insert-in-Err-clause-facts : goal.returns-in_ok-insert-in-Err-clause-facts
 returns-in_ok-insert-in-Err-clause-facts c =
-    let fresh : Named (List Value) = record { name = c.args.pred; rows = c.in_ok-shared-in-Err.shared } in
-    let row = one _ c.in_ok-row-in-Err.row c.args.args.now (c.in_ok-shared-in-Err.ensures.ok ∙ (c.in_ok-push-in-Err.ensures.items ∙ ap (λ xs. xs ++ c.in_ok-row-in-Err.row ∷ []) c.new-rows.ensures.items)) c.in_ok-row-in-Err.ensures.same in
+    let fresh : Named (List (List Value)) = record { name = c.args.pred; rows = c.in_ok-shared-in-Err.shared } in
+    let row = one _ c.as_slice-in-Err.result.now c.args.args.now (c.in_ok-shared-in-Err.ensures.ok ∙ c.in_ok-rows-in-Err.ensures) c.as_slice-in-Err.ensures in
     set-put (fact_tables c.args.tables.now.items) (fact_tables c.insert.new.self.items) (c.args.pred, c.args.args.now)
     (λ q. ap (λ ts. dict.find key_cmp q (entries_of (fact_tables ts))) c.in_ok-insert-in-Err.ensures.items
     ∙ change.find-new fact_row _ c.args.tables.now.items c.args.pred c.in-Err.i c.as_slice.ensures.value c.requires c.in-Err.ensures.range c.in-Err.ensures.place fresh c.args.args.now tt refl row q)
@@ -32,32 +32,32 @@ returns-in_ok-insert-in-Err-clause-facts c =
 pub returns-in-Ok-find_row-clause-facts : goal.returns-in-Ok-find_row-clause-facts
 returns-in-Ok-find_row-clause-facts c =
     let found = change.found-at fact_row _ c.args.tables.now.items c.args.pred c.in-Ok.i c.index-t.result.now c.as_slice.ensures.value c.requires c.in-Ok.ensures.range c.in-Ok.ensures.place c.index-t.ensures in
-    let same = c.as_slice-in-Ok.ensures ∙ c.deref.ensures in
+    let same = c.flat.ensures ∙ c.deref.ensures in
     set-present (fact_tables c.args.tables.now.items) (c.args.pred, c.args.args.now)
     (at-table fact_table c.args.tables.now.items c.args.pred c.args.args.now c.in-Ok.i c.index-t.result.now c.requires found.below found.tie
-    ∙ change.row-present fact_row _ _ _ _ found c.args.args.now c.in-Ok-find_row.field-0 [] _ same c.in-Ok-find_row.ensures.range (rw c.as_slice-in-Ok-2.ensures at c.in-Ok-find_row.ensures.place))
+    ∙ change.row-present fact_row _ _ _ _ found c.args.args.now c.in-Ok-find_row.field-0 [] _ same c.in-Ok-find_row.ensures.range (rw c.as_slice-in-Ok.ensures at c.in-Ok-find_row.ensures.place))
 
-pub returns-in_ok-insert-in-Err-find_row-2-clause-order : goal.returns-in_ok-insert-in-Err-find_row-2-clause-order
-returns-in_ok-insert-in-Err-find_row-2-clause-order c =
+pub returns-in_ok-insert-in-Err-find_row-clause-order : goal.returns-in_ok-insert-in-Err-find_row-clause-order
+returns-in_ok-insert-in-Err-find_row-clause-order c =
     let found = change.found-at fact_row _ c.args.tables.now.items c.args.pred c.in-Ok.i c.remove-old.result c.as_slice.ensures.value c.requires c.in-Ok.ensures.range c.in-Ok.ensures.place c.remove-old.ensures.value in
-    let same = change.same-rows fact_row _ _ _ c.index-t.result.now c.remove-old.result _ found c.index-t.ensures (c.as_slice-in-Ok.ensures ∙ c.deref.ensures) in
+    let same = change.same-rows fact_row _ _ _ c.index-t.result.now c.remove-old.result _ found c.index-t.ensures (c.flat.ensures ∙ c.deref.ensures) in
     let k = c.in-Err-find_row.k in
-    let row = c.in_ok-row-in-Err-find_row.row in
-    let more = change.row-put fact_row _ _ _ _ found c.args.args.now tt k _ row same (ap fact_row c.in_ok-row-in-Err-find_row.ensures.same) c.in-Err-find_row.ensures.range (rw c.as_slice-in-Ok-2.ensures at c.in-Err-find_row.ensures.place) in
-    let fresh : Named (List Value) = record { name = c.args.pred; rows = c.in_ok-shared-in-Err-find_row.shared } in
-    let held = c.in_ok-shared-in-Err-find_row.ensures.ok ∙ (c.in_ok-insert-in-Err-find_row.ensures.items ∙ ap (λ xs. insert xs k row) c.in_ok-rows-in-Err-find_row.ensures.same) in
-    subst (λ ts. InOrder (fact_tables ts)) (sym (c.in_ok-insert-in-Err-find_row-2.ensures.items ∙ ap (λ ts. insert ts c.in-Ok.i fresh) c.remove-old.ensures.items))
+    let row = c.as_slice-in-Err-find_row.result.now in
+    let more = change.row-put fact_row _ _ _ _ found c.args.args.now tt k _ row same (ap fact_row c.as_slice-in-Err-find_row.ensures) c.in-Err-find_row.ensures.range (rw c.as_slice-in-Ok.ensures at c.in-Err-find_row.ensures.place) in
+    let fresh : Named (List (List Value)) = record { name = c.args.pred; rows = c.in_ok-shared-in-Err-find_row.shared } in
+    let held = c.in_ok-shared-in-Err-find_row.ensures.ok ∙ c.in_ok-rows-in-Err-find_row.ensures in
+    subst (λ ts. InOrder (fact_tables ts)) (sym (c.in_ok-insert-in-Err-find_row.ensures.items ∙ ap (λ ts. insert ts c.in-Ok.i fresh) c.remove-old.ensures.items))
     (change.order-put fact_row _ _ _ _ found fresh refl c.args.args.now tt (ap (map fact_row) held ∙ more))
 
-pub returns-in_ok-insert-in-Err-find_row-2-clause-facts : goal.returns-in_ok-insert-in-Err-find_row-2-clause-facts
-returns-in_ok-insert-in-Err-find_row-2-clause-facts c =
+pub returns-in_ok-insert-in-Err-find_row-clause-facts : goal.returns-in_ok-insert-in-Err-find_row-clause-facts
+returns-in_ok-insert-in-Err-find_row-clause-facts c =
     let found = change.found-at fact_row _ c.args.tables.now.items c.args.pred c.in-Ok.i c.remove-old.result c.as_slice.ensures.value c.requires c.in-Ok.ensures.range c.in-Ok.ensures.place c.remove-old.ensures.value in
-    let same = change.same-rows fact_row _ _ _ c.index-t.result.now c.remove-old.result _ found c.index-t.ensures (c.as_slice-in-Ok.ensures ∙ c.deref.ensures) in
+    let same = change.same-rows fact_row _ _ _ c.index-t.result.now c.remove-old.result _ found c.index-t.ensures (c.flat.ensures ∙ c.deref.ensures) in
     let k = c.in-Err-find_row.k in
-    let row = c.in_ok-row-in-Err-find_row.row in
-    let more = change.row-put fact_row _ _ _ _ found c.args.args.now tt k _ row same (ap fact_row c.in_ok-row-in-Err-find_row.ensures.same) c.in-Err-find_row.ensures.range (rw c.as_slice-in-Ok-2.ensures at c.in-Err-find_row.ensures.place) in
-    let fresh : Named (List Value) = record { name = c.args.pred; rows = c.in_ok-shared-in-Err-find_row.shared } in
-    let held = c.in_ok-shared-in-Err-find_row.ensures.ok ∙ (c.in_ok-insert-in-Err-find_row.ensures.items ∙ ap (λ xs. insert xs k row) c.in_ok-rows-in-Err-find_row.ensures.same) in
-    set-put (fact_tables c.args.tables.now.items) (fact_tables c.insert-in-Err-find_row-2.new.self.items) (c.args.pred, c.args.args.now)
-    (λ q. ap (λ ts. dict.find key_cmp q (entries_of (fact_tables ts))) (c.in_ok-insert-in-Err-find_row-2.ensures.items ∙ ap (λ ts. insert ts c.in-Ok.i fresh) c.remove-old.ensures.items)
+    let row = c.as_slice-in-Err-find_row.result.now in
+    let more = change.row-put fact_row _ _ _ _ found c.args.args.now tt k _ row same (ap fact_row c.as_slice-in-Err-find_row.ensures) c.in-Err-find_row.ensures.range (rw c.as_slice-in-Ok.ensures at c.in-Err-find_row.ensures.place) in
+    let fresh : Named (List (List Value)) = record { name = c.args.pred; rows = c.in_ok-shared-in-Err-find_row.shared } in
+    let held = c.in_ok-shared-in-Err-find_row.ensures.ok ∙ c.in_ok-rows-in-Err-find_row.ensures in
+    set-put (fact_tables c.args.tables.now.items) (fact_tables c.insert-in-Err-find_row.new.self.items) (c.args.pred, c.args.args.now)
+    (λ q. ap (λ ts. dict.find key_cmp q (entries_of (fact_tables ts))) (c.in_ok-insert-in-Err-find_row.ensures.items ∙ ap (λ ts. insert ts c.in-Ok.i fresh) c.remove-old.ensures.items)
     ∙ change.find-put fact_row _ _ _ _ found fresh refl c.args.args.now tt (ap (map fact_row) held ∙ more) q)

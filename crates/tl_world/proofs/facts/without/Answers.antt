@@ -27,10 +27,10 @@ returns-then-is_empty-clause-order c =
 pub returns-then-is_empty-clause-facts : goal.returns-then-is_empty-clause-facts
 returns-then-is_empty-clause-facts c =
     let found = change.found-at fact_row _ c.args.tables.now.items c.args.pred c.in-Ok.i c.remove-old.result c.as_slice.ensures.value c.requires c.in-Ok.ensures.range c.in-Ok.ensures.place c.remove-old.ensures.value in
-    let same = change.same-rows fact_row _ _ _ c.index-t.result.now c.remove-old.result _ found c.index-t.ensures (c.as_slice-in-Ok.ensures ∙ c.deref.ensures) in
+    let same = change.same-rows fact_row _ _ _ c.index-t.result.now c.remove-old.result _ found c.index-t.ensures (c.flat.ensures ∙ c.deref.ensures) in
     let left = change.row-taken fact_row _ _ _ _ found c.args.args.now c.in-Ok-find_row.k _ same c.in-Ok-find_row.ensures.range c.in-Ok-find_row.ensures.place in
-    let rows = c.remove.ensures.items ∙ ap (λ xs. remove xs c.in-Ok-find_row.k) c.in_ok-rows-in-Ok-find_row.ensures.same in
-    let none = emptied c.remove-old.result.rows.value c.remove.new.self.items c.in-Ok-find_row.k _ c.is_empty.result rows c.if-is_empty.true (rw c.as_slice-in-Ok-find_row.ensures.value at c.is_empty.ensures) left in
+    let rows = c.in_ok-rows-in-Ok-find_row.ensures ∙ ap (λ xs. remove xs c.in-Ok-find_row.k) c.deref-in-Ok-find_row.ensures in
+    let none = emptied c.remove-old.result.rows.value c.in_ok-rows-in-Ok-find_row.rows c.in-Ok-find_row.k _ c.is_empty.result rows c.if-is_empty.true c.is_empty.ensures left in
     set-taken (fact_tables c.args.tables.now.items) (fact_tables c.remove-old.new.self.items) (c.args.pred, c.args.args.now)
     (λ q. ap (λ ts. dict.find key_cmp q (entries_of (fact_tables ts))) c.remove-old.ensures.items ∙ change.find-emptied-out fact_row _ _ _ _ found c.args.args.now none q)
 
@@ -42,7 +42,7 @@ returns-in-Err-clause-facts c =
 pub returns-in-Err-find_row-clause-facts : goal.returns-in-Err-find_row-clause-facts
 returns-in-Err-find_row-clause-facts c =
     let found = change.found-at fact_row _ c.args.tables.now.items c.args.pred c.in-Ok.i c.index-t.result.now c.as_slice.ensures.value c.requires c.in-Ok.ensures.range c.in-Ok.ensures.place c.index-t.ensures in
-    let same = c.as_slice-in-Ok.ensures ∙ c.deref.ensures in
+    let same = c.flat.ensures ∙ c.deref.ensures in
     set-absent (fact_tables c.args.tables.now.items) (c.args.pred, c.args.args.now)
     (at-table fact_table c.args.tables.now.items c.args.pred c.args.args.now c.in-Ok.i c.index-t.result.now c.requires found.below found.tie
     ∙ change.row-absent fact_row _ _ _ _ found c.args.args.now c.in-Err-find_row.field-0 _ same c.in-Err-find_row.ensures.place)
@@ -50,21 +50,21 @@ returns-in-Err-find_row-clause-facts c =
 pub returns-in_ok-insert-in-Ok-find_row-clause-order : goal.returns-in_ok-insert-in-Ok-find_row-clause-order
 returns-in_ok-insert-in-Ok-find_row-clause-order c =
     let found = change.found-at fact_row _ c.args.tables.now.items c.args.pred c.in-Ok.i c.remove-old.result c.as_slice.ensures.value c.requires c.in-Ok.ensures.range c.in-Ok.ensures.place c.remove-old.ensures.value in
-    let same = change.same-rows fact_row _ _ _ c.index-t.result.now c.remove-old.result _ found c.index-t.ensures (c.as_slice-in-Ok.ensures ∙ c.deref.ensures) in
+    let same = change.same-rows fact_row _ _ _ c.index-t.result.now c.remove-old.result _ found c.index-t.ensures (c.flat.ensures ∙ c.deref.ensures) in
     let left = change.row-taken fact_row _ _ _ _ found c.args.args.now c.in-Ok-find_row.k _ same c.in-Ok-find_row.ensures.range c.in-Ok-find_row.ensures.place in
-    let rows = c.remove.ensures.items ∙ ap (λ xs. remove xs c.in-Ok-find_row.k) c.in_ok-rows-in-Ok-find_row.ensures.same in
-    let fresh : Named (List Value) = record { name = c.args.pred; rows = c.in_ok-shared-in-Ok-find_row.shared } in
+    let rows = c.in_ok-rows-in-Ok-find_row.ensures ∙ ap (λ xs. remove xs c.in-Ok-find_row.k) c.deref-in-Ok-find_row.ensures in
+    let fresh : Named (List (List Value)) = record { name = c.args.pred; rows = c.in_ok-shared-in-Ok-find_row.shared } in
     let held = c.in_ok-shared-in-Ok-find_row.ensures.ok ∙ rows in
     subst (λ ts. InOrder (fact_tables ts)) (sym (c.in_ok-insert-in-Ok-find_row.ensures.items ∙ ap (λ ts. insert ts c.in-Ok.i fresh) c.remove-old.ensures.items))
-    (change.order-taken fact_row _ _ _ _ found fresh refl c.args.args.now (ap (map fact_row) held ∙ left) (subst (λ xs. IsFilled (map fact_row xs)) (sym c.in_ok-shared-in-Ok-find_row.ensures.ok) (filled c.remove.new.self.items c.is_empty.result c.if-is_empty.false (rw c.as_slice-in-Ok-find_row.ensures.value at c.is_empty.ensures))))
+    (change.order-taken fact_row _ _ _ _ found fresh refl c.args.args.now (ap (map fact_row) held ∙ left) (subst (λ xs. IsFilled (map fact_row xs)) (sym c.in_ok-shared-in-Ok-find_row.ensures.ok) (filled c.in_ok-rows-in-Ok-find_row.rows c.is_empty.result c.if-is_empty.false c.is_empty.ensures)))
 
 pub returns-in_ok-insert-in-Ok-find_row-clause-facts : goal.returns-in_ok-insert-in-Ok-find_row-clause-facts
 returns-in_ok-insert-in-Ok-find_row-clause-facts c =
     let found = change.found-at fact_row _ c.args.tables.now.items c.args.pred c.in-Ok.i c.remove-old.result c.as_slice.ensures.value c.requires c.in-Ok.ensures.range c.in-Ok.ensures.place c.remove-old.ensures.value in
-    let same = change.same-rows fact_row _ _ _ c.index-t.result.now c.remove-old.result _ found c.index-t.ensures (c.as_slice-in-Ok.ensures ∙ c.deref.ensures) in
+    let same = change.same-rows fact_row _ _ _ c.index-t.result.now c.remove-old.result _ found c.index-t.ensures (c.flat.ensures ∙ c.deref.ensures) in
     let left = change.row-taken fact_row _ _ _ _ found c.args.args.now c.in-Ok-find_row.k _ same c.in-Ok-find_row.ensures.range c.in-Ok-find_row.ensures.place in
-    let rows = c.remove.ensures.items ∙ ap (λ xs. remove xs c.in-Ok-find_row.k) c.in_ok-rows-in-Ok-find_row.ensures.same in
-    let fresh : Named (List Value) = record { name = c.args.pred; rows = c.in_ok-shared-in-Ok-find_row.shared } in
+    let rows = c.in_ok-rows-in-Ok-find_row.ensures ∙ ap (λ xs. remove xs c.in-Ok-find_row.k) c.deref-in-Ok-find_row.ensures in
+    let fresh : Named (List (List Value)) = record { name = c.args.pred; rows = c.in_ok-shared-in-Ok-find_row.shared } in
     let held = c.in_ok-shared-in-Ok-find_row.ensures.ok ∙ rows in
     set-taken (fact_tables c.args.tables.now.items) (fact_tables c.insert.new.self.items) (c.args.pred, c.args.args.now)
     (λ q. ap (λ ts. dict.find key_cmp q (entries_of (fact_tables ts))) (c.in_ok-insert-in-Ok-find_row.ensures.items ∙ ap (λ ts. insert ts c.in-Ok.i fresh) c.remove-old.ensures.items)

@@ -20,7 +20,7 @@ loop-k-init c =
     let parts = c.args.parts.now in
     let lead = take (length parts - 1) parts in
     let rows = c.args.rows.now in
-    let before = subst (λ f. Each (λ r. front_cmp f (key r) ≡ Greater) (take c.places_before-k.result rows)) (c.front_of-low.ensures.value ∙ ap (front 0 lead) c.values_of.ensures) c.places_before-k.ensures.before in
+    let before = subst (λ f. Each (λ r. front_cmp f (key r) ≡ Greater) (take c.places_before-k.result rows)) (ap (front 0 lead) c.values_of.ensures.value) c.places_before-k.ensures.before in
     record {
       within = c.places_before-k.ensures.bound;
       leading = refl;

@@ -16,7 +16,7 @@ one xs r a v e is = ap (map place_row) e ∙ ap (λ x. x ∷ []) is
 
 pub returns-in_ok-insert-in-Err-clause-order : goal.returns-in_ok-insert-in-Err-clause-order
 returns-in_ok-insert-in-Err-clause-order c =
-    let fresh : Named PlaceRow = record { name = c.args.fun; rows = c.in_ok-shared-in-Err.shared } in
+    let fresh : Named (List PlaceRow) = record { name = c.args.fun; rows = c.in_ok-shared-in-Err.shared } in
     let made : PlaceRow = record { args = c.in_ok-copy.field-0; value = c.args.value } in
     let row = one _ made c.args.args.now c.args.value (c.in_ok-shared-in-Err.ensures.ok ∙ (c.in_ok-push-in-Err.ensures.items ∙ ap (λ xs. xs ++ made ∷ []) c.new-rows.ensures.items)) (ap (λ (a : List Value). (a, c.args.value)) c.in_ok-copy.ensures.same) in
     let rise = change.order-new place_row _ c.args.tables.now.items c.args.fun c.in-Err.i c.as_slice.ensures.value c.requires c.in-Err.ensures.range c.in-Err.ensures.place fresh c.args.args.now c.args.value refl row in
@@ -25,7 +25,7 @@ returns-in_ok-insert-in-Err-clause-order c =
 
 pub returns-in_ok-insert-in-Err-clause-places : goal.returns-in_ok-insert-in-Err-clause-places
 returns-in_ok-insert-in-Err-clause-places c =
-    let fresh : Named PlaceRow = record { name = c.args.fun; rows = c.in_ok-shared-in-Err.shared } in
+    let fresh : Named (List PlaceRow) = record { name = c.args.fun; rows = c.in_ok-shared-in-Err.shared } in
     let made : PlaceRow = record { args = c.in_ok-copy.field-0; value = c.args.value } in
     let row = one _ made c.args.args.now c.args.value (c.in_ok-shared-in-Err.ensures.ok ∙ (c.in_ok-push-in-Err.ensures.items ∙ ap (λ xs. xs ++ made ∷ []) c.new-rows.ensures.items)) (ap (λ (a : List Value). (a, c.args.value)) c.in_ok-copy.ensures.same) in
     let rise = change.order-new place_row _ c.args.tables.now.items c.args.fun c.in-Err.i c.as_slice.ensures.value c.requires c.in-Err.ensures.range c.in-Err.ensures.place fresh c.args.args.now c.args.value refl row in
@@ -37,7 +37,7 @@ returns-in_ok-insert-in-Err-clause-places c =
 pub returns-in_ok-insert-in-Ok-clause-order : goal.returns-in_ok-insert-in-Ok-clause-order
 returns-in_ok-insert-in-Ok-clause-order c =
     let found = change.found-at place_row _ c.args.tables.now.items c.args.fun c.in-Ok.i c.remove-old.result c.as_slice.ensures.value c.requires c.in-Ok.ensures.range c.in-Ok.ensures.place c.remove-old.ensures.value in
-    let fresh : Named PlaceRow = record { name = c.args.fun; rows = c.in_ok-shared-in-Ok.shared } in
+    let fresh : Named (List PlaceRow) = record { name = c.args.fun; rows = c.in_ok-shared-in-Ok.shared } in
     let held : map place_row fresh.rows.value ≡ dict.put row_cmp c.args.args.now c.args.value (map place_row c.remove-old.result.rows.value) =
     ap (map place_row) c.in_ok-shared-in-Ok.ensures.ok ∙ (c.in_ok-put_place-in-Ok.ensures.after
     ∙ (ap (λ a. dict.put row_cmp a c.args.value (map place_row c.in_ok-rows-in-Ok.rows.items)) c.in_ok-copy.ensures.same ∙ ap (λ rs. dict.put row_cmp c.args.args.now c.args.value (map place_row rs)) c.in_ok-rows-in-Ok.ensures.same)) in
@@ -48,7 +48,7 @@ returns-in_ok-insert-in-Ok-clause-order c =
 pub returns-in_ok-insert-in-Ok-clause-places : goal.returns-in_ok-insert-in-Ok-clause-places
 returns-in_ok-insert-in-Ok-clause-places c =
     let found = change.found-at place_row _ c.args.tables.now.items c.args.fun c.in-Ok.i c.remove-old.result c.as_slice.ensures.value c.requires c.in-Ok.ensures.range c.in-Ok.ensures.place c.remove-old.ensures.value in
-    let fresh : Named PlaceRow = record { name = c.args.fun; rows = c.in_ok-shared-in-Ok.shared } in
+    let fresh : Named (List PlaceRow) = record { name = c.args.fun; rows = c.in_ok-shared-in-Ok.shared } in
     let held : map place_row fresh.rows.value ≡ dict.put row_cmp c.args.args.now c.args.value (map place_row c.remove-old.result.rows.value) =
     ap (map place_row) c.in_ok-shared-in-Ok.ensures.ok ∙ (c.in_ok-put_place-in-Ok.ensures.after
     ∙ (ap (λ a. dict.put row_cmp a c.args.value (map place_row c.in_ok-rows-in-Ok.rows.items)) c.in_ok-copy.ensures.same ∙ ap (λ rs. dict.put row_cmp c.args.args.now c.args.value (map place_row rs)) c.in_ok-rows-in-Ok.ensures.same)) in

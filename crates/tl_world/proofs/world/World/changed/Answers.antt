@@ -21,24 +21,24 @@ module _ {R X : Type 0} (g : R → List Value × X) where
   rowed : ℕ × List R → ℕ × PlainRows X
   rowed t = (t.0, map g t.1)
 
-  through : (ts : List (Named R)) → map (λ (t : Named R). (t.name, map g t.rows.value)) ts ≡ map rowed (map plain_of ts)
+  through : (ts : List (Named (List R))) → map (λ (t : Named (List R)). (t.name, map g t.rows.value)) ts ≡ map rowed (map plain_of ts)
   unfolding rowed
   through [] = refl
   through (t ∷ ts) = ap (λ us. (t.name, map g t.rows.value) ∷ us) (through ts)
 
-same-facts : (ts us vs : List (Named (List Value))) → map plain_of ts ≡ map plain_of us → us ≡ vs → fact_tables ts ≡ fact_tables vs
+same-facts : (ts us vs : List (Named (List (List Value)))) → map plain_of ts ≡ map plain_of us → us ≡ vs → fact_tables ts ≡ fact_tables vs
 same-facts ts us vs e d = through fact_row ts ∙ (ap (map (rowed fact_row)) (e ∙ ap (map plain_of) d) ∙ sym (through fact_row vs))
 
-same-places : (ts us vs : List (Named PlaceRow)) → map plain_of ts ≡ map plain_of us → us ≡ vs → place_tables ts ≡ place_tables vs
+same-places : (ts us vs : List (Named (List PlaceRow))) → map plain_of ts ≡ map plain_of us → us ≡ vs → place_tables ts ≡ place_tables vs
 same-places ts us vs e d = through place_row ts ∙ (ap (map (rowed place_row)) (e ∙ ap (map plain_of) d) ∙ sym (through place_row vs))
 
 all_of : {A : Type 0} (xs : List A) (i : ℕ) → i ≤ 0 → drop i xs ≡ xs
 all_of xs zero p = refl
 all_of xs (suc i) p = absurd (omega arith)
 
-facts_done : (s0 s1 s2 w0 : set.FinSet key_cmp) (dels adds : List Fact) (i j : ℕ) → i ≤ 0 → j ≤ 0 → s0 ≡ w0
-    → s1 ≡ without_all s0 (map fact_key (drop i dels)) → s2 ≡ with_all s1 (map fact_key (drop j adds)) → s2 ≡ with_all (without_all w0 (map fact_key dels)) (map fact_key adds)
-facts_done s0 s1 s2 w0 dels adds i j p q e d f = f ∙ λ k. with_all ((d ∙ λ n. without_all (e n) (map fact_key (all_of dels i p n))) k) (map fact_key (all_of adds j q k))
+facts_done : (s0 s1 s2 w0 : set.FinSet key_cmp) (dels adds : List Fact) (i : ℕ) → i ≤ 0 → s0 ≡ w0
+    → s1 ≡ without_all s0 (map fact_key (drop i dels)) → s2 ≡ with_all s1 (map fact_key adds) → s2 ≡ with_all (without_all w0 (map fact_key dels)) (map fact_key adds)
+facts_done s0 s1 s2 w0 dels adds i p e d f = f ∙ ap (λ s. with_all s (map fact_key adds)) (d ∙ λ n. without_all (e n) (map fact_key (all_of dels i p n)))
 
 places_done : (m0 m1 w0 : dict.FinMap key_cmp Value) (sets : List PlaceValue) (k : ℕ) → k ≤ 0 → m0 ≡ w0 → m1 ≡ overwritten m0 (map place_entry (drop k sets)) → m1 ≡ overwritten w0 (map place_entry sets)
 places_done m0 m1 w0 sets k p e d = d ∙ λ n. overwritten (e n) (map place_entry (all_of sets k p n))
@@ -46,26 +46,28 @@ places_done m0 m1 w0 sets k p e d = d ∙ λ n. overwritten (e n) (map place_ent
 pub loop-i-init : goal.loop-i-init
 loop-i-init c = record {
   within = omega arith;
-  order = subst InOrder (sym (same-facts _ _ _ c.in_ok-facts.ensures.same c.as_slice.ensures.value)) c.self.invariant.0;
+  order = subst InOrder (sym (same-facts _ _ _ c.in_ok-facts.ensures.same c.as_slice.ensures.value)) c.self.invariant.0.0;
   now = sym (ap (λ xs. without_all (set_of (fact_tables c.in_ok-facts.facts.items)) (map fact_key xs)) (drop-length c.args.dels.now));
 }
 
 pub loop-k-init : goal.loop-k-init
 loop-k-init c = record {
   within = omega arith;
-  order = subst InOrder (sym (same-places _ _ _ c.in_ok-places.ensures.same c.as_slice-2.ensures.value)) c.self.invariant.1;
+  order = subst InOrder (sym (same-places _ _ _ c.in_ok-places.ensures.same c.as_slice-2.ensures.value)) c.self.invariant.0.1;
   now = sym (ap (λ xs. overwritten (map_of (place_tables c.in_ok-places.places.items)) (map place_entry xs)) (drop-length c.args.sets.now));
 }
 
 pub returns-clause-facts : goal.returns-clause-facts
 returns-clause-facts c =
-    facts_done _ _ _ _ c.args.dels.now c.args.adds.now c.loop-i.i c.loop-j.j (omega arith) (omega arith)
+    c.whole.ensures.facts
+    ∙ facts_done _ _ _ _ c.args.dels.now c.args.adds.now c.loop-i.i (omega arith)
     (ap set_of (same-facts _ _ _ c.in_ok-facts.ensures.same c.as_slice.ensures.value) ∙ ap (λ (w : World). w.facts) c.self.view_is)
-    c.loop-i.invariant.now c.loop-j.invariant.now
+    c.loop-i.invariant.now c.in_ok-with_facts.ensures.facts
 
 pub returns-clause-places : goal.returns-clause-places
 returns-clause-places c =
-    places_done _ _ _ c.args.sets.now c.loop-k.k (omega arith)
+    c.whole.ensures.places
+    ∙ places_done _ _ _ c.args.sets.now c.loop-k.k (omega arith)
     (ap map_of (same-places _ _ _ c.in_ok-places.ensures.same c.as_slice-2.ensures.value) ∙ ap (λ (w : World). w.places) c.self.view_is)
     c.loop-k.invariant.now
 

@@ -1,5 +1,5 @@
 use Rattle.std.proofs.Common.{◌≡◌, ◌≤◌, length, drop, map}
-use Rattle.tl_terms.specs.Step.{with_all, without_all, overwritten}
+use Rattle.tl_terms.specs.Step.{without_all, overwritten}
 use Rattle.tl_world.specs.Tables.{InOrder, fact_tables, place_tables, set_of, map_of}
 use Rattle.tl_syntax.specs.Keys.{fact_key, place_entry}
 use Rattle.tl_world.proofs.world.World.changed.Given as goal
@@ -13,16 +13,6 @@ invariant-loop-i l = record {
 
 abbrev pub decreases-loop-i : goal.decreases-loop-i
 decreases-loop-i l = l.i
-
-abbrev pub invariant-loop-j : goal.invariant-loop-j
-invariant-loop-j l = record {
-  within : l.j ≤ length l.adds;
-  order : InOrder (fact_tables l.facts.items);
-  now : set_of (fact_tables l.facts.items) ≡ with_all (set_of (fact_tables l.initial.facts.items)) (map fact_key (drop l.j l.adds));
-}
-
-abbrev pub decreases-loop-j : goal.decreases-loop-j
-decreases-loop-j l = l.j
 
 abbrev pub invariant-loop-k : goal.invariant-loop-k
 invariant-loop-k l = record {

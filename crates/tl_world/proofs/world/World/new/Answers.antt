@@ -13,7 +13,7 @@ use Rattle.tl_world.proofs.world.World.new.Goals as goal
 pub returns : goal.returns
 unfolding world_of
 returns c =
-    let facts = ap (λ (ts : List (Named (List Value))). set_of (fact_tables ts)) c.new.ensures.items in
-    let places = ap (λ (ts : List (Named PlaceRow)). map_of (place_tables ts)) c.new-2.ensures.items
+    let facts = ap (λ (ts : List (Named (List (List Value)))). set_of (fact_tables ts)) c.new.ensures.items in
+    let places = ap (λ (ts : List (Named (List PlaceRow))). map_of (place_tables ts)) c.new-2.ensures.items
     ∙ dict.same_map key_total key_ties (map_of []) dict.empty (λ k. get-map_of [] k (tt, tt) ∙ sym (dict.get-empty key_cmp k)) in
-    λ i. record { facts = facts i; places = places i }
+    λ i. record { facts = (c.whole.ensures.facts ∙ facts) i; places = (c.whole.ensures.places ∙ places) i }

@@ -1,23 +1,24 @@
-use Rattle.std.proofs.Common.{◌≡◌, ◌+◌, List, take, ap, sym, ◌∙◌, subst, arith, ◌&&◌}
+use Rattle.std.proofs.Common.{◌≡◌, ◌+◌, ◌<◌, List, length, take, ap, sym, ◌∙◌, subst, arith, ◌&&◌}
 use Rattle.std.proofs.lemmas.List.{map-id}
 use Rattle.std.specs.Ordering.{is_lt}
 use Rattle.std.specs.declared.cmp.Ordering.TheVariants.{Greater}
 use Rattle.tl_syntax.specs.declared.value.Value.{Value}
 use Rattle.tl_syntax.specs.Lists.{Each, Rises}
 use Rattle.tl_world.specs.Plain.{row_cmp}
-use Rattle.tl_world.specs.Fits.{IsMatch}
 use Rattle.tl_world.specs.Least.{IsLeast, fits_some, above}
 use Rattle.tl_world.specs.Front.{front, front_cmp, known_of}
 use Rattle.tl_world.proofs.Least.{least-step}
+use Rattle.tl_world.proofs.Halves.{passed-greater}
 use Rattle.tl_world.proofs.Skipping.{least-skipped, least-past}
-use Rattle.tl_world.proofs.next.next_in_rows.Goals as goal
+use Rattle.tl_world.proofs.next.least_in_rows.Goals as goal
 
 pub loop-k-init : goal.loop-k-init
 loop-k-init c =
     let same : List Value → List Value = λ r. r in
     let parts = c.args.parts.now in
     let rows = c.args.rows.now in
-    let before = subst (λ f. Each (λ r. front_cmp f r ≡ Greater) (take c.rows_before-k.result rows)) (c.front_of-low.ensures.value ∙ ap (front 0 parts) c.values_of.ensures) c.rows_before-k.ensures.before in
+    let f = front 0 parts c.values_of.result.now in
+    let before = subst (λ f. Each (λ r. front_cmp f r ≡ Greater) (take c.rows_before-k.result rows)) (ap (front 0 parts) c.values_of.ensures.value) (passed-greater f (take c.rows_before-k.result rows) c.rows_before-k.ensures.before) in
     record {
       within = c.rows_before-k.ensures.bound;
       least = subst (λ ws. IsLeast c.args.free (λ t. fits_some parts (take c.rows_before-k.result ws) t && above c.args.after.now c.args.free t) _) (map-id rows)
@@ -30,20 +31,21 @@ returns-then-is_past c =
     let parts = c.args.parts.now in
     let rows = c.args.rows.now in
     let best = c.loop-k.best in
-    let row = c.index-rows-k.result in
-    let past = subst (λ r. is_lt (front_cmp (front 0 parts (known_of best c.args.free)) r) ≡ _) (c.as_slice-row.ensures ∙ c.index-rows-k.is) (sym c.is_past.ensures ∙ c.if-is_past.true) in
+    let row = c.row-row.result.now in
+    let inside : c.loop-k.k < length rows = omega (arith, c.loop-k-test.true, c.len.ensures) in
+    let past = subst (λ r. is_lt (front_cmp (front 0 parts (known_of best c.args.free)) r) ≡ _) c.row-row.ensures (sym c.is_past.ensures ∙ c.if-is_past.true) in
     subst (λ ws. IsLeast c.args.free (λ t. fits_some parts ws t && above c.args.after.now c.args.free t) best) (map-id rows)
-    (least-past same same parts parts (λ a t h. h) c.args.after.now best c.args.free rows c.loop-k.k row c.loop-k-test.true (subst (Rises row_cmp) (sym (map-id rows)) c.requires.order) past
+    (least-past same same parts parts (λ a t h. h) c.args.after.now best c.args.free rows c.loop-k.k row inside (subst (Rises row_cmp) (sym (map-id rows)) c.requires.order) past
     (subst (λ ws. IsLeast c.args.free (λ t. fits_some parts (take c.loop-k.k ws) t && above c.args.after.now c.args.free t) best) (sym (map-id rows)) c.loop-k.invariant.least))
 
 pub loop-k-preserved : goal.loop-k-preserved
 loop-k-preserved c =
     let parts = c.args.parts.now in
     let rows = c.args.rows.now in
-    let row = c.index-rows-k.result in
-    let fit = subst (λ r. IsMatch parts r c.args.free c.match_row.result) c.as_slice-row.ensures c.match_row.ensures in
+    let row = c.row-row.result.now in
+    let inside : c.loop-k.k < length rows = omega (arith, c.loop-k-test.true, c.len.ensures) in
     record {
-      within = omega (arith, c.loop-k-test.true);
+      within = omega (arith, inside);
       least = subst (λ b. IsLeast c.args.free (λ t. fits_some parts (take (c.loop-k.k + 1) rows) t && above c.args.after.now c.args.free t) b) (sym c.lesser-best.ensures)
-          (least-step parts c.args.free c.args.after.now rows c.loop-k.k c.loop-k-test.true row (sym c.index-rows-k.is) c.loop-k.best c.match_row.result fit c.loop-k.invariant.least);
+          (least-step parts c.args.free c.args.after.now rows c.loop-k.k inside row (sym c.row-row.ensures) c.loop-k.best c.match_row.result c.match_row.ensures c.loop-k.invariant.least);
     }

@@ -1,6 +1,6 @@
 use Rattle.std.proofs.Common.{◌≤◌, ◌-◌, length, take, ◌&&◌}
 use Rattle.tl_world.specs.Least.{IsLeast, fits_some, above}
-use Rattle.tl_world.proofs.next.next_in_rows.Given as goal
+use Rattle.tl_world.proofs.next.least_in_rows.Given as goal
 
 abbrev pub invariant-loop-k : goal.invariant-loop-k
 invariant-loop-k l = record {

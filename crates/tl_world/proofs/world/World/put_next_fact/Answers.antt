@@ -1,0 +1,24 @@
+use Rattle.std.proofs.Common.{false, ap, ◌&&◌}
+use Rattle.tl_world.specs.Least.{IsLeast, fits_some, above, found_in}
+use Rattle.tl_world.specs.Patterns.{parts_of, filled, is_true_of}
+use Rattle.tl_world.proofs.Least.{least-same}
+use Rattle.tl_world.proofs.Truths.{fact-truth, occurs-among}
+use Rattle.tl_world.proofs.world.World.put_next_fact.Goals as goal
+
+pub put_next-requires-clause-each : goal.put_next-requires-clause-each
+put_next-requires-clause-each c n p = (occurs-among n (parts_of c.args.pattern.now)).0 ((c.requires.pattern.each n).1 p)
+
+pub put_next-requires-clause-slots : goal.put_next-requires-clause-slots
+put_next-requires-clause-slots c n o = (c.requires.pattern.each n).0 ((occurs-among n (parts_of c.args.pattern.now)).1 o)
+
+pub returns-in-Some : goal.returns-in-Some
+returns-in-Some c =
+    let p = c.args.pattern.now in
+    let parts = parts_of p in
+    least-same p.free (found_in c.put_next.result p.free c.put_next.new.values) (λ t. fits_some parts c.in-Some.rows.now t && above c.args.after.now p.free t) (λ t. is_true_of c.args.self.now false p.name (filled parts t) && above c.args.after.now p.free t)
+    (λ t size. ap (λ b. b && above c.args.after.now p.free t) (fact-truth c.args.self.now p.name c.in-Some.rows.now c.in-Some.ensures.facts parts t p.free (λ n o. (c.requires.pattern.each n).0 ((occurs-among n parts).1 o)) size))
+    c.put_next.ensures
+
+pub returns-in-None : goal.returns-in-None
+unfolding IsLeast
+returns-in-None c t size = ap (λ b. b && above c.args.after.now c.args.pattern.now.free t) (c.in-None.ensures.none (filled (parts_of c.args.pattern.now) t))

@@ -1,0 +1,92 @@
+// The first row that a pattern fits, whose variables first stand in the order of their numbers.
+ghost use Rattle.std.specs.Prelude.{◌≡◌, ◌<◌, ◌≤◌, ℕ, List, length, take, drop, true, false, IfSome, IfNone};
+ghost use Rattle.tl_syntax.specs.Lists.{Rises};
+ghost use Rattle.tl_world.specs.Fits.{fits_at, fits_all, occurs, BeginsAs};
+ghost use Rattle.tl_world.specs.Front.{seen_after, is_in_turn, are_in_turn};
+ghost use Rattle.tl_world.specs.Least.{IsLeast, fits_some, found_in};
+ghost use Rattle.tl_world.specs.Tables.{row_cmp};
+
+use crate::front::order_of_front;
+use crate::{Part, Rows};
+use tl_syntax::Value;
+
+/// How many first variables have values after the part, where a tuple that begins with the first `seen` values can make it the value `v`. A new variable gets its value.
+fn put_value(part: Part, v: Value, seen: usize, values: &mut [Value; 9]) -> Option<usize>
+    requires turn { is_in_turn seen part ≡ true }
+    requires room { seen_after seen part ≤ 9 }
+    ensures seen { IfSome result (λ next. next ≡ seen_after seen part) }
+    ensures kept { BeginsAs seen values.new values.old }
+    ensures fits { IfSome result (λ _. (t : List Value) → BeginsAs (seen_after seen part) values.new t → fits_at part v t ≡ true) }
+    ensures known { IfSome result (λ _. (t : List Value) → BeginsAs seen values.old t → fits_at part v t ≡ true → BeginsAs (seen_after seen part) values.new t) }
+    ensures none { IfNone result ((t : List Value) → BeginsAs seen values.old t → fits_at part v t ≡ false) }
+{
+    match part {
+        Part::Fixed(u) => if u == v { Some(seen) } else { None },
+        Part::Free(n) => {
+            let n = n as usize;
+            if n == seen {
+                values[n] = v;
+                Some(seen + 1)
+            } else if values[n] == v {
+                Some(seen)
+            } else {
+                None
+            }
+        }
+    }
+}
+
+/// Whether some tuple of `free` values makes the parts the row. Its values are then put into the first places of `values`.
+fn put_values(parts: &[Part], free: u32, row: &[Value], values: &mut [Value; 9]) -> bool
+    requires few { free ≤ 9 }
+    requires slots { (n : ℕ) → occurs n parts.now ≡ true → n < free }
+    requires turn { are_in_turn 0 parts.now ≡ true }
+    ensures fits { result ≡ true → fits_all parts.now row.now (take free values.new) ≡ true }
+    ensures none { result ≡ false → (t : List Value) → fits_all parts.now row.now t ≡ false }
+{
+    if parts.len() != row.len() {
+        return false;
+    }
+    let mut seen = 0;
+    let mut k = 0;
+    while k < parts.len() {
+        match put_value(parts[k], row[k], seen, values) {
+            Some(next) => seen = next,
+            None => return false,
+        }
+        k += 1;
+    }
+    true
+}
+
+/// Whether some tuple makes the parts one of the rows from a place on. The values of the least one are then put into the first places of `values`.
+///
+/// It is that of the first such row. Rows are looked at up to the first whose leading values exceed the fixed leading parts.
+pub(crate) fn put_first(
+    rows: &Rows,
+    parts: &[Part],
+    free: u32,
+    from: usize,
+    values: &mut [Value; 9],
+) -> bool
+    requires few { free ≤ 9 }
+    requires each { (n : ℕ) → n < free → occurs n parts.now ≡ true }
+    requires slots { (n : ℕ) → occurs n parts.now ≡ true → n < free }
+    requires turn { are_in_turn 0 parts.now ≡ true }
+    requires order { Rises row_cmp rows.now }
+    requires bound { from ≤ length rows.now }
+    ensures { IsLeast free (λ t. fits_some parts.now (drop from rows.now) t) (found_in result free values.new) }
+{
+    let mut k = from;
+    while k < rows.len() {
+        let row = rows.row(k);
+        if put_values(parts, free, row, values) {
+            return true;
+        }
+        if order_of_front(parts, &[], row).is_lt() {
+            return false;
+        }
+        k += 1;
+    }
+    false
+}

@@ -1,0 +1,143 @@
+// The rows of one predicate.
+ghost use Rattle.std.specs.Hash as fed;
+ghost use Rattle.std.specs.Hash.{same_Alike};
+ghost use Rattle.std.specs.List.{insert, remove};
+ghost use Rattle.std.specs.Prelude.{◌≡◌, ◌<◌, ◌≤◌, ◌==◌, [], ◌∷◌, length, slice_index_or, IfOk};
+ghost use Rattle.tl_world.specs.Codes.{row_code, rows_code, values_eq};
+ghost use Rattle.tl_world.specs.RowTests.{rows_eq, rows-tell};
+ghost use Rattle.tl_world.specs.Same.{tells-partial, tells-equivalence};
+
+use crate::flat::Flat;
+use std::alloc::Global;
+use std::hash::{FoldHasher, Hash, Hasher};
+use std::marker::Model;
+use tl_syntax::{NoMemory, Value};
+
+/// The argument lists of one predicate's facts. Contracts see it as the list of its rows.
+#[derive(Drop)]
+pub struct Rows {
+    flat: Flat,
+    code: u64,
+}
+
+impl Model for Rows {
+    ghost use Rattle.std.specs.Prelude.{List, ◌≡◌};
+    ghost use Rattle.tl_syntax.specs.declared.value.Value.{Value as PlainValue};
+    ghost use Rattle.tl_world.specs.Codes.{rows_code};
+
+    ghost Value = { List (List PlainValue) };
+
+    ghost view = { λ r. r.flat };
+
+    ghost invariant = { λ r. r.code ≡ rows_code r.flat };
+}
+
+/// The code of a row.
+#[tactic(auto, unfolding(crate::specs::Codes::row_code))]
+fn code_of_row(row: &[Value]) -> u64
+    ensures { result ≡ row_code row.now }
+{
+    let mut hasher = FoldHasher::default();
+    row.hash(&mut hasher);
+    hasher.finish()
+}
+
+impl Rows {
+    /// How many rows there are.
+    pub fn len(&self) -> usize
+        ensures { result ≡ length self.now }
+    {
+        self.flat.len()
+    }
+
+    /// Whether there is no row.
+    pub fn is_empty(&self) -> bool
+        ensures { result ≡ (length self.now == 0) }
+    {
+        self.flat.len() == 0
+    }
+
+    /// The arguments of the fact at place `k`, counted from 0.
+    pub fn row(&self, k: usize) -> &[Value]
+        requires { k < length self.now }
+        ensures { result.now ≡ slice_index_or self.now k result.now }
+    {
+        self.flat.row(k)
+    }
+
+    /// The rows alone.
+    pub(crate) fn flat(&self) -> &Flat
+        ensures { result.now ≡ self.now }
+    {
+        &self.flat
+    }
+
+    /// The table of one row.
+    pub(crate) fn of_one(alloc: Global, row: &[Value]) -> Result<Rows, NoMemory>
+        ensures { IfOk result (λ r. r ≡ row.now ∷ []) }
+    {
+        let mut flat = Flat::with_room(alloc, 1, row.len())?;
+        flat.push(row)?;
+        Ok(Rows {
+            flat,
+            code: code_of_row(row),
+        })
+    }
+
+    /// The rows with one more at place `k`.
+    pub(crate) fn with(&self, alloc: Global, k: usize, row: &[Value]) -> Result<Rows, NoMemory>
+        requires { k ≤ length self.now }
+        ensures { IfOk result (λ r. r ≡ insert self.now k row.now) }
+    {
+        Ok(Rows {
+            flat: self.flat.with(alloc, k, row)?,
+            code: self.code.wrapping_add(code_of_row(row)),
+        })
+    }
+
+    /// The rows with one more at place `k`, which is put into them.
+    pub(crate) fn put(self, k: usize, row: &[Value]) -> Result<Rows, NoMemory>
+        requires { k ≤ length self }
+        ensures { IfOk result (λ r. r ≡ insert self k row.now) }
+    {
+        Ok(Rows {
+            flat: self.flat.put(k, row)?,
+            code: self.code.wrapping_add(code_of_row(row)),
+        })
+    }
+
+    /// The rows without that at place `k`.
+    pub(crate) fn without(&self, alloc: Global, k: usize) -> Result<Rows, NoMemory>
+        requires { k < length self.now }
+        ensures { IfOk result (λ r. r ≡ remove self.now k) }
+    {
+        Ok(Rows {
+            flat: self.flat.without(alloc, k)?,
+            code: self.code.wrapping_sub(code_of_row(self.flat.row(k))),
+        })
+    }
+}
+
+impl PartialEq for Rows {
+    ghost eq = { λ x y. rows_eq x y };
+
+    ghost laws = { tells-partial rows_eq rows-tell };
+
+    fn eq(&self, other: &Rows) -> bool {
+        self.flat == other.flat
+    }
+}
+
+impl Eq for Rows {
+    ghost laws = { tells-equivalence rows_eq rows-tell };
+}
+
+impl Hash for Rows {
+    ghost hash_input = { λ x. fed.u64 (rows_code x) };
+
+    ghost respects_eq = { (same_Alike (λ x. fed.u64 (rows_code x)) rows-tell).fed };
+
+    fn hash<H: Hasher>(&self, state: &mut H) {
+        self.code.hash(state);
+    }
+}
