@@ -13,10 +13,9 @@ use Rattle.tl_syntax.specs.contracts.value.ValuePartialEq.TheImpl as value_impl
 use Rattle.tl_world.specs.declared.named.Named.{Named}
 use Rattle.tl_world.specs.declared.table.PlaceRow.{PlaceRow}
 use Rattle.tl_world.specs.Tables.{PlainRows, InOrder, fact_row, place_row, fact_table, place_table, fact_tables, place_tables}
-use Rattle.tl_syntax.specs.contracts.value.ValueHash.TheImpl as value_hash_impl
 use Rattle.std.specs.Hash.FoldHasher as folding
 use Rattle.std.specs.declared.hash.FoldHasher.{FoldHasher}
-use Rattle.tl_world.specs.Codes.{values_fed, rows_code, fact_table_fed, place_table_fed, tables_code}
+use Rattle.tl_world.specs.Codes.{rows_code, places_code, row_of, fact_table_fed, place_table_fed, tables_code}
 use Rattle.tl_world.specs.Same.{world_eq, world-tells, told_alike, world_fed}
 use Rattle.tl_world.proofs.Lent.{bare}
 use Rattle.tl_world.proofs.Group.{whole, same-facts, same-places, facts-back, places-back}
@@ -110,7 +109,12 @@ abbrev pub fact_named_fed : Named (List (List Value)) → HashWrites
 fact_named_fed t = fed.u32 t.name ++ fed.u64 (rows_code t.rows.value)
 
 abbrev pub place_named_fed : Named (List PlaceRow) → HashWrites
-place_named_fed t = fed.u32 t.name ++ fed.slice (λ (r : PlaceRow). values_fed r.args ++ (value_hash_impl.ghosts).hash_input r.value) t.rows.value
+place_named_fed t = fed.u32 t.name ++ fed.u64 (places_code t.rows.value)
+
+-- the rows of a table again
+rows-again : (rows : List PlaceRow) → map row_of (map place_row rows) ≡ rows
+rows-again [] = refl
+rows-again (r ∷ rs) = ap (λ x. r ∷ x) (rows-again rs)
 
 facts_fed : (fs : List (Named (List (List Value)))) → fed.slice fact_table_fed (fact_tables fs) ≡ fed.slice fact_named_fed fs
 facts_fed fs = fed-map fact_table fact_table_fed fs
@@ -118,7 +122,7 @@ facts_fed fs = fed-map fact_table fact_table_fed fs
 
 places_fed : (ps : List (Named (List PlaceRow))) → fed.slice place_table_fed (place_tables ps) ≡ fed.slice place_named_fed ps
 places_fed ps = fed-map place_table place_table_fed ps
-    ∙ (λ i. fed.slice (λ (t : Named (List PlaceRow)). fed.u32 t.name ++ fed-map place_row (λ (r : List Value × Value). values_fed r.0 ++ (value_hash_impl.ghosts).hash_input r.1) t.rows.value i) ps)
+    ∙ (λ i. fed.slice (λ (t : Named (List PlaceRow)). fed.u32 t.name ++ fed.u64 (places_code (rows-again t.rows.value i))) ps)
 
 pub fold-two : {S : Type 0} (f : S → List ℕ → S) (s : S) (xs ys : HashWrites) → fold f s (xs ++ ys) ≡ fold f (fold f s xs) ys
 fold-two f s [] ys = refl

@@ -1,5 +1,5 @@
 -- A chain of next tuples has all that pass the test, in order.
-use Rattle.std.proofs.Common.{◌≡◌, ◌↔◌, ℕ, List, [], ◌∷◌, length, Bool, true, ◌&&◌, true≢false, Option, Some, None, Ordering, Less, Equal, Greater, refl, sym, ap, ◌∙◌, subst, inl, inr, take}
+use Rattle.std.proofs.Common.{◌≡◌, ◌↔◌, ℕ, List, [], ◌∷◌, length, Bool, true, false, ◌&&◌, true≢false, Option, Some, None, Ordering, Less, Equal, Greater, refl, sym, ap, ◌∙◌, subst, inl, inr, take}
 use Rattle.std.specs.Option.{option_map, IfSome}
 use Rattle.std.specs.Ordering.{is_lt, is_gt}
 use Rattle.tl_syntax.specs.declared.value.Value.{Value}
@@ -8,8 +8,8 @@ use Rattle.tl_syntax.proofs.ListLaws.{Each-Among}
 use Rattle.tl_syntax.proofs.Plain.{both, with_both}
 use Rattle.tl_world.specs.declared.pattern.Match.{Match}
 use Rattle.tl_world.specs.Plain.{row_cmp}
-use Rattle.tl_world.specs.Patterns.{makes_true, tuple_of}
-use Rattle.tl_world.specs.Least.{IsLeast, above}
+use Rattle.tl_world.specs.Patterns.{makes_true, tuple_of, tuple_in_place}
+use Rattle.tl_world.specs.Least.{IsLeast, above, match_in_place}
 use Rattle.tl_world.specs.Next.{IsAfter, IsLater, IsNext, IsChain, ChainHasAllMatches}
 use Rattle.tl_world.proofs.Lookup.{row_total}
 use Rattle.tl_world.proofs.Lent.{row_ties}
@@ -70,3 +70,20 @@ pub least-size : (k : ℕ) (c : List Value → Bool) (result : Option Match) →
 unfolding IsLeast
 least-size k c None least = tt
 least-size k c (Some m) least = least.0
+
+in-place : (begun : Bool) (m : Match) → option_map tuple_of (match_in_place begun m) ≡ tuple_in_place begun m
+in-place true m = refl
+in-place false m = refl
+
+size-in-place : (k : ℕ) (begun : Bool) (m : Match) → (begun ≡ true → m.len ≡ k) → IfSome (match_in_place begun m) (λ m. m.len ≡ k)
+size-in-place k true m h = h refl
+size-in-place k false m h = tt
+
+-- so with a tuple that is put in place of another
+pub next-in-place : (k : ℕ) (test : List Value → Bool) (begun : Bool) (before : Match) (result : Bool) (after : Match) → (begun ≡ true → before.len ≡ k)
+    → IsLeast k (λ t. test t && above (match_in_place begun before) k t) (match_in_place result after) → IsNext k test (tuple_in_place begun before) (tuple_in_place result after)
+next-in-place k test begun before result after size least =
+    subst (λ a. IsNext k test a (tuple_in_place result after)) (in-place begun before) (subst (λ r. IsNext k test (option_map tuple_of (match_in_place begun before)) r) (in-place result after) (next-least k test (match_in_place begun before) (match_in_place result after) (size-in-place k begun before size) least))
+
+pub size-of-next : (k : ℕ) (c : List Value → Bool) (result : Bool) (m : Match) → IsLeast k c (match_in_place result m) → result ≡ true → m.len ≡ k
+size-of-next k c result m least is = least-size k c (Some m) (subst (λ b. IsLeast k c (match_in_place b m)) is least)

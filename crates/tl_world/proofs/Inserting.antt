@@ -1,6 +1,6 @@
 -- One more row at a place of a list that is cut.
 use Rattle.std.proofs.Common.{◌≡◌, ℕ, zero, suc, ◌+◌, ◌-◌, ◌<◌, ◌≤◌, List, [], ◌∷◌, ◌++◌, length, length-append, take, drop, refl, sym, ap, ◌∙◌, subst, arith}
-use Rattle.std.proofs.lemmas.List.{take-append-le, drop-append-le, length-drop, length-take-le, length-map}
+use Rattle.std.proofs.lemmas.List.{length-drop, length-take-le, length-map}
 use Rattle.std.proofs.Math.Seq.{take-append_seam, drop-append_seam}
 use Rattle.std.specs.List.{insert}
 use Rattle.tl_syntax.specs.Lists.{Each}
@@ -17,17 +17,6 @@ module _ {X : Type 0} (es slice : List ℕ) (xs row : List X) (k s : ℕ) (v : L
   pub low : s ≤ length xs
   low = let b = begin-within 0 (length xs) k es h inside in omega (arith, begin-is, b)
 
-  -- the values
-  pub turned : (m t : List X) → m ≡ xs ++ row → t ≡ take s m ++ (drop (length m - s - length row) (drop s m) ++ take (length m - s - length row) (drop s m)) → t ≡ take s xs ++ (row ++ drop s xs)
-  turned m t is made =
-      let l : length m ≡ length xs + length row = ap length is ∙ length-append xs row in
-      let d : length (drop s xs) ≡ length xs - s = length-drop s xs in
-      let n : length m - s - length row ≡ length (drop s xs) = omega (arith, l, d, low) in
-      let rest : drop s m ≡ drop s xs ++ row = ap (drop s) is ∙ drop-append-le s xs row low in
-      made
-      ∙ ((λ i. take s (is i) ++ (drop (n i) (rest i) ++ take (n i) (rest i)))
-      ∙ λ i. take-append-le s xs row low i ++ (drop-append_seam (drop s xs) row i ++ take-append_seam (drop s xs) row i))
-
   taken : length (take k es) ≡ k
   taken = length-take-le k es inside
 
@@ -40,30 +29,27 @@ module _ {X : Type 0} (es slice : List ℕ) (xs row : List X) (k s : ℕ) (v : L
   pub ends-fit : (m : List ℕ) (limit : ℕ) → m ≡ insert es k s → length xs + length row < limit → Each (λ e. e + length row < limit) (drop k m)
   ends-fit m limit is q = subst (Each (λ e. e + length row < limit)) (sym (later-ends m is)) (each-fits (length row) limit 0 (length xs) es k h inside q)
 
-  module _ (m t : List X) (n e : List ℕ) (values : m ≡ xs ++ row) (made : t ≡ take s m ++ (drop (length m - s - length row) (drop s m) ++ take (length m - s - length row) (drop s m))) (ends : n ≡ insert es k s) (grew : e ≡ take k n ++ grown (length row) (drop k n)) where
+  values-from : (t : List X) → t ≡ take s xs ++ (row ++ drop s xs) → t ≡ take (begin 0 es k) xs ++ (row ++ drop (begin 0 es k) xs)
+  values-from t made = made ∙ λ i. take (begin-is i) xs ++ (row ++ drop (begin-is i) xs)
+
+  pub put-size : (t : List X) → t ≡ take s xs ++ (row ++ drop s xs) → length t ≡ length xs + length row
+  put-size t made =
+      let b = begin-within 0 (length xs) k es h inside in
+      let l1 : length (take (begin 0 es k) xs) ≡ begin 0 es k = length-take-le (begin 0 es k) xs b in
+      let l2 : length (drop (begin 0 es k) xs) ≡ length xs - begin 0 es k = length-drop (begin 0 es k) xs in
+      let l3 : length (row ++ drop (begin 0 es k) xs) ≡ length row + length (drop (begin 0 es k) xs) = length-append row (drop (begin 0 es k) xs) in
+      let l4 : length t ≡ length (take (begin 0 es k) xs) + length (row ++ drop (begin 0 es k) xs) = ap length (values-from t made) ∙ length-append (take (begin 0 es k) xs) (row ++ drop (begin 0 es k) xs) in
+      omega (arith, l1, l2, l3, l4, b)
+
+  module _ (t : List X) (n e : List ℕ) (made : t ≡ take s xs ++ (row ++ drop s xs)) (ends : n ≡ insert es k s) (grew : e ≡ take k n ++ grown (length row) (drop k n)) where
     ends-are : e ≡ take k es ++ grown (length row) (begin 0 es k ∷ drop k es)
     ends-are = grew ∙ λ i. first-ends n ends i ++ grown (length row) (later-ends n ends i)
 
-    values-are : t ≡ take (begin 0 es k) xs ++ (row ++ drop (begin 0 es k) xs)
-    values-are = turned m t values made ∙ λ i. take (begin-is i) xs ++ (row ++ drop (begin-is i) xs)
-
-    size : length t ≡ length xs + length row
-    size =
-        let b = begin-within 0 (length xs) k es h inside in
-        let l1 : length (take (begin 0 es k) xs) ≡ begin 0 es k = length-take-le (begin 0 es k) xs b in
-        let l2 : length (drop (begin 0 es k) xs) ≡ length xs - begin 0 es k = length-drop (begin 0 es k) xs in
-        let l3 : length (row ++ drop (begin 0 es k) xs) ≡ length row + length (drop (begin 0 es k) xs) = length-append row (drop (begin 0 es k) xs) in
-        let l4 : length t ≡ length (take (begin 0 es k) xs) + length (row ++ drop (begin 0 es k) xs) = ap length values-are ∙ length-append (take (begin 0 es k) xs) (row ++ drop (begin 0 es k) xs) in
-        omega (arith, l1, l2, l3, l4, b)
-
-    pub put-size : length t ≡ length m
-    put-size = let l : length m ≡ length xs + length row = ap length values ∙ length-append xs row in omega (arith, size, l)
-
     pub put-order : AreEnds 0 e (length t)
-    put-order = subst (AreEnds 0 e) (sym size) (subst (λ z. AreEnds 0 z (length xs + length row)) (sym ends-are) (put-ends 0 (length row) (length xs) es k h inside))
+    put-order = subst (AreEnds 0 e) (sym (put-size t made)) (subst (λ z. AreEnds 0 z (length xs + length row)) (sym ends-are) (put-ends 0 (length row) (length xs) es k h inside))
 
     pub put-rows : rows_between 0 e t ≡ insert v k row
-    put-rows = (λ i. rows_between 0 (ends-are i) (values-are i)) ∙ (put-between 0 (length row) es xs row k refl h inside ∙ ap (λ rs. insert rs k row) view)
+    put-rows = (λ i. rows_between 0 (ends-are i) (values-from t made i)) ∙ (put-between 0 (length row) es xs row k refl h inside ∙ ap (λ rs. insert rs k row) view)
 
 pub grown-size : (w : ℕ) (m : List ℕ) (k : ℕ) → length (take k m ++ grown w (drop k m)) ≡ length m
 grown-size w m zero = length-map m (λ n. n + w)

@@ -18,8 +18,11 @@ pub mod Filled
 pub mod Fronts
 pub mod Leading
 pub mod Halves
+pub mod RowsAlike
 pub mod Turns
+pub mod Later
 pub mod Putting
+pub mod Snoc
 pub mod Skipping
 pub mod WholeRows
 pub mod Chains
@@ -28,3 +31,7 @@ pub mod Orders
 pub mod Contents
 pub mod GoalTests
 pub mod Finite
+pub mod Numbering
+pub mod Moving
+pub mod Beside
+pub mod Falling

@@ -10,7 +10,7 @@ use Rattle.tl_syntax.specs.Keys.{Key, key_cmp, fact_key}
 use Rattle.tl_syntax.specs.TotalOrders.{key_total, key_ties}
 use Rattle.tl_terms.specs.Step.{with_all}
 
-contains-all : (s : set.FinSet key_cmp) (fs : List Fact) (q : Key) → set.contains (with_all s (map fact_key fs)) q ≡ (list_any (λ f. eq_by_cmp key_cmp q (fact_key f)) fs || set.contains s q)
+pub contains-all : (s : set.FinSet key_cmp) (fs : List Fact) (q : Key) → set.contains (with_all s (map fact_key fs)) q ≡ (list_any (λ f. eq_by_cmp key_cmp q (fact_key f)) fs || set.contains s q)
 contains-all s [] q = refl
 contains-all s (f ∷ fs) q =
     set.contains-insert key_total (with_all s (map fact_key fs)) (fact_key f) q

@@ -10,7 +10,7 @@ use Rattle.tl_syntax.proofs.Plain.{both, with_both, value-tells}
 use Rattle.tl_world.specs.declared.pattern.Part.{Part}
 use Rattle.tl_world.specs.declared.pattern.Part.TheVariants.{Fixed, Free}
 use Rattle.tl_world.specs.Fits.{is_value, fits_at, fits_all, occurs, BeginsAs}
-use Rattle.tl_world.specs.Front.{seen_after, is_in_turn, are_in_turn}
+use Rattle.tl_world.specs.Front.{seen_after, seen_in, is_in_turn, are_in_turn}
 use Rattle.tl_world.proofs.Matching.{set-at, set-other, is_value-some}
 
 -- one part
@@ -46,6 +46,10 @@ turn-at ps k n d low h =
     let p = get_or ps k d in
     let e : drop k ps ≡ p ∷ drop (k + 1) ps = drop-cons ps k d low ∙ ap (λ i. p ∷ drop i ps) (let m : suc k ≡ k + 1 = omega arith in m) in
     both (is_in_turn n p) (are_in_turn (seen_after n p) (drop (k + 1) ps)) (ap (are_in_turn n) (sym e) ∙ h)
+
+-- the first variables of the parts from k on
+pub seen-at : (ps : List Part) (k n : ℕ) (d : Part) → k < length ps → seen_in n (drop k ps) ≡ seen_in (seen_after n (get_or ps k d)) (drop (k + 1) ps)
+seen-at ps k n d low = ap (seen_in n) (drop-cons ps k d low ∙ ap (λ i. get_or ps k d ∷ drop i ps) (let m : suc k ≡ k + 1 = omega arith in m))
 
 -- the variables that were seen are among those that count
 pub seen-within : (ps : List Part) (k n free : ℕ) (p d : Part) → k < length ps → ((m : ℕ) → occurs m ps ≡ true → m < free) → n ≤ free → get_or ps k d ≡ p → seen_after n p ≤ free

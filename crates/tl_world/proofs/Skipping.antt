@@ -1,6 +1,6 @@
 -- Rows that a search by halves passes over, and rows after which none can be less.
 use Rattle.std.proofs.Common.{◌≡◌, ◌⊎◌, ◌<◌, ◌≤◌, ℕ, zero, suc, List, [], ◌∷◌, length, take, drop, map, get_or, Bool, true, false, ◌&&◌, ◌||◌, true≢false, Option, Some, None, Ordering, Less, Equal, Greater, refl, sym, ap, ◌∙◌, subst, inl, inr, arith}
-use Rattle.std.proofs.lemmas.List.{take-append-drop, take-map, map-append}
+use Rattle.std.proofs.lemmas.List.{take-append-drop, take-map, drop-map, map-append}
 use Rattle.std.proofs.lemmas.List.Folds.{list_any-append}
 use Rattle.std.proofs.lemmas.Bool.{cases_lt}
 use Rattle.std.specs.List.{AllWithin}
@@ -94,6 +94,38 @@ module _ {A : Type 0} (key : A → List Value) where
       | inl e ↦ let d : Less ≡ Equal = sym l ∙ e in cc
       | inr e ↦ no_match (ap is_gt (sym e.1 ∙ l))
     ]
+
+    halved : (i : ℕ) (rows : List A) (t : List Value) → fits_some parts (map whole rows) t ≡ (fits_some parts (map whole (take i rows)) t || fits_some parts (drop i (map whole rows)) t)
+    halved i rows t =
+        ap (λ ws. fits_some parts ws t) (sym (take-append-drop i (map whole rows)))
+        ∙ (list_any-append (λ w. fits_all parts w t) (take i (map whole rows)) (drop i (map whole rows))
+        ∙ ap (λ ws. fits_some parts ws t || fits_some parts (drop i (map whole rows)) t) (take-map whole i rows))
+
+    -- where no tuple is in place, all tuples are those of the rows that are not passed over
+    pub all-kept : (rows : List A) (i : ℕ) → Each (λ a. front_cmp (front 0 lead []) (key a) ≡ Greater) (take i rows) → (t : List Value) → fits_some parts (drop i (map whole rows)) t ≡ (fits_some parts (map whole rows) t && true)
+    all-kept rows i e t = sym (ap (λ b. b && true) (halved i rows t) ∙ only_second _ _ (first_none _ refl))
+      where
+        first_none : (b : Bool) → fits_some parts (map whole (take i rows)) t ≡ b → b ≡ false
+        first_none false h = refl
+        first_none true h = absurd (none-fits t (λ a. front_cmp (front 0 lead []) (key a) ≡ Greater) (not-skipped None 0 t refl) (take i rows) e h)
+
+        only_second : (a b : Bool) → a ≡ false → ((a || b) && true) ≡ b
+        only_second true b h = absurd (true≢false h)
+        only_second false true h = refl
+        only_second false false h = refl
+
+    -- from a row above the fixed leading values on, no row fits
+    pub none-past : (rows : List A) (i : ℕ) (d : A) → i < length rows → Rises row_cmp (map key rows) → is_lt (front_cmp (front 0 lead []) (key (get_or rows i d))) ≡ true → (t : List Value) → fits_some parts (drop i (map whole rows)) t ≡ false
+    none-past rows i d p r less t = ap (λ ws. fits_some parts ws t) (drop-map whole i rows) ∙ none _ refl
+      where
+        less-is : (o : Ordering) → is_lt o ≡ true → o ≡ Less
+        less-is Less h = refl
+        less-is Equal h = absurd (true≢false (sym h))
+        less-is Greater h = absurd (true≢false (sym h))
+
+        none : (b : Bool) → fits_some parts (map whole (drop i rows)) t ≡ b → fits_some parts (map whole (drop i rows)) t ≡ false
+        none false h = h
+        none true h = absurd (none-fits t (λ a. front_cmp (front 0 lead []) (key a) ≡ Less) (past-all None 0 t (λ n. n)) (drop i rows) (each-from (front 0 lead []) rows i d p r (less-is _ less)) h)
 
     -- past the front of the best so far, that one is the least of all
     pub least-past : (after best : Option Match) (k : ℕ) (rows : List A) (i : ℕ) (d : A) → i < length rows → Rises row_cmp (map key rows) → is_lt (front_cmp (front 0 lead (known_of best k)) (key (get_or rows i d))) ≡ true

@@ -1,5 +1,5 @@
 -- Where the variables first stand in the order of their numbers, rows that fit stand in the order of their tuples.
-use Rattle.std.proofs.Common.{◌≡◌, ◌⊎◌, ℕ, zero, suc, ◌<◌, ◌≤◌, ◌+◌, leb, eqb, eqb-true, eq-eqb, Bool, true, false, cond, ◌&&◌, ◌||◌, true≢false, is_some, List, [], ◌∷◌, length, get_or, take, drop, drop-cons, Option, Some, None, Ordering, Less, Equal, Greater, refl, sym, ap, ◌∙◌, subst, inl, inr, arith}
+use Rattle.std.proofs.Common.{◌≡◌, ◌⊎◌, ℕ, zero, suc, ◌<◌, ◌≤◌, ◌+◌, leb, eqb, eqb-true, eq-eqb, Bool, true, false, cond, ◌&&◌, ◌||◌, true≢false, List, [], ◌∷◌, length, get_or, take, drop, drop-cons, Some, None, Ordering, Less, Equal, Greater, refl, sym, ap, ◌∙◌, subst, inl, inr, arith}
 use Rattle.std.proofs.lemmas.Bool.{eqb-false}
 use Rattle.std.proofs.lemmas.List.{drop_all, take-append-drop}
 use Rattle.std.proofs.lemmas.List.Folds.{list_any-append}
@@ -17,12 +17,13 @@ use Rattle.tl_world.specs.declared.pattern.Part.{Part}
 use Rattle.tl_world.specs.declared.pattern.Part.TheVariants.{Fixed, Free}
 use Rattle.tl_world.specs.Plain.{row_cmp}
 use Rattle.tl_world.specs.Fits.{fits_at, fits_all, occurs}
-use Rattle.tl_world.specs.Front.{seen_after, led_by, front, front_cmp, known_of, is_passed, are_in_turn}
-use Rattle.tl_world.specs.Least.{fits_some, above, IsLeast}
+use Rattle.tl_world.specs.Front.{seen_after, led_by, front, front_cmp, is_passed, are_in_turn, IsFirstKept}
+use Rattle.tl_world.specs.Least.{fits_some, is_later, HasLater, IsLeast}
 use Rattle.tl_world.proofs.Fronts.{earlier-too, follows, rest-of}
 use Rattle.tl_world.proofs.Halves.{kept-from}
 use Rattle.tl_world.proofs.Lookup.{row_total}
-use Rattle.tl_world.proofs.Matching.{is_value-some}
+use Rattle.tl_world.proofs.Matching.{is_value-some, fits-lengths}
+use Rattle.tl_world.proofs.RowsAlike.{IsAbove, RisesAlike}
 
 -- a leading value that the row has
 tie : (v : Value) (f row : List Value) → front_cmp (v ∷ f) (v ∷ row) ≡ front_cmp f row
@@ -119,13 +120,9 @@ joined true false u f g = f refl
 joined false true u f g = g refl
 joined false false u f g = refl
 
-abbrev pub HasValues : ℕ → Option Match → Type 0
-HasValues k None = Unit {0}
-HasValues k (Some m) = length (take k m.values) ≡ k
-
 module _ (parts : List Part) (k : ℕ) (turn : are_in_turn 0 parts ≡ true) (each : (n : ℕ) → n < k → occurs n parts ≡ true) (slots : (n : ℕ) → occurs n parts ≡ true → n < k) where
   -- the front of a tuple stands to a row as the tuple to that of the row
-  ordered : (row a t : List Value) → length a ≡ k → length t ≡ k → fits_all parts row t ≡ true → front_cmp (front 0 parts a) row ≡ row_cmp a t
+  pub ordered : (row a t : List Value) → length a ≡ k → length t ≡ k → fits_all parts row t ≡ true → front_cmp (front 0 parts a) row ≡ row_cmp a t
   ordered row a t sa st h = order-from k a t sa st parts row 0 (λ m p. absurd (omega arith)) turn (λ m p q. each m q) slots h
 
   -- what is shown of the tuple of each row holds of a tuple that fits one of them
@@ -136,51 +133,55 @@ module _ (parts : List Part) (k : ℕ) (turn : are_in_turn 0 parts ≡ true) (ea
     | false ↦ λ _ q. some-so t u b P so rows e.1 q
   ]) refl h
 
-  not-above : (after : Option Match) (t : List Value) → HasValues k after → length t ≡ k → (r : List Value) → is_passed (is_some after) (front_cmp (front 0 parts (known_of after k)) r) ≡ true → fits_all parts r t ≡ true → above after k t ≡ false
-  not-above None t size st r p h = elim (follows parts r [] t h) [
+  not-later : (begun : Bool) (a t : List Value) → length a ≡ k → length t ≡ k → (r : List Value) → is_passed begun (front_cmp (front 0 parts (cond begun a [])) r) ≡ true → fits_all parts r t ≡ true → is_later begun a t ≡ false
+  not-later false a t size st r p h = elim (follows parts r [] t h) [
     | inl e ↦ let d : Greater ≡ Equal = sym (passed-greater _ p) ∙ e in cc
     | inr e ↦ let d : 0 < 0 = e.0 in absurd (omega arith)
   ]
-  not-above (Some m) t size st r p h = ap is_lt (sym (ordered r (take k m.values) t size st h)) ∙ passed-tie _ p
+  not-later true a t size st r p h = ap is_lt (sym (ordered r a t size st h)) ∙ passed-tie _ p
 
-  is-above : (after : Option Match) (t : List Value) → HasValues k after → length t ≡ k → (r : List Value) → is_passed (is_some after) (front_cmp (front 0 parts (known_of after k)) r) ≡ false → fits_all parts r t ≡ true → above after k t ≡ true
-  is-above None t size st r p h = refl
-  is-above (Some m) t size st r p h = ap is_lt (sym (ordered r (take k m.values) t size st h)) ∙ kept-tie _ p
+  is-later : (begun : Bool) (a t : List Value) → length a ≡ k → length t ≡ k → (r : List Value) → is_passed begun (front_cmp (front 0 parts (cond begun a [])) r) ≡ false → fits_all parts r t ≡ true → is_later begun a t ≡ true
+  is-later false a t size st r p h = refl
+  is-later true a t size st r p h = ap is_lt (sym (ordered r a t size st h)) ∙ kept-tie _ p
+
+  -- what is known of each row before a place gives its tuple no later place than that of the tuple in place, and what is known of each other row a later one
+  pub only-so : (begun : Bool) (a : List Value) (size : length a ≡ k) (rows : List (List Value)) (i : ℕ) (P Q : List Value → Type 0)
+      → ((r t : List Value) → length t ≡ k → P r → fits_all parts r t ≡ true → is_later begun a t ≡ false) → Each P (take i rows)
+      → ((r t : List Value) → length t ≡ k → Q r → fits_all parts r t ≡ true → is_later begun a t ≡ true) → Each Q (drop i rows) → HasLater parts begun a rows i
+  only-so begun a size rows i P Q none before so later t same =
+      let st : length t ≡ k = same ∙ size in
+      sym (ap (λ rs. fits_some parts rs t && is_later begun a t) (sym (take-append-drop i rows))
+      ∙ (ap (λ b. b && is_later begun a t) (list_any-append (λ r. fits_all parts r t) (take i rows) (drop i rows))
+      ∙ joined (fits_some parts (take i rows) t) (fits_some parts (drop i rows) t) (is_later begun a t)
+      (some-so t (is_later begun a t) false P (λ r e h. none r t st e h) (take i rows) before)
+      (some-so t (is_later begun a t) true Q (λ r e h. so r t st e h) (drop i rows) later)))
 
   -- the tuples after the given one are those of the rows after the ones that are passed over
-  pub only-later : (after : Option Match) (rows : List (List Value)) (i : ℕ) → HasValues k after
-      → Each (λ r. is_passed (is_some after) (front_cmp (front 0 parts (known_of after k)) r) ≡ true) (take i rows)
-      → Each (λ r. is_passed (is_some after) (front_cmp (front 0 parts (known_of after k)) r) ≡ false) (drop i rows)
-      → (t : List Value) → length t ≡ k → fits_some parts (drop i rows) t ≡ (fits_some parts rows t && above after k t)
-  only-later after rows i size before later t st =
-      sym (ap (λ rs. fits_some parts rs t && above after k t) (sym (take-append-drop i rows))
-      ∙ (ap (λ b. b && above after k t) (list_any-append (λ r. fits_all parts r t) (take i rows) (drop i rows))
-      ∙ joined (fits_some parts (take i rows) t) (fits_some parts (drop i rows) t) (above after k t)
-      (some-so t (above after k t) false _ (not-above after t size st) (take i rows) before)
-      (some-so t (above after k t) true _ (is-above after t size st) (drop i rows) later)))
+  pub only-later : (begun : Bool) (a : List Value) → length a ≡ k → (rows : List (List Value)) (i : ℕ) → IsFirstKept begun (front 0 parts (cond begun a [])) rows i → HasLater parts begun a rows i
+  only-later begun a size rows i kept = only-so begun a size rows i _ _ (λ r t st p h. not-later begun a t size st r p h) kept.before (λ r t st p h. is-later begun a t size st r p h) kept.after
 
-  least-at : (m : Match) (r : List Value) → m.len ≡ k → length (take k m.values) ≡ k → fits_all parts r (take k m.values) ≡ true → (rows : List (List Value)) → Each (λ y. row_cmp r y ≡ Less) rows → IsLeast k (λ t. fits_some parts (r ∷ rows) t) (Some m)
+  least-at : (m : Match) (r : List Value) → m.len ≡ k → length (take k m.values) ≡ k → fits_all parts r (take k m.values) ≡ true → (rows : List (List Value)) → Each (IsAbove r) rows → IsLeast k (λ t. fits_some parts (r ∷ rows) t) (Some m)
   unfolding IsLeast
   least-at m r len size fit rows later = (
     len,
     size,
     or_first _ (fits_some parts rows (take k m.values)) fit,
-    λ t st h. some-so t (is_gt (row_cmp (take k m.values) t)) false (λ y. (r ≡ y) ⊎ (row_cmp r y ≡ Less)) (λ y o q. ap is_gt (sym (ordered y (take k m.values) t size st q)) ∙ not-past y o) (r ∷ rows) (inl refl, all-later rows later) h,
+    λ t st h. some-so t (is_gt (row_cmp (take k m.values) t)) false (λ y. (r ≡ y) ⊎ IsAbove r y) (λ y o q. ap is_gt (sym (ordered y (take k m.values) t size st q)) ∙ not-past y (sym (fits-lengths parts r (take k m.values) fit) ∙ fits-lengths parts y t q) o) (r ∷ rows) (inl refl, all-later rows later) h,
   )
     where
       here : front_cmp (front 0 parts (take k m.values)) r ≡ Equal
       here = ordered r (take k m.values) (take k m.values) size size fit ∙ tied_itself row_total (take k m.values)
 
-      all-later : (ys : List (List Value)) → Each (λ y. row_cmp r y ≡ Less) ys → Each (λ y. (r ≡ y) ⊎ (row_cmp r y ≡ Less)) ys
+      all-later : (ys : List (List Value)) → Each (IsAbove r) ys → Each (λ y. (r ≡ y) ⊎ IsAbove r y) ys
       all-later [] e = tt
       all-later (y ∷ ys) e = (inr e.0, all-later ys e.1)
 
-      not-past : (y : List Value) → (r ≡ y) ⊎ (row_cmp r y ≡ Less) → is_gt (front_cmp (front 0 parts (take k m.values)) y) ≡ false
-      not-past y (inl e) = ap is_gt (ap (front_cmp (front 0 parts (take k m.values))) (sym e) ∙ here)
-      not-past y (inr less) = (elim (front_cmp (front 0 parts (take k m.values)) y) as (λ o. front_cmp (front 0 parts (take k m.values)) y ≡ o → is_gt o ≡ false) [
+      not-past : (y : List Value) → length r ≡ length y → (r ≡ y) ⊎ IsAbove r y → is_gt (front_cmp (front 0 parts (take k m.values)) y) ≡ false
+      not-past y same (inl e) = ap is_gt (ap (front_cmp (front 0 parts (take k m.values))) (sym e) ∙ here)
+      not-past y same (inr less) = (elim (front_cmp (front 0 parts (take k m.values)) y) as (λ o. front_cmp (front 0 parts (take k m.values)) y ≡ o → is_gt o ≡ false) [
         | Less ↦ λ e. refl
         | Equal ↦ λ e. refl
-        | Greater ↦ λ e. let d : Greater ≡ Equal = sym (earlier-too (front 0 parts (take k m.values)) r y less e) ∙ here in cc
+        | Greater ↦ λ e. let d : Greater ≡ Equal = sym (earlier-too (front 0 parts (take k m.values)) r y (less same) e) ∙ here in cc
       ]) refl
 
   -- from a row above the fixed leading values on, no row fits
@@ -202,10 +203,10 @@ module _ (parts : List Part) (k : ℕ) (turn : are_in_turn 0 parts ≡ true) (ea
       ]
 
   -- the first row that fits has the least tuple
-  pub least-first : (m : Match) (rows : List (List Value)) (i : ℕ) (r : List Value) → i < length rows → r ≡ get_or rows i r → Rises row_cmp rows → m.len ≡ k → length (take k m.values) ≡ k → fits_all parts r (take k m.values) ≡ true
+  pub least-first : (m : Match) (rows : List (List Value)) (i : ℕ) (r : List Value) → i < length rows → r ≡ get_or rows i r → RisesAlike rows → m.len ≡ k → length (take k m.values) ≡ k → fits_all parts r (take k m.values) ≡ true
       → IsLeast k (λ t. fits_some parts (drop i rows) t) (Some m)
   least-first m [] i r p is rises len size fit = absurd (omega arith)
-  least-first m (x ∷ rows) zero r p is rises len size fit = subst (λ y. IsLeast k (λ t. fits_some parts (y ∷ rows) t) (Some m)) is (least-at m r len size fit rows (subst (λ y. Each (λ z. row_cmp y z ≡ Less) rows) (sym is) rises.0))
+  least-first m (x ∷ rows) zero r p is rises len size fit = subst (λ y. IsLeast k (λ t. fits_some parts (y ∷ rows) t) (Some m)) is (least-at m r len size fit rows (subst (λ y. Each (IsAbove y) rows) (sym is) rises.0))
   least-first m (x ∷ rows) (suc i) r p is rises len size fit = least-first m rows i r (omega arith) is rises.1 len size fit
 
   -- a row that no tuple fits

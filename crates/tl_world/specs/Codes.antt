@@ -8,6 +8,7 @@ use lib.Pointwise.{pointwise}
 use Rattle.tl_syntax.specs.declared.value.Value.{Value}
 use Rattle.tl_syntax.specs.contracts.value.ValueHash.TheImpl as value_hash_impl
 use Rattle.tl_syntax.specs.DerivedTests.{value_eq}
+use Rattle.tl_world.specs.declared.table.PlaceRow.{PlaceRow}
 use Rattle.tl_world.specs.Plain.{PlainRows, PlainTables}
 
 -- the same values in the same order
@@ -34,9 +35,21 @@ rows_code rows = sum_by row_code rows % 2 ^ 64
 abbrev pub fact_table_fed : ℕ × PlainRows (Unit {0}) → HashWrites
 fact_table_fed t = fed.u32 t.0 ++ fed.u64 (rows_code (map (λ (r : List Value × Unit {0}). r.0) t.1))
 
--- what a table of places feeds a hasher
+-- the code of a place with its value
+unfoldable pub place_code : PlaceRow → ℕ
+place_code row = code_of_writes (values_fed row.args ++ (value_hash_impl.ghosts).hash_input row.value)
+
+-- the code of places with their values: the sum of their codes, whatever their order
+abbrev pub places_code : List PlaceRow → ℕ
+places_code rows = sum_by place_code rows % 2 ^ 64
+
+-- a place by its arguments, with its value
+abbrev pub row_of : List Value × Value → PlaceRow
+row_of r = record { args = r.0; value = r.1 }
+
+-- what a table of places feeds a hasher: its number and its code
 abbrev pub place_table_fed : ℕ × PlainRows Value → HashWrites
-place_table_fed t = fed.u32 t.0 ++ fed.slice (λ (r : List Value × Value). values_fed r.0 ++ (value_hash_impl.ghosts).hash_input r.1) t.1
+place_table_fed t = fed.u32 t.0 ++ fed.u64 (places_code (map row_of t.1))
 
 -- the code of the tables of facts and of those of places
 unfoldable pub tables_code : PlainTables (Unit {0}) → PlainTables Value → ℕ

@@ -1,8 +1,9 @@
 -- The leading values of a row that a pattern asks for, as far as the values of its first variables are known.
-use Rattle.std.specs.Prelude.{ℕ, ◌+◌, List, [], ◌∷◌, Bool, true, false, ◌&&◌, cond, ◌==◌, nat_le, Option, Some, None, slice_get, length, take}
+use Rattle.std.specs.Prelude.{◌≡◌, ◌≤◌, ℕ, ◌+◌, List, [], ◌∷◌, Bool, true, false, ◌&&◌, cond, ◌==◌, nat_le, Option, Some, None, slice_get, length, take, drop}
 use Rattle.std.specs.declared.cmp.Ordering.{Ordering}
 use Rattle.std.specs.declared.cmp.Ordering.TheVariants.{Less, Equal, Greater}
 use Rattle.tl_syntax.specs.declared.value.Value.{Value}
+use Rattle.tl_syntax.specs.Lists.{Each}
 use Rattle.tl_world.specs.declared.pattern.Match.{Match}
 use Rattle.tl_world.specs.declared.pattern.Part.{Part}
 use Rattle.tl_world.specs.declared.pattern.Part.TheVariants.{Fixed, Free}
@@ -17,6 +18,11 @@ known_value n known (Free m) = cond (nat_le m n) (slice_get known m) None
 abbrev pub seen_after : ℕ → Part → ℕ
 seen_after n (Fixed v) = n
 seen_after n (Free m) = cond (m == n) (n + 1) n
+
+-- how many of the first variables came before what follows the parts
+abbrev pub seen_in : ℕ → List Part → ℕ
+seen_in n [] = n
+seen_in n (p ∷ ps) = seen_in (seen_after n p) ps
 
 -- the value and then the others, where there is one
 abbrev pub led_by : Option Value → List Value → List Value
@@ -42,6 +48,12 @@ abbrev pub is_passed : Bool → Ordering → Bool
 is_passed ties Less = false
 is_passed ties Equal = ties
 is_passed ties Greater = true
+
+-- place i is that of the first row that is not passed over
+pub record IsFirstKept (ties : Bool) (f : List Value) (rows : List (List Value)) (i : ℕ) : Type 0 where
+  pub bound : i ≤ length rows
+  pub before : Each (λ r. is_passed ties (front_cmp f r) ≡ true) (take i rows)
+  pub after : Each (λ r. is_passed ties (front_cmp f r) ≡ false) (drop i rows)
 
 -- whether the part is fixed, or one of the first variables, of which n came before, or the next one
 abbrev pub is_in_turn : ℕ → Part → Bool

@@ -1,5 +1,5 @@
 -- The least tuple above another one that makes the parts of a pattern one of the rows.
-use Rattle.std.specs.Prelude.{◌≡◌, ℕ, List, Bool, true, false, cond, ◌&&◌, Option, Some, None, length, take}
+use Rattle.std.specs.Prelude.{◌≡◌, ℕ, List, Bool, true, false, cond, ◌&&◌, Option, Some, None, length, take, drop}
 use Rattle.std.specs.List.{list_any}
 use Rattle.std.specs.Ordering.{is_lt, is_gt}
 use Rattle.tl_syntax.specs.declared.value.Value.{Value}
@@ -36,3 +36,17 @@ lesser best (Some m) after k = cond (above after k (take k m.values) && lower be
 abbrev pub found_in : Bool → ℕ → List Value → Option Match
 found_in true k values = Some (record { values = values; len = k })
 found_in false k values = None
+
+-- whether t comes after the tuple, where one is in place
+abbrev pub is_later : Bool → List Value → List Value → Bool
+is_later true a t = is_lt (row_cmp a t)
+is_later false a t = true
+
+-- the rows from place i on have the tuples of all rows that come after the one in place
+abbrev pub HasLater : List Part → Bool → List Value → List (List Value) → ℕ → Type 0
+HasLater ps begun a rows i = (t : List Value) → length t ≡ length a → fits_some ps (drop i rows) t ≡ (fits_some ps rows t && is_later begun a t)
+
+-- the match, where one is in place
+abbrev pub match_in_place : Bool → Match → Option Match
+match_in_place true m = Some m
+match_in_place false m = None

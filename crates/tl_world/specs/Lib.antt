@@ -10,3 +10,7 @@ pub mod Next
 pub mod Fits
 pub mod Least
 pub mod Front
+pub mod NumberedLists
+pub mod WorldNumbers
+pub mod Moves
+pub mod Falling

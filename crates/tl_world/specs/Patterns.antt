@@ -1,5 +1,5 @@
 -- Patterns: bounds with their known values put in (Bacchus and Kabanza 2000, bounded quantification).
-use Rattle.std.specs.Prelude.{◌≡◌, ◌↔◌, ◌≤◌, ◌<◌, ◌-◌, ℕ, List, Bool, true, false, map, length, take, slice_get, slice_index_or}
+use Rattle.std.specs.Prelude.{◌≡◌, ◌↔◌, ◌≤◌, ◌<◌, ◌-◌, ℕ, List, Bool, true, false, map, length, take, slice_get, slice_index_or, Option, Some, None}
 use Rattle.tl_syntax.specs.declared.value.Value.{Value}
 use Rattle.tl_syntax.specs.declared.value.Value.TheVariants.{Sym}
 use Rattle.tl_syntax.specs.Lists.{Among}
@@ -42,3 +42,8 @@ pub record IsLawful (p : Pattern) : Type 0 where
 -- the values of a match that count
 abbrev pub tuple_of : Match → List Value
 tuple_of m = take m.len m.values
+
+-- the values of a match that count, where one is in place
+abbrev pub tuple_in_place : Bool → Match → Option (List Value)
+tuple_in_place true m = Some (tuple_of m)
+tuple_in_place false m = None

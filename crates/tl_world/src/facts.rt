@@ -1,10 +1,12 @@
 // Tables of facts, and what changes them.
 ghost use Rattle.std.specs.FinSet as set;
-ghost use Rattle.std.specs.List.{insert};
+ghost use Rattle.std.specs.List.{insert, list_any};
 ghost use Rattle.std.specs.List.Sorted.{IsPermutation};
-ghost use Rattle.std.specs.Prelude.{◌≡◌, ◌≤◌, length, map, IfOk, OnOk};
+ghost use Rattle.std.specs.Prelude.{◌≡◌, ◌<◌, ◌≤◌, Bool, false, length, map, IfOk, IfSome, OnOk};
+ghost use Rattle.tl_syntax.specs.declared.fact.Fact.{Fact as PlainFact};
 ghost use Rattle.tl_syntax.specs.Keys.{fact_key};
-ghost use Rattle.tl_terms.specs.Step.{with_all};
+ghost use Rattle.tl_terms.specs.Step.{with_all, without_all};
+ghost use Rattle.tl_world.specs.Moves.{IsMoved, IsTakenOut, AreSameBeside};
 ghost use Rattle.tl_world.specs.Tables.{InOrder, fact_tables, set_of};
 
 use crate::Rows;
@@ -14,16 +16,56 @@ use std::alloc::Global;
 use std::rc::Rc;
 use tl_syntax::{Fact, NoMemory, Value, Values};
 
-/// Takes the fact out of the tables, where it is there.
-pub(crate) fn without(
+/// The rows without that at place `cut`, and with the arguments of the first of the facts that is of this table and not among them: None where there is no such fact.
+fn moved_row(
+    alloc: Global,
+    rows: &Rows,
+    cut: usize,
+    pred: u32,
+    adds: &[Fact],
+) -> Result<Option<Rows>, NoMemory>
+    requires { cut < length rows.now }
+    ensures { IfOk result (λ found. IfSome found (IsMoved rows.now cut pred adds.now)) }
+{
+    for a in adds {
+        if a.pred == pred {
+            if let Err(at) = find_row(rows.flat(), a.args.as_slice()) {
+                let moved = rows.moved(alloc, cut, at, a.args.as_slice())?;
+                return Ok(Some(moved));
+            }
+        }
+    }
+    Ok(None)
+}
+
+/// The rows without that at place `cut`. A fact of this table that is to be added comes in with the same copy.
+fn rows_without(
+    alloc: Global,
+    rows: &Rows,
+    cut: usize,
+    pred: u32,
+    adds: &[Fact],
+) -> Result<Rows, NoMemory>
+    requires { cut < length rows.now }
+    ensures { IfOk result (IsTakenOut rows.now cut pred adds.now) }
+{
+    match moved_row(alloc, rows, cut, pred, adds)? {
+        Some(moved) => Ok(moved),
+        None => rows.without(alloc, cut),
+    }
+}
+
+/// Takes the fact out of the tables, where it is there. One of `adds` may come in.
+fn without(
     alloc: Global,
     tables: &mut Vec<Named<Rows>>,
     pred: u32,
     args: &[Value],
+    adds: &[Fact],
 ) -> Result<(), NoMemory>
     requires { InOrder (fact_tables tables.old.items) }
     ensures order { OnOk result (InOrder (fact_tables tables.new.items)) }
-    ensures facts { OnOk result (set_of (fact_tables tables.new.items) ≡ set.remove (set_of (fact_tables tables.old.items)) (pred, args.now)) }
+    ensures facts { OnOk result (AreSameBeside adds.now (set_of (fact_tables tables.new.items)) (set.remove (set_of (fact_tables tables.old.items)) (pred, args.now))) }
 {
     match find_table(tables.as_slice(), pred) {
         Err(_) => Ok(()),
@@ -33,7 +75,7 @@ pub(crate) fn without(
                 Err(_) => Ok(()),
                 Ok(k) => {
                     let old = tables.remove(i);
-                    let rows = old.rows.without(alloc, k)?;
+                    let rows = rows_without(alloc, old.rows.as_ref(), k, pred, adds)?;
                     if rows.is_empty() {
                         return Ok(());
                     }
@@ -50,6 +92,26 @@ pub(crate) fn without(
     }
 }
 
+/// Takes the facts out of the tables, from the last on. Those of `adds` may come in.
+fn without_each(
+    alloc: Global,
+    tables: &mut Vec<Named<Rows>>,
+    dels: &[Fact],
+    adds: &[Fact],
+) -> Result<(), NoMemory>
+    requires { InOrder (fact_tables tables.old.items) }
+    ensures order { OnOk result (InOrder (fact_tables tables.new.items)) }
+    ensures facts { OnOk result (AreSameBeside adds.now (set_of (fact_tables tables.new.items)) (without_all (set_of (fact_tables tables.old.items)) (map fact_key dels.now))) }
+{
+    let mut i = dels.len();
+    while i > 0 {
+        i -= 1;
+        let d = &dels[i];
+        without(alloc, tables, d.pred, d.args.as_slice(), adds)?;
+    }
+    Ok(())
+}
+
 /// The rows with one more at place `k`. They are copied where another world shares them.
 fn rows_with(alloc: Global, rows: Rc<Rows>, k: usize, row: &[Value]) -> Result<Rows, NoMemory>
     requires { k ≤ length rows.value }
@@ -62,7 +124,7 @@ fn rows_with(alloc: Global, rows: Rc<Rows>, k: usize, row: &[Value]) -> Result<R
 }
 
 /// Puts the fact into the tables, where it is not there.
-pub(crate) fn with_fact(
+fn with_fact(
     alloc: Global,
     tables: &mut Vec<Named<Rows>>,
     pred: u32,
@@ -131,11 +193,7 @@ fn falling(alloc: Global, facts: &[Fact]) -> Result<Vec<Fact>, NoMemory>
 }
 
 /// Puts the facts into the tables. Many are sorted first, so that each comes after the rows that are there, where a table is new.
-pub(crate) fn with_facts(
-    alloc: Global,
-    tables: &mut Vec<Named<Rows>>,
-    adds: &[Fact],
-) -> Result<(), NoMemory>
+fn with_facts(alloc: Global, tables: &mut Vec<Named<Rows>>, adds: &[Fact]) -> Result<(), NoMemory>
     requires { InOrder (fact_tables tables.old.items) }
     ensures order { OnOk result (InOrder (fact_tables tables.new.items)) }
     ensures facts { OnOk result (set_of (fact_tables tables.new.items) ≡ with_all (set_of (fact_tables tables.old.items)) (map fact_key adds.now)) }
@@ -146,4 +204,28 @@ pub(crate) fn with_facts(
         let sorted = falling(alloc, adds)?;
         with_each(alloc, tables, sorted.as_slice())
     }
+}
+
+/// The facts, where they are few, and else none of them.
+fn few(facts: &[Fact]) -> &[Fact]
+    ensures { (test : PlainFact → Bool) → list_any test facts.now ≡ false → list_any test result.now ≡ false }
+{
+    if facts.len() < 8 { facts } else { &facts[..0] }
+}
+
+/// Takes the facts of `dels` out of the tables, and then puts those of `adds` in.
+///
+/// A fact that is deleted and one that is added to the same table are one copy of it, where not many are added.
+pub(crate) fn change_facts(
+    alloc: Global,
+    tables: &mut Vec<Named<Rows>>,
+    dels: &[Fact],
+    adds: &[Fact],
+) -> Result<(), NoMemory>
+    requires { InOrder (fact_tables tables.old.items) }
+    ensures order { OnOk result (InOrder (fact_tables tables.new.items)) }
+    ensures facts { OnOk result (set_of (fact_tables tables.new.items) ≡ with_all (without_all (set_of (fact_tables tables.old.items)) (map fact_key dels.now)) (map fact_key adds.now)) }
+{
+    without_each(alloc, tables, dels, few(adds))?;
+    with_facts(alloc, tables, adds)
 }

@@ -1,8 +1,9 @@
 // The first row that a pattern fits, whose variables first stand in the order of their numbers.
-ghost use Rattle.std.specs.Prelude.{◌≡◌, ◌<◌, ◌≤◌, ℕ, List, length, take, drop, true, false, IfSome, IfNone};
+ghost use Rattle.std.specs.Prelude.{◌≡◌, ◌<◌, ◌≤◌, ℕ, List, length, drop, true, false, IfSome, IfNone};
+ghost use Rattle.std.specs.Option.{is_some};
 ghost use Rattle.tl_syntax.specs.Lists.{Rises};
 ghost use Rattle.tl_world.specs.Fits.{fits_at, fits_all, occurs, BeginsAs};
-ghost use Rattle.tl_world.specs.Front.{seen_after, is_in_turn, are_in_turn};
+ghost use Rattle.tl_world.specs.Front.{seen_after, seen_in, is_in_turn, are_in_turn};
 ghost use Rattle.tl_world.specs.Least.{IsLeast, fits_some, found_in};
 ghost use Rattle.tl_world.specs.Tables.{row_cmp};
 
@@ -11,7 +12,7 @@ use crate::{Part, Rows};
 use tl_syntax::Value;
 
 /// How many first variables have values after the part, where a tuple that begins with the first `seen` values can make it the value `v`. A new variable gets its value.
-fn put_value(part: Part, v: Value, seen: usize, values: &mut [Value; 9]) -> Option<usize>
+pub(crate) fn put_value(part: Part, v: Value, seen: usize, values: &mut [Value; 9]) -> Option<usize>
     requires turn { is_in_turn seen part ≡ true }
     requires room { seen_after seen part ≤ 9 }
     ensures seen { IfSome result (λ next. next ≡ seen_after seen part) }
@@ -36,57 +37,65 @@ fn put_value(part: Part, v: Value, seen: usize, values: &mut [Value; 9]) -> Opti
     }
 }
 
-/// Whether some tuple of `free` values makes the parts the row. Its values are then put into the first places of `values`.
-fn put_values(parts: &[Part], free: u32, row: &[Value], values: &mut [Value; 9]) -> bool
+/// How many first variables the parts have, where some tuple makes them the row. Their values are then put into the first places of `values`.
+pub(crate) fn put_values(
+    parts: &[Part],
+    free: u32,
+    row: &[Value],
+    values: &mut [Value; 9],
+) -> Option<usize>
     requires few { free ≤ 9 }
     requires slots { (n : ℕ) → occurs n parts.now ≡ true → n < free }
     requires turn { are_in_turn 0 parts.now ≡ true }
-    ensures fits { result ≡ true → fits_all parts.now row.now (take free values.new) ≡ true }
-    ensures none { result ≡ false → (t : List Value) → fits_all parts.now row.now t ≡ false }
+    ensures seen { IfSome result (λ seen. seen ≡ seen_in 0 parts.now) }
+    ensures bound { IfSome result (λ seen. seen ≤ free) }
+    ensures fits { IfSome result (λ seen. (t : List Value) → BeginsAs seen values.new t → fits_all parts.now row.now t ≡ true) }
+    ensures known { IfSome result (λ seen. (t : List Value) → fits_all parts.now row.now t ≡ true → BeginsAs seen values.new t) }
+    ensures none { IfNone result ((t : List Value) → fits_all parts.now row.now t ≡ false) }
 {
     if parts.len() != row.len() {
-        return false;
+        return None;
     }
     let mut seen = 0;
     let mut k = 0;
     while k < parts.len() {
         match put_value(parts[k], row[k], seen, values) {
             Some(next) => seen = next,
-            None => return false,
+            None => return None,
         }
         k += 1;
     }
-    true
+    Some(seen)
 }
 
-/// Whether some tuple makes the parts one of the rows from a place on. The values of the least one are then put into the first places of `values`.
+/// The place after the first row, from a place on, that some tuple makes the parts, where there is one. The values of the least tuple that makes the parts one of those rows are then put into the first places of `values`: they are those of that row.
 ///
-/// It is that of the first such row. Rows are looked at up to the first whose leading values exceed the fixed leading parts.
+/// Rows are looked at up to the first whose leading values exceed the fixed leading parts.
 pub(crate) fn put_first(
     rows: &Rows,
     parts: &[Part],
     free: u32,
     from: usize,
     values: &mut [Value; 9],
-) -> bool
+) -> Option<usize>
     requires few { free ≤ 9 }
     requires each { (n : ℕ) → n < free → occurs n parts.now ≡ true }
     requires slots { (n : ℕ) → occurs n parts.now ≡ true → n < free }
     requires turn { are_in_turn 0 parts.now ≡ true }
     requires order { Rises row_cmp rows.now }
     requires bound { from ≤ length rows.now }
-    ensures { IsLeast free (λ t. fits_some parts.now (drop from rows.now) t) (found_in result free values.new) }
+    ensures { IsLeast free (λ t. fits_some parts.now (drop from rows.now) t) (found_in (is_some result) free values.new) }
 {
     let mut k = from;
     while k < rows.len() {
         let row = rows.row(k);
-        if put_values(parts, free, row, values) {
-            return true;
+        if let Some(_) = put_values(parts, free, row, values) {
+            return Some(k + 1);
         }
         if order_of_front(parts, &[], row).is_lt() {
-            return false;
+            return None;
         }
         k += 1;
     }
-    false
+    None
 }

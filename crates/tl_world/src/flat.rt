@@ -3,6 +3,7 @@ ghost use Rattle.std.specs.List.{insert, remove};
 ghost use Rattle.std.specs.Prelude.{◌≡◌, ◌<◌, ◌≤◌, ◌+◌, ◌-◌, ◌^◌, List, [], ◌∷◌, ◌++◌, length, map, take, drop, slice_index_or, IfOk, OnOk};
 ghost use Rattle.tl_syntax.specs.Lists.{Each};
 ghost use Rattle.tl_world.specs.Cuts.{begin};
+ghost use Rattle.tl_world.specs.Moves.{place_after};
 ghost use Rattle.tl_world.specs.RowTests.{rows_eq, rows-tell};
 ghost use Rattle.tl_world.specs.Same.{tells-partial};
 
@@ -85,12 +86,21 @@ fn add_to_rest(numbers: &mut [usize], from: usize, more: usize)
     }
 }
 
-/// Puts the last `count` values before the others from a place on.
-fn turn_rest(values: &mut [Value], from: usize, count: usize)
-    requires { from + count ≤ length values.old }
-    ensures { values.new ≡ take from values.old ++ (drop (length values.old - from - count) (drop from values.old) ++ take (length values.old - from - count) (drop from values.old)) }
+/// The row's values, put before the others from a place on. A failure leaves any of them there.
+fn put_values(values: &mut Vec<Value>, at: usize, row: &[Value]) -> Result<(), NoMemory>
+    requires { at ≤ length values.old.items }
+    ensures { OnOk result (values.new.items ≡ take at values.old.items ++ (row.now ++ drop at values.old.items)) }
 {
-    values[from..].rotate_right(count);
+    if at == values.len() {
+        values.extend_from_slice(row)?;
+        return Ok(());
+    }
+    let mut j = row.len();
+    while j > 0 {
+        j -= 1;
+        values.insert(at, row[j])?;
+    }
+    Ok(())
 }
 
 impl PartialEq for Flat {
@@ -194,8 +204,7 @@ impl Flat {
         let mut ends = self.ends;
         let mut values = self.values;
         let start = begin(ends.as_slice(), k);
-        values.extend_from_slice(row)?;
-        turn_rest(values.as_mut_slice(), start, row.len());
+        put_values(&mut values, start, row)?;
         ends.insert(k, start)?;
         add_to_rest(ends.as_mut_slice(), k, row.len());
         Ok(Flat { ends, values })
@@ -210,5 +219,72 @@ impl Flat {
         out.push_rows(self, 0, k)?;
         out.push_rows(self, k + 1, self.len())?;
         Ok(out)
+    }
+
+    /// The rows with one more at place `at`, and without that at the place `cut`, which is not before it.
+    fn moved_back(
+        &self,
+        alloc: Global,
+        cut: usize,
+        at: usize,
+        row: &[Value],
+    ) -> Result<Flat, NoMemory>
+        requires order { at ≤ cut }
+        requires bound { cut < length self.now }
+        ensures { IfOk result (λ f. f ≡ remove (insert self.now at row.now) (cut + 1)) }
+    {
+        let mut out = Flat::with_room(
+            alloc,
+            self.len(),
+            self.values.len().saturating_add(row.len()),
+        )?;
+        out.push_rows(self, 0, at)?;
+        out.push(row)?;
+        out.push_rows(self, at, cut)?;
+        out.push_rows(self, cut + 1, self.len())?;
+        Ok(out)
+    }
+
+    /// The rows with one more at place `at`, and without that at the place `cut`, which is before it.
+    fn moved_on(
+        &self,
+        alloc: Global,
+        cut: usize,
+        at: usize,
+        row: &[Value],
+    ) -> Result<Flat, NoMemory>
+        requires order { cut < at }
+        requires bound { at ≤ length self.now }
+        ensures { IfOk result (λ f. f ≡ remove (insert self.now at row.now) cut) }
+    {
+        let mut out = Flat::with_room(
+            alloc,
+            self.len(),
+            self.values.len().saturating_add(row.len()),
+        )?;
+        out.push_rows(self, 0, cut)?;
+        out.push_rows(self, cut + 1, at)?;
+        out.push(row)?;
+        out.push_rows(self, at, self.len())?;
+        Ok(out)
+    }
+
+    /// The rows with one more at place `at`, and without that at place `cut`, in one copy.
+    pub(crate) fn moved(
+        &self,
+        alloc: Global,
+        cut: usize,
+        at: usize,
+        row: &[Value],
+    ) -> Result<Flat, NoMemory>
+        requires cut { cut < length self.now }
+        requires at { at ≤ length self.now }
+        ensures { IfOk result (λ f. f ≡ remove (insert self.now at row.now) (place_after at cut)) }
+    {
+        if at <= cut {
+            self.moved_back(alloc, cut, at, row)
+        } else {
+            self.moved_on(alloc, cut, at, row)
+        }
     }
 }

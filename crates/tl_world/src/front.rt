@@ -1,5 +1,5 @@
 // How the leading values of a row stand to those that a pattern asks for.
-ghost use Rattle.std.specs.Prelude.{◌≡◌, ◌<◌, ◌≤◌, ◌+◌, ◌^◌, length, take, IfSome};
+ghost use Rattle.std.specs.Prelude.{◌≡◌, ◌<◌, ◌≤◌, ◌+◌, ◌^◌, length, IfSome};
 ghost use Rattle.tl_syntax.specs.Keys.{value_cmp};
 ghost use Rattle.tl_world.specs.Front.{known_value, seen_after, front, front_cmp, known_of, is_in_turn, are_in_turn};
 

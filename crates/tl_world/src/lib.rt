@@ -1,22 +1,27 @@
 //! Worlds: a finite set of facts and a finite map of places to values.
 //!
 //! - `flat`, `rows`: the facts of one predicate, in one list, with a code that is kept.
-//! - `table`: the places of one function with their values.
+//! - `table`: the places of one function with their values, with a code that is kept.
 //! - `row_search`: the place of a row, found by halves.
 //! - `named`: a table with the number of its predicate or function, shared between worlds.
 //! - `facts`, `places`: the tables of facts and of places, and edits of them.
 //! - `world`: the world itself, with its look-ups, its matches and its changes.
+//! - `worlds`: worlds by numbers.
 //! - `task`: a problem with its initial world and its goal as worlds, and the goal test.
 //! - `pattern`: patterns of facts and of places, and the tuples that make them true.
 //! - `laws`: what is proved of the equality of worlds and of the matches of a pattern.
-//! - `row_match`, `front`, `first`, `next`: the tuple of one row, the leading values of a row, the first row that a pattern fits, and the least tuple of a table.
+//! - `matches`: the tuples that make a pattern true in a world, one after another.
+//! - `row_match`, `front`, `after`, `first`, `first_place`, `next`: the tuple of one row, the leading values of a row, the rows up to a tuple, the first row and the first place that a pattern fits, and the least tuple of a table.
 #![tactic(auto)]
 
+mod after;
 mod facts;
 mod first;
+mod first_place;
 mod flat;
 mod front;
 pub mod laws;
+mod matches;
 mod named;
 mod next;
 mod pattern;
@@ -27,9 +32,11 @@ mod rows;
 mod table;
 mod task;
 mod world;
+mod worlds;
 
 pub use pattern::{Match, Part, Pattern};
 pub use rows::Rows;
-pub use table::{PlaceRow, PlaceRows, Table};
+pub use table::{PlaceRow, PlaceRows};
 pub use task::Task;
 pub use world::World;
+pub use worlds::Worlds;

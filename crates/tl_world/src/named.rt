@@ -27,7 +27,7 @@ pub(crate) fn find_table<R>(tables: &[Named<R>], name: u32) -> Result<usize, usi
 pub(crate) fn share<R: Drop>(alloc: Global, tables: &[Named<R>]) -> Result<Vec<Named<R>>, NoMemory>
     ensures same { IfOk result (λ v. map plain_of v.items ≡ map plain_of tables.now) }
 {
-    let mut out = Vec::new(alloc);
+    let mut out = Vec::with_capacity(alloc, tables.len())?;
     for t in tables {
         let rows = t.rows.clone()?;
         let one = Named { name: t.name, rows };

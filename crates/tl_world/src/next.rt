@@ -1,18 +1,18 @@
 // The least tuple above another one in a table.
 ghost use Rattle.std.specs.Ordering.{is_lt};
-ghost use Rattle.std.specs.Prelude.{◌≡◌, ◌<◌, ◌≤◌, ◌&&◌, ◌+◌, ℕ, length, map, take, drop, true, false};
-ghost use Rattle.std.specs.declared.cmp.Ordering.TheVariants.{Greater};
-ghost use Rattle.tl_syntax.specs.Lists.{Each, Rises};
+ghost use Rattle.std.specs.Prelude.{◌≡◌, ◌<◌, ◌≤◌, ◌&&◌, ◌+◌, ℕ, length, map, take, true, false};
+ghost use Rattle.tl_syntax.specs.Lists.{Rises};
 ghost use Rattle.tl_world.specs.Fits.{occurs};
-ghost use Rattle.tl_world.specs.Front.{front, front_cmp, known_of, is_passed};
-ghost use Rattle.tl_world.specs.Least.{IsLeast, above, lower, lesser, fits_some, found_in};
+ghost use Rattle.tl_world.specs.Front.{front, front_cmp, known_of};
+ghost use Rattle.tl_world.specs.Least.{IsLeast, above, lower, lesser, fits_some, match_in_place};
 ghost use Rattle.tl_world.specs.Tables.{row_cmp, whole_row};
 
+use crate::after::{rows_before, rows_up_to};
 use crate::first::put_first;
-use crate::front::{are_in_turn, order_of_front, values_of};
+use crate::first_place::{places_before, places_up_to, put_first_place};
+use crate::front::{order_of_front, values_of};
 use crate::row_match::{match_place, match_row};
 use crate::{Match, Part, PlaceRow, Rows};
-use std::cmp::Ordering;
 use tl_syntax::Value;
 
 #[tactic(auto, using(crate::proofs::Order::orders))]
@@ -77,76 +77,70 @@ fn is_past(lead: &[Part], best: &Option<Match>, free: u32, row: &[Value]) -> boo
     order_of_front(lead, values_of(best, free), row).is_lt()
 }
 
-/// Whether a row to which the front stands so is passed over, with those that tie or without them.
-fn is_passed(ties: bool, order: Ordering) -> bool
-    ensures { result ≡ is_passed ties order }
+/// The match, where one is in place.
+fn match_in_place(begun: bool, tuple: &Match) -> Option<Match>
+    ensures { result ≡ match_in_place begun tuple.now }
 {
-    match order {
-        Ordering::Less => false,
-        Ordering::Equal => ties,
-        Ordering::Greater => true,
-    }
+    if begun { Some(*tuple) } else { None }
 }
 
-/// How many rows come before the first whose leading values are at least the known ones of the parts, or with `ties` exceed them, found by halves.
-fn rows_before(rows: &Rows, lead: &[Part], known: &[Value], ties: bool) -> usize
-    requires { Rises row_cmp rows.now }
-    ensures bound { result ≤ length rows.now }
-    ensures before { Each (λ r. is_passed ties (front_cmp (front 0 lead.now known.now) r) ≡ true) (take result rows.now) }
-    ensures after { Each (λ r. is_passed ties (front_cmp (front 0 lead.now known.now) r) ≡ false) (drop result rows.now) }
+/// Puts the match in place, where there is one.
+fn put_match(found: &Option<Match>, tuple: &mut Match) -> bool
+    ensures { match_in_place result tuple.new ≡ found.now }
 {
-    let mut low = 0;
-    let mut high = rows.len();
-    while low < high {
-        let middle = low + (high - low) / 2;
-        if is_passed(ties, order_of_front(lead, known, rows.row(middle))) {
-            low = middle + 1;
-        } else {
-            high = middle;
+    match found {
+        Some(m) => {
+            *tuple = *m;
+            true
         }
+        None => false,
     }
-    low
 }
 
-/// How many places come before the first whose leading arguments are at least the known ones of the parts, found by halves.
-fn places_before(rows: &[PlaceRow], lead: &[Part], known: &[Value]) -> usize
-    requires { Rises row_cmp (map (λ r. r.args) rows.now) }
-    ensures bound { result ≤ length rows.now }
-    ensures before { Each (λ r. front_cmp (front 0 lead.now known.now) r.args ≡ Greater) (take result rows.now) }
-{
-    rows.partition_point(|r| order_of_front(lead, known, r.args.as_slice()).is_gt())
-}
-
-/// Whether some tuple above `after` makes the parts one of the rows. The values of the least one are then put into the first places of `values`.
+/// Puts the least tuple after that in place that makes the parts one of the rows in place. False where there is none.
 ///
-/// Where the variables first stand in the order of their numbers, it is that of the first row after those up to `after` that the parts fit.
+/// Where the variables first stand in the order of their numbers, it is that of the first row after those up to the tuple in place that the parts fit.
 pub(crate) fn put_next(
     rows: &Rows,
     parts: &[Part],
     free: u32,
-    after: &Option<Match>,
-    values: &mut [Value; 9],
+    begun: bool,
+    tuple: &mut Match,
+    near: &mut usize,
 ) -> bool
     requires few { free ≤ 9 }
     requires each { (n : ℕ) → n < free → occurs n parts.now ≡ true }
     requires slots { (n : ℕ) → occurs n parts.now ≡ true → n < free }
     requires short { length parts.now ≤ 9 }
     requires order { Rises row_cmp rows.now }
-    ensures { IsLeast free (λ t. fits_some parts.now rows.now t && above after.now free t) (found_in result free values.new) }
+    ensures { IsLeast free (λ t. fits_some parts.now rows.now t && above (match_in_place begun tuple.old) free t) (match_in_place result tuple.new) }
 {
-    if are_in_turn(parts) {
-        let from = rows_before(rows, parts, values_of(after, free), after.is_some());
-        put_first(rows, parts, free, from, values)
-    } else {
-        match least_in_rows(rows, parts, free, after) {
-            Some(m) => {
-                let found = m.values;
-                *values = found;
+    let n = free as usize;
+    match rows_up_to(rows, parts, begun, &tuple.values[..n], *near) {
+        Some(from) => match put_first(rows, parts, free, from, &mut tuple.values) {
+            Some(next) => {
+                tuple.len = free;
+                *near = next;
                 true
             }
             None => false,
-        }
+        },
+        None => put_least(rows, parts, free, begun, tuple),
     }
+}
+
+/// Puts the least tuple after that in place that makes the parts one of the rows in place, whatever the order of the variables.
+fn put_least(rows: &Rows, parts: &[Part], free: u32, begun: bool, tuple: &mut Match) -> bool
+    requires few { free ≤ 9 }
+    requires each { (n : ℕ) → n < free → occurs n parts.now ≡ true }
+    requires short { length parts.now ≤ 9 }
+    requires order { Rises row_cmp rows.now }
+    ensures { IsLeast free (λ t. fits_some parts.now rows.now t && above (match_in_place begun tuple.old) free t) (match_in_place result tuple.new) }
+{
+    put_match(
+        &least_in_rows(rows, parts, free, &match_in_place(begun, tuple)),
+        tuple,
+    )
 }
 
 /// The least tuple above `after` that makes the parts one of the rows, whatever the order of the variables.
@@ -173,10 +167,68 @@ fn least_in_rows(rows: &Rows, parts: &[Part], free: u32, after: &Option<Match>) 
     best
 }
 
+/// Puts the least tuple after that in place that makes the parts, of which the last is for the value, one of the places with its value in place. False where there is none.
+///
+/// Where the variables first stand in the order of their numbers, it is that of the first place after that of the tuple in place that the parts fit.
+pub(crate) fn put_next_in_places(
+    rows: &[PlaceRow],
+    parts: &[Part],
+    free: u32,
+    begun: bool,
+    tuple: &mut Match,
+    near: &mut usize,
+) -> bool
+    requires few { free ≤ 9 }
+    requires each { (n : ℕ) → n < free → occurs n parts.now ≡ true }
+    requires slots { (n : ℕ) → occurs n parts.now ≡ true → n < free }
+    requires short { length parts.now ≤ 9 }
+    requires some { 1 ≤ length parts.now }
+    requires order { Rises row_cmp (map (λ r. r.args) rows.now) }
+    ensures { IsLeast free (λ t. fits_some parts.now (map whole_row rows.now) t && above (match_in_place begun tuple.old) free t) (match_in_place result tuple.new) }
+{
+    let n = free as usize;
+    match places_up_to(rows, parts, begun, &tuple.values[..n], *near) {
+        Some(from) => match put_first_place(rows, parts, free, from, &mut tuple.values) {
+            Some(next) => {
+                tuple.len = free;
+                *near = next;
+                true
+            }
+            None => false,
+        },
+        None => put_least_place(rows, parts, free, begun, tuple, near),
+    }
+}
+
+/// Puts the least tuple after that in place that makes the parts one of the places with its value in place, whatever the order of the variables.
+fn put_least_place(
+    rows: &[PlaceRow],
+    parts: &[Part],
+    free: u32,
+    begun: bool,
+    tuple: &mut Match,
+    near: &mut usize,
+) -> bool
+    requires few { free ≤ 9 }
+    requires each { (n : ℕ) → n < free → occurs n parts.now ≡ true }
+    requires short { length parts.now ≤ 9 }
+    requires some { 1 ≤ length parts.now }
+    requires order { Rises row_cmp (map (λ r. r.args) rows.now) }
+    ensures { IsLeast free (λ t. fits_some parts.now (map whole_row rows.now) t && above (match_in_place begun tuple.old) free t) (match_in_place result tuple.new) }
+{
+    let found = put_match(
+        &next_in_places(rows, parts, free, &match_in_place(begun, tuple)),
+        tuple,
+    );
+    let lead = &parts[..parts.len() - 1];
+    *near = places_before(rows, lead, &tuple.values[..free as usize]).saturating_add(1);
+    found
+}
+
 /// The least tuple above `after` that makes the parts, of which the last is for the value, one of the places with its value.
 ///
 /// It looks at rows as `next_in_rows` does, by the parts for the arguments.
-pub(crate) fn next_in_places(
+fn next_in_places(
     rows: &[PlaceRow],
     parts: &[Part],
     free: u32,

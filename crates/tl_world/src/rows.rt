@@ -4,6 +4,7 @@ ghost use Rattle.std.specs.Hash.{same_Alike};
 ghost use Rattle.std.specs.List.{insert, remove};
 ghost use Rattle.std.specs.Prelude.{◌≡◌, ◌<◌, ◌≤◌, ◌==◌, [], ◌∷◌, length, slice_index_or, IfOk};
 ghost use Rattle.tl_world.specs.Codes.{row_code, rows_code, values_eq};
+ghost use Rattle.tl_world.specs.Moves.{place_after};
 ghost use Rattle.tl_world.specs.RowTests.{rows_eq, rows-tell};
 ghost use Rattle.tl_world.specs.Same.{tells-partial, tells-equivalence};
 
@@ -114,6 +115,25 @@ impl Rows {
         Ok(Rows {
             flat: self.flat.without(alloc, k)?,
             code: self.code.wrapping_sub(code_of_row(self.flat.row(k))),
+        })
+    }
+
+    /// The rows with one more at place `at`, and without that at place `cut`, in one copy.
+    pub(crate) fn moved(
+        &self,
+        alloc: Global,
+        cut: usize,
+        at: usize,
+        row: &[Value],
+    ) -> Result<Rows, NoMemory>
+        requires cut { cut < length self.now }
+        requires at { at ≤ length self.now }
+        ensures { IfOk result (λ r. r ≡ remove (insert self.now at row.now) (place_after at cut)) }
+    {
+        let more = self.code.wrapping_add(code_of_row(row));
+        Ok(Rows {
+            flat: self.flat.moved(alloc, cut, at, row)?,
+            code: more.wrapping_sub(code_of_row(self.flat.row(cut))),
         })
     }
 }

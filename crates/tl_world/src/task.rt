@@ -30,14 +30,14 @@ pub struct Task {
 
 /// The worlds of a problem, which its task takes.
 #[derive(Drop)]
-struct Worlds {
+struct TaskWorlds {
     first: World,
     goal: World,
     avoid: World,
 }
 
 /// The worlds of the problem. It fails for want of memory alone.
-fn worlds_of(alloc: Global, problem: &Problem) -> Result<Worlds, NoMemory>
+fn worlds_of(alloc: Global, problem: &Problem) -> Result<TaskWorlds, NoMemory>
     ensures first { IfOk result (λ worlds. worlds.first ≡ (plain_problem problem.now).first) }
     ensures goal { IfOk result (λ worlds. worlds.goal ≡ (plain_problem problem.now).goal) }
     ensures avoid { IfOk result (λ worlds. worlds.avoid ≡ (plain_problem problem.now).avoid) }
@@ -53,7 +53,7 @@ fn worlds_of(alloc: Global, problem: &Problem) -> Result<Worlds, NoMemory>
         problem.goal_values.as_slice(),
     )?;
     let avoid = World::of(alloc, problem.goal_nots.as_slice(), &[])?;
-    Ok(Worlds { first, goal, avoid })
+    Ok(TaskWorlds { first, goal, avoid })
 }
 
 impl Task {

@@ -2,8 +2,7 @@
 ghost use Rattle.std.specs.FinMap as dict;
 ghost use Rattle.std.specs.FinSet as set;
 ghost use Rattle.std.specs.List.{list_all};
-ghost use Rattle.std.specs.Option.{option_map};
-ghost use Rattle.std.specs.Prelude.{◌≡◌, ◌↔◌, ◌<◌, ◌≤◌, ◌&&◌, ℕ, List, [], map, length, not, true, false, Some, None, IfNone, IfSome, IfOk};
+ghost use Rattle.std.specs.Prelude.{◌≡◌, ◌↔◌, ◌<◌, ◌&&◌, ℕ, List, [], map, length, not, true, false, Some, None, IfNone, IfSome, IfOk};
 ghost use Rattle.tl_syntax.specs.Keys.{fact_key, place_entry};
 ghost use Rattle.tl_syntax.specs.Lists.{Each, Among, Rises};
 ghost use Rattle.tl_syntax.specs.Named.{FactIsNamed, PlaceIsNamed};
@@ -13,19 +12,14 @@ ghost use Rattle.tl_terms.specs.ProblemMeaning.{world_of};
 ghost use Rattle.tl_terms.specs.Step.{with_all, without_all, overwritten};
 ghost use Rattle.tl_terms.specs.World.{has_fact, value_at};
 ghost use Rattle.tl_world.specs.Codes.{tables_code};
-ghost use Rattle.tl_world.specs.Fits.{occurs};
-ghost use Rattle.tl_world.specs.Least.{IsLeast, above, found_in};
-ghost use Rattle.tl_world.specs.Next.{IsNext};
-ghost use Rattle.tl_world.specs.Patterns.{IsLawful, makes_true, is_true_of, filled, parts_of, tuple_of};
 ghost use Rattle.tl_world.specs.Same.{world_eq, world-tells, tells-partial, tells-equivalence, world_fed, world-alike};
 ghost use Rattle.tl_world.specs.Tables.{InOrder, fact_tables, place_tables, set_of, map_of, row_cmp, place_row};
 
-use crate::facts::{with_facts, without};
+use crate::facts::change_facts;
 use crate::named::{Named, find_table, share};
-use crate::next::{next_in_places, put_next};
-use crate::places::{find_place, with_place};
+use crate::places::{change_places, find_place};
 use crate::row_search::find_row;
-use crate::{Match, Part, Pattern, PlaceRow, PlaceRows, Rows};
+use crate::{PlaceRow, PlaceRows, Rows};
 use std::alloc::Global;
 use std::hash::{FoldHasher, Hash, Hasher};
 use std::marker::Model;
@@ -192,78 +186,10 @@ impl World {
         }
     }
 
-    /// The least tuple of values, in lexicographic value order, that makes the pattern true and comes after `after`, where that is given: None exactly where there is none.
-    /// It takes no memory.
-    ///
-    /// It looks at one table. The first row is found by halves, where the leading parts are fixed, or are variables in the order of their numbers whose values `after` has.
-    /// From there rows are looked at in order, and no further than to the first whose leading values exceed the fixed ones, or, once a tuple is found, those of that tuple.
-    /// So where the variables first stand in the order of their numbers, the next tuple costs a search by halves and the rows between that of `after` and its own; where they do not, it costs the rows with the same fixed leading values.
-    pub fn next_match(&self, pattern: &Pattern, after: Option<Match>) -> Option<Match>
-        requires pattern { IsLawful pattern.now }
-        requires after { IfSome after (λ m. m.len ≡ pattern.now.free) }
-        ensures next { IsNext pattern.now.free (makes_true self.now pattern.now) (option_map tuple_of after) (option_map tuple_of result) }
-        ensures len { IfSome result (λ m. m.len ≡ pattern.now.free) }
-    {
-        if pattern.place {
-            let parts = &pattern.parts[..pattern.len as usize];
-            self.next_place(pattern.name, parts, pattern.free, &after)
-        } else {
-            let mut values = [Value::Sym(0); 9];
-            if self.put_next_fact(pattern, &after, &mut values) {
-                Some(Match {
-                    values,
-                    len: pattern.free,
-                })
-            } else {
-                None
-            }
-        }
-    }
-
-    /// Whether some tuple above `after` makes the pattern a fact. The values of the least one are then put into the first places of `values`.
-    fn put_next_fact(
-        &self,
-        pattern: &Pattern,
-        after: &Option<Match>,
-        values: &mut [Value; 9],
-    ) -> bool
-        requires pattern { IsLawful pattern.now }
-        ensures { IsLeast pattern.now.free (λ t. is_true_of self.now false pattern.now.name (filled (parts_of pattern.now) t) && above after.now pattern.now.free t) (found_in result pattern.now.free values.new) }
-    {
-        match self.rows(pattern.name) {
-            Some(rows) => {
-                let parts = &pattern.parts[..pattern.len as usize];
-                put_next(rows, parts, pattern.free, after, values)
-            }
-            None => false,
-        }
-    }
-
-    /// The least tuple above `after` that makes the parts the arguments and the value of a place of `fun`.
-    fn next_place(
-        &self,
-        fun: u32,
-        parts: &[Part],
-        free: u32,
-        after: &Option<Match>,
-    ) -> Option<Match>
-        requires few { free ≤ 9 }
-        requires each { (n : ℕ) → n < free → occurs n parts.now ≡ true }
-        requires slots { (n : ℕ) → occurs n parts.now ≡ true → n < free }
-        requires short { length parts.now ≤ 9 }
-        requires some { 1 ≤ length parts.now }
-        ensures { IsLeast free (λ t. is_true_of self.now true fun (filled parts.now t) && above after.now free t) result }
-    {
-        match self.places(fun) {
-            Some(rows) => next_in_places(rows.as_slice(), parts, free, after),
-            None => None,
-        }
-    }
-
     /// This world without the facts of `dels`, with those of `adds`, and with the values of `sets`; of two values for one place the earlier counts.
     /// This world stays as it is, and tables that do not change are shared. It fails for want of memory alone.
     ///
-    /// The first fact that is added to a table of this world copies it, and later ones are put into the copy. Each fact that is deleted copies its table once.
+    /// A table is copied for each fact that is deleted, and one fact that is added to it comes in with the same copy. The first fact that is added to another table of this world copies it, and later ones are put into the copies.
     pub fn changed(
         &self,
         alloc: Global,
@@ -277,19 +203,8 @@ impl World {
     {
         let mut facts = share(alloc, self.facts.as_slice())?;
         let mut places = share(alloc, self.places.as_slice())?;
-        let mut i = dels.len();
-        while i > 0 {
-            i -= 1;
-            let d = &dels[i];
-            without(alloc, &mut facts, d.pred, d.args.as_slice())?;
-        }
-        with_facts(alloc, &mut facts, adds)?;
-        let mut k = sets.len();
-        while k > 0 {
-            k -= 1;
-            let p = &sets[k];
-            with_place(alloc, &mut places, p.fun, &p.args, p.value)?;
-        }
+        change_facts(alloc, &mut facts, dels, adds)?;
+        change_places(alloc, &mut places, sets)?;
         Ok(whole(facts, places))
     }
 

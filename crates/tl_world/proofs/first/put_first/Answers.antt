@@ -1,22 +1,24 @@
-use Rattle.std.proofs.Common.{◌≡◌, length-take-le, drop, [], Some, true, refl, sym, ap, ◌∙◌, arith}
+use Rattle.std.proofs.Common.{◌≡◌, length-take-le, take, drop, [], Some, true, refl, sym, ap, ◌∙◌, arith}
 use Rattle.std.proofs.lemmas.List.{drop_all}
 use Rattle.std.specs.Ordering.{is_lt}
 use Rattle.tl_world.specs.declared.pattern.Match.{Match}
 use Rattle.tl_world.specs.Front.{front, front_cmp}
 use Rattle.tl_world.specs.Least.{IsLeast, fits_some}
 use Rattle.tl_world.proofs.Least.{least-same}
+use Rattle.tl_world.proofs.Putting.{begins-taken}
+use Rattle.tl_world.proofs.RowsAlike.{alike-rows}
 use Rattle.tl_world.proofs.Turns.{least-first, past-none}
 use Rattle.tl_world.proofs.first.put_first.Goals as goal
 
-pub returns-then-put_values : goal.returns-then-put_values
-returns-then-put_values c =
+pub returns-in-Some : goal.returns-in-Some
+returns-in-Some c =
     let parts = c.args.parts.now in
     let rows = c.args.rows.now in
     let k = c.loop-k.k in
     let m : Match = record { values = c.put_values.new.values; len = c.args.free } in
     let size = length-take-le c.args.free c.put_values.new.values (omega (arith, c.put_values.array_long, c.requires.few)) in
     least-same c.args.free (Some m) (λ t. fits_some parts (drop k rows) t) (λ t. fits_some parts (drop c.args.from rows) t) (λ t st. sym (c.loop-k.invariant.same t))
-    (least-first parts c.args.free c.requires.turn c.requires.each c.requires.slots m rows k c.row-row.result.now (omega (arith, c.loop-k-test.true, c.len.ensures)) c.row-row.ensures c.requires.order refl size (c.put_values.ensures.fits c.if-put_values.true))
+    (least-first parts c.args.free c.requires.turn c.requires.each c.requires.slots m rows k c.row-row.result.now (omega (arith, c.loop-k-test.true, c.len.ensures)) c.row-row.ensures (alike-rows rows c.requires.order) refl size (c.in-Some.ensures.fits (take c.args.free c.put_values.new.values) (begins-taken c.put_values.new.values c.in-Some.field-0 c.args.free c.in-Some.ensures.bound)))
 
 pub returns-then-is_lt : goal.returns-then-is_lt
 unfolding IsLeast

@@ -1,18 +1,18 @@
-use Rattle.std.proofs.Common.{◌≡◌, ◌≤◌, ◌+◌, length, take, drop, true, false, true≢false, refl, sym, ap, ◌∙◌, subst, arith}
+use Rattle.std.proofs.Common.{◌≡◌, ◌≤◌, ◌+◌, length, drop, true, false, true≢false, refl, sym, ap, ◌∙◌, subst, arith}
 use Rattle.tl_world.specs.Fits.{fits_all, BeginsAs}
-use Rattle.tl_world.specs.Front.{are_in_turn}
+use Rattle.tl_world.specs.Front.{seen_in, are_in_turn}
 use Rattle.tl_world.proofs.Matching.{never-short}
-use Rattle.tl_world.proofs.Putting.{fits-here, fits-next, fits-whole, turn-at, seen-within, room, begins-taken, begins-before}
+use Rattle.tl_world.proofs.Putting.{fits-here, fits-next, fits-whole, turn-at, seen-at, seen-within, room, begins-before}
 use Rattle.tl_world.proofs.first.put_values.Goals as goal
 
 pub returns-then-parts-row-clause-none : goal.returns-then-parts-row-clause-none
-returns-then-parts-row-clause-none c _ t = never-short c.args.parts.now c.args.row.now t c.if-parts-row.true
+returns-then-parts-row-clause-none c t = never-short c.args.parts.now c.args.row.now t c.if-parts-row.true
 
 pub put_value-requires-clause-room : goal.put_value-requires-clause-room
 put_value-requires-clause-room c = room c.args.parts.now c.loop-k.k c.loop-k.seen c.args.free _ c.loop-k-test.true c.requires.slots c.loop-k.invariant.seen_within c.requires.few
 
 pub returns-in-None-clause-none : goal.returns-in-None-clause-none
-returns-in-None-clause-none c _ t =
+returns-in-None-clause-none c t =
     let parts = c.args.parts.now in
     let row = c.args.row.now in
     (elim (fits_all parts row t) as (λ b. fits_all parts row t ≡ b → b ≡ false) [
@@ -33,6 +33,7 @@ loop-k-preserved c =
       within = omega (arith, c.loop-k-test.true);
       seen_within = subst (λ n. n ≤ c.args.free) (sym is) (seen-within parts k seen c.args.free _ _ c.loop-k-test.true c.requires.slots c.loop-k.invariant.seen_within refl);
       size = c.put_value.array_long;
+      count = c.loop-k.invariant.count ∙ (seen-at parts k seen _ c.loop-k-test.true ∙ ap (λ n. seen_in n (drop (k + 1) parts)) (sym is));
       turn = ap (λ n. are_in_turn n (drop (k + 1) parts)) is ∙ turn.1;
       sound = λ t begins.
           let more = subst (λ n. BeginsAs n new t) is begins in
@@ -42,7 +43,6 @@ loop-k-preserved c =
     }
 
 pub returns-clause-fits : goal.returns-clause-fits
-returns-clause-fits c _ =
+returns-clause-fits c t begins =
     let past : length c.args.parts.now ≤ c.loop-k.k = omega (arith, c.loop-k-test.false) in
-    fits-whole c.args.parts.now c.args.row.now (take c.args.free c.loop-k.values) c.loop-k.k c.if-parts-row.false past
-    (c.loop-k.invariant.sound (take c.args.free c.loop-k.values) (begins-taken c.loop-k.values c.loop-k.seen c.args.free c.loop-k.invariant.seen_within))
+    fits-whole c.args.parts.now c.args.row.now t c.loop-k.k c.if-parts-row.false past (c.loop-k.invariant.sound t begins)

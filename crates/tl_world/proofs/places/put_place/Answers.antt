@@ -1,7 +1,8 @@
-use Rattle.std.proofs.Common.{◌≡◌, ℕ, ◌<◌, ◌≤◌, List, map, length, get_or, sym, ap, ◌∙◌, subst, refl, arith, Err, T, Equal}
+use Rattle.std.proofs.Common.{◌≡◌, ℕ, ◌<◌, ◌≤◌, List, map, length, get_or, sym, ap, ◌∙◌, subst, refl, arith, T, Equal}
 use Rattle.std.specs.List.{remove, insert, HoldsAt}
 use Rattle.std.specs.List.Sorted.{IsBinarySearchResult}
 use Rattle.std.specs.FinMap as dict
+use Rattle.std.specs.Prelude.{Result, Ok, Err, IfOk}
 use Rattle.std.specs.FinSet as set
 use Rattle.tl_syntax.specs.declared.value.Value.{Value}
 use Rattle.tl_syntax.specs.TotalOrders.{value_ties}
@@ -29,12 +30,16 @@ added s xs zs a k row same is rise p place d =
     ap (map place_row) d
     ∙ insert-put row_total place_row row.args row.value xs k row refl within (λ j e low. parts.0 j e (omega arith) low) (λ j e low high. parts.1 j e low high)
 
-pub returns-in_ok-insert-in-Ok : goal.returns-in_ok-insert-in-Ok
-returns-in_ok-insert-in-Ok c = record {
-  after = replaced _ c.args.rows.now.items _ _ _ c.in-Ok.k c.args.row c.as_slice.ensures.value c.as_slice-2.ensures c.requires c.in-Ok.ensures.range c.in-Ok.ensures.place c.remove.ensures.items c.in_ok-insert-in-Ok.ensures.items;
+if-ok : {A E : Type 0} {P Q : A → Type 0} (r : Result A E) → ((a : A) → P a → Q a) → IfOk r P → IfOk r Q
+if-ok (Ok a) f h = f a h
+if-ok (Err e) f h = tt
+
+pub returns-in-Ok : goal.returns-in-Ok
+returns-in-Ok c = record {
+  after = if-ok c.put.result (λ rows d. replaced _ c.args.rows c.without.result rows _ c.in-Ok.k c.args.row c.as_slice.ensures c.as_slice-2.ensures c.requires c.in-Ok.ensures.range c.in-Ok.ensures.place c.without.ensures d) c.put.ensures;
 }
 
-pub returns-in_ok-insert-in-Err : goal.returns-in_ok-insert-in-Err
-returns-in_ok-insert-in-Err c = record {
-  after = added _ c.args.rows.now.items _ _ c.in-Err.k c.args.row c.as_slice.ensures.value c.as_slice-2.ensures c.requires c.in-Err.ensures.range c.in-Err.ensures.place c.in_ok-insert-in-Err.ensures.items;
+pub returns-in-Err : goal.returns-in-Err
+returns-in-Err c = record {
+  after = if-ok c.put-in-Err.result (λ rows d. added _ c.args.rows rows _ c.in-Err.k c.args.row c.as_slice.ensures c.as_slice-2.ensures c.requires c.in-Err.ensures.range c.in-Err.ensures.place d) c.put-in-Err.ensures;
 }

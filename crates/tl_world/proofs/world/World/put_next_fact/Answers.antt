@@ -1,5 +1,5 @@
 use Rattle.std.proofs.Common.{false, ap, ◌&&◌}
-use Rattle.tl_world.specs.Least.{IsLeast, fits_some, above, found_in}
+use Rattle.tl_world.specs.Least.{IsLeast, fits_some, above, match_in_place}
 use Rattle.tl_world.specs.Patterns.{parts_of, filled, is_true_of}
 use Rattle.tl_world.proofs.Least.{least-same}
 use Rattle.tl_world.proofs.Truths.{fact-truth, occurs-among}
@@ -15,10 +15,11 @@ pub returns-in-Some : goal.returns-in-Some
 returns-in-Some c =
     let p = c.args.pattern.now in
     let parts = parts_of p in
-    least-same p.free (found_in c.put_next.result p.free c.put_next.new.values) (λ t. fits_some parts c.in-Some.rows.now t && above c.args.after.now p.free t) (λ t. is_true_of c.args.self.now false p.name (filled parts t) && above c.args.after.now p.free t)
-    (λ t size. ap (λ b. b && above c.args.after.now p.free t) (fact-truth c.args.self.now p.name c.in-Some.rows.now c.in-Some.ensures.facts parts t p.free (λ n o. (c.requires.pattern.each n).0 ((occurs-among n parts).1 o)) size))
+    let after = match_in_place c.args.begun c.args.tuple.now in
+    least-same p.free (match_in_place c.put_next.result c.put_next.new.tuple) (λ t. fits_some parts c.in-Some.rows.now t && above after p.free t) (λ t. is_true_of c.args.self.now false p.name (filled parts t) && above after p.free t)
+    (λ t size. ap (λ b. b && above after p.free t) (fact-truth c.args.self.now p.name c.in-Some.rows.now c.in-Some.ensures.facts parts t p.free (λ n o. (c.requires.pattern.each n).0 ((occurs-among n parts).1 o)) size))
     c.put_next.ensures
 
 pub returns-in-None : goal.returns-in-None
 unfolding IsLeast
-returns-in-None c t size = ap (λ b. b && above c.args.after.now c.args.pattern.now.free t) (c.in-None.ensures.none (filled (parts_of c.args.pattern.now) t))
+returns-in-None c t size = ap (λ b. b && above (match_in_place c.args.begun c.args.tuple.now) c.args.pattern.now.free t) (c.in-None.ensures.none (filled (parts_of c.args.pattern.now) t))

@@ -1,0 +1,147 @@
+-- Tables of facts of which one row is taken out and one is put in, and sets of facts that differ in some facts alone.
+use Rattle.std.proofs.Common.{◌≡◌, ◌||◌, ◌&&◌, ℕ, zero, suc, ◌<◌, ◌≤◌, Bool, true, false, not, true≢false, eqb, eqb-true, List, [], ◌∷◌, map, length, get_or, drop, drop-cons, ◌-◌, inl, inr, refl, sym, ap, ◌∙◌, subst, arith, Equal}
+use Rattle.std.proofs.lemmas.List.Edits.{length-insert, length-remove, get_or-insert_at}
+use Rattle.std.specs.Cmp.{nat_cmp_total, tied_itself}
+use Rattle.std.specs.FinMap as dict
+use Rattle.std.specs.FinSet as set
+use Rattle.std.specs.FinMap.Entries.{where_key}
+use Rattle.std.specs.List.{insert, remove, list_any, HoldsAt}
+use Rattle.std.specs.Ordering.{eq_by_cmp, nat_cmp}
+use Rattle.tl_syntax.specs.declared.fact.Fact.{Fact}
+use Rattle.tl_syntax.specs.declared.value.Value.{Value}
+use Rattle.tl_syntax.specs.Keys.{Key, key_cmp, fact_key}
+use Rattle.tl_syntax.specs.Lists.{Among}
+use Rattle.tl_syntax.specs.TotalOrders.{key_total, key_ties}
+use Rattle.tl_terms.specs.Step.{with_all}
+use Rattle.tl_world.specs.declared.named.Named.{Named}
+use Rattle.tl_world.specs.Moves.{place_after, IsMoved, AreSameBeside}
+use Rattle.tl_world.specs.Plain.{IsFilled}
+use Rattle.tl_world.specs.Tables.{row_cmp, InOrder, fact_row, fact_tables, entries_of, set_of}
+use Rattle.tl_world.proofs.Change as change
+use Rattle.tl_world.proofs.Edits.{other_than}
+use Rattle.tl_world.proofs.Moving.{get-after}
+use Rattle.tl_world.proofs.Orders.{contains-all}
+use Rattle.tl_world.proofs.Step.{set-put, set-taken}
+
+-- what is in the list fails a test that all of it fails
+fails : {A : Type 0} (p : A → Bool) (x : A) (xs : List A) → Among x xs → list_any p xs ≡ false → p x ≡ false
+fails p x [] m h = absurd m
+fails p x (y ∷ xs) m h = elim m [ inl e ↦ ap p (sym e) ∙ left (p y) (list_any p xs) h | inr k ↦ fails p x xs k (right (p y) (list_any p xs) h) ]
+  where
+    left : (a b : Bool) → (a || b) ≡ false → a ≡ false
+    left true b e = absurd (true≢false e)
+    left false b e = refl
+
+    right : (a b : Bool) → (a || b) ≡ false → b ≡ false
+    right true b e = absurd (true≢false e)
+    right false b e = e
+
+module _ (fs : List Fact) where
+  pub same-beside : (s t : set.FinSet key_cmp) → s ≡ t → AreSameBeside fs s t
+  same-beside s t e q h = ap (λ u. set.contains u q) e
+
+  pub beside-then : (r s t : set.FinSet key_cmp) → AreSameBeside fs r s → AreSameBeside fs s t → AreSameBeside fs r t
+  beside-then r s t a b q h = a q h ∙ b q h
+
+  pub removed-beside : (s t : set.FinSet key_cmp) (k : Key) → AreSameBeside fs s t → AreSameBeside fs (set.remove s k) (set.remove t k)
+  removed-beside s t k r q h = set.contains-remove key_total s k q ∙ (ap (λ b. not (eq_by_cmp key_cmp q k) && b) (r q h) ∙ sym (set.contains-remove key_total t k q))
+
+  -- one of the facts comes in before another goes
+  moved-beside : (s : set.FinSet key_cmp) (f : Fact) (k : Key) → Among f fs → AreSameBeside fs (set.remove (set.insert s (fact_key f)) k) (set.remove s k)
+  moved-beside s f k m q h =
+      set.contains-remove key_total (set.insert s (fact_key f)) k q
+      ∙ (ap (λ b. not (eq_by_cmp key_cmp q k) && b) (set.contains-insert key_total s (fact_key f) q ∙ ap (λ b. b || set.contains s q) (fails (λ g. eq_by_cmp key_cmp q (fact_key g)) f fs m h))
+      ∙ sym (set.contains-remove key_total s k q))
+
+  -- with all of them the sets are the same
+  pub with-beside : (s t : set.FinSet key_cmp) → AreSameBeside fs s t → with_all s (map fact_key fs) ≡ with_all t (map fact_key fs)
+  with-beside s t h = set.same_set key_total key_ties (with_all s (map fact_key fs)) (with_all t (map fact_key fs)) (λ q. contains-all s fs q ∙ (either q ∙ sym (contains-all t fs q)))
+    where
+      either : (q : Key) → (list_any (λ f. eq_by_cmp key_cmp q (fact_key f)) fs || set.contains s q) ≡ (list_any (λ f. eq_by_cmp key_cmp q (fact_key f)) fs || set.contains t q)
+      either q = (elim (list_any (λ f. eq_by_cmp key_cmp q (fact_key f)) fs) as (λ b. list_any (λ f. eq_by_cmp key_cmp q (fact_key f)) fs ≡ b → (b || set.contains s q) ≡ (b || set.contains t q)) [
+        | true ↦ λ e. refl
+        | false ↦ λ e. h q e
+      ]) refl
+
+-- the facts from a place on, and from the one before it
+pub one-before : (ds : List Fact) (i : ℕ) (d : Fact) → 0 < i → i ≤ length ds → d ≡ get_or ds (i - 1) d → drop (i - 1) ds ≡ d ∷ drop i ds
+one-before ds zero d p q e = absurd (omega arith)
+one-before ds (suc i) d p q e =
+    let s : suc i - 1 ≡ i = omega arith in
+    ap (λ k. drop k ds) s ∙ (drop-cons ds i d (omega arith) ∙ ap (λ x. x ∷ drop (suc i) ds) (sym (e ∙ ap (λ k. get_or ds k d) s)))
+
+pub among-at : {A : Type 0} (xs : List A) (k : ℕ) (x : A) → k < length xs → x ≡ get_or xs k x → Among x xs
+among-at [] k x p e = absurd (omega arith)
+among-at (y ∷ xs) zero x p e = inl (sym e)
+among-at (y ∷ xs) (suc k) x p e = inr (among-at xs k x (omega arith) e)
+
+undone : {A : Type 0} (xs : List A) (i : ℕ) (x : A) → i ≤ length xs → remove (insert xs i x) i ≡ xs
+undone [] zero x p = refl
+undone [] (suc i) x p = absurd (omega arith)
+undone (y ∷ xs) zero x p = refl
+undone (y ∷ xs) (suc i) x p = ap (λ zs. y ∷ zs) (undone xs i x (omega arith))
+
+-- the rows have one as before
+pub not-emptied : (rows after : List (List Value)) (k n : ℕ) (fs : List Fact) (b : Bool) → IsMoved rows k n fs after → k < length rows → b ≡ true → b ≡ eqb (length after) 0 → ⊥
+not-emptied rows after k n fs b m p t z =
+    let g = get-after rows m.at k m.fact.args [] m.within p in
+    let l = length-insert rows m.at m.fact.args m.within in
+    let r = length-remove (insert rows m.at m.fact.args) (place_after m.at k) g.1 in
+    let a = ap length m.is in
+    let none : length after ≡ 0 = eqb-true _ _ (sym z ∙ t) in
+    omega (arith, l, r, a, none, p)
+
+module _ (ts : List (Named (List (List Value)))) (n i : ℕ) (old fresh : Named (List (List Value))) (fs : List Fact) (k : ℕ) (a : List Value)
+    (f : change.Found fact_row ts n i old) (e : fresh.name ≡ n) (m : IsMoved old.rows.value k n fs fresh.rows.value) (p : k < length old.rows.value) (t : HoldsAt (λ (r : List Value). row_cmp r a ≡ Equal) old.rows.value k)
+    (filled : IsFilled (map fact_row fresh.rows.value)) where
+  -- the table with the new row, before the old one goes
+  between : Named (List (List Value))
+  between = record { name = n; rows = record old.rows { value = insert old.rows.value m.at m.fact.args } }
+
+  within : i ≤ length (remove ts i)
+  within = let l = length-remove ts i f.below in omega (arith, l, f.below)
+
+  grown : List (Named (List (List Value)))
+  grown = insert (remove ts i) i between
+
+  there : (d : Named (List (List Value))) → get_or grown i d ≡ between
+  unfolding grown
+  there d = get_or-insert_at (remove ts i) i between d within
+
+  come-in : map fact_row between.rows.value ≡ dict.put row_cmp m.fact.args tt (map fact_row old.rows.value)
+  unfolding between
+  come-in = change.row-put fact_row ts n i old f m.fact.args tt m.at old.rows.value m.fact.args refl refl m.within m.absent
+
+  found : change.Found fact_row grown n i between
+  unfolding between grown
+  found = record {
+    below = let l = length-insert (remove ts i) i between within in omega (arith, l, within);
+    is = sym (there between);
+    tie = ap (λ (u : Named (List (List Value))). nat_cmp u.name n) (there between) ∙ tied_itself nat_cmp_total n;
+    order = change.order-put fact_row ts n i old f between refl m.fact.args tt come-in;
+  }
+
+  gone-out : map fact_row fresh.rows.value ≡ where_key row_cmp (other_than row_cmp a) (map fact_row between.rows.value)
+  unfolding between
+  gone-out =
+      ap (map fact_row) m.is
+      ∙ change.row-taken fact_row grown n i between found a (place_after m.at k) between.rows.value refl (get-after old.rows.value m.at k m.fact.args [] m.within p).1
+      (λ d. subst (λ r. row_cmp r a ≡ Equal) (sym (get-after old.rows.value m.at k m.fact.args d m.within p).0) (t d))
+
+  same : insert (remove grown i) i fresh ≡ insert (remove ts i) i fresh
+  unfolding grown
+  same = ap (λ us. insert us i fresh) (undone (remove ts i) i between within)
+
+  pub order-moved : InOrder (fact_tables (insert (remove ts i) i fresh))
+  order-moved = subst (λ us. InOrder (fact_tables us)) same (change.order-taken fact_row grown n i between found fresh e a gone-out filled)
+
+  pub facts-moved : AreSameBeside fs (set_of (fact_tables (insert (remove ts i) i fresh))) (set.remove (set_of (fact_tables ts)) (n, a))
+  unfolding between grown
+  facts-moved =
+      let out : set_of (fact_tables (insert (remove ts i) i fresh)) ≡ set.remove (set_of (fact_tables grown)) (n, a) =
+      set-taken (fact_tables grown) (fact_tables (insert (remove ts i) i fresh)) (n, a)
+      (λ q. ap (λ us. dict.find key_cmp q (entries_of (fact_tables us))) (sym same) ∙ change.find-taken-out fact_row grown n i between found fresh e a gone-out q) in
+      let in_now : set_of (fact_tables grown) ≡ set.insert (set_of (fact_tables ts)) (n, m.fact.args) =
+      set-put (fact_tables ts) (fact_tables grown) (n, m.fact.args) (λ q. change.find-put fact_row ts n i old f between refl m.fact.args tt come-in q) in
+      λ q h. ap (λ s. set.contains s q) (out ∙ ap (λ s. set.remove s (n, a)) (in_now ∙ ap (λ j. set.insert (set_of (fact_tables ts)) (j, m.fact.args)) (sym m.of_table)))
+      ∙ moved-beside fs (set_of (fact_tables ts)) m.fact (n, a) m.among q h

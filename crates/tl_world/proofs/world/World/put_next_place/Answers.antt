@@ -1,0 +1,31 @@
+use Rattle.std.proofs.Common.{◌∙◌, ◌-◌, true, map, length, take, ap, ◌&&◌, rules}
+use Rattle.std.specs.Prelude.{slice_get}
+use Rattle.tl_terms.specs.Bounds.{same_value}
+use Rattle.tl_world.specs.Least.{IsLeast, fits_some, above, match_in_place}
+use Rattle.tl_world.specs.Patterns.{parts_of, filled, is_true_of}
+use Rattle.tl_world.specs.Tables.{whole_row}
+use Rattle.tl_world.proofs.Least.{least-same}
+use Rattle.tl_world.proofs.Truths.{place-truth, occurs-among}
+use Rattle.tl_world.proofs.world.World.put_next_place.Goals as goal
+
+pub put_next_in_places-requires-clause-each : goal.put_next_in_places-requires-clause-each
+put_next_in_places-requires-clause-each c n p = (occurs-among n (parts_of c.args.pattern.now)).0 ((c.requires.pattern.each n).1 p)
+
+pub put_next_in_places-requires-clause-slots : goal.put_next_in_places-requires-clause-slots
+put_next_in_places-requires-clause-slots c n o = (c.requires.pattern.each n).0 ((occurs-among n (parts_of c.args.pattern.now)).1 o)
+
+pub returns-in-Some : goal.returns-in-Some
+returns-in-Some c =
+    let p = c.args.pattern.now in
+    let parts = parts_of p in
+    let after = match_in_place c.args.begun c.args.tuple.now in
+    least-same p.free (match_in_place c.put_next_in_places.result c.put_next_in_places.new.tuple) (λ t. fits_some parts (map whole_row c.as_slice.result.now) t && above after p.free t) (λ t. is_true_of c.args.self.now true p.name (filled parts t) && above after p.free t)
+    (λ t size. ap (λ b. b && above after p.free t) (ap (λ rows. fits_some parts (map whole_row rows) t) c.as_slice.ensures ∙ place-truth c.args.self.now p.name c.in-Some.rows.now c.in-Some.ensures.places parts t p.free (λ n o. (c.requires.pattern.each n).0 ((occurs-among n parts).1 o)) (search rules) size))
+    c.put_next_in_places.ensures
+
+pub returns-in-None : goal.returns-in-None
+unfolding IsLeast
+returns-in-None c t size =
+    let p = c.args.pattern.now in
+    let xs = filled (parts_of p) t in
+    ap (λ o. same_value o (slice_get xs (length xs - 1)) && above (match_in_place c.args.begun c.args.tuple.now) p.free t) (c.in-None.ensures.none (take (length xs - 1) xs))

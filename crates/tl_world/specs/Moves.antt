@@ -1,0 +1,34 @@
+-- Rows of which one is taken out and one is put in, and sets of facts that differ in some facts alone.
+use Rattle.std.specs.Prelude.{◌≡◌, ◌+◌, ◌≤◌, ◌⊎◌, ℕ, List, false, cond, length, Err}
+use Rattle.std.proofs.Common.{leb}
+use Rattle.std.specs.FinSet as set
+use Rattle.std.specs.List.{insert, remove, list_any}
+use Rattle.std.specs.List.Sorted.{IsBinarySearchResult}
+use Rattle.std.specs.Ordering.{eq_by_cmp}
+use Rattle.tl_syntax.specs.declared.fact.Fact.{Fact}
+use Rattle.tl_syntax.specs.declared.value.Value.{Value}
+use Rattle.tl_syntax.specs.Keys.{Key, key_cmp, fact_key}
+use Rattle.tl_syntax.specs.Lists.{Among}
+use Rattle.tl_world.specs.Plain.{row_cmp}
+
+-- the place of what stood at `cut`, after one more at `at`
+abbrev pub place_after : ℕ → ℕ → ℕ
+place_after at cut = cond (leb at cut) (cut + 1) cut
+
+-- the rows without that at place `cut`, and with the arguments of one of the facts, which are not among them
+pub record IsMoved (rows : List (List Value)) (cut n : ℕ) (facts : List Fact) (after : List (List Value)) : Type 0 where
+  pub fact : Fact
+  pub at : ℕ
+  pub among : Among fact facts
+  pub of_table : fact.pred ≡ n
+  pub within : at ≤ length rows
+  pub absent : IsBinarySearchResult (λ (r : List Value). row_cmp r fact.args) rows (Err at)
+  pub is : after ≡ remove (insert rows at fact.args) (place_after at cut)
+
+-- the rows without that at place `cut`, where nothing else is said of those of the facts
+abbrev pub IsTakenOut : List (List Value) → ℕ → ℕ → List Fact → List (List Value) → Type 0
+IsTakenOut rows cut n facts after = (after ≡ remove rows cut) ⊎ IsMoved rows cut n facts after
+
+-- the same facts, but for those of a list
+abbrev pub AreSameBeside : List Fact → set.FinSet key_cmp → set.FinSet key_cmp → Type 0
+AreSameBeside facts s t = (q : Key) → list_any (λ f. eq_by_cmp key_cmp q (fact_key f)) facts ≡ false → set.contains s q ≡ set.contains t q

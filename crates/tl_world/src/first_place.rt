@@ -1,0 +1,127 @@
+// The first place that a pattern fits, whose variables first stand in the order of their numbers.
+ghost use Rattle.std.specs.Option.{is_some};
+ghost use Rattle.std.specs.Prelude.{◌≡◌, ◌<◌, ◌≤◌, ◌+◌, ◌-◌, ◌^◌, ◌++◌, ◌∷◌, ℕ, List, [], length, map, drop, take, slice_index_or, true, false, IfSome};
+ghost use Rattle.std.specs.declared.cmp.Ordering.TheVariants.{Greater};
+ghost use Rattle.tl_syntax.specs.Lists.{Each, Rises};
+ghost use Rattle.tl_world.specs.Fits.{fits_all, occurs};
+ghost use Rattle.tl_world.specs.Front.{front, front_cmp, are_in_turn};
+ghost use Rattle.tl_world.specs.Least.{IsLeast, HasLater, fits_some, found_in};
+ghost use Rattle.tl_world.specs.Tables.{row_cmp, whole_row};
+
+use crate::after::{after_part, fits_in_turn};
+use crate::first::{put_value, put_values};
+use crate::front::{are_in_turn, order_of_front};
+use crate::{Part, PlaceRow};
+use tl_syntax::Value;
+
+/// How many places come before the first whose leading arguments are at least the known ones of the parts, found by halves.
+pub(crate) fn places_before(rows: &[PlaceRow], lead: &[Part], known: &[Value]) -> usize
+    requires { Rises row_cmp (map (λ r. r.args) rows.now) }
+    ensures bound { result ≤ length rows.now }
+    ensures before { Each (λ r. front_cmp (front 0 lead.now known.now) r.args ≡ Greater) (take result rows.now) }
+{
+    rows.partition_point(|r| order_of_front(lead, known, r.args.as_slice()).is_gt())
+}
+
+/// Whether the leading parts and the last one are the arguments and the value of the place under the tuple's values, and the variables first stand in the order of their numbers.
+fn fits_place(lead: &[Part], last: Part, row: &PlaceRow, tuple: &[Value]) -> bool
+    requires { length lead.now + 1 < 2 ^ 64 }
+    ensures fits { result ≡ true → fits_all (lead.now ++ last ∷ []) (whole_row row.now) tuple.now ≡ true }
+    ensures turn { result ≡ true → are_in_turn 0 (lead.now ++ last ∷ []) ≡ true }
+{
+    match fits_in_turn(lead, row.args.as_slice(), tuple) {
+        Some(seen) => after_part(last, row.value, seen, tuple).is_some(),
+        None => false,
+    }
+}
+
+/// Whether some tuple of `free` values makes the leading parts and the last one the arguments and the value of the place. Its values are then put into the first places of `values`.
+fn put_place(lead: &[Part], last: Part, free: u32, row: &PlaceRow, values: &mut [Value; 9]) -> bool
+    requires few { free ≤ 9 }
+    requires slots { (n : ℕ) → occurs n (lead.now ++ last ∷ []) ≡ true → n < free }
+    requires turn { are_in_turn 0 (lead.now ++ last ∷ []) ≡ true }
+    ensures fits { result ≡ true → fits_all (lead.now ++ last ∷ []) (whole_row row.now) (take free values.new) ≡ true }
+    ensures none { result ≡ false → (t : List Value) → fits_all (lead.now ++ last ∷ []) (whole_row row.now) t ≡ false }
+{
+    match put_values(lead, free, row.args.as_slice(), values) {
+        Some(seen) => put_value(last, row.value, seen, values).is_some(),
+        None => false,
+    }
+}
+
+/// Whether the place before `at` is the parts with the tuple's values put in, and the variables first stand in the order of their numbers.
+fn is_after_place(rows: &[PlaceRow], parts: &[Part], tuple: &[Value], at: usize) -> bool
+    requires { 1 ≤ length parts.now }
+    ensures bound { result ≡ true → at ≤ length rows.now }
+    ensures some { result ≡ true → 1 ≤ at }
+    ensures row { result ≡ true → (r : _) → fits_all parts.now (whole_row (slice_index_or rows.now (at - 1) r)) tuple.now ≡ true }
+    ensures turn { result ≡ true → are_in_turn 0 parts.now ≡ true }
+{
+    let n = parts.len() - 1;
+    at > 0 && at <= rows.len() && fits_place(&parts[..n], parts[n], &rows[at - 1], tuple)
+}
+
+/// How many places come before those with the tuples after that in place, or with all tuples where none is. None where the variables do not first stand in the order of their numbers, or `near` is another number, where a tuple is in place.
+pub(crate) fn places_up_to(
+    rows: &[PlaceRow],
+    parts: &[Part],
+    begun: bool,
+    tuple: &[Value],
+    near: usize,
+) -> Option<usize>
+    requires each { (n : ℕ) → n < length tuple.now → occurs n parts.now ≡ true }
+    requires slots { (n : ℕ) → occurs n parts.now ≡ true → n < length tuple.now }
+    requires some { 1 ≤ length parts.now }
+    requires order { Rises row_cmp (map (λ r. r.args) rows.now) }
+    ensures turn { IfSome result (λ _. are_in_turn 0 parts.now ≡ true) }
+    ensures bound { IfSome result (λ i. i ≤ length rows.now) }
+    ensures later { IfSome result (λ i. HasLater parts.now begun tuple.now (map whole_row rows.now) i) }
+{
+    if begun {
+        if is_after_place(rows, parts, tuple, near) {
+            return Some(near);
+        }
+        return None;
+    }
+    if are_in_turn(parts) {
+        Some(places_before(rows, &parts[..parts.len() - 1], &[]))
+    } else {
+        None
+    }
+}
+
+/// The place after the first one, from a place of the list on, that some tuple makes the parts, where there is one. The values of the least tuple that makes the parts one of those are then put into the first places of `values`: they are those of that one.
+///
+/// Places are looked at up to the first whose leading arguments exceed the fixed leading parts.
+pub(crate) fn put_first_place(
+    rows: &[PlaceRow],
+    parts: &[Part],
+    free: u32,
+    from: usize,
+    values: &mut [Value; 9],
+) -> Option<usize>
+    requires few { free ≤ 9 }
+    requires each { (n : ℕ) → n < free → occurs n parts.now ≡ true }
+    requires slots { (n : ℕ) → occurs n parts.now ≡ true → n < free }
+    requires turn { are_in_turn 0 parts.now ≡ true }
+    requires some { 1 ≤ length parts.now }
+    requires order { Rises row_cmp (map (λ r. r.args) rows.now) }
+    requires bound { from ≤ length rows.now }
+    ensures { IsLeast free (λ t. fits_some parts.now (drop from (map whole_row rows.now)) t) (found_in (is_some result) free values.new) }
+{
+    let n = parts.len() - 1;
+    let lead = &parts[..n];
+    let last = parts[n];
+    let mut k = from;
+    while k < rows.len() {
+        let row = &rows[k];
+        if put_place(lead, last, free, row, values) {
+            return Some(k + 1);
+        }
+        if order_of_front(lead, &[], row.args.as_slice()).is_lt() {
+            return None;
+        }
+        k += 1;
+    }
+    None
+}

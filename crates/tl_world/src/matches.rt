@@ -1,0 +1,116 @@
+// The tuples that make a pattern true in a world, one after another.
+ghost use Rattle.std.specs.Option.{option_map};
+ghost use Rattle.std.specs.Prelude.{◌≡◌, ◌&&◌, true, false, IfSome};
+ghost use Rattle.tl_world.specs.Least.{IsLeast, above, match_in_place};
+ghost use Rattle.tl_world.specs.Next.{IsNext};
+ghost use Rattle.tl_world.specs.Patterns.{IsLawful, makes_true, is_true_of, filled, parts_of, tuple_of, tuple_in_place};
+
+use crate::next::{put_next, put_next_in_places};
+use crate::{Match, Pattern, World};
+use tl_syntax::Value;
+
+impl World {
+    /// The least tuple of values, in lexicographic value order, that makes the pattern true and comes after `after`, where that is given: None exactly where there is none.
+    /// It takes no memory. `put_next_match` gives the same tuples, and finds each at once where the caller keeps its place.
+    pub fn next_match(&self, pattern: &Pattern, after: Option<Match>) -> Option<Match>
+        requires pattern { IsLawful pattern.now }
+        requires after { IfSome after (λ m. m.len ≡ pattern.now.free) }
+        ensures next { IsNext pattern.now.free (makes_true self.now pattern.now) (option_map tuple_of after) (option_map tuple_of result) }
+        ensures len { IfSome result (λ m. m.len ≡ pattern.now.free) }
+    {
+        match after {
+            Some(tuple) => self.match_after(pattern, true, tuple),
+            None => self.match_after(
+                pattern,
+                false,
+                Match {
+                    values: [Value::Sym(0); 9],
+                    len: 0,
+                },
+            ),
+        }
+    }
+
+    /// The next tuple, where one is in place or none is.
+    fn match_after(&self, pattern: &Pattern, begun: bool, tuple: Match) -> Option<Match>
+        requires pattern { IsLawful pattern.now }
+        requires before { begun ≡ true → tuple.len ≡ pattern.now.free }
+        ensures next { IsNext pattern.now.free (makes_true self.now pattern.now) (tuple_in_place begun tuple) (option_map tuple_of result) }
+        ensures len { IfSome result (λ m. m.len ≡ pattern.now.free) }
+    {
+        let mut next = tuple;
+        let mut near = 0;
+        if self.put_next_match(pattern, begun, &mut next, &mut near) {
+            Some(next)
+        } else {
+            None
+        }
+    }
+
+    /// Puts the next tuple of values that makes the pattern true in place: the least one, in lexicographic value order, or, where one is in place (`begun`), the least after that one. False exactly where there is none.
+    /// It takes no memory. Where the answer is false, the values that are left in place mean nothing.
+    ///
+    /// `near` is a guess for the place in the table at which the search begins, and the call leaves the place after the row that it found. It is only a help: any number gives the same answer.
+    ///
+    /// It looks at one table. Where the variables first stand in the order of their numbers, the rows are looked at from the guess on, or, where this is wrong, from a place that is found by halves, up to the first that the pattern fits.
+    /// Where they do not, all rows with the same fixed leading values are looked at, up to the first whose leading values exceed those of the best tuple so far.
+    pub fn put_next_match(
+        &self,
+        pattern: &Pattern,
+        begun: bool,
+        tuple: &mut Match,
+        near: &mut usize,
+    ) -> bool
+        requires pattern { IsLawful pattern.now }
+        requires before { begun ≡ true → tuple.old.len ≡ pattern.now.free }
+        ensures next { IsNext pattern.now.free (makes_true self.now pattern.now) (tuple_in_place begun tuple.old) (tuple_in_place result tuple.new) }
+        ensures len { result ≡ true → tuple.new.len ≡ pattern.now.free }
+    {
+        if pattern.place {
+            self.put_next_place(pattern, begun, tuple, near)
+        } else {
+            self.put_next_fact(pattern, begun, tuple, near)
+        }
+    }
+
+    /// Puts the least tuple after that in place that makes the pattern a fact in place.
+    fn put_next_fact(
+        &self,
+        pattern: &Pattern,
+        begun: bool,
+        tuple: &mut Match,
+        near: &mut usize,
+    ) -> bool
+        requires pattern { IsLawful pattern.now }
+        ensures { IsLeast pattern.now.free (λ t. is_true_of self.now false pattern.now.name (filled (parts_of pattern.now) t) && above (match_in_place begun tuple.old) pattern.now.free t) (match_in_place result tuple.new) }
+    {
+        match self.rows(pattern.name) {
+            Some(rows) => {
+                let parts = &pattern.parts[..pattern.len as usize];
+                put_next(rows, parts, pattern.free, begun, tuple, near)
+            }
+            None => false,
+        }
+    }
+
+    /// Puts the least tuple after that in place that makes the pattern a place with its value in place.
+    fn put_next_place(
+        &self,
+        pattern: &Pattern,
+        begun: bool,
+        tuple: &mut Match,
+        near: &mut usize,
+    ) -> bool
+        requires pattern { IsLawful pattern.now }
+        requires place { pattern.now.place ≡ true }
+        ensures { IsLeast pattern.now.free (λ t. is_true_of self.now true pattern.now.name (filled (parts_of pattern.now) t) && above (match_in_place begun tuple.old) pattern.now.free t) (match_in_place result tuple.new) }
+    {
+        match self.places(pattern.name) {
+            Some(rows) => {
+                let parts = &pattern.parts[..pattern.len as usize];
+                put_next_in_places(rows.as_slice(), parts, pattern.free, begun, tuple, near)
+            }
+            None => false,
+        }
+    }
+}
