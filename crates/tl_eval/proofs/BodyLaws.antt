@@ -151,6 +151,31 @@ at_definition q n k i count level items d s h r l =
 pub inside : (q : Problem) (n i count : ℕ) (items : List Definition) → items ≡ q.domain.definitions → Takes (with_definitions_below (n + 1) (signature_of q.domain)).definitions i count → i < length items
 inside q n i count items s h = let known = named q.domain.definitions n i count h in let size = ap (λ (xs : List Definition). length xs) s in let within = known.within in omega arith
 
+-- what is known of an atom's definition, once it is read at a level above 0 of its own
+pub record AtOwnLevel (q : Problem) (n k i count l slots : ℕ) : Type 0 where
+  pub takes : Takes (signature_of q.domain).definitions i count
+  pub rank : rank (plain_problem q) i l ≤ rank (plain_problem q) n k
+  pub room : HasRoom (plain_problem q) i l slots
+
+pub at_own_level : (q : Problem) (n k i count l slots : ℕ) (d : Definition) → AtDefinition q n k i count l d → Takes (with_definitions_below (n + 1) (signature_of q.domain)).definitions i count → 0 < l → HasRoom (plain_problem q) n k slots → AtOwnLevel q n k i count l slots
+unfolding rank
+at_own_level q n k i count l slots d at h above room =
+    let arities : List ℕ = map (λ (x : Definition). length x.params) q.domain.definitions in
+    let below : i < n + 1 = let b = at.below in omega arith in
+    let falls = rank-falls (plain_problem q) n k i (l - 1) (plain_definition d) at.there at.below (at.level ∙ (let e : l ≡ suc (l - 1) = omega arith in e)) in
+    let less : rank (plain_problem q) i l ≤ rank (plain_problem q) n k = omega arith in
+    record {
+      takes = sym (get-take (n + 1) i arities below) ∙ h;
+      rank = less;
+      room = omega arith;
+    }
+
+-- and of the definition that is read at that level
+pub at_own : (q : Problem) (l i count : ℕ) (items : List Definition) (d : Definition) → items ≡ q.domain.definitions → Takes (signature_of q.domain).definitions i count → d ≡ get_or items i d → AtDefinition q i l i count l d
+at_own q l i count items d s h r =
+    let arities : List ℕ = map (λ (x : Definition). length x.params) q.domain.definitions in
+    at_definition q i l i count l items d s (get-take (i + 1) i arities (omega arith) ∙ h) r (sym (ap (λ (b : Bool). cond b l d.levels) (eq-eqb i i refl)))
+
 -- ---- outside of definitions
 
 levels-plain : (ds : List Definition) → sum_by (λ x. x.levels) (map plain_definition ds) ≡ sum_by (λ x. x.levels) ds

@@ -1,5 +1,5 @@
 -- The parts of a formula that fits: they fit, and are smaller.
-use Rattle.std.proofs.Common.{◌≡◌, ◌≤◌, ◌<◌, ◌+◌, ℕ, zero, suc, List, [], ◌∷◌, ◌++◌, map, take, Some, length, get_or, Bool, true, false, Box, Global, sym, ap, ◌∙◌, subst, arith}
+use Rattle.std.proofs.Common.{◌≡◌, ◌≤◌, ◌<◌, ◌+◌, ℕ, zero, suc, List, [], ◌∷◌, ◌++◌, map, take, Some, length, get_or, Box, Global, sym, ap, ◌∙◌, subst, arith}
 use Rattle.tl_eval.specs.Small.{HasFewArguments, HaveFewArguments}
 use Rattle.tl_eval.specs.StateTruth.{FitsAt}
 use Rattle.tl_eval.proofs.ArityLaws.{AreFew, term-few, terms-few}
@@ -77,11 +77,11 @@ pub record Entered (g : Signature) (n : ℕ) (whole : Formula) (part : FormulaTr
   pub fits : FitsAt g n part
   pub smaller : size < formula_nodes (tree_of_formula whole)
 
-pub part-Defined : (g : Signature) (n : ℕ) (f : Formula) (p : ℕ) (ts : Terms) → f ≡ formula.Defined p ts → FitsAt g n (tree_of_formula f) → Entered g n f (defined p (tree_of_terms ts)) 1
+pub part-Defined : (g : Signature) (n : ℕ) (f : Formula) (p : ℕ) (ts : Terms) → f ≡ formula.Defined p ts → FitsAt g n (tree_of_formula f) → Entered g n f (defined p (tree_of_terms ts)) 2
 unfolding formula_nodes
 part-Defined g n f p ts q h =
     let same : tree_of_formula f ≡ defined p (tree_of_terms ts) = ap tree_of_formula q ∙ tree-Defined p ts in
-    let nodes : formula_nodes (tree_of_formula f) ≡ 2 = ap formula_nodes same in
+    let nodes : formula_nodes (tree_of_formula f) ≡ 3 = ap formula_nodes same in
     record { fits = subst (FitsAt g n) same h; smaller = omega arith }
 
 pub part-Not : (g : Signature) (n : ℕ) (f : Formula) (x : Box Formula Global) → f ≡ formula.Not x → FitsAt g n (tree_of_formula f) → Entered g n f (tree_of_formula x.value) (formula_nodes (tree_of_formula x.value))

@@ -10,7 +10,7 @@ unfoldable mutual
   formula_nodes verum = 1
   formula_nodes falsum = 1
   formula_nodes (atom p ts) = 1
-  formula_nodes (defined p ts) = 2
+  formula_nodes (defined p ts) = 3
   formula_nodes (compare c x y) = 1
   formula_nodes (goal_fact p xs) = 1
   formula_nodes (goal_place f xs x) = 1
@@ -49,4 +49,11 @@ unfolding weight
 body-lighter p n k i j l h m =
     let q : suc (rank p i j) * past_bodies p ≤ rank p n k * past_bodies p = mul-le-mul_right (past_bodies p) h in
     let r : suc (rank p i j) * past_bodies p ≡ rank p i j * past_bodies p + past_bodies p = omega arith in
+    omega arith
+
+-- a definition at a level of no higher rank is lighter than an atom of it
+pub level-lighter : (p : PlainProblem) (n k i l : ℕ) → rank p i l ≤ rank p n k → weight p i l 0 < weight p n k 1
+unfolding weight
+level-lighter p n k i l h =
+    let q : rank p i l * past_bodies p ≤ rank p n k * past_bodies p = mul-le-mul_right (past_bodies p) h in
     omega arith

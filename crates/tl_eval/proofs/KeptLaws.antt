@@ -1,8 +1,8 @@
 -- Slots that are kept and given back, and frames that are the same.
 use Rattle.std.proofs.Common.{◌≡◌, ◌<◌, ◌≤◌, ℕ, zero, suc, List, [], ◌∷◌, map, take, drop, length, get_or, cond, ◌==◌, true, false, Option, refl, sym, ap, ◌∙◌, drop-cons, eqb-true, arith}
 use mathlib.Core.Path.{fun_ext}
-use Rattle.std.specs.Prelude.{slice_get, slice_set}
-use Rattle.tl_eval.specs.Frames.{slot_value, assignment_in, given_back}
+use Rattle.std.specs.Prelude.{slice_set}
+use Rattle.tl_eval.specs.Frames.{assignment_in, given_back}
 use Rattle.tl_eval.proofs.BindLaws.{Outside, bind-outside}
 use Rattle.tl_eval.proofs.FrameLaws.{assignment-set}
 use Rattle.tl_eval.proofs.ReadingLaws.{take-past}

@@ -14,9 +14,11 @@ pub mod FormulaSizes
 pub mod FormulaParts
 pub mod DecidedLaws
 pub mod BodyLaws
+pub mod BoundLaws
 pub mod StateLaws
 pub mod TupleRest
 pub mod BindLaws
 pub mod KeptLaws
-pub mod PutLaws
 pub mod WholeLaws
+pub mod MemoryLaws
+pub mod RememberedLaws

@@ -199,6 +199,23 @@ module _ (p : PlainProblem) (w : World) where
             ∙ ap₂ (λ (ts : Tests) (ls : Looks). looked_in_state (looked_table ls) (situation_under p w ts) (bind d.params vs no_values) d.body) tests looks);
       }
 
+  -- an atom of definition i means and looks at the same wherever it is read at one level
+  pub record AtLevel (n k i l : ℕ) (vs : List Value) : Type 0 where
+    pub truth : (situation_read p w n k).table i vs ≡ (situation_read p w i l).table i vs
+    pub looked : looked_read p w n k i vs ≡ looked_read p w i l i vs
+
+  pub read-at : (n k i l : ℕ) (d : PlainDefinition) (vs : List Value) → slice_get p.definitions i ≡ Some d → i ≤ n → read_level n k i d.levels ≡ l → AtLevel n k i l vs
+  read-at n k i l d vs e h z =
+      let own : read_level n k i d.levels ≡ read_level i l i d.levels = z ∙ sym (ap (λ (b : Bool). cond b l d.levels) (eq-eqb i i refl)) in
+      record {
+        truth = ap (λ (o : Option (List Value → Bool)). asked o vs) (tests-read-at n k i d e h)
+            ∙ (ap (λ (m : ℕ). true_at_level p w (tests_before p w i) d m vs) own
+            ∙ sym (ap (λ (o : Option (List Value → Bool)). asked o vs) (tests-read-at i l i d e (omega arith))));
+        looked = ap (λ (o : Option (List Value → List Operation)). looks_asked o vs) (looks-read-at n k i d e h)
+            ∙ (ap (λ (m : ℕ). looked_at_level p w (tests_before p w i) (looks_before p w i) d m vs) own
+            ∙ sym (ap (λ (o : Option (List Value → List Operation)). looks_asked o vs) (looks-read-at i l i d e (omega arith))));
+      }
+
   -- ---- outside of definitions all are read whole
 
   pub tests-whole : (n k : ℕ) → length p.definitions ≤ n → tests_of p w ≡ tests_read p w n k

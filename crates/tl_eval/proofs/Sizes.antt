@@ -6,7 +6,7 @@ unfoldable mutual
   pub term_nodes : TermTree → ℕ
   term_nodes (variable s) = 1
   term_nodes (value v) = 1
-  term_nodes (place f ts) = 1 + terms_nodes ts
+  term_nodes (place f ts) = 2 + terms_nodes ts
   term_nodes (arith op s t at) = 1 + (term_nodes s + term_nodes t)
 
   pub terms_nodes : TermTrees → ℕ

@@ -1,8 +1,8 @@
 -- What a term evaluates to, by what its parts evaluate to.
-use Rattle.std.proofs.Common.{◌≡◌, ◌≤◌, ◌<◌, ◌+◌, ℕ, ℤ, zero, suc, List, [], ◌∷◌, ◌++◌, map, drop, length, get_or, Option, Some, None, Result, Ok, Err, Box, Global, refl, sym, ap, ◌∙◌, subst, inl, inr, append_assoc, append-nil, drop-cons, add-one}
+use Rattle.std.proofs.Common.{◌≡◌, ◌≤◌, ◌<◌, ◌+◌, ℕ, ℤ, zero, suc, List, [], ◌∷◌, ◌++◌, map, drop, length, get_or, Bool, Option, Some, None, Result, Ok, Err, Box, Global, refl, sym, ap, ◌∙◌, subst, inl, inr, append_assoc, append-nil, drop-cons, add-one}
 use Rattle.std.proofs.Common.{arith as numbers}
 use Rattle.std.specs.Prelude.{is_some}
-use Rattle.tl_eval.specs.Notes.{AreInRange, Tells, Evaluates, operation_of, prefixed, integer_found, Carries}
+use Rattle.tl_eval.specs.Notes.{AreInRange, Tells, Evaluates, operation_of, prefixed, row_found, integer_found, Carries}
 use Rattle.tl_eval.specs.Operates.{done, Operates}
 use Rattle.tl_eval.specs.Small.{HasFewArguments, HaveFewArguments}
 use Rattle.tl_eval.proofs.Sizes.{term_nodes, terms_nodes}
@@ -23,7 +23,7 @@ use Rattle.tl_syntax.proofs.TermTrees.{tree-Var, tree-Val, tree-Place, tree-Arit
 use Rattle.tl_terms.specs.Looked.{is_integer, operation_on, followed_if, looked_in_term, looked_in_terms}
 use Rattle.tl_terms.specs.Operations.{Operation, IsPastRange}
 use Rattle.tl_terms.specs.Terms.{apply_op, prepend, place_value, term_value, term_values}
-use Rattle.tl_terms.specs.World.{World, value_at}
+use Rattle.tl_terms.specs.World.{World}
 
 -- ---- operations in two lists
 
@@ -48,14 +48,14 @@ by_tree w e t u r q h = subst (λ (x : TermTree). Evaluates (term_value w e x) (
 pub record Parts (t : TermTree) (ts : TermTrees) : Type 0 where
   pub few : term_count ts ≤ 8
   pub small : HaveFewArguments ts
-  pub smaller : terms_nodes ts < term_nodes t
+  pub smaller : 1 + terms_nodes ts < term_nodes t
 
 pub few-Place : (t : Term) (f : ℕ) (ts : Terms) → t ≡ term.Place f ts → HasFewArguments (tree_of_term t) → Parts (tree_of_term t) (tree_of_terms ts)
 unfolding HasFewArguments term_nodes
 few-Place t f ts q h =
     let same : tree_of_term t ≡ place f (tree_of_terms ts) = ap tree_of_term q ∙ tree-Place f ts in
     let small : HasFewArguments (place f (tree_of_terms ts)) = subst HasFewArguments same h in
-    let nodes : term_nodes (tree_of_term t) ≡ 1 + terms_nodes (tree_of_terms ts) = ap term_nodes same in
+    let nodes : term_nodes (tree_of_term t) ≡ 2 + terms_nodes (tree_of_terms ts) = ap term_nodes same in
     record { few = small.0; small = small.1; smaller = omega numbers }
 
 -- the operands of an operation have few arguments and are smaller
@@ -92,25 +92,14 @@ pub at-Val : (w : World) (e : Assignment) (t : Term) (v : Value) → t ≡ term.
 unfolding term_value looked_in_term
 at-Val w e t v q = by_tree w e t (value v) (Ok (Some v)) (ap tree_of_term q ∙ tree-Val v) (refl, tt)
 
-pub at-Place : (w : World) (e : Assignment) (t : Term) (f : ℕ) (ts : Terms) (o : Option (List Value)) (row xs : List Value) (v : Option Value) → t ≡ term.Place f ts
-    → Evaluates (term_values w e (tree_of_terms ts)) (looked_in_terms w e (tree_of_terms ts)) (Ok o) → o ≡ Some row → xs ≡ row → v ≡ value_at w (f, xs)
-    → Evaluates (term_value w e (tree_of_term t)) (looked_in_term w e (tree_of_term t)) (Ok v)
+pub at-Place : (w : World) (e : Assignment) (t : Term) (f : ℕ) (ts : Terms) (r : Result (Option Value) RangeNote) → t ≡ term.Place f ts
+    → Evaluates (place_value w f (term_values w e (tree_of_terms ts))) (looked_in_terms w e (tree_of_terms ts)) r → Evaluates (term_value w e (tree_of_term t)) (looked_in_term w e (tree_of_term t)) r
 unfolding term_value looked_in_term
-at-Place w e t f ts o row xs v q h k m n =
-    by_tree w e t (place f (tree_of_terms ts)) (Ok v) (ap tree_of_term q ∙ tree-Place f ts)
-    (n ∙ (ap (λ (ys : List Value). value_at w (f, ys)) m ∙ ap (place_value w f) (sym k ∙ h.0)), h.1)
+at-Place w e t f ts r q h = by_tree w e t (place f (tree_of_terms ts)) r (ap tree_of_term q ∙ tree-Place f ts) h
 
-pub at-Place-None : (w : World) (e : Assignment) (t : Term) (f : ℕ) (ts : Terms) (o : Option (List Value)) → t ≡ term.Place f ts
-    → Evaluates (term_values w e (tree_of_terms ts)) (looked_in_terms w e (tree_of_terms ts)) (Ok o) → o ≡ None
-    → Evaluates (term_value w e (tree_of_term t)) (looked_in_term w e (tree_of_term t)) (Ok None)
-unfolding term_value looked_in_term
-at-Place-None w e t f ts o q h k =
-    by_tree w e t (place f (tree_of_terms ts)) (Ok None) (ap tree_of_term q ∙ tree-Place f ts) (ap (place_value w f) (sym k ∙ h.0), h.1)
-
-pub at-Place-Err : (w : World) (e : Assignment) (t : Term) (f : ℕ) (ts : Terms) (n : RangeNote) → t ≡ term.Place f ts
-    → Tells (looked_in_terms w e (tree_of_terms ts)) n → Evaluates (term_value w e (tree_of_term t)) (looked_in_term w e (tree_of_term t)) (Err n)
-unfolding term_value looked_in_term
-at-Place-Err w e t f ts n q h = by_tree w e t (place f (tree_of_terms ts)) (Err n) (ap tree_of_term q ∙ tree-Place f ts) h
+-- the values that were found, all or not
+pub all-found : (meant : Option (List Value)) (looked : List Operation) (row : List Value) (all b : Bool) → all ≡ b → Evaluates meant looked (row_found row (Ok all)) → Evaluates meant looked (row_found row (Ok b))
+all-found meant looked row all b q h = subst (λ (x : Bool). Evaluates meant looked (row_found row (Ok x))) q h
 
 -- ---- an operation, by the values m and n of its operands and what they look at
 

@@ -1,10 +1,8 @@
 -- A frame of variable values as an assignment.
-use Rattle.std.specs.Prelude.{◌==◌, List, [], ◌∷◌, map, cond, Option, Some, None, slice_get}
+use Rattle.std.specs.Prelude.{◌≡◌, ◌==◌, List, [], ◌∷◌, map, cond, Option, Some, None, slice_get, take, length}
 use Rattle.tl_syntax.specs.declared.value.Value.{Value}
-use Rattle.tl_syntax.specs.declared.variable.Arg.TheVariants as arg
 use Rattle.tl_syntax.specs.declared.variable.Var.{Var}
-use Rattle.tl_syntax.specs.Assignment.{Assignment}
-use Rattle.tl_terms.specs.Bounds.{arg_values}
+use Rattle.tl_syntax.specs.Assignment.{Assignment, bind}
 
 -- the value of a slot that is there
 abbrev pub slot_value : Option (Option Value) → Option Value
@@ -15,12 +13,17 @@ slot_value (Some v) = v
 abbrev pub assignment_in : List (Option Value) → Assignment
 assignment_in frame = λ q. slot_value (slice_get frame q)
 
--- the values of the variables, where each has one
-abbrev pub tuple_in : List Var → Assignment → Option (List Value)
-tuple_in ss e = arg_values e (map (λ s. arg.Var s) ss)
-
 -- the slots of the variables have these values or none, and the other slots what they have in e
 abbrev pub given_back : List Var → List (Option Value) → Assignment → Assignment
 given_back [] os e = e
 given_back (s ∷ ss) [] e = e
 given_back (s ∷ ss) (o ∷ os) e = λ q. cond (q == s.slot) o (given_back ss os e q)
+
+-- the two give each slot that is of none of the variables the same: they are the same once these have values
+abbrev pub AgreeElsewhere : List Var → Assignment → Assignment → Type 0
+AgreeElsewhere ss d e = (t : List Value) → bind ss t d ≡ bind ss t e
+
+-- the first values are what the slots of the variables have in the frame, which has 32 slots
+pub record AreKept (ss : List Var) (frame values : List (Option Value)) : Type 0 where
+  pub slots : length frame ≡ 32
+  pub same : take (length ss) values ≡ map (λ s. assignment_in frame s.slot) ss

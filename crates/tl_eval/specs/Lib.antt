@@ -4,6 +4,8 @@ pub mod Notes
 pub mod Operates
 pub mod Reading
 pub mod PatternOf
-pub mod PutNext
+pub mod Reader
 pub mod LawsTuples
+pub mod Remembered
+pub mod Memory
 pub mod StateTruth

@@ -1,5 +1,5 @@
 -- What an evaluation answers: the value of the definition, where no operation that is looked at is past range, and else one that is.
-use Rattle.std.specs.Prelude.{◌≡◌, ◌++◌, List, Option, Some, None, Result, Ok, Err, ℤ}
+use Rattle.std.specs.Prelude.{◌≡◌, ◌++◌, List, Bool, true, false, Option, Some, None, Result, Ok, Err, ℤ}
 use Rattle.tl_syntax.specs.declared.value.Value.{Value}
 use Rattle.tl_syntax.specs.declared.value.Value.TheVariants.{Int, Sym}
 use Rattle.tl_syntax.specs.Lists.{Each, Among}
@@ -27,6 +27,12 @@ Evaluates meant looked (Err note) = Tells looked note
 abbrev pub prefixed : List Value → Option (List Value) → Option (List Value)
 prefixed vs None = None
 prefixed vs (Some us) = Some (vs ++ us)
+
+-- the values of the row, where all were found
+abbrev pub row_found : List Value → Result Bool RangeNote → Result (Option (List Value)) RangeNote
+row_found vs (Ok true) = Ok (Some vs)
+row_found vs (Ok false) = Ok None
+row_found vs (Err note) = Err note
 
 -- the integer that was found, where there is one
 abbrev pub integer_found : Result (Option Value) RangeNote → Result (Option ℤ) RangeNote

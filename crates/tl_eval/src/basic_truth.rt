@@ -12,7 +12,7 @@ ghost use Rattle.tl_terms.specs.Truth.{compared};
 
 use crate::RangeNote;
 use crate::row::Row;
-use crate::term_value::{value_in, value_of_term, values_of_terms};
+use crate::term_value::{put_values_of_terms, value_in, value_of_term};
 use tl_syntax::{Arg, Cmp, Term, Terms, Value};
 use tl_world::World;
 
@@ -94,9 +94,15 @@ pub(crate) fn atom_true(
     requires few { term_count (tree_of_terms args.now) ≤ 8 }
     ensures { Evaluates (fact_in w.now pred (term_values w.now (assignment_in frame.now) (tree_of_terms args.now))) (looked_in_terms w.now (assignment_in frame.now) (tree_of_terms args.now)) result }
 {
-    match values_of_terms(w, frame, args) {
-        Ok(Some(row)) => Ok(w.holds(pred, row.as_slice())),
-        Ok(None) => Ok(false),
+    let mut row = Row::new();
+    match put_values_of_terms(w, frame, args, &mut row) {
+        Ok(all) => {
+            if all {
+                Ok(w.holds(pred, row.as_slice()))
+            } else {
+                Ok(false)
+            }
+        }
         Err(note) => Err(note),
     }
 }

@@ -1,9 +1,12 @@
 // Values of variables, scope by scope.
-ghost use Rattle.std.specs.Prelude.{◌≡◌, ◌<◌, ◌==◌, ℕ, cond, length, IfOk, Some, None, slice_set};
-ghost use Rattle.tl_eval.specs.Frames.{assignment_in};
+ghost use Rattle.std.specs.Prelude.{◌≡◌, ◌<◌, ◌≤◌, ◌==◌, ℕ, List, Option, cond, length, IfOk, Some, None, slice_set};
+ghost use Rattle.tl_eval.specs.Frames.{assignment_in, given_back, AgreeElsewhere, AreKept};
 ghost use Rattle.tl_syntax.specs.Assignment.{bind};
 ghost use Rattle.tl_syntax.specs.Lists.{Each};
+ghost use Rattle.tl_syntax.specs.declared.value.Value.{Value as OneValue};
 
+use crate::kept::{give_back, keep};
+use crate::memory::{Memory, TRIES};
 use crate::scope::{put_in_scope, restore, saved};
 use std::alloc::Global;
 use std::marker::Model;
@@ -15,11 +18,18 @@ pub(crate) const SLOTS: usize = 32;
 /// How many frames there are: one of the caller, and one for each level of a definition.
 pub(crate) const FRAMES: usize = 129;
 
+/// How many places there are for truths of definitions, some 290 KiB.
+const PLACES: usize = 2047 + TRIES;
+
+/// How many there are in a copy, some 36 KiB.
+const FEW_PLACES: usize = 255 + TRIES;
+
 /// Frames of variable values. A frame holds the variables of one scope, by their slots; the body of a definition has a frame of its own.
-/// Contracts see the caller's frame: for each of its 32 slots the value, where it has one.
+/// Contracts see the caller's frame: for each of its 32 slots the value, where it has one. Beside the frames stands what one call of `state` remembers of definitions.
 #[derive(Drop)]
 pub struct Env {
     pub(crate) values: Vec<Option<Value>>,
+    pub(crate) memory: Memory,
 }
 
 impl Model for Env {
@@ -38,13 +48,14 @@ impl Model for Env {
 }
 
 impl Env {
-    /// All frames, with no value in any slot. They are reserved once, and no evaluation takes memory.
+    /// All frames, with no value in any slot. They are reserved once, some 390 KiB in all, and no evaluation takes memory.
     pub fn new(alloc: Global) -> Result<Env, NoMemory>
         ensures slots { IfOk result (λ env. length env ≡ 32) }
         ensures empty { IfOk result (λ env. (q : ℕ) → assignment_in env q ≡ None) }
     {
         let values = vec![in alloc; None; FRAMES * SLOTS]?;
-        Ok(Env { values })
+        let memory = Memory::new(alloc, PLACES)?;
+        Ok(Env { values, memory })
     }
 
     /// Gives a slot of the caller's frame a value. It takes no memory.
@@ -61,19 +72,45 @@ impl Env {
         requires slots { Each (λ s. s.slot < 32) vars.now }
         requires same { length vars.now ≡ length values.now }
         ensures values { assignment_in self.new ≡ bind vars.now values.now (assignment_in self.old) }
+        ensures elsewhere { AgreeElsewhere vars.now (assignment_in self.new) (assignment_in self.old) }
         ensures slots { length self.new ≡ length self.old }
     {
         put_in_scope(self.values.as_mut_slice(), vars, values);
     }
 
-    /// New frames of which the caller's has the same values. It fails for want of memory alone.
+    /// What the slots of the variables have in the caller's frame, in the variables' order, before others that do not count. It takes no memory.
+    ///
+    /// `give_back` takes it, once the variables had other values.
+    pub fn kept(&self, vars: &[Var]) -> [Option<Value>; 9]
+        requires few { length vars.now ≤ 9 }
+        ensures { AreKept vars.now self.now result }
+    {
+        let mut values = [None; 9];
+        keep(self.values.as_slice(), vars, &mut values);
+        values
+    }
+
+    /// Gives the slots of the variables these values in the caller's frame, in the variables' order. It takes no memory.
+    ///
+    /// Where they are what was kept of a frame, and only these variables were given other values since, the frame is as it was.
+    pub fn give_back(&mut self, vars: &[Var], values: &[Option<Value>; 9])
+        requires slots { Each (λ s. s.slot < 32) vars.now }
+        requires few { length vars.now ≤ 9 }
+        ensures values { assignment_in self.new ≡ given_back vars.now values.now (assignment_in self.old) }
+        ensures frame { (frame : List (Option OneValue)) → AreKept vars.now frame values.now → AgreeElsewhere vars.now (assignment_in self.old) (assignment_in frame) → self.new ≡ frame }
+    {
+        give_back(self.values.as_mut_slice(), vars, values);
+    }
+
+    /// New frames of which the caller's has the same values, with less room to remember, some 140 KiB in all. It fails for want of memory alone.
     pub fn copy(&self, alloc: Global) -> Result<Env, NoMemory>
         ensures { IfOk result (λ copy. copy ≡ self.now) }
     {
         let mut values = vec![in alloc; None; FRAMES * SLOTS]?;
         let frame = saved(self.values.as_slice());
         restore(values.as_mut_slice(), &frame);
-        Ok(Env { values })
+        let memory = Memory::new(alloc, FEW_PLACES)?;
+        Ok(Env { values, memory })
     }
 
     /// The values of the caller's frame, to be put back later. It takes no memory.

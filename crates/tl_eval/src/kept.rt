@@ -8,18 +8,16 @@ use crate::scope::current;
 use crate::term_value::value_in;
 use tl_syntax::{Value, Var};
 
-/// What the slots of the variables have in the first frame, in the variables' order, before others that do not count. It takes no memory.
-pub(crate) fn kept(frames: &[Option<Value>], vars: &[Var]) -> [Option<Value>; 9]
+/// Puts what the slots of the variables have in the first frame into the first places of `values`, in the variables' order. It takes no memory.
+pub(crate) fn keep(frames: &[Option<Value>], vars: &[Var], values: &mut [Option<Value>; 9])
     requires room { 32 ≤ length frames.now }
     requires few { length vars.now ≤ 9 }
-    ensures { take (length vars.now) result ≡ map (λ s. assignment_in (take 32 frames.now) s.slot) vars.now }
+    ensures { take (length vars.now) values.new ≡ map (λ s. assignment_in (take 32 frames.now) s.slot) vars.now }
 {
     let frame = current(frames);
-    let mut values = [None; 9];
     for (i, var) in vars.iter().enumerate() {
         values[i] = value_in(frame, var.slot);
     }
-    values
 }
 
 /// Gives the slots of the variables these values in a frame, in the variables' order. It takes no memory.

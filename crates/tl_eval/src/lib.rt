@@ -1,12 +1,14 @@
 //! The values of terms and the truth of state formulas in a world.
 //!
 //! - `basic_truth`: the truth of formulas that have no formula below them.
+//! - `bound_truth`: the truth of bounds.
 //! - `env`: frames of variable values.
 //! - `kept`: the values of a quantifier's own slots, kept while its tuples stand there.
 //! - `laws`: what is proved of the tuples of bounds.
+//! - `memory`: the truths of definitions that a call remembers.
 //! - `pattern_of`: the pattern of a bound.
-//! - `put_next`: the tuples of a bound, put in place one after another.
 //! - `range`: operations in 64 bits, and the note of one that is past range.
+//! - `reader`: the tuples of a bound, one after another.
 //! - `reading`: where a formula is read.
 //! - `row`: a few values, kept without memory.
 //! - `scope`: the frames of scopes.
@@ -16,12 +18,14 @@
 #![tactic(auto)]
 
 mod basic_truth;
+mod bound_truth;
 mod env;
 mod kept;
 pub mod laws;
+mod memory;
 mod pattern_of;
-mod put_next;
 mod range;
+mod reader;
 mod reading;
 mod row;
 mod scope;
@@ -29,8 +33,10 @@ mod state_truth;
 mod term_value;
 mod tuples;
 
+pub use bound_truth::bound_holds;
 pub use env::Env;
 pub use range::RangeNote;
+pub use reader::TupleReader;
 pub use state_truth::state;
 pub use term_value::term;
 pub use tuples::next_tuple;

@@ -1,10 +1,10 @@
 // The truth of state formulas.
-ghost use Rattle.std.specs.Prelude.{◌≡◌, ◌+◌, ◌≤◌, List, length, take, IfOk, IfErr, []};
-ghost use Rattle.tl_eval.specs.Frames.{assignment_in};
+ghost use Rattle.std.specs.Prelude.{◌≡◌, ◌+◌, ◌≤◌, ◌<◌, length, take, IfOk, IfErr, []};
+ghost use Rattle.tl_eval.specs.Frames.{assignment_in, AgreeElsewhere};
 ghost use Rattle.tl_eval.specs.Notes.{Evaluates, AreInRange, Tells};
 ghost use Rattle.tl_eval.specs.Reading.{situation_read, looked_read};
+ghost use Rattle.tl_eval.specs.Remembered.{AreTruths};
 ghost use Rattle.tl_eval.specs.StateTruth.{IsTruth, FitsAt, HasRoom};
-ghost use Rattle.tl_syntax.specs.Assignment.{bind};
 ghost use Rattle.tl_syntax.specs.Fits.{Fits};
 ghost use Rattle.tl_syntax.specs.Junctions.{joined, quantified};
 ghost use Rattle.tl_syntax.specs.Signature.{signature_of, with_definitions_below, Takes};
@@ -12,7 +12,6 @@ ghost use Rattle.tl_syntax.specs.StateFormulas.{IsState};
 ghost use Rattle.tl_syntax.specs.Trees.{defined};
 ghost use Rattle.tl_syntax.specs.TreeOfFormula.{tree_of_formula, tree_of_formulas};
 ghost use Rattle.tl_syntax.specs.TreeOfTerm.{tree_of_terms};
-ghost use Rattle.tl_syntax.specs.declared.value.Value.{Value as OneValue};
 ghost use Rattle.tl_terms.specs.Definitions.{situation_of};
 ghost use Rattle.tl_terms.specs.Looked.{looked_in_state, looks_of};
 ghost use Rattle.tl_terms.specs.ProblemMeaning.{plain_problem};
@@ -20,12 +19,13 @@ ghost use Rattle.tl_terms.specs.Truth.{state_true};
 
 use crate::basic_truth::{atom_true, compare_true, fact_true, place_true};
 use crate::env::SLOTS;
-use crate::kept::{give_back, kept};
-use crate::put_next::put_next;
+use crate::kept::{give_back, keep};
+use crate::memory::{Memory, hash_of};
 use crate::reading::Reading;
-use crate::scope::{current, open_scope};
-use crate::term_value::values_of_terms;
-use crate::{Env, RangeNote};
+use crate::row::Row;
+use crate::scope::{current, open_scope, put_in_scope};
+use crate::term_value::put_values_of_terms;
+use crate::{Env, RangeNote, TupleReader};
 use tl_syntax::{Bound, Formula, Formulas, Junction, Terms, Value, Var};
 use tl_world::{Task, World};
 
@@ -35,19 +35,24 @@ fn truth_of(
     task: &Task,
     w: &World,
     frames: &mut [Option<Value>],
+    memory: &mut Memory,
     reading: Reading,
     f: &Formula,
 ) -> Result<bool, RangeNote>
     requires fits { FitsAt (signature_of task.now.problem.domain) reading.number (tree_of_formula f.now) }
     requires room { HasRoom (plain_problem task.now.problem) reading.number reading.level (length frames.old) }
+    requires truths { AreTruths (plain_problem task.now.problem) w.now memory.old }
     ensures truth { IsTruth (plain_problem task.now.problem) w.now reading.number reading.level (assignment_in (take 32 frames.old)) (tree_of_formula f.now) result }
     ensures frame { take 32 frames.new ≡ take 32 frames.old }
+    ensures truths { AreTruths (plain_problem task.now.problem) w.now memory.new }
 {
     match f {
         Formula::True => Ok(true),
         Formula::False => Ok(false),
         Formula::Atom(pred, args) => atom_true(w, current(frames), *pred, args),
-        Formula::Defined(number, args) => defined_true(task, w, frames, reading, *number, args),
+        Formula::Defined(number, args) => defined_true(
+            task, w, frames, memory, reading, *number, args,
+        ),
         Formula::Compare(cmp, left, right) => compare_true(w, current(frames), *cmp, left, right),
         Formula::GoalFact(pred, args) => Ok(fact_true(
             &task.goal,
@@ -68,16 +73,17 @@ fn truth_of(
             *pred,
             args.as_slice(),
         )),
-        Formula::Not(part) => match truth_of(task, w, frames, reading, part) {
+        Formula::Not(part) => match truth_of(task, w, frames, memory, reading, part) {
             Ok(truth) => Ok(!truth),
             Err(note) => Err(note),
         },
-        Formula::And(parts) => parts_true(task, w, frames, reading, Junction::All, parts),
-        Formula::Or(parts) => parts_true(task, w, frames, reading, Junction::Any, parts),
+        Formula::And(parts) => parts_true(task, w, frames, memory, reading, Junction::All, parts),
+        Formula::Or(parts) => parts_true(task, w, frames, memory, reading, Junction::Any, parts),
         Formula::ForAll(vars, bound, part) => quantified_true(
             task,
             w,
             frames,
+            memory,
             reading,
             Junction::All,
             vars.as_slice(),
@@ -88,6 +94,7 @@ fn truth_of(
             task,
             w,
             frames,
+            memory,
             reading,
             Junction::Any,
             vars.as_slice(),
@@ -110,18 +117,21 @@ fn parts_true(
     task: &Task,
     w: &World,
     frames: &mut [Option<Value>],
+    memory: &mut Memory,
     reading: Reading,
     junction: Junction,
     parts: &Formulas,
 ) -> Result<bool, RangeNote>
     requires fits { FitsAt (signature_of task.now.problem.domain) reading.number (joined junction (tree_of_formulas parts.now)) }
     requires room { HasRoom (plain_problem task.now.problem) reading.number reading.level (length frames.old) }
+    requires truths { AreTruths (plain_problem task.now.problem) w.now memory.old }
     ensures truth { IsTruth (plain_problem task.now.problem) w.now reading.number reading.level (assignment_in (take 32 frames.old)) (joined junction (tree_of_formulas parts.now)) result }
     ensures frame { take 32 frames.new ≡ take 32 frames.old }
+    ensures truths { AreTruths (plain_problem task.now.problem) w.now memory.new }
 {
     let stop = junction.deciding_truth();
     for part in parts.as_slice().iter() {
-        match truth_of(task, w, frames, reading, part) {
+        match truth_of(task, w, frames, memory, reading, part) {
             Ok(truth) => {
                 if truth == stop {
                     return Ok(stop);
@@ -140,49 +150,94 @@ fn defined_true(
     task: &Task,
     w: &World,
     frames: &mut [Option<Value>],
+    memory: &mut Memory,
     reading: Reading,
     number: u32,
     args: &Terms,
 ) -> Result<bool, RangeNote>
     requires fits { FitsAt (signature_of task.now.problem.domain) reading.number (defined number (tree_of_terms args.now)) }
     requires room { HasRoom (plain_problem task.now.problem) reading.number reading.level (length frames.old) }
+    requires truths { AreTruths (plain_problem task.now.problem) w.now memory.old }
     ensures truth { IsTruth (plain_problem task.now.problem) w.now reading.number reading.level (assignment_in (take 32 frames.old)) (defined number (tree_of_terms args.now)) result }
     ensures frame { take 32 frames.new ≡ take 32 frames.old }
+    ensures truths { AreTruths (plain_problem task.now.problem) w.now memory.new }
 {
-    match values_of_terms(w, current(frames), args) {
-        Ok(Some(row)) => body_true(task, w, frames, reading, number, row.as_slice()),
-        Ok(None) => Ok(false),
+    let mut row = Row::new();
+    match put_values_of_terms(w, current(frames), args, &mut row) {
+        Ok(all) => {
+            if all {
+                body_true(task, w, frames, memory, reading, number, row.as_slice())
+            } else {
+                Ok(false)
+            }
+        }
         Err(note) => Err(note),
     }
 }
 
-/// Whether a definition holds of the values: its body is read one level lower, in the next frame. It takes no memory.
+/// Whether a definition holds of the values: as it is remembered, or else as its body says, which is remembered then. It takes no memory.
 #[cycle(truth_of)]
+#[inline(never)]
 fn body_true(
     task: &Task,
     w: &World,
     frames: &mut [Option<Value>],
+    memory: &mut Memory,
     reading: Reading,
     number: u32,
     values: &[Value],
 ) -> Result<bool, RangeNote>
     requires takes { Takes (with_definitions_below (reading.number + 1) (signature_of task.now.problem.domain)).definitions number (length values.now) }
     requires room { HasRoom (plain_problem task.now.problem) reading.number reading.level (length frames.old) }
+    requires truths { AreTruths (plain_problem task.now.problem) w.now memory.old }
     ensures truth { Evaluates ((situation_read (plain_problem task.now.problem) w.now reading.number reading.level).table number values.now) (looked_read (plain_problem task.now.problem) w.now reading.number reading.level number values.now) result }
     ensures frame { take 32 frames.new ≡ take 32 frames.old }
+    ensures truths { AreTruths (plain_problem task.now.problem) w.now memory.new }
 {
     let definition = &task.problem.domain.definitions.as_slice()[number as usize];
     let level = reading.level_of(number, definition.levels);
     if level == 0 {
         return Ok(false);
     }
+    let hash = hash_of(number, level, values);
+    if let Some(truth) = memory.find(hash, number, level, values) {
+        return Ok(truth);
+    }
+    match opened_true(task, w, frames, memory, Reading { number, level }, values) {
+        Ok(truth) => {
+            memory.put(hash, number, level, values, truth);
+            Ok(truth)
+        }
+        Err(note) => Err(note),
+    }
+}
+
+/// Whether the body of a definition, which is read at a level above 0, is true of the values: it is read one level lower, in the next frame. It takes no memory.
+#[cycle(truth_of)]
+fn opened_true(
+    task: &Task,
+    w: &World,
+    frames: &mut [Option<Value>],
+    memory: &mut Memory,
+    reading: Reading,
+    values: &[Value],
+) -> Result<bool, RangeNote>
+    requires takes { Takes (signature_of task.now.problem.domain).definitions reading.number (length values.now) }
+    requires level { 0 < reading.level }
+    requires room { HasRoom (plain_problem task.now.problem) reading.number reading.level (length frames.old) }
+    requires truths { AreTruths (plain_problem task.now.problem) w.now memory.old }
+    ensures truth { Evaluates ((situation_read (plain_problem task.now.problem) w.now reading.number reading.level).table reading.number values.now) (looked_read (plain_problem task.now.problem) w.now reading.number reading.level reading.number values.now) result }
+    ensures frame { take 32 frames.new ≡ take 32 frames.old }
+    ensures truths { AreTruths (plain_problem task.now.problem) w.now memory.new }
+{
+    let definition = &task.problem.domain.definitions.as_slice()[reading.number as usize];
     let below = Reading {
-        number,
-        level: level - 1,
+        number: reading.number,
+        level: reading.level - 1,
     };
     let inner = &mut frames[SLOTS..];
     open_scope(inner, definition.params.as_slice(), values);
-    truth_of(task, w, inner, below, &definition.body)
+    truth_of(task, w, inner, memory, below, &definition.body)
 }
 
 /// The truth of a universal or an existential formula. Its tuples stand in the first frame one after another, which gets the values of their slots back. It takes no memory.
@@ -192,6 +247,7 @@ fn quantified_true(
     task: &Task,
     w: &World,
     frames: &mut [Option<Value>],
+    memory: &mut Memory,
     reading: Reading,
     junction: Junction,
     vars: &[Var],
@@ -200,11 +256,16 @@ fn quantified_true(
 ) -> Result<bool, RangeNote>
     requires fits { FitsAt (signature_of task.now.problem.domain) reading.number (quantified junction vars.now bound.now (tree_of_formula part.now)) }
     requires room { HasRoom (plain_problem task.now.problem) reading.number reading.level (length frames.old) }
+    requires truths { AreTruths (plain_problem task.now.problem) w.now memory.old }
     ensures truth { IsTruth (plain_problem task.now.problem) w.now reading.number reading.level (assignment_in (take 32 frames.old)) (quantified junction vars.now bound.now (tree_of_formula part.now)) result }
     ensures frame { take 32 frames.new ≡ take 32 frames.old }
+    ensures truths { AreTruths (plain_problem task.now.problem) w.now memory.new }
 {
-    let outer = kept(frames, vars);
-    let truth = tuples_true(task, w, frames, reading, junction, vars, bound, part);
+    let mut outer = [None; 9];
+    keep(frames, vars, &mut outer);
+    let truth = tuples_true(
+        task, w, frames, memory, reading, junction, vars, bound, part,
+    );
     give_back(frames, vars, &outer);
     truth
 }
@@ -215,6 +276,7 @@ fn tuples_true(
     task: &Task,
     w: &World,
     frames: &mut [Option<Value>],
+    memory: &mut Memory,
     reading: Reading,
     junction: Junction,
     vars: &[Var],
@@ -223,13 +285,17 @@ fn tuples_true(
 ) -> Result<bool, RangeNote>
     requires fits { FitsAt (signature_of task.now.problem.domain) reading.number (quantified junction vars.now bound.now (tree_of_formula part.now)) }
     requires room { HasRoom (plain_problem task.now.problem) reading.number reading.level (length frames.old) }
+    requires truths { AreTruths (plain_problem task.now.problem) w.now memory.old }
     ensures truth { IsTruth (plain_problem task.now.problem) w.now reading.number reading.level (assignment_in (take 32 frames.old)) (quantified junction vars.now bound.now (tree_of_formula part.now)) result }
-    ensures others { (t : List OneValue) → bind vars.now t (assignment_in (take 32 frames.new)) ≡ bind vars.now t (assignment_in (take 32 frames.old)) }
+    ensures others { AgreeElsewhere vars.now (assignment_in (take 32 frames.new)) (assignment_in (take 32 frames.old)) }
+    ensures truths { AreTruths (plain_problem task.now.problem) w.now memory.new }
 {
     let stop = junction.deciding_truth();
-    let mut begun = false;
-    while put_next(task, w, frames, vars, bound, begun) {
-        match truth_of(task, w, frames, reading, part) {
+    let mut tuples = TupleReader::unopened();
+    tuples.open_at(task, current(frames), vars, bound);
+    while tuples.next(task, w, bound) {
+        put_in_scope(frames, vars, tuples.values());
+        match truth_of(task, w, frames, memory, reading, part) {
             Ok(truth) => {
                 if truth == stop {
                     return Ok(stop);
@@ -237,13 +303,13 @@ fn tuples_true(
             }
             Err(note) => return Err(note),
         }
-        begun = true;
     }
     Ok(!stop)
 }
 
 /// Whether a state formula is true in a world, under the frame's values; or a note of an operation that is looked at and past range.
-/// Parts are evaluated from left to right until the truth is decided. It takes no memory, and leaves the caller's frame as it was.
+/// Parts are evaluated from left to right until the truth is decided, and a definition once for its values and level, where that is still remembered.
+/// It takes no memory, and leaves the caller's frame as it was.
 pub fn state(task: &Task, w: &World, env: &mut Env, f: &Formula) -> Result<bool, RangeNote>
     requires fits { Fits (signature_of task.now.problem.domain) [] (tree_of_formula f.now) }
     requires state { IsState (tree_of_formula f.now) }
@@ -253,5 +319,13 @@ pub fn state(task: &Task, w: &World, env: &mut Env, f: &Formula) -> Result<bool,
     ensures frame { env.new ≡ env.old }
 {
     let reading = Reading::whole(task);
-    truth_of(task, w, env.values.as_mut_slice(), reading, f)
+    env.memory.forget_all();
+    truth_of(
+        task,
+        w,
+        env.values.as_mut_slice(),
+        &mut env.memory,
+        reading,
+        f,
+    )
 }

@@ -1,13 +1,13 @@
 // The values of terms.
-ghost use Rattle.std.specs.Prelude.{◌≡◌, ◌≤◌, IfOk, IfErr};
+ghost use Rattle.std.specs.Prelude.{◌≡◌, ◌≤◌, [], IfOk, IfErr};
 ghost use Rattle.tl_eval.specs.Frames.{assignment_in};
-ghost use Rattle.tl_eval.specs.Notes.{Evaluates, integer_found, AreInRange, Tells};
+ghost use Rattle.tl_eval.specs.Notes.{Evaluates, integer_found, row_found, AreInRange, Tells};
 ghost use Rattle.tl_eval.specs.Small.{HasFewArguments, HaveFewArguments};
 ghost use Rattle.tl_syntax.specs.Fits.{TermFits, term_count};
 ghost use Rattle.tl_syntax.specs.Signature.{signature_of};
 ghost use Rattle.tl_syntax.specs.TreeOfTerm.{tree_of_term, tree_of_terms};
 ghost use Rattle.tl_terms.specs.Looked.{looked_in_term, looked_in_terms};
-ghost use Rattle.tl_terms.specs.Terms.{term_value, term_values};
+ghost use Rattle.tl_terms.specs.Terms.{place_value, term_value, term_values};
 
 use crate::range::operate;
 use crate::row::Row;
@@ -50,11 +50,7 @@ pub(crate) fn value_of_term(
     match t {
         Term::Var(var) => Ok(value_in(frame, var.slot)),
         Term::Val(value) => Ok(Some(*value)),
-        Term::Place(fun, args) => match values_of_terms(w, frame, args) {
-            Ok(Some(row)) => Ok(w.value(*fun, row.as_slice())),
-            Ok(None) => Ok(None),
-            Err(note) => Err(note),
-        },
+        Term::Place(fun, args) => value_of_place(w, frame, *fun, args),
         Term::Arith(op, left, right, at) => match integer_of(value_of_term(w, frame, left)) {
             Ok(Some(a)) => match integer_of(value_of_term(w, frame, right)) {
                 Ok(Some(b)) => operate(*at, *op, a, b),
@@ -67,26 +63,53 @@ pub(crate) fn value_of_term(
     }
 }
 
-/// The values of terms under a frame, where all are defined. It takes no memory.
+/// The value of the place of the arguments, where all are defined and it has one. It takes no memory.
 #[cycle(value_of_term)]
-pub(crate) fn values_of_terms(
+#[inline(never)]
+fn value_of_place(
+    w: &World,
+    frame: &[Option<Value>],
+    fun: u32,
+    args: &Terms,
+) -> Result<Option<Value>, RangeNote>
+    requires small { HaveFewArguments (tree_of_terms args.now) }
+    requires few { term_count (tree_of_terms args.now) ≤ 8 }
+    ensures { Evaluates (place_value w.now fun (term_values w.now (assignment_in frame.now) (tree_of_terms args.now))) (looked_in_terms w.now (assignment_in frame.now) (tree_of_terms args.now)) result }
+{
+    let mut row = Row::new();
+    match put_values_of_terms(w, frame, args, &mut row) {
+        Ok(all) => {
+            if all {
+                Ok(w.value(fun, row.as_slice()))
+            } else {
+                Ok(None)
+            }
+        }
+        Err(note) => Err(note),
+    }
+}
+
+/// Puts the values of terms under a frame into an empty row, and says whether all are defined. It takes no memory.
+#[cycle(value_of_term)]
+pub(crate) fn put_values_of_terms(
     w: &World,
     frame: &[Option<Value>],
     ts: &Terms,
-) -> Result<Option<Row>, RangeNote>
+    row: &mut Row,
+) -> Result<bool, RangeNote>
     requires small { HaveFewArguments (tree_of_terms ts.now) }
     requires few { term_count (tree_of_terms ts.now) ≤ 8 }
-    ensures { Evaluates (term_values w.now (assignment_in frame.now) (tree_of_terms ts.now)) (looked_in_terms w.now (assignment_in frame.now) (tree_of_terms ts.now)) result }
+    requires empty { row.old ≡ [] }
+    ensures { Evaluates (term_values w.now (assignment_in frame.now) (tree_of_terms ts.now)) (looked_in_terms w.now (assignment_in frame.now) (tree_of_terms ts.now)) (row_found row.new result) }
 {
-    let mut row = Row::new();
     for term in ts.as_slice().iter() {
         match value_of_term(w, frame, term) {
             Ok(Some(value)) => row.push(value),
-            Ok(None) => return Ok(None),
+            Ok(None) => return Ok(false),
             Err(note) => return Err(note),
         }
     }
-    Ok(Some(row))
+    Ok(true)
 }
 
 /// The value of a term in a world, under the frame's values, where it is defined; or a note of an operation that is looked at and past range.

@@ -19,7 +19,7 @@ use tl_syntax::{Bound, Value, Var, Vars};
 use tl_world::{Match, Task, World};
 
 /// The world that a bound speaks of: the current one, that of the goal list, or that of its negated facts. It takes no memory.
-fn world_of_bound<'a>(task: &'a Task, w: &'a World, b: &Bound) -> &'a World
+pub(crate) fn world_of_bound<'a>(task: &'a Task, w: &'a World, b: &Bound) -> &'a World
     ensures { result.now ≡ world_read (situation_of (plain_problem task.now.problem) w.now) b.now }
 {
     match b {

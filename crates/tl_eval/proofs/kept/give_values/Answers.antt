@@ -1,7 +1,7 @@
-use Rattle.std.proofs.Common.{arith, ◌-◌, ◌<◌, ap, sym, ◌∙◌, length, get_or, None}
+use Rattle.std.proofs.Common.{arith, ◌-◌, ◌<◌, length, get_or, None}
 use Rattle.tl_syntax.specs.declared.variable.Var.{Var}
 use Rattle.tl_eval.specs.Frames.{assignment_in}
-use Rattle.tl_eval.proofs.KeptLaws.{back-begun, back-one}
+use Rattle.tl_eval.proofs.KeptLaws.{back-one}
 use Rattle.tl_eval.proofs.ScopeLaws.{each-at}
 use Rattle.tl_eval.proofs.kept.give_values.Goals as goal
 

@@ -1,34 +1,84 @@
-use Rattle.std.proofs.Common.{◌≡◌, ◌<◌, ◌+◌, ◌-◌, List, length, take, drop, Option, Some, None, Result, Ok, Err, Bool, false, refl, sym, ap, ◌∙◌, subst, suc, arith}
+use Rattle.std.proofs.Common.{◌≡◌, ◌<◌, ◌+◌, ◌-◌, List, length, take, drop, Option, Some, None, Result, Ok, Err, Bool, true, false, refl, sym, ap, ◌∙◌, subst, suc, arith}
 use Rattle.std.proofs.lemmas.List.{length-take, length-drop}
 use Rattle.std.proofs.lemmas.Slice.{take-put_mid_below}
-use Rattle.tl_eval.specs.Frames.{assignment_in, tuple_in}
-use Rattle.tl_eval.specs.PutNext.{tuple_before}
+use Rattle.tl_eval.specs.Frames.{assignment_in}
+use Rattle.tl_eval.specs.Reader.{Reads}
+use Rattle.tl_eval.specs.Remembered.{remembered}
 use Rattle.tl_eval.specs.StateTruth.{IsTruth}
 use Rattle.tl_eval.specs.declared.range.RangeNote.{RangeNote}
 use Rattle.tl_eval.proofs.ArityLaws.{AreFew, declared-few}
 use Rattle.tl_eval.proofs.BindLaws.{bind-through}
-use Rattle.tl_eval.proofs.BodyLaws.{at_definition, body-is, defined-few, few-visible}
+use Rattle.tl_eval.proofs.BodyLaws.{at_definition, at_own, at_own_level, body-is, defined-few, few-visible}
 use Rattle.tl_eval.proofs.DecidedLaws.{same-truth, other-truth}
 use Rattle.tl_eval.proofs.FormulaParts.{arguments-Atom, arguments-Defined, takes-Defined, sides-Compare, few-GoalFact, few-GoalNot, few-GoalPlace, part-Defined, part-Not, part-And, part-Or, part-ForAll, part-Exists, item-fits, tuples-fit}
-use Rattle.tl_eval.proofs.FormulaSizes.{formula_nodes, formulas_nodes, lighter, body-lighter}
+use Rattle.tl_eval.proofs.FormulaSizes.{formula_nodes, formulas_nodes, lighter, body-lighter, level-lighter}
 use Rattle.tl_eval.proofs.KeptLaws.{all-back, same-frame}
-use Rattle.tl_eval.proofs.PutLaws.{placed, none-placed, tuple-put}
-use Rattle.tl_eval.proofs.ReadingLaws.{read-closed, read-opened}
+use Rattle.tl_eval.proofs.ReadingLaws.{read-at, read-closed, read-opened}
+use Rattle.tl_eval.proofs.RememberedLaws.{right-among, truths-from, answer-at}
 use Rattle.tl_eval.proofs.StateLaws.{TuplesPassed, tuples_read, at-True, at-False, at-Next, at-Always, at-Eventually, at-Until, at-Within, at-During, at-Atom, at-Compare, at-GoalFact, at-GoalNot, at-GoalPlace, at-Not, at-Not-Err, at-Defined, at-And, at-Or, at-ForAll, at-Exists, defined-values, defined-None, defined-Err, parts-begun, parts-on, parts-stop, parts-noted, parts-end, closed-is, opened-is, count-values, tuples-begun, tuples-end, fewer-left, tuples-on, tuples-stop, tuples-noted}
+use Rattle.tl_eval.proofs.TermLaws.{all-found}
 use Rattle.tl_eval.proofs.TupleRest.{rest_after}
 use Rattle.tl_syntax.specs.declared.value.Value.{Value}
 use Rattle.tl_syntax.specs.declared.problem.Problem.{Problem}
-use Rattle.tl_syntax.specs.Assignment.{Assignment, bind}
+use Rattle.tl_syntax.specs.Assignment.{Assignment}
 use Rattle.tl_syntax.specs.Signature.{signature_of}
 use Rattle.tl_syntax.specs.TreeOfFormula.{tree_of_formula, tree_of_formulas}
 use Rattle.tl_syntax.specs.TreeOfTerm.{tree_of_terms}
 use Rattle.tl_syntax.specs.Trees.{defined}
-use Rattle.tl_terms.specs.Definitions.{situation_of}
 use Rattle.tl_terms.specs.ProblemMeaning.{plain_definition, plain_problem}
+use Rattle.tl_terms.specs.Looked.{looked_in_terms}
 use Rattle.tl_terms.specs.Terms.{term_values}
 use Rattle.tl_eval.proofs.state_truth.+truth_of.Goals as goal
 
 -- ---- the body of a definition
+
+pub opened_true-open_scope-requires-clause-room : goal.opened_true-open_scope-requires-clause-room
+opened_true-open_scope-requires-clause-room t c =
+    let d = c.index-as_slice-reading.result in
+    let at = at_own c.args.task.now.problem c.args.reading.level c.args.reading.number (length c.args.values.now) c.as_slice.result.now d c.as_slice.ensures c.requires.takes c.index-as_slice-reading.is in
+    let lower : c.args.reading.level ≡ suc (c.args.reading.level - 1) = omega (arith, c.requires.level) in
+    let body = body-is c.args.task.now.problem c.args.reading.number c.args.reading.level c.args.reading.number (c.args.reading.level - 1) (length c.args.frames.now) d at.listed at.below (at.level ∙ lower) c.requires.room in
+    omega (arith, body.room, length-take (length c.args.frames.now - 32) (drop 32 c.args.frames.now), length-drop 32 c.args.frames.now)
+
+pub opened_true-open_scope-requires-clause-slots : goal.opened_true-open_scope-requires-clause-slots
+opened_true-open_scope-requires-clause-slots t c =
+    let d = c.index-as_slice-reading.result in
+    let at = at_own c.args.task.now.problem c.args.reading.level c.args.reading.number (length c.args.values.now) c.as_slice.result.now d c.as_slice.ensures c.requires.takes c.index-as_slice-reading.is in
+    let lower : c.args.reading.level ≡ suc (c.args.reading.level - 1) = omega (arith, c.requires.level) in
+    let body = body-is c.args.task.now.problem c.args.reading.number c.args.reading.level c.args.reading.number (c.args.reading.level - 1) (length c.args.frames.now) d at.listed at.below (at.level ∙ lower) c.requires.room in
+    rw c.as_slice-2.ensures body.in_frame
+
+pub opened_true-open_scope-requires-clause-same : goal.opened_true-open_scope-requires-clause-same
+opened_true-open_scope-requires-clause-same t c =
+    let d = c.index-as_slice-reading.result in
+    let at = at_own c.args.task.now.problem c.args.reading.level c.args.reading.number (length c.args.values.now) c.as_slice.result.now d c.as_slice.ensures c.requires.takes c.index-as_slice-reading.is in
+    rw c.as_slice-2.ensures at.params
+
+pub opened_true-truth_of-requires : goal.opened_true-truth_of-requires
+opened_true-truth_of-requires t c =
+    let p = plain_problem c.args.task.now.problem in
+    let d = c.index-as_slice-reading.result in
+    let at = at_own c.args.task.now.problem c.args.reading.level c.args.reading.number (length c.args.values.now) c.as_slice.result.now d c.as_slice.ensures c.requires.takes c.index-as_slice-reading.is in
+    let lower : c.args.reading.level ≡ suc (c.args.reading.level - 1) = omega (arith, c.requires.level) in
+    let body = body-is c.args.task.now.problem c.args.reading.number c.args.reading.level c.args.reading.number (c.args.reading.level - 1) (length c.args.frames.now) d at.listed at.below (at.level ∙ lower) c.requires.room in
+    let less = body-lighter p c.args.reading.number c.args.reading.level c.args.reading.number (c.args.reading.level - 1) (formula_nodes (tree_of_formula d.body)) body.falls body.smaller in
+    (omega (arith, less, c.decreases), (body.fits, (omega (arith, body.room, c.open_scope.auto.frames, length-take (length c.args.frames.now - 32) (drop 32 c.args.frames.now), length-drop 32 c.args.frames.now), c.requires.truths)))
+
+pub opened_true-returns-clause-truth : goal.opened_true-returns-clause-truth
+opened_true-returns-clause-truth t c =
+    let p = plain_problem c.args.task.now.problem in
+    let d = c.index-as_slice-reading.result in
+    let at = at_own c.args.task.now.problem c.args.reading.level c.args.reading.number (length c.args.values.now) c.as_slice.result.now d c.as_slice.ensures c.requires.takes c.index-as_slice-reading.is in
+    let lower : c.args.reading.level ≡ suc (c.args.reading.level - 1) = omega (arith, c.requires.level) in
+    opened-is p c.args.w.now c.args.reading.number c.args.reading.level c.args.reading.number (c.args.reading.level - 1) (plain_definition d) c.args.values.now (assignment_in (take 32 c.open_scope.new.frames)) c.truth_of.result
+    (read-opened p c.args.w.now c.args.reading.number c.args.reading.level c.args.reading.number (c.args.reading.level - 1) (plain_definition d) c.args.values.now at.there at.below (at.level ∙ lower))
+    (rw c.as_slice-2.ensures at c.open_scope.ensures)
+    c.truth_of.ensures.truth
+
+pub opened_true-returns-clause-frame : goal.opened_true-returns-clause-frame
+opened_true-returns-clause-frame t c = take-put_mid_below 32 (length c.args.frames.now - 32) c.args.frames.now c.truth_of.new.frames 32 (omega arith) (omega (arith, c.requires.room))
+
+-- ---- a definition of values, as it is remembered or else by its body
 
 pub body_true-returns-then-level-eq0-clause-truth : goal.body_true-returns-then-level-eq0-clause-truth
 body_true-returns-then-level-eq0-clause-truth t c =
@@ -38,63 +88,69 @@ body_true-returns-then-level-eq0-clause-truth t c =
     closed-is p c.args.w.now c.args.reading.number c.args.reading.level c.args.number c.args.values.now
     (read-closed p c.args.w.now c.args.reading.number c.args.reading.level c.args.number (plain_definition d) c.args.values.now at.there at.below (at.level ∙ c.if-level-eq0.true))
 
-pub body_true-open_scope-requires-clause-room : goal.body_true-open_scope-requires-clause-room
-body_true-open_scope-requires-clause-room t c =
-    let d = c.index-as_slice-number.result in
-    let at = at_definition c.args.task.now.problem c.args.reading.number c.args.reading.level c.args.number (length c.args.values.now) c.level_of-level.result c.as_slice.result.now d c.as_slice.ensures c.requires.takes c.index-as_slice-number.is c.level_of-level.ensures in
-    let lower : c.level_of-level.result ≡ suc (c.level_of-level.result - 1) = omega (arith, c.if-level-eq0.false) in
-    let body = body-is c.args.task.now.problem c.args.reading.number c.args.reading.level c.args.number (c.level_of-level.result - 1) (length c.args.frames.now) d at.listed at.below (at.level ∙ lower) c.requires.room in
-    omega (arith, body.room, length-take (length c.args.frames.now - 32) (drop 32 c.args.frames.now), length-drop 32 c.args.frames.now)
+pub body_true-find-requires : goal.body_true-find-requires
+body_true-find-requires t c = few-visible (signature_of c.args.task.now.problem.domain).definitions (c.args.reading.number + 1) (defined-few _ _ c.args.task.now.problem.domain.definitions c.args.task.now.problem.domain_keeps.definitions) c.args.number (length c.args.values.now) c.requires.takes
 
-pub body_true-open_scope-requires-clause-slots : goal.body_true-open_scope-requires-clause-slots
-body_true-open_scope-requires-clause-slots t c =
+pub body_true-returns-in-Some-clause-truth : goal.body_true-returns-in-Some-clause-truth
+body_true-returns-in-Some-clause-truth t c =
+    let q = c.args.task.now.problem in
+    let p = plain_problem q in
     let d = c.index-as_slice-number.result in
-    let at = at_definition c.args.task.now.problem c.args.reading.number c.args.reading.level c.args.number (length c.args.values.now) c.level_of-level.result c.as_slice.result.now d c.as_slice.ensures c.requires.takes c.index-as_slice-number.is c.level_of-level.ensures in
-    let lower : c.level_of-level.result ≡ suc (c.level_of-level.result - 1) = omega (arith, c.if-level-eq0.false) in
-    let body = body-is c.args.task.now.problem c.args.reading.number c.args.reading.level c.args.number (c.level_of-level.result - 1) (length c.args.frames.now) d at.listed at.below (at.level ∙ lower) c.requires.room in
-    rw c.as_slice-2.ensures body.in_frame
+    let at = at_definition q c.args.reading.number c.args.reading.level c.args.number (length c.args.values.now) c.level_of-level.result c.as_slice.result.now d c.as_slice.ensures c.requires.takes c.index-as_slice-number.is c.level_of-level.ensures in
+    let there = read-at p c.args.w.now c.args.reading.number c.args.reading.level c.args.number c.level_of-level.result (plain_definition d) c.args.values.now at.there at.below at.level in
+    let r : Result Bool RangeNote = Ok c.in-Some.truth in
+    answer-at p c.args.w.now c.args.reading.number c.args.reading.level c.args.number c.level_of-level.result c.args.values.now r there
+    (right-among p c.args.w.now (remembered c.args.number c.level_of-level.result c.args.values.now c.in-Some.truth) c.args.memory.now c.requires.truths c.in-Some.ensures)
 
-pub body_true-open_scope-requires-clause-same : goal.body_true-open_scope-requires-clause-same
-body_true-open_scope-requires-clause-same t c =
+pub body_true-opened_true-requires : goal.body_true-opened_true-requires
+body_true-opened_true-requires t c =
+    let q = c.args.task.now.problem in
+    let p = plain_problem q in
     let d = c.index-as_slice-number.result in
-    let at = at_definition c.args.task.now.problem c.args.reading.number c.args.reading.level c.args.number (length c.args.values.now) c.level_of-level.result c.as_slice.result.now d c.as_slice.ensures c.requires.takes c.index-as_slice-number.is c.level_of-level.ensures in
-    rw c.as_slice-2.ensures at.params
+    let at = at_definition q c.args.reading.number c.args.reading.level c.args.number (length c.args.values.now) c.level_of-level.result c.as_slice.result.now d c.as_slice.ensures c.requires.takes c.index-as_slice-number.is c.level_of-level.ensures in
+    let above : 0 < c.level_of-level.result = omega (arith, c.if-level-eq0.false) in
+    let own = at_own_level q c.args.reading.number c.args.reading.level c.args.number (length c.args.values.now) c.level_of-level.result (length c.args.frames.now) d at c.requires.takes above c.requires.room in
+    let less = level-lighter p c.args.reading.number c.args.reading.level c.args.number c.level_of-level.result own.rank in
+    (omega (arith, less, c.decreases), (own.takes, (above, (own.room, c.requires.truths))))
 
-pub body_true-truth_of-requires : goal.body_true-truth_of-requires
-body_true-truth_of-requires t c =
-    let p = plain_problem c.args.task.now.problem in
+pub body_true-put-requires : goal.body_true-put-requires
+body_true-put-requires t c = few-visible (signature_of c.args.task.now.problem.domain).definitions (c.args.reading.number + 1) (defined-few _ _ c.args.task.now.problem.domain.definitions c.args.task.now.problem.domain_keeps.definitions) c.args.number (length c.args.values.now) c.requires.takes
+
+pub body_true-returns-in-Ok-clause-truth : goal.body_true-returns-in-Ok-clause-truth
+body_true-returns-in-Ok-clause-truth t c =
+    let q = c.args.task.now.problem in
+    let p = plain_problem q in
     let d = c.index-as_slice-number.result in
-    let at = at_definition c.args.task.now.problem c.args.reading.number c.args.reading.level c.args.number (length c.args.values.now) c.level_of-level.result c.as_slice.result.now d c.as_slice.ensures c.requires.takes c.index-as_slice-number.is c.level_of-level.ensures in
-    let lower : c.level_of-level.result ≡ suc (c.level_of-level.result - 1) = omega (arith, c.if-level-eq0.false) in
-    let body = body-is c.args.task.now.problem c.args.reading.number c.args.reading.level c.args.number (c.level_of-level.result - 1) (length c.args.frames.now) d at.listed at.below (at.level ∙ lower) c.requires.room in
-    let less = body-lighter p c.args.reading.number c.args.reading.level c.args.number (c.level_of-level.result - 1) (formula_nodes (tree_of_formula d.body)) body.falls body.smaller in
-    (omega (arith, less, c.decreases), (body.fits, omega (arith, body.room, c.open_scope.auto.frames, length-take (length c.args.frames.now - 32) (drop 32 c.args.frames.now), length-drop 32 c.args.frames.now)))
+    let at = at_definition q c.args.reading.number c.args.reading.level c.args.number (length c.args.values.now) c.level_of-level.result c.as_slice.result.now d c.as_slice.ensures c.requires.takes c.index-as_slice-number.is c.level_of-level.ensures in
+    let there = read-at p c.args.w.now c.args.reading.number c.args.reading.level c.args.number c.level_of-level.result (plain_definition d) c.args.values.now at.there at.below at.level in
+    let r : Result Bool RangeNote = Ok c.in-Ok.truth in
+    answer-at p c.args.w.now c.args.reading.number c.args.reading.level c.args.number c.level_of-level.result c.args.values.now r there c.in-Ok.ensures.truth
 
-pub body_true-returns-clause-truth : goal.body_true-returns-clause-truth
-body_true-returns-clause-truth t c =
-    let p = plain_problem c.args.task.now.problem in
+pub body_true-returns-in-Ok-clause-truths : goal.body_true-returns-in-Ok-clause-truths
+body_true-returns-in-Ok-clause-truths t c =
+    truths-from (plain_problem c.args.task.now.problem) c.args.w.now (remembered c.args.number c.level_of-level.result c.args.values.now c.in-Ok.truth) c.opened_true.new.memory c.put.new.self c.opened_true.ensures.truths c.in-Ok.ensures.truth c.put.ensures
+
+pub body_true-returns-in-Err-clause-truth : goal.body_true-returns-in-Err-clause-truth
+body_true-returns-in-Err-clause-truth t c =
+    let q = c.args.task.now.problem in
+    let p = plain_problem q in
     let d = c.index-as_slice-number.result in
-    let at = at_definition c.args.task.now.problem c.args.reading.number c.args.reading.level c.args.number (length c.args.values.now) c.level_of-level.result c.as_slice.result.now d c.as_slice.ensures c.requires.takes c.index-as_slice-number.is c.level_of-level.ensures in
-    let lower : c.level_of-level.result ≡ suc (c.level_of-level.result - 1) = omega (arith, c.if-level-eq0.false) in
-    opened-is p c.args.w.now c.args.reading.number c.args.reading.level c.args.number (c.level_of-level.result - 1) (plain_definition d) c.args.values.now (assignment_in (take 32 c.open_scope.new.frames)) c.truth_of.result
-    (read-opened p c.args.w.now c.args.reading.number c.args.reading.level c.args.number (c.level_of-level.result - 1) (plain_definition d) c.args.values.now at.there at.below (at.level ∙ lower))
-    (rw c.as_slice-2.ensures at c.open_scope.ensures)
-    c.truth_of.ensures.truth
-
-pub body_true-returns-clause-frame : goal.body_true-returns-clause-frame
-body_true-returns-clause-frame t c = take-put_mid_below 32 (length c.args.frames.now - 32) c.args.frames.now c.truth_of.new.frames 32 (omega arith) (omega (arith, c.requires.room))
+    let at = at_definition q c.args.reading.number c.args.reading.level c.args.number (length c.args.values.now) c.level_of-level.result c.as_slice.result.now d c.as_slice.ensures c.requires.takes c.index-as_slice-number.is c.level_of-level.ensures in
+    let there = read-at p c.args.w.now c.args.reading.number c.args.reading.level c.args.number c.level_of-level.result (plain_definition d) c.args.values.now at.there at.below at.level in
+    let r : Result Bool RangeNote = Err c.in-Err.note in
+    answer-at p c.args.w.now c.args.reading.number c.args.reading.level c.args.number c.level_of-level.result c.args.values.now r there c.in-Err.ensures.truth
 
 -- ---- an atom of a definition
 
-pub defined_true-values_of_terms-requires-clause-small : goal.defined_true-values_of_terms-requires-clause-small
-defined_true-values_of_terms-requires-clause-small t c =
+pub defined_true-put_values_of_terms-requires-clause-small : goal.defined_true-put_values_of_terms-requires-clause-small
+defined_true-put_values_of_terms-requires-clause-small t c =
     let domain = c.args.task.now.problem.domain in
     let keeps = c.args.task.now.problem.domain_keeps in
     let arguments = arguments-Defined (signature_of domain) c.args.reading.number c.args.number (tree_of_terms c.args.args.now) (few-visible (signature_of domain).definitions (c.args.reading.number + 1) (defined-few _ _ domain.definitions keeps.definitions)) (declared-few _ domain.functions keeps.functions) c.requires.fits in
     arguments.small
 
-pub defined_true-values_of_terms-requires-clause-few : goal.defined_true-values_of_terms-requires-clause-few
-defined_true-values_of_terms-requires-clause-few t c =
+pub defined_true-put_values_of_terms-requires-clause-few : goal.defined_true-put_values_of_terms-requires-clause-few
+defined_true-put_values_of_terms-requires-clause-few t c =
     let domain = c.args.task.now.problem.domain in
     let keeps = c.args.task.now.problem.domain_keeps in
     let arguments = arguments-Defined (signature_of domain) c.args.reading.number c.args.number (tree_of_terms c.args.args.now) (few-visible (signature_of domain).definitions (c.args.reading.number + 1) (defined-few _ _ domain.definitions keeps.definitions)) (declared-few _ domain.functions keeps.functions) c.requires.fits in
@@ -103,23 +159,25 @@ defined_true-values_of_terms-requires-clause-few t c =
 pub defined_true-body_true-requires : goal.defined_true-body_true-requires
 defined_true-body_true-requires t c =
     let p = plain_problem c.args.task.now.problem in
-    let less = lighter p c.args.reading.number c.args.reading.level 0 1 (omega arith) in
-    let same = ap assignment_in c.current.ensures in
-    let are : term_values c.args.w.now (assignment_in c.current.result.now) (tree_of_terms c.args.args.now) ≡ Some c.in-Ok-Some.row = sym c.in-Ok-Some.ensures.0 ∙ c.in-Ok-Some.field-0-is in
-    let count = ap (λ (row : List Value). length row) c.as_slice.ensures ∙ count-values c.args.w.now (assignment_in c.current.result.now) (tree_of_terms c.args.args.now) c.in-Ok-Some.row are in
-    (omega (arith, less, c.decreases), (takes-Defined (signature_of c.args.task.now.problem.domain) c.args.reading.number c.args.number (length c.as_slice.result.now) (tree_of_terms c.args.args.now) count c.requires.fits, c.requires.room))
+    let less = lighter p c.args.reading.number c.args.reading.level 1 2 (omega arith) in
+    let found = all-found (term_values c.args.w.now (assignment_in c.current.result.now) (tree_of_terms c.args.args.now)) (looked_in_terms c.args.w.now (assignment_in c.current.result.now) (tree_of_terms c.args.args.now)) c.put_values_of_terms.new.row c.in-Ok.all true c.if-all.true c.in-Ok.ensures in
+    let are : term_values c.args.w.now (assignment_in c.current.result.now) (tree_of_terms c.args.args.now) ≡ Some c.put_values_of_terms.new.row = sym found.0 in
+    let count = ap (λ (row : List Value). length row) c.as_slice.ensures ∙ count-values c.args.w.now (assignment_in c.current.result.now) (tree_of_terms c.args.args.now) c.put_values_of_terms.new.row are in
+    (omega (arith, less, c.decreases), (takes-Defined (signature_of c.args.task.now.problem.domain) c.args.reading.number c.args.number (length c.as_slice.result.now) (tree_of_terms c.args.args.now) count c.requires.fits, (c.requires.room, c.requires.truths)))
 
-pub defined_true-returns-in-Ok-Some-clause-truth : goal.defined_true-returns-in-Ok-Some-clause-truth
-defined_true-returns-in-Ok-Some-clause-truth t c =
+pub defined_true-returns-then-all-clause-truth : goal.defined_true-returns-then-all-clause-truth
+defined_true-returns-then-all-clause-truth t c =
+    let found = all-found (term_values c.args.w.now (assignment_in c.current.result.now) (tree_of_terms c.args.args.now)) (looked_in_terms c.args.w.now (assignment_in c.current.result.now) (tree_of_terms c.args.args.now)) c.put_values_of_terms.new.row c.in-Ok.all true c.if-all.true c.in-Ok.ensures in
     subst (λ (x : List (Option Value)). IsTruth (plain_problem c.args.task.now.problem) c.args.w.now c.args.reading.number c.args.reading.level (assignment_in x) (defined c.args.number (tree_of_terms c.args.args.now)) c.body_true.result) c.current.ensures
-    (defined-values (plain_problem c.args.task.now.problem) c.args.w.now c.args.reading.number c.args.reading.level (assignment_in c.current.result.now) c.args.number c.args.args.now c.in-Ok-Some.field-0 c.in-Ok-Some.row c.as_slice.result.now c.body_true.result
-    c.in-Ok-Some.ensures c.in-Ok-Some.field-0-is c.as_slice.ensures c.body_true.ensures.truth)
+    (defined-values (plain_problem c.args.task.now.problem) c.args.w.now c.args.reading.number c.args.reading.level (assignment_in c.current.result.now) c.args.number c.args.args.now (Some c.put_values_of_terms.new.row) c.put_values_of_terms.new.row c.as_slice.result.now c.body_true.result
+    found refl c.as_slice.ensures c.body_true.ensures.truth)
 
-pub defined_true-returns-in-Ok-None-clause-truth : goal.defined_true-returns-in-Ok-None-clause-truth
-defined_true-returns-in-Ok-None-clause-truth t c =
+pub defined_true-returns-else-all-clause-truth : goal.defined_true-returns-else-all-clause-truth
+defined_true-returns-else-all-clause-truth t c =
     let r : Result Bool RangeNote = Ok false in
+    let found = all-found (term_values c.args.w.now (assignment_in c.current.result.now) (tree_of_terms c.args.args.now)) (looked_in_terms c.args.w.now (assignment_in c.current.result.now) (tree_of_terms c.args.args.now)) c.put_values_of_terms.new.row c.in-Ok.all false c.if-all.false c.in-Ok.ensures in
     subst (λ (x : List (Option Value)). IsTruth (plain_problem c.args.task.now.problem) c.args.w.now c.args.reading.number c.args.reading.level (assignment_in x) (defined c.args.number (tree_of_terms c.args.args.now)) r) c.current.ensures
-    (defined-None (plain_problem c.args.task.now.problem) c.args.w.now c.args.reading.number c.args.reading.level (assignment_in c.current.result.now) c.args.number c.args.args.now c.in-Ok-None.field-0 c.in-Ok-None.ensures c.in-Ok-None.field-0-is)
+    (defined-None (plain_problem c.args.task.now.problem) c.args.w.now c.args.reading.number c.args.reading.level (assignment_in c.current.result.now) c.args.number c.args.args.now None found refl)
 
 pub defined_true-returns-in-Err-clause-truth : goal.defined_true-returns-in-Err-clause-truth
 defined_true-returns-in-Err-clause-truth t c =
@@ -132,6 +190,7 @@ defined_true-returns-in-Err-clause-truth t c =
 pub parts_true-loop-part-init : goal.parts_true-loop-part-init
 parts_true-loop-part-init t c = record {
   frame = refl;
+  truths = c.requires.truths;
   passed = parts-begun (plain_problem c.args.task.now.problem) c.args.w.now c.args.reading.number c.args.reading.level (assignment_in (take 32 c.args.frames.now)) c.deciding_truth-stop.result c.as_slice-part-items.result.now;
 }
 
@@ -140,7 +199,7 @@ parts_true-truth_of-requires t c =
     let p = plain_problem c.args.task.now.problem in
     let item = item-fits (signature_of c.args.task.now.problem.domain) c.args.reading.number c.args.junction c.args.parts.now c.as_slice-part-items.result.now c.loop-part.part-index c.part-item.result c.as_slice-part-items.ensures c.loop-part-test.true c.part-item.is c.requires.fits in
     let less = lighter p c.args.reading.number c.args.reading.level (formula_nodes (tree_of_formula c.part-item.result)) (formulas_nodes (tree_of_formulas c.args.parts.now)) item.smaller in
-    (omega (arith, less, c.decreases), (item.fits, omega (arith, c.requires.room, c.loop-part.auto.frames)))
+    (omega (arith, less, c.decreases), (item.fits, (omega (arith, c.requires.room, c.loop-part.auto.frames), c.loop-part.invariant.truths)))
 
 pub parts_true-returns-then-truth-stop-clause-truth : goal.parts_true-returns-then-truth-stop-clause-truth
 parts_true-returns-then-truth-stop-clause-truth t c =
@@ -159,6 +218,7 @@ parts_true-loop-part-preserved t c =
     let r : Result Bool RangeNote = Ok c.in-Ok.truth in
     record {
       frame = c.truth_of.ensures.frame ∙ c.loop-part.invariant.frame;
+      truths = c.truth_of.ensures.truths;
       passed = parts-on (plain_problem c.args.task.now.problem) c.args.w.now c.args.reading.number c.args.reading.level (assignment_in (take 32 c.args.frames.now)) c.deciding_truth-stop.result c.as_slice-part-items.result.now c.loop-part.part-index c.part-item.result c.in-Ok.truth c.loop-part-test.true c.part-item.is c.loop-part.invariant.passed
           (subst (λ (x : List (Option Value)). IsTruth (plain_problem c.args.task.now.problem) c.args.w.now c.args.reading.number c.args.reading.level (assignment_in x) (tree_of_formula c.part-item.result) r) c.loop-part.invariant.frame c.in-Ok.ensures.truth) (other-truth c.in-Ok.truth c.deciding_truth-stop.result c.if-truth-stop.false);
     }
@@ -210,38 +270,38 @@ truth_of-fact_true-requires-in-GoalNot t c =
 pub truth_of-defined_true-requires : goal.truth_of-defined_true-requires
 truth_of-defined_true-requires t c =
     let part = part-Defined (signature_of c.args.task.now.problem.domain) c.args.reading.number c.args.f.now c.in-Defined.number c.in-Defined.args c.in-Defined.is c.requires.fits in
-    let less = lighter (plain_problem c.args.task.now.problem) c.args.reading.number c.args.reading.level 1 (formula_nodes (tree_of_formula c.args.f.now)) part.smaller in
-    (omega (arith, less, c.decreases), (part.fits, c.requires.room))
+    let less = lighter (plain_problem c.args.task.now.problem) c.args.reading.number c.args.reading.level 2 (formula_nodes (tree_of_formula c.args.f.now)) part.smaller in
+    (omega (arith, less, c.decreases), (part.fits, (c.requires.room, c.requires.truths)))
 
 pub truth_of-parts_true-requires : goal.truth_of-parts_true-requires
 truth_of-parts_true-requires t c =
     let part = part-And (signature_of c.args.task.now.problem.domain) c.args.reading.number c.args.f.now c.in-And.parts c.in-And.is c.requires.fits in
     let less = lighter (plain_problem c.args.task.now.problem) c.args.reading.number c.args.reading.level (formulas_nodes (tree_of_formulas c.in-And.parts)) (formula_nodes (tree_of_formula c.args.f.now)) part.smaller in
-    (omega (arith, less, c.decreases), (part.fits, c.requires.room))
+    (omega (arith, less, c.decreases), (part.fits, (c.requires.room, c.requires.truths)))
 
 pub truth_of-parts_true-requires-in-Or : goal.truth_of-parts_true-requires-in-Or
 truth_of-parts_true-requires-in-Or t c =
     let part = part-Or (signature_of c.args.task.now.problem.domain) c.args.reading.number c.args.f.now c.in-Or.parts c.in-Or.is c.requires.fits in
     let less = lighter (plain_problem c.args.task.now.problem) c.args.reading.number c.args.reading.level (formulas_nodes (tree_of_formulas c.in-Or.parts)) (formula_nodes (tree_of_formula c.args.f.now)) part.smaller in
-    (omega (arith, less, c.decreases), (part.fits, c.requires.room))
+    (omega (arith, less, c.decreases), (part.fits, (c.requires.room, c.requires.truths)))
 
 pub truth_of-truth_of-requires : goal.truth_of-truth_of-requires
 truth_of-truth_of-requires t c =
     let part = part-Not (signature_of c.args.task.now.problem.domain) c.args.reading.number c.args.f.now c.in-Not.part c.in-Not.is c.requires.fits in
     let less = lighter (plain_problem c.args.task.now.problem) c.args.reading.number c.args.reading.level (formula_nodes (tree_of_formula c.in-Not.part.value)) (formula_nodes (tree_of_formula c.args.f.now)) part.smaller in
-    rw c.deref.ensures (omega (arith, less, c.decreases), (part.fits, c.requires.room))
+    rw c.deref.ensures (omega (arith, less, c.decreases), (part.fits, (c.requires.room, c.requires.truths)))
 
 pub truth_of-quantified_true-requires : goal.truth_of-quantified_true-requires
 truth_of-quantified_true-requires t c =
     let part = part-ForAll (signature_of c.args.task.now.problem.domain) c.args.reading.number c.args.f.now c.in-ForAll.vars c.in-ForAll.bound c.in-ForAll.part c.in-ForAll.is c.requires.fits in
     let less = lighter (plain_problem c.args.task.now.problem) c.args.reading.number c.args.reading.level (2 + formula_nodes (tree_of_formula c.in-ForAll.part.value)) (formula_nodes (tree_of_formula c.args.f.now)) part.smaller in
-    rw c.deref-in-ForAll.ensures (rw c.as_slice-in-ForAll.ensures (omega (arith, less, c.decreases), (part.fits, c.requires.room)))
+    rw c.deref-in-ForAll.ensures (rw c.as_slice-in-ForAll.ensures (omega (arith, less, c.decreases), (part.fits, (c.requires.room, c.requires.truths))))
 
 pub truth_of-quantified_true-requires-in-Exists : goal.truth_of-quantified_true-requires-in-Exists
 truth_of-quantified_true-requires-in-Exists t c =
     let part = part-Exists (signature_of c.args.task.now.problem.domain) c.args.reading.number c.args.f.now c.in-Exists.vars c.in-Exists.bound c.in-Exists.part c.in-Exists.is c.requires.fits in
     let less = lighter (plain_problem c.args.task.now.problem) c.args.reading.number c.args.reading.level (2 + formula_nodes (tree_of_formula c.in-Exists.part.value)) (formula_nodes (tree_of_formula c.args.f.now)) part.smaller in
-    rw c.deref-in-Exists.ensures (rw c.as_slice-in-Exists.ensures (omega (arith, less, c.decreases), (part.fits, c.requires.room)))
+    rw c.deref-in-Exists.ensures (rw c.as_slice-in-Exists.ensures (omega (arith, less, c.decreases), (part.fits, (c.requires.room, c.requires.truths))))
 
 pub truth_of-returns-in-True-clause-truth : goal.truth_of-returns-in-True-clause-truth
 truth_of-returns-in-True-clause-truth t c =
@@ -335,8 +395,8 @@ truth_of-returns-in-During-clause-truth t c =
 
 -- ---- quantifiers
 
-pub quantified_true-kept-outer-requires-clause-few : goal.quantified_true-kept-outer-requires-clause-few
-quantified_true-kept-outer-requires-clause-few t c =
+pub quantified_true-keep-requires-clause-few : goal.quantified_true-keep-requires-clause-few
+quantified_true-keep-requires-clause-few t c =
     let q = c.args.task.now.problem in
     let fit = tuples-fit (signature_of q.domain) c.args.reading.number c.args.junction c.args.vars.now c.args.bound.now (tree_of_formula c.args.part.now) (predicates-few q) (functions-few q) c.requires.fits in
     fit.few
@@ -344,7 +404,7 @@ quantified_true-kept-outer-requires-clause-few t c =
 pub quantified_true-tuples_true-truth-requires : goal.quantified_true-tuples_true-truth-requires
 quantified_true-tuples_true-truth-requires t c =
     let less = lighter (plain_problem c.args.task.now.problem) c.args.reading.number c.args.reading.level (1 + formula_nodes (tree_of_formula c.args.part.now)) (2 + formula_nodes (tree_of_formula c.args.part.now)) (omega arith) in
-    (omega (arith, less, c.decreases), (c.requires.fits, c.requires.room))
+    (omega (arith, less, c.decreases), (c.requires.fits, (c.requires.room, c.requires.truths)))
 
 pub quantified_true-give_back-requires-clause-slots : goal.quantified_true-give_back-requires-clause-slots
 quantified_true-give_back-requires-clause-slots t c =
@@ -362,117 +422,111 @@ pub quantified_true-returns-clause-frame : goal.quantified_true-returns-clause-f
 quantified_true-returns-clause-frame t c =
     let size : length (take 32 c.give_back.new.frames) ≡ length (take 32 c.args.frames.now) = omega (arith, length-take 32 c.give_back.new.frames, length-take 32 c.args.frames.now, c.give_back.auto.frames, c.tuples_true-truth.auto.frames) in
     same-frame (take 32 c.give_back.new.frames) (take 32 c.args.frames.now) size
-    (c.give_back.ensures ∙ all-back c.args.vars.now c.kept-outer.result (assignment_in (take 32 c.tuples_true-truth.new.frames)) (assignment_in (take 32 c.args.frames.now)) c.tuples_true-truth.ensures.others c.kept-outer.ensures)
+    (c.give_back.ensures ∙ all-back c.args.vars.now c.keep.new.values (assignment_in (take 32 c.tuples_true-truth.new.frames)) (assignment_in (take 32 c.args.frames.now)) c.tuples_true-truth.ensures.others c.keep.ensures)
 
 -- ---- the tuples of a quantifier
 
-pub tuples_true-loop-reading-init : goal.tuples_true-loop-reading-init
-tuples_true-loop-reading-init t c =
-    record {
-      scope = λ u. refl;
-      passed = tuples-begun (plain_problem c.args.task.now.problem) c.args.w.now c.args.reading.number c.args.reading.level (assignment_in (take 32 c.args.frames.now)) c.args.vars.now c.args.bound.now (tree_of_formula c.args.part.now) c.deciding_truth-stop.result;
-    }
-
-pub tuples_true-put_next-requires-clause-slots : goal.tuples_true-put_next-requires-clause-slots
-tuples_true-put_next-requires-clause-slots t c =
-    let q = c.args.task.now.problem in
-    let fit = tuples-fit (signature_of q.domain) c.args.reading.number c.args.junction c.args.vars.now c.args.bound.now (tree_of_formula c.args.part.now) (predicates-few q) (functions-few q) c.requires.fits in
-    fit.in_frame
-
-pub tuples_true-put_next-requires-clause-few : goal.tuples_true-put_next-requires-clause-few
-tuples_true-put_next-requires-clause-few t c =
-    let q = c.args.task.now.problem in
-    let fit = tuples-fit (signature_of q.domain) c.args.reading.number c.args.junction c.args.vars.now c.args.bound.now (tree_of_formula c.args.part.now) (predicates-few q) (functions-few q) c.requires.fits in
-    fit.few
-
-pub tuples_true-put_next-requires-clause-differ : goal.tuples_true-put_next-requires-clause-differ
-tuples_true-put_next-requires-clause-differ t c =
+pub tuples_true-open_at-requires-clause-differ : goal.tuples_true-open_at-requires-clause-differ
+tuples_true-open_at-requires-clause-differ t c =
     let q = c.args.task.now.problem in
     let fit = tuples-fit (signature_of q.domain) c.args.reading.number c.args.junction c.args.vars.now c.args.bound.now (tree_of_formula c.args.part.now) (predicates-few q) (functions-few q) c.requires.fits in
     fit.differ
 
-pub tuples_true-put_next-requires-clause-occur : goal.tuples_true-put_next-requires-clause-occur
-tuples_true-put_next-requires-clause-occur t c =
+pub tuples_true-open_at-requires-clause-occur : goal.tuples_true-open_at-requires-clause-occur
+tuples_true-open_at-requires-clause-occur t c =
     let q = c.args.task.now.problem in
     let fit = tuples-fit (signature_of q.domain) c.args.reading.number c.args.junction c.args.vars.now c.args.bound.now (tree_of_formula c.args.part.now) (predicates-few q) (functions-few q) c.requires.fits in
     fit.occur
 
-pub tuples_true-put_next-requires-clause-fits : goal.tuples_true-put_next-requires-clause-fits
-tuples_true-put_next-requires-clause-fits t c =
+pub tuples_true-open_at-requires-clause-fits : goal.tuples_true-open_at-requires-clause-fits
+tuples_true-open_at-requires-clause-fits t c =
     let q = c.args.task.now.problem in
     let fit = tuples-fit (signature_of q.domain) c.args.reading.number c.args.junction c.args.vars.now c.args.bound.now (tree_of_formula c.args.part.now) (predicates-few q) (functions-few q) c.requires.fits in
     fit.bound
+
+pub tuples_true-loop-reading-init : goal.tuples_true-loop-reading-init
+tuples_true-loop-reading-init t c =
+    let same : assignment_in c.current.result.now ≡ assignment_in (take 32 c.args.frames.now) = ap assignment_in c.current.ensures in
+    record {
+      reads = subst (λ (x : Assignment). Reads c.args.vars.now x c.args.bound.now c.open_at.new.self) same c.open_at.ensures.reads;
+      scope = λ u. refl;
+      truths = c.requires.truths;
+      passed = subst (TuplesPassed (plain_problem c.args.task.now.problem) c.args.w.now c.args.reading.number c.args.reading.level (assignment_in (take 32 c.args.frames.now)) c.args.vars.now c.args.bound.now (tree_of_formula c.args.part.now) c.deciding_truth-stop.result) (sym c.open_at.ensures.before)
+          (tuples-begun (plain_problem c.args.task.now.problem) c.args.w.now c.args.reading.number c.args.reading.level (assignment_in (take 32 c.args.frames.now)) c.args.vars.now c.args.bound.now (tree_of_formula c.args.part.now) c.deciding_truth-stop.result);
+    }
+
+pub tuples_true-put_in_scope-requires-clause-slots : goal.tuples_true-put_in_scope-requires-clause-slots
+tuples_true-put_in_scope-requires-clause-slots t c =
+    let q = c.args.task.now.problem in
+    let fit = tuples-fit (signature_of q.domain) c.args.reading.number c.args.junction c.args.vars.now c.args.bound.now (tree_of_formula c.args.part.now) (predicates-few q) (functions-few q) c.requires.fits in
+    fit.in_frame
+
+pub tuples_true-put_in_scope-requires-clause-same : goal.tuples_true-put_in_scope-requires-clause-same
+tuples_true-put_in_scope-requires-clause-same t c =
+    sym (c.values.ensures.count c.args.vars.now (assignment_in (take 32 c.args.frames.now)) c.args.bound.now (c.next.ensures.reads c.args.vars.now (assignment_in (take 32 c.args.frames.now)) c.loop-reading.invariant.reads))
 
 pub tuples_true-truth_of-requires : goal.tuples_true-truth_of-requires
 tuples_true-truth_of-requires t c =
     let q = c.args.task.now.problem in
     let fit = tuples-fit (signature_of q.domain) c.args.reading.number c.args.junction c.args.vars.now c.args.bound.now (tree_of_formula c.args.part.now) (predicates-few q) (functions-few q) c.requires.fits in
     let less = lighter (plain_problem c.args.task.now.problem) c.args.reading.number c.args.reading.level (formula_nodes (tree_of_formula c.args.part.now)) (1 + formula_nodes (tree_of_formula c.args.part.now)) (omega arith) in
-    (omega (arith, less, c.decreases), (fit.body, omega (arith, c.requires.room, c.loop-reading.auto.frames, c.put_next.auto.frames)))
+    (omega (arith, less, c.decreases), (fit.body, (omega (arith, c.requires.room, c.loop-reading.auto.frames, c.put_in_scope.auto.frames), c.loop-reading.invariant.truths)))
 
 pub tuples_true-returns-then-truth-stop-clause-truth : goal.tuples_true-returns-then-truth-stop-clause-truth
 tuples_true-returns-then-truth-stop-clause-truth t c =
     let q = c.args.task.now.problem in
     let fit = tuples-fit (signature_of q.domain) c.args.reading.number c.args.junction c.args.vars.now c.args.bound.now (tree_of_formula c.args.part.now) (predicates-few q) (functions-few q) c.requires.fits in
-    let put = placed (situation_of (plain_problem c.args.task.now.problem) c.args.w.now) c.args.vars.now c.args.bound.now (assignment_in (take 32 c.args.frames.now)) (assignment_in (take 32 c.loop-reading.frames)) c.loop-reading.invariant.scope c.loop-reading.begun (assignment_in (take 32 c.put_next.new.frames)) c.put_next.result c.put_next.ensures c.loop-reading-test.true in
+    let next = c.next.ensures.next c.args.vars.now (assignment_in (take 32 c.args.frames.now)) c.loop-reading.invariant.reads in
+    let here = c.put_in_scope.ensures ∙ c.loop-reading.invariant.scope c.values.result.now in
     let r : Result Bool RangeNote = Ok c.in-Ok.truth in
-    tuples-stop (plain_problem c.args.task.now.problem) c.args.w.now c.args.reading.number c.args.reading.level (assignment_in (take 32 c.args.frames.now)) c.args.vars.now c.args.bound.now (tree_of_formula c.args.part.now) fit.differ fit.occur c.args.junction c.deciding_truth-stop.result c.deciding_truth-stop.ensures (tuple_before c.loop-reading.begun c.args.vars.now (assignment_in (take 32 c.loop-reading.frames))) c.loop-reading.invariant.passed (Some put.tuple) put.tuple put.next refl c.in-Ok.truth (subst (λ (x : Assignment). IsTruth (plain_problem c.args.task.now.problem) c.args.w.now c.args.reading.number c.args.reading.level x (tree_of_formula c.args.part.now) r) put.here c.in-Ok.ensures.truth) (same-truth c.in-Ok.truth c.deciding_truth-stop.result c.if-truth-stop.true)
+    tuples-stop (plain_problem c.args.task.now.problem) c.args.w.now c.args.reading.number c.args.reading.level (assignment_in (take 32 c.args.frames.now)) c.args.vars.now c.args.bound.now (tree_of_formula c.args.part.now) fit.differ fit.occur c.args.junction c.deciding_truth-stop.result c.deciding_truth-stop.ensures c.loop-reading.tuples.tuple c.loop-reading.invariant.passed c.next.new.self.tuple c.values.result.now next c.values.ensures.values c.in-Ok.truth (subst (λ (x : Assignment). IsTruth (plain_problem c.args.task.now.problem) c.args.w.now c.args.reading.number c.args.reading.level x (tree_of_formula c.args.part.now) r) here c.in-Ok.ensures.truth) (same-truth c.in-Ok.truth c.deciding_truth-stop.result c.if-truth-stop.true)
 
 pub tuples_true-returns-then-truth-stop-clause-others : goal.tuples_true-returns-then-truth-stop-clause-others
 tuples_true-returns-then-truth-stop-clause-others t c =
-    let q = c.args.task.now.problem in
-    let fit = tuples-fit (signature_of q.domain) c.args.reading.number c.args.junction c.args.vars.now c.args.bound.now (tree_of_formula c.args.part.now) (predicates-few q) (functions-few q) c.requires.fits in
-    let put = placed (situation_of (plain_problem c.args.task.now.problem) c.args.w.now) c.args.vars.now c.args.bound.now (assignment_in (take 32 c.args.frames.now)) (assignment_in (take 32 c.loop-reading.frames)) c.loop-reading.invariant.scope c.loop-reading.begun (assignment_in (take 32 c.put_next.new.frames)) c.put_next.result c.put_next.ensures c.loop-reading-test.true in
-    λ u. bind-through c.args.vars.now u put.tuple (assignment_in (take 32 c.truth_of.new.frames)) (assignment_in (take 32 c.args.frames.now)) (ap assignment_in c.truth_of.ensures.frame ∙ put.here)
+    let here = c.put_in_scope.ensures ∙ c.loop-reading.invariant.scope c.values.result.now in
+    λ u. bind-through c.args.vars.now u c.values.result.now (assignment_in (take 32 c.truth_of.new.frames)) (assignment_in (take 32 c.args.frames.now)) (ap assignment_in c.truth_of.ensures.frame ∙ here)
 
 pub tuples_true-returns-in-Err-clause-truth : goal.tuples_true-returns-in-Err-clause-truth
 tuples_true-returns-in-Err-clause-truth t c =
     let q = c.args.task.now.problem in
     let fit = tuples-fit (signature_of q.domain) c.args.reading.number c.args.junction c.args.vars.now c.args.bound.now (tree_of_formula c.args.part.now) (predicates-few q) (functions-few q) c.requires.fits in
-    let put = placed (situation_of (plain_problem c.args.task.now.problem) c.args.w.now) c.args.vars.now c.args.bound.now (assignment_in (take 32 c.args.frames.now)) (assignment_in (take 32 c.loop-reading.frames)) c.loop-reading.invariant.scope c.loop-reading.begun (assignment_in (take 32 c.put_next.new.frames)) c.put_next.result c.put_next.ensures c.loop-reading-test.true in
+    let next = c.next.ensures.next c.args.vars.now (assignment_in (take 32 c.args.frames.now)) c.loop-reading.invariant.reads in
+    let here = c.put_in_scope.ensures ∙ c.loop-reading.invariant.scope c.values.result.now in
     let r : Result Bool RangeNote = Err c.in-Err.note in
-    tuples-noted (plain_problem c.args.task.now.problem) c.args.w.now c.args.reading.number c.args.reading.level (assignment_in (take 32 c.args.frames.now)) c.args.vars.now c.args.bound.now (tree_of_formula c.args.part.now) fit.differ fit.occur c.args.junction c.deciding_truth-stop.result c.deciding_truth-stop.ensures (tuple_before c.loop-reading.begun c.args.vars.now (assignment_in (take 32 c.loop-reading.frames))) c.loop-reading.invariant.passed (Some put.tuple) put.tuple put.next refl c.in-Err.note (subst (λ (x : Assignment). IsTruth (plain_problem c.args.task.now.problem) c.args.w.now c.args.reading.number c.args.reading.level x (tree_of_formula c.args.part.now) r) put.here c.in-Err.ensures.truth)
+    tuples-noted (plain_problem c.args.task.now.problem) c.args.w.now c.args.reading.number c.args.reading.level (assignment_in (take 32 c.args.frames.now)) c.args.vars.now c.args.bound.now (tree_of_formula c.args.part.now) fit.differ fit.occur c.args.junction c.deciding_truth-stop.result c.deciding_truth-stop.ensures c.loop-reading.tuples.tuple c.loop-reading.invariant.passed c.next.new.self.tuple c.values.result.now next c.values.ensures.values c.in-Err.note (subst (λ (x : Assignment). IsTruth (plain_problem c.args.task.now.problem) c.args.w.now c.args.reading.number c.args.reading.level x (tree_of_formula c.args.part.now) r) here c.in-Err.ensures.truth)
 
 pub tuples_true-returns-in-Err-clause-others : goal.tuples_true-returns-in-Err-clause-others
 tuples_true-returns-in-Err-clause-others t c =
-    let q = c.args.task.now.problem in
-    let fit = tuples-fit (signature_of q.domain) c.args.reading.number c.args.junction c.args.vars.now c.args.bound.now (tree_of_formula c.args.part.now) (predicates-few q) (functions-few q) c.requires.fits in
-    let put = placed (situation_of (plain_problem c.args.task.now.problem) c.args.w.now) c.args.vars.now c.args.bound.now (assignment_in (take 32 c.args.frames.now)) (assignment_in (take 32 c.loop-reading.frames)) c.loop-reading.invariant.scope c.loop-reading.begun (assignment_in (take 32 c.put_next.new.frames)) c.put_next.result c.put_next.ensures c.loop-reading-test.true in
-    λ u. bind-through c.args.vars.now u put.tuple (assignment_in (take 32 c.truth_of.new.frames)) (assignment_in (take 32 c.args.frames.now)) (ap assignment_in c.truth_of.ensures.frame ∙ put.here)
+    let here = c.put_in_scope.ensures ∙ c.loop-reading.invariant.scope c.values.result.now in
+    λ u. bind-through c.args.vars.now u c.values.result.now (assignment_in (take 32 c.truth_of.new.frames)) (assignment_in (take 32 c.args.frames.now)) (ap assignment_in c.truth_of.ensures.frame ∙ here)
 
 pub tuples_true-loop-reading-preserved : goal.tuples_true-loop-reading-preserved
 tuples_true-loop-reading-preserved t c =
     let q = c.args.task.now.problem in
     let fit = tuples-fit (signature_of q.domain) c.args.reading.number c.args.junction c.args.vars.now c.args.bound.now (tree_of_formula c.args.part.now) (predicates-few q) (functions-few q) c.requires.fits in
-    let put = placed (situation_of (plain_problem c.args.task.now.problem) c.args.w.now) c.args.vars.now c.args.bound.now (assignment_in (take 32 c.args.frames.now)) (assignment_in (take 32 c.loop-reading.frames)) c.loop-reading.invariant.scope c.loop-reading.begun (assignment_in (take 32 c.put_next.new.frames)) c.put_next.result c.put_next.ensures c.loop-reading-test.true in
-    let stands : tuple_in c.args.vars.now (assignment_in (take 32 c.truth_of.new.frames)) ≡ Some put.tuple = ap (tuple_in c.args.vars.now) (ap assignment_in c.truth_of.ensures.frame ∙ put.here) ∙ tuple-put c.args.vars.now put.tuple (assignment_in (take 32 c.args.frames.now)) fit.differ put.size in
+    let next = c.next.ensures.next c.args.vars.now (assignment_in (take 32 c.args.frames.now)) c.loop-reading.invariant.reads in
+    let here = c.put_in_scope.ensures ∙ c.loop-reading.invariant.scope c.values.result.now in
     let r : Result Bool RangeNote = Ok c.in-Ok.truth in
     record {
-      scope = λ u. bind-through c.args.vars.now u put.tuple (assignment_in (take 32 c.truth_of.new.frames)) (assignment_in (take 32 c.args.frames.now)) (ap assignment_in c.truth_of.ensures.frame ∙ put.here);
-      passed = subst (TuplesPassed (plain_problem c.args.task.now.problem) c.args.w.now c.args.reading.number c.args.reading.level (assignment_in (take 32 c.args.frames.now)) c.args.vars.now c.args.bound.now (tree_of_formula c.args.part.now) c.deciding_truth-stop.result) (sym stands)
-          (tuples-on (plain_problem c.args.task.now.problem) c.args.w.now c.args.reading.number c.args.reading.level (assignment_in (take 32 c.args.frames.now)) c.args.vars.now c.args.bound.now (tree_of_formula c.args.part.now) fit.differ fit.occur c.args.junction c.deciding_truth-stop.result c.deciding_truth-stop.ensures (tuple_before c.loop-reading.begun c.args.vars.now (assignment_in (take 32 c.loop-reading.frames))) c.loop-reading.invariant.passed (Some put.tuple) put.tuple put.next refl c.in-Ok.truth (subst (λ (x : Assignment). IsTruth (plain_problem c.args.task.now.problem) c.args.w.now c.args.reading.number c.args.reading.level x (tree_of_formula c.args.part.now) r) put.here c.in-Ok.ensures.truth) (other-truth c.in-Ok.truth c.deciding_truth-stop.result c.if-truth-stop.false));
+      reads = c.next.ensures.reads c.args.vars.now (assignment_in (take 32 c.args.frames.now)) c.loop-reading.invariant.reads;
+      scope = λ u. bind-through c.args.vars.now u c.values.result.now (assignment_in (take 32 c.truth_of.new.frames)) (assignment_in (take 32 c.args.frames.now)) (ap assignment_in c.truth_of.ensures.frame ∙ here);
+      truths = c.truth_of.ensures.truths;
+      passed = subst (TuplesPassed (plain_problem c.args.task.now.problem) c.args.w.now c.args.reading.number c.args.reading.level (assignment_in (take 32 c.args.frames.now)) c.args.vars.now c.args.bound.now (tree_of_formula c.args.part.now) c.deciding_truth-stop.result) (sym c.values.ensures.values)
+          (tuples-on (plain_problem c.args.task.now.problem) c.args.w.now c.args.reading.number c.args.reading.level (assignment_in (take 32 c.args.frames.now)) c.args.vars.now c.args.bound.now (tree_of_formula c.args.part.now) fit.differ fit.occur c.args.junction c.deciding_truth-stop.result c.deciding_truth-stop.ensures c.loop-reading.tuples.tuple c.loop-reading.invariant.passed c.next.new.self.tuple c.values.result.now next c.values.ensures.values c.in-Ok.truth (subst (λ (x : Assignment). IsTruth (plain_problem c.args.task.now.problem) c.args.w.now c.args.reading.number c.args.reading.level x (tree_of_formula c.args.part.now) r) here c.in-Ok.ensures.truth) (other-truth c.in-Ok.truth c.deciding_truth-stop.result c.if-truth-stop.false));
     }
 
 pub tuples_true-loop-reading-smaller : goal.tuples_true-loop-reading-smaller
 tuples_true-loop-reading-smaller t c =
     let q = c.args.task.now.problem in
     let fit = tuples-fit (signature_of q.domain) c.args.reading.number c.args.junction c.args.vars.now c.args.bound.now (tree_of_formula c.args.part.now) (predicates-few q) (functions-few q) c.requires.fits in
-    let put = placed (situation_of (plain_problem c.args.task.now.problem) c.args.w.now) c.args.vars.now c.args.bound.now (assignment_in (take 32 c.args.frames.now)) (assignment_in (take 32 c.loop-reading.frames)) c.loop-reading.invariant.scope c.loop-reading.begun (assignment_in (take 32 c.put_next.new.frames)) c.put_next.result c.put_next.ensures c.loop-reading-test.true in
-    let stands : tuple_in c.args.vars.now (assignment_in (take 32 c.truth_of.new.frames)) ≡ Some put.tuple = ap (tuple_in c.args.vars.now) (ap assignment_in c.truth_of.ensures.frame ∙ put.here) ∙ tuple-put c.args.vars.now put.tuple (assignment_in (take 32 c.args.frames.now)) fit.differ put.size in
+    let next = c.next.ensures.next c.args.vars.now (assignment_in (take 32 c.args.frames.now)) c.loop-reading.invariant.reads in
     let all = tuples_read (plain_problem c.args.task.now.problem) c.args.w.now c.args.reading.number c.args.reading.level (assignment_in (take 32 c.args.frames.now)) c.args.vars.now c.args.bound.now (tree_of_formula c.args.part.now) in
-    subst (λ (o : Option (List Value)). length (rest_after o all) < length (rest_after (tuple_before c.loop-reading.begun c.args.vars.now (assignment_in (take 32 c.loop-reading.frames))) all)) (sym stands)
-    (fewer-left (plain_problem c.args.task.now.problem) c.args.w.now c.args.reading.number c.args.reading.level (assignment_in (take 32 c.args.frames.now)) c.args.vars.now c.args.bound.now (tree_of_formula c.args.part.now) fit.differ fit.occur c.args.junction c.deciding_truth-stop.result c.deciding_truth-stop.ensures (tuple_before c.loop-reading.begun c.args.vars.now (assignment_in (take 32 c.loop-reading.frames))) c.loop-reading.invariant.passed (Some put.tuple) put.tuple put.next refl)
+    subst (λ (o : Option (List Value)). length (rest_after o all) < length (rest_after c.loop-reading.tuples.tuple all)) (sym c.values.ensures.values)
+    (fewer-left (plain_problem c.args.task.now.problem) c.args.w.now c.args.reading.number c.args.reading.level (assignment_in (take 32 c.args.frames.now)) c.args.vars.now c.args.bound.now (tree_of_formula c.args.part.now) fit.differ fit.occur c.args.junction c.deciding_truth-stop.result c.deciding_truth-stop.ensures c.loop-reading.tuples.tuple c.loop-reading.invariant.passed c.next.new.self.tuple c.values.result.now next c.values.ensures.values)
 
 pub tuples_true-returns-clause-truth : goal.tuples_true-returns-clause-truth
 tuples_true-returns-clause-truth t c =
     let q = c.args.task.now.problem in
     let fit = tuples-fit (signature_of q.domain) c.args.reading.number c.args.junction c.args.vars.now c.args.bound.now (tree_of_formula c.args.part.now) (predicates-few q) (functions-few q) c.requires.fits in
-    let put = none-placed (situation_of (plain_problem c.args.task.now.problem) c.args.w.now) c.args.vars.now c.args.bound.now (assignment_in (take 32 c.args.frames.now)) (assignment_in (take 32 c.loop-reading.frames)) c.loop-reading.invariant.scope c.loop-reading.begun (assignment_in (take 32 c.put_next.new.frames)) c.put_next.result c.put_next.ensures c.loop-reading-test.false in
-    tuples-end (plain_problem c.args.task.now.problem) c.args.w.now c.args.reading.number c.args.reading.level (assignment_in (take 32 c.args.frames.now)) c.args.vars.now c.args.bound.now (tree_of_formula c.args.part.now) fit.differ fit.occur c.args.junction c.deciding_truth-stop.result c.deciding_truth-stop.ensures (tuple_before c.loop-reading.begun c.args.vars.now (assignment_in (take 32 c.loop-reading.frames))) c.loop-reading.invariant.passed None put.none refl
-
-pub tuples_true-returns-clause-others : goal.tuples_true-returns-clause-others
-tuples_true-returns-clause-others t c =
-    let q = c.args.task.now.problem in
-    let fit = tuples-fit (signature_of q.domain) c.args.reading.number c.args.junction c.args.vars.now c.args.bound.now (tree_of_formula c.args.part.now) (predicates-few q) (functions-few q) c.requires.fits in
-    let put = none-placed (situation_of (plain_problem c.args.task.now.problem) c.args.w.now) c.args.vars.now c.args.bound.now (assignment_in (take 32 c.args.frames.now)) (assignment_in (take 32 c.loop-reading.frames)) c.loop-reading.invariant.scope c.loop-reading.begun (assignment_in (take 32 c.put_next.new.frames)) c.put_next.result c.put_next.ensures c.loop-reading-test.false in
-    λ u. ap (bind c.args.vars.now u) put.here ∙ c.loop-reading.invariant.scope u
+    let next = c.next.ensures.next c.args.vars.now (assignment_in (take 32 c.args.frames.now)) c.loop-reading.invariant.reads in
+    tuples-end (plain_problem c.args.task.now.problem) c.args.w.now c.args.reading.number c.args.reading.level (assignment_in (take 32 c.args.frames.now)) c.args.vars.now c.args.bound.now (tree_of_formula c.args.part.now) fit.differ fit.occur c.args.junction c.deciding_truth-stop.result c.deciding_truth-stop.ensures c.loop-reading.tuples.tuple c.loop-reading.invariant.passed c.next.new.self.tuple next (c.next.ensures.end c.loop-reading-test.false)

@@ -1,11 +1,10 @@
-use Rattle.std.proofs.Common.{◌≡◌, ◌+◌, List, drop, take, length}
-use Rattle.tl_eval.specs.Frames.{assignment_in}
-use Rattle.tl_eval.specs.PutNext.{tuple_before}
+use Rattle.std.proofs.Common.{◌≡◌, ◌+◌, drop, take, length}
+use Rattle.tl_eval.specs.Frames.{assignment_in, AgreeElsewhere}
+use Rattle.tl_eval.specs.Reader.{Reads}
+use Rattle.tl_eval.specs.Remembered.{AreTruths}
 use Rattle.tl_eval.proofs.FormulaSizes.{formula_nodes, formulas_nodes, weight}
 use Rattle.tl_eval.proofs.StateLaws.{PartsPassed, TuplesPassed, tuples_read}
 use Rattle.tl_eval.proofs.TupleRest.{rest_after}
-use Rattle.tl_syntax.specs.declared.value.Value.{Value}
-use Rattle.tl_syntax.specs.Assignment.{bind}
 use Rattle.tl_syntax.specs.TreeOfFormula.{tree_of_formula, tree_of_formulas}
 use Rattle.tl_terms.specs.ProblemMeaning.{plain_problem}
 use Rattle.tl_eval.proofs.state_truth.+truth_of.Given as goal
@@ -17,14 +16,18 @@ abbrev pub decreases-parts_true : goal.decreases-parts_true
 decreases-parts_true l = weight (plain_problem l.task.now.problem) l.reading.number l.reading.level (formulas_nodes (tree_of_formulas l.parts.now))
 
 abbrev pub decreases-defined_true : goal.decreases-defined_true
-decreases-defined_true l = weight (plain_problem l.task.now.problem) l.reading.number l.reading.level 1
+decreases-defined_true l = weight (plain_problem l.task.now.problem) l.reading.number l.reading.level 2
 
 abbrev pub decreases-body_true : goal.decreases-body_true
-decreases-body_true l = weight (plain_problem l.task.now.problem) l.reading.number l.reading.level 0
+decreases-body_true l = weight (plain_problem l.task.now.problem) l.reading.number l.reading.level 1
+
+abbrev pub decreases-opened_true : goal.decreases-opened_true
+decreases-opened_true l = weight (plain_problem l.task.now.problem) l.reading.number l.reading.level 0
 
 abbrev pub invariant-parts_true-loop-part : goal.invariant-parts_true-loop-part
 invariant-parts_true-loop-part l = record {
   frame : take 32 l.frames ≡ take 32 l.fn.frames;
+  truths : AreTruths (plain_problem l.task.problem) l.w l.memory;
   passed : PartsPassed (plain_problem l.task.problem) l.w l.reading.number l.reading.level (assignment_in (take 32 l.fn.frames)) l.stop l.part-items (drop l.part-index l.part-items);
 }
 
@@ -35,10 +38,12 @@ abbrev pub decreases-tuples_true : goal.decreases-tuples_true
 decreases-tuples_true l = weight (plain_problem l.task.now.problem) l.reading.number l.reading.level (1 + formula_nodes (tree_of_formula l.part.now))
 
 abbrev pub decreases-tuples_true-loop-reading : goal.decreases-tuples_true-loop-reading
-decreases-tuples_true-loop-reading l = length (rest_after (tuple_before l.begun l.vars (assignment_in (take 32 l.frames))) (tuples_read (plain_problem l.task.problem) l.w l.reading.number l.reading.level (assignment_in (take 32 l.fn.frames)) l.vars l.bound (tree_of_formula l.part)))
+decreases-tuples_true-loop-reading l = length (rest_after l.tuples.tuple (tuples_read (plain_problem l.task.problem) l.w l.reading.number l.reading.level (assignment_in (take 32 l.fn.frames)) l.vars l.bound (tree_of_formula l.part)))
 
 abbrev pub invariant-tuples_true-loop-reading : goal.invariant-tuples_true-loop-reading
 invariant-tuples_true-loop-reading l = record {
-  scope : (t : List Value) → bind l.vars t (assignment_in (take 32 l.frames)) ≡ bind l.vars t (assignment_in (take 32 l.fn.frames));
-  passed : TuplesPassed (plain_problem l.task.problem) l.w l.reading.number l.reading.level (assignment_in (take 32 l.fn.frames)) l.vars l.bound (tree_of_formula l.part) l.stop (tuple_before l.begun l.vars (assignment_in (take 32 l.frames)));
+  reads : Reads l.vars (assignment_in (take 32 l.fn.frames)) l.bound l.tuples;
+  scope : AgreeElsewhere l.vars (assignment_in (take 32 l.frames)) (assignment_in (take 32 l.fn.frames));
+  truths : AreTruths (plain_problem l.task.problem) l.w l.memory;
+  passed : TuplesPassed (plain_problem l.task.problem) l.w l.reading.number l.reading.level (assignment_in (take 32 l.fn.frames)) l.vars l.bound (tree_of_formula l.part) l.stop l.tuples.tuple;
 }

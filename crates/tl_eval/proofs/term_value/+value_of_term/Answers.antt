@@ -3,20 +3,20 @@ use Rattle.std.proofs.lemmas.Int.{to_z-of_z}
 use mir.Val.{SFits}
 use Rattle.tl_eval.specs.Frames.{assignment_in}
 use Rattle.tl_syntax.specs.TreeOfTerm.{tree_of_terms}
-use Rattle.tl_eval.proofs.TermLaws.{few-Place, few-Arith, at-Var, at-Val, at-Place, at-Place-None, at-Place-Err, at-Arith-None, at-Arith-Err, operand-is, at-Arith-second-None, at-Arith-second-Err, at-Arith, First, begun, item-few, pushed, undefined, noted, ended}
+use Rattle.tl_eval.proofs.TermLaws.{few-Place, few-Arith, at-Var, at-Val, at-Place, at-Arith-None, at-Arith-Err, operand-is, at-Arith-second-None, at-Arith-second-Err, at-Arith, First, begun, item-few, pushed, undefined, noted, ended}
 use Rattle.tl_eval.proofs.term_value.+value_of_term.Goals as goal
 
-pub value_of_term-values_of_terms-requires : goal.value_of_term-values_of_terms-requires
-value_of_term-values_of_terms-requires t c =
+pub value_of_term-value_of_place-requires : goal.value_of_term-value_of_place-requires
+value_of_term-value_of_place-requires t c =
     let few = few-Place c.args.t.now c.in-Place.fun c.in-Place.args c.in-Place.is c.requires in (omega (arith, few.smaller, c.decreases), (few.small, few.few))
 
 pub value_of_term-value_of_term-requires : goal.value_of_term-value_of_term-requires
 value_of_term-value_of_term-requires t c =
     let few = few-Arith c.args.t.now c.in-Arith.op c.in-Arith.left c.in-Arith.right c.in-Arith.at c.in-Arith.is c.requires in rw c.deref.ensures (omega (arith, few.first_smaller, c.decreases), few.first)
 
-pub value_of_term-value_of_term-requires-in-Ok-Some-integer_of : goal.value_of_term-value_of_term-requires-in-Ok-Some-integer_of
-value_of_term-value_of_term-requires-in-Ok-Some-integer_of t c =
-    let few = few-Arith c.args.t.now c.in-Arith.op c.in-Arith.left c.in-Arith.right c.in-Arith.at c.in-Arith.is c.requires in rw c.deref-in-Ok-Some-integer_of.ensures (omega (arith, few.second_smaller, c.decreases), few.second)
+pub value_of_term-value_of_term-requires-in-Ok-Some : goal.value_of_term-value_of_term-requires-in-Ok-Some
+value_of_term-value_of_term-requires-in-Ok-Some t c =
+    let few = few-Arith c.args.t.now c.in-Arith.op c.in-Arith.left c.in-Arith.right c.in-Arith.at c.in-Arith.is c.requires in rw c.deref-in-Ok-Some.ensures (omega (arith, few.second_smaller, c.decreases), few.second)
 
 pub value_of_term-returns-in-Var : goal.value_of_term-returns-in-Var
 value_of_term-returns-in-Var t c = at-Var c.args.w.now (assignment_in c.args.frame.now) c.args.t.now c.in-Var.var c.value_in.result c.in-Var.is c.value_in.ensures
@@ -24,71 +24,62 @@ value_of_term-returns-in-Var t c = at-Var c.args.w.now (assignment_in c.args.fra
 pub value_of_term-returns-in-Val : goal.value_of_term-returns-in-Val
 value_of_term-returns-in-Val t c = at-Val c.args.w.now (assignment_in c.args.frame.now) c.args.t.now c.in-Val.value c.in-Val.is
 
-pub value_of_term-returns-in-Ok-Some : goal.value_of_term-returns-in-Ok-Some
-value_of_term-returns-in-Ok-Some t c =
-    at-Place c.args.w.now (assignment_in c.args.frame.now) c.args.t.now c.in-Place.fun c.in-Place.args c.in-Ok-Some.field-0 c.in-Ok-Some.row c.as_slice.result.now c.value.result c.in-Place.is c.in-Ok-Some.ensures c.in-Ok-Some.field-0-is c.as_slice.ensures c.value.ensures
+pub value_of_term-returns-in-Place : goal.value_of_term-returns-in-Place
+value_of_term-returns-in-Place t c = at-Place c.args.w.now (assignment_in c.args.frame.now) c.args.t.now c.in-Place.fun c.in-Place.args c.value_of_place.result c.in-Place.is c.value_of_place.ensures
 
 pub value_of_term-returns-in-Ok-None : goal.value_of_term-returns-in-Ok-None
 value_of_term-returns-in-Ok-None t c =
-    at-Place-None c.args.w.now (assignment_in c.args.frame.now) c.args.t.now c.in-Place.fun c.in-Place.args c.in-Ok-None.field-0 c.in-Place.is c.in-Ok-None.ensures c.in-Ok-None.field-0-is
+    at-Arith-None c.args.w.now (assignment_in c.args.frame.now) c.args.t.now c.in-Arith.op c.in-Arith.left c.in-Arith.right c.in-Arith.at c.deref.result.now c.value_of_term.result c.integer_of.result c.in-Ok-None.field-0
+    c.in-Arith.is c.deref.ensures c.value_of_term.ensures c.integer_of.ensures c.in-Ok-None.is c.in-Ok-None.field-0-is
 
 pub value_of_term-returns-in-Err : goal.value_of_term-returns-in-Err
 value_of_term-returns-in-Err t c =
-    at-Place-Err c.args.w.now (assignment_in c.args.frame.now) c.args.t.now c.in-Place.fun c.in-Place.args c.in-Err.note c.in-Place.is c.in-Err.ensures
+    at-Arith-Err c.args.w.now (assignment_in c.args.frame.now) c.args.t.now c.in-Arith.op c.in-Arith.left c.in-Arith.right c.in-Arith.at c.deref.result.now c.value_of_term.result c.integer_of.result c.in-Err.note
+    c.in-Arith.is c.deref.ensures c.value_of_term.ensures c.integer_of.ensures c.in-Err.is
 
 pub value_of_term-returns-in-Ok-None-integer_of : goal.value_of_term-returns-in-Ok-None-integer_of
 value_of_term-returns-in-Ok-None-integer_of t c =
-    at-Arith-None c.args.w.now (assignment_in c.args.frame.now) c.args.t.now c.in-Arith.op c.in-Arith.left c.in-Arith.right c.in-Arith.at c.deref.result.now c.value_of_term.result c.integer_of.result c.in-Ok-None-integer_of.field-0
-    c.in-Arith.is c.deref.ensures c.value_of_term.ensures c.integer_of.ensures c.in-Ok-None-integer_of.is c.in-Ok-None-integer_of.field-0-is
+    let first = operand-is c.args.w.now (assignment_in c.args.frame.now) c.in-Arith.left.value c.deref.result.now c.value_of_term.result c.integer_of.result c.in-Ok-Some.field-0 c.in-Ok-Some.a c.deref.ensures c.value_of_term.ensures c.integer_of.ensures c.in-Ok-Some.is c.in-Ok-Some.field-0-is in
+    at-Arith-second-None c.args.w.now (assignment_in c.args.frame.now) c.args.t.now c.in-Arith.op c.in-Arith.left c.in-Arith.right c.in-Arith.at c.in-Ok-Some.a c.deref-in-Ok-Some.result.now c.value_of_term-in-Ok-Some.result c.integer_of-in-Ok-Some.result c.in-Ok-None-integer_of.field-0
+    c.in-Arith.is first c.deref-in-Ok-Some.ensures c.value_of_term-in-Ok-Some.ensures c.integer_of-in-Ok-Some.ensures c.in-Ok-None-integer_of.is c.in-Ok-None-integer_of.field-0-is
 
 pub value_of_term-returns-in-Err-integer_of : goal.value_of_term-returns-in-Err-integer_of
 value_of_term-returns-in-Err-integer_of t c =
-    at-Arith-Err c.args.w.now (assignment_in c.args.frame.now) c.args.t.now c.in-Arith.op c.in-Arith.left c.in-Arith.right c.in-Arith.at c.deref.result.now c.value_of_term.result c.integer_of.result c.in-Err-integer_of.note
-    c.in-Arith.is c.deref.ensures c.value_of_term.ensures c.integer_of.ensures c.in-Err-integer_of.is
+    let first = operand-is c.args.w.now (assignment_in c.args.frame.now) c.in-Arith.left.value c.deref.result.now c.value_of_term.result c.integer_of.result c.in-Ok-Some.field-0 c.in-Ok-Some.a c.deref.ensures c.value_of_term.ensures c.integer_of.ensures c.in-Ok-Some.is c.in-Ok-Some.field-0-is in
+    at-Arith-second-Err c.args.w.now (assignment_in c.args.frame.now) c.args.t.now c.in-Arith.op c.in-Arith.left c.in-Arith.right c.in-Arith.at c.in-Ok-Some.a c.deref-in-Ok-Some.result.now c.value_of_term-in-Ok-Some.result c.integer_of-in-Ok-Some.result c.in-Err-integer_of.note
+    c.in-Arith.is first c.deref-in-Ok-Some.ensures c.value_of_term-in-Ok-Some.ensures c.integer_of-in-Ok-Some.ensures c.in-Err-integer_of.is
 
-pub value_of_term-returns-in-Ok-None-integer_of-2 : goal.value_of_term-returns-in-Ok-None-integer_of-2
-value_of_term-returns-in-Ok-None-integer_of-2 t c =
-    let first = operand-is c.args.w.now (assignment_in c.args.frame.now) c.in-Arith.left.value c.deref.result.now c.value_of_term.result c.integer_of.result c.in-Ok-Some-integer_of.field-0 c.in-Ok-Some-integer_of.a c.deref.ensures c.value_of_term.ensures c.integer_of.ensures c.in-Ok-Some-integer_of.is c.in-Ok-Some-integer_of.field-0-is in
-    at-Arith-second-None c.args.w.now (assignment_in c.args.frame.now) c.args.t.now c.in-Arith.op c.in-Arith.left c.in-Arith.right c.in-Arith.at c.in-Ok-Some-integer_of.a c.deref-in-Ok-Some-integer_of.result.now c.value_of_term-in-Ok-Some-integer_of.result c.integer_of-in-Ok-Some-integer_of.result c.in-Ok-None-integer_of-2.field-0
-    c.in-Arith.is first c.deref-in-Ok-Some-integer_of.ensures c.value_of_term-in-Ok-Some-integer_of.ensures c.integer_of-in-Ok-Some-integer_of.ensures c.in-Ok-None-integer_of-2.is c.in-Ok-None-integer_of-2.field-0-is
-
-pub value_of_term-returns-in-Err-integer_of-2 : goal.value_of_term-returns-in-Err-integer_of-2
-value_of_term-returns-in-Err-integer_of-2 t c =
-    let first = operand-is c.args.w.now (assignment_in c.args.frame.now) c.in-Arith.left.value c.deref.result.now c.value_of_term.result c.integer_of.result c.in-Ok-Some-integer_of.field-0 c.in-Ok-Some-integer_of.a c.deref.ensures c.value_of_term.ensures c.integer_of.ensures c.in-Ok-Some-integer_of.is c.in-Ok-Some-integer_of.field-0-is in
-    at-Arith-second-Err c.args.w.now (assignment_in c.args.frame.now) c.args.t.now c.in-Arith.op c.in-Arith.left c.in-Arith.right c.in-Arith.at c.in-Ok-Some-integer_of.a c.deref-in-Ok-Some-integer_of.result.now c.value_of_term-in-Ok-Some-integer_of.result c.integer_of-in-Ok-Some-integer_of.result c.in-Err-integer_of-2.note
-    c.in-Arith.is first c.deref-in-Ok-Some-integer_of.ensures c.value_of_term-in-Ok-Some-integer_of.ensures c.integer_of-in-Ok-Some-integer_of.ensures c.in-Err-integer_of-2.is
-
-pub value_of_term-returns-in-Ok-Some-integer_of-2 : goal.value_of_term-returns-in-Ok-Some-integer_of-2
-value_of_term-returns-in-Ok-Some-integer_of-2 t c =
-    let first = operand-is c.args.w.now (assignment_in c.args.frame.now) c.in-Arith.left.value c.deref.result.now c.value_of_term.result c.integer_of.result c.in-Ok-Some-integer_of.field-0 c.in-Ok-Some-integer_of.a c.deref.ensures c.value_of_term.ensures c.integer_of.ensures c.in-Ok-Some-integer_of.is c.in-Ok-Some-integer_of.field-0-is in
-    let second = operand-is c.args.w.now (assignment_in c.args.frame.now) c.in-Arith.right.value c.deref-in-Ok-Some-integer_of.result.now c.value_of_term-in-Ok-Some-integer_of.result c.integer_of-in-Ok-Some-integer_of.result c.in-Ok-Some-integer_of-2.field-0 c.in-Ok-Some-integer_of-2.b c.deref-in-Ok-Some-integer_of.ensures c.value_of_term-in-Ok-Some-integer_of.ensures c.integer_of-in-Ok-Some-integer_of.ensures c.in-Ok-Some-integer_of-2.is c.in-Ok-Some-integer_of-2.field-0-is in
+pub value_of_term-returns-in-Ok-Some-integer_of : goal.value_of_term-returns-in-Ok-Some-integer_of
+value_of_term-returns-in-Ok-Some-integer_of t c =
+    let first = operand-is c.args.w.now (assignment_in c.args.frame.now) c.in-Arith.left.value c.deref.result.now c.value_of_term.result c.integer_of.result c.in-Ok-Some.field-0 c.in-Ok-Some.a c.deref.ensures c.value_of_term.ensures c.integer_of.ensures c.in-Ok-Some.is c.in-Ok-Some.field-0-is in
+    let second = operand-is c.args.w.now (assignment_in c.args.frame.now) c.in-Arith.right.value c.deref-in-Ok-Some.result.now c.value_of_term-in-Ok-Some.result c.integer_of-in-Ok-Some.result c.in-Ok-Some-integer_of.field-0 c.in-Ok-Some-integer_of.b c.deref-in-Ok-Some.ensures c.value_of_term-in-Ok-Some.ensures c.integer_of-in-Ok-Some.ensures c.in-Ok-Some-integer_of.is c.in-Ok-Some-integer_of.field-0-is in
     let e = assignment_in c.args.frame.now in
-    let a = c.in-Ok-Some-integer_of.a in
-    let b = c.in-Ok-Some-integer_of-2.b in
+    let a = c.in-Ok-Some.a in
+    let b = c.in-Ok-Some-integer_of.b in
     let a-fits : SFits w64 a = search rules in
     let b-fits : SFits w64 b = search rules in
     at-Arith c.args.w.now e c.args.t.now c.in-Arith.op c.in-Arith.left c.in-Arith.right c.in-Arith.at (to_z w64 (of_z w64 a)) (to_z w64 (of_z w64 b)) c.operate.result
     c.in-Arith.is (subst (First c.args.w.now e c.in-Arith.left.value) (sym (to_z-of_z w64 a a-fits)) first) (subst (First c.args.w.now e c.in-Arith.right.value) (sym (to_z-of_z w64 b b-fits)) second) c.operate.ensures
 
-pub values_of_terms-loop-term-init : goal.values_of_terms-loop-term-init
-values_of_terms-loop-term-init t c = begun c.args.w.now (assignment_in c.args.frame.now) c.args.ts.now c.as_slice-term-items.result.now c.new-row.result c.as_slice-term-items.ensures c.new-row.ensures c.requires.small c.requires.few
+pub put_values_of_terms-loop-term-init : goal.put_values_of_terms-loop-term-init
+put_values_of_terms-loop-term-init t c = begun c.args.w.now (assignment_in c.args.frame.now) c.args.ts.now c.as_slice-term-items.result.now c.args.row.now c.as_slice-term-items.ensures c.requires.empty c.requires.small c.requires.few
 
-pub values_of_terms-value_of_term-requires : goal.values_of_terms-value_of_term-requires
-values_of_terms-value_of_term-requires t c =
+pub put_values_of_terms-value_of_term-requires : goal.put_values_of_terms-value_of_term-requires
+put_values_of_terms-value_of_term-requires t c =
     let item = item-few c.args.w.now (assignment_in c.args.frame.now) (tree_of_terms c.args.ts.now) c.as_slice-term-items.result.now c.loop-term.term-index c.term-item.result c.loop-term.row c.loop-term-test.true c.term-item.is c.loop-term.invariant in (omega (arith, item.smaller, c.decreases), item.small)
 
-pub values_of_terms-returns-in-Ok-None : goal.values_of_terms-returns-in-Ok-None
-values_of_terms-returns-in-Ok-None t c =
+pub put_values_of_terms-returns-in-Ok-None : goal.put_values_of_terms-returns-in-Ok-None
+put_values_of_terms-returns-in-Ok-None t c =
     undefined c.args.w.now (assignment_in c.args.frame.now) (tree_of_terms c.args.ts.now) c.as_slice-term-items.result.now c.loop-term.term-index c.term-item.result c.loop-term.row c.in-Ok-None.field-0 c.loop-term-test.true c.term-item.is c.loop-term.invariant c.in-Ok-None.ensures c.in-Ok-None.field-0-is
 
-pub values_of_terms-returns-in-Err : goal.values_of_terms-returns-in-Err
-values_of_terms-returns-in-Err t c =
+pub put_values_of_terms-returns-in-Err : goal.put_values_of_terms-returns-in-Err
+put_values_of_terms-returns-in-Err t c =
     noted c.args.w.now (assignment_in c.args.frame.now) (tree_of_terms c.args.ts.now) c.as_slice-term-items.result.now c.loop-term.term-index c.term-item.result c.loop-term.row c.in-Err.note c.loop-term-test.true c.term-item.is c.loop-term.invariant c.in-Err.ensures
 
-pub values_of_terms-loop-term-preserved : goal.values_of_terms-loop-term-preserved
-values_of_terms-loop-term-preserved t c =
+pub put_values_of_terms-loop-term-preserved : goal.put_values_of_terms-loop-term-preserved
+put_values_of_terms-loop-term-preserved t c =
     pushed c.args.w.now (assignment_in c.args.frame.now) (tree_of_terms c.args.ts.now) c.as_slice-term-items.result.now c.loop-term.term-index c.term-item.result c.loop-term.row c.push.new.self c.in-Ok-Some.field-0 c.in-Ok-Some.value c.loop-term-test.true c.term-item.is c.loop-term.invariant c.in-Ok-Some.ensures c.in-Ok-Some.field-0-is c.push.ensures
 
-pub values_of_terms-returns : goal.values_of_terms-returns
-values_of_terms-returns t c =
+pub put_values_of_terms-returns : goal.put_values_of_terms-returns
+put_values_of_terms-returns t c =
     ended c.args.w.now (assignment_in c.args.frame.now) (tree_of_terms c.args.ts.now) c.as_slice-term-items.result.now c.loop-term.term-index c.loop-term.row c.loop-term-test.false c.loop-term.invariant

@@ -1,5 +1,6 @@
 use Rattle.std.proofs.Common.{◌≡◌, length, take, List, Option, sym, ap, ◌∙◌}
 use Rattle.tl_eval.specs.Frames.{assignment_in}
+use Rattle.tl_eval.proofs.BindLaws.{bind-through}
 use Rattle.tl_eval.proofs.FrameLaws.{length-frame}
 use Rattle.tl_eval.proofs.WholeLaws.{same-frames}
 use Rattle.tl_syntax.specs.declared.value.Value.{Value}
@@ -18,3 +19,6 @@ returns-clause-slots c =
     ap (λ (xs : List (Option Value)). length xs) (same-frames 32 c.self.inside.values.len c.self.inside.values.items c.put_in_scope.new.frames kept c.self.inside.values.ok.0)
     ∙ (length-frame c.put_in_scope.new.frames (kept ∙ c.self.invariant)
     ∙ (sym (length-frame c.self.inside.values.items c.self.invariant) ∙ ap (λ (xs : List (Option Value)). length xs) c.self.view_is))
+
+pub returns-clause-elsewhere : goal.returns-clause-elsewhere
+returns-clause-elsewhere c = λ t. bind-through c.args.vars.now t c.args.values.now _ (assignment_in c.args.self.now) (returns-clause-values c)

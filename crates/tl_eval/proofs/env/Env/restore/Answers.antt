@@ -1,4 +1,4 @@
-use Rattle.std.proofs.Common.{◌≡◌, length, take, List, Option, ap, ◌∙◌}
+use Rattle.std.proofs.Common.{◌≡◌, length, List, Option, ap, ◌∙◌}
 use Rattle.tl_eval.proofs.WholeLaws.{same-frames}
 use Rattle.tl_syntax.specs.declared.value.Value.{Value}
 use Rattle.tl_eval.proofs.env.Env.restore.Goals as goal

@@ -1,0 +1,19 @@
+-- What the entries of a memory say.
+use Rattle.std.specs.Prelude.{◌==◌, ◌≤◌, ℕ, List, [], ◌∷◌, length, take, cond}
+use Rattle.tl_eval.specs.declared.memory.Entry.{Entry}
+use Rattle.tl_eval.specs.Remembered.{Remembered, remembered}
+use Rattle.tl_syntax.specs.Lists.{Each}
+
+-- what an entry says, in whatever generation
+abbrev pub said : Entry → Remembered
+said e = remembered e.number e.level (take e.count e.values) e.truth
+
+-- what the entries of generation g say
+unfoldable pub said_in : ℕ → List Entry → List Remembered
+said_in g [] = []
+said_in g (e ∷ es) = cond (e.generation == g) (said e ∷ said_in g es) (said_in g es)
+
+-- there are at least 8 entries, none of a generation after g
+pub record AreUpTo (g : ℕ) (es : List Entry) : Type 0 where
+  pub several : 8 ≤ length es
+  pub before : Each (λ e. e.generation ≤ g) es

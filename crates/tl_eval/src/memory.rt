@@ -1,0 +1,208 @@
+// The truths of definitions that a call remembers.
+ghost use Rattle.std.specs.Prelude.{◌≡◌, ◌≤◌, ◌<◌, ◌+◌, [], length, take, IfOk, IfSome, IsTrue};
+ghost use Rattle.tl_eval.specs.Memory.{said};
+ghost use Rattle.tl_eval.specs.Remembered.{remembered, AreFrom};
+ghost use Rattle.tl_syntax.specs.Lists.{Among};
+
+use std::alloc::Global;
+use std::marker::Model;
+use tl_syntax::{NoMemory, Value};
+
+/// At how many places, one after another, a truth may stand.
+pub(crate) const TRIES: usize = 8;
+
+/// What hashes are multiplied by: an odd number whose bits are mixed, from the golden ratio.
+const MULTIPLIER: u64 = 0x9e37_79b9_7f4a_7c15;
+
+/// A truth of a definition at one place of a memory.
+#[derive(Clone, Copy)]
+struct Entry {
+    /// The generation in which it was put there: it counts in no other.
+    generation: u32,
+    /// The number of the definition.
+    number: u32,
+    /// The level at which it is read.
+    level: u32,
+    /// Whether it holds of the values.
+    truth: bool,
+    /// How many values count, at most 8.
+    count: u8,
+    /// The values of its parameters, before others that do not count.
+    values: [Value; 8],
+}
+
+impl Entry {
+    /// What stands at a place before anything is put there. It takes no memory.
+    fn none() -> Entry
+        ensures { result.generation ≡ 0 }
+    {
+        Entry {
+            generation: 0,
+            number: 0,
+            level: 0,
+            truth: false,
+            count: 0,
+            values: [Value::Int(0); 8],
+        }
+    }
+
+    /// Makes it the truth of a definition at a level, put there in a generation. It takes no memory.
+    fn set(&mut self, generation: u32, number: u32, level: u32, values: &[Value], truth: bool)
+        requires { length values.now ≤ 8 }
+        ensures said { said self.new ≡ remembered number level values.now truth }
+        ensures generation { self.new.generation ≡ generation }
+    {
+        self.generation = generation;
+        self.number = number;
+        self.level = level;
+        self.truth = truth;
+        self.count = values.len() as u8;
+        self.values[..values.len()].copy_from_slice(values);
+    }
+
+    /// Whether these are its values. It takes no memory.
+    fn has_values(&self, values: &[Value]) -> bool
+        requires { length values.now ≤ 8 }
+        ensures { IsTrue result → take self.now.count self.now.values ≡ values.now }
+    {
+        if self.count as usize != values.len() {
+            return false;
+        }
+        &self.values[..values.len()] == values
+    }
+
+    /// Whether it says the truth of the definition at the level for these values. It takes no memory.
+    fn is_of(&self, number: u32, level: u32, values: &[Value]) -> bool
+        requires { length values.now ≤ 8 }
+        ensures { IsTrue result → said self.now ≡ remembered number level values.now self.now.truth }
+    {
+        if self.number != number || self.level != level {
+            return false;
+        }
+        self.has_values(values)
+    }
+}
+
+/// A hash with one more word.
+fn mixed(hash: u64, word: u64) -> u64 {
+    (hash.rotate_left(5) ^ word).wrapping_mul(MULTIPLIER)
+}
+
+/// A value as a word.
+fn word_of(value: Value) -> u64 {
+    match value {
+        Value::Int(integer) => integer.cast_unsigned(),
+        Value::Sym(number) => !(number as u64),
+    }
+}
+
+/// The hash of a definition at a level with values, for `find` and `put`. It takes no memory.
+///
+/// What is remembered does not depend on it: it only says where to look.
+pub(crate) fn hash_of(number: u32, level: u32, values: &[Value]) -> u64 {
+    let mut hash = mixed(number as u64, level as u64);
+    for value in values.iter() {
+        hash = mixed(hash, word_of(*value));
+    }
+    hash
+}
+
+/// The first place for a hash in a table with so many places. It takes no memory.
+fn home_of(hash: u64, places: usize) -> usize
+    requires { 8 ≤ places }
+    ensures { result + 8 ≤ places }
+{
+    (hash >> 32) as usize & (places - TRIES)
+}
+
+/// The first place from `home` on with an entry of another generation, or `home` where there is none nearby. It takes no memory.
+fn place_from(entries: &[Entry], generation: u32, home: usize) -> usize
+    requires { home + 8 ≤ length entries.now }
+    ensures { result < length entries.now }
+{
+    for at in home..home + TRIES {
+        if entries[at].generation != generation {
+            return at;
+        }
+    }
+    home
+}
+
+/// Truths of definitions, each with its definition, level and values. They stand in a table of fixed size: a new one may take the place of an old one.
+/// Contracts see the list of those that are remembered.
+#[derive(Drop)]
+pub(crate) struct Memory {
+    generation: u32,
+    entries: Vec<Entry>,
+}
+
+impl Model for Memory {
+    ghost use Rattle.std.specs.Prelude.{List};
+    ghost use Rattle.std.specs.Coded.{coded_list};
+    ghost use Rattle.tl_eval.specs.Remembered.{Remembered, coded_remembered};
+
+    ghost Value = { List Remembered };
+
+    ghost coded = { coded_list coded_remembered };
+
+    ghost use Rattle.tl_eval.specs.Memory.{said_in, AreUpTo};
+
+    ghost view = { λ m. said_in m.generation m.entries.items };
+
+    ghost invariant = { λ m. AreUpTo m.generation m.entries.items };
+}
+
+impl Memory {
+    /// Nothing remembered, in a table with so many places. Hashes are spread best where these are 7 more than a power of 2.
+    pub(crate) fn new(alloc: Global, places: usize) -> Result<Memory, NoMemory>
+        requires { 8 ≤ places }
+        ensures { IfOk result (λ m. m ≡ []) }
+    {
+        let entries = vec![in alloc; Entry::none(); places]?;
+        Ok(Memory {
+            generation: 1,
+            entries,
+        })
+    }
+
+    /// Forgets all: no entry is of the next generation. It takes no memory, and a time that does not depend on the table's size, but for one call of 2^32.
+    pub(crate) fn forget_all(&mut self)
+        ensures { self.new ≡ [] }
+    {
+        if self.generation == u32::MAX {
+            self.entries.as_mut_slice().fill(Entry::none());
+            self.generation = 0;
+        }
+        self.generation += 1;
+    }
+
+    /// Whether a definition at a level holds of the values, where that is remembered. It takes no memory.
+    pub(crate) fn find(&self, hash: u64, number: u32, level: u32, values: &[Value]) -> Option<bool>
+        requires { length values.now ≤ 8 }
+        ensures { IfSome result (λ b. Among (remembered number level values.now b) self.now) }
+    {
+        let home = home_of(hash, self.entries.len());
+        for at in home..home + TRIES {
+            let entry = &self.entries[at];
+            if entry.generation != self.generation {
+                return None;
+            }
+            if entry.is_of(number, level, values) {
+                return Some(entry.truth);
+            }
+        }
+        None
+    }
+
+    /// Remembers whether a definition at a level holds of the values. Something else may be forgotten for it. It takes no memory.
+    pub(crate) fn put(&mut self, hash: u64, number: u32, level: u32, values: &[Value], truth: bool)
+        requires { length values.now ≤ 8 }
+        ensures { AreFrom (remembered number level values.now truth) self.old self.new }
+    {
+        let generation = self.generation;
+        let home = home_of(hash, self.entries.len());
+        let at = place_from(self.entries.as_slice(), generation, home);
+        let entry = &mut self.entries[at];
+        entry.set(generation, number, level, values, truth);
+    }
+}

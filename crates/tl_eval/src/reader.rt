@@ -1,0 +1,120 @@
+// The tuples of a bound, one after another.
+ghost use Rattle.std.specs.Prelude.{◌≡◌, ◌≤◌, List, length, true, false, None, Some, IsSome};
+ghost use Rattle.tl_eval.specs.Frames.{assignment_in};
+ghost use Rattle.tl_eval.specs.Reader.{Reads};
+ghost use Rattle.tl_syntax.specs.Assignment.{Assignment, bind};
+ghost use Rattle.tl_syntax.specs.BoundVariables.{DifferInSlot, OccurIn};
+ghost use Rattle.tl_syntax.specs.declared.variable.Var.{Var as OneVariable};
+ghost use Rattle.tl_syntax.specs.Fits.{BoundFits};
+ghost use Rattle.tl_syntax.specs.Signature.{signature_of};
+ghost use Rattle.tl_terms.specs.Bounds.{bound_true};
+ghost use Rattle.tl_terms.specs.Definitions.{situation_of};
+ghost use Rattle.tl_terms.specs.ProblemMeaning.{plain_problem};
+ghost use Rattle.tl_world.specs.Next.{IsNext};
+
+use crate::Env;
+use crate::pattern_of::pattern_of;
+use crate::tuples::world_of_bound;
+use std::marker::Model;
+use tl_syntax::{Bound, Value, Var, Vars};
+use tl_world::{Match, Pattern, Task, World};
+
+/// A reader of the tuples that make a bound true, in lexicographic value order: each found from the one before, by a pattern that is made once.
+/// Contracts see the pattern, and the tuple that the reader has come to, where there is one.
+#[derive(Drop)]
+pub struct TupleReader {
+    pattern: Option<Pattern>,
+    tuple: Match,
+    begun: bool,
+    near: usize,
+}
+
+impl Model for TupleReader {
+    ghost use Rattle.tl_eval.specs.Reader.{Reader, CanGoOn};
+    ghost use Rattle.tl_world.specs.Patterns.{tuple_in_place};
+
+    ghost Value = { Reader };
+
+    ghost view = { λ r. record { pattern = r.pattern; tuple = tuple_in_place r.begun r.tuple } };
+
+    ghost invariant = { λ r. CanGoOn r.pattern r.begun r.tuple };
+}
+
+impl TupleReader {
+    /// A reader before the first tuple for the variables. All other variables have the values that they have now in the caller's frame, which the reader does not look at again;
+    /// a bound with one that has no value there is true of no tuple. It takes no memory.
+    pub fn open(task: &Task, env: &Env, vars: &Vars, b: &Bound) -> TupleReader
+        requires differ { DifferInSlot vars.now }
+        requires occur { OccurIn vars.now b.now }
+        requires fits { BoundFits (signature_of task.now.problem.domain) b.now }
+        ensures reads { Reads vars.now (assignment_in env.now) b.now result }
+        ensures before { result.tuple ≡ None }
+        ensures few { length vars.now ≤ 9 }
+    {
+        let mut tuples = TupleReader::unopened();
+        tuples.open_at(task, env.frame(), vars.as_slice(), b);
+        tuples
+    }
+
+    /// A reader of no tuple, for `open_at`. It takes no memory.
+    #[inline(always)]
+    pub(crate) fn unopened() -> TupleReader
+        ensures { result.tuple ≡ None }
+    {
+        TupleReader {
+            pattern: None,
+            tuple: Match {
+                values: [Value::Int(0); 9],
+                len: 0,
+            },
+            begun: false,
+            near: 0,
+        }
+    }
+
+    /// `open` for variables and a frame that are given as slices, in the place of another reader: one that is handed over would lie on the stack twice. It takes no memory.
+    #[inline(never)]
+    pub(crate) fn open_at(&mut self, task: &Task, frame: &[Option<Value>], vars: &[Var], b: &Bound)
+        requires differ { DifferInSlot vars.now }
+        requires occur { OccurIn vars.now b.now }
+        requires fits { BoundFits (signature_of task.now.problem.domain) b.now }
+        ensures reads { Reads vars.now (assignment_in frame.now) b.now self.new }
+        ensures before { self.new.tuple ≡ None }
+        ensures few { length vars.now ≤ 9 }
+    {
+        let _ = &task.problem;
+        self.begun = false;
+        self.pattern = pattern_of(frame, vars, b);
+    }
+
+    /// Goes on to the next tuple of the bound, which is the one that the reader was opened for, in the world, and says whether there is one.
+    /// After the last tuple the reader is before the first again. It takes no memory.
+    #[inline(never)]
+    pub fn next(&mut self, task: &Task, w: &World, b: &Bound) -> bool
+        ensures next { (ss : List OneVariable) (e : Assignment) → Reads ss e b.now self.old → IsNext (length ss) (λ t. bound_true (situation_of (plain_problem task.now.problem) w.now) (bind ss t e) b.now) self.old.tuple self.new.tuple }
+        ensures reads { (ss : List OneVariable) (e : Assignment) → Reads ss e b.now self.old → Reads ss e b.now self.new }
+        ensures found { result ≡ true → IsSome self.new.tuple }
+        ensures end { result ≡ false → self.new.tuple ≡ None }
+    {
+        let found = match &self.pattern {
+            Some(pattern) => world_of_bound(task, w, b).put_next_match(
+                pattern,
+                self.begun,
+                &mut self.tuple,
+                &mut self.near,
+            ),
+            None => false,
+        };
+        self.begun = found;
+        found
+    }
+
+    /// The values of the tuple that the reader has come to, in the order of the variables. It takes no memory.
+    pub fn values(&self) -> &[Value]
+        requires { IsSome self.now.tuple }
+        ensures values { self.now.tuple ≡ Some result.now }
+        ensures count { (ss : List OneVariable) (e : Assignment) (b : _) → Reads ss e b self.now → length result.now ≡ length ss }
+    {
+        self.tuple.counted_values()
+    }
+}
