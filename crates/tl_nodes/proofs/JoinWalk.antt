@@ -1,13 +1,12 @@
 -- What holds all along the walk over the parts of joins: a stack of waiting numbers, the joins that are opened, and the other parts.
 use Rattle.std.proofs.Common.{◌≡◌, ℕ, ◌+◌, ◌<◌, Bool, true, false, true≢false, List, [], ◌∷◌, ◌++◌, ◌&&◌, length, reverse, nat_lt, nat_eq, not, refl, sym, ap, ◌∙◌, subst, arith, append-nil, if◌then◌else◌}
-use Rattle.std.specs.List.{list_any, flat_map, sum_by}
+use Rattle.std.specs.List.{list_any, sum_by}
 use Rattle.std.proofs.lemmas.Bool.{not-true, not-false}
 use Rattle.std.proofs.lemmas.List.Folds.{list_all-append}
 use Rattle.std.proofs.lemmas.List.Sums.{sum_by-append}
 use Rattle.indexmap.specs.IndexSet.{insert_key}
 use borrow.Author.Tests.{ltb-true}
 use Rattle.tl_syntax.specs.declared.junction.Junction.{Junction}
-use Rattle.tl_syntax.specs.declared.junction.Junction.TheVariants.{All, Any}
 use Rattle.tl_syntax.specs.Trees.{FormulaTree}
 use Rattle.tl_syntax.proofs.Plain.{both, with_both}
 use Rattle.tl_terms.specs.Simplification.{without_repeats}
@@ -16,7 +15,6 @@ use Rattle.tl_nodes.specs.Joins.{parts_of, breadth}
 use Rattle.tl_nodes.specs.NodeTrees.{tree_at, trees_at}
 use Rattle.tl_nodes.proofs.NestedJoins.{all-reverse, less-without, breadth-pos}
 use Rattle.tl_nodes.proofs.OpenedJoins.{leaves, EachFound, again-found, again-same, part-found, part-same, opened-found, opened-same, popped, turned-twice, pushed-turned, sum-turned, all-trans}
-use Rattle.tl_nodes.proofs.TreesOfNodes.{inside-true}
 
 pub record Walk (ts : List FormulaTree) (junction : Junction) (parts todo opened flat : List ℕ) : Type 0 where
   pub waiting : all_below (length ts) todo ≡ true
@@ -29,7 +27,7 @@ parts-below n xs j h =
     let p = both (all_below n xs) (nat_lt j n && true) (sym (list_all-append (λ i. nat_lt i n) xs (j ∷ [])) ∙ h) in
     (p.0, (both (nat_lt j n) true p.1).0)
 
-below-append : (n : ℕ) (xs ys : List ℕ) → all_below n xs ≡ true → all_below n ys ≡ true → all_below n (xs ++ ys) ≡ true
+pub below-append : (n : ℕ) (xs ys : List ℕ) → all_below n xs ≡ true → all_below n ys ≡ true → all_below n (xs ++ ys) ≡ true
 below-append n xs ys h k = list_all-append (λ i. nat_lt i n) xs ys ∙ with_both h k
 
 module _ (ts : List FormulaTree) (junction : Junction) (parts : List ℕ) where

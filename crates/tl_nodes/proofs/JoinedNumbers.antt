@@ -5,10 +5,9 @@ use Rattle.indexmap.specs.IndexSet.{insert_all}
 use borrow.Author.Tests.{ltb-true}
 use Rattle.tl_syntax.specs.declared.junction.Junction.{Junction}
 use Rattle.tl_syntax.specs.declared.junction.Junction.TheVariants.{All, Any}
-use Rattle.tl_syntax.specs.Same.{formula_discrete}
 use Rattle.tl_syntax.specs.Trees.{FormulaTree, verum, falsum}
 use Rattle.tl_syntax.proofs.Plain.{both}
-use Rattle.tl_terms.specs.Simplification.{same_formula, is_yes, is_verum, is_falsum, without_repeats, conjunction_of, disjunction_of, and_parts, or_parts, simplified_and, simplified_or}
+use Rattle.tl_terms.specs.Simplification.{same_formula, is_verum, is_falsum, without_repeats, conjunction_of, disjunction_of, and_parts, or_parts, simplified_and, simplified_or}
 use Rattle.tl_terms.proofs.Simplification.{same_formula-is}
 use Rattle.tl_nodes.specs.Fits.{all_below, fits}
 use Rattle.tl_nodes.specs.Joins.{parts_of, simplified_join, dropped, decides, join_node}
@@ -163,7 +162,3 @@ module _ (ts : List FormulaTree) (one : OneToOne ts) (z : slice_get ts 0 ≡ Som
 -- what the code asked and kept, in the words above
 pub asked : (w d : ℕ) (shown xs : List ℕ) (r b : Bool) → r ≡ list_any (λ y. nat_eq y w) shown → w ≡ d → shown ≡ xs → r ≡ b → list_any (λ y. nat_eq y d) xs ≡ b
 asked w d shown xs r b v e s k = sym (ap₂ (λ x l. list_any (λ y. nat_eq y x) l) e s) ∙ (sym v ∙ k)
-
-pub kept-as : (ks ls shown xs : List ℕ) (u d : ℕ) → ks ≡ ls → ls ≡ insert_all nat_eq [] (filter (λ i. not (nat_eq i u)) shown) → u ≡ d → shown ≡ xs
-    → ks ≡ insert_all nat_eq [] (filter (λ i. not (nat_eq i d)) xs)
-kept-as ks ls shown xs u d a k e s = a ∙ (k ∙ ap₂ (λ x l. insert_all nat_eq [] (filter (λ i. not (nat_eq i x)) l)) e s)

@@ -13,7 +13,7 @@ same-bool true b f g = sym (f refl)
 same-bool false true f g = g refl
 same-bool false false f g = refl
 
-nat-swap : (a b : ℕ) → nat_eq a b ≡ nat_eq b a
+pub nat-swap : (a b : ℕ) → nat_eq a b ≡ nat_eq b a
 nat-swap a b = same-bool (nat_eq a b) (nat_eq b a) (λ h. eq-eqb b a (sym (eqb-true a b h))) (λ h. eq-eqb a b (sym (eqb-true b a h)))
 
 -- the first of equal numbers

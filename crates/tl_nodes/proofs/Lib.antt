@@ -11,6 +11,7 @@ pub mod KeptOnce
 pub mod FirstOfEqual
 pub mod OpenedJoins
 pub mod JoinWalk
+pub mod LeftNumbers
 pub mod JoinedNumbers
 pub mod KeptNumbers
 pub mod FormulaLayers

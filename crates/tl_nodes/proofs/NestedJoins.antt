@@ -1,7 +1,6 @@
 -- Numbers of joins, and the numbers of their parts.
-use Rattle.std.proofs.Common.{◌≡◌, ℕ, ◌+◌, ◌<◌, Bool, true, false, true≢false, List, [], ◌∷◌, ◌++◌, map, length, reverse, Some, slice_get, nat_lt, ◌&&◌, refl, sym, ap, ◌∙◌, subst, arith}
+use Rattle.std.proofs.Common.{◌≡◌, ℕ, ◌+◌, ◌<◌, Bool, true, true≢false, List, [], ◌∷◌, ◌++◌, map, reverse, Some, slice_get, nat_lt, ◌&&◌, refl, sym, ap, ◌∙◌, subst, arith}
 use Rattle.std.specs.List.{flat_map, sum_by}
-use Rattle.std.proofs.lemmas.Option.{slice_get_within}
 use Rattle.std.proofs.lemmas.List.Folds.{list_all-append}
 use Rattle.std.proofs.lemmas.List.Sums.{sum_by-append, sum_by-cons}
 use Rattle.std.proofs.lemmas.List.{reverse-append}
@@ -12,13 +11,13 @@ use Rattle.tl_syntax.specs.declared.junction.Junction.TheVariants.{All, Any}
 use Rattle.tl_syntax.specs.Basic.{is_basic}
 use Rattle.tl_syntax.specs.Junctions.{joined}
 use Rattle.tl_syntax.specs.TreeOfFormula.{tree_of_formula}
-use Rattle.tl_syntax.specs.Trees.{FormulaTree, FormulaTrees, conjunction, disjunction, formulas_of_list}
+use Rattle.tl_syntax.specs.Trees.{FormulaTree, conjunction, disjunction, formulas_of_list}
 use Rattle.tl_syntax.proofs.Plain.{both, with_both}
 use Rattle.tl_terms.specs.Simplification.{and_parts, and_parts_all, or_parts, or_parts_all}
 use Rattle.tl_nodes.specs.Fits.{all_below, fits}
 use Rattle.tl_nodes.specs.Joins.{parts_of, join_node, breadth, breadth_all}
 use Rattle.tl_nodes.specs.NodeTrees.{tree_at, trees_at, tree_of_node}
-use Rattle.tl_nodes.proofs.TreesOfNodes.{fits-more, at-is}
+use Rattle.tl_nodes.proofs.TreesOfNodes.{at-is}
 
 and-list : (xs : List FormulaTree) → and_parts_all (formulas_of_list xs) ≡ flat_map and_parts xs
 unfolding and_parts

@@ -1,5 +1,5 @@
 -- A walk over the parts of joins that opens each join once, from the first part on.
-use Rattle.std.proofs.Common.{◌≡◌, ◌⊎◌, inl, inr, ℕ, ◌+◌, ◌<◌, Bool, true, false, true≢false, cond, List, [], ◌∷◌, ◌++◌, ◌||◌, ◌&&◌, map, length, reverse, nat_lt, nat_eq, eqb-true, refl, sym, ap, ◌∙◌, subst, arith, append_assoc, append-nil, if◌then◌else◌}
+use Rattle.std.proofs.Common.{◌≡◌, ◌⊎◌, inl, inr, ℕ, ◌+◌, ◌<◌, Bool, true, false, true≢false, cond, List, [], ◌∷◌, ◌++◌, ◌||◌, ◌&&◌, reverse, nat_lt, nat_eq, eqb-true, refl, sym, ap, ◌∙◌, subst, arith, append_assoc, append-nil, if◌then◌else◌}
 use Rattle.std.specs.List.{list_any, flat_map, sum_by}
 use Rattle.std.proofs.lemmas.Bool.{le-ltb}
 use Rattle.std.proofs.lemmas.List.{map-append, reverse-append}
@@ -8,7 +8,6 @@ use Rattle.std.proofs.lemmas.List.Sums.{sum_by-append, sum_by-cons}
 use Rattle.indexmap.specs.IndexSet.{insert_key}
 use borrow.Author.Tests.{ltb-true}
 use Rattle.tl_syntax.specs.declared.junction.Junction.{Junction}
-use Rattle.tl_syntax.specs.declared.junction.Junction.TheVariants.{All, Any}
 use Rattle.tl_syntax.specs.Trees.{FormulaTree}
 use Rattle.tl_syntax.proofs.Plain.{both}
 use Rattle.tl_terms.specs.Simplification.{without_repeats}
@@ -57,7 +56,7 @@ module _ (ts : List FormulaTree) (junction : Junction) where
   abbrev pub leaves : List ℕ → List FormulaTree
   leaves ids = flat_map (parts_of junction) (trees_at ts ids)
 
-  leaves-append : (is js : List ℕ) → leaves (is ++ js) ≡ leaves is ++ leaves js
+  pub leaves-append : (is js : List ℕ) → leaves (is ++ js) ≡ leaves is ++ leaves js
   leaves-append [] js = refl
   leaves-append (i ∷ is) js = ap (λ l. parts_of junction (tree_at ts i) ++ l) (leaves-append is js) ∙ sym (append_assoc (parts_of junction (tree_at ts i)) (leaves is) (leaves js))
 

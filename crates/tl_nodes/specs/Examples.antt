@@ -1,14 +1,13 @@
 -- Worked examples of the definitions.
 use Rattle.std.specs.Prelude.{◌≡◌, [], ◌∷◌, true, false, refl}
-use Rattle.tl_syntax.specs.declared.junction.Junction.{Junction}
 use Rattle.tl_syntax.specs.declared.junction.Junction.TheVariants.{All, Any}
 use Rattle.tl_syntax.specs.Trees.{verum, falsum, negation, conjunction, until, within, during, no_formula, more_formulas}
-use Rattle.tl_terms.specs.Simplification.{simplified_and, simplified_or, and_parts, or_parts, without_repeats, same_formula}
+use Rattle.tl_terms.specs.Simplification.{and_parts, or_parts}
 use Rattle.tl_nodes.specs.declared.node.Node.TheVariants as node
 use Rattle.tl_nodes.specs.Fits.{fits, begins_with_constants}
 use Rattle.tl_nodes.specs.Joins.{parts_of, breadth}
 use Rattle.tl_nodes.specs.NodeTrees.{tree_of_node, trees_of_nodes}
-use Rattle.tl_nodes.specs.Temporal.{has_temporal, any_temporal, node_temporal}
+use Rattle.tl_nodes.specs.Temporal.{has_temporal, node_temporal}
 
 -- a node is read over the trees before it
 trees_example : trees_of_nodes (node.True ∷ node.False ∷ node.Not 1 ∷ node.Until 0 2 ∷ []) ≡ verum ∷ falsum ∷ negation falsum ∷ until verum (negation falsum) ∷ []

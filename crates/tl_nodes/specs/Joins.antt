@@ -1,5 +1,5 @@
 -- Conjunction and disjunction under one name, for the code that makes both.
-use Rattle.std.specs.Prelude.{ℕ, ◌+◌, List, Bool, true, false}
+use Rattle.std.specs.Prelude.{ℕ, ◌+◌, List}
 use Rattle.tl_syntax.specs.declared.junction.Junction.{Junction}
 use Rattle.tl_syntax.specs.declared.junction.Junction.TheVariants.{All, Any}
 use Rattle.tl_syntax.specs.Trees.{FormulaTree, FormulaTrees, conjunction, disjunction, no_formula, more_formulas}

@@ -7,10 +7,12 @@ ghost use Rattle.tl_nodes.specs.NodeTrees.{tree_at, tree_of_node, trees_of_nodes
 ghost use Rattle.tl_nodes.specs.Numbering.{OneToOne};
 ghost use Rattle.tl_nodes.specs.Temporal.{has_temporal};
 
+mod few;
 mod flags;
 mod flatten;
 mod intern;
 mod join;
+mod left;
 mod negation;
 mod of_tree;
 

@@ -15,7 +15,7 @@ use tl_syntax::{Ids, Junction, NoMemory};
 
 impl Nodes {
     // The parts of a number that is itself a join of the same kind.
-    fn nested(&self, id: usize, junction: Junction) -> Option<&Ids>
+    pub(crate) fn nested(&self, id: usize, junction: Junction) -> Option<&Ids>
         requires { id < length (trees self.now) }
         ensures parts { MatchOption result (parts_of junction (tree_at (trees self.now) id) ≡ tree_at (trees self.now) id ∷ []) (λ ids. parts_of junction (tree_at (trees self.now) id) ≡ flat_map (parts_of junction) (trees_at (trees self.now) ids.now)) }
         ensures below { IfSome result (λ ids. all_below id ids.now ≡ true) }

@@ -1,8 +1,8 @@
 // Conjunction and disjunction that simplify.
-ghost use Rattle.std.specs.Prelude.{◌≡◌, ℕ, [], true, length, filter, not, nat_eq, IfOk, OnErr};
-ghost use Rattle.indexmap.specs.IndexSet.{insert_all};
+ghost use Rattle.std.specs.Prelude.{◌≡◌, ℕ, List, true, length, IfOk, OnErr};
 ghost use Rattle.tl_nodes.specs.Fits.{all_below};
 ghost use Rattle.tl_nodes.specs.Joins.{simplified_join, dropped, decides, join_node};
+ghost use Rattle.tl_nodes.specs.Left.{IsLeft};
 ghost use Rattle.tl_nodes.specs.NodeTrees.{trees_at};
 ghost use Rattle.tl_nodes.specs.Numbering.{Keeps};
 ghost use Rattle.tl_nodes.specs.Numbers.{trees, Denotes};
@@ -10,7 +10,6 @@ ghost use Rattle.tl_terms.specs.Simplification.{simplified_and, simplified_or};
 
 use super::Nodes;
 use crate::Node;
-use indexmap::IndexSet;
 use std::alloc::Global;
 use tl_syntax::{Ids, Junction, NoMemory};
 
@@ -45,21 +44,34 @@ impl Nodes {
         ensures kept { Keeps (trees self.old) (trees self.new) }
         ensures refused { OnErr result (trees self.new ≡ trees self.old) }
     {
-        let flat = self.flatten(parts, junction)?;
-        let unit = unit_of(junction);
+        match self.few_left(parts, junction) {
+            Some(few) => self.join_left(few.as_slice(), junction),
+            None => {
+                let left = self.many_left(parts, junction)?;
+                self.join_left(left.as_slice(), junction)
+            }
+        }
+    }
+
+    // The number of the join of the parts of which these numbers are left.
+    fn join_left(&mut self, left: &[usize], junction: Junction) -> Result<usize, NoMemory>
+        requires { all_below (length (trees self.old)) left.now ≡ true }
+        ensures number { (parts : List ℕ) → IsLeft (trees self.old) junction parts left.now → IfOk result (λ i. Denotes self.new i (simplified_join junction (trees_at (trees self.old) parts))) }
+        ensures known { (parts : List ℕ) (i : ℕ) → IsLeft (trees self.old) junction parts left.now → Denotes self.old i (simplified_join junction (trees_at (trees self.old) parts)) → trees self.new ≡ trees self.old }
+        ensures kept { Keeps (trees self.old) (trees self.new) }
+        ensures refused { OnErr result (trees self.new ≡ trees self.old) }
+    {
         let zero = zero_of(junction);
-        if flat.contains(&zero) {
+        if left.contains(&zero) {
             return Ok(zero);
         }
-        let left = distinct_but(self.alloc, flat.as_slice(), unit)?;
-        let kept = left.as_slice();
-        if kept.len() == 0 {
-            return Ok(unit);
+        if left.len() == 0 {
+            return Ok(unit_of(junction));
         }
-        if kept.len() == 1 {
-            return Ok(kept[0]);
+        if left.len() == 1 {
+            return Ok(left[0]);
         }
-        let ids = ids_of(self.alloc, kept)?;
+        let ids = ids_of(self.alloc, left)?;
         let node = join_of(junction, ids);
         self.intern(node)
     }
@@ -75,7 +87,7 @@ fn join_of(junction: Junction, ids: Ids) -> Node
 }
 
 // The constant that is dropped.
-fn unit_of(junction: Junction) -> usize
+pub(crate) fn unit_of(junction: Junction) -> usize
     ensures { result ≡ dropped junction }
 {
     match junction {
@@ -92,19 +104,6 @@ fn zero_of(junction: Junction) -> usize
         Junction::All => 1,
         Junction::Any => 0,
     }
-}
-
-// The numbers without `unit`, each once.
-fn distinct_but(alloc: Global, ids: &[usize], unit: usize) -> Result<IndexSet<usize>, NoMemory>
-    ensures { IfOk result (λ s. s.keys ≡ insert_all nat_eq [] (filter (λ i. not (nat_eq i unit)) ids.now)) }
-{
-    let mut kept = IndexSet::new(alloc);
-    for id in ids.iter() {
-        if *id != unit {
-            kept.insert(*id)?;
-        }
-    }
-    Ok(kept)
 }
 
 fn ids_of(alloc: Global, from: &[usize]) -> Result<Ids, NoMemory>

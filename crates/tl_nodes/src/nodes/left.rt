@@ -1,0 +1,100 @@
+// What is left of the parts of a join.
+ghost use Rattle.std.specs.Prelude.{◌≡◌, ◌<◌, ◌∷◌, ◌++◌, [], List, ℕ, true, cond, filter, not, length, nat_eq, IsTrue, IfOk, IfSome};
+ghost use Rattle.indexmap.specs.IndexSet.{insert_all, insert_key};
+ghost use Rattle.tl_nodes.specs.Fits.{all_below};
+ghost use Rattle.tl_nodes.specs.Joins.{dropped};
+ghost use Rattle.tl_nodes.specs.Left.{IsLeft, IsOpened};
+ghost use Rattle.tl_nodes.specs.Numbers.{trees};
+
+use super::Nodes;
+use super::few::{FEW, Few};
+use super::join::unit_of;
+use indexmap::IndexSet;
+use std::alloc::Global;
+use tl_syntax::{Junction, NoMemory};
+
+impl Nodes {
+    // What is left of the parts, where they open to few, and none is nested in a join of a part. It takes no memory.
+    pub(crate) fn few_left(&self, parts: &[usize], junction: Junction) -> Option<Few>
+        requires { all_below (length (trees self.now)) parts.now ≡ true }
+        ensures { IfSome result (λ few. IsOpened (trees self.now) junction parts.now few) }
+    {
+        let mut few = Few::new();
+        if parts.len() > FEW {
+            return None;
+        }
+        for part in parts.iter() {
+            let goes_on = match self.nested(*part, junction) {
+                Some(ids) => self.keep_all(&mut few, ids.as_slice(), junction),
+                None => keep_one(&mut few, *part, junction),
+            };
+            if !goes_on {
+                return None;
+            }
+        }
+        Some(few)
+    }
+
+    // Keeps the parts of a join. False: one of them is a join of the same kind, or they are too many.
+    fn keep_all(&self, few: &mut Few, ids: &[usize], junction: Junction) -> bool
+        requires { all_below (length (trees self.now)) ids.now ≡ true }
+        ensures { IsTrue result → (parts : List ℕ) → IsOpened (trees self.now) junction parts few.old → IsOpened (trees self.now) junction (parts ++ ids.now) few.new }
+    {
+        if ids.len() > FEW {
+            return false;
+        }
+        for id in ids.iter() {
+            if !self.keep(few, *id, junction) {
+                return false;
+            }
+        }
+        true
+    }
+
+    // Keeps a part. False: it is a join of the same kind, or there is no room.
+    fn keep(&self, few: &mut Few, id: usize, junction: Junction) -> bool
+        requires { id < length (trees self.now) }
+        ensures { IsTrue result → (parts : List ℕ) → IsOpened (trees self.now) junction parts few.old → IsOpened (trees self.now) junction (parts ++ id ∷ []) few.new }
+    {
+        match self.nested(id, junction) {
+            Some(_) => false,
+            None => keep_one(few, id, junction),
+        }
+    }
+
+    // What is left of the parts, however many they open to.
+    pub(crate) fn many_left(
+        &self,
+        parts: &[usize],
+        junction: Junction,
+    ) -> Result<IndexSet<usize>, NoMemory>
+        requires { all_below (length (trees self.now)) parts.now ≡ true }
+        ensures { IfOk result (λ left. IsLeft (trees self.now) junction parts.now left.keys) }
+    {
+        let flat = self.flatten(parts, junction)?;
+        distinct_but(self.alloc, flat.as_slice(), unit_of(junction))
+    }
+}
+
+// Keeps a number, unless it is the constant that is dropped or is there. False: there is no room.
+fn keep_one(few: &mut Few, id: usize, junction: Junction) -> bool
+    ensures { IsTrue result → few.new ≡ cond (nat_eq id (dropped junction)) few.old (insert_key nat_eq few.old id) }
+{
+    if id == unit_of(junction) {
+        return true;
+    }
+    few.insert(id)
+}
+
+// The numbers without `unit`, each once.
+fn distinct_but(alloc: Global, ids: &[usize], unit: usize) -> Result<IndexSet<usize>, NoMemory>
+    ensures { IfOk result (λ s. s.keys ≡ insert_all nat_eq [] (filter (λ i. not (nat_eq i unit)) ids.now)) }
+{
+    let mut kept = IndexSet::new(alloc);
+    for id in ids.iter() {
+        if *id != unit {
+            kept.insert(*id)?;
+        }
+    }
+    Ok(kept)
+}
