@@ -158,7 +158,7 @@ step-operator p w a h = by (slice_get p.operators a.op) refl h
 pub step-below : (p : PlainProblem) (w : World) (a : Action) → is_some (step p w a) ≡ true → a.op < length p.operators
 step-below p w a h = let o = step-operator p w a h in got-below p.operators a.op o.0 o.1
 
-step-fits : (p : PlainProblem) (w : World) (a : Action) → is_some (step p w a) ≡ true → HasOperator p a
+pub step-fits : (p : PlainProblem) (w : World) (a : Action) → is_some (step p w a) ≡ true → HasOperator p a
 step-fits p w a h =
     let o = step-operator p w a h in
     let k = step-found p w o.0 a.op o.1 (λ q. None) a.args h in

@@ -1,5 +1,5 @@
 -- The step of an action by its operator.
-use Rattle.std.proofs.Common.{◌≡◌, ◌<◌, ◌==◌, ◌&&◌, ◌++◌, ℕ, zero, suc, List, [], ◌∷◌, map, flat_map, length, slice_get, get_or, cond, Bool, true, false, Option, Some, None, Result, Ok, Err, refl, sym, ap, ◌∙◌, subst, arith}
+use Rattle.std.proofs.Common.{◌≡◌, ◌<◌, ◌==◌, ◌&&◌, ◌++◌, ℕ, zero, suc, List, [], ◌∷◌, map, flat_map, length, slice_get, get_or, cond, Bool, true, false, true≢false, Option, Some, None, is_some, Result, Ok, Err, refl, sym, ap, ◌∙◌, subst, arith}
 use Rattle.std.proofs.lemmas.Bool.{eq-eqb}
 use Rattle.std.proofs.lemmas.List.{length-map}
 use Rattle.std.specs.List.{list_all}
@@ -8,7 +8,7 @@ use Rattle.tl_action.specs.declared.fault.ActFault.{ActFault}
 use Rattle.tl_action.specs.Actions.{HasOperator}
 use Rattle.tl_action.specs.Agreement.{Agree}
 use Rattle.tl_action.specs.Answers.{IsCausedBy}
-use Rattle.tl_action.specs.Collected.{nothing, HasMore}
+use Rattle.tl_action.specs.Collected.{nothing, HasMore, Collects}
 use Rattle.tl_action.specs.Prepared.{instances_of, is_prepared, looked_prepared, CollectsWhole, Prepares}
 use Rattle.tl_action.proofs.Operators.{OperatorAgrees, operator-agrees}
 use Rattle.tl_action.proofs.Passed.{caused-more}
@@ -166,3 +166,36 @@ module _ (problem : Problem) (w : World) (a : Action) (o : Operator) (at : Opera
   step-caused h x k =
       subst (λ (ls : List Operation). IsCausedBy ls x)
       (same.looked ∙ sym (looked-is meaning w a (plain_operator o) at.there at.arity ∙ ap (λ (b : Bool). cond b (looked_prepared meaning w values (plain_operator o)) []) (sym same.bounds ∙ h))) k
+
+  -- ---- an action that is known to have a step
+
+  some-of : {A : Type 0} (b : Bool) (x : A) → is_some (cond b (Some x) None) ≡ true → b ≡ true
+  some-of true x h = refl
+  some-of false x h = h
+
+  both-of : (b c : Bool) → (b && c) ≡ true → (b ≡ true) × (c ≡ true)
+  both-of true c h = (refl, h)
+  both-of false c h = absurd (true≢false (sym h))
+
+  tests-passed : is_some (step meaning w a) ≡ true → (list_all (bound_true (situation_of meaning w) d) o.bounds ≡ true) × (is_prepared meaning w d (plain_operator o) ≡ true)
+  tests-passed h =
+      let k = both-of _ _ (some-of (list_all (bound_true (situation_of meaning w) values) o.bounds && is_prepared meaning w values (plain_operator o)) (changed w (instances_of meaning w values (plain_operator o))) (ap (λ (x : Option World). is_some x) (sym (step-is meaning w a (plain_operator o) at.there at.arity)) ∙ h)) in
+      (same.bounds ∙ k.0, same.prepared ∙ k.1)
+
+  -- its effects are defined
+  all-collected : is_some (step meaning w a) ≡ true → (ls : List Operation) (x : Changes) (b : Bool) → Collects (instances_of meaning w d (plain_operator o)) ls nothing x (Ok b) → HasMore (instances_of meaning w d (plain_operator o)) nothing x
+  all-collected h ls x true k = k
+  all-collected h ls x false k =
+      let pre = both-of (state_true (situation_of meaning w) d (plain_operator o).pre) _ (tests-passed h).1 in
+      let effects = both-of (list_all is_defined (instances_of meaning w d (plain_operator o))) _ pre.1 in
+      absurd (true≢false (sym effects.0 ∙ k))
+
+  pub step-known : is_some (step meaning w a) ≡ true → (ls : List Operation) (x : Changes) (b : Bool) → Collects (instances_of meaning w d (plain_operator o)) ls nothing x (Ok b) → (next : World)
+      → next.facts ≡ with_all (without_all w.facts (map fact_key x.dels)) (map fact_key x.adds) → next.places ≡ overwritten w.places (map place_entry x.sets) → Some next ≡ step meaning w a
+  step-known h ls x b k next f s = let tests = tests-passed h in step-made tests.0 x (tests.1, all-collected h ls x b k) next f s
+
+  pub effects-caused : is_some (step meaning w a) ≡ true → (x : ActFault) → IsCausedBy (looked_in_effects (looks_of meaning w) (situation_of meaning w) d (plain_operator o).effects) x → IsCausedBy (looked_by_action meaning w a) x
+  effects-caused h x k =
+      let tests = tests-passed h in
+      let pre = both-of (state_true (situation_of meaning w) d (plain_operator o).pre) _ tests.1 in
+      step-caused tests.0 x (prepares-collected meaning w d (plain_operator o) (Err x) (sym pre.0) k)

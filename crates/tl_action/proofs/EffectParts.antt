@@ -184,7 +184,7 @@ frame-When g x f xs d c e q k h = subst (λ (y : EffectTree). EffectLeaves g y e
 
 -- ---- effects for each tuple
 
-scope-below : (ss : List Var) (around qs : List ℕ) → InScope around (slots_without (slots_of ss) qs) → InScope (slots_of ss ++ around) qs
+pub scope-below : (ss : List Var) (around qs : List ℕ) → InScope around (slots_without (slots_of ss) qs) → InScope (slots_of ss ++ around) qs
 scope-below ss around [] h = tt
 scope-below ss around (q ∷ qs) h = (elim (is_slot_in (slots_of ss) q) as (λ b. is_slot_in (slots_of ss) q ≡ b → InScope around (cond (not b) (q ∷ slots_without (slots_of ss) qs) (slots_without (slots_of ss) qs)) → InScope (slots_of ss ++ around) (q ∷ qs)) [
   | true ↦ λ z k. (slot-of-two (slots_of ss) around q ∙ ap (λ (b : Bool). b || is_slot_in around q) z, scope-below ss around qs k)

@@ -14,8 +14,10 @@ pub mod NewVariables
 pub mod Completions
 pub mod Rows
 pub mod JoinNodes
+pub mod JoinReads
+pub mod SureEffects
+pub mod SureWalk
 pub mod SortedRows
 pub mod ActionLists
 pub mod NamedActions
 pub mod NextNamed
-pub mod NoValue

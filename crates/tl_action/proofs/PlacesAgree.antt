@@ -1,11 +1,11 @@
--- Places that are set agree exactly where the world of them gives each its value.
-use Rattle.std.proofs.Common.{◌≡◌, ◌↔◌, List, [], ◌∷◌, map, Bool, true, false, true≢false, ◌&&◌, cond, Option, Some, None, inl, inr, refl, sym, ap, ◌∙◌}
+-- Places that are set agree exactly where the world of them gives each its value, and where no two of them clash.
+use Rattle.std.proofs.Common.{◌≡◌, ◌↔◌, List, [], ◌∷◌, map, Bool, true, false, true≢false, not, ◌&&◌, ◌||◌, ◌<◌, length, arith, cond, Option, Some, None, inl, inr, refl, sym, ap, ◌∙◌}
 use Rattle.std.specs.List.{list_all}
 use Rattle.std.specs.FinMap as dict
-use Rattle.std.specs.Ordering.{eq_by_cmp}
+use Rattle.std.specs.Ordering.{eq_by_cmp, is_eq}
 use Rattle.tl_syntax.specs.declared.place_value.PlaceValue.{PlaceValue}
 use Rattle.tl_syntax.specs.declared.value.Value.{Value}
-use Rattle.tl_syntax.specs.Keys.{Key, key_cmp, no_clash, place_entry}
+use Rattle.tl_syntax.specs.Keys.{Key, key_cmp, value_cmp, agree, no_clash, place_entry}
 use Rattle.tl_syntax.specs.Lists.{Among}
 use Rattle.tl_syntax.specs.TotalOrders.{key_total}
 use Rattle.tl_syntax.proofs.ListLaws.{all-iff, Each-Among, same_test}
@@ -51,3 +51,23 @@ pub places-agree : (sets : List PlaceValue) → list_all (λ s. is_value (value_
 unfolding world_of
 places-agree sets =
     list_all-map place_entry (λ (x : Key × Value). is_value (dict.get (dict.from_entries {R = key_cmp} (map place_entry sets)) x.0) x.1) sets ∙ all-given (map place_entry sets)
+
+-- ---- a few places
+
+or-second : (a b : Bool) → b ≡ true → (a || b) ≡ true
+or-second true b h = refl
+or-second false b h = h
+
+agree-itself : (x : Key × Value) → agree x x ≡ true
+agree-itself x = or-second (not (is_eq (key_cmp x.0 x.0))) (is_eq (value_cmp x.1 x.1)) (value-itself x.1 x.1 refl)
+
+-- fewer than two agree
+pub few-agree : (sets : List PlaceValue) → length sets < 2 → true ≡ no_clash (map place_entry sets)
+few-agree [] h = refl
+few-agree (x ∷ []) h = sym (ap (λ (b : Bool). (b && true) && true) (agree-itself (place_entry x)))
+few-agree (x ∷ y ∷ sets) h = absurd (omega arith)
+
+-- each compared with each
+pub each-agrees : (sets : List PlaceValue) → list_all (λ a. list_all (λ b. agree (place_entry a) (place_entry b)) sets) sets ≡ no_clash (map place_entry sets)
+each-agrees sets =
+    (λ i. list_all (λ a. list_all-map place_entry (agree (place_entry a)) sets i) sets) ∙ list_all-map place_entry (λ k. list_all (agree k) (map place_entry sets)) sets

@@ -18,6 +18,10 @@ use Rattle.tl_terms.specs.World.{World}
 abbrev pub HasOperator : PlainProblem → Action → Type 0
 HasOperator p a = Takes (map (λ o. length o.params) p.operators) a.op (length a.args)
 
+-- the action has a step in the world
+abbrev pub IsExecutable : PlainProblem → World → Action → Type 0
+IsExecutable p w a = IsTrue (is_some (step p w a))
+
 -- the action of an operator with these arguments
 abbrev pub action_of : ℕ → List Value → Action
 action_of op t = record { op = op; args = t }

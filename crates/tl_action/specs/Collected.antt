@@ -7,9 +7,16 @@ use Rattle.tl_action.specs.Answers.{IsCausedBy}
 use Rattle.tl_syntax.specs.declared.fact.Fact.{Fact}
 use Rattle.tl_syntax.specs.declared.place_value.PlaceValue.{PlaceValue}
 use Rattle.tl_syntax.specs.declared.value.Value.{Value}
+use Rattle.tl_syntax.specs.declared.variable.Var.{Var}
+use Rattle.tl_syntax.specs.Assignment.{Assignment, bind}
+use Rattle.tl_syntax.specs.Effects.{EffectTrees}
 use Rattle.tl_syntax.specs.Keys.{fact_key, place_entry}
+use Rattle.tl_terms.specs.Definitions.{situation_of}
+use Rattle.tl_terms.specs.Looked.{looked_in_effects, looks_of}
 use Rattle.tl_terms.specs.Operations.{Operation}
-use Rattle.tl_terms.specs.Step.{EffectInstance, is_defined, added, deleted, given}
+use Rattle.tl_terms.specs.Problem.{PlainProblem}
+use Rattle.tl_terms.specs.Step.{EffectInstance, all_instances, is_defined, added, deleted, given}
+use Rattle.tl_terms.specs.World.{World}
 
 -- no change
 abbrev pub nothing : Changes
@@ -27,6 +34,10 @@ abbrev pub Collects : List EffectInstance → List Operation → Changes → Cha
 Collects cs looked before after (Ok true) = HasMore cs before after
 Collects cs looked before after (Ok false) = list_all is_defined cs ≡ false
 Collects cs looked before after (Err fault) = IsCausedBy looked fault
+
+-- and so for the instances of effects below variables, for each of some tuples of their values
+abbrev pub CollectsEach : PlainProblem → World → Assignment → List Var → EffectTrees → List (List Value) → Changes → Changes → Result Bool ActFault → Type 0
+CollectsEach p w e ss xs ts before after r = Collects (flat_map (λ t. all_instances (situation_of p w) (bind ss t e) xs) ts) (flat_map (λ t. looked_in_effects (looks_of p w) (situation_of p w) (bind ss t e) xs) ts) before after r
 
 -- true where the arguments are defined, and the fact is then there; false where they are not; or a fault with its cause
 abbrev pub GivesFact : ℕ → Option (List Value) → List Operation → List Fact → List Fact → Result Bool ActFault → Type 0

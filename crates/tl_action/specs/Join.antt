@@ -5,6 +5,7 @@ use Rattle.tl_action.specs.declared.fault.ActFault.{ActFault}
 use Rattle.tl_action.specs.declared.fault.ActFault.TheVariants as fault
 use Rattle.tl_action.specs.declared.join.JoinOrder.{JoinOrder}
 use Rattle.tl_action.specs.Prepared.{is_prepared, looked_prepared}
+use Rattle.tl_action.specs.Sure.{are_sure}
 use Rattle.tl_eval.specs.Notes.{Tells}
 use Rattle.tl_syntax.specs.declared.bound.Bound.{Bound}
 use Rattle.tl_syntax.specs.declared.operator.Operator.{Operator}
@@ -13,6 +14,7 @@ use Rattle.tl_syntax.specs.declared.variable.Var.{Var}
 use Rattle.tl_syntax.specs.Assignment.{Assignment, bind, no_values}
 use Rattle.tl_syntax.specs.BoundVariables.{stands_in}
 use Rattle.tl_syntax.specs.Lists.{Each, Among}
+use Rattle.tl_syntax.specs.TreeOfEffect.{tree_of_effects}
 use Rattle.tl_syntax.specs.TreeOfTerm.{tree_of_terms}
 use Rattle.tl_syntax.specs.Trees.{TermTrees, variable, no_term, more_terms}
 use Rattle.tl_terms.specs.Bounds.{bound_true}
@@ -39,10 +41,11 @@ abbrev pub variables : List Var → TermTrees
 variables [] = no_term
 variables (s ∷ ss) = more_terms (variable s) (variables ss)
 
--- the join order of an operator: the new parameters of each of its bounds, and all parameters as terms
+-- the join order of an operator: the new parameters of each of its bounds, all parameters as terms, and whether no effect can fail
 pub record IsJoinOrder (o : Operator) (order : JoinOrder) : Type 0 where
   pub levels : order.levels.items ≡ new_from o.params [] o.bounds
   pub terms : tree_of_terms order.terms ≡ variables o.params
+  pub sure : order.sure ≡ are_sure (tree_of_effects o.effects)
 
 -- the two give the variables that stand in a bound of those seen the same values
 abbrev pub Known : List Bound → List Var → Assignment → Assignment → Type 0

@@ -1,5 +1,5 @@
 -- Whether an operator whose bounds are true can be applied, and what it then changes.
-use Rattle.std.specs.Prelude.{◌≡◌, List, flat_map, Bool, true, false, ◌&&◌, Option, Some, None, Result, Ok, Err}
+use Rattle.std.specs.Prelude.{◌≡◌, ℕ, List, flat_map, Bool, true, false, ◌&&◌, Option, Some, None, Result, Ok, Err, IsTrue, is_some}
 use Rattle.std.specs.List.{list_all}
 use Rattle.tl_action.specs.declared.changes.Changes.{Changes}
 use Rattle.tl_action.specs.declared.fault.ActFault.{ActFault}
@@ -7,6 +7,7 @@ use Rattle.tl_action.specs.Answers.{IsCausedBy}
 use Rattle.tl_action.specs.Collected.{nothing, HasMore}
 use Rattle.tl_syntax.specs.Assignment.{Assignment}
 use Rattle.tl_syntax.specs.Keys.{no_clash}
+use Rattle.tl_syntax.specs.Lists.{Each}
 use Rattle.tl_terms.specs.Definitions.{situation_of}
 use Rattle.tl_terms.specs.Looked.{followed_if, looked_in_state, looked_in_effects, looks_of}
 use Rattle.tl_terms.specs.Operations.{Operation}
@@ -14,6 +15,10 @@ use Rattle.tl_terms.specs.Problem.{PlainOperator, PlainProblem}
 use Rattle.tl_terms.specs.Step.{EffectInstance, all_instances, is_defined, given}
 use Rattle.tl_terms.specs.Truth.{state_true}
 use Rattle.tl_terms.specs.World.{World}
+
+-- each of the slots has a value
+abbrev pub HaveValues : List ℕ → Assignment → Type 0
+HaveValues qs e = Each (λ q. IsTrue (is_some (e q))) qs
 
 -- the instances of the operator's effects
 abbrev pub instances_of : PlainProblem → World → Assignment → PlainOperator → List EffectInstance

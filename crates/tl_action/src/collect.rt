@@ -1,29 +1,27 @@
 // The changes that effects make, all read in one world.
-ghost use Rattle.std.specs.Prelude.{◌≡◌, ◌≤◌, length, flat_map, map};
+ghost use Rattle.std.specs.Prelude.{◌≡◌};
 ghost use Rattle.tl_action.specs.Agreement.{EffectReads, EffectsRead, EachReads, EffectLeaves, EffectsLeave, EachLeaves};
-ghost use Rattle.tl_action.specs.Collected.{Collects, GivesFact, GivesPlace};
+ghost use Rattle.tl_action.specs.Collected.{Collects, CollectsEach, GivesFact, GivesPlace};
 ghost use Rattle.tl_eval.specs.Frames.{assignment_in};
-ghost use Rattle.tl_syntax.specs.Assignment.{bind};
-ghost use Rattle.tl_syntax.specs.Fits.{TermFits, TermsFit};
-ghost use Rattle.tl_syntax.specs.Lists.{Each};
+ghost use Rattle.tl_syntax.specs.BoundVariables.{DifferInSlot, OccurIn};
+ghost use Rattle.tl_syntax.specs.Fits.{BoundFits, TermFits, TermsFit};
 ghost use Rattle.tl_syntax.specs.Signature.{signature_of};
 ghost use Rattle.tl_syntax.specs.TreeOfEffect.{tree_of_effect, tree_of_effects};
 ghost use Rattle.tl_syntax.specs.TreeOfTerm.{tree_of_term, tree_of_terms};
+ghost use Rattle.tl_terms.specs.Bounds.{tuples};
 ghost use Rattle.tl_terms.specs.Definitions.{situation_of};
 ghost use Rattle.tl_terms.specs.Looked.{looked_in_each, looked_in_term, looked_in_effect, looked_in_effects, looks_of};
 ghost use Rattle.tl_terms.specs.ProblemMeaning.{plain_problem};
 ghost use Rattle.tl_terms.specs.Step.{effect_instances, all_instances};
 ghost use Rattle.tl_terms.specs.Terms.{term_value, term_values};
-ghost use Rattle.tl_world.specs.Patterns.{tuple_of};
 
 use crate::ActFault;
 use crate::changes::Changes;
-use crate::tuples::tuples_in;
 use crate::values::values_of;
 use std::alloc::Global;
-use tl_eval::{Env, state, term};
-use tl_syntax::{Effect, Effects, Fact, Facts, PlaceValue, PlaceValues, Term, Terms, Vars};
-use tl_world::{Match, Task, World};
+use tl_eval::{Env, TupleReader, state, term};
+use tl_syntax::{Bound, Effect, Effects, Fact, Facts, PlaceValue, PlaceValues, Term, Terms, Vars};
+use tl_world::{Task, World};
 
 /// Collects a fact whose arguments are the values of terms: false where one of them is undefined. The frame stays as it was.
 fn collect_fact(
@@ -109,17 +107,7 @@ fn collect(
             Err(note) => Err(ActFault::Range(note)),
         },
         Effect::Each(vars, bound, effects) => {
-            let tuples = tuples_in(alloc, task, w, env, vars, bound)?;
-            collect_each(
-                alloc,
-                task,
-                w,
-                env,
-                vars,
-                tuples.as_slice(),
-                effects,
-                changes,
-            )
+            collect_each(alloc, task, w, env, vars, bound, effects, changes)
         }
     }
 }
@@ -148,7 +136,7 @@ pub(crate) fn collect_all(
     Ok(true)
 }
 
-/// Collects the changes of effects for each of the tuples, up to the first with an undefined part: false where one has.
+/// Collects the changes of effects for each tuple of the bound, up to the first with an undefined part: false where one has.
 #[cycle(collected)]
 fn collect_each(
     alloc: Global,
@@ -156,18 +144,20 @@ fn collect_each(
     w: &World,
     env: &mut Env,
     vars: &Vars,
-    tuples: &[Match],
+    bound: &Bound,
     effects: &Effects,
     changes: &mut Changes,
 ) -> Result<bool, ActFault>
     requires reads { EachReads (signature_of task.now.problem.domain) vars.now (tree_of_effects effects.now) }
-    requires few { length vars.now ≤ 9 }
-    requires lengths { Each (λ m. m.len ≡ length vars.now) tuples.now }
-    ensures changes { Collects (flat_map (λ t. all_instances (situation_of (plain_problem task.now.problem) w.now) (bind vars.now t (assignment_in env.old)) (tree_of_effects effects.now)) (map tuple_of tuples.now)) (flat_map (λ t. looked_in_effects (looks_of (plain_problem task.now.problem) w.now) (situation_of (plain_problem task.now.problem) w.now) (bind vars.now t (assignment_in env.old)) (tree_of_effects effects.now)) (map tuple_of tuples.now)) changes.old changes.new result }
+    requires differ { DifferInSlot vars.now }
+    requires occur { OccurIn vars.now bound.now }
+    requires fits { BoundFits (signature_of task.now.problem.domain) bound.now }
+    ensures changes { CollectsEach (plain_problem task.now.problem) w.now (assignment_in env.old) vars.now (tree_of_effects effects.now) (tuples (situation_of (plain_problem task.now.problem) w.now) (assignment_in env.old) vars.now bound.now) changes.old changes.new result }
     ensures frame { EachLeaves (signature_of task.now.problem.domain) vars.now (tree_of_effects effects.now) (assignment_in env.old) (assignment_in env.new) }
 {
-    for tuple in tuples {
-        env.put_values(vars.as_slice(), tuple.counted_values());
+    let mut tuples = TupleReader::open(task, env, vars, bound);
+    while tuples.next(task, w, bound) {
+        env.put_values(vars.as_slice(), tuples.values());
         match collect_all(alloc, task, w, env, effects, changes) {
             Ok(true) => {}
             Ok(false) => return Ok(false),

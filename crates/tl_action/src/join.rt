@@ -10,21 +10,23 @@ ghost use Rattle.tl_terms.specs.ProblemMeaning.{plain_operator, plain_problem};
 
 use crate::ActFault;
 use crate::levels::{levels_of, terms_of};
-use crate::prepared::prepared;
-use crate::tuples::{bound_holds, tuples_in};
+use crate::prepared::is_prepared;
+use crate::sure::are_sure;
 use crate::values::values_of;
 use std::alloc::Global;
-use tl_eval::Env;
+use tl_eval::{Env, TupleReader, bound_holds};
 use tl_syntax::{NoMemory, Operator, Terms, Values, Vars};
 use tl_world::{Task, World};
 
-/// The join order of an operator: which parameters each of its bounds, in their order, gives values. It is worked out once, before the bounds are joined.
+/// The join order of an operator: which parameters each of its bounds, in their order, gives values, and what is left to test once all have theirs. It is worked out once, before the bounds are joined.
 #[derive(Drop)]
 pub(crate) struct JoinOrder {
     /// For each bound the parameters that stand in it and in none before it.
     levels: Vec<Vars>,
     /// The parameters as terms.
     terms: Terms,
+    /// Whether none of the effects can fail, so that the precondition alone decides.
+    sure: bool,
 }
 
 impl JoinOrder {
@@ -35,7 +37,12 @@ impl JoinOrder {
         let params = operator.params.as_slice();
         let levels = levels_of(alloc, params, operator.bounds.as_slice())?;
         let terms = terms_of(alloc, params)?;
-        Ok(JoinOrder { levels, terms })
+        let sure = are_sure(&operator.effects);
+        Ok(JoinOrder {
+            levels,
+            terms,
+            sure,
+        })
     }
 }
 
@@ -55,12 +62,12 @@ fn find_row(
     ensures frame { Agree (slots_of operator.now.params) (assignment_in env.new) (assignment_in env.old) }
 {
     match values_of(alloc, task, w, env, &order.terms) {
-        Ok(Some(row)) => match prepared(alloc, task, w, env, operator) {
-            Ok(Some(_)) => {
+        Ok(Some(row)) => match is_prepared(alloc, task, w, env, operator, order.sure) {
+            Ok(true) => {
                 rows.push(row)?;
                 Ok(())
             }
-            Ok(None) => Ok(()),
+            Ok(false) => Ok(()),
             Err(fault) => Err(fault),
         },
         Ok(None) => Ok(()),
@@ -71,7 +78,6 @@ fn find_row(
 /// The first bound from the `j`-th on that gives a parameter its value, or how many bounds there are: None where a bound before it is false. The bounds before it are true, and have no parameter but those that have their values already.
 /// It takes no memory.
 fn next_level(
-    alloc: Global,
     task: &Task,
     w: &World,
     env: &Env,
@@ -89,7 +95,7 @@ fn next_level(
     let levels = order.levels.as_slice();
     let mut k = j;
     while k < bounds.len() && levels[k].is_empty() {
-        if !bound_holds(alloc, task, w, env, &bounds[k]) {
+        if !bound_holds(task, w, env, &bounds[k]) {
             return None;
         }
         k += 1;
@@ -119,9 +125,10 @@ fn join_level(
     let bounds = operator.bounds.as_slice();
     let levels = order.levels.as_slice();
     let vars = &levels[j];
-    let tuples = tuples_in(alloc, task, w, env, vars, &bounds[j])?;
-    for tuple in tuples.as_slice() {
-        env.put_values(vars.as_slice(), tuple.counted_values());
+    let bound = &bounds[j];
+    let mut tuples = TupleReader::open(task, env, vars, bound);
+    while tuples.next(task, w, bound) {
+        env.put_values(vars.as_slice(), tuples.values());
         match join(alloc, task, w, env, operator, order, j + 1, rows) {
             Ok(()) => {}
             Err(fault) => return Err(fault),
@@ -153,7 +160,7 @@ pub(crate) fn join(
     ensures rows { Joins (plain_problem task.now.problem) w.now (plain_operator operator.now) (take j operator.now.bounds) (drop j operator.now.bounds) (assignment_in env.old) rows.old.items rows.new.items result }
     ensures frame { Known (take j operator.now.bounds) operator.now.params (assignment_in env.new) (assignment_in env.old) }
 {
-    match next_level(alloc, task, w, env, operator, order, j) {
+    match next_level(task, w, env, operator, order, j) {
         Some(k) => {
             if k < operator.bounds.len() {
                 join_level(alloc, task, w, env, operator, order, k, rows)

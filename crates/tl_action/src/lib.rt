@@ -2,19 +2,22 @@
 //!
 //! - `fault`: why a call gives no answer.
 //! - `step`: the step of an action.
+//! - `next`: the step of an action that is known to be executable.
 //! - `all_actions`: all actions that are executable in a world.
+//! - `bounds`: whether bounds are true.
 //! - `changes`: what effects change.
 //! - `clash`: whether places that are set agree with each other.
 //! - `collect`: the changes that effects make.
 //! - `join`: the rows of values with which an operator can be applied.
 //! - `levels`: the parts of a join order.
 //! - `prepared`: what an operator whose bounds are true changes.
-//! - `tuples`: all tuples of a bound, and whether bounds are true.
+//! - `sure`: effects that cannot fail.
 //! - `values`: the values of the terms of an effect.
 //! - `laws`: what is proved of assignments.
 #![tactic(auto)]
 
 mod all_actions;
+mod bounds;
 mod changes;
 mod clash;
 mod collect;
@@ -22,11 +25,13 @@ mod fault;
 mod join;
 pub mod laws;
 mod levels;
+mod next;
 mod prepared;
 mod step;
-mod tuples;
+mod sure;
 mod values;
 
 pub use all_actions::actions;
 pub use fault::ActFault;
+pub use next::next_world;
 pub use step::apply;

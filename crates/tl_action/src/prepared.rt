@@ -1,11 +1,14 @@
 // Whether an operator whose bounds are true can be applied, and what it then changes.
 ghost use Rattle.std.specs.Prelude.{◌≡◌, length};
 ghost use Rattle.tl_action.specs.Agreement.{Agree};
-ghost use Rattle.tl_action.specs.Prepared.{CollectsWhole, Prepares};
+ghost use Rattle.tl_action.specs.Answers.{Answers};
+ghost use Rattle.tl_action.specs.Prepared.{CollectsWhole, HaveValues, Prepares, is_prepared, looked_prepared};
+ghost use Rattle.tl_action.specs.Sure.{are_sure};
 ghost use Rattle.tl_eval.specs.Frames.{assignment_in};
 ghost use Rattle.tl_syntax.specs.FreeVariables.{slots_of};
 ghost use Rattle.tl_syntax.specs.Kept.{OperatorKeeps};
 ghost use Rattle.tl_syntax.specs.Signature.{signature_of};
+ghost use Rattle.tl_syntax.specs.TreeOfEffect.{tree_of_effects};
 ghost use Rattle.tl_terms.specs.ProblemMeaning.{plain_operator, plain_problem};
 
 use crate::ActFault;
@@ -34,6 +37,35 @@ pub(crate) fn prepared(
         Ok(true) => collected(alloc, task, w, env, operator),
         Ok(false) => Ok(None),
         Err(note) => Err(ActFault::Range(note)),
+    }
+}
+
+/// Whether the operator can be applied, with its parameters' values in the frame. Where its effects are `sure`, none can fail, and they are not looked at.
+/// The bounds are not looked at. The parameters keep their values in the frame.
+pub(crate) fn is_prepared(
+    alloc: Global,
+    task: &Task,
+    w: &World,
+    env: &mut Env,
+    operator: &Operator,
+    sure: bool,
+) -> Result<bool, ActFault>
+    requires keeps { OperatorKeeps (signature_of task.now.problem.domain) (length task.now.problem.names) operator.now }
+    requires values { HaveValues (slots_of operator.now.params) (assignment_in env.old) }
+    requires sure { sure ≡ are_sure (tree_of_effects operator.now.effects) }
+    ensures answer { Answers (is_prepared (plain_problem task.now.problem) w.now (assignment_in env.old) (plain_operator operator.now)) (looked_prepared (plain_problem task.now.problem) w.now (assignment_in env.old) (plain_operator operator.now)) result }
+    ensures frame { Agree (slots_of operator.now.params) (assignment_in env.new) (assignment_in env.old) }
+{
+    if sure {
+        return match state(task, w, env, &operator.pre) {
+            Ok(truth) => Ok(truth),
+            Err(note) => Err(ActFault::Range(note)),
+        };
+    }
+    match prepared(alloc, task, w, env, operator) {
+        Ok(Some(_)) => Ok(true),
+        Ok(None) => Ok(false),
+        Err(fault) => Err(fault),
     }
 }
 

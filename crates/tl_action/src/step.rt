@@ -7,8 +7,8 @@ ghost use Rattle.tl_terms.specs.ProblemMeaning.{plain_problem};
 ghost use Rattle.tl_terms.specs.Step.{step};
 
 use crate::ActFault;
+use crate::bounds::bounds_hold;
 use crate::prepared::prepared;
-use crate::tuples::bounds_hold;
 use std::alloc::Global;
 use std::sync::ledger::Ledger;
 use tl_eval::Env;
@@ -38,7 +38,7 @@ pub fn apply<L: Ledger>(
     steps.tick();
     let operator = &task.problem.domain.operators.as_slice()[a.op as usize];
     env.put_values(operator.params.as_slice(), a.args.as_slice());
-    if !bounds_hold(alloc, task, w, env, operator.bounds.as_slice()) {
+    if !bounds_hold(task, w, env, operator.bounds.as_slice()) {
         return Ok(None);
     }
     match prepared(alloc, task, w, env, operator) {

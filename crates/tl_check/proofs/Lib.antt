@@ -13,3 +13,4 @@ pub mod FormulaLabels
 pub mod VerdictLaws
 pub mod ExecutionLaws
 pub mod JudgeLaws
+pub mod NoValue

@@ -1,21 +1,18 @@
-use Rattle.std.proofs.Common.{◌≡◌, ◌<◌, List, [], map, length, get_or, refl, sym, ap, ◌∙◌, subst, arith}
-use Rattle.tl_action.proofs.EffectParts.{CollectsAll, reads-Add, reads-Del, reads-Assign, at-Add, at-Del, at-Assign, agree-self, frame-same, reads-When, when-true, when-false, when-noted, frame-When, reads-Each, at-Each, frame-Each, instances_for, looked_for, inner-reads, frame-after}
+use Rattle.std.proofs.Common.{◌<◌, List, length, Option, Some, refl, sym, ap, ◌∙◌, subst, arith}
+use Rattle.tl_action.proofs.EffectParts.{CollectsAll, reads-Add, reads-Del, reads-Assign, at-Add, at-Del, at-Assign, agree-self, frame-same, reads-When, when-true, when-false, when-noted, frame-When, reads-Each, at-Each, frame-Each, inner-reads, frame-after}
 use Rattle.tl_action.proofs.EffectLists.{effects-begun, item-smaller, item-reads, frame-on, item-on, item-undefined, item-fault, effects-all}
-use Rattle.tl_action.proofs.EffectTuples.{tuple-on, tuple-undefined, tuple-fault, tuples-all}
-use Rattle.tl_action.proofs.Passed.{passed-begun}
-use Rattle.tl_action.proofs.Walks.{get-itself}
+use Rattle.tl_action.proofs.EffectTuples.{TuplesPassed, tuples-begun, tuple-on, tuple-undefined, tuple-fault, tuples-all}
+use Rattle.tl_action.proofs.BoundTuples.{all, left, none-done, first-left, none-left, fewer-left}
 use Rattle.tl_eval.specs.Frames.{assignment_in}
-use Rattle.tl_eval.proofs.ArityLaws.{declared-few}
-use Rattle.tl_eval.proofs.PatternLaws.{few-variables, bound-few}
-use Rattle.tl_eval.proofs.ScopeLaws.{each-at}
+use Rattle.tl_syntax.specs.declared.value.Value.{Value}
 use Rattle.tl_syntax.specs.declared.variable.Var.{Var}
 use Rattle.tl_syntax.specs.Assignment.{bind}
 use Rattle.tl_syntax.specs.Lists.{Each}
 use Rattle.tl_syntax.specs.Signature.{signature_of}
 use Rattle.tl_syntax.specs.TreeOfEffect.{tree_of_effect, tree_of_effects}
+use Rattle.tl_terms.specs.Bounds.{tuples}
+use Rattle.tl_terms.specs.Definitions.{situation_of}
 use Rattle.tl_terms.specs.ProblemMeaning.{plain_problem}
-use Rattle.tl_world.specs.declared.pattern.Match.{Match}
-use Rattle.tl_world.specs.Patterns.{tuple_of}
 use Rattle.tl_action.proofs.collect.+collected.Goals as goal
 
 pub collect-collect_fact-requires : goal.collect-collect_fact-requires
@@ -98,38 +95,17 @@ pub collect-returns-in-Err-clause-frame : goal.collect-returns-in-Err-clause-fra
 collect-returns-in-Err-clause-frame t c =
     frame-same (signature_of c.args.task.now.problem.domain) (tree_of_effect c.args.effect.now) (assignment_in c.state.new.env) (assignment_in c.args.env.now) (ap assignment_in c.state.ensures.frame)
 
-pub collect-tuples_in-requires-clause-differ : goal.collect-tuples_in-requires-clause-differ
-collect-tuples_in-requires-clause-differ t c =
-    let reads = reads-Each (signature_of c.args.task.now.problem.domain) c.args.effect.now c.in-Each.vars c.in-Each.bound c.in-Each.effects c.in-Each.is c.requires in
-    reads.variables.differ
-
-pub collect-tuples_in-requires-clause-occur : goal.collect-tuples_in-requires-clause-occur
-collect-tuples_in-requires-clause-occur t c =
-    let reads = reads-Each (signature_of c.args.task.now.problem.domain) c.args.effect.now c.in-Each.vars c.in-Each.bound c.in-Each.effects c.in-Each.is c.requires in
-    reads.variables.occur
-
-pub collect-tuples_in-requires-clause-fits : goal.collect-tuples_in-requires-clause-fits
-collect-tuples_in-requires-clause-fits t c =
-    let reads = reads-Each (signature_of c.args.task.now.problem.domain) c.args.effect.now c.in-Each.vars c.in-Each.bound c.in-Each.effects c.in-Each.is c.requires in
-    reads.variables.bound
-
-pub collect-returns-in_err-tuples-in-Each-clause-frame : goal.collect-returns-in_err-tuples-in-Each-clause-frame
-collect-returns-in_err-tuples-in-Each-clause-frame t c =
-    frame-same (signature_of c.args.task.now.problem.domain) (tree_of_effect c.args.effect.now) (assignment_in c.args.env.now) (assignment_in c.args.env.now) refl
-
 pub collect-collect_each-requires : goal.collect-collect_each-requires
 collect-collect_each-requires t c =
     let reads = reads-Each (signature_of c.args.task.now.problem.domain) c.args.effect.now c.in-Each.vars c.in-Each.bound c.in-Each.effects c.in-Each.is c.requires in
-    let keeps = c.args.task.now.problem.domain_keeps in
-    let few = few-variables c.in-Each.vars c.in-Each.bound reads.variables.differ reads.variables.occur (bound-few (signature_of c.args.task.now.problem.domain) (declared-few _ _ keeps.predicates) (declared-few _ _ keeps.functions) c.in-Each.bound reads.variables.bound) in
-    (omega (arith, reads.smaller, c.decreases), (reads.effects, (few, subst (Each (λ (m : Match). m.len ≡ length c.in-Each.vars)) (sym c.as_slice.ensures.value) c.in_ok-tuples-in-Each.ensures.lengths)))
+    (omega (arith, reads.smaller, c.decreases), (reads.effects, (reads.variables.differ, (reads.variables.occur, reads.variables.bound))))
 
-pub collect-returns-in_ok-tuples-in-Each-clause-changes : goal.collect-returns-in_ok-tuples-in-Each-clause-changes
-collect-returns-in_ok-tuples-in-Each-clause-changes t c =
-    at-Each (plain_problem c.args.task.now.problem) c.args.w.now (assignment_in c.args.env.now) c.args.effect.now c.in-Each.vars c.in-Each.bound c.in-Each.effects (map tuple_of c.as_slice.result.now) c.args.changes.now c.collect_each.new.changes c.collect_each.result c.in-Each.is (ap (map tuple_of) c.as_slice.ensures.value ∙ c.in_ok-tuples-in-Each.ensures.tuples) c.collect_each.ensures.changes
+pub collect-returns-in-Each-clause-changes : goal.collect-returns-in-Each-clause-changes
+collect-returns-in-Each-clause-changes t c =
+    at-Each (plain_problem c.args.task.now.problem) c.args.w.now (assignment_in c.args.env.now) c.args.effect.now c.in-Each.vars c.in-Each.bound c.in-Each.effects (tuples (situation_of (plain_problem c.args.task.now.problem) c.args.w.now) (assignment_in c.args.env.now) c.in-Each.vars c.in-Each.bound) c.args.changes.now c.collect_each.new.changes c.collect_each.result c.in-Each.is refl c.collect_each.ensures.changes
 
-pub collect-returns-in_ok-tuples-in-Each-clause-frame : goal.collect-returns-in_ok-tuples-in-Each-clause-frame
-collect-returns-in_ok-tuples-in-Each-clause-frame t c =
+pub collect-returns-in-Each-clause-frame : goal.collect-returns-in-Each-clause-frame
+collect-returns-in-Each-clause-frame t c =
     frame-Each (signature_of c.args.task.now.problem.domain) c.args.effect.now c.in-Each.vars c.in-Each.bound c.in-Each.effects (assignment_in c.collect_each.new.env) (assignment_in c.args.env.now) c.in-Each.is c.collect_each.ensures.frame
 
 pub collect_all-loop-effect-init : goal.collect_all-loop-effect-init
@@ -171,26 +147,17 @@ pub collect_all-returns-clause-changes : goal.collect_all-returns-clause-changes
 collect_all-returns-clause-changes t c =
     effects-all (signature_of c.args.task.now.problem.domain) (plain_problem c.args.task.now.problem) c.args.w.now (assignment_in c.args.env.now) (tree_of_effects c.args.effects.now) c.as_slice-effect-items.result.now c.loop-effect.effect-index c.args.changes.now c.loop-effect.changes c.loop-effect-test.false c.loop-effect.invariant.passed
 
-pub collect_each-loop-tuple-init : goal.collect_each-loop-tuple-init
-collect_each-loop-tuple-init t c =
+pub collect_each-loop-alloc-init : goal.collect_each-loop-alloc-init
+collect_each-loop-alloc-init t c =
     record {
+      reads = c.open-tuples.ensures.reads;
       frame = λ around fresh fits. agree-self around (assignment_in c.args.env.now);
-      passed = passed-begun (instances_for (plain_problem c.args.task.now.problem) c.args.w.now (assignment_in c.args.env.now) c.args.vars.now (tree_of_effects c.args.effects.now) (map tuple_of c.args.tuples.now)) (instances_for (plain_problem c.args.task.now.problem) c.args.w.now (assignment_in c.args.env.now) c.args.vars.now (tree_of_effects c.args.effects.now) (map tuple_of c.args.tuples.now)) (looked_for (plain_problem c.args.task.now.problem) c.args.w.now (assignment_in c.args.env.now) c.args.vars.now (tree_of_effects c.args.effects.now) (map tuple_of c.args.tuples.now)) (looked_for (plain_problem c.args.task.now.problem) c.args.w.now (assignment_in c.args.env.now) c.args.vars.now (tree_of_effects c.args.effects.now) (map tuple_of c.args.tuples.now)) c.args.changes.now refl refl;
+      passed = tuples-begun (plain_problem c.args.task.now.problem) c.args.w.now (assignment_in c.args.env.now) c.args.vars.now (tree_of_effects c.args.effects.now) (all (situation_of (plain_problem c.args.task.now.problem) c.args.w.now) (assignment_in c.args.env.now) c.args.vars.now c.args.bound.now) (left (situation_of (plain_problem c.args.task.now.problem) c.args.w.now) (assignment_in c.args.env.now) c.args.vars.now c.args.bound.now c.open-tuples.result.tuple) c.args.changes.now (ap (left (situation_of (plain_problem c.args.task.now.problem) c.args.w.now) (assignment_in c.args.env.now) c.args.vars.now c.args.bound.now) c.open-tuples.ensures.before ∙ none-done (situation_of (plain_problem c.args.task.now.problem) c.args.w.now) (assignment_in c.args.env.now) c.args.vars.now c.args.bound.now);
     }
-
-pub collect_each-counted_values-requires : goal.collect_each-counted_values-requires
-collect_each-counted_values-requires t c =
-    let none : Match = record { values = []; len = 0 } in
-    let m = get_or c.args.tuples.now c.loop-tuple.tuple-index none in
-    let long = each-at (λ (x : Match). x.len ≡ length c.args.vars.now) c.args.tuples.now c.loop-tuple.tuple-index none c.requires.lengths c.loop-tuple-test.true in
-    omega (arith, c.requires.few, long)
 
 pub collect_each-put_values-requires-clause-same : goal.collect_each-put_values-requires-clause-same
 collect_each-put_values-requires-clause-same t c =
-    let none : Match = record { values = []; len = 0 } in
-    let m = get_or c.args.tuples.now c.loop-tuple.tuple-index none in
-    let long = each-at (λ (x : Match). x.len ≡ length c.args.vars.now) c.args.tuples.now c.loop-tuple.tuple-index none c.requires.lengths c.loop-tuple-test.true in
-    ap (λ (ss : List Var). length ss) c.as_slice.ensures ∙ (sym long ∙ sym c.counted_values.ensures.count)
+    ap (λ (ss : List Var). length ss) c.as_slice.ensures ∙ sym (c.values.ensures.count c.args.vars.now (assignment_in c.args.env.now) c.args.bound.now (c.next.ensures.reads c.args.vars.now (assignment_in c.args.env.now) c.loop-alloc.invariant.reads))
 
 pub collect_each-put_values-requires-clause-slots : goal.collect_each-put_values-requires-clause-slots
 collect_each-put_values-requires-clause-slots t c = subst (Each (λ (s : Var). s.slot < 32)) (sym c.as_slice.ensures) c.requires.reads.frame
@@ -200,46 +167,55 @@ collect_each-collect_all-requires t c = (omega (arith, c.decreases), inner-reads
 
 pub collect_each-returns-in-Ok-false-clause-changes : goal.collect_each-returns-in-Ok-false-clause-changes
 collect_each-returns-in-Ok-false-clause-changes t c =
-    let none : Match = record { values = []; len = 0 } in
-    let m = get_or c.args.tuples.now c.loop-tuple.tuple-index none in
-    let bound = c.put_values.ensures.values ∙ (λ j. bind (c.as_slice.ensures j) (c.counted_values.ensures.values j) (assignment_in c.loop-tuple.env)) in
-    tuple-undefined (signature_of c.args.task.now.problem.domain) (plain_problem c.args.task.now.problem) c.args.w.now (assignment_in c.args.env.now) c.args.vars.now (tree_of_effects c.args.effects.now) c.args.tuples.now c.loop-tuple.tuple-index m c.loop-tuple-test.true (get-itself c.args.tuples.now c.loop-tuple.tuple-index none c.loop-tuple-test.true) c.args.changes.now c.loop-tuple.changes c.loop-tuple.invariant.passed c.requires.reads (assignment_in c.put_values.new.self) (assignment_in c.loop-tuple.env) bound c.loop-tuple.invariant.frame c.collect_all.new.changes c.in-Ok-false.field-0 c.in-Ok-false.field-0-test c.in-Ok-false.ensures.changes
+    let e = assignment_in c.args.env.now in
+    let next = c.next.ensures.next c.args.vars.now e c.loop-alloc.invariant.reads in
+    let first = first-left (situation_of (plain_problem c.args.task.now.problem) c.args.w.now) (assignment_in c.args.env.now) c.args.vars.now c.args.bound.now c.requires.differ c.requires.occur c.loop-alloc.tuples.tuple c.next.new.self.tuple next c.values.result.now c.values.ensures.values in
+    let bound = c.put_values.ensures.values ∙ ap (λ (ss : List Var). bind ss c.values.result.now (assignment_in c.loop-alloc.env)) c.as_slice.ensures in
+    tuple-undefined (signature_of c.args.task.now.problem.domain) (plain_problem c.args.task.now.problem) c.args.w.now (assignment_in c.args.env.now) c.args.vars.now (tree_of_effects c.args.effects.now) (all (situation_of (plain_problem c.args.task.now.problem) c.args.w.now) (assignment_in c.args.env.now) c.args.vars.now c.args.bound.now) (left (situation_of (plain_problem c.args.task.now.problem) c.args.w.now) (assignment_in c.args.env.now) c.args.vars.now c.args.bound.now c.loop-alloc.tuples.tuple) (left (situation_of (plain_problem c.args.task.now.problem) c.args.w.now) (assignment_in c.args.env.now) c.args.vars.now c.args.bound.now (Some c.values.result.now)) c.values.result.now first c.args.changes.now c.loop-alloc.changes c.loop-alloc.invariant.passed c.requires.reads (assignment_in c.put_values.new.self) (assignment_in c.loop-alloc.env) bound c.loop-alloc.invariant.frame c.collect_all.new.changes c.in-Ok-false.field-0 c.in-Ok-false.field-0-test c.in-Ok-false.ensures.changes
 
 pub collect_each-returns-in-Ok-false-clause-frame : goal.collect_each-returns-in-Ok-false-clause-frame
 collect_each-returns-in-Ok-false-clause-frame t c =
-    let none : Match = record { values = []; len = 0 } in
-    let m = get_or c.args.tuples.now c.loop-tuple.tuple-index none in
-    let bound = c.put_values.ensures.values ∙ (λ j. bind (c.as_slice.ensures j) (c.counted_values.ensures.values j) (assignment_in c.loop-tuple.env)) in
-    frame-after (signature_of c.args.task.now.problem.domain) c.args.vars.now (tree_of_effects c.args.effects.now) (tuple_of m) (assignment_in c.collect_all.new.env) (assignment_in c.put_values.new.self) (assignment_in c.loop-tuple.env) (assignment_in c.args.env.now) bound c.loop-tuple.invariant.frame c.collect_all.ensures.frame
+    let bound = c.put_values.ensures.values ∙ ap (λ (ss : List Var). bind ss c.values.result.now (assignment_in c.loop-alloc.env)) c.as_slice.ensures in
+    frame-after (signature_of c.args.task.now.problem.domain) c.args.vars.now (tree_of_effects c.args.effects.now) c.values.result.now (assignment_in c.collect_all.new.env) (assignment_in c.put_values.new.self) (assignment_in c.loop-alloc.env) (assignment_in c.args.env.now) bound c.loop-alloc.invariant.frame c.collect_all.ensures.frame
 
-pub collect_each-loop-tuple-preserved : goal.collect_each-loop-tuple-preserved
-collect_each-loop-tuple-preserved t c =
-    let none : Match = record { values = []; len = 0 } in
-    let m = get_or c.args.tuples.now c.loop-tuple.tuple-index none in
-    let bound = c.put_values.ensures.values ∙ (λ j. bind (c.as_slice.ensures j) (c.counted_values.ensures.values j) (assignment_in c.loop-tuple.env)) in
+pub collect_each-loop-alloc-preserved : goal.collect_each-loop-alloc-preserved
+collect_each-loop-alloc-preserved t c =
+    let e = assignment_in c.args.env.now in
+    let next = c.next.ensures.next c.args.vars.now e c.loop-alloc.invariant.reads in
+    let first = first-left (situation_of (plain_problem c.args.task.now.problem) c.args.w.now) (assignment_in c.args.env.now) c.args.vars.now c.args.bound.now c.requires.differ c.requires.occur c.loop-alloc.tuples.tuple c.next.new.self.tuple next c.values.result.now c.values.ensures.values in
+    let bound = c.put_values.ensures.values ∙ ap (λ (ss : List Var). bind ss c.values.result.now (assignment_in c.loop-alloc.env)) c.as_slice.ensures in
     record {
-      frame = frame-after (signature_of c.args.task.now.problem.domain) c.args.vars.now (tree_of_effects c.args.effects.now) (tuple_of m) (assignment_in c.collect_all.new.env) (assignment_in c.put_values.new.self) (assignment_in c.loop-tuple.env) (assignment_in c.args.env.now) bound c.loop-tuple.invariant.frame c.collect_all.ensures.frame;
-      passed = tuple-on (signature_of c.args.task.now.problem.domain) (plain_problem c.args.task.now.problem) c.args.w.now (assignment_in c.args.env.now) c.args.vars.now (tree_of_effects c.args.effects.now) c.args.tuples.now c.loop-tuple.tuple-index m c.loop-tuple-test.true (get-itself c.args.tuples.now c.loop-tuple.tuple-index none c.loop-tuple-test.true) c.args.changes.now c.loop-tuple.changes c.loop-tuple.invariant.passed c.requires.reads (assignment_in c.put_values.new.self) (assignment_in c.loop-tuple.env) bound c.loop-tuple.invariant.frame c.collect_all.new.changes c.in-Ok-true.field-0 c.in-Ok-true.field-0-test c.in-Ok-true.ensures.changes;
+      reads = c.next.ensures.reads c.args.vars.now e c.loop-alloc.invariant.reads;
+      frame = frame-after (signature_of c.args.task.now.problem.domain) c.args.vars.now (tree_of_effects c.args.effects.now) c.values.result.now (assignment_in c.collect_all.new.env) (assignment_in c.put_values.new.self) (assignment_in c.loop-alloc.env) (assignment_in c.args.env.now) bound c.loop-alloc.invariant.frame c.collect_all.ensures.frame;
+      passed = subst (λ (o : Option (List Value)). TuplesPassed (plain_problem c.args.task.now.problem) c.args.w.now (assignment_in c.args.env.now) c.args.vars.now (tree_of_effects c.args.effects.now) (all (situation_of (plain_problem c.args.task.now.problem) c.args.w.now) (assignment_in c.args.env.now) c.args.vars.now c.args.bound.now) (left (situation_of (plain_problem c.args.task.now.problem) c.args.w.now) (assignment_in c.args.env.now) c.args.vars.now c.args.bound.now o) c.args.changes.now c.collect_all.new.changes) (sym c.values.ensures.values)
+          (tuple-on (signature_of c.args.task.now.problem.domain) (plain_problem c.args.task.now.problem) c.args.w.now (assignment_in c.args.env.now) c.args.vars.now (tree_of_effects c.args.effects.now) (all (situation_of (plain_problem c.args.task.now.problem) c.args.w.now) (assignment_in c.args.env.now) c.args.vars.now c.args.bound.now) (left (situation_of (plain_problem c.args.task.now.problem) c.args.w.now) (assignment_in c.args.env.now) c.args.vars.now c.args.bound.now c.loop-alloc.tuples.tuple) (left (situation_of (plain_problem c.args.task.now.problem) c.args.w.now) (assignment_in c.args.env.now) c.args.vars.now c.args.bound.now (Some c.values.result.now)) c.values.result.now first c.args.changes.now c.loop-alloc.changes c.loop-alloc.invariant.passed c.requires.reads (assignment_in c.put_values.new.self) (assignment_in c.loop-alloc.env) bound c.loop-alloc.invariant.frame c.collect_all.new.changes c.in-Ok-true.field-0 c.in-Ok-true.field-0-test c.in-Ok-true.ensures.changes);
     }
+
+pub collect_each-loop-alloc-smaller : goal.collect_each-loop-alloc-smaller
+collect_each-loop-alloc-smaller t c =
+    let e = assignment_in c.args.env.now in
+    let next = c.next.ensures.next c.args.vars.now e c.loop-alloc.invariant.reads in
+    subst (λ (o : Option (List Value)). length (left (situation_of (plain_problem c.args.task.now.problem) c.args.w.now) (assignment_in c.args.env.now) c.args.vars.now c.args.bound.now o) < length (left (situation_of (plain_problem c.args.task.now.problem) c.args.w.now) (assignment_in c.args.env.now) c.args.vars.now c.args.bound.now c.loop-alloc.tuples.tuple)) (sym c.values.ensures.values) (fewer-left (situation_of (plain_problem c.args.task.now.problem) c.args.w.now) (assignment_in c.args.env.now) c.args.vars.now c.args.bound.now c.requires.differ c.requires.occur c.loop-alloc.tuples.tuple c.next.new.self.tuple next c.values.result.now c.values.ensures.values)
 
 pub collect_each-returns-in-Err-clause-changes : goal.collect_each-returns-in-Err-clause-changes
 collect_each-returns-in-Err-clause-changes t c =
-    let none : Match = record { values = []; len = 0 } in
-    let m = get_or c.args.tuples.now c.loop-tuple.tuple-index none in
-    let bound = c.put_values.ensures.values ∙ (λ j. bind (c.as_slice.ensures j) (c.counted_values.ensures.values j) (assignment_in c.loop-tuple.env)) in
-    tuple-fault (signature_of c.args.task.now.problem.domain) (plain_problem c.args.task.now.problem) c.args.w.now (assignment_in c.args.env.now) c.args.vars.now (tree_of_effects c.args.effects.now) c.args.tuples.now c.loop-tuple.tuple-index m c.loop-tuple-test.true (get-itself c.args.tuples.now c.loop-tuple.tuple-index none c.loop-tuple-test.true) c.args.changes.now c.loop-tuple.changes c.loop-tuple.invariant.passed c.requires.reads (assignment_in c.put_values.new.self) (assignment_in c.loop-tuple.env) bound c.loop-tuple.invariant.frame c.in-Err.fault c.in-Err.ensures.changes
+    let e = assignment_in c.args.env.now in
+    let next = c.next.ensures.next c.args.vars.now e c.loop-alloc.invariant.reads in
+    let first = first-left (situation_of (plain_problem c.args.task.now.problem) c.args.w.now) (assignment_in c.args.env.now) c.args.vars.now c.args.bound.now c.requires.differ c.requires.occur c.loop-alloc.tuples.tuple c.next.new.self.tuple next c.values.result.now c.values.ensures.values in
+    let bound = c.put_values.ensures.values ∙ ap (λ (ss : List Var). bind ss c.values.result.now (assignment_in c.loop-alloc.env)) c.as_slice.ensures in
+    tuple-fault (signature_of c.args.task.now.problem.domain) (plain_problem c.args.task.now.problem) c.args.w.now (assignment_in c.args.env.now) c.args.vars.now (tree_of_effects c.args.effects.now) (all (situation_of (plain_problem c.args.task.now.problem) c.args.w.now) (assignment_in c.args.env.now) c.args.vars.now c.args.bound.now) (left (situation_of (plain_problem c.args.task.now.problem) c.args.w.now) (assignment_in c.args.env.now) c.args.vars.now c.args.bound.now c.loop-alloc.tuples.tuple) (left (situation_of (plain_problem c.args.task.now.problem) c.args.w.now) (assignment_in c.args.env.now) c.args.vars.now c.args.bound.now (Some c.values.result.now)) c.values.result.now first c.args.changes.now c.loop-alloc.changes c.loop-alloc.invariant.passed c.requires.reads (assignment_in c.put_values.new.self) (assignment_in c.loop-alloc.env) bound c.loop-alloc.invariant.frame c.in-Err.fault c.in-Err.ensures.changes
 
 pub collect_each-returns-in-Err-clause-frame : goal.collect_each-returns-in-Err-clause-frame
 collect_each-returns-in-Err-clause-frame t c =
-    let none : Match = record { values = []; len = 0 } in
-    let m = get_or c.args.tuples.now c.loop-tuple.tuple-index none in
-    let bound = c.put_values.ensures.values ∙ (λ j. bind (c.as_slice.ensures j) (c.counted_values.ensures.values j) (assignment_in c.loop-tuple.env)) in
-    frame-after (signature_of c.args.task.now.problem.domain) c.args.vars.now (tree_of_effects c.args.effects.now) (tuple_of m) (assignment_in c.collect_all.new.env) (assignment_in c.put_values.new.self) (assignment_in c.loop-tuple.env) (assignment_in c.args.env.now) bound c.loop-tuple.invariant.frame c.collect_all.ensures.frame
+    let bound = c.put_values.ensures.values ∙ ap (λ (ss : List Var). bind ss c.values.result.now (assignment_in c.loop-alloc.env)) c.as_slice.ensures in
+    frame-after (signature_of c.args.task.now.problem.domain) c.args.vars.now (tree_of_effects c.args.effects.now) c.values.result.now (assignment_in c.collect_all.new.env) (assignment_in c.put_values.new.self) (assignment_in c.loop-alloc.env) (assignment_in c.args.env.now) bound c.loop-alloc.invariant.frame c.collect_all.ensures.frame
 
 pub collect_each-returns-clause-changes : goal.collect_each-returns-clause-changes
 collect_each-returns-clause-changes t c =
-    tuples-all (plain_problem c.args.task.now.problem) c.args.w.now (assignment_in c.args.env.now) c.args.vars.now (tree_of_effects c.args.effects.now) c.args.tuples.now c.loop-tuple.tuple-index c.args.changes.now c.loop-tuple.changes c.loop-tuple-test.false c.loop-tuple.invariant.passed
+    let e = assignment_in c.args.env.now in
+    let next = c.next.ensures.next c.args.vars.now e c.loop-alloc.invariant.reads in
+    tuples-all (plain_problem c.args.task.now.problem) c.args.w.now (assignment_in c.args.env.now) c.args.vars.now (tree_of_effects c.args.effects.now) (all (situation_of (plain_problem c.args.task.now.problem) c.args.w.now) (assignment_in c.args.env.now) c.args.vars.now c.args.bound.now) (left (situation_of (plain_problem c.args.task.now.problem) c.args.w.now) (assignment_in c.args.env.now) c.args.vars.now c.args.bound.now c.loop-alloc.tuples.tuple) c.args.changes.now c.loop-alloc.changes (none-left (situation_of (plain_problem c.args.task.now.problem) c.args.w.now) (assignment_in c.args.env.now) c.args.vars.now c.args.bound.now c.requires.differ c.requires.occur c.loop-alloc.tuples.tuple c.next.new.self.tuple next (c.next.ensures.end c.loop-alloc-test.false)) c.loop-alloc.invariant.passed
 
 pub collect_each-returns-clause-frame : goal.collect_each-returns-clause-frame
 collect_each-returns-clause-frame t c =
-    c.loop-tuple.invariant.frame
+    c.loop-alloc.invariant.frame

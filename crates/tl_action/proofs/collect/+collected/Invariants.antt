@@ -1,14 +1,15 @@
-use Rattle.std.proofs.Common.{◌+◌, map, drop}
+use Rattle.std.proofs.Common.{◌+◌, map, drop, length}
 use Rattle.tl_action.specs.Agreement.{EffectsLeave, EachLeaves}
+use Rattle.tl_action.proofs.BoundTuples.{all, left}
 use Rattle.tl_action.proofs.EffectSizes.{effect_nodes, effects_nodes}
 use Rattle.tl_action.proofs.EffectLists.{EffectsPassed}
-use Rattle.tl_action.proofs.EffectParts.{instances_for, looked_for}
-use Rattle.tl_action.proofs.Passed.{Passed}
+use Rattle.tl_action.proofs.EffectTuples.{TuplesPassed}
 use Rattle.tl_eval.specs.Frames.{assignment_in}
+use Rattle.tl_eval.specs.Reader.{Reads}
 use Rattle.tl_syntax.specs.Signature.{signature_of}
 use Rattle.tl_syntax.specs.TreeOfEffect.{tree_of_effect, tree_of_effects, effects_of_list}
+use Rattle.tl_terms.specs.Definitions.{situation_of}
 use Rattle.tl_terms.specs.ProblemMeaning.{plain_problem}
-use Rattle.tl_world.specs.Patterns.{tuple_of}
 use Rattle.tl_action.proofs.collect.+collected.Given as goal
 
 abbrev pub decreases-collect : goal.decreases-collect
@@ -26,14 +27,16 @@ invariant-collect_all-loop-effect l = record {
   passed : EffectsPassed (signature_of l.task.problem.domain) (plain_problem l.task.problem) l.w (assignment_in l.fn.env) (tree_of_effects l.effects) (effects_of_list (map tree_of_effect (drop l.effect-index l.effect-items))) l.fn.changes l.changes;
 }
 
-abbrev pub invariant-collect_each-loop-tuple : goal.invariant-collect_each-loop-tuple
-invariant-collect_each-loop-tuple l =
+abbrev pub decreases-collect_each-loop-alloc : goal.decreases-collect_each-loop-alloc
+decreases-collect_each-loop-alloc l = length (left (situation_of (plain_problem l.task.problem) l.w) (assignment_in l.fn.env) l.vars l.bound l.tuples.tuple)
+
+abbrev pub invariant-collect_each-loop-alloc : goal.invariant-collect_each-loop-alloc
+invariant-collect_each-loop-alloc l =
     let p = plain_problem l.task.problem in
+    let s = situation_of p l.w in
     let e = assignment_in l.fn.env in
-    let es = tree_of_effects l.effects in
-    let all = map tuple_of l.tuples in
-    let rest = map tuple_of (drop l.tuple-index l.tuples) in
     record {
-      frame : EachLeaves (signature_of l.task.problem.domain) l.vars es e (assignment_in l.env);
-      passed : Passed (instances_for p l.w e l.vars es all) (looked_for p l.w e l.vars es all) (instances_for p l.w e l.vars es rest) (looked_for p l.w e l.vars es rest) l.fn.changes l.changes;
+      reads : Reads l.vars e l.bound l.tuples;
+      frame : EachLeaves (signature_of l.task.problem.domain) l.vars (tree_of_effects l.effects) e (assignment_in l.env);
+      passed : TuplesPassed p l.w e l.vars (tree_of_effects l.effects) (all s e l.vars l.bound) (left s e l.vars l.bound l.tuples.tuple) l.fn.changes l.changes;
     }

@@ -1,12 +1,12 @@
-use Rattle.std.proofs.Common.{◌≡◌, List, [], length, Option, Some, None, true, false, true≢false, Ok, sym, ap, ◌∙◌, subst}
-use Rattle.tl_action.specs.declared.changes.Changes.{Changes}
+use Rattle.std.proofs.Common.{◌≡◌, List, [], length, Option, Some, None, true, false, true≢false, sym, ap, ◌∙◌, subst}
 use Rattle.tl_action.specs.Agreement.{Agree}
 use Rattle.tl_action.specs.Answers.{IsCausedBy}
 use Rattle.tl_action.specs.Join.{variables, IsFound}
-use Rattle.tl_action.specs.Prepared.{Prepares, is_prepared, looked_prepared}
+use Rattle.tl_action.specs.Prepared.{HaveValues, is_prepared, looked_prepared}
 use Rattle.tl_action.proofs.EffectParts.{agree-self}
 use Rattle.tl_action.proofs.Operators.{counted-differ, counted-slots}
 use Rattle.tl_action.proofs.Rows.{variables-fit, no-fault, row-found, found-row, row-fault, one-row, no-row}
+use Rattle.tl_action.proofs.SureEffects.{row-valued}
 use Rattle.tl_eval.specs.Frames.{assignment_in}
 use Rattle.tl_syntax.specs.declared.value.Value.{Value}
 use Rattle.tl_syntax.specs.Fits.{TermsFit}
@@ -27,27 +27,30 @@ pub values_of-requires : goal.values_of-requires
 values_of-requires c =
     subst (TermsFit (signature_of c.args.task.now.problem.domain)) (sym c.requires.order.terms) (variables-fit (signature_of c.args.task.now.problem.domain) c.args.operator.now.params (counted-slots c.args.operator.now.params c.requires.keeps.params.counted c.requires.keeps.params.few))
 
-pub returns-in_ok-push-in-Ok-Some-prepared-clause-rows : goal.returns-in_ok-push-in-Ok-Some-prepared-clause-rows
-returns-in_ok-push-in-Ok-Some-prepared-clause-rows c =
+pub is_prepared-requires-clause-values : goal.is_prepared-requires-clause-values
+is_prepared-requires-clause-values c =
+    let row : term_values c.args.w.now (assignment_in c.args.env.now) (variables c.args.operator.now.params) ≡ Some c.in-Ok-Some.row = ap (term_values c.args.w.now (assignment_in c.args.env.now)) (sym c.requires.order.terms) ∙ (sym c.in-Ok-Some.ensures.values ∙ c.in-Ok-Some.field-0-is) in
+    subst (λ env. HaveValues (slots_of c.args.operator.now.params) (assignment_in env)) (sym c.values_of.ensures.frame) (row-valued c.args.w.now (assignment_in c.args.env.now) c.args.operator.now.params c.in-Ok-Some.row row)
+
+pub returns-in_ok-push-in-Ok-true-clause-rows : goal.returns-in_ok-push-in-Ok-true-clause-rows
+returns-in_ok-push-in-Ok-true-clause-rows c =
     let row : term_values c.args.w.now (assignment_in c.args.env.now) (variables c.args.operator.now.params) ≡ Some c.in-Ok-Some.row = ap (term_values c.args.w.now (assignment_in c.args.env.now)) (sym c.requires.order.terms) ∙ (sym c.in-Ok-Some.ensures.values ∙ c.in-Ok-Some.field-0-is) in
     let ready : is_prepared (plain_problem c.args.task.now.problem) c.args.w.now (assignment_in c.args.env.now) (plain_operator c.args.operator.now) ≡ true =
-    ap (λ env. is_prepared (plain_problem c.args.task.now.problem) c.args.w.now (assignment_in env) (plain_operator c.args.operator.now)) (sym c.values_of.ensures.frame)
-    ∙ (let k = subst (λ (r : Option Changes). Prepares (plain_problem c.args.task.now.problem) c.args.w.now (assignment_in c.values_of.new.env) (plain_operator c.args.operator.now) (Ok r)) c.in-Ok-Some-prepared.field-0-is c.in-Ok-Some-prepared.ensures.changes in k.0) in
-    one-row (IsFound (plain_problem c.args.task.now.problem) c.args.w.now (plain_operator c.args.operator.now) c.args.operator.now.bounds [] (assignment_in c.args.env.now)) c.args.rows.now.items c.push.new.self.items c.in-Ok-Some.row c.in_ok-push-in-Ok-Some-prepared.ensures.items (row-found (signature_of c.args.task.now.problem.domain) (length c.args.task.now.problem.names) (plain_problem c.args.task.now.problem) c.args.w.now c.args.operator.now c.requires.keeps (counted-differ c.args.operator.now.params c.requires.keeps.params.counted) (assignment_in c.args.env.now) c.in-Ok-Some.row row ready)
+    ap (λ env. is_prepared (plain_problem c.args.task.now.problem) c.args.w.now (assignment_in env) (plain_operator c.args.operator.now)) (sym c.values_of.ensures.frame) ∙ sym (sym c.in-Ok-true.field-0-test ∙ c.in-Ok-true.ensures.answer) in
+    one-row (IsFound (plain_problem c.args.task.now.problem) c.args.w.now (plain_operator c.args.operator.now) c.args.operator.now.bounds [] (assignment_in c.args.env.now)) c.args.rows.now.items c.push.new.self.items c.in-Ok-Some.row c.in_ok-push-in-Ok-true.ensures.items (row-found (signature_of c.args.task.now.problem.domain) (length c.args.task.now.problem.names) (plain_problem c.args.task.now.problem) c.args.w.now c.args.operator.now c.requires.keeps (counted-differ c.args.operator.now.params c.requires.keeps.params.counted) (assignment_in c.args.env.now) c.in-Ok-Some.row row ready)
     (λ t h. same-row (term_values c.args.w.now (assignment_in c.args.env.now) (variables c.args.operator.now.params)) t c.in-Ok-Some.row (found-row (signature_of c.args.task.now.problem.domain) (length c.args.task.now.problem.names) (plain_problem c.args.task.now.problem) c.args.w.now c.args.operator.now c.requires.keeps (counted-differ c.args.operator.now.params c.requires.keeps.params.counted) (assignment_in c.args.env.now) t h).0 row)
 
-pub returns-in-Ok-None-prepared-clause-rows : goal.returns-in-Ok-None-prepared-clause-rows
-returns-in-Ok-None-prepared-clause-rows c =
+pub returns-in-Ok-false-clause-rows : goal.returns-in-Ok-false-clause-rows
+returns-in-Ok-false-clause-rows c =
     let blocked : is_prepared (plain_problem c.args.task.now.problem) c.args.w.now (assignment_in c.args.env.now) (plain_operator c.args.operator.now) ≡ false =
-    ap (λ env. is_prepared (plain_problem c.args.task.now.problem) c.args.w.now (assignment_in env) (plain_operator c.args.operator.now)) (sym c.values_of.ensures.frame)
-    ∙ subst (λ (r : Option Changes). Prepares (plain_problem c.args.task.now.problem) c.args.w.now (assignment_in c.values_of.new.env) (plain_operator c.args.operator.now) (Ok r)) c.in-Ok-None-prepared.field-0-is c.in-Ok-None-prepared.ensures.changes in
+    ap (λ env. is_prepared (plain_problem c.args.task.now.problem) c.args.w.now (assignment_in env) (plain_operator c.args.operator.now)) (sym c.values_of.ensures.frame) ∙ sym (sym c.in-Ok-false.field-0-test ∙ c.in-Ok-false.ensures.answer) in
     no-row (IsFound (plain_problem c.args.task.now.problem) c.args.w.now (plain_operator c.args.operator.now) c.args.operator.now.bounds [] (assignment_in c.args.env.now)) c.args.rows.now.items (λ t h. true≢false (sym (found-row (signature_of c.args.task.now.problem.domain) (length c.args.task.now.problem.names) (plain_problem c.args.task.now.problem) c.args.w.now c.args.operator.now c.requires.keeps (counted-differ c.args.operator.now.params c.requires.keeps.params.counted) (assignment_in c.args.env.now) t h).1 ∙ blocked))
 
-pub returns-in-Err-prepared-clause-rows : goal.returns-in-Err-prepared-clause-rows
-returns-in-Err-prepared-clause-rows c =
+pub returns-in-Err-is_prepared-clause-rows : goal.returns-in-Err-is_prepared-clause-rows
+returns-in-Err-is_prepared-clause-rows c =
     let row : term_values c.args.w.now (assignment_in c.args.env.now) (variables c.args.operator.now.params) ≡ Some c.in-Ok-Some.row = ap (term_values c.args.w.now (assignment_in c.args.env.now)) (sym c.requires.order.terms) ∙ (sym c.in-Ok-Some.ensures.values ∙ c.in-Ok-Some.field-0-is) in
-    row-fault (signature_of c.args.task.now.problem.domain) (length c.args.task.now.problem.names) (plain_problem c.args.task.now.problem) c.args.w.now c.args.operator.now c.requires.keeps (counted-differ c.args.operator.now.params c.requires.keeps.params.counted) (assignment_in c.args.env.now) c.in-Ok-Some.row c.in-Err-prepared.fault row
-    (subst (λ env. IsCausedBy (looked_prepared (plain_problem c.args.task.now.problem) c.args.w.now (assignment_in env) (plain_operator c.args.operator.now)) c.in-Err-prepared.fault) c.values_of.ensures.frame c.in-Err-prepared.ensures.changes)
+    row-fault (signature_of c.args.task.now.problem.domain) (length c.args.task.now.problem.names) (plain_problem c.args.task.now.problem) c.args.w.now c.args.operator.now c.requires.keeps (counted-differ c.args.operator.now.params c.requires.keeps.params.counted) (assignment_in c.args.env.now) c.in-Ok-Some.row c.in-Err-is_prepared.fault row
+    (subst (λ env. IsCausedBy (looked_prepared (plain_problem c.args.task.now.problem) c.args.w.now (assignment_in env) (plain_operator c.args.operator.now)) c.in-Err-is_prepared.fault) c.values_of.ensures.frame c.in-Err-is_prepared.ensures.answer)
 
 pub returns-in-Ok-None-clause-rows : goal.returns-in-Ok-None-clause-rows
 returns-in-Ok-None-clause-rows c =

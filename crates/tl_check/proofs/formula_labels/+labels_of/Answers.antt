@@ -12,7 +12,7 @@ use Rattle.tl_check.specs.Labelled.{AreLabels}
 use Rattle.tl_check.specs.Passes.{next_labels, always_labels, eventually_labels, within_labels}
 use Rattle.tl_check.specs.declared.cursor.Cursor.{Cursor}
 use Rattle.tl_eval.proofs.BindLaws.{bind-through}
-use Rattle.tl_action.proofs.NoValue.{none-left}
+use Rattle.tl_check.proofs.NoValue.{none-left}
 use Rattle.tl_eval.specs.Frames.{assignment_in}
 use Rattle.tl_syntax.specs.declared.value.Value.{Value}
 use Rattle.tl_syntax.specs.declared.variable.Var.{Var}

@@ -4,7 +4,7 @@ use Rattle.tl_eval.specs.Frames.{assignment_in}
 use Rattle.tl_terms.specs.Bounds.{bound_true}
 use Rattle.tl_terms.specs.Definitions.{situation_of}
 use Rattle.tl_terms.specs.ProblemMeaning.{plain_problem}
-use Rattle.tl_action.proofs.tuples.bounds_hold.Given as goal
+use Rattle.tl_action.proofs.bounds.bounds_hold.Given as goal
 
 abbrev pub invariant-loop-bound : goal.invariant-loop-bound
 invariant-loop-bound l =

@@ -6,7 +6,7 @@ use Rattle.tl_syntax.specs.Signature.{signature_of}
 use Rattle.tl_terms.specs.Bounds.{bound_true}
 use Rattle.tl_terms.specs.Definitions.{situation_of}
 use Rattle.tl_terms.specs.ProblemMeaning.{plain_problem}
-use Rattle.tl_action.proofs.tuples.bounds_hold.Goals as goal
+use Rattle.tl_action.proofs.bounds.bounds_hold.Goals as goal
 
 pub loop-bound-init : goal.loop-bound-init
 loop-bound-init c = refl

@@ -1,0 +1,53 @@
+// The step of an action that is known to be executable.
+ghost use Rattle.std.specs.Prelude.{◌≡◌, ◌+◌, length, Some, IfOk, IfErr};
+ghost use Rattle.tl_action.specs.Actions.{IsExecutable, StaysNamed};
+ghost use Rattle.tl_action.specs.Answers.{IsCausedBy};
+ghost use Rattle.tl_terms.specs.Looked.{looked_by_action};
+ghost use Rattle.tl_terms.specs.ProblemMeaning.{plain_problem};
+ghost use Rattle.tl_terms.specs.Step.{step};
+
+use crate::ActFault;
+use crate::changes::Changes;
+use crate::collect::collect_all;
+use std::alloc::Global;
+use std::sync::ledger::Ledger;
+use tl_eval::Env;
+use tl_syntax::Action;
+use tl_terms::Steps;
+use tl_world::{Task, World};
+
+/// The world after an action that is executable in the world, as each of `actions` is. It is that of `apply`, for less: bounds and precondition are not tested again, and the places that are set are not compared.
+///
+/// All conditions and terms of the effects are read in the old world, from left to right. A range fault tells an operation that the action looks at. Each call counts one step.
+/// The frame is left with values of its own, as by `apply`.
+pub fn next_world<L: Ledger>(
+    alloc: Global,
+    task: &Task,
+    w: &World,
+    env: &mut Env,
+    a: &Action,
+    steps: &mut Steps<L>,
+) -> Result<World, ActFault>
+    requires executable { IsExecutable (plain_problem task.now.problem) w.now a.now }
+    ensures world { IfOk result (λ next. Some next ≡ step (plain_problem task.now.problem) w.now a.now) }
+    ensures named { IfOk result (StaysNamed (length task.now.problem.names) w.now a.now) }
+    ensures cause { IfErr result (IsCausedBy (looked_by_action (plain_problem task.now.problem) w.now a.now)) }
+    ensures ticks { steps.new ≡ steps.old + 1 }
+{
+    steps.tick();
+    let operator = &task.problem.domain.operators.as_slice()[a.op as usize];
+    env.put_values(operator.params.as_slice(), a.args.as_slice());
+    let mut changes = Changes::new(alloc);
+    match collect_all(alloc, task, w, env, &operator.effects, &mut changes) {
+        Ok(_) => {
+            let next = w.changed(
+                alloc,
+                changes.dels.as_slice(),
+                changes.adds.as_slice(),
+                changes.sets.as_slice(),
+            )?;
+            Ok(next)
+        }
+        Err(fault) => Err(fault),
+    }
+}
