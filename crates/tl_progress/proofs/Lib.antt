@@ -11,6 +11,10 @@ pub mod ResidualLayers
 pub mod StepNodes
 pub mod JoinParts
 pub mod NextInstances
+pub mod EarlyParts
+pub mod InstanceSteps
+pub mod QuantifierNodes
+pub mod GatheredInstances
 pub mod StateFormulas
 pub mod Closed
 pub mod Sentences

@@ -1,17 +1,55 @@
--- Quantifiers, apart from the nodes that have them.
-use Rattle.std.specs.Prelude.{ℕ, List}
+-- Quantifiers that stand in nodes, and steps from one instance to the next.
+use Rattle.std.specs.Prelude.{◌≡◌, List, [], length, Bool, true, false, Option, None, Some}
+use Rattle.tl_eval.specs.Frames.{assignment_in, AgreeElsewhere}
+use Rattle.tl_eval.specs.Reader.{Reader, Reads}
 use Rattle.tl_nodes.specs.NodeTrees.{tree_at}
 use Rattle.tl_progress.specs.declared.quantifier.Quantifier.{Quantifier}
 use Rattle.tl_syntax.specs.declared.bound.Bound.{Bound}
-use Rattle.tl_syntax.specs.declared.junction.Junction.{Junction}
+use Rattle.tl_syntax.specs.declared.bound.Bound.TheVariants as bound
+use Rattle.tl_syntax.specs.declared.value.Value.{Value}
 use Rattle.tl_syntax.specs.declared.variable.Var.{Var}
+use Rattle.tl_syntax.specs.Assignment.{Assignment, bind}
 use Rattle.tl_syntax.specs.Junctions.{quantified}
-use Rattle.tl_syntax.specs.Trees.{FormulaTree}
+use Rattle.tl_syntax.specs.Trees.{FormulaTree, for_all, for_some}
+use Rattle.tl_terms.specs.Bounds.{bound_true}
+use Rattle.tl_terms.specs.Situation.{Situation}
+use Rattle.tl_world.specs.Next.{IsNext}
 
--- the quantifier with these parts
-abbrev pub quantifier : Junction → List Var → Bound → ℕ → Quantifier
-quantifier junction ss b i = record { junction = junction; vars = ss; bound = b; part = i }
+-- the variables of a quantified formula; another formula has none
+abbrev pub vars_in : FormulaTree → List Var
+vars_in (for_all ss b f) = ss
+vars_in (for_some ss b f) = ss
+vars_in f = []
 
--- its formula
-abbrev pub quantifier_tree : List FormulaTree → Quantifier → FormulaTree
-quantifier_tree ts q = quantified q.junction q.vars q.bound (tree_at ts q.part)
+-- the bound of a quantified formula; that of another formula means nothing
+abbrev pub bound_in : FormulaTree → Bound
+bound_in (for_all ss b f) = b
+bound_in (for_some ss b f) = b
+bound_in f = bound.Fact 0 []
+
+-- the formula is the quantified formula of its variables, its bound and the part
+abbrev pub quantified_in : FormulaTree → Quantifier → FormulaTree → FormulaTree
+quantified_in f q g = quantified q.junction (vars_in f) (bound_in f) g
+
+-- the quantifier stands in its node
+abbrev pub Stands : List FormulaTree → Quantifier → Type 0
+Stands ts q = tree_at ts q.at ≡ quantified_in (tree_at ts q.at) q (tree_at ts q.part)
+
+-- the variables and the bound of the quantifier's node
+abbrev pub node_vars : List FormulaTree → Quantifier → List Var
+node_vars ts q = vars_in (tree_at ts q.at)
+
+abbrev pub node_bound : List FormulaTree → Quantifier → Bound
+node_bound ts q = bound_in (tree_at ts q.at)
+
+-- it reads the tuples of the bound under some assignment
+abbrev pub IsReader : List Var → Bound → Reader → Type 0
+IsReader ss b r = (e : Assignment) × Reads ss e b r
+
+-- a step to the next instance: the reader goes on, and the variables get the values of the tuple that is found
+pub record HasStepped (s : Situation) (ss : List Var) (b : Bound) (before after : Reader) (old new : List (Option Value)) (found : Bool) : Type 0 where
+  pub reads : (e : Assignment) → Reads ss e b before → Reads ss e b after
+  pub next : (e : Assignment) → Reads ss e b before → IsNext (length ss) (λ t. bound_true s (bind ss t e) b) before.tuple after.tuple
+  pub put : found ≡ true → (t : List Value) × (after.tuple ≡ Some t) × (assignment_in new ≡ bind ss t (assignment_in old))
+  pub done : found ≡ false → after.tuple ≡ None
+  pub elsewhere : AgreeElsewhere ss (assignment_in new) (assignment_in old)

@@ -11,11 +11,13 @@
 //! - `idling`: the idling check.
 //! - `parts`, `joins`: parts of joins, and joins of numbers.
 //! - `substitution`, `remaining`: values put into what remains.
-//! - `quantifier`: a quantifier, apart from its node.
+//! - `quantifier`: a quantifier in its node, and its instances, one after another.
 //! - `residual`: what has to hold next, under a frame.
+//! - `early`: what decides a conjunction or a disjunction before its parts are worked out.
 //! - `progression`: progression.
 #![tactic(auto)]
 
+mod early;
 mod fault;
 mod frames;
 mod idling;

@@ -19,6 +19,7 @@ ghost use Rattle.tl_terms.specs.Progression.{progressed};
 ghost use Rattle.tl_terms.specs.Run.{Run, Satisfies, state_at};
 
 use crate::ProgressFault;
+use crate::early::early_residual;
 use crate::frames::empty_frame;
 use crate::idling::sentence_truth;
 use crate::joins::constant_number;
@@ -69,7 +70,7 @@ fn learn(
 }
 
 // The number of what has to hold next for a number's tree, which has no free variable. What it is made of outside of quantifiers is worked out before it.
-fn temporal_residual(
+fn ordered_residual(
     alloc: Global,
     nodes: &mut Nodes,
     task: &Task,
@@ -93,6 +94,30 @@ fn temporal_residual(
         }
     }
     residual_of(alloc, nodes, task, w, env, &known, id)
+}
+
+// The number of what has to hold next for a number's tree, which has no free variable: a part that decides it, or else what its parts give.
+fn temporal_residual(
+    alloc: Global,
+    nodes: &mut Nodes,
+    task: &Task,
+    w: &World,
+    env: &mut Env,
+    id: usize,
+) -> Result<usize, ProgressFault>
+    requires id { id < length (trees nodes.old) }
+    requires sentence { IsSentence (signature_of task.now.problem.domain) (tree_at (trees nodes.old) id) }
+    ensures kept { Keeps (trees nodes.old) (trees nodes.new) }
+    ensures number { IfOk result (λ i. Denotes nodes.new i (residual (plain_problem task.now.problem) w.now (assignment_in env.old) (tree_at (trees nodes.old) id))) }
+    ensures cause { IfErr result (IsCausedBy (looked_for_residual (plain_problem task.now.problem) w.now (assignment_in env.old) (tree_at (trees nodes.old) id))) }
+    ensures frame { env.new ≡ env.old }
+{
+    let nothing = Known::new(alloc);
+    match early_residual(nodes, task, w, env, &nothing.truths, id) {
+        Ok(Some(number)) => Ok(number),
+        Ok(None) => ordered_residual(alloc, nodes, task, w, env, id),
+        Err(fault) => Err(fault),
+    }
 }
 
 // The number of what has to hold next for a number's tree, which has no free variable. Where it has no temporal word, it is a constant.

@@ -1,14 +1,15 @@
 // What has to hold from the next position on, under the values of a frame.
-ghost use Rattle.std.specs.Prelude.{◌≡◌, ◌<◌, length, IfOk, IfErr, nat_eq};
+ghost use Rattle.std.specs.Prelude.{◌≡◌, ◌<◌, length, None, IfOk, IfErr, nat_eq};
 ghost use Rattle.indexmap.specs.IndexMap.{get};
-ghost use Rattle.tl_eval.specs.Frames.{assignment_in};
+ghost use Rattle.tl_eval.specs.Frames.{assignment_in, AgreeElsewhere};
+ghost use Rattle.tl_eval.specs.Reader.{Reads};
 ghost use Rattle.tl_nodes.specs.NodeTrees.{tree_at};
 ghost use Rattle.tl_nodes.specs.Numbering.{Keeps};
 ghost use Rattle.tl_nodes.specs.Numbers.{trees, Denotes};
 ghost use Rattle.tl_progress.specs.Answers.{IsCausedBy, looked_for_residual, residual};
 ghost use Rattle.tl_progress.specs.Known.{AreTruths, IsRight};
 ghost use Rattle.tl_progress.specs.Parts.{IsJoin};
-ghost use Rattle.tl_progress.specs.Quantifiers.{quantifier_tree};
+ghost use Rattle.tl_progress.specs.Quantifiers.{Stands, node_bound, node_vars};
 ghost use Rattle.tl_progress.specs.Sentences.{FitsSomewhere};
 ghost use Rattle.tl_syntax.specs.Signature.{signature_of};
 ghost use Rattle.tl_syntax.specs.StateFormulas.{IsState};
@@ -18,12 +19,12 @@ use crate::ProgressFault;
 use crate::joins::{constant_number, decides, gather, join};
 use crate::known::Known;
 use crate::parts::{part_at, part_count};
-use crate::quantifier::Quantifier;
+use crate::quantifier::{Instances, Quantifier};
 use crate::remaining::{remaining, until_remaining, with_fewer_steps, with_remaining};
 use crate::truth::truth_of;
 use indexmap::IndexMap;
 use std::alloc::Global;
-use tl_eval::{Env, next_tuple};
+use tl_eval::{Env, TupleReader};
 use tl_nodes::{Node, Nodes};
 use tl_syntax::Junction;
 use tl_world::{Task, World};
@@ -73,6 +74,9 @@ pub(crate) fn residual_of(
 {
     if !nodes.temporal(at) {
         return state_residual(nodes, task, w, env, &known.truths, at);
+    }
+    if known.residuals.is_empty() {
+        return layer_residual(alloc, nodes, task, w, env, known, at);
     }
     match known.residuals.get(&at) {
         Some(number) => Ok(*number),
@@ -153,13 +157,21 @@ fn layer_residual(
             let number = with_fewer_steps(alloc, nodes, env, Junction::All, steps, answer, part)?;
             Ok(number)
         }
-        Node::ForAll(vars, bound, part) => {
-            let quantifier = Quantifier::copied(alloc, Junction::All, vars, bound, *part)?;
-            instances_residual(alloc, nodes, task, w, env, known, &quantifier)
+        Node::ForAll(_, _, part) => {
+            let quantifier = Quantifier {
+                junction: Junction::All,
+                at,
+                part: *part,
+            };
+            quantifier_residual(alloc, nodes, task, w, env, quantifier)
         }
-        Node::Exists(vars, bound, part) => {
-            let quantifier = Quantifier::copied(alloc, Junction::Any, vars, bound, *part)?;
-            instances_residual(alloc, nodes, task, w, env, known, &quantifier)
+        Node::Exists(_, _, part) => {
+            let quantifier = Quantifier {
+                junction: Junction::Any,
+                at,
+                part: *part,
+            };
+            quantifier_residual(alloc, nodes, task, w, env, quantifier)
         }
     }
 }
@@ -202,7 +214,33 @@ fn join_residual(
     Ok(number)
 }
 
-// The number for a quantifier: the join of those for its instances, in tuple order. The first instance that decides ends it.
+// The number for a quantifier. What is known is of trees without free variables, and is not looked up for its instances. The slots of its variables get back what they had.
+#[cycle(residual_of)]
+fn quantifier_residual(
+    alloc: Global,
+    nodes: &mut Nodes,
+    task: &Task,
+    w: &World,
+    env: &mut Env,
+    quantifier: Quantifier,
+) -> Result<usize, ProgressFault>
+    requires at { quantifier.at < length (trees nodes.old) }
+    requires part { quantifier.part < length (trees nodes.old) }
+    requires stands { Stands (trees nodes.old) quantifier }
+    requires fits { FitsSomewhere (signature_of task.now.problem.domain) (tree_at (trees nodes.old) quantifier.at) }
+    ensures kept { Keeps (trees nodes.old) (trees nodes.new) }
+    ensures number { IfOk result (λ i. Denotes nodes.new i (residual (plain_problem task.now.problem) w.now (assignment_in env.old) (tree_at (trees nodes.old) quantifier.at))) }
+    ensures cause { IfErr result (IsCausedBy (looked_for_residual (plain_problem task.now.problem) w.now (assignment_in env.old) (tree_at (trees nodes.old) quantifier.at))) }
+    ensures frame { env.new ≡ env.old }
+{
+    let Instances { tuples, outer } = quantifier.open(nodes, task, env).unwrap();
+    let known = Known::new(alloc);
+    let answer = instances_residual(alloc, nodes, task, w, env, &known, quantifier, tuples);
+    quantifier.give_back(nodes, env, &outer);
+    answer
+}
+
+// The number for a quantifier: the join of those for its instances, in tuple order. The first instance that decides ends it, and the variables are left with its values.
 #[cycle(residual_of)]
 fn instances_residual(
     alloc: Global,
@@ -211,25 +249,24 @@ fn instances_residual(
     w: &World,
     env: &mut Env,
     known: &Known,
-    quantifier: &Quantifier,
+    quantifier: Quantifier,
+    mut tuples: TupleReader,
 ) -> Result<usize, ProgressFault>
-    requires part { quantifier.now.part < length (trees nodes.old) }
-    requires fits { FitsSomewhere (signature_of task.now.problem.domain) (quantifier_tree (trees nodes.old) quantifier.now) }
+    requires at { quantifier.at < length (trees nodes.old) }
+    requires part { quantifier.part < length (trees nodes.old) }
+    requires stands { Stands (trees nodes.old) quantifier }
+    requires fits { FitsSomewhere (signature_of task.now.problem.domain) (tree_at (trees nodes.old) quantifier.at) }
     requires known { IsRight (plain_problem task.now.problem) w.now (trees nodes.old) known.now }
+    requires reads { Reads (node_vars (trees nodes.old) quantifier) (assignment_in env.old) (node_bound (trees nodes.old) quantifier) tuples }
+    requires before { tuples.tuple ≡ None }
     ensures kept { Keeps (trees nodes.old) (trees nodes.new) }
-    ensures number { IfOk result (λ i. Denotes nodes.new i (residual (plain_problem task.now.problem) w.now (assignment_in env.old) (quantifier_tree (trees nodes.old) quantifier.now))) }
-    ensures cause { IfErr result (IsCausedBy (looked_for_residual (plain_problem task.now.problem) w.now (assignment_in env.old) (quantifier_tree (trees nodes.old) quantifier.now))) }
-    ensures frame { env.new ≡ env.old }
+    ensures number { IfOk result (λ i. Denotes nodes.new i (residual (plain_problem task.now.problem) w.now (assignment_in env.old) (tree_at (trees nodes.old) quantifier.at))) }
+    ensures cause { IfErr result (IsCausedBy (looked_for_residual (plain_problem task.now.problem) w.now (assignment_in env.old) (tree_at (trees nodes.old) quantifier.at))) }
+    ensures others { AgreeElsewhere (node_vars (trees nodes.old) quantifier) (assignment_in env.new) (assignment_in env.old) }
 {
-    let outer = env.saved();
-    let vars = &quantifier.vars;
     let mut answers = Vec::new(alloc);
-    let mut after = None;
-    while let Some(tuple) = next_tuple(task, w, env, vars, &quantifier.bound, after) {
-        env.put_values(vars.as_slice(), tuple.counted_values());
-        let answer = residual_of(alloc, nodes, task, w, env, known, quantifier.part);
-        env.restore(&outer);
-        match answer {
+    'tuples: while quantifier.put_next(nodes, task, w, env, &mut tuples) {
+        match residual_of(alloc, nodes, task, w, env, known, quantifier.part) {
             Ok(number) => {
                 if decides(nodes, number, quantifier.junction) {
                     return Ok(number);
@@ -238,7 +275,6 @@ fn instances_residual(
             }
             Err(fault) => return Err(fault),
         }
-        after = Some(tuple);
     }
     let number = join(nodes, answers.as_slice(), quantifier.junction)?;
     Ok(number)

@@ -1,7 +1,8 @@
 // Truth where a world is repeated for ever, under the values of a frame.
-ghost use Rattle.std.specs.Prelude.{◌≡◌, ◌<◌, true, length, IfOk, IfErr, nat_eq};
+ghost use Rattle.std.specs.Prelude.{◌≡◌, ◌<◌, true, length, None, IfOk, IfErr, nat_eq};
 ghost use Rattle.indexmap.specs.IndexMap.{get};
-ghost use Rattle.tl_eval.specs.Frames.{assignment_in};
+ghost use Rattle.tl_eval.specs.Frames.{assignment_in, AgreeElsewhere};
+ghost use Rattle.tl_eval.specs.Reader.{Reads};
 ghost use Rattle.tl_nodes.specs.Fits.{all_below};
 ghost use Rattle.tl_nodes.specs.Joins.{join_node};
 ghost use Rattle.tl_nodes.specs.NodeTrees.{tree_at, tree_of_node};
@@ -19,8 +20,9 @@ ghost use Rattle.tl_terms.specs.ProblemMeaning.{plain_problem};
 ghost use Rattle.tl_terms.specs.Truth.{state_true};
 
 use crate::ProgressFault;
+use crate::quantifier::{Instances, open_instances, put_instance};
 use indexmap::IndexMap;
-use tl_eval::{Env, next_tuple, state};
+use tl_eval::{Env, TupleReader, state};
 use tl_nodes::{Node, Nodes};
 use tl_syntax::{Bound, Formula, Ids, Junction, Vars};
 use tl_world::{Task, World};
@@ -56,6 +58,9 @@ pub(crate) fn truth_of(
     ensures cause { IfErr result (IsCausedBy (looked_idly (plain_problem task.now.problem) w.now (assignment_in env.old) (tree_at (trees nodes.now) at))) }
     ensures frame { env.new ≡ env.old }
 {
+    if known.is_empty() {
+        return layer_truth(nodes, task, w, env, known, at);
+    }
     match known.get(&at) {
         Some(truth) => Ok(*truth),
         None => layer_truth(nodes, task, w, env, known, at),
@@ -96,7 +101,7 @@ fn layer_truth(
         Node::Within(_, part) => truth_of(nodes, task, w, env, known, *part),
         Node::During(_, part) => truth_of(nodes, task, w, env, known, *part),
         Node::ForAll(vars, bound, part) => {
-            instances_truth(
+            quantifier_truth(
                 nodes,
                 task,
                 w,
@@ -109,7 +114,7 @@ fn layer_truth(
             )
         }
         Node::Exists(vars, bound, part) => {
-            instances_truth(
+            quantifier_truth(
                 nodes,
                 task,
                 w,
@@ -158,9 +163,9 @@ fn join_truth(
     Ok(!stop)
 }
 
-// The truth of a quantified formula: the first tuple whose instance has the truth that decides it.
+// The truth of a quantified formula. The slots of its variables get back what they had.
 #[cycle(truth_of)]
-fn instances_truth(
+fn quantifier_truth(
     nodes: &Nodes,
     task: &Task,
     w: &World,
@@ -178,14 +183,40 @@ fn instances_truth(
     ensures cause { IfErr result (IsCausedBy (looked_idly (plain_problem task.now.problem) w.now (assignment_in env.old) (quantified junction vars.now bound.now (tree_at (trees nodes.now) part)))) }
     ensures frame { env.new ≡ env.old }
 {
+    let Instances { tuples, outer } = open_instances(task, env, vars, bound);
+    let truth = instances_truth(
+        nodes, task, w, env, known, vars, bound, part, junction, tuples,
+    );
+    env.give_back(vars.as_slice(), &outer);
+    truth
+}
+
+// The truth of a quantified formula: the first instance that has the truth which decides it. The variables are left with the values of the last one.
+#[cycle(truth_of)]
+fn instances_truth(
+    nodes: &Nodes,
+    task: &Task,
+    w: &World,
+    env: &mut Env,
+    known: &IndexMap<usize, bool>,
+    vars: &Vars,
+    bound: &Bound,
+    part: usize,
+    junction: Junction,
+    mut tuples: TupleReader,
+) -> Result<bool, ProgressFault>
+    requires part { part < length (trees nodes.now) }
+    requires fits { FitsSomewhere (signature_of task.now.problem.domain) (quantified junction vars.now bound.now (tree_at (trees nodes.now) part)) }
+    requires known { AreTruths (plain_problem task.now.problem) w.now (trees nodes.now) (get nat_eq known.now) }
+    requires reads { Reads vars.now (assignment_in env.old) bound.now tuples }
+    requires before { tuples.tuple ≡ None }
+    ensures truth { IfOk result (λ b. b ≡ idly_true (plain_problem task.now.problem) w.now (assignment_in env.old) (quantified junction vars.now bound.now (tree_at (trees nodes.now) part))) }
+    ensures cause { IfErr result (IsCausedBy (looked_idly (plain_problem task.now.problem) w.now (assignment_in env.old) (quantified junction vars.now bound.now (tree_at (trees nodes.now) part)))) }
+    ensures others { AgreeElsewhere vars.now (assignment_in env.new) (assignment_in env.old) }
+{
     let stop = junction.deciding_truth();
-    let outer = env.saved();
-    let mut after = None;
-    while let Some(tuple) = next_tuple(task, w, env, vars, bound, after) {
-        env.put_values(vars.as_slice(), tuple.counted_values());
-        let answer = truth_of(nodes, task, w, env, known, part);
-        env.restore(&outer);
-        match answer {
+    while put_instance(task, w, env, vars, bound, &mut tuples) {
+        match truth_of(nodes, task, w, env, known, part) {
             Ok(truth) => {
                 if truth == stop {
                     return Ok(stop);
@@ -193,7 +224,6 @@ fn instances_truth(
             }
             Err(fault) => return Err(fault),
         }
-        after = Some(tuple);
     }
     Ok(!stop)
 }

@@ -1,35 +1,33 @@
-use Rattle.std.proofs.Common.{◌≡◌, ◌<◌, ◌+◌, ℕ, List, true, false, map, drop, length, inl, inr, Option, Some, IfOk, IfErr, slice_get, refl, sym, ap, ◌∙◌, subst, arith}
+use Rattle.std.proofs.Common.{◌≡◌, ◌<◌, ◌≤◌, ◌+◌, ℕ, List, true, false, map, drop, length, inl, inr, Option, None, Some, IfSome, slice_get, refl, sym, ap, ◌∙◌, subst, arith}
 use Rattle.std.proofs.lemmas.Option.{slice_get_within}
-use Rattle.std.specs.Option.{option_map}
-use Rattle.tl_eval.specs.Frames.{assignment_in}
+use Rattle.tl_eval.specs.Frames.{assignment_in, AgreeElsewhere, AreKept}
+use Rattle.tl_eval.specs.Reader.{Reads}
 use Rattle.tl_nodes.specs.Fits.{all_below}
 use Rattle.tl_nodes.specs.Joins.{simplified_join}
 use Rattle.tl_nodes.specs.NodeTrees.{tree_at, trees_at}
-use Rattle.tl_nodes.specs.Numbers.{trees, Denotes}
+use Rattle.tl_nodes.specs.Numbers.{trees}
 use Rattle.tl_syntax.specs.declared.value.Value.{Value}
-use Rattle.tl_syntax.specs.declared.variable.Var.{Var}
-use Rattle.tl_syntax.specs.Assignment.{Assignment, bind}
 use Rattle.tl_syntax.specs.Lists.{Each, Among}
 use Rattle.tl_syntax.specs.Signature.{signature_of}
 use Rattle.tl_syntax.specs.Trees.{FormulaTree}
-use Rattle.tl_terms.specs.Bounds.{bound_true}
 use Rattle.tl_terms.specs.Definitions.{situation_of}
 use Rattle.tl_terms.specs.ProblemMeaning.{plain_problem}
-use Rattle.tl_world.specs.Next.{IsNext}
-use Rattle.tl_world.specs.Patterns.{tuple_of}
 use Rattle.tl_progress.specs.Answers.{IsCausedBy, looked_for_residual, residual}
 use Rattle.tl_progress.specs.Parts.{parts, join_parts}
-use Rattle.tl_progress.specs.Quantifiers.{quantifier_tree}
-use Rattle.tl_progress.specs.declared.quantifier.Quantifier.{Quantifier}
+use Rattle.tl_progress.specs.declared.quantifier.Instances.{Instances}
+use Rattle.tl_progress.specs.Quantifiers.{bound_in, node_bound, node_vars, vars_in}
 use Rattle.tl_progress.specs.Sentences.{FitsSomewhere}
 use Rattle.tl_progress.proofs.Below.{part-lower, part-among}
-use Rattle.tl_progress.proofs.Found.{none-found, handed-on, fits-below, residual-fault}
-use Rattle.tl_progress.proofs.Instances.{quantifier-fits, no-more, fewer-left, one-more, is-tuple}
+use Rattle.tl_progress.proofs.Found.{handed-on, fits-below, residual-fault}
+use Rattle.tl_progress.proofs.Instances.{quantifier-fits}
+use Rattle.tl_progress.proofs.InstanceSteps.{has-come, none-left, still-others}
+use Rattle.tl_progress.proofs.GatheredInstances.{gathered-all, instance-caused, instance-decides, instances-below, instance-gathered, same-node, stands-still, stepped-then}
+use Rattle.tl_progress.proofs.QuantifierNodes.{stands-ForAll, stands-Exists}
 use Rattle.tl_progress.proofs.Gathering.{Gathered, gather-begun, below-still, gather-on, gather-decided, gather-end}
-use Rattle.tl_progress.proofs.NextInstances.{instance_next, next_after, next_of_all, instances-begun, quantified-next, next-caused}
+use Rattle.tl_progress.proofs.NextInstances.{next_after, next_of_all, instances-begun}
 use Rattle.tl_progress.proofs.ResidualLayers.{state-True, state-False, state-Basic, is-and, is-or, next-Next, next-Not, next-Always, next-Eventually, next-Until, next-Until-now, next-Within, next-During, join-next, part-next, parts-done, right-still}
 use Rattle.tl_progress.proofs.PutLayers.{stays, longer, less-Next}
-use Rattle.tl_progress.proofs.TruthLayers.{shown-ForAll, shown-Exists, less-ForAll, less-Exists}
+use Rattle.tl_progress.proofs.TruthLayers.{less-ForAll, less-Exists}
 use Rattle.tl_progress.proofs.residual.+residual_of.Goals as goal
 
 -- ---- one number
@@ -252,33 +250,17 @@ layer_residual-returns-in_ok-number-in-During-clause-number t c =
     let part : c.in-During.part < length (trees c.args.nodes.now) = omega (arith, less, c.requires.at) in
     c.in_ok-number-in-During.ensures.number ∙ ap (λ (f : FormulaTree). Some f) (next-During (plain_problem c.args.task.now.problem) c.args.w.now (assignment_in c.args.env.now) (trees c.args.nodes.now) c.args.at c.get.result.now c.get.ensures.tree c.requires.at (trees c.residual_of-in-During.new.nodes) c.in_ok-answer-in-During.ensures.kept (assignment_in c.residual_of-in-During.new.env) (ap assignment_in c.in_ok-answer-in-During.ensures.frame) c.in-During.steps c.in-During.part c.in_ok-answer-in-During.answer part c.in-During.is c.in_ok-answer-in-During.ensures.number)
 
-pub layer_residual-instances_residual-requires : goal.layer_residual-instances_residual-requires
-layer_residual-instances_residual-requires t c =
-    let less = less-ForAll (trees c.args.nodes.now) c.args.at c.get.result.now c.get.ensures.tree c.get.ensures.parts c.in-ForAll.vars c.in-ForAll.bound c.in-ForAll.part c.in-ForAll.is in
-    let same : c.in_ok-quantifier-in-ForAll.quantifier.part ≡ c.in-ForAll.part = ap (λ (q : Quantifier). q.part) c.in_ok-quantifier-in-ForAll.ensures in
-    (omega (arith, less, same, c.decreases), (omega (arith, less, same, c.requires.at), (subst (FitsSomewhere (signature_of c.args.task.now.problem.domain)) (shown-ForAll (trees c.args.nodes.now) c.args.at c.get.result.now c.get.ensures.tree c.in-ForAll.vars c.in-ForAll.bound c.in-ForAll.part c.in-ForAll.is ∙ ap (quantifier_tree (trees c.args.nodes.now)) (sym c.in_ok-quantifier-in-ForAll.ensures)) c.requires.fits, c.requires.known)))
+pub layer_residual-quantifier_residual-requires : goal.layer_residual-quantifier_residual-requires
+layer_residual-quantifier_residual-requires t c =
+    let less = less-ForAll (trees c.args.nodes.now) c.args.at c.get.result.now c.get.ensures.tree c.get.ensures.parts c.in-ForAll.field-0 c.in-ForAll.field-1 c.in-ForAll.part c.in-ForAll.is in
+    let stands = stands-ForAll (trees c.args.nodes.now) c.args.at c.get.result.now c.get.ensures.tree c.in-ForAll.field-0 c.in-ForAll.field-1 c.in-ForAll.part c.in-ForAll.is in
+    (omega (arith, less, c.decreases), (c.requires.at, (omega (arith, less, c.requires.at), (stands, c.requires.fits))))
 
-pub layer_residual-returns-in_ok-quantifier-in-ForAll-clause-number : goal.layer_residual-returns-in_ok-quantifier-in-ForAll-clause-number
-layer_residual-returns-in_ok-quantifier-in-ForAll-clause-number t c =
-    subst (λ (f : FormulaTree). IfOk c.instances_residual.result (λ i. Denotes c.instances_residual.new.nodes i (residual (plain_problem c.args.task.now.problem) c.args.w.now (assignment_in c.args.env.now) f))) (sym (shown-ForAll (trees c.args.nodes.now) c.args.at c.get.result.now c.get.ensures.tree c.in-ForAll.vars c.in-ForAll.bound c.in-ForAll.part c.in-ForAll.is ∙ ap (quantifier_tree (trees c.args.nodes.now)) (sym c.in_ok-quantifier-in-ForAll.ensures))) c.instances_residual.ensures.number
-
-pub layer_residual-returns-in_ok-quantifier-in-ForAll-clause-cause : goal.layer_residual-returns-in_ok-quantifier-in-ForAll-clause-cause
-layer_residual-returns-in_ok-quantifier-in-ForAll-clause-cause t c =
-    subst (λ (f : FormulaTree). IfErr c.instances_residual.result (IsCausedBy (looked_for_residual (plain_problem c.args.task.now.problem) c.args.w.now (assignment_in c.args.env.now) f))) (sym (shown-ForAll (trees c.args.nodes.now) c.args.at c.get.result.now c.get.ensures.tree c.in-ForAll.vars c.in-ForAll.bound c.in-ForAll.part c.in-ForAll.is ∙ ap (quantifier_tree (trees c.args.nodes.now)) (sym c.in_ok-quantifier-in-ForAll.ensures))) c.instances_residual.ensures.cause
-
-pub layer_residual-instances_residual-requires-in-Exists : goal.layer_residual-instances_residual-requires-in-Exists
-layer_residual-instances_residual-requires-in-Exists t c =
-    let less = less-Exists (trees c.args.nodes.now) c.args.at c.get.result.now c.get.ensures.tree c.get.ensures.parts c.in-Exists.vars c.in-Exists.bound c.in-Exists.part c.in-Exists.is in
-    let same : c.in_ok-quantifier-in-Exists.quantifier.part ≡ c.in-Exists.part = ap (λ (q : Quantifier). q.part) c.in_ok-quantifier-in-Exists.ensures in
-    (omega (arith, less, same, c.decreases), (omega (arith, less, same, c.requires.at), (subst (FitsSomewhere (signature_of c.args.task.now.problem.domain)) (shown-Exists (trees c.args.nodes.now) c.args.at c.get.result.now c.get.ensures.tree c.in-Exists.vars c.in-Exists.bound c.in-Exists.part c.in-Exists.is ∙ ap (quantifier_tree (trees c.args.nodes.now)) (sym c.in_ok-quantifier-in-Exists.ensures)) c.requires.fits, c.requires.known)))
-
-pub layer_residual-returns-in_ok-quantifier-in-Exists-clause-number : goal.layer_residual-returns-in_ok-quantifier-in-Exists-clause-number
-layer_residual-returns-in_ok-quantifier-in-Exists-clause-number t c =
-    subst (λ (f : FormulaTree). IfOk c.instances_residual-in-Exists.result (λ i. Denotes c.instances_residual-in-Exists.new.nodes i (residual (plain_problem c.args.task.now.problem) c.args.w.now (assignment_in c.args.env.now) f))) (sym (shown-Exists (trees c.args.nodes.now) c.args.at c.get.result.now c.get.ensures.tree c.in-Exists.vars c.in-Exists.bound c.in-Exists.part c.in-Exists.is ∙ ap (quantifier_tree (trees c.args.nodes.now)) (sym c.in_ok-quantifier-in-Exists.ensures))) c.instances_residual-in-Exists.ensures.number
-
-pub layer_residual-returns-in_ok-quantifier-in-Exists-clause-cause : goal.layer_residual-returns-in_ok-quantifier-in-Exists-clause-cause
-layer_residual-returns-in_ok-quantifier-in-Exists-clause-cause t c =
-    subst (λ (f : FormulaTree). IfErr c.instances_residual-in-Exists.result (IsCausedBy (looked_for_residual (plain_problem c.args.task.now.problem) c.args.w.now (assignment_in c.args.env.now) f))) (sym (shown-Exists (trees c.args.nodes.now) c.args.at c.get.result.now c.get.ensures.tree c.in-Exists.vars c.in-Exists.bound c.in-Exists.part c.in-Exists.is ∙ ap (quantifier_tree (trees c.args.nodes.now)) (sym c.in_ok-quantifier-in-Exists.ensures))) c.instances_residual-in-Exists.ensures.cause
+pub layer_residual-quantifier_residual-requires-in-Exists : goal.layer_residual-quantifier_residual-requires-in-Exists
+layer_residual-quantifier_residual-requires-in-Exists t c =
+    let less = less-Exists (trees c.args.nodes.now) c.args.at c.get.result.now c.get.ensures.tree c.get.ensures.parts c.in-Exists.field-0 c.in-Exists.field-1 c.in-Exists.part c.in-Exists.is in
+    let stands = stands-Exists (trees c.args.nodes.now) c.args.at c.get.result.now c.get.ensures.tree c.in-Exists.field-0 c.in-Exists.field-1 c.in-Exists.part c.in-Exists.is in
+    (omega (arith, less, c.decreases), (c.requires.at, (omega (arith, less, c.requires.at), (stands, c.requires.fits))))
 
 -- ---- the parts of a join
 
@@ -378,104 +360,168 @@ join_residual-returns-clause-number t c =
 
 -- ---- the instances of a quantifier
 
-pub instances_residual-loop-tuple-init : goal.instances_residual-loop-tuple-init
-instances_residual-loop-tuple-init t c = record { frame = refl; kept = λ i f h. h; after = tt; passed = instances-begun (plain_problem c.args.task.now.problem) c.args.w.now (assignment_in c.args.env.now) c.args.quantifier.now.vars c.args.quantifier.now.bound (tree_at (trees c.args.nodes.now) c.args.quantifier.now.part) c.args.quantifier.now.junction (trees c.args.nodes.now) c.new-answers.result.items c.new-answers.ensures.items }
+pub instances_residual-tuples-init : goal.instances_residual-tuples-init
+instances_residual-tuples-init t c =
+    record {
+      kept = λ i f h. h;
+      reads = c.requires.reads;
+      others = λ u. refl;
+      passed = subst (λ (o : Option (List Value)). Gathered c.args.quantifier.junction (trees c.args.nodes.now) c.new-answers.result.items (next_after (plain_problem c.args.task.now.problem) c.args.w.now (assignment_in c.args.env.now) (node_vars (trees c.args.nodes.now) c.args.quantifier) (node_bound (trees c.args.nodes.now) c.args.quantifier) (tree_at (trees c.args.nodes.now) c.args.quantifier.part) o) (next_of_all (plain_problem c.args.task.now.problem) c.args.w.now (assignment_in c.args.env.now) (node_vars (trees c.args.nodes.now) c.args.quantifier) (node_bound (trees c.args.nodes.now) c.args.quantifier) (tree_at (trees c.args.nodes.now) c.args.quantifier.part))) (sym c.requires.before) (instances-begun (plain_problem c.args.task.now.problem) c.args.w.now (assignment_in c.args.env.now) (node_vars (trees c.args.nodes.now) c.args.quantifier) (node_bound (trees c.args.nodes.now) c.args.quantifier) (tree_at (trees c.args.nodes.now) c.args.quantifier.part) c.args.quantifier.junction (trees c.args.nodes.now) c.new-answers.result.items c.new-answers.ensures.items);
+    }
 
-pub instances_residual-next_tuple-requires-clause-differ : goal.instances_residual-next_tuple-requires-clause-differ
-instances_residual-next_tuple-requires-clause-differ t c = let q = quantifier-fits c.args.task.now.problem c.args.quantifier.now.junction c.args.quantifier.now.vars c.args.quantifier.now.bound (tree_at (trees c.args.nodes.now) c.args.quantifier.now.part) c.requires.fits in q.differ
+pub instances_residual-put_next-requires-clause-at : goal.instances_residual-put_next-requires-clause-at
+instances_residual-put_next-requires-clause-at t c =
+    longer (trees c.args.nodes.now) (trees c.tuples.nodes) c.tuples.invariant.kept c.args.quantifier.at c.requires.at
 
-pub instances_residual-next_tuple-requires-clause-occur : goal.instances_residual-next_tuple-requires-clause-occur
-instances_residual-next_tuple-requires-clause-occur t c = let q = quantifier-fits c.args.task.now.problem c.args.quantifier.now.junction c.args.quantifier.now.vars c.args.quantifier.now.bound (tree_at (trees c.args.nodes.now) c.args.quantifier.now.part) c.requires.fits in q.occur
+pub instances_residual-put_next-requires-clause-stands : goal.instances_residual-put_next-requires-clause-stands
+instances_residual-put_next-requires-clause-stands t c =
+    stands-still (trees c.args.nodes.now) (trees c.tuples.nodes) c.tuples.invariant.kept c.args.quantifier c.requires.at c.requires.part c.requires.stands
 
-pub instances_residual-next_tuple-requires-clause-fits : goal.instances_residual-next_tuple-requires-clause-fits
-instances_residual-next_tuple-requires-clause-fits t c = let q = quantifier-fits c.args.task.now.problem c.args.quantifier.now.junction c.args.quantifier.now.vars c.args.quantifier.now.bound (tree_at (trees c.args.nodes.now) c.args.quantifier.now.part) c.requires.fits in q.bound
+pub instances_residual-put_next-requires-clause-slots : goal.instances_residual-put_next-requires-clause-slots
+instances_residual-put_next-requires-clause-slots t c =
+    let fit = quantifier-fits c.args.task.now.problem c.args.quantifier.junction (node_vars (trees c.args.nodes.now) c.args.quantifier) (node_bound (trees c.args.nodes.now) c.args.quantifier) (tree_at (trees c.args.nodes.now) c.args.quantifier.part) (subst (FitsSomewhere (signature_of c.args.task.now.problem.domain)) c.requires.stands c.requires.fits) in
+    subst (λ (f : FormulaTree). Each (λ s. s.slot < 32) (vars_in f)) (sym (same-node (trees c.args.nodes.now) (trees c.tuples.nodes) c.tuples.invariant.kept c.args.quantifier c.requires.at)) fit.in_frame
 
-pub instances_residual-counted_values-requires : goal.instances_residual-counted_values-requires
-instances_residual-counted_values-requires t c = let q = quantifier-fits c.args.task.now.problem c.args.quantifier.now.junction c.args.quantifier.now.vars c.args.quantifier.now.bound (tree_at (trees c.args.nodes.now) c.args.quantifier.now.part) c.requires.fits in let few = q.few in let len = c.in-Some.ensures.len in omega arith
+pub instances_residual-put_next-requires-clause-reads : goal.instances_residual-put_next-requires-clause-reads
+instances_residual-put_next-requires-clause-reads t c =
+    ((assignment_in c.args.env.now), subst (λ (f : FormulaTree). Reads (vars_in f) (assignment_in c.args.env.now) (bound_in f) c.tuples.tuples) (sym (same-node (trees c.args.nodes.now) (trees c.tuples.nodes) c.tuples.invariant.kept c.args.quantifier c.requires.at)) c.tuples.invariant.reads)
 
-pub instances_residual-put_values-requires-clause-slots : goal.instances_residual-put_values-requires-clause-slots
-instances_residual-put_values-requires-clause-slots t c = let q = quantifier-fits c.args.task.now.problem c.args.quantifier.now.junction c.args.quantifier.now.vars c.args.quantifier.now.bound (tree_at (trees c.args.nodes.now) c.args.quantifier.now.part) c.requires.fits in subst (λ (ss : List Var). Each (λ s. s.slot < 32) ss) (sym c.as_slice.ensures) q.in_frame
-
-pub instances_residual-residual_of-answer-requires : goal.instances_residual-residual_of-answer-requires
-instances_residual-residual_of-answer-requires t c =
-    let q = quantifier-fits c.args.task.now.problem c.args.quantifier.now.junction c.args.quantifier.now.vars c.args.quantifier.now.bound (tree_at (trees c.args.nodes.now) c.args.quantifier.now.part) c.requires.fits in
-    let same = stays (trees c.args.nodes.now) (trees c.loop-tuple.nodes) c.loop-tuple.invariant.kept c.args.quantifier.now.part c.requires.part in
-    (omega (arith, c.decreases), (longer (trees c.args.nodes.now) (trees c.loop-tuple.nodes) c.loop-tuple.invariant.kept c.args.quantifier.now.part c.requires.part, (subst (FitsSomewhere (signature_of c.args.task.now.problem.domain)) (sym same) q.part, right-still (plain_problem c.args.task.now.problem) c.args.w.now (trees c.args.nodes.now) (trees c.loop-tuple.nodes) c.loop-tuple.invariant.kept c.args.known.now c.requires.known)))
+pub instances_residual-residual_of-requires : goal.instances_residual-residual_of-requires
+instances_residual-residual_of-requires t c =
+    let fit = quantifier-fits c.args.task.now.problem c.args.quantifier.junction (node_vars (trees c.args.nodes.now) c.args.quantifier) (node_bound (trees c.args.nodes.now) c.args.quantifier) (tree_at (trees c.args.nodes.now) c.args.quantifier.part) (subst (FitsSomewhere (signature_of c.args.task.now.problem.domain)) c.requires.stands c.requires.fits) in
+    (omega (arith, c.decreases), (longer (trees c.args.nodes.now) (trees c.tuples.nodes) c.tuples.invariant.kept c.args.quantifier.part c.requires.part, (subst (FitsSomewhere (signature_of c.args.task.now.problem.domain)) (sym (stays (trees c.args.nodes.now) (trees c.tuples.nodes) c.tuples.invariant.kept c.args.quantifier.part c.requires.part)) fit.part, right-still (plain_problem c.args.task.now.problem) c.args.w.now (trees c.args.nodes.now) (trees c.tuples.nodes) c.tuples.invariant.kept c.args.known.now c.requires.known)))
 
 pub instances_residual-returns-in-Err-clause-kept : goal.instances_residual-returns-in-Err-clause-kept
-instances_residual-returns-in-Err-clause-kept t c = λ i f h. c.in-Err.ensures.kept i f (c.loop-tuple.invariant.kept i f h)
+instances_residual-returns-in-Err-clause-kept t c =
+    λ i f h. c.in-Err.ensures.kept i f (c.tuples.invariant.kept i f h)
 
 pub instances_residual-returns-in-Err-clause-cause : goal.instances_residual-returns-in-Err-clause-cause
 instances_residual-returns-in-Err-clause-cause t c =
-    let q = quantifier-fits c.args.task.now.problem c.args.quantifier.now.junction c.args.quantifier.now.vars c.args.quantifier.now.bound (tree_at (trees c.args.nodes.now) c.args.quantifier.now.part) c.requires.fits in
-    let next = subst (λ (v : List (Option Value)). IsNext (length c.args.quantifier.now.vars) (λ t. bound_true (situation_of (plain_problem c.args.task.now.problem) c.args.w.now) (bind c.args.quantifier.now.vars t (assignment_in v)) c.args.quantifier.now.bound) (option_map tuple_of c.loop-tuple.after) (option_map tuple_of c.next_tuple.result)) c.loop-tuple.invariant.frame c.next_tuple.ensures.next in
-    let bound = c.put_values.ensures.values ∙ (ap (λ (ss : List Var). bind ss c.counted_values.result.now (assignment_in c.loop-tuple.env)) c.as_slice.ensures ∙ (ap (λ (u : List Value). bind c.args.quantifier.now.vars u (assignment_in c.loop-tuple.env)) c.counted_values.ensures.values ∙ ap (λ (v : List (Option Value)). bind c.args.quantifier.now.vars (tuple_of c.in-Some.tuple) (assignment_in v)) c.loop-tuple.invariant.frame)) in
-    let same = stays (trees c.args.nodes.now) (trees c.loop-tuple.nodes) c.loop-tuple.invariant.kept c.args.quantifier.now.part c.requires.part in
-    next-caused (plain_problem c.args.task.now.problem) c.args.w.now (assignment_in c.args.env.now) c.args.quantifier.now.vars c.args.quantifier.now.bound (tree_at (trees c.args.nodes.now) c.args.quantifier.now.part) c.args.quantifier.now.junction (tuple_of c.in-Some.tuple) c.in-Err.fault (is-tuple (plain_problem c.args.task.now.problem) c.args.w.now (assignment_in c.args.env.now) c.args.quantifier.now.vars c.args.quantifier.now.bound (tree_at (trees c.args.nodes.now) c.args.quantifier.now.part) q.differ q.occur (option_map tuple_of c.loop-tuple.after) (option_map tuple_of c.next_tuple.result) (tuple_of c.in-Some.tuple) next (ap (option_map tuple_of) c.in-Some.is))
-    (subst (λ (f : FormulaTree). IsCausedBy (looked_for_residual (plain_problem c.args.task.now.problem) c.args.w.now (bind c.args.quantifier.now.vars (tuple_of c.in-Some.tuple) (assignment_in c.args.env.now)) f) c.in-Err.fault) same
-    (subst (λ (d : Assignment). IsCausedBy (looked_for_residual (plain_problem c.args.task.now.problem) c.args.w.now d (tree_at (trees c.loop-tuple.nodes) c.args.quantifier.now.part)) c.in-Err.fault) bound c.in-Err.ensures.cause))
+    let fit = quantifier-fits c.args.task.now.problem c.args.quantifier.junction (node_vars (trees c.args.nodes.now) c.args.quantifier) (node_bound (trees c.args.nodes.now) c.args.quantifier) (tree_at (trees c.args.nodes.now) c.args.quantifier.part) (subst (FitsSomewhere (signature_of c.args.task.now.problem.domain)) c.requires.stands c.requires.fits) in
+    let step = stepped-then (trees c.args.nodes.now) (trees c.tuples.nodes) c.tuples.invariant.kept c.args.quantifier c.requires.at (situation_of (plain_problem c.args.task.now.problem) c.args.w.now) c.tuples.tuples c.put_next.new.tuples c.tuples.env c.put_next.new.env c.put_next.result c.put_next.ensures in
+    let come = has-come (plain_problem c.args.task.now.problem) c.args.w.now (assignment_in c.args.env.now) (node_vars (trees c.args.nodes.now) c.args.quantifier) (node_bound (trees c.args.nodes.now) c.args.quantifier) (tree_at (trees c.args.nodes.now) c.args.quantifier.part) c.tuples.tuples c.put_next.new.tuples c.tuples.env c.put_next.new.env c.put_next.result step c.tuples.invariant.reads fit.differ fit.occur c.tuples.invariant.others c.tuples-test.true in
+    subst (λ (f : FormulaTree). IsCausedBy (looked_for_residual (plain_problem c.args.task.now.problem) c.args.w.now (assignment_in c.args.env.now) f) c.in-Err.fault) (sym c.requires.stands) (instance-caused (plain_problem c.args.task.now.problem) c.args.w.now (assignment_in c.args.env.now) (node_vars (trees c.args.nodes.now) c.args.quantifier) (node_bound (trees c.args.nodes.now) c.args.quantifier) (tree_at (trees c.args.nodes.now) c.args.quantifier.part) c.args.quantifier.junction c.tuples.tuples.tuple c.put_next.new.tuples.tuple c.put_next.new.env come (tree_at (trees c.tuples.nodes) c.args.quantifier.part) (stays (trees c.args.nodes.now) (trees c.tuples.nodes) c.tuples.invariant.kept c.args.quantifier.part c.requires.part) c.in-Err.fault c.in-Err.ensures.cause)
+
+pub instances_residual-returns-in-Err-clause-others : goal.instances_residual-returns-in-Err-clause-others
+instances_residual-returns-in-Err-clause-others t c =
+    let step = stepped-then (trees c.args.nodes.now) (trees c.tuples.nodes) c.tuples.invariant.kept c.args.quantifier c.requires.at (situation_of (plain_problem c.args.task.now.problem) c.args.w.now) c.tuples.tuples c.put_next.new.tuples c.tuples.env c.put_next.new.env c.put_next.result c.put_next.ensures in
+    still-others (plain_problem c.args.task.now.problem) c.args.w.now (assignment_in c.args.env.now) (node_vars (trees c.args.nodes.now) c.args.quantifier) (node_bound (trees c.args.nodes.now) c.args.quantifier) (tree_at (trees c.args.nodes.now) c.args.quantifier.part) c.tuples.tuples c.put_next.new.tuples c.tuples.env c.put_next.new.env c.put_next.result step c.tuples.invariant.reads c.tuples.invariant.others c.residual_of.new.env c.residual_of.ensures.frame
 
 pub instances_residual-decides-requires : goal.instances_residual-decides-requires
-instances_residual-decides-requires t c = slice_get_within (trees c.residual_of-answer.new.nodes) c.in-Ok.number _ c.in-Ok.ensures.number
+instances_residual-decides-requires t c =
+    slice_get_within (trees c.residual_of.new.nodes) c.in-Ok.number _ c.in-Ok.ensures.number
 
 pub instances_residual-returns-then-decides-clause-kept : goal.instances_residual-returns-then-decides-clause-kept
-instances_residual-returns-then-decides-clause-kept t c = λ i f h. c.in-Ok.ensures.kept i f (c.loop-tuple.invariant.kept i f h)
+instances_residual-returns-then-decides-clause-kept t c =
+    λ i f h. c.in-Ok.ensures.kept i f (c.tuples.invariant.kept i f h)
 
 pub instances_residual-returns-then-decides-clause-number : goal.instances_residual-returns-then-decides-clause-number
 instances_residual-returns-then-decides-clause-number t c =
-    let q = quantifier-fits c.args.task.now.problem c.args.quantifier.now.junction c.args.quantifier.now.vars c.args.quantifier.now.bound (tree_at (trees c.args.nodes.now) c.args.quantifier.now.part) c.requires.fits in
-    let next = subst (λ (v : List (Option Value)). IsNext (length c.args.quantifier.now.vars) (λ t. bound_true (situation_of (plain_problem c.args.task.now.problem) c.args.w.now) (bind c.args.quantifier.now.vars t (assignment_in v)) c.args.quantifier.now.bound) (option_map tuple_of c.loop-tuple.after) (option_map tuple_of c.next_tuple.result)) c.loop-tuple.invariant.frame c.next_tuple.ensures.next in
-    let bound = c.put_values.ensures.values ∙ (ap (λ (ss : List Var). bind ss c.counted_values.result.now (assignment_in c.loop-tuple.env)) c.as_slice.ensures ∙ (ap (λ (u : List Value). bind c.args.quantifier.now.vars u (assignment_in c.loop-tuple.env)) c.counted_values.ensures.values ∙ ap (λ (v : List (Option Value)). bind c.args.quantifier.now.vars (tuple_of c.in-Some.tuple) (assignment_in v)) c.loop-tuple.invariant.frame)) in
-    let same = stays (trees c.args.nodes.now) (trees c.loop-tuple.nodes) c.loop-tuple.invariant.kept c.args.quantifier.now.part c.requires.part in
-    gather-decided c.args.quantifier.now.junction (trees c.loop-tuple.nodes) (trees c.residual_of-answer.new.nodes) c.in-Ok.ensures.kept c.loop-tuple.answers.items (instance_next (plain_problem c.args.task.now.problem) c.args.w.now (assignment_in c.args.env.now) c.args.quantifier.now.vars c.args.quantifier.now.bound (tree_at (trees c.args.nodes.now) c.args.quantifier.now.part) (tuple_of c.in-Some.tuple)) (next_after (plain_problem c.args.task.now.problem) c.args.w.now (assignment_in c.args.env.now) c.args.quantifier.now.vars c.args.quantifier.now.bound (tree_at (trees c.args.nodes.now) c.args.quantifier.now.part) (Some (tuple_of c.in-Some.tuple))) (next_of_all (plain_problem c.args.task.now.problem) c.args.w.now (assignment_in c.args.env.now) c.args.quantifier.now.vars c.args.quantifier.now.bound (tree_at (trees c.args.nodes.now) c.args.quantifier.now.part)) (subst (λ (ts : List (List Value)). Gathered c.args.quantifier.now.junction (trees c.loop-tuple.nodes) c.loop-tuple.answers.items (map (instance_next (plain_problem c.args.task.now.problem) c.args.w.now (assignment_in c.args.env.now) c.args.quantifier.now.vars c.args.quantifier.now.bound (tree_at (trees c.args.nodes.now) c.args.quantifier.now.part)) ts) (next_of_all (plain_problem c.args.task.now.problem) c.args.w.now (assignment_in c.args.env.now) c.args.quantifier.now.vars c.args.quantifier.now.bound (tree_at (trees c.args.nodes.now) c.args.quantifier.now.part))) (one-more (plain_problem c.args.task.now.problem) c.args.w.now (assignment_in c.args.env.now) c.args.quantifier.now.vars c.args.quantifier.now.bound (tree_at (trees c.args.nodes.now) c.args.quantifier.now.part) q.differ q.occur (option_map tuple_of c.loop-tuple.after) (option_map tuple_of c.next_tuple.result) (tuple_of c.in-Some.tuple) next (ap (option_map tuple_of) c.in-Some.is)) c.loop-tuple.invariant.passed) c.in-Ok.number (subst (λ (f : FormulaTree). slice_get (trees c.residual_of-answer.new.nodes) c.in-Ok.number ≡ Some (residual (plain_problem c.args.task.now.problem) c.args.w.now (bind c.args.quantifier.now.vars (tuple_of c.in-Some.tuple) (assignment_in c.args.env.now)) f)) same (subst (λ (d : Assignment). slice_get (trees c.residual_of-answer.new.nodes) c.in-Ok.number ≡ Some (residual (plain_problem c.args.task.now.problem) c.args.w.now d (tree_at (trees c.loop-tuple.nodes) c.args.quantifier.now.part))) bound c.in-Ok.ensures.number)) (c.decides.ensures c.if-decides.true) ∙ ap (λ (f : FormulaTree). Some f) (quantified-next (plain_problem c.args.task.now.problem) c.args.w.now (assignment_in c.args.env.now) c.args.quantifier.now.vars c.args.quantifier.now.bound (tree_at (trees c.args.nodes.now) c.args.quantifier.now.part) c.args.quantifier.now.junction)
+    let fit = quantifier-fits c.args.task.now.problem c.args.quantifier.junction (node_vars (trees c.args.nodes.now) c.args.quantifier) (node_bound (trees c.args.nodes.now) c.args.quantifier) (tree_at (trees c.args.nodes.now) c.args.quantifier.part) (subst (FitsSomewhere (signature_of c.args.task.now.problem.domain)) c.requires.stands c.requires.fits) in
+    let step = stepped-then (trees c.args.nodes.now) (trees c.tuples.nodes) c.tuples.invariant.kept c.args.quantifier c.requires.at (situation_of (plain_problem c.args.task.now.problem) c.args.w.now) c.tuples.tuples c.put_next.new.tuples c.tuples.env c.put_next.new.env c.put_next.result c.put_next.ensures in
+    let come = has-come (plain_problem c.args.task.now.problem) c.args.w.now (assignment_in c.args.env.now) (node_vars (trees c.args.nodes.now) c.args.quantifier) (node_bound (trees c.args.nodes.now) c.args.quantifier) (tree_at (trees c.args.nodes.now) c.args.quantifier.part) c.tuples.tuples c.put_next.new.tuples c.tuples.env c.put_next.new.env c.put_next.result step c.tuples.invariant.reads fit.differ fit.occur c.tuples.invariant.others c.tuples-test.true in
+    instance-decides (plain_problem c.args.task.now.problem) c.args.w.now (assignment_in c.args.env.now) (node_vars (trees c.args.nodes.now) c.args.quantifier) (node_bound (trees c.args.nodes.now) c.args.quantifier) (tree_at (trees c.args.nodes.now) c.args.quantifier.part) c.args.quantifier.junction c.tuples.tuples.tuple c.put_next.new.tuples.tuple c.put_next.new.env come (tree_at (trees c.tuples.nodes) c.args.quantifier.part) (stays (trees c.args.nodes.now) (trees c.tuples.nodes) c.tuples.invariant.kept c.args.quantifier.part c.requires.part) (trees c.tuples.nodes) (trees c.residual_of.new.nodes) c.in-Ok.ensures.kept c.tuples.answers.items c.tuples.invariant.passed c.in-Ok.number c.in-Ok.ensures.number (c.decides.ensures c.if-decides.true) ∙ ap (λ (f : FormulaTree). Some (residual (plain_problem c.args.task.now.problem) c.args.w.now (assignment_in c.args.env.now) f)) (sym c.requires.stands)
+
+pub instances_residual-returns-then-decides-clause-others : goal.instances_residual-returns-then-decides-clause-others
+instances_residual-returns-then-decides-clause-others t c =
+    let step = stepped-then (trees c.args.nodes.now) (trees c.tuples.nodes) c.tuples.invariant.kept c.args.quantifier c.requires.at (situation_of (plain_problem c.args.task.now.problem) c.args.w.now) c.tuples.tuples c.put_next.new.tuples c.tuples.env c.put_next.new.env c.put_next.result c.put_next.ensures in
+    still-others (plain_problem c.args.task.now.problem) c.args.w.now (assignment_in c.args.env.now) (node_vars (trees c.args.nodes.now) c.args.quantifier) (node_bound (trees c.args.nodes.now) c.args.quantifier) (tree_at (trees c.args.nodes.now) c.args.quantifier.part) c.tuples.tuples c.put_next.new.tuples c.tuples.env c.put_next.new.env c.put_next.result step c.tuples.invariant.reads c.tuples.invariant.others c.residual_of.new.env c.residual_of.ensures.frame
 
 pub instances_residual-gather-requires : goal.instances_residual-gather-requires
-instances_residual-gather-requires t c = record {
-  parts =
-      let q = quantifier-fits c.args.task.now.problem c.args.quantifier.now.junction c.args.quantifier.now.vars c.args.quantifier.now.bound (tree_at (trees c.args.nodes.now) c.args.quantifier.now.part) c.requires.fits in
-      let next = subst (λ (v : List (Option Value)). IsNext (length c.args.quantifier.now.vars) (λ t. bound_true (situation_of (plain_problem c.args.task.now.problem) c.args.w.now) (bind c.args.quantifier.now.vars t (assignment_in v)) c.args.quantifier.now.bound) (option_map tuple_of c.loop-tuple.after) (option_map tuple_of c.next_tuple.result)) c.loop-tuple.invariant.frame c.next_tuple.ensures.next in
-      let bound = c.put_values.ensures.values ∙ (ap (λ (ss : List Var). bind ss c.counted_values.result.now (assignment_in c.loop-tuple.env)) c.as_slice.ensures ∙ (ap (λ (u : List Value). bind c.args.quantifier.now.vars u (assignment_in c.loop-tuple.env)) c.counted_values.ensures.values ∙ ap (λ (v : List (Option Value)). bind c.args.quantifier.now.vars (tuple_of c.in-Some.tuple) (assignment_in v)) c.loop-tuple.invariant.frame)) in
-      let same = stays (trees c.args.nodes.now) (trees c.loop-tuple.nodes) c.loop-tuple.invariant.kept c.args.quantifier.now.part c.requires.part in
-      below-still c.args.quantifier.now.junction (trees c.loop-tuple.nodes) (trees c.residual_of-answer.new.nodes) c.in-Ok.ensures.kept c.loop-tuple.answers.items (instance_next (plain_problem c.args.task.now.problem) c.args.w.now (assignment_in c.args.env.now) c.args.quantifier.now.vars c.args.quantifier.now.bound (tree_at (trees c.args.nodes.now) c.args.quantifier.now.part) (tuple_of c.in-Some.tuple)) (next_after (plain_problem c.args.task.now.problem) c.args.w.now (assignment_in c.args.env.now) c.args.quantifier.now.vars c.args.quantifier.now.bound (tree_at (trees c.args.nodes.now) c.args.quantifier.now.part) (Some (tuple_of c.in-Some.tuple))) (next_of_all (plain_problem c.args.task.now.problem) c.args.w.now (assignment_in c.args.env.now) c.args.quantifier.now.vars c.args.quantifier.now.bound (tree_at (trees c.args.nodes.now) c.args.quantifier.now.part)) (subst (λ (ts : List (List Value)). Gathered c.args.quantifier.now.junction (trees c.loop-tuple.nodes) c.loop-tuple.answers.items (map (instance_next (plain_problem c.args.task.now.problem) c.args.w.now (assignment_in c.args.env.now) c.args.quantifier.now.vars c.args.quantifier.now.bound (tree_at (trees c.args.nodes.now) c.args.quantifier.now.part)) ts) (next_of_all (plain_problem c.args.task.now.problem) c.args.w.now (assignment_in c.args.env.now) c.args.quantifier.now.vars c.args.quantifier.now.bound (tree_at (trees c.args.nodes.now) c.args.quantifier.now.part))) (one-more (plain_problem c.args.task.now.problem) c.args.w.now (assignment_in c.args.env.now) c.args.quantifier.now.vars c.args.quantifier.now.bound (tree_at (trees c.args.nodes.now) c.args.quantifier.now.part) q.differ q.occur (option_map tuple_of c.loop-tuple.after) (option_map tuple_of c.next_tuple.result) (tuple_of c.in-Some.tuple) next (ap (option_map tuple_of) c.in-Some.is)) c.loop-tuple.invariant.passed) c.in-Ok.number (subst (λ (f : FormulaTree). slice_get (trees c.residual_of-answer.new.nodes) c.in-Ok.number ≡ Some (residual (plain_problem c.args.task.now.problem) c.args.w.now (bind c.args.quantifier.now.vars (tuple_of c.in-Some.tuple) (assignment_in c.args.env.now)) f)) same (subst (λ (d : Assignment). slice_get (trees c.residual_of-answer.new.nodes) c.in-Ok.number ≡ Some (residual (plain_problem c.args.task.now.problem) c.args.w.now d (tree_at (trees c.loop-tuple.nodes) c.args.quantifier.now.part))) bound c.in-Ok.ensures.number));
-  part = slice_get_within (trees c.residual_of-answer.new.nodes) c.in-Ok.number _ c.in-Ok.ensures.number;
-}
+instances_residual-gather-requires t c =
+    let fit = quantifier-fits c.args.task.now.problem c.args.quantifier.junction (node_vars (trees c.args.nodes.now) c.args.quantifier) (node_bound (trees c.args.nodes.now) c.args.quantifier) (tree_at (trees c.args.nodes.now) c.args.quantifier.part) (subst (FitsSomewhere (signature_of c.args.task.now.problem.domain)) c.requires.stands c.requires.fits) in
+    let step = stepped-then (trees c.args.nodes.now) (trees c.tuples.nodes) c.tuples.invariant.kept c.args.quantifier c.requires.at (situation_of (plain_problem c.args.task.now.problem) c.args.w.now) c.tuples.tuples c.put_next.new.tuples c.tuples.env c.put_next.new.env c.put_next.result c.put_next.ensures in
+    let come = has-come (plain_problem c.args.task.now.problem) c.args.w.now (assignment_in c.args.env.now) (node_vars (trees c.args.nodes.now) c.args.quantifier) (node_bound (trees c.args.nodes.now) c.args.quantifier) (tree_at (trees c.args.nodes.now) c.args.quantifier.part) c.tuples.tuples c.put_next.new.tuples c.tuples.env c.put_next.new.env c.put_next.result step c.tuples.invariant.reads fit.differ fit.occur c.tuples.invariant.others c.tuples-test.true in
+    record { parts = instances-below (plain_problem c.args.task.now.problem) c.args.w.now (assignment_in c.args.env.now) (node_vars (trees c.args.nodes.now) c.args.quantifier) (node_bound (trees c.args.nodes.now) c.args.quantifier) (tree_at (trees c.args.nodes.now) c.args.quantifier.part) c.args.quantifier.junction c.tuples.tuples.tuple c.put_next.new.tuples.tuple c.put_next.new.env come (tree_at (trees c.tuples.nodes) c.args.quantifier.part) (stays (trees c.args.nodes.now) (trees c.tuples.nodes) c.tuples.invariant.kept c.args.quantifier.part c.requires.part) (trees c.tuples.nodes) (trees c.residual_of.new.nodes) c.in-Ok.ensures.kept c.tuples.answers.items c.tuples.invariant.passed c.in-Ok.number c.in-Ok.ensures.number; part = slice_get_within (trees c.residual_of.new.nodes) c.in-Ok.number _ c.in-Ok.ensures.number }
 
 pub instances_residual-returns-in_err-gather-in-Ok-clause-kept : goal.instances_residual-returns-in_err-gather-in-Ok-clause-kept
-instances_residual-returns-in_err-gather-in-Ok-clause-kept t c = λ i f h. c.in-Ok.ensures.kept i f (c.loop-tuple.invariant.kept i f h)
+instances_residual-returns-in_err-gather-in-Ok-clause-kept t c =
+    λ i f h. c.in-Ok.ensures.kept i f (c.tuples.invariant.kept i f h)
 
-pub instances_residual-loop-tuple-smaller : goal.instances_residual-loop-tuple-smaller
-instances_residual-loop-tuple-smaller t c =
-    let q = quantifier-fits c.args.task.now.problem c.args.quantifier.now.junction c.args.quantifier.now.vars c.args.quantifier.now.bound (tree_at (trees c.args.nodes.now) c.args.quantifier.now.part) c.requires.fits in
-    let next = subst (λ (v : List (Option Value)). IsNext (length c.args.quantifier.now.vars) (λ t. bound_true (situation_of (plain_problem c.args.task.now.problem) c.args.w.now) (bind c.args.quantifier.now.vars t (assignment_in v)) c.args.quantifier.now.bound) (option_map tuple_of c.loop-tuple.after) (option_map tuple_of c.next_tuple.result)) c.loop-tuple.invariant.frame c.next_tuple.ensures.next in
-    fewer-left (plain_problem c.args.task.now.problem) c.args.w.now (assignment_in c.args.env.now) c.args.quantifier.now.vars c.args.quantifier.now.bound (tree_at (trees c.args.nodes.now) c.args.quantifier.now.part) q.differ q.occur (option_map tuple_of c.loop-tuple.after) (option_map tuple_of c.next_tuple.result) (tuple_of c.in-Some.tuple) next (ap (option_map tuple_of) c.in-Some.is)
+pub instances_residual-returns-in_err-gather-in-Ok-clause-others : goal.instances_residual-returns-in_err-gather-in-Ok-clause-others
+instances_residual-returns-in_err-gather-in-Ok-clause-others t c =
+    let step = stepped-then (trees c.args.nodes.now) (trees c.tuples.nodes) c.tuples.invariant.kept c.args.quantifier c.requires.at (situation_of (plain_problem c.args.task.now.problem) c.args.w.now) c.tuples.tuples c.put_next.new.tuples c.tuples.env c.put_next.new.env c.put_next.result c.put_next.ensures in
+    still-others (plain_problem c.args.task.now.problem) c.args.w.now (assignment_in c.args.env.now) (node_vars (trees c.args.nodes.now) c.args.quantifier) (node_bound (trees c.args.nodes.now) c.args.quantifier) (tree_at (trees c.args.nodes.now) c.args.quantifier.part) c.tuples.tuples c.put_next.new.tuples c.tuples.env c.put_next.new.env c.put_next.result step c.tuples.invariant.reads c.tuples.invariant.others c.residual_of.new.env c.residual_of.ensures.frame
 
-pub instances_residual-loop-tuple-preserved : goal.instances_residual-loop-tuple-preserved
-instances_residual-loop-tuple-preserved t c =
-    let q = quantifier-fits c.args.task.now.problem c.args.quantifier.now.junction c.args.quantifier.now.vars c.args.quantifier.now.bound (tree_at (trees c.args.nodes.now) c.args.quantifier.now.part) c.requires.fits in
-    let next = subst (λ (v : List (Option Value)). IsNext (length c.args.quantifier.now.vars) (λ t. bound_true (situation_of (plain_problem c.args.task.now.problem) c.args.w.now) (bind c.args.quantifier.now.vars t (assignment_in v)) c.args.quantifier.now.bound) (option_map tuple_of c.loop-tuple.after) (option_map tuple_of c.next_tuple.result)) c.loop-tuple.invariant.frame c.next_tuple.ensures.next in
-    let bound = c.put_values.ensures.values ∙ (ap (λ (ss : List Var). bind ss c.counted_values.result.now (assignment_in c.loop-tuple.env)) c.as_slice.ensures ∙ (ap (λ (u : List Value). bind c.args.quantifier.now.vars u (assignment_in c.loop-tuple.env)) c.counted_values.ensures.values ∙ ap (λ (v : List (Option Value)). bind c.args.quantifier.now.vars (tuple_of c.in-Some.tuple) (assignment_in v)) c.loop-tuple.invariant.frame)) in
-    let same = stays (trees c.args.nodes.now) (trees c.loop-tuple.nodes) c.loop-tuple.invariant.kept c.args.quantifier.now.part c.requires.part in
+pub instances_residual-tuples-smaller : goal.instances_residual-tuples-smaller
+instances_residual-tuples-smaller t c =
+    let fit = quantifier-fits c.args.task.now.problem c.args.quantifier.junction (node_vars (trees c.args.nodes.now) c.args.quantifier) (node_bound (trees c.args.nodes.now) c.args.quantifier) (tree_at (trees c.args.nodes.now) c.args.quantifier.part) (subst (FitsSomewhere (signature_of c.args.task.now.problem.domain)) c.requires.stands c.requires.fits) in
+    let step = stepped-then (trees c.args.nodes.now) (trees c.tuples.nodes) c.tuples.invariant.kept c.args.quantifier c.requires.at (situation_of (plain_problem c.args.task.now.problem) c.args.w.now) c.tuples.tuples c.put_next.new.tuples c.tuples.env c.put_next.new.env c.put_next.result c.put_next.ensures in
+    let come = has-come (plain_problem c.args.task.now.problem) c.args.w.now (assignment_in c.args.env.now) (node_vars (trees c.args.nodes.now) c.args.quantifier) (node_bound (trees c.args.nodes.now) c.args.quantifier) (tree_at (trees c.args.nodes.now) c.args.quantifier.part) c.tuples.tuples c.put_next.new.tuples c.tuples.env c.put_next.new.env c.put_next.result step c.tuples.invariant.reads fit.differ fit.occur c.tuples.invariant.others c.tuples-test.true in
+    come.fewer
+
+pub instances_residual-tuples-preserved : goal.instances_residual-tuples-preserved
+instances_residual-tuples-preserved t c =
+    let fit = quantifier-fits c.args.task.now.problem c.args.quantifier.junction (node_vars (trees c.args.nodes.now) c.args.quantifier) (node_bound (trees c.args.nodes.now) c.args.quantifier) (tree_at (trees c.args.nodes.now) c.args.quantifier.part) (subst (FitsSomewhere (signature_of c.args.task.now.problem.domain)) c.requires.stands c.requires.fits) in
+    let step = stepped-then (trees c.args.nodes.now) (trees c.tuples.nodes) c.tuples.invariant.kept c.args.quantifier c.requires.at (situation_of (plain_problem c.args.task.now.problem) c.args.w.now) c.tuples.tuples c.put_next.new.tuples c.tuples.env c.put_next.new.env c.put_next.result c.put_next.ensures in
+    let come = has-come (plain_problem c.args.task.now.problem) c.args.w.now (assignment_in c.args.env.now) (node_vars (trees c.args.nodes.now) c.args.quantifier) (node_bound (trees c.args.nodes.now) c.args.quantifier) (tree_at (trees c.args.nodes.now) c.args.quantifier.part) c.tuples.tuples c.put_next.new.tuples c.tuples.env c.put_next.new.env c.put_next.result step c.tuples.invariant.reads fit.differ fit.occur c.tuples.invariant.others c.tuples-test.true in
     record {
-      frame = c.restore.ensures ∙ c.saved-outer.ensures;
-      kept = λ i f h. c.in-Ok.ensures.kept i f (c.loop-tuple.invariant.kept i f h);
-      after = c.in-Some.ensures.len;
-      passed = gather-on c.args.quantifier.now.junction (trees c.loop-tuple.nodes) (trees c.residual_of-answer.new.nodes) c.in-Ok.ensures.kept c.loop-tuple.answers.items (instance_next (plain_problem c.args.task.now.problem) c.args.w.now (assignment_in c.args.env.now) c.args.quantifier.now.vars c.args.quantifier.now.bound (tree_at (trees c.args.nodes.now) c.args.quantifier.now.part) (tuple_of c.in-Some.tuple)) (next_after (plain_problem c.args.task.now.problem) c.args.w.now (assignment_in c.args.env.now) c.args.quantifier.now.vars c.args.quantifier.now.bound (tree_at (trees c.args.nodes.now) c.args.quantifier.now.part) (Some (tuple_of c.in-Some.tuple))) (next_of_all (plain_problem c.args.task.now.problem) c.args.w.now (assignment_in c.args.env.now) c.args.quantifier.now.vars c.args.quantifier.now.bound (tree_at (trees c.args.nodes.now) c.args.quantifier.now.part)) (subst (λ (ts : List (List Value)). Gathered c.args.quantifier.now.junction (trees c.loop-tuple.nodes) c.loop-tuple.answers.items (map (instance_next (plain_problem c.args.task.now.problem) c.args.w.now (assignment_in c.args.env.now) c.args.quantifier.now.vars c.args.quantifier.now.bound (tree_at (trees c.args.nodes.now) c.args.quantifier.now.part)) ts) (next_of_all (plain_problem c.args.task.now.problem) c.args.w.now (assignment_in c.args.env.now) c.args.quantifier.now.vars c.args.quantifier.now.bound (tree_at (trees c.args.nodes.now) c.args.quantifier.now.part))) (one-more (plain_problem c.args.task.now.problem) c.args.w.now (assignment_in c.args.env.now) c.args.quantifier.now.vars c.args.quantifier.now.bound (tree_at (trees c.args.nodes.now) c.args.quantifier.now.part) q.differ q.occur (option_map tuple_of c.loop-tuple.after) (option_map tuple_of c.next_tuple.result) (tuple_of c.in-Some.tuple) next (ap (option_map tuple_of) c.in-Some.is)) c.loop-tuple.invariant.passed) c.in-Ok.number (subst (λ (f : FormulaTree). slice_get (trees c.residual_of-answer.new.nodes) c.in-Ok.number ≡ Some (residual (plain_problem c.args.task.now.problem) c.args.w.now (bind c.args.quantifier.now.vars (tuple_of c.in-Some.tuple) (assignment_in c.args.env.now)) f)) same (subst (λ (d : Assignment). slice_get (trees c.residual_of-answer.new.nodes) c.in-Ok.number ≡ Some (residual (plain_problem c.args.task.now.problem) c.args.w.now d (tree_at (trees c.loop-tuple.nodes) c.args.quantifier.now.part))) bound c.in-Ok.ensures.number)) c.gather.new.parts.items c.in_ok-gather-in-Ok.ensures.below c.in_ok-gather-in-Ok.ensures.same;
+      kept = λ i f h. c.in-Ok.ensures.kept i f (c.tuples.invariant.kept i f h);
+      reads = step.reads (assignment_in c.args.env.now) c.tuples.invariant.reads;
+      others = still-others (plain_problem c.args.task.now.problem) c.args.w.now (assignment_in c.args.env.now) (node_vars (trees c.args.nodes.now) c.args.quantifier) (node_bound (trees c.args.nodes.now) c.args.quantifier) (tree_at (trees c.args.nodes.now) c.args.quantifier.part) c.tuples.tuples c.put_next.new.tuples c.tuples.env c.put_next.new.env c.put_next.result step c.tuples.invariant.reads c.tuples.invariant.others c.residual_of.new.env c.residual_of.ensures.frame;
+      passed = instance-gathered (plain_problem c.args.task.now.problem) c.args.w.now (assignment_in c.args.env.now) (node_vars (trees c.args.nodes.now) c.args.quantifier) (node_bound (trees c.args.nodes.now) c.args.quantifier) (tree_at (trees c.args.nodes.now) c.args.quantifier.part) c.args.quantifier.junction c.tuples.tuples.tuple c.put_next.new.tuples.tuple c.put_next.new.env come (tree_at (trees c.tuples.nodes) c.args.quantifier.part) (stays (trees c.args.nodes.now) (trees c.tuples.nodes) c.tuples.invariant.kept c.args.quantifier.part c.requires.part) (trees c.tuples.nodes) (trees c.residual_of.new.nodes) c.in-Ok.ensures.kept c.tuples.answers.items c.tuples.invariant.passed c.in-Ok.number c.in-Ok.ensures.number c.gather.new.parts.items c.in_ok-gather-in-Ok.ensures.below c.in_ok-gather-in-Ok.ensures.same;
     }
 
 pub instances_residual-join-requires : goal.instances_residual-join-requires
-instances_residual-join-requires t c = subst (λ (ids : List ℕ). all_below (length (trees c.loop-tuple.nodes)) ids ≡ true) (sym c.as_slice-2.ensures.value) c.loop-tuple.invariant.passed.below
+instances_residual-join-requires t c =
+    subst (λ (ids : List ℕ). all_below (length (trees c.tuples.nodes)) ids ≡ true) (sym c.as_slice.ensures.value) c.tuples.invariant.passed.below
 
 pub instances_residual-returns-clause-kept : goal.instances_residual-returns-clause-kept
-instances_residual-returns-clause-kept t c = λ i f h. c.in_ok-number.ensures.kept i f (c.loop-tuple.invariant.kept i f h)
+instances_residual-returns-clause-kept t c =
+    λ i f h. c.in_ok-number.ensures.kept i f (c.tuples.invariant.kept i f h)
 
 pub instances_residual-returns-in_err-number-clause-kept : goal.instances_residual-returns-in_err-number-clause-kept
-instances_residual-returns-in_err-number-clause-kept t c = λ i f h. c.in_err-number.ensures.kept i f (c.loop-tuple.invariant.kept i f h)
+instances_residual-returns-in_err-number-clause-kept t c =
+    λ i f h. c.in_err-number.ensures.kept i f (c.tuples.invariant.kept i f h)
 
 pub instances_residual-returns-clause-number : goal.instances_residual-returns-clause-number
 instances_residual-returns-clause-number t c =
-    let q = quantifier-fits c.args.task.now.problem c.args.quantifier.now.junction c.args.quantifier.now.vars c.args.quantifier.now.bound (tree_at (trees c.args.nodes.now) c.args.quantifier.now.part) c.requires.fits in
-    let next = subst (λ (v : List (Option Value)). IsNext (length c.args.quantifier.now.vars) (λ t. bound_true (situation_of (plain_problem c.args.task.now.problem) c.args.w.now) (bind c.args.quantifier.now.vars t (assignment_in v)) c.args.quantifier.now.bound) (option_map tuple_of c.loop-tuple.after) (option_map tuple_of c.next_tuple.result)) c.loop-tuple.invariant.frame c.next_tuple.ensures.next in
-    c.in_ok-number.ensures.number ∙ ap (λ (f : FormulaTree). Some f) (ap (λ (ids : List ℕ). simplified_join c.args.quantifier.now.junction (trees_at (trees c.loop-tuple.nodes) ids)) c.as_slice-2.ensures.value
-    ∙ (gather-end c.args.quantifier.now.junction (trees c.loop-tuple.nodes) c.loop-tuple.answers.items (next_after (plain_problem c.args.task.now.problem) c.args.w.now (assignment_in c.args.env.now) c.args.quantifier.now.vars c.args.quantifier.now.bound (tree_at (trees c.args.nodes.now) c.args.quantifier.now.part) (option_map tuple_of c.loop-tuple.after)) (next_of_all (plain_problem c.args.task.now.problem) c.args.w.now (assignment_in c.args.env.now) c.args.quantifier.now.vars c.args.quantifier.now.bound (tree_at (trees c.args.nodes.now) c.args.quantifier.now.part)) c.loop-tuple.invariant.passed
-    (ap (map (instance_next (plain_problem c.args.task.now.problem) c.args.w.now (assignment_in c.args.env.now) c.args.quantifier.now.vars c.args.quantifier.now.bound (tree_at (trees c.args.nodes.now) c.args.quantifier.now.part))) (no-more (plain_problem c.args.task.now.problem) c.args.w.now (assignment_in c.args.env.now) c.args.quantifier.now.vars c.args.quantifier.now.bound (tree_at (trees c.args.nodes.now) c.args.quantifier.now.part) q.differ q.occur (option_map tuple_of c.loop-tuple.after) (option_map tuple_of c.next_tuple.result) next (ap (option_map tuple_of) (none-found c.next_tuple.result c.in_default.not-Some))))
-    ∙ quantified-next (plain_problem c.args.task.now.problem) c.args.w.now (assignment_in c.args.env.now) c.args.quantifier.now.vars c.args.quantifier.now.bound (tree_at (trees c.args.nodes.now) c.args.quantifier.now.part) c.args.quantifier.now.junction))
+    let fit = quantifier-fits c.args.task.now.problem c.args.quantifier.junction (node_vars (trees c.args.nodes.now) c.args.quantifier) (node_bound (trees c.args.nodes.now) c.args.quantifier) (tree_at (trees c.args.nodes.now) c.args.quantifier.part) (subst (FitsSomewhere (signature_of c.args.task.now.problem.domain)) c.requires.stands c.requires.fits) in
+    let step = stepped-then (trees c.args.nodes.now) (trees c.tuples.nodes) c.tuples.invariant.kept c.args.quantifier c.requires.at (situation_of (plain_problem c.args.task.now.problem) c.args.w.now) c.tuples.tuples c.put_next.new.tuples c.tuples.env c.put_next.new.env c.put_next.result c.put_next.ensures in
+    c.in_ok-number.ensures.number ∙ ap (λ (f : FormulaTree). Some f) (ap (λ (ids : List ℕ). simplified_join c.args.quantifier.junction (trees_at (trees c.tuples.nodes) ids)) c.as_slice.ensures.value
+    ∙ (gathered-all (plain_problem c.args.task.now.problem) c.args.w.now (assignment_in c.args.env.now) (node_vars (trees c.args.nodes.now) c.args.quantifier) (node_bound (trees c.args.nodes.now) c.args.quantifier) (tree_at (trees c.args.nodes.now) c.args.quantifier.part) c.args.quantifier.junction (trees c.tuples.nodes) c.tuples.answers.items c.tuples.tuples.tuple c.tuples.invariant.passed (none-left (plain_problem c.args.task.now.problem) c.args.w.now (assignment_in c.args.env.now) (node_vars (trees c.args.nodes.now) c.args.quantifier) (node_bound (trees c.args.nodes.now) c.args.quantifier) (tree_at (trees c.args.nodes.now) c.args.quantifier.part) c.tuples.tuples c.put_next.new.tuples c.tuples.env c.put_next.new.env c.put_next.result step c.tuples.invariant.reads fit.differ fit.occur c.tuples-test.false)
+    ∙ ap (residual (plain_problem c.args.task.now.problem) c.args.w.now (assignment_in c.args.env.now)) (sym c.requires.stands)))
+
+pub instances_residual-returns-clause-others : goal.instances_residual-returns-clause-others
+instances_residual-returns-clause-others t c =
+    let step = stepped-then (trees c.args.nodes.now) (trees c.tuples.nodes) c.tuples.invariant.kept c.args.quantifier c.requires.at (situation_of (plain_problem c.args.task.now.problem) c.args.w.now) c.tuples.tuples c.put_next.new.tuples c.tuples.env c.put_next.new.env c.put_next.result c.put_next.ensures in
+    still-others (plain_problem c.args.task.now.problem) c.args.w.now (assignment_in c.args.env.now) (node_vars (trees c.args.nodes.now) c.args.quantifier) (node_bound (trees c.args.nodes.now) c.args.quantifier) (tree_at (trees c.args.nodes.now) c.args.quantifier.part) c.tuples.tuples c.put_next.new.tuples c.tuples.env c.put_next.new.env c.put_next.result step c.tuples.invariant.reads c.tuples.invariant.others c.put_next.new.env refl
+
+pub instances_residual-returns-in_err-number-clause-others : goal.instances_residual-returns-in_err-number-clause-others
+instances_residual-returns-in_err-number-clause-others t c =
+    let step = stepped-then (trees c.args.nodes.now) (trees c.tuples.nodes) c.tuples.invariant.kept c.args.quantifier c.requires.at (situation_of (plain_problem c.args.task.now.problem) c.args.w.now) c.tuples.tuples c.put_next.new.tuples c.tuples.env c.put_next.new.env c.put_next.result c.put_next.ensures in
+    still-others (plain_problem c.args.task.now.problem) c.args.w.now (assignment_in c.args.env.now) (node_vars (trees c.args.nodes.now) c.args.quantifier) (node_bound (trees c.args.nodes.now) c.args.quantifier) (tree_at (trees c.args.nodes.now) c.args.quantifier.part) c.tuples.tuples c.put_next.new.tuples c.tuples.env c.put_next.new.env c.put_next.result step c.tuples.invariant.reads c.tuples.invariant.others c.put_next.new.env refl
+
+-- ---- what the variables of a quantifier had
+
+pub quantifier_residual-give_back-requires-clause-at : goal.quantifier_residual-give_back-requires-clause-at
+quantifier_residual-give_back-requires-clause-at t c =
+    longer (trees c.args.nodes.now) (trees c.instances_residual-answer.new.nodes) c.instances_residual-answer.ensures.kept c.args.quantifier.at c.requires.at
+
+pub quantifier_residual-give_back-requires-clause-stands : goal.quantifier_residual-give_back-requires-clause-stands
+quantifier_residual-give_back-requires-clause-stands t c =
+    stands-still (trees c.args.nodes.now) (trees c.instances_residual-answer.new.nodes) c.instances_residual-answer.ensures.kept c.args.quantifier c.requires.at c.requires.part c.requires.stands
+
+pub quantifier_residual-give_back-requires-clause-slots : goal.quantifier_residual-give_back-requires-clause-slots
+quantifier_residual-give_back-requires-clause-slots t c =
+    let fit = quantifier-fits c.args.task.now.problem c.args.quantifier.junction (node_vars (trees c.args.nodes.now) c.args.quantifier) (node_bound (trees c.args.nodes.now) c.args.quantifier) (tree_at (trees c.args.nodes.now) c.args.quantifier.part) (subst (FitsSomewhere (signature_of c.args.task.now.problem.domain)) c.requires.stands c.requires.fits) in
+    subst (λ (f : FormulaTree). Each (λ s. s.slot < 32) (vars_in f)) (sym (same-node (trees c.args.nodes.now) (trees c.instances_residual-answer.new.nodes) c.instances_residual-answer.ensures.kept c.args.quantifier c.requires.at)) fit.in_frame
+
+pub quantifier_residual-give_back-requires-clause-few : goal.quantifier_residual-give_back-requires-clause-few
+quantifier_residual-give_back-requires-clause-few t c =
+    let fit = quantifier-fits c.args.task.now.problem c.args.quantifier.junction (node_vars (trees c.args.nodes.now) c.args.quantifier) (node_bound (trees c.args.nodes.now) c.args.quantifier) (tree_at (trees c.args.nodes.now) c.args.quantifier.part) (subst (FitsSomewhere (signature_of c.args.task.now.problem.domain)) c.requires.stands c.requires.fits) in
+    let few : length (node_vars (trees c.args.nodes.now) c.args.quantifier) ≤ 9 = omega (arith, fit.few) in
+    subst (λ (f : FormulaTree). length (vars_in f) ≤ 9) (sym (same-node (trees c.args.nodes.now) (trees c.instances_residual-answer.new.nodes) c.instances_residual-answer.ensures.kept c.args.quantifier c.requires.at)) few
+
+pub quantifier_residual-returns-clause-frame : goal.quantifier_residual-returns-clause-frame
+quantifier_residual-returns-clause-frame t c =
+    let was = subst (λ (r : Option Instances). IfSome r (λ i. AreKept (node_vars (trees c.args.nodes.now) c.args.quantifier) c.args.env.now i.outer)) c.unwrap-tuples.ensures c.open.ensures.kept in
+    c.give_back.ensures c.args.env.now (subst (λ (f : FormulaTree). AreKept (vars_in f) c.args.env.now c.unwrap-tuples.result.outer) (sym (same-node (trees c.args.nodes.now) (trees c.instances_residual-answer.new.nodes) c.instances_residual-answer.ensures.kept c.args.quantifier c.requires.at)) was)
+    (subst (λ (f : FormulaTree). AgreeElsewhere (vars_in f) (assignment_in c.instances_residual-answer.new.env) (assignment_in c.args.env.now)) (sym (same-node (trees c.args.nodes.now) (trees c.instances_residual-answer.new.nodes) c.instances_residual-answer.ensures.kept c.args.quantifier c.requires.at)) c.instances_residual-answer.ensures.others)
+
+pub quantifier_residual-instances_residual-answer-requires : goal.quantifier_residual-instances_residual-answer-requires
+quantifier_residual-instances_residual-answer-requires t c =
+    let known = c.new-known.ensures (plain_problem c.args.task.now.problem) c.args.w.now (trees c.args.nodes.now) in
+    let reads = subst (λ (r : Option Instances). IfSome r (λ i. Reads (node_vars (trees c.args.nodes.now) c.args.quantifier) (assignment_in c.args.env.now) (node_bound (trees c.args.nodes.now) c.args.quantifier) i.tuples)) c.unwrap-tuples.ensures c.open.ensures.reads in
+    let before = subst (λ (r : Option Instances). IfSome r (λ i. i.tuples.tuple ≡ None)) c.unwrap-tuples.ensures c.open.ensures.before in
+    (omega (arith, c.decreases), (c.requires.at, (c.requires.part, (c.requires.stands, (c.requires.fits, (known, (reads, before)))))))

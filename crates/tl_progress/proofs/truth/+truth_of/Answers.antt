@@ -1,5 +1,4 @@
 use Rattle.std.proofs.Common.{◌≡◌, ◌<◌, ℕ, List, Bool, true, length, get_or, inl, Option, IfOk, IfErr, refl, sym, ap, ◌∙◌, subst, arith}
-use Rattle.std.specs.Option.{option_map}
 use Rattle.tl_eval.specs.Frames.{assignment_in}
 use Rattle.tl_nodes.specs.Fits.{all_below}
 use Rattle.tl_nodes.specs.Joins.{join_node}
@@ -7,23 +6,20 @@ use Rattle.tl_nodes.specs.NodeTrees.{tree_at, tree_of_node}
 use Rattle.tl_nodes.specs.Numbers.{trees}
 use Rattle.tl_syntax.specs.declared.value.Value.{Value}
 use Rattle.tl_syntax.specs.declared.variable.Var.{Var}
-use Rattle.tl_syntax.specs.Assignment.{Assignment, bind}
+use Rattle.tl_syntax.specs.Assignment.{Assignment}
 use Rattle.tl_syntax.specs.Lists.{Each, Among}
 use Rattle.tl_syntax.specs.Signature.{signature_of}
 use Rattle.tl_syntax.specs.Trees.{FormulaTree}
-use Rattle.tl_terms.specs.Bounds.{bound_true}
-use Rattle.tl_terms.specs.Definitions.{situation_of}
 use Rattle.tl_terms.specs.Operations.{Operation}
 use Rattle.tl_terms.specs.ProblemMeaning.{plain_problem}
-use Rattle.tl_world.specs.Next.{IsNext}
-use Rattle.tl_world.specs.Patterns.{tuple_of}
 use Rattle.tl_progress.specs.Answers.{IsCausedBy, decided, looked_idly, idly_true}
 use Rattle.tl_progress.specs.Parts.{parts}
 use Rattle.tl_progress.specs.Sentences.{FitsSomewhere}
 use Rattle.tl_progress.proofs.Below.{part-lower, part-fits, among-at}
 use Rattle.tl_progress.proofs.Decided.{ids-on, ids-here, ids-end}
-use Rattle.tl_progress.proofs.Found.{none-found, fits-below, truth-caused, truth-fault, join-caused}
-use Rattle.tl_progress.proofs.Instances.{quantifier-fits, open-begun, no-more, open-end, fewer-left, open-on, open-here, caused}
+use Rattle.tl_progress.proofs.Found.{fits-below, truth-caused, truth-fault, join-caused}
+use Rattle.tl_progress.proofs.Instances.{Open, quantifier-fits, open-begun, open-end, open-on, open-here, caused}
+use Rattle.tl_progress.proofs.InstanceSteps.{has-come, none-left, still-others}
 use Rattle.tl_progress.proofs.PutLayers.{at-below, below-And, below-Or}
 use Rattle.tl_progress.proofs.TruthLayers.{shown-Basic, shown-ForAll, shown-Exists, shown-And, shown-Or, basic-in, less-ForAll, less-Exists, idle-True, idle-False, idle-Basic, looked-Basic, idle-Not, idle-Next, idle-Always, idle-Eventually, idle-Until, idle-Within, idle-During, idle-join}
 use Rattle.tl_progress.proofs.truth.+truth_of.Goals as goal
@@ -170,31 +166,31 @@ pub layer_truth-returns-in-Or-clause-cause : goal.layer_truth-returns-in-Or-clau
 layer_truth-returns-in-Or-clause-cause t c =
     subst (λ (f : FormulaTree). IfErr c.join_truth-in-Or.result (IsCausedBy (looked_idly (plain_problem c.args.task.now.problem) c.args.w.now (assignment_in c.args.env.now) f))) (sym (shown-Or (trees c.args.nodes.now) c.args.at c.get.result.now c.get.ensures.tree c.in-Or.parts c.in-Or.is)) c.join_truth-in-Or.ensures.cause
 
-pub layer_truth-instances_truth-requires : goal.layer_truth-instances_truth-requires
-layer_truth-instances_truth-requires t c =
+pub layer_truth-quantifier_truth-requires : goal.layer_truth-quantifier_truth-requires
+layer_truth-quantifier_truth-requires t c =
     let less = less-ForAll (trees c.args.nodes.now) c.args.at c.get.result.now c.get.ensures.tree c.get.ensures.parts c.in-ForAll.vars c.in-ForAll.bound c.in-ForAll.part c.in-ForAll.is in
     (omega (arith, less, c.decreases), (omega (arith, less, c.requires.at), (subst (FitsSomewhere (signature_of c.args.task.now.problem.domain)) (shown-ForAll (trees c.args.nodes.now) c.args.at c.get.result.now c.get.ensures.tree c.in-ForAll.vars c.in-ForAll.bound c.in-ForAll.part c.in-ForAll.is) c.requires.fits, c.requires.known)))
 
 pub layer_truth-returns-in-ForAll-clause-truth : goal.layer_truth-returns-in-ForAll-clause-truth
 layer_truth-returns-in-ForAll-clause-truth t c =
-    subst (λ (f : FormulaTree). IfOk c.instances_truth.result (λ b. b ≡ idly_true (plain_problem c.args.task.now.problem) c.args.w.now (assignment_in c.args.env.now) f)) (sym (shown-ForAll (trees c.args.nodes.now) c.args.at c.get.result.now c.get.ensures.tree c.in-ForAll.vars c.in-ForAll.bound c.in-ForAll.part c.in-ForAll.is)) c.instances_truth.ensures.truth
+    subst (λ (f : FormulaTree). IfOk c.quantifier_truth.result (λ b. b ≡ idly_true (plain_problem c.args.task.now.problem) c.args.w.now (assignment_in c.args.env.now) f)) (sym (shown-ForAll (trees c.args.nodes.now) c.args.at c.get.result.now c.get.ensures.tree c.in-ForAll.vars c.in-ForAll.bound c.in-ForAll.part c.in-ForAll.is)) c.quantifier_truth.ensures.truth
 
 pub layer_truth-returns-in-ForAll-clause-cause : goal.layer_truth-returns-in-ForAll-clause-cause
 layer_truth-returns-in-ForAll-clause-cause t c =
-    subst (λ (f : FormulaTree). IfErr c.instances_truth.result (IsCausedBy (looked_idly (plain_problem c.args.task.now.problem) c.args.w.now (assignment_in c.args.env.now) f))) (sym (shown-ForAll (trees c.args.nodes.now) c.args.at c.get.result.now c.get.ensures.tree c.in-ForAll.vars c.in-ForAll.bound c.in-ForAll.part c.in-ForAll.is)) c.instances_truth.ensures.cause
+    subst (λ (f : FormulaTree). IfErr c.quantifier_truth.result (IsCausedBy (looked_idly (plain_problem c.args.task.now.problem) c.args.w.now (assignment_in c.args.env.now) f))) (sym (shown-ForAll (trees c.args.nodes.now) c.args.at c.get.result.now c.get.ensures.tree c.in-ForAll.vars c.in-ForAll.bound c.in-ForAll.part c.in-ForAll.is)) c.quantifier_truth.ensures.cause
 
-pub layer_truth-instances_truth-requires-in-Exists : goal.layer_truth-instances_truth-requires-in-Exists
-layer_truth-instances_truth-requires-in-Exists t c =
+pub layer_truth-quantifier_truth-requires-in-Exists : goal.layer_truth-quantifier_truth-requires-in-Exists
+layer_truth-quantifier_truth-requires-in-Exists t c =
     let less = less-Exists (trees c.args.nodes.now) c.args.at c.get.result.now c.get.ensures.tree c.get.ensures.parts c.in-Exists.vars c.in-Exists.bound c.in-Exists.part c.in-Exists.is in
     (omega (arith, less, c.decreases), (omega (arith, less, c.requires.at), (subst (FitsSomewhere (signature_of c.args.task.now.problem.domain)) (shown-Exists (trees c.args.nodes.now) c.args.at c.get.result.now c.get.ensures.tree c.in-Exists.vars c.in-Exists.bound c.in-Exists.part c.in-Exists.is) c.requires.fits, c.requires.known)))
 
 pub layer_truth-returns-in-Exists-clause-truth : goal.layer_truth-returns-in-Exists-clause-truth
 layer_truth-returns-in-Exists-clause-truth t c =
-    subst (λ (f : FormulaTree). IfOk c.instances_truth-in-Exists.result (λ b. b ≡ idly_true (plain_problem c.args.task.now.problem) c.args.w.now (assignment_in c.args.env.now) f)) (sym (shown-Exists (trees c.args.nodes.now) c.args.at c.get.result.now c.get.ensures.tree c.in-Exists.vars c.in-Exists.bound c.in-Exists.part c.in-Exists.is)) c.instances_truth-in-Exists.ensures.truth
+    subst (λ (f : FormulaTree). IfOk c.quantifier_truth-in-Exists.result (λ b. b ≡ idly_true (plain_problem c.args.task.now.problem) c.args.w.now (assignment_in c.args.env.now) f)) (sym (shown-Exists (trees c.args.nodes.now) c.args.at c.get.result.now c.get.ensures.tree c.in-Exists.vars c.in-Exists.bound c.in-Exists.part c.in-Exists.is)) c.quantifier_truth-in-Exists.ensures.truth
 
 pub layer_truth-returns-in-Exists-clause-cause : goal.layer_truth-returns-in-Exists-clause-cause
 layer_truth-returns-in-Exists-clause-cause t c =
-    subst (λ (f : FormulaTree). IfErr c.instances_truth-in-Exists.result (IsCausedBy (looked_idly (plain_problem c.args.task.now.problem) c.args.w.now (assignment_in c.args.env.now) f))) (sym (shown-Exists (trees c.args.nodes.now) c.args.at c.get.result.now c.get.ensures.tree c.in-Exists.vars c.in-Exists.bound c.in-Exists.part c.in-Exists.is)) c.instances_truth-in-Exists.ensures.cause
+    subst (λ (f : FormulaTree). IfErr c.quantifier_truth-in-Exists.result (IsCausedBy (looked_idly (plain_problem c.args.task.now.problem) c.args.w.now (assignment_in c.args.env.now) f))) (sym (shown-Exists (trees c.args.nodes.now) c.args.at c.get.result.now c.get.ensures.tree c.in-Exists.vars c.in-Exists.bound c.in-Exists.part c.in-Exists.is)) c.quantifier_truth-in-Exists.ensures.cause
 
 -- ---- the parts of a join
 
@@ -243,62 +239,70 @@ join_truth-returns-clause-frame t c = c.loop-part.invariant.frame
 
 -- ---- the instances of a quantifier
 
-pub instances_truth-loop-tuple-init : goal.instances_truth-loop-tuple-init
-instances_truth-loop-tuple-init t c = record { frame = refl; after = tt; passed = open-begun (plain_problem c.args.task.now.problem) c.args.w.now (assignment_in c.args.env.now) c.args.vars.now c.args.bound.now (tree_at (trees c.args.nodes.now) c.args.part) c.deciding_truth-stop.result }
+pub quantifier_truth-open_instances-tuples-requires-clause-differ : goal.quantifier_truth-open_instances-tuples-requires-clause-differ
+quantifier_truth-open_instances-tuples-requires-clause-differ t c =
+    let fit = quantifier-fits c.args.task.now.problem c.args.junction c.args.vars.now c.args.bound.now (tree_at (trees c.args.nodes.now) c.args.part) c.requires.fits in
+    fit.differ
 
-pub instances_truth-next_tuple-requires-clause-differ : goal.instances_truth-next_tuple-requires-clause-differ
-instances_truth-next_tuple-requires-clause-differ t c = let q = quantifier-fits c.args.task.now.problem c.args.junction c.args.vars.now c.args.bound.now (tree_at (trees c.args.nodes.now) c.args.part) c.requires.fits in q.differ
+pub quantifier_truth-open_instances-tuples-requires-clause-occur : goal.quantifier_truth-open_instances-tuples-requires-clause-occur
+quantifier_truth-open_instances-tuples-requires-clause-occur t c =
+    let fit = quantifier-fits c.args.task.now.problem c.args.junction c.args.vars.now c.args.bound.now (tree_at (trees c.args.nodes.now) c.args.part) c.requires.fits in
+    fit.occur
 
-pub instances_truth-next_tuple-requires-clause-occur : goal.instances_truth-next_tuple-requires-clause-occur
-instances_truth-next_tuple-requires-clause-occur t c = let q = quantifier-fits c.args.task.now.problem c.args.junction c.args.vars.now c.args.bound.now (tree_at (trees c.args.nodes.now) c.args.part) c.requires.fits in q.occur
+pub quantifier_truth-open_instances-tuples-requires-clause-fits : goal.quantifier_truth-open_instances-tuples-requires-clause-fits
+quantifier_truth-open_instances-tuples-requires-clause-fits t c =
+    let fit = quantifier-fits c.args.task.now.problem c.args.junction c.args.vars.now c.args.bound.now (tree_at (trees c.args.nodes.now) c.args.part) c.requires.fits in
+    fit.bound
 
-pub instances_truth-next_tuple-requires-clause-fits : goal.instances_truth-next_tuple-requires-clause-fits
-instances_truth-next_tuple-requires-clause-fits t c = let q = quantifier-fits c.args.task.now.problem c.args.junction c.args.vars.now c.args.bound.now (tree_at (trees c.args.nodes.now) c.args.part) c.requires.fits in q.bound
+pub quantifier_truth-give_back-requires-clause-slots : goal.quantifier_truth-give_back-requires-clause-slots
+quantifier_truth-give_back-requires-clause-slots t c =
+    let fit = quantifier-fits c.args.task.now.problem c.args.junction c.args.vars.now c.args.bound.now (tree_at (trees c.args.nodes.now) c.args.part) c.requires.fits in
+    subst (λ (ss : List Var). Each (λ s. s.slot < 32) ss) (sym c.as_slice.ensures) fit.in_frame
 
-pub instances_truth-counted_values-requires : goal.instances_truth-counted_values-requires
-instances_truth-counted_values-requires t c = let q = quantifier-fits c.args.task.now.problem c.args.junction c.args.vars.now c.args.bound.now (tree_at (trees c.args.nodes.now) c.args.part) c.requires.fits in let few = q.few in let len = c.in-Some.ensures.len in omega arith
+pub instances_truth-loop-tuples-init : goal.instances_truth-loop-tuples-init
+instances_truth-loop-tuples-init t c =
+    record { reads = c.requires.reads; others = λ u. refl; passed = subst (Open (plain_problem c.args.task.now.problem) c.args.w.now (assignment_in c.args.env.now) c.args.vars.now c.args.bound.now (tree_at (trees c.args.nodes.now) c.args.part) c.deciding_truth-stop.result) (sym c.requires.before) (open-begun (plain_problem c.args.task.now.problem) c.args.w.now (assignment_in c.args.env.now) c.args.vars.now c.args.bound.now (tree_at (trees c.args.nodes.now) c.args.part) c.deciding_truth-stop.result) }
 
-pub instances_truth-put_values-requires-clause-slots : goal.instances_truth-put_values-requires-clause-slots
-instances_truth-put_values-requires-clause-slots t c = let q = quantifier-fits c.args.task.now.problem c.args.junction c.args.vars.now c.args.bound.now (tree_at (trees c.args.nodes.now) c.args.part) c.requires.fits in subst (λ (ss : List Var). Each (λ s. s.slot < 32) ss) (sym c.as_slice.ensures) q.in_frame
+pub instances_truth-put_instance-requires-clause-slots : goal.instances_truth-put_instance-requires-clause-slots
+instances_truth-put_instance-requires-clause-slots t c =
+    let fit = quantifier-fits c.args.task.now.problem c.args.junction c.args.vars.now c.args.bound.now (tree_at (trees c.args.nodes.now) c.args.part) c.requires.fits in
+    fit.in_frame
 
-pub instances_truth-truth_of-answer-requires : goal.instances_truth-truth_of-answer-requires
-instances_truth-truth_of-answer-requires t c = let q = quantifier-fits c.args.task.now.problem c.args.junction c.args.vars.now c.args.bound.now (tree_at (trees c.args.nodes.now) c.args.part) c.requires.fits in (omega (arith, c.decreases), (c.requires.part, (q.part, c.requires.known)))
+pub instances_truth-truth_of-requires : goal.instances_truth-truth_of-requires
+instances_truth-truth_of-requires t c =
+    let fit = quantifier-fits c.args.task.now.problem c.args.junction c.args.vars.now c.args.bound.now (tree_at (trees c.args.nodes.now) c.args.part) c.requires.fits in
+    (omega (arith, c.decreases), (c.requires.part, (fit.part, c.requires.known)))
 
 pub instances_truth-returns-then-truth-stop-clause-truth : goal.instances_truth-returns-then-truth-stop-clause-truth
 instances_truth-returns-then-truth-stop-clause-truth t c =
-    let q = quantifier-fits c.args.task.now.problem c.args.junction c.args.vars.now c.args.bound.now (tree_at (trees c.args.nodes.now) c.args.part) c.requires.fits in
-    let next = subst (λ (v : List (Option Value)). IsNext (length c.args.vars.now) (λ t. bound_true (situation_of (plain_problem c.args.task.now.problem) c.args.w.now) (bind c.args.vars.now t (assignment_in v)) c.args.bound.now) (option_map tuple_of c.loop-tuple.after) (option_map tuple_of c.next_tuple.result)) c.loop-tuple.invariant.frame c.next_tuple.ensures.next in
-    let bound = c.put_values.ensures.values ∙ (ap (λ (ss : List Var). bind ss c.counted_values.result.now (assignment_in c.loop-tuple.env)) c.as_slice.ensures ∙ (ap (λ (u : List Value). bind c.args.vars.now u (assignment_in c.loop-tuple.env)) c.counted_values.ensures.values ∙ ap (λ (v : List (Option Value)). bind c.args.vars.now (tuple_of c.in-Some.tuple) (assignment_in v)) c.loop-tuple.invariant.frame)) in
-    open-here (plain_problem c.args.task.now.problem) c.args.w.now (assignment_in c.args.env.now) c.args.vars.now c.args.bound.now (tree_at (trees c.args.nodes.now) c.args.part) q.differ q.occur (option_map tuple_of c.loop-tuple.after) (option_map tuple_of c.next_tuple.result) (tuple_of c.in-Some.tuple) next (ap (option_map tuple_of) c.in-Some.is) c.args.junction c.deciding_truth-stop.result c.in-Ok.truth c.deciding_truth-stop.ensures c.loop-tuple.invariant.passed (subst (λ (d : Assignment). c.in-Ok.truth ≡ idly_true (plain_problem c.args.task.now.problem) c.args.w.now d (tree_at (trees c.args.nodes.now) c.args.part)) bound c.in-Ok.ensures.truth) c.if-truth-stop.true
+    let fit = quantifier-fits c.args.task.now.problem c.args.junction c.args.vars.now c.args.bound.now (tree_at (trees c.args.nodes.now) c.args.part) c.requires.fits in
+    let come = has-come (plain_problem c.args.task.now.problem) c.args.w.now (assignment_in c.args.env.now) c.args.vars.now c.args.bound.now (tree_at (trees c.args.nodes.now) c.args.part) c.loop-tuples.tuples c.put_instance.new.tuples c.loop-tuples.env c.put_instance.new.env c.put_instance.result c.put_instance.ensures c.loop-tuples.invariant.reads fit.differ fit.occur c.loop-tuples.invariant.others c.loop-tuples-test.true in
+    open-here (plain_problem c.args.task.now.problem) c.args.w.now (assignment_in c.args.env.now) c.args.vars.now c.args.bound.now (tree_at (trees c.args.nodes.now) c.args.part) fit.differ fit.occur c.loop-tuples.tuples.tuple c.put_instance.new.tuples.tuple come.tuple come.next come.is c.args.junction c.deciding_truth-stop.result c.in-Ok.truth c.deciding_truth-stop.ensures c.loop-tuples.invariant.passed (subst (λ (d : Assignment). c.in-Ok.truth ≡ idly_true (plain_problem c.args.task.now.problem) c.args.w.now d (tree_at (trees c.args.nodes.now) c.args.part)) come.here c.in-Ok.ensures.truth) c.if-truth-stop.true
 
 pub instances_truth-returns-in-Err-clause-cause : goal.instances_truth-returns-in-Err-clause-cause
 instances_truth-returns-in-Err-clause-cause t c =
-    let q = quantifier-fits c.args.task.now.problem c.args.junction c.args.vars.now c.args.bound.now (tree_at (trees c.args.nodes.now) c.args.part) c.requires.fits in
-    let next = subst (λ (v : List (Option Value)). IsNext (length c.args.vars.now) (λ t. bound_true (situation_of (plain_problem c.args.task.now.problem) c.args.w.now) (bind c.args.vars.now t (assignment_in v)) c.args.bound.now) (option_map tuple_of c.loop-tuple.after) (option_map tuple_of c.next_tuple.result)) c.loop-tuple.invariant.frame c.next_tuple.ensures.next in
-    let bound = c.put_values.ensures.values ∙ (ap (λ (ss : List Var). bind ss c.counted_values.result.now (assignment_in c.loop-tuple.env)) c.as_slice.ensures ∙ (ap (λ (u : List Value). bind c.args.vars.now u (assignment_in c.loop-tuple.env)) c.counted_values.ensures.values ∙ ap (λ (v : List (Option Value)). bind c.args.vars.now (tuple_of c.in-Some.tuple) (assignment_in v)) c.loop-tuple.invariant.frame)) in
-    caused (plain_problem c.args.task.now.problem) c.args.w.now (assignment_in c.args.env.now) c.args.vars.now c.args.bound.now (tree_at (trees c.args.nodes.now) c.args.part) q.differ q.occur (option_map tuple_of c.loop-tuple.after) (option_map tuple_of c.next_tuple.result) (tuple_of c.in-Some.tuple) next (ap (option_map tuple_of) c.in-Some.is) c.args.junction c.in-Err.fault
-    (subst (λ (d : Assignment). IsCausedBy (looked_idly (plain_problem c.args.task.now.problem) c.args.w.now d (tree_at (trees c.args.nodes.now) c.args.part)) c.in-Err.fault) bound c.in-Err.ensures.cause)
+    let fit = quantifier-fits c.args.task.now.problem c.args.junction c.args.vars.now c.args.bound.now (tree_at (trees c.args.nodes.now) c.args.part) c.requires.fits in
+    let come = has-come (plain_problem c.args.task.now.problem) c.args.w.now (assignment_in c.args.env.now) c.args.vars.now c.args.bound.now (tree_at (trees c.args.nodes.now) c.args.part) c.loop-tuples.tuples c.put_instance.new.tuples c.loop-tuples.env c.put_instance.new.env c.put_instance.result c.put_instance.ensures c.loop-tuples.invariant.reads fit.differ fit.occur c.loop-tuples.invariant.others c.loop-tuples-test.true in
+    caused (plain_problem c.args.task.now.problem) c.args.w.now (assignment_in c.args.env.now) c.args.vars.now c.args.bound.now (tree_at (trees c.args.nodes.now) c.args.part) fit.differ fit.occur c.loop-tuples.tuples.tuple c.put_instance.new.tuples.tuple come.tuple come.next come.is c.args.junction c.in-Err.fault (subst (λ (d : Assignment). IsCausedBy (looked_idly (plain_problem c.args.task.now.problem) c.args.w.now d (tree_at (trees c.args.nodes.now) c.args.part)) c.in-Err.fault) come.here c.in-Err.ensures.cause)
 
-pub instances_truth-loop-tuple-smaller : goal.instances_truth-loop-tuple-smaller
-instances_truth-loop-tuple-smaller t c =
-    let q = quantifier-fits c.args.task.now.problem c.args.junction c.args.vars.now c.args.bound.now (tree_at (trees c.args.nodes.now) c.args.part) c.requires.fits in
-    let next = subst (λ (v : List (Option Value)). IsNext (length c.args.vars.now) (λ t. bound_true (situation_of (plain_problem c.args.task.now.problem) c.args.w.now) (bind c.args.vars.now t (assignment_in v)) c.args.bound.now) (option_map tuple_of c.loop-tuple.after) (option_map tuple_of c.next_tuple.result)) c.loop-tuple.invariant.frame c.next_tuple.ensures.next in
-    fewer-left (plain_problem c.args.task.now.problem) c.args.w.now (assignment_in c.args.env.now) c.args.vars.now c.args.bound.now (tree_at (trees c.args.nodes.now) c.args.part) q.differ q.occur (option_map tuple_of c.loop-tuple.after) (option_map tuple_of c.next_tuple.result) (tuple_of c.in-Some.tuple) next (ap (option_map tuple_of) c.in-Some.is)
+pub instances_truth-loop-tuples-smaller : goal.instances_truth-loop-tuples-smaller
+instances_truth-loop-tuples-smaller t c =
+    let fit = quantifier-fits c.args.task.now.problem c.args.junction c.args.vars.now c.args.bound.now (tree_at (trees c.args.nodes.now) c.args.part) c.requires.fits in
+    let come = has-come (plain_problem c.args.task.now.problem) c.args.w.now (assignment_in c.args.env.now) c.args.vars.now c.args.bound.now (tree_at (trees c.args.nodes.now) c.args.part) c.loop-tuples.tuples c.put_instance.new.tuples c.loop-tuples.env c.put_instance.new.env c.put_instance.result c.put_instance.ensures c.loop-tuples.invariant.reads fit.differ fit.occur c.loop-tuples.invariant.others c.loop-tuples-test.true in
+    come.fewer
 
-pub instances_truth-loop-tuple-preserved : goal.instances_truth-loop-tuple-preserved
-instances_truth-loop-tuple-preserved t c =
-    let q = quantifier-fits c.args.task.now.problem c.args.junction c.args.vars.now c.args.bound.now (tree_at (trees c.args.nodes.now) c.args.part) c.requires.fits in
-    let next = subst (λ (v : List (Option Value)). IsNext (length c.args.vars.now) (λ t. bound_true (situation_of (plain_problem c.args.task.now.problem) c.args.w.now) (bind c.args.vars.now t (assignment_in v)) c.args.bound.now) (option_map tuple_of c.loop-tuple.after) (option_map tuple_of c.next_tuple.result)) c.loop-tuple.invariant.frame c.next_tuple.ensures.next in
-    let bound = c.put_values.ensures.values ∙ (ap (λ (ss : List Var). bind ss c.counted_values.result.now (assignment_in c.loop-tuple.env)) c.as_slice.ensures ∙ (ap (λ (u : List Value). bind c.args.vars.now u (assignment_in c.loop-tuple.env)) c.counted_values.ensures.values ∙ ap (λ (v : List (Option Value)). bind c.args.vars.now (tuple_of c.in-Some.tuple) (assignment_in v)) c.loop-tuple.invariant.frame)) in
+pub instances_truth-loop-tuples-preserved : goal.instances_truth-loop-tuples-preserved
+instances_truth-loop-tuples-preserved t c =
+    let fit = quantifier-fits c.args.task.now.problem c.args.junction c.args.vars.now c.args.bound.now (tree_at (trees c.args.nodes.now) c.args.part) c.requires.fits in
+    let come = has-come (plain_problem c.args.task.now.problem) c.args.w.now (assignment_in c.args.env.now) c.args.vars.now c.args.bound.now (tree_at (trees c.args.nodes.now) c.args.part) c.loop-tuples.tuples c.put_instance.new.tuples c.loop-tuples.env c.put_instance.new.env c.put_instance.result c.put_instance.ensures c.loop-tuples.invariant.reads fit.differ fit.occur c.loop-tuples.invariant.others c.loop-tuples-test.true in
     record {
-      frame = c.restore.ensures ∙ c.saved-outer.ensures;
-      after = c.in-Some.ensures.len;
-      passed = open-on (plain_problem c.args.task.now.problem) c.args.w.now (assignment_in c.args.env.now) c.args.vars.now c.args.bound.now (tree_at (trees c.args.nodes.now) c.args.part) q.differ q.occur (option_map tuple_of c.loop-tuple.after) (option_map tuple_of c.next_tuple.result) (tuple_of c.in-Some.tuple) next (ap (option_map tuple_of) c.in-Some.is) c.deciding_truth-stop.result c.in-Ok.truth c.loop-tuple.invariant.passed (subst (λ (d : Assignment). c.in-Ok.truth ≡ idly_true (plain_problem c.args.task.now.problem) c.args.w.now d (tree_at (trees c.args.nodes.now) c.args.part)) bound c.in-Ok.ensures.truth) c.if-truth-stop.false;
+      reads = c.put_instance.ensures.reads (assignment_in c.args.env.now) c.loop-tuples.invariant.reads;
+      others = still-others (plain_problem c.args.task.now.problem) c.args.w.now (assignment_in c.args.env.now) c.args.vars.now c.args.bound.now (tree_at (trees c.args.nodes.now) c.args.part) c.loop-tuples.tuples c.put_instance.new.tuples c.loop-tuples.env c.put_instance.new.env c.put_instance.result c.put_instance.ensures c.loop-tuples.invariant.reads c.loop-tuples.invariant.others c.truth_of.new.env c.truth_of.ensures.frame;
+      passed = subst (Open (plain_problem c.args.task.now.problem) c.args.w.now (assignment_in c.args.env.now) c.args.vars.now c.args.bound.now (tree_at (trees c.args.nodes.now) c.args.part) c.deciding_truth-stop.result) (sym come.is) (open-on (plain_problem c.args.task.now.problem) c.args.w.now (assignment_in c.args.env.now) c.args.vars.now c.args.bound.now (tree_at (trees c.args.nodes.now) c.args.part) fit.differ fit.occur c.loop-tuples.tuples.tuple c.put_instance.new.tuples.tuple come.tuple come.next come.is c.deciding_truth-stop.result c.in-Ok.truth c.loop-tuples.invariant.passed (subst (λ (d : Assignment). c.in-Ok.truth ≡ idly_true (plain_problem c.args.task.now.problem) c.args.w.now d (tree_at (trees c.args.nodes.now) c.args.part)) come.here c.in-Ok.ensures.truth) c.if-truth-stop.false);
     }
 
 pub instances_truth-returns-clause-truth : goal.instances_truth-returns-clause-truth
 instances_truth-returns-clause-truth t c =
-    let q = quantifier-fits c.args.task.now.problem c.args.junction c.args.vars.now c.args.bound.now (tree_at (trees c.args.nodes.now) c.args.part) c.requires.fits in
-    let next = subst (λ (v : List (Option Value)). IsNext (length c.args.vars.now) (λ t. bound_true (situation_of (plain_problem c.args.task.now.problem) c.args.w.now) (bind c.args.vars.now t (assignment_in v)) c.args.bound.now) (option_map tuple_of c.loop-tuple.after) (option_map tuple_of c.next_tuple.result)) c.loop-tuple.invariant.frame c.next_tuple.ensures.next in
-    open-end (plain_problem c.args.task.now.problem) c.args.w.now (assignment_in c.args.env.now) c.args.vars.now c.args.bound.now (tree_at (trees c.args.nodes.now) c.args.part) q.differ q.occur (option_map tuple_of c.loop-tuple.after) c.args.junction c.deciding_truth-stop.result c.deciding_truth-stop.ensures c.loop-tuple.invariant.passed
-    (no-more (plain_problem c.args.task.now.problem) c.args.w.now (assignment_in c.args.env.now) c.args.vars.now c.args.bound.now (tree_at (trees c.args.nodes.now) c.args.part) q.differ q.occur (option_map tuple_of c.loop-tuple.after) (option_map tuple_of c.next_tuple.result) next (ap (option_map tuple_of) (none-found c.next_tuple.result c.in_default.not-Some)))
+    let fit = quantifier-fits c.args.task.now.problem c.args.junction c.args.vars.now c.args.bound.now (tree_at (trees c.args.nodes.now) c.args.part) c.requires.fits in
+    open-end (plain_problem c.args.task.now.problem) c.args.w.now (assignment_in c.args.env.now) c.args.vars.now c.args.bound.now (tree_at (trees c.args.nodes.now) c.args.part) fit.differ fit.occur c.loop-tuples.tuples.tuple c.args.junction c.deciding_truth-stop.result c.deciding_truth-stop.ensures c.loop-tuples.invariant.passed
+    (none-left (plain_problem c.args.task.now.problem) c.args.w.now (assignment_in c.args.env.now) c.args.vars.now c.args.bound.now (tree_at (trees c.args.nodes.now) c.args.part) c.loop-tuples.tuples c.put_instance.new.tuples c.loop-tuples.env c.put_instance.new.env c.put_instance.result c.put_instance.ensures c.loop-tuples.invariant.reads fit.differ fit.occur c.loop-tuples-test.false)

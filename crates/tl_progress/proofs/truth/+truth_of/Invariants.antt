@@ -1,25 +1,27 @@
-use Rattle.std.proofs.Common.{◌≡◌, ◌+◌, ◌*◌, ℕ, drop, length, IfSome}
-use Rattle.std.specs.Option.{option_map}
-use Rattle.tl_eval.specs.Frames.{assignment_in}
+use Rattle.std.proofs.Common.{◌≡◌, ◌+◌, ◌*◌, ℕ, drop, length}
+use Rattle.tl_eval.specs.Frames.{assignment_in, AgreeElsewhere}
+use Rattle.tl_eval.specs.Reader.{Reads}
 use Rattle.tl_nodes.specs.NodeTrees.{tree_at}
 use Rattle.tl_nodes.specs.Numbers.{trees}
 use Rattle.tl_terms.specs.ProblemMeaning.{plain_problem}
-use Rattle.tl_world.specs.Patterns.{tuple_of}
 use Rattle.tl_progress.specs.Answers.{decided, idly_true}
 use Rattle.tl_progress.proofs.Instances.{Open, left_after}
 use Rattle.tl_progress.proofs.truth.+truth_of.Given as goal
 
 abbrev pub decreases-truth_of : goal.decreases-truth_of
-decreases-truth_of l = 3 * l.at + 2
+decreases-truth_of l = 4 * l.at + 2
 
 abbrev pub decreases-layer_truth : goal.decreases-layer_truth
-decreases-layer_truth l = 3 * l.at + 1
+decreases-layer_truth l = 4 * l.at + 1
 
 abbrev pub decreases-join_truth : goal.decreases-join_truth
-decreases-join_truth l = 3 * l.at
+decreases-join_truth l = 4 * l.at
+
+abbrev pub decreases-quantifier_truth : goal.decreases-quantifier_truth
+decreases-quantifier_truth l = 4 * l.part + 4
 
 abbrev pub decreases-instances_truth : goal.decreases-instances_truth
-decreases-instances_truth l = 3 * l.part + 3
+decreases-instances_truth l = 4 * l.part + 3
 
 abbrev pub invariant-join_truth-loop-part : goal.invariant-join_truth-loop-part
 invariant-join_truth-loop-part l = record {
@@ -28,12 +30,12 @@ invariant-join_truth-loop-part l = record {
       ≡ decided l.stop (λ (k : ℕ). idly_true (plain_problem l.task.problem) l.w (assignment_in l.fn.env) (tree_at (trees l.nodes) k)) (drop l.part-index l.part-items);
 }
 
-abbrev pub decreases-instances_truth-loop-tuple : goal.decreases-instances_truth-loop-tuple
-decreases-instances_truth-loop-tuple l = length (left_after (plain_problem l.task.problem) l.w (assignment_in l.fn.env) l.vars l.bound (tree_at (trees l.nodes) l.part) (option_map tuple_of l.after))
+abbrev pub decreases-instances_truth-loop-tuples : goal.decreases-instances_truth-loop-tuples
+decreases-instances_truth-loop-tuples l = length (left_after (plain_problem l.task.problem) l.w (assignment_in l.fn.env) l.vars l.bound (tree_at (trees l.nodes) l.part) l.tuples.tuple)
 
-abbrev pub invariant-instances_truth-loop-tuple : goal.invariant-instances_truth-loop-tuple
-invariant-instances_truth-loop-tuple l = record {
-  frame : l.env ≡ l.fn.env;
-  after : IfSome l.after (λ m. m.len ≡ length l.vars);
-  passed : Open (plain_problem l.task.problem) l.w (assignment_in l.fn.env) l.vars l.bound (tree_at (trees l.nodes) l.part) l.stop (option_map tuple_of l.after);
+abbrev pub invariant-instances_truth-loop-tuples : goal.invariant-instances_truth-loop-tuples
+invariant-instances_truth-loop-tuples l = record {
+  reads : Reads l.vars (assignment_in l.fn.env) l.bound l.tuples;
+  others : AgreeElsewhere l.vars (assignment_in l.env) (assignment_in l.fn.env);
+  passed : Open (plain_problem l.task.problem) l.w (assignment_in l.fn.env) l.vars l.bound (tree_at (trees l.nodes) l.part) l.stop l.tuples.tuple;
 }

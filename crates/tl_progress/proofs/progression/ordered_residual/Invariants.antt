@@ -5,7 +5,7 @@ use Rattle.tl_syntax.specs.Lists.{Each}
 use Rattle.tl_terms.specs.ProblemMeaning.{plain_problem}
 use Rattle.tl_progress.specs.Known.{IsRight}
 use Rattle.tl_progress.specs.Parts.{IsBelow}
-use Rattle.tl_progress.proofs.progression.temporal_residual.Given as goal
+use Rattle.tl_progress.proofs.progression.ordered_residual.Given as goal
 
 abbrev pub invariant-loop-at : goal.invariant-loop-at
 invariant-loop-at l = record {
