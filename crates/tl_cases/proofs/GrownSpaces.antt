@@ -11,7 +11,7 @@ use Rattle.tl_search.specs.KeptPairs.{KeptPair}
 use Rattle.tl_search.specs.ListedActions.{ListsActions}
 use Rattle.tl_search.proofs.ListLaws.{get-inside, get-one}
 use Rattle.tl_space.specs.declared.space.Space.{Space}
-use Rattle.tl_space.specs.Lists.{Stay}
+use Rattle.tl_world.specs.NumberedLists.{Stay}
 use Rattle.tl_space.specs.Spaces.{problem_of, kept_of, Grows}
 
 pub still-inside : (old new : List KeptPair) (at : ℕ) → Stay old new → at < length old → at < length new

@@ -2,7 +2,6 @@
 //!
 //! - `space`: the space and its calls, a module each: `root`, `child`, `actions`, `accepted`, `path`, `view` (what is kept); below them `numbering` (worlds and formulas get their numbers), `arriving` (what is known of an arrival) and `keeping` (one pair more).
 //! - `numbers`: a pair by the numbers of its world and of its residual, and how it was met first.
-//! - `worlds`: worlds by numbers.
 //! - `pairs`: the space as what a search sees.
 //!
 //! What the searches share stands in `tl_search` and is given again here, with the types of a space that the crates above name.
@@ -11,7 +10,6 @@
 mod numbers;
 mod pairs;
 mod space;
-mod worlds;
 
 pub use space::Space;
 pub use tl_eval::RangeNote;

@@ -4,7 +4,7 @@ ghost use Rattle.tl_nodes.specs.Numbers.{trees};
 ghost use Rattle.tl_space.specs.Kept.{AreKeptBy};
 ghost use Rattle.tl_space.specs.KeptOnce.{kept-prop, all-remembered-prop, worlds-prop};
 ghost use Rattle.tl_space.specs.Remembered.{AreRemembered};
-ghost use Rattle.tl_space.specs.WorldNumbers.{worlds_in};
+ghost use Rattle.tl_world.specs.WorldNumbers.{worlds_in};
 ghost use Rattle.tl_syntax.specs.Lists.{Each};
 ghost use Rattle.tl_syntax.specs.Signature.{signature_of};
 ghost use Rattle.tl_terms.specs.NamedWorlds.{WorldIsNamed};
@@ -21,14 +21,13 @@ mod root;
 mod view;
 
 use crate::numbers::{Met, Numbers};
-use crate::worlds::Worlds;
 use indexmap::{IndexMap, IndexSet};
 use std::alloc::Global;
 use tl_eval::Env;
 use tl_nodes::Nodes;
 use tl_search::Arrival;
 use tl_terms::NoMemory;
-use tl_world::Task;
+use tl_world::{Task, Worlds};
 
 /// Pairs of a world and a residual, each kept once under a number, with the path by which it was met first.
 ///

@@ -10,7 +10,7 @@ ghost use Rattle.tl_space.specs.Spaces.{problem_of, name_count, kept_of, Grows};
 use super::Space;
 use crate::numbers::{Found, Met, Numbers};
 use std::sync::ledger::Ledger;
-use tl_action::{ActFault, apply};
+use tl_action::{ActFault, next_world};
 use tl_progress::ProgressFault;
 use tl_search::{Arrival, SpaceFault};
 use tl_terms::{Action, NoMemory, Steps};
@@ -108,7 +108,7 @@ impl Space {
         ensures ticks { steps.new ≡ steps.old + 1 }
     {
         let from = self.numbers(at);
-        let next = match apply(
+        let next = match next_world(
             self.alloc,
             &self.task,
             self.worlds.get(from.world),
@@ -116,8 +116,7 @@ impl Space {
             a,
             steps,
         ) {
-            Ok(Some(next)) => next,
-            Ok(None) => unreachable!(),
+            Ok(next) => next,
             Err(ActFault::Range(note)) => return Err(SpaceFault::RangeHere(note)),
             Err(ActFault::NoMemory) => return Err(SpaceFault::NoMemory),
         };

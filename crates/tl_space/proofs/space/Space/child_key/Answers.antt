@@ -1,20 +1,17 @@
-use Rattle.std.proofs.Common.{refl, sym, ap, subst, ◌∙◌, true≢false, is_some}
+use Rattle.std.proofs.Common.{refl, sym, ap, subst, ◌∙◌}
 use Rattle.std.proofs.lemmas.Option.{slice_get_within}
 use Rattle.tl_eval.specs.Notes.{Tells}
 use Rattle.tl_terms.specs.Looked.{looked_by_action}
 use Rattle.tl_terms.specs.Step.{step}
 use Rattle.tl_terms.specs.World.{World}
 use Rattle.tl_space.specs.Spaces.{problem_of}
-use Rattle.tl_space.specs.WorldNumbers.{worlds_in}
-use Rattle.tl_space.proofs.Judging.{has-operator, executable-here, executable-named, world-named}
+use Rattle.tl_world.specs.WorldNumbers.{worlds_in}
+use Rattle.tl_space.proofs.Judging.{executable-here, executable-named, world-named}
 use Rattle.tl_space.proofs.SpaceLaws.{label-later, tree-of, world-of}
 use Rattle.tl_space.proofs.space.Space.child_key.Goals as goal
 
-pub apply-requires : goal.apply-requires
-apply-requires g c = record { operator = has-operator (problem_of c.args.self.now) c.get.result.now c.args.a.now (executable-here c.args.self.now c.args.at c.numbers-from.result c.get.result.now c.args.a.now c.requires.at c.numbers-from.ensures.node c.get.ensures c.requires.executable) }
-
-pub unreachable-requires : goal.unreachable-requires
-unreachable-requires g c = true≢false (sym (ap is_some (sym c.in-Ok-None.field-0-is ∙ c.in-Ok-None.ensures.world) ∙ executable-here c.args.self.now c.args.at c.numbers-from.result c.get.result.now c.args.a.now c.requires.at c.numbers-from.ensures.node c.get.ensures c.requires.executable))
+pub next_world-requires : goal.next_world-requires
+next_world-requires g c = record { executable = executable-here c.args.self.now c.args.at c.numbers-from.result c.get.result.now c.args.a.now c.requires.at c.numbers-from.ensures.node c.get.ensures c.requires.executable }
 
 pub returns-in-Err-Range-clause-keeps : goal.returns-in-Err-Range-clause-keeps
 returns-in-Err-Range-clause-keeps g c = record { task = refl; worlds = λ i x e. e; trees = λ i x e. e; pairs = refl; from = refl }
@@ -32,28 +29,28 @@ number_of_world-requires g c =
     let s = c.args.self.now in
     let w = c.get.result.now in
     let named = world-named s c.numbers-from.result.world w c.get.ensures in
-    record { named = (rw c.in-Ok-Some.field-0-is at c.in-Ok-Some.ensures.named) named (executable-named s w c.args.a.now named (executable-here s c.args.at c.numbers-from.result w c.args.a.now c.requires.at c.numbers-from.ensures.node c.get.ensures c.requires.executable)) }
+    record { named = c.in-Ok.ensures.named named (executable-named s w c.args.a.now named (executable-here s c.args.at c.numbers-from.result w c.args.a.now c.requires.at c.numbers-from.ensures.node c.get.ensures c.requires.executable)) }
 
-pub returns-in-Ok-clause-keeps : goal.returns-in-Ok-clause-keeps
-returns-in-Ok-clause-keeps g c = let k = c.number_of_world.ensures.keeps in record { task = k.task; worlds = k.worlds; trees = k.trees; pairs = k.pairs; from = k.from }
+pub returns-in-Ok-number_of_world-clause-keeps : goal.returns-in-Ok-number_of_world-clause-keeps
+returns-in-Ok-number_of_world-clause-keeps g c = let k = c.number_of_world.ensures.keeps in record { task = k.task; worlds = k.worlds; trees = k.trees; pairs = k.pairs; from = k.from }
 
-pub returns-in-Ok-clause-numbers : goal.returns-in-Ok-clause-numbers
-returns-in-Ok-clause-numbers g c =
+pub returns-in-Ok-number_of_world-clause-numbers : goal.returns-in-Ok-number_of_world-clause-numbers
+returns-in-Ok-number_of_world-clause-numbers g c =
     let k = c.number_of_world.ensures.keeps in
     record {
-      world = slice_get_within (worlds_in c.number_of_world.new.self.worlds) c.in-Ok.world _ c.in-Ok.ensures.number;
+      world = slice_get_within (worlds_in c.number_of_world.new.self.worlds) c.in-Ok-number_of_world.world _ c.in-Ok-number_of_world.ensures.number;
       label = label-later c.args.self.now c.number_of_world.new.self c.numbers-from.result.label (record { task = k.task; worlds = k.worlds; trees = k.trees; pairs = k.pairs; from = k.from }) c.numbers-from.ensures.numbers.label;
     }
 
-pub returns-in-Ok-clause-key : goal.returns-in-Ok-clause-key
-returns-in-Ok-clause-key g c = λ x e.
+pub returns-in-Ok-number_of_world-clause-key : goal.returns-in-Ok-number_of_world-clause-key
+returns-in-Ok-number_of_world-clause-key g c = λ x e.
     let s = c.args.self.now in
     let n = c.numbers-from.result in
     let is = c.numbers-from.ensures.node x e in
     record {
-      world = c.in-Ok-Some.next;
-      steps = ap (λ (v : World). step (problem_of s) v c.args.a.now) (world-of s n c.get.result.now c.get.ensures x.node is) ∙ sym (sym c.in-Ok-Some.field-0-is ∙ c.in-Ok-Some.ensures.world);
-      number = c.in-Ok.ensures.number;
+      world = c.in-Ok.next;
+      steps = ap (λ (v : World). step (problem_of s) v c.args.a.now) (world-of s n c.get.result.now c.get.ensures x.node is) ∙ sym c.in-Ok.ensures.world;
+      number = c.in-Ok-number_of_world.ensures.number;
       label = c.number_of_world.ensures.keeps.trees n.label x.node.formula (tree-of s n c.numbers-from.ensures.numbers.label.inside x.node is);
     }
 

@@ -1,5 +1,6 @@
 use Rattle.std.proofs.Common.{refl, sym, ◌∙◌}
-use Rattle.tl_space.proofs.Inserting.{pushed, not-found, new-place, stored}
+use Rattle.tl_world.proofs.Numbering.{stored}
+use Rattle.tl_space.proofs.Inserting.{pushed, not-found, new-place}
 use Rattle.tl_space.proofs.SpaceLaws.{count, when-ok}
 use Rattle.tl_space.proofs.Keeping.{numbers_eq, numbers-tells, pushed-behind, kept-after, still-kept, labels-still, kept-by-with, remembered-after}
 use Rattle.tl_space.proofs.space.Space.keep.Goals as goal

@@ -2,7 +2,7 @@ use Rattle.std.proofs.Common.{sym, subst}
 use Rattle.tl_nodes.specs.Numbers.{trees}
 use Rattle.tl_space.specs.Remembered.{AreRemembered}
 use Rattle.tl_space.specs.Spaces.{problem_of}
-use Rattle.tl_space.specs.WorldNumbers.{worlds_in}
+use Rattle.tl_world.specs.WorldNumbers.{worlds_in}
 use Rattle.tl_space.proofs.Keeping.{remembered-known}
 use Rattle.tl_space.proofs.SpaceLaws.{ok-or-err}
 use Rattle.tl_space.proofs.space.Space.remember.Goals as goal

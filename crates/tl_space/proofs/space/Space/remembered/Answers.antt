@@ -3,7 +3,7 @@ use Rattle.std.specs.Prelude.{option_copied}
 use Rattle.tl_nodes.specs.Numbers.{trees}
 use Rattle.tl_space.specs.Remembered.{IsRemembered}
 use Rattle.tl_space.specs.Spaces.{problem_of}
-use Rattle.tl_space.specs.WorldNumbers.{worlds_in}
+use Rattle.tl_world.specs.WorldNumbers.{worlds_in}
 use Rattle.tl_space.proofs.Keeping.{numbers_eq, numbers-tells}
 use Rattle.tl_space.proofs.Remembering.{picked}
 use Rattle.tl_space.proofs.space.Space.remembered.Goals as goal
