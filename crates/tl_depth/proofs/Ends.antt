@@ -97,6 +97,10 @@ pub on-ok : {A E : Type 0} (r : Result A E) (P Q : Type 0) → OnOk r P → (P �
 on-ok (Ok x) P Q h f = f h
 on-ok (Err e) P Q h f = tt
 
+pub on-ok-any : {A E : Type 0} (r : Result A E) (Q : Type 0) → Q → OnOk r Q
+on-ok-any (Ok x) Q q = q
+on-ok-any (Err e) Q q = tt
+
 pub if-err : {A E : Type 0} (r : Result A E) (P Q : E → Type 0) → IfErr r P → ((e : E) → P e → Q e) → IfErr r Q
 if-err (Ok x) P Q h f = tt
 if-err (Err e) P Q h f = f e h

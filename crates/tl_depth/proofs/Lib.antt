@@ -24,3 +24,5 @@ mod Beginning
 mod Counting
 mod Reading
 mod NamedStacks
+mod Remembering
+mod Replaying

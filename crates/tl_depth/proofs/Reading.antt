@@ -6,6 +6,7 @@ use Rattle.tl_terms.specs.Problem.{PlainProblem}
 use Rattle.tl_search.specs.Calls.{ChildArrives}
 use Rattle.tl_search.specs.KeptPairs.{KeptPair, pairs_of}
 use Rattle.tl_search.specs.declared.arrival.Arrival.{Arrival}
+use Rattle.tl_search.proofs.ListLaws.{get-inside}
 use Rattle.tl_search.specs.declared.fault.SpaceFault.{SpaceFault}
 use Rattle.tl_depth.specs.declared.level.Level.{Level}
 use Rattle.tl_depth.specs.declared.stack.DepthFirst.{DepthFirst}
@@ -48,6 +49,26 @@ reads-top levels counted read left now us a t e f n m k = record {
   remaining = subst (λ (d : Level). suc left ≡ d.left) (sym same) t.4;
 }
   where
+    level : ReadsLast levels (length counted - 1) now
+    level = read-end levels counted read t.0 now t.1 t.2 e f n
+
+    same : now ≡ t.1
+    same = top-is levels read t.0 t.1 now (length counted - 1) t.2 f level.last n
+
+-- the top level has a next action, also where it is not read
+pub reads-some : (levels counted read : List Level) (left : ℕ) (now : Level) → IsTop levels left → counted ≡ levels → read ≡ levels → now ≡ slice_index_or read (length counted - 1) now → (a : Action) × ReadsTop levels (length counted - 1) left now a
+reads-some levels counted read left now t e f n = (
+  next.0,
+  record {
+    level = level;
+    at_action = subst (λ (d : Level). slice_get d.actions d.tried ≡ Some next.0) (sym same) next.1;
+    remaining = subst (λ (d : Level). suc left ≡ d.left) (sym same) t.4;
+  },
+)
+  where
+    next : (a : Action) × (slice_get t.1.actions t.1.tried ≡ Some a)
+    next = get-inside t.1.actions t.1.tried t.3
+
     level : ReadsLast levels (length counted - 1) now
     level = read-end levels counted read t.0 now t.1 t.2 e f n
 

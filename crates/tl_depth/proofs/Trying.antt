@@ -122,7 +122,7 @@ module _ (p : PlainProblem) (b : ℕ) (kept : List Pair) (w : DepthFirst) (calls
 
 -- ---- the same elsewhere
 
-pub turned-to : (p q : PlainProblem) (b : ℕ) (kept more : List Pair) (old mid new : DepthFirst) (calls before after : ℕ) (o : Option Outcome) → mid ≡ record old { events = mid.events } → p ≡ q → kept ≡ more → after ≡ before + 1
+pub turned-to : (p q : PlainProblem) (b : ℕ) (kept more : List Pair) (old mid new : DepthFirst) (calls before after : ℕ) (o : Option Outcome) → mid ≡ record old { events = mid.events; expansions = mid.expansions } → p ≡ q → kept ≡ more → after ≡ before + 1
     → Turned p b kept mid new (calls + 1) o → TurnedTo q b more old new calls before after o
 turned-to p q b kept more old mid new calls before after None m e f h t =
     (calls + 1, omega (arith, h), as-turned p q b kept more old new (calls + 1) None e f (subst (λ v. Turned p b kept v new (calls + 1) None) m t))
@@ -150,7 +150,7 @@ below-under p b kept w calls s front c is = both front (sized-front front c (sub
     both (h ∷ levels) z u = ((get-within h.actions h.tried u.0.action (rest-get h.actions h.tried u.0.action u.0.later u.0.is), z.0), both levels z.1 u.1)
 
 pub turned-left : (p : PlainProblem) (b : ℕ) (kept : List Pair) (w : DepthFirst) (calls : ℕ) → IsOngoing p b kept w calls → (front : List Level) (c : Level) → w.stack.items ≡ front ++ c ∷ [] → length c.actions ≤ c.tried → (after : DepthFirst)
-    → ((d : Level) → w.stack.items ≡ d ∷ [] → after.stack.items ≡ []) → ((us : List Level) (h d : Level) → w.stack.items ≡ (us ++ h ∷ []) ++ d ∷ [] → after.stack.items ≡ us ++ stepped h ∷ []) → after ≡ record w { stack = after.stack }
+    → ((d : Level) → w.stack.items ≡ d ∷ [] → after.stack.items ≡ []) → ((us : List Level) (h d : Level) → w.stack.items ≡ (us ++ h ∷ []) ++ d ∷ [] → after.stack.items ≡ us ++ stepped h ∷ []) → after ≡ record w { stack = after.stack; expansions = after.expansions }
     → Turned p b kept w after calls None
 turned-left p b kept w calls s [] c is over after root st rest = (
   ongoing p b w.within w.watch kept w.events w.most.items [] calls after s.unpruned

@@ -14,3 +14,4 @@ pub mod Turns
 pub mod Endings
 pub mod NamedStacks
 pub mod Laws
+pub mod Expansions

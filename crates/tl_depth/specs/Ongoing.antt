@@ -15,6 +15,7 @@ use Rattle.tl_terms.specs.Looked.{looked_by_action}
 use Rattle.tl_search.specs.ListedActions.{ListsActions}
 use Rattle.tl_depth.specs.declared.level.Level.{Level}
 use Rattle.tl_depth.specs.Arrivals.{ArrivesAs}
+use Rattle.tl_depth.specs.Expansions.{KnowsNothing}
 use Rattle.tl_depth.specs.Stacks.{IsToldOf}
 use Rattle.tl_search.specs.declared.arrival.Arrival.{Arrival}
 use Rattle.tl_search.specs.declared.arrival.Arrival.TheVariants as arrival
@@ -99,6 +100,7 @@ TurnedTo p b kept old new calls before after (Some o) = (made : ℕ) × (made + 
 pub record IsNew (w : DepthFirst) : Type 0 where
   pub most : w.most.items ≡ []
   pub stack : w.stack.items ≡ []
+  pub expansions : KnowsNothing w.expansions
 
 -- the search began, or ended at once, with no call
 abbrev pub Begun : PlainProblem → ℕ → List Pair → DepthFirst → DepthFirst → Option Outcome → Type 0

@@ -5,6 +5,7 @@ ghost use Rattle.tl_search.specs.Reports.{BeginsRightly, PrunesRightly, ReportIs
 ghost use Rattle.tl_depth.specs.Outcomes.{IsDepthFirstFault};
 ghost use Rattle.tl_depth.specs.Reports.{IsDepthFirstReport, AreFewSteps, ReportsHistory, TellsOutcome, EndsRightly};
 
+use crate::expansions::Expansions;
 use crate::stack::DepthFirst;
 use std::alloc::Global;
 use std::sync::ledger::Ledger;
@@ -45,6 +46,7 @@ pub fn search<S: Pairs, L: Ledger>(
         watch,
         most: Vec::new(alloc),
         stack: Vec::new(alloc),
+        expansions: Expansions::new(alloc),
         events: Events::new(alloc),
     };
     match search.run(alloc, space, nodes as usize, steps) {

@@ -3,12 +3,14 @@
 //! - `depth`: the search as its callers see it.
 //! - `stack`: the stack, and with how many remaining actions each pair was met; in `stack/`, the search from its first pair on (`whole`), its steps (`turns`), and what comes of an arrival (`arrivals`).
 //! - `level`: a pair that is being expanded.
+//! - `expansions`: what is remembered of the pairs' actions and of what came of these, so that a pair that is entered again asks the space for nothing that is known.
 //! - `laws`: what is proved of the definitions.
 //!
 //! A pair is entered again only where it is met with more remaining actions than ever before, so within its bound the search misses no plan and yet goes through each pair at most once for each number of remaining actions.
 #![tactic(auto)]
 
 mod depth;
+mod expansions;
 pub mod laws;
 mod level;
 mod stack;

@@ -3,12 +3,14 @@ ghost use Rattle.std.specs.Prelude.{◌≡◌, List, [], ◌∷◌, ◌++◌, sl
 ghost use Rattle.tl_syntax.specs.declared.action.Action.{Action};
 ghost use Rattle.tl_depth.specs.Levels.{path_of, stepped};
 ghost use Rattle.tl_depth.specs.Stacks.{IsStepped, IsLeft, IsRangeAfter};
+ghost use Rattle.tl_depth.specs.Expansions.{GainsTop, LearnsTop};
 ghost use Rattle.tl_search.specs.Events.{event_of, events_after};
 
 mod arrivals;
 mod turns;
 mod whole;
 
+use crate::expansions::Expansions;
 use crate::level::Level;
 use std::alloc::Global;
 use tl_eval::RangeNote;
@@ -26,6 +28,8 @@ pub struct DepthFirst {
     pub most: Vec<u32>,
     /// The levels of the stack, the root's first.
     pub stack: Vec<Level>,
+    /// What is remembered of the pairs' actions.
+    pub expansions: Expansions,
     /// The events so far.
     pub events: Events,
 }
@@ -65,18 +69,41 @@ impl DepthFirst {
         self.stack[len - 1].tried += 1;
     }
 
-    /// The top level is done with.
+    /// The top level is done with. Its actions are remembered.
     pub fn leave(&mut self)
         requires { IsLeft self.old.stack.items }
         ensures root { (c : Level) → self.old.stack.items ≡ c ∷ [] → self.new.stack.items ≡ [] }
         ensures stack { (front : List Level) (h c : Level) → self.old.stack.items ≡ (front ++ h ∷ []) ++ c ∷ [] → self.new.stack.items ≡ front ++ stepped h ∷ [] }
-        ensures rest { self.new ≡ record self.old { stack = self.new.stack } }
+        ensures remembered { GainsTop self.old.stack.items self.old.expansions self.new.expansions }
+        ensures rest { self.new ≡ record self.old { stack = self.new.stack; expansions = self.new.expansions } }
     {
         let len = self.stack.as_slice().len();
-        self.stack.truncate(len - 1);
+        self.remember_top();
         if len > 1 {
             self.stack[len - 2].tried += 1;
         }
+    }
+
+    /// The top level is taken off the stack, and its actions are remembered.
+    fn remember_top(&mut self)
+        ensures stack { (front : List Level) (c : Level) → self.old.stack.items ≡ front ++ c ∷ [] → self.new.stack.items ≡ front }
+        ensures remembered { GainsTop self.old.stack.items self.old.expansions self.new.expansions }
+        ensures rest { self.new ≡ record self.old { stack = self.new.stack; expansions = self.new.expansions } }
+    {
+        if let Some(level) = self.stack.pop() {
+            self.expansions.give_back(level.at, level.actions);
+        }
+    }
+
+    /// What came of the top level's next action is remembered.
+    pub fn learn(&mut self, arrival: Arrival) -> Result<(), NoMemory>
+        requires { IsStepped self.old.stack.items }
+        ensures remembered { OnOk result (LearnsTop self.old.stack.items self.old.expansions self.new.expansions arrival) }
+        ensures rest { self.new ≡ record self.old { expansions = self.new.expansions } }
+    {
+        let top = self.stack.as_slice().len() - 1;
+        let level = &self.stack[top];
+        self.expansions.learn(level.at, level.tried, arrival)
     }
 
     /// Reports what came of the top level's next action.

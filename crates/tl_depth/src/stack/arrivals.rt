@@ -3,6 +3,7 @@ ghost use Rattle.std.specs.Prelude.{◌≡◌, ◌<◌, length, None, IfOk, IfEr
 ghost use Rattle.tl_depth.specs.Levels.{path_of};
 ghost use Rattle.tl_search.specs.KeptPairs.{pairs_of};
 ghost use Rattle.tl_search.specs.NamedAnswers.{EndIsNamed, FaultIsNamed};
+ghost use Rattle.tl_depth.specs.Expansions.{Remembers, IsListed};
 ghost use Rattle.tl_depth.specs.NamedStacks.{SearchIsNamed};
 ghost use Rattle.tl_depth.specs.Endings.{EndsBy};
 ghost use Rattle.tl_depth.specs.Outcomes.{IsDepthFirstFault};
@@ -14,6 +15,7 @@ use crate::level::Level;
 use crate::stack::{DepthFirst, past_range, path};
 use std::alloc::Global;
 use tl_search::{Arrival, Outcome, Pairs, SearchFault, SpaceFault};
+use tl_terms::Actions;
 
 impl DepthFirst {
     /// What comes of an arrival.
@@ -27,6 +29,7 @@ impl DepthFirst {
     ) -> Result<Option<Outcome>, SearchFault>
         requires arrived { HasArrived (S.problem space.old) nodes (S.kept space.old) self.old arrival left }
         requires named { SearchIsNamed (S.task space.old) self.old }
+        requires remembered { Remembers (S.problem space.old) (S.task space.old) (S.kept space.old) self.old.expansions }
         ensures task { S.task space.new ≡ S.task space.old }
         ensures problem { S.problem space.new ≡ S.problem space.old }
         ensures kept { S.kept space.new ≡ S.kept space.old }
@@ -35,6 +38,7 @@ impl DepthFirst {
         ensures turned { IfOk result (TurnsBy (S.problem space.old) nodes (S.kept space.old) self.old self.new arrival left) }
         ensures fault { IfErr result (IsDepthFirstFault (S.problem space.old) self.old.within) }
         ensures named { OnOk result (SearchIsNamed (S.task space.old) self.new) }
+        ensures remembered { OnOk result (Remembers (S.problem space.old) (S.task space.old) (S.kept space.old) self.new.expansions) }
         ensures plan_named { IfOk result (EndIsNamed (S.task space.old)) }
         ensures path_named { IfErr result (FaultIsNamed (S.task space.old)) }
     {
@@ -65,6 +69,7 @@ impl DepthFirst {
         ensures turned { TurnsBy (S.problem space.now) nodes (S.kept space.now) self.old self.new arrival.Pruned left None }
         ensures events { self.new.events ≡ self.old.events }
         ensures named { SearchIsNamed (S.task space.now) self.new }
+        ensures expansions { self.new.expansions ≡ self.old.expansions }
     {
         self.pass();
     }
@@ -80,6 +85,7 @@ impl DepthFirst {
     ) -> Result<(), SearchFault>
         requires arrived { HasArrived (S.problem space.old) nodes (S.kept space.old) self.old (arrival.Seen k) left }
         requires named { SearchIsNamed (S.task space.old) self.old }
+        requires remembered { Remembers (S.problem space.old) (S.task space.old) (S.kept space.old) self.old.expansions }
         ensures task { S.task space.new ≡ S.task space.old }
         ensures problem { S.problem space.new ≡ S.problem space.old }
         ensures kept { S.kept space.new ≡ S.kept space.old }
@@ -87,6 +93,7 @@ impl DepthFirst {
         ensures turned { OnOk result (TurnsBy (S.problem space.old) nodes (S.kept space.old) self.old self.new (arrival.Seen k) left None) }
         ensures fault { IfErr result (IsDepthFirstFault (S.problem space.old) self.old.within) }
         ensures named { OnOk result (SearchIsNamed (S.task space.old) self.new) }
+        ensures remembered { OnOk result (Remembers (S.problem space.old) (S.task space.old) (S.kept space.old) self.new.expansions) }
         ensures path_named { IfErr result (FaultIsNamed (S.task space.old)) }
     {
         if left <= self.most.as_slice()[k] {
@@ -109,6 +116,7 @@ impl DepthFirst {
         requires arrived { HasArrived (S.problem space.old) nodes (S.kept space.old) self.old (arrival.Fresh k) left }
         requires refused { Judged (S.problem space.old) nodes (pairs_of (S.kept space.old)) self.old k left None }
         requires named { SearchIsNamed (S.task space.old) self.old }
+        requires remembered { Remembers (S.problem space.old) (S.task space.old) (S.kept space.old) self.old.expansions }
         ensures task { S.task space.new ≡ S.task space.old }
         ensures problem { S.problem space.new ≡ S.problem space.old }
         ensures kept { S.kept space.new ≡ S.kept space.old }
@@ -116,6 +124,7 @@ impl DepthFirst {
         ensures turned { OnOk result (TurnsBy (S.problem space.old) nodes (S.kept space.old) self.old self.new (arrival.Fresh k) left None) }
         ensures fault { IfErr result (IsDepthFirstFault (S.problem space.old) self.old.within) }
         ensures named { OnOk result (SearchIsNamed (S.task space.old) self.new) }
+        ensures remembered { OnOk result (Remembers (S.problem space.old) (S.task space.old) (S.kept space.old) self.new.expansions) }
         ensures path_named { IfErr result (FaultIsNamed (S.task space.old)) }
     {
         if self.most.push(left).is_err() {
@@ -174,23 +183,18 @@ impl DepthFirst {
     ) -> Result<(), SearchFault>
         requires at { at < length (S.kept space.old) }
         requires named { SearchIsNamed (S.task space.old) self.old }
+        requires remembered { Remembers (S.problem space.old) (S.task space.old) (S.kept space.old) self.old.expansions }
         ensures task { S.task space.new ≡ S.task space.old }
         ensures problem { S.problem space.new ≡ S.problem space.old }
         ensures kept { S.kept space.new ≡ S.kept space.old }
         ensures entered { OnOk result (IsEntered (S.problem space.old) (pairs_of (S.kept space.old)) at left self.old.stack.items self.new.stack.items) }
-        ensures rest { self.new ≡ record self.old { stack = self.new.stack } }
+        ensures rest { self.new ≡ record self.old { stack = self.new.stack; expansions = self.new.expansions } }
         ensures fault { IfErr result (IsEntryFault (S.problem space.old) (pairs_of (S.kept space.old)) at (path_of self.old.stack.items)) }
         ensures named { OnOk result (SearchIsNamed (S.task space.old) self.new) }
+        ensures remembered { OnOk result (Remembers (S.problem space.old) (S.task space.old) (S.kept space.old) self.new.expansions) }
         ensures path_named { IfErr result (FaultIsNamed (S.task space.old)) }
     {
-        let actions = match space.actions(at) {
-            Ok(actions) => actions,
-            Err(SpaceFault::RangeHere(note)) => {
-                return Err(past_range(alloc, self.stack.as_slice(), note));
-            }
-            Err(SpaceFault::RangeAfter(_)) => unreachable!(),
-            Err(SpaceFault::NoMemory) => return Err(SearchFault::NoMemory),
-        };
+        let actions = self.actions_of(alloc, space, at)?;
         let _count = actions.len();
         let level = Level {
             at,
@@ -202,5 +206,36 @@ impl DepthFirst {
             return Err(SearchFault::NoMemory);
         }
         Ok(())
+    }
+    /// The executable actions of a pair: those that are remembered, or else those that the space lists.
+    fn actions_of<S: Pairs>(
+        &mut self,
+        alloc: Global,
+        space: &mut S,
+        at: usize,
+    ) -> Result<Actions, SearchFault>
+        requires at { at < length (S.kept space.old) }
+        requires named { SearchIsNamed (S.task space.old) self.old }
+        requires remembered { Remembers (S.problem space.old) (S.task space.old) (S.kept space.old) self.old.expansions }
+        ensures task { S.task space.new ≡ S.task space.old }
+        ensures problem { S.problem space.new ≡ S.problem space.old }
+        ensures kept { S.kept space.new ≡ S.kept space.old }
+        ensures listed { IfOk result (IsListed (S.problem space.old) (S.task space.old) (S.kept space.old) at) }
+        ensures rest { self.new ≡ record self.old { expansions = self.new.expansions } }
+        ensures fault { IfErr result (IsEntryFault (S.problem space.old) (pairs_of (S.kept space.old)) at (path_of self.old.stack.items)) }
+        ensures remembered { OnOk result (Remembers (S.problem space.old) (S.task space.old) (S.kept space.old) self.new.expansions) }
+        ensures path_named { IfErr result (FaultIsNamed (S.task space.old)) }
+    {
+        if let Some(actions) = self.expansions.take_actions(alloc, at)? {
+            return Ok(actions);
+        }
+        match space.actions(at) {
+            Ok(actions) => Ok(actions),
+            Err(SpaceFault::RangeHere(note)) => {
+                Err(past_range(alloc, self.stack.as_slice(), note))
+            }
+            Err(SpaceFault::RangeAfter(_)) => unreachable!(),
+            Err(SpaceFault::NoMemory) => Err(SearchFault::NoMemory),
+        }
     }
 }

@@ -2,6 +2,7 @@
 ghost use Rattle.std.specs.Prelude.{◌≡◌, ◌≤◌, ℕ, [], slice_get, Some, None, true, false, IfOk, IfErr, OnOk};
 ghost use Rattle.tl_search.specs.KeptPairs.{pairs_of};
 ghost use Rattle.tl_search.specs.NamedAnswers.{OutcomeIsNamed, EndIsNamed, FaultIsNamed, EventsAreNamed};
+ghost use Rattle.tl_depth.specs.Expansions.{Remembers};
 ghost use Rattle.tl_depth.specs.NamedStacks.{SearchIsNamed, EndsUnnamed};
 ghost use Rattle.tl_search.specs.History.{IsHistory};
 ghost use Rattle.tl_search.specs.Ends.{Ends, EndsIfAny};
@@ -86,6 +87,7 @@ impl DepthFirst {
         ensures ends { IfOk result (EndsIfAny self.old.watch (S.kept space.new) self.new.events) }
         ensures fault { IfErr result (IsDepthFirstFault (S.problem space.old) self.old.within) }
         ensures named { OnOk result (SearchIsNamed (S.task space.old) self.new) }
+        ensures remembered { OnOk result (Remembers (S.problem space.old) (S.task space.old) (S.kept space.new) self.new.expansions) }
         ensures plan_named { IfOk result (EndIsNamed (S.task space.old)) }
         ensures path_named { IfErr result (FaultIsNamed (S.task space.old)) }
     {
@@ -131,6 +133,7 @@ impl DepthFirst {
     ) -> Result<(), SearchFault>
         requires first { IsFirst (S.problem space.old) nodes (pairs_of (S.kept space.old)) self.old }
         requires named { SearchIsNamed (S.task space.old) self.old }
+        requires remembered { Remembers (S.problem space.old) (S.task space.old) (S.kept space.old) self.old.expansions }
         ensures task { S.task space.new ≡ S.task space.old }
         ensures problem { S.problem space.new ≡ S.problem space.old }
         ensures kept { S.kept space.new ≡ S.kept space.old }
@@ -138,6 +141,7 @@ impl DepthFirst {
         ensures begun { OnOk result (Begun (S.problem space.old) nodes (pairs_of (S.kept space.new)) self.old self.new None) }
         ensures fault { IfErr result (IsDepthFirstFault (S.problem space.old) self.old.within) }
         ensures named { OnOk result (SearchIsNamed (S.task space.old) self.new) }
+        ensures remembered { OnOk result (Remembers (S.problem space.old) (S.task space.old) (S.kept space.new) self.new.expansions) }
         ensures path_named { IfErr result (FaultIsNamed (S.task space.old)) }
     {
         let left = self.within;

@@ -1,112 +1,85 @@
-use Rattle.tl_syntax.proofs.ListLaws.{Each-Among}
-use Rattle.tl_search.specs.NamedAnswers.{IsNamedIn}
-use Rattle.tl_search.proofs.ListLaws.{among-at}
-use Rattle.tl_depth.specs.declared.stack.DepthFirst.{DepthFirst}
-use Rattle.tl_search.specs.Calls.{AreNamedIn}
-use Rattle.tl_depth.specs.NamedStacks.{StackIsNamed}
-use Rattle.tl_depth.proofs.NamedStacks.{path-of-named, stack-split}
-use Rattle.tl_search.proofs.NamedLaws.{event-named, events-named}
 use Rattle.std.proofs.Common.{sym, ap, ◌∙◌, subst}
-use Rattle.tl_depth.specs.Levels.{path_of}
-use Rattle.tl_depth.proofs.Ends.{before-top, told-of, range-holds}
-use Rattle.tl_depth.proofs.Trying.{top-executable, fault-here, fault-after, arrives-top}
-use Rattle.tl_depth.proofs.Reading.{reads-top, now-pair, few-called}
-use Rattle.tl_search.proofs.KeptLaws.{kept-pair}
-use Rattle.tl_depth.proofs.SeenPairs.{child-as-pairs, action-pair, after-pair}
-use Rattle.tl_search.specs.Kept.{AreKept}
-use Rattle.tl_search.specs.PairGraph.{pair_graph}
+use Rattle.tl_syntax.proofs.ListLaws.{Each-Among}
+use Rattle.tl_search.specs.KeptPairs.{pairs_of}
+use Rattle.tl_search.specs.NamedAnswers.{IsNamedIn}
 use Rattle.tl_search.proofs.HistoryLaws.{history-more}
+use Rattle.tl_search.proofs.ListLaws.{among-at}
+use Rattle.tl_search.proofs.NamedLaws.{event-named, events-named}
+use Rattle.tl_depth.specs.Expansions.{AreExpansions}
+use Rattle.tl_depth.specs.NamedStacks.{StackIsNamed}
+use Rattle.tl_depth.specs.declared.stack.DepthFirst.{DepthFirst}
+use Rattle.tl_depth.proofs.Ends.{told-of}
 use Rattle.tl_depth.proofs.Histories.{keeps-last}
-use Rattle.tl_search.specs.NamedAnswers.{FaultIsNamed}
-use Rattle.tl_depth.specs.Outcomes.{IsDepthFirstFault}
+use Rattle.tl_depth.proofs.NamedStacks.{stack-split}
+use Rattle.tl_depth.proofs.Reading.{reads-some, now-pair}
+use Rattle.tl_depth.proofs.Remembering.{stay-right}
+use Rattle.tl_depth.proofs.Replaying.{replayed, as-learnt}
+use Rattle.tl_depth.proofs.SeenPairs.{child-as-pairs}
+use Rattle.tl_depth.proofs.Trying.{arrives-top, few-next}
 use Rattle.tl_depth.proofs.stack.DepthFirst.attempt.Goals as goal
 
-pub child-requires-clause-executable : goal.child-requires-clause-executable
-child-requires-clause-executable g c x e =
-    let r = reads-top _ _ _ c.args.left _ _ _ c.requires.top c.as_slice.ensures.value c.as_slice-2.ensures.value c.index-as_slice-top.is c.as_slice-3.ensures c.index-as_slice-level.is in
-    top-executable _ _ _ _ c.requires.ongoing.0 c.requires.ongoing.1 r.level.front c.index-as_slice-top.result r.level.is c.index-as_slice-level.result r.at_action x.node (kept-pair (g.S.Pairs.kept c.args.space.now) c.index-as_slice-top.result.at x e)
-
-pub returns-in-Err-RangeHere-clause-fault : goal.returns-in-Err-RangeHere-clause-fault
-returns-in-Err-RangeHere-clause-fault g c =
-    let r = reads-top _ _ _ c.args.left _ _ _ c.requires.top c.as_slice.ensures.value c.as_slice-2.ensures.value c.index-as_slice-top.is c.as_slice-3.ensures c.index-as_slice-level.is in
-    range-holds (IsDepthFirstFault (g.S.Pairs.problem c.args.space.now) c.args.self.now.within) _ c.in-Err-RangeHere.note c.past_range.result c.past_range.ensures tt
-    (λ path e. fault-here _ _ _ _ c.requires.ongoing.0 c.requires.ongoing.1 r.level.front c.index-as_slice-top.result r.level.is c.index-as_slice-level.result r.at_action path
-    (e ∙ ap path_of (before-top _ _ r.level.front c.index-as_slice-top.result _ r.level.is c.as_slice-in-Err-RangeHere.ensures.value r.level.last)) c.in-Err-RangeHere.note
-    (action-pair _ (g.S.Pairs.kept c.args.space.now) c.index-as_slice-top.result.at _ _ (rw c.in-Err-RangeHere.field-0-is at c.in-Err-RangeHere.ensures.cause)))
-
-pub returns-in-Err-RangeAfter-clause-fault : goal.returns-in-Err-RangeAfter-clause-fault
-returns-in-Err-RangeAfter-clause-fault g c =
-    let r = reads-top _ _ _ c.args.left _ _ _ c.requires.top c.as_slice.ensures.value c.as_slice-2.ensures.value c.index-as_slice-top.is c.as_slice-3.ensures c.index-as_slice-level.is in
-    range-holds (IsDepthFirstFault (g.S.Pairs.problem c.args.space.now) c.args.self.now.within) _ c.in-Err-RangeAfter.note c.past_range-in-Err-RangeAfter.result c.past_range-in-Err-RangeAfter.ensures tt
-    (λ path e. fault-after _ _ _ _ c.requires.ongoing.0 c.requires.ongoing.1 r.level.front c.index-as_slice-top.result r.level.is c.index-as_slice-level.result r.at_action path
-    (e ∙ ap path_of c.as_slice-in-Err-RangeAfter.ensures.value) c.in-Err-RangeAfter.note
-    (after-pair _ (g.S.Pairs.kept c.args.space.now) c.index-as_slice-top.result.at _ _ (rw c.in-Err-RangeAfter.field-0-is at c.in-Err-RangeAfter.ensures.cause)))
-
-pub returns-clause-arrived : goal.returns-clause-arrived
-returns-clause-arrived g c calls s =
-    let r = reads-top _ _ _ c.args.left _ _ _ c.requires.top c.as_slice.ensures.value c.as_slice-2.ensures.value c.index-as_slice-top.is c.as_slice-3.ensures c.index-as_slice-level.is in
-    arrives-top _ _ _ _ calls s r.level.front c.index-as_slice-top.result r.level.is c.index-as_slice-level.result r.at_action c.report.new.self _ c.in-Ok.arrival _ c.report.ensures.rest (told-of _ _ _ c.index-as_slice-top.result c.index-as_slice-level.result c.in-Ok.arrival r.at_action (c.in_ok-report.ensures.told r.level.front c.index-as_slice-top.result c.index-as_slice-level.result r.level.is r.at_action)) r.remaining
-    (child-as-pairs _ _ _ _ _ _ c.in-Ok.arrival c.child.ensures.kept c.in-Ok.ensures.arrival)
-
-pub returns-clause-history : goal.returns-clause-history
-returns-clause-history g c s =
-    let r = reads-top _ _ _ c.args.left _ _ _ c.requires.top c.as_slice.ensures.value c.as_slice-2.ensures.value c.index-as_slice-top.is c.as_slice-3.ensures c.index-as_slice-level.is in
-    let x = now-pair _ _ (g.S.Pairs.kept c.args.space.now) _ c.requires.ongoing.0 _ c.args.left _ _ c.requires.ongoing.1 r in
-    let h = c.in-Ok.ensures.arrival x.0 x.1 in
-    history-more _ _ (g.S.Pairs.kept c.args.space.now) (g.S.Pairs.kept c.child.new.self) c.index-as_slice-top.result.at x.0 c.index-as_slice-level.result c.in-Ok.arrival _ c.report.new.self.events s x.1 h
-    (subst (λ p. AreKept (pair_graph p) (g.S.Pairs.kept c.child.new.self)) c.child.ensures.problem c.child.ensures.kept) (c.in_ok-report.ensures.told r.level.front c.index-as_slice-top.result c.index-as_slice-level.result r.level.is r.at_action)
-
-pub returns-clause-ends : goal.returns-clause-ends
-returns-clause-ends g c =
-    let r = reads-top _ _ _ c.args.left _ _ _ c.requires.top c.as_slice.ensures.value c.as_slice-2.ensures.value c.index-as_slice-top.is c.as_slice-3.ensures c.index-as_slice-level.is in
-    let x = now-pair _ _ (g.S.Pairs.kept c.args.space.now) _ c.requires.ongoing.0 _ c.args.left _ _ c.requires.ongoing.1 r in
-    let h = c.in-Ok.ensures.arrival x.0 x.1 in
-    keeps-last _ (g.S.Pairs.kept c.args.space.now) (g.S.Pairs.kept c.child.new.self) c.index-as_slice-top.result.at c.index-as_slice-level.result _ _ c.in-Ok.arrival _ c.report.new.self.events h (c.in_ok-report.ensures.told r.level.front c.index-as_slice-top.result c.index-as_slice-level.result r.level.is r.at_action)
-
-pub returns-in-Err-RangeHere-clause-calls : goal.returns-in-Err-RangeHere-clause-calls
-returns-in-Err-RangeHere-clause-calls g c calls s =
-    let r = reads-top _ _ _ c.args.left _ _ _ c.requires.top c.as_slice.ensures.value c.as_slice-2.ensures.value c.index-as_slice-top.is c.as_slice-3.ensures c.index-as_slice-level.is in
-    few-called _ _ (g.S.Pairs.kept c.args.space.now) _ calls _ c.args.left _ _ s r (g.S.Pairs.kept c.child.new.self) c.child.result c.child.ensures.arrival c.child.ensures.refused
-
-pub returns-in-Err-RangeAfter-clause-calls : goal.returns-in-Err-RangeAfter-clause-calls
-returns-in-Err-RangeAfter-clause-calls g c calls s =
-    let r = reads-top _ _ _ c.args.left _ _ _ c.requires.top c.as_slice.ensures.value c.as_slice-2.ensures.value c.index-as_slice-top.is c.as_slice-3.ensures c.index-as_slice-level.is in
-    few-called _ _ (g.S.Pairs.kept c.args.space.now) _ calls _ c.args.left _ _ s r (g.S.Pairs.kept c.child.new.self) c.child.result c.child.ensures.arrival c.child.ensures.refused
-
-pub returns-in-Err-NoMemory-clause-calls : goal.returns-in-Err-NoMemory-clause-calls
-returns-in-Err-NoMemory-clause-calls g c calls s =
-    let r = reads-top _ _ _ c.args.left _ _ _ c.requires.top c.as_slice.ensures.value c.as_slice-2.ensures.value c.index-as_slice-top.is c.as_slice-3.ensures c.index-as_slice-level.is in
-    few-called _ _ (g.S.Pairs.kept c.args.space.now) _ calls _ c.args.left _ _ s r (g.S.Pairs.kept c.child.new.self) c.child.result c.child.ensures.arrival c.child.ensures.refused
+-- ---- what is remembered is replayed
 
 pub returns-in_err-report-clause-calls : goal.returns-in_err-report-clause-calls
 returns-in_err-report-clause-calls g c calls s =
-    let r = reads-top _ _ _ c.args.left _ _ _ c.requires.top c.as_slice.ensures.value c.as_slice-2.ensures.value c.index-as_slice-top.is c.as_slice-3.ensures c.index-as_slice-level.is in
-    few-called _ _ (g.S.Pairs.kept c.args.space.now) _ calls _ c.args.left _ _ s r (g.S.Pairs.kept c.child.new.self) c.child.result c.child.ensures.arrival c.child.ensures.refused
+    let r = reads-some _ _ _ c.args.left _ c.requires.top c.as_slice.ensures.value c.as_slice-2.ensures.value c.index-as_slice-top.is in
+    few-next _ _ _ _ calls s r.1.level.front c.index-as_slice-top.result r.1.level.is r.0 r.1.at_action
 
-pub returns-clause-calls : goal.returns-clause-calls
-returns-clause-calls g c calls s =
-    let r = reads-top _ _ _ c.args.left _ _ _ c.requires.top c.as_slice.ensures.value c.as_slice-2.ensures.value c.index-as_slice-top.is c.as_slice-3.ensures c.index-as_slice-level.is in
-    few-called _ _ (g.S.Pairs.kept c.args.space.now) _ calls _ c.args.left _ _ s r (g.S.Pairs.kept c.child.new.self) c.child.result c.child.ensures.arrival c.child.ensures.refused
+pub returns-in-Some-clause-calls : goal.returns-in-Some-clause-calls
+returns-in-Some-clause-calls g c calls s =
+    let r = reads-some _ _ _ c.args.left _ c.requires.top c.as_slice.ensures.value c.as_slice-2.ensures.value c.index-as_slice-top.is in
+    few-next _ _ _ _ calls s r.1.level.front c.index-as_slice-top.result r.1.level.is r.0 r.1.at_action
 
-pub returns-clause-named : goal.returns-clause-named
-returns-clause-named g c =
-    let r = reads-top _ _ _ c.args.left _ _ _ c.requires.top c.as_slice.ensures.value c.as_slice-2.ensures.value c.index-as_slice-top.is c.as_slice-3.ensures c.index-as_slice-level.is in
-    let k = stack-split (g.S.Pairs.task c.args.space.now) c.args.self.now.stack.items r.level.front c.index-as_slice-top.result r.level.is c.requires.named.stack in
+pub returns-in-Some-clause-arrived : goal.returns-in-Some-clause-arrived
+returns-in-Some-clause-arrived g c calls s =
+    let r = reads-some _ _ _ c.args.left _ c.requires.top c.as_slice.ensures.value c.as_slice-2.ensures.value c.index-as_slice-top.is in
+    let came = c.in-Some.ensures (g.S.Pairs.problem c.args.space.now) (g.S.Pairs.task c.args.space.now) (g.S.Pairs.kept c.args.space.now) c.requires.remembered.expansions in
+    arrives-top _ _ _ _ calls s r.1.level.front c.index-as_slice-top.result r.1.level.is r.0 r.1.at_action c.report.new.self _ c.in-Some.known _ c.report.ensures.rest
+    (told-of _ _ _ c.index-as_slice-top.result r.0 c.in-Some.known r.1.at_action (c.in_ok-report.ensures.told r.1.level.front c.index-as_slice-top.result r.0 r.1.level.is r.1.at_action)) r.1.remaining
+    (child-as-pairs _ _ _ _ _ _ c.in-Some.known c.requires.remembered.kept_rightly (replayed (g.S.Pairs.problem c.args.space.now) c.args.nodes (g.S.Pairs.kept c.args.space.now) c.args.self.now calls s r.1.level.front c.index-as_slice-top.result r.1.level.is r.0 r.1.at_action c.in-Some.known came))
+
+pub returns-in-Some-clause-history : goal.returns-in-Some-clause-history
+returns-in-Some-clause-history g c s =
+    let r = reads-some _ _ _ c.args.left _ c.requires.top c.as_slice.ensures.value c.as_slice-2.ensures.value c.index-as_slice-top.is in
+    let x = now-pair _ _ (g.S.Pairs.kept c.args.space.now) _ c.requires.ongoing.0 _ c.args.left _ _ c.requires.ongoing.1 r.1 in
+    let came = c.in-Some.ensures (g.S.Pairs.problem c.args.space.now) (g.S.Pairs.task c.args.space.now) (g.S.Pairs.kept c.args.space.now) c.requires.remembered.expansions in
+    history-more _ _ (g.S.Pairs.kept c.args.space.now) (g.S.Pairs.kept c.args.space.now) c.index-as_slice-top.result.at x.0 r.0 c.in-Some.known _ c.report.new.self.events s x.1
+    (replayed (g.S.Pairs.problem c.args.space.now) c.args.nodes (g.S.Pairs.kept c.args.space.now) c.args.self.now c.requires.ongoing.0 c.requires.ongoing.1 r.1.level.front c.index-as_slice-top.result r.1.level.is r.0 r.1.at_action c.in-Some.known came x.0 x.1)
+    c.requires.remembered.kept_rightly (c.in_ok-report.ensures.told r.1.level.front c.index-as_slice-top.result r.0 r.1.level.is r.1.at_action)
+
+pub returns-in-Some-clause-ends : goal.returns-in-Some-clause-ends
+returns-in-Some-clause-ends g c =
+    let r = reads-some _ _ _ c.args.left _ c.requires.top c.as_slice.ensures.value c.as_slice-2.ensures.value c.index-as_slice-top.is in
+    let x = now-pair _ _ (g.S.Pairs.kept c.args.space.now) _ c.requires.ongoing.0 _ c.args.left _ _ c.requires.ongoing.1 r.1 in
+    let came = c.in-Some.ensures (g.S.Pairs.problem c.args.space.now) (g.S.Pairs.task c.args.space.now) (g.S.Pairs.kept c.args.space.now) c.requires.remembered.expansions in
+    keeps-last _ (g.S.Pairs.kept c.args.space.now) (g.S.Pairs.kept c.args.space.now) c.index-as_slice-top.result.at r.0 _ _ c.in-Some.known _ c.report.new.self.events
+    (replayed (g.S.Pairs.problem c.args.space.now) c.args.nodes (g.S.Pairs.kept c.args.space.now) c.args.self.now c.requires.ongoing.0 c.requires.ongoing.1 r.1.level.front c.index-as_slice-top.result r.1.level.is r.0 r.1.at_action c.in-Some.known came x.0 x.1)
+    (c.in_ok-report.ensures.told r.1.level.front c.index-as_slice-top.result r.0 r.1.level.is r.1.at_action)
+
+pub returns-in-Some-clause-named : goal.returns-in-Some-clause-named
+returns-in-Some-clause-named g c =
+    let r = reads-some _ _ _ c.args.left _ c.requires.top c.as_slice.ensures.value c.as_slice-2.ensures.value c.index-as_slice-top.is in
+    let k = stack-split (g.S.Pairs.task c.args.space.now) c.args.self.now.stack.items r.1.level.front c.index-as_slice-top.result r.1.level.is c.requires.named.stack in
     record {
       stack = subst (λ (w : DepthFirst). StackIsNamed (g.S.Pairs.task c.args.space.now) w.stack.items) (sym c.report.ensures.rest) c.requires.named.stack;
       events = events-named (g.S.Pairs.task c.args.space.now) c.args.self.now.watch c.args.self.now.events c.report.new.self.events _ c.requires.named.events
-          (event-named (g.S.Pairs.task c.args.space.now) c.index-as_slice-top.result.at c.index-as_slice-level.result c.in-Ok.arrival ((Each-Among (IsNamedIn (g.S.Pairs.task c.args.space.now)) c.index-as_slice-top.result.actions).0 k.1 c.index-as_slice-level.result (among-at c.index-as_slice-top.result.actions c.index-as_slice-top.result.tried c.index-as_slice-level.result r.at_action)))
-          (c.in_ok-report.ensures.told r.level.front c.index-as_slice-top.result c.index-as_slice-level.result r.level.is r.at_action);
+          (event-named (g.S.Pairs.task c.args.space.now) c.index-as_slice-top.result.at r.0 c.in-Some.known ((Each-Among (IsNamedIn (g.S.Pairs.task c.args.space.now)) c.index-as_slice-top.result.actions).0 k.1 r.0 (among-at c.index-as_slice-top.result.actions c.index-as_slice-top.result.tried r.0 r.1.at_action)))
+          (c.in_ok-report.ensures.told r.1.level.front c.index-as_slice-top.result r.0 r.1.level.is r.1.at_action);
     }
 
-pub returns-in-Err-RangeHere-clause-path_named : goal.returns-in-Err-RangeHere-clause-path_named
-returns-in-Err-RangeHere-clause-path_named g c =
-    let r = reads-top _ _ _ c.args.left _ _ _ c.requires.top c.as_slice.ensures.value c.as_slice-2.ensures.value c.index-as_slice-top.is c.as_slice-3.ensures c.index-as_slice-level.is in
-    let k = stack-split (g.S.Pairs.task c.args.space.now) c.args.self.now.stack.items r.level.front c.index-as_slice-top.result r.level.is c.requires.named.stack in
-    range-holds (FaultIsNamed (g.S.Pairs.task c.args.space.now)) _ c.in-Err-RangeHere.note c.past_range.result c.past_range.ensures tt
-    (λ path e. subst (AreNamedIn (g.S.Pairs.task c.args.space.now)) (sym (e ∙ ap path_of (before-top _ _ r.level.front c.index-as_slice-top.result _ r.level.is c.as_slice-in-Err-RangeHere.ensures.value r.level.last))) (path-of-named (g.S.Pairs.task c.args.space.now) r.level.front k.0))
+-- ---- what the space answered is remembered
 
-pub returns-in-Err-RangeAfter-clause-path_named : goal.returns-in-Err-RangeAfter-clause-path_named
-returns-in-Err-RangeAfter-clause-path_named g c =
-    range-holds (FaultIsNamed (g.S.Pairs.task c.args.space.now)) _ c.in-Err-RangeAfter.note c.past_range-in-Err-RangeAfter.result c.past_range-in-Err-RangeAfter.ensures tt
-    (λ path e. subst (AreNamedIn (g.S.Pairs.task c.args.space.now)) (sym (e ∙ ap path_of c.as_slice-in-Err-RangeAfter.ensures.value)) (path-of-named (g.S.Pairs.task c.args.space.now) c.args.self.now.stack.items c.requires.named.stack))
+pub returns-clause-arrived : goal.returns-clause-arrived
+returns-clause-arrived g c calls s = as-learnt (g.S.Pairs.problem c.args.space.now) c.args.nodes (pairs_of (g.S.Pairs.kept c.call.new.space)) c.call.new.self c.learn.new.self c.in_ok-arrival.arrival c.args.left calls c.learn.ensures.rest (c.in_ok-arrival.ensures.arrived calls s)
+
+pub returns-clause-remembered : goal.returns-clause-remembered
+returns-clause-remembered g c =
+    let r = reads-some _ _ _ c.args.left _ c.requires.top c.as_slice.ensures.value c.as_slice-2.ensures.value c.index-as_slice-top.is in
+    let new = g.S.Pairs.kept c.call.new.space in
+    let before = stay-right (g.S.Pairs.problem c.args.space.now) (g.S.Pairs.task c.args.space.now) (g.S.Pairs.kept c.args.space.now) new c.args.self.now.expansions c.in_ok-arrival.ensures.grows c.requires.remembered.expansions in
+    record {
+      kept_rightly = c.in_ok-arrival.ensures.kept;
+      expansions = c.in_ok-learn.ensures.remembered r.1.level.front c.index-as_slice-top.result (ap (λ (w : DepthFirst). w.stack.items) c.call.ensures.rest ∙ r.1.level.is) (g.S.Pairs.problem c.args.space.now) (g.S.Pairs.task c.args.space.now) new
+          (subst (λ (w : DepthFirst). AreExpansions (g.S.Pairs.problem c.args.space.now) (g.S.Pairs.task c.args.space.now) new w.expansions) (sym c.call.ensures.rest) before)
+          (c.in_ok-arrival.ensures.came r.1.level.front c.index-as_slice-top.result r.1.level.is);
+    }

@@ -16,6 +16,9 @@ use Rattle.tl_depth.specs.Outcomes.{AreFewCalls, IsDepthFirstOutcome, Reported}
 use Rattle.tl_depth.proofs.Beginning.{RootIsKept, root-kept}
 use Rattle.tl_depth.proofs.Ending.{begins-pruned, fault-root, fault-first-idling, first-plan, first-kept}
 use Rattle.tl_depth.proofs.Histories.{root-not-seen, as-history}
+use Rattle.tl_depth.proofs.Remembering.{nothing-remembered, as-remembered}
+use Rattle.tl_search.specs.Kept.{AreKept}
+use Rattle.tl_search.specs.PairGraph.{pair_graph}
 use Rattle.tl_depth.proofs.SeenPairs.{root-as-pairs, accepted-pair, idles-pair, never-pair}
 use Rattle.tl_depth.proofs.stack.DepthFirst.begin.Goals as goal
 
@@ -36,6 +39,7 @@ returns-in-Ok-true g c = record {
   ends = subst (λ xs. c.args.self.now.watch ≡ true → EndsByKeeping xs c.report_root-2.new.events) (sym c.accepted.ensures.kept) r.ends;
   fault = tt;
   named = record { stack = subst (StackIsNamed (g.S.Pairs.task c.args.space.now)) (sym c.requires.new.stack) tt; events = events-named (g.S.Pairs.task c.args.space.now) c.args.self.now.watch [] c.report_root-2.new.events event.RootKept tt tt (c.in_ok-report_root.ensures ∙ ap (λ es. events_after c.args.self.now.watch es event.RootKept) c.requires.events) };
+  remembered = nothing-remembered c.root.ensures.problem (subst (λ ks. AreKept (pair_graph (g.S.Pairs.problem c.root.new.self)) ks) (sym c.accepted.ensures.kept) c.root.ensures.kept) c.requires.new.expansions;
   plan_named = subst (AreNamedIn (g.S.Pairs.task c.args.space.now)) (sym c.new-in-Ok-true.ensures) tt;
   path_named = tt;
 }
@@ -57,6 +61,7 @@ returns-in-Err-RangeHere-accepted g c =
       ends = tt;
       fault = fault-first-idling _ _ _ r.pair r.unpruned c.root.ensures.problem c.new-in-Err-RangeHere-accepted.result c.new-in-Err-RangeHere-accepted.ensures c.in-Err-RangeHere-accepted.note (idles-pair _ _ 0 _ (rw c.in-Err-RangeHere-accepted.field-0-is at c.in-Err-RangeHere-accepted.ensures.cause) r.pair r.numbered);
       named = tt;
+      remembered = tt;
       plan_named = tt;
       path_named = subst (AreNamedIn (g.S.Pairs.task c.args.space.now)) (sym c.new-in-Err-RangeHere-accepted.ensures) tt;
     }
@@ -65,7 +70,7 @@ pub begun-requires-clause-first : goal.begun-requires-clause-first
 begun-requires-clause-first g c =
     let r = root-kept _ _ c.args.self.now.watch (g.S.Pairs.kept c.args.space.now) (g.S.Pairs.kept c.root.new.self) c.in-Ok-Fresh.field-0-0 _ c.report_root-2.new.events c.requires.empty c.requires.events c.root.ensures.kept (rw c.in-Ok-Fresh.field-0-is at c.in-Ok-Fresh.ensures.arrival) c.in_ok-report_root.ensures in
     first-kept _ _ _ _ _ _ _ r.pair c.requires.nodes r.unpruned r.alone c.root.ensures.problem c.accepted.ensures.problem (ap pairs_of c.accepted.ensures.kept)
-    (λ a. let t = (accepted-pair _ _ 0 _ c.in-Ok-false.ensures.accepted r.pair r.numbered).1 a in absurd (let z : c.in-Ok-false.field-0 ≡ true = t in let y = c.in-Ok-false.field-0-test in cc)) (record { most = c.requires.new.most; stack = c.requires.new.stack })
+    (λ a. let t = (accepted-pair _ _ 0 _ c.in-Ok-false.ensures.accepted r.pair r.numbered).1 a in absurd (let z : c.in-Ok-false.field-0 ≡ true = t in let y = c.in-Ok-false.field-0-test in cc)) (record { most = c.requires.new.most; stack = c.requires.new.stack; expansions = c.requires.new.expansions })
 
 pub returns-in-Ok-Pruned-clause-history : goal.returns-in-Ok-Pruned-clause-history
 returns-in-Ok-Pruned-clause-history g c = history-pruned (g.S.Pairs.problem c.args.space.now) c.args.self.now.watch (g.S.Pairs.kept c.args.space.now) (g.S.Pairs.kept c.root.new.self) c.report_root.new.events c.requires.empty
@@ -83,6 +88,7 @@ returns g c =
       ends = tt;
       fault = tt;
       named = subst (λ t. SearchIsNamed t c.begun.new.self) (c.accepted.ensures.task ∙ c.root.ensures.task) c.in_ok-begun.ensures.named;
+      remembered = as-remembered (c.accepted.ensures.problem ∙ c.root.ensures.problem) (c.accepted.ensures.task ∙ c.root.ensures.task) c.in_ok-begun.ensures.remembered;
       plan_named = tt;
       path_named = tt;
     }

@@ -1,7 +1,7 @@
 use Rattle.std.proofs.Common.{◌≡◌, ◌<◌, suc, [], ◌∷◌, ◌++◌, length, ap, ◌∙◌, subst, arith}
 use Rattle.tl_syntax.specs.Lists.{Each}
 use Rattle.tl_depth.specs.declared.level.Level.{Level}
-use Rattle.tl_depth.proofs.Ends.{at-end, bumped, left-front, each-last, last-of, some-length}
+use Rattle.tl_depth.proofs.Ends.{at-end, bumped, each-last, last-of, some-length}
 use Rattle.tl_depth.proofs.stack.DepthFirst.leave.Goals as goal
 
 pub overflow_add-index_mut : goal.overflow_add-index_mut
@@ -9,7 +9,7 @@ overflow_add-index_mut c =
     let r = c.requires in
     let s : length c.args.self.now.stack.items ≡ suc (length r.0) = some-length _ r.0 r.1 r.2 in
     let l : length c.as_slice-len.result.now ≡ length c.args.self.now.stack.items = ap length c.as_slice-len.ensures.value in
-    let f : c.truncate.new.self.items ≡ r.0 = left-front _ r.0 _ r.1 _ r.2 (omega arith) c.truncate.ensures.items in
+    let f : c.remember_top.new.self.stack.items ≡ r.0 = c.remember_top.ensures.stack r.0 r.1 r.2 in
     let w = last-of r.0 (omega arith) in
     let n : length r.0 ≡ suc (length w.0) = some-length _ w.0 w.1 w.2 in
     let e : c.index_mut.result.now ≡ w.1 = at-end _ w.0 w.1 _ _ (f ∙ w.2) (omega (arith, ap length f)) c.index_mut.ensures.value in
@@ -24,5 +24,5 @@ pub returns-then-len-gt1-clause-stack : goal.returns-then-len-gt1-clause-stack
 returns-then-len-gt1-clause-stack c front h d e =
     let s : length c.args.self.now.stack.items ≡ suc (length (front ++ h ∷ [])) = some-length _ (front ++ h ∷ []) d e in
     let l : length c.as_slice-len.result.now ≡ length c.args.self.now.stack.items = ap length c.as_slice-len.ensures.value in
-    let f : c.truncate.new.self.items ≡ front ++ h ∷ [] = left-front _ (front ++ h ∷ []) _ d _ e (omega arith) c.truncate.ensures.items in
+    let f : c.remember_top.new.self.stack.items ≡ front ++ h ∷ [] = c.remember_top.ensures.stack (front ++ h ∷ []) d e in
     bumped _ front h _ _ f (omega (arith, ap length f)) c.index_mut.ensures.value

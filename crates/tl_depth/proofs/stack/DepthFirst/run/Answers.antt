@@ -4,6 +4,7 @@ use Rattle.tl_depth.proofs.Ending.{none-calls}
 use Rattle.std.proofs.Common.{refl, subst}
 use Rattle.tl_search.specs.Ends.{Ends, EndsIfAny}
 use Rattle.tl_depth.proofs.Histories.{as-history}
+use Rattle.tl_depth.proofs.Remembering.{as-remembered}
 use Rattle.std.proofs.Common.{sym, ◌∙◌, arith}
 use Rattle.tl_depth.proofs.Ending.{turned-some, turned-none, begun-none, as-outcome, as-few, as-ongoing, as-told, few-made}
 use Rattle.tl_depth.proofs.stack.DepthFirst.run.Goals as goal
@@ -23,7 +24,7 @@ returns-in-Some-2-clause-calls g c =
 pub turns-init : goal.turns-init
 turns-init g c =
     let b = begun-none _ _ _ c.args.self.now c.begin.new.self _ c.in_ok-outcome.ensures.begun c.in-None.is in
-    record { task = c.begin.ensures.task; named = subst (λ t. SearchIsNamed t c.begin.new.self) (sym c.begin.ensures.task) c.in_ok-outcome.ensures.named; problem = c.begin.ensures.problem; within = b.1; watch = b.2; history = as-history _ _ _ _ _ _ _ _ (sym c.begin.ensures.problem) (sym b.2) refl refl c.in_ok-outcome.ensures.history; ongoing = (0, as-ongoing _ _ _ _ _ _ (sym c.begin.ensures.problem) b.0, omega arith) }
+    record { task = c.begin.ensures.task; named = subst (λ t. SearchIsNamed t c.begin.new.self) (sym c.begin.ensures.task) c.in_ok-outcome.ensures.named; remembered = as-remembered (sym c.begin.ensures.problem) (sym c.begin.ensures.task) c.in_ok-outcome.ensures.remembered; problem = c.begin.ensures.problem; within = b.1; watch = b.2; history = as-history _ _ _ _ _ _ _ _ (sym c.begin.ensures.problem) (sym b.2) refl refl c.in_ok-outcome.ensures.history; ongoing = (0, as-ongoing _ _ _ _ _ _ (sym c.begin.ensures.problem) b.0, omega arith) }
 
 pub turns-smaller : goal.turns-smaller
 turns-smaller g c =
@@ -38,6 +39,7 @@ turns-preserved g c =
     record {
       task = c.turn.ensures.task ∙ i.task;
       named = subst (λ t. SearchIsNamed t c.turn.new.self) (sym c.turn.ensures.task) c.in_ok-outcome-2.ensures.named;
+      remembered = as-remembered (sym c.turn.ensures.problem) (sym c.turn.ensures.task) c.in_ok-outcome-2.ensures.remembered;
       problem = c.turn.ensures.problem ∙ i.problem;
       within = s.4 ∙ i.within;
       watch = s.5 ∙ i.watch;

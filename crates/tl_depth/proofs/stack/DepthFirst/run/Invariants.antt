@@ -1,6 +1,7 @@
 use Rattle.tl_search.specs.KeptPairs.{pairs_of}
 use Rattle.std.proofs.Common.{◌≡◌, ◌+◌, ℕ}
 use Rattle.tl_search.specs.History.{IsHistory}
+use Rattle.tl_depth.specs.Expansions.{Remembers}
 use Rattle.tl_depth.specs.NamedStacks.{SearchIsNamed}
 use Rattle.tl_depth.specs.Ongoing.{IsOngoing, to_do}
 use Rattle.tl_depth.proofs.stack.DepthFirst.run.Given as goal
@@ -9,6 +10,7 @@ abbrev pub invariant-turns : goal.invariant-turns
 invariant-turns g l = record {
   task : g.S.Pairs.task l.space ≡ g.S.Pairs.task l.fn.space;
   named : SearchIsNamed (g.S.Pairs.task l.space) l.self;
+  remembered : Remembers (g.S.Pairs.problem l.space) (g.S.Pairs.task l.space) (g.S.Pairs.kept l.space) l.self.expansions;
   problem : g.S.Pairs.problem l.space ≡ g.S.Pairs.problem l.fn.space;
   within : l.self.within ≡ l.fn.self.within;
   watch : l.self.watch ≡ l.fn.self.watch;

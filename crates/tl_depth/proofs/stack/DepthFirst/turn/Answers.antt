@@ -1,6 +1,7 @@
 use Rattle.tl_search.specs.NamedAnswers.{EndIsNamed, FaultIsNamed}
 use Rattle.tl_depth.specs.NamedStacks.{SearchIsNamed}
-use Rattle.tl_depth.proofs.NamedStacks.{stack-left, search-with}
+use Rattle.tl_depth.proofs.NamedStacks.{stack-left, stack-split, search-with}
+use Rattle.tl_depth.proofs.Replaying.{top-listed}
 use Rattle.std.proofs.Common.{◌+◌, OnOk, IfOk, IfErr}
 use Rattle.tl_depth.proofs.Counting.{few-same}
 use Rattle.tl_depth.proofs.Ending.{few-made}
@@ -84,3 +85,13 @@ returns-clause-plan_named g c = subst (λ t. IfOk c.arrived.result (EndIsNamed t
 
 pub returns-clause-path_named : goal.returns-clause-path_named
 returns-clause-path_named g c = subst (λ t. IfErr c.arrived.result (FaultIsNamed t)) c.attempt.ensures.task c.arrived.ensures.path_named
+
+pub returns-then-len-level-clause-remembered : goal.returns-then-len-level-clause-remembered
+returns-then-len-level-clause-remembered g c =
+    let v = reads-last _ _ _ _ c.requires.some c.as_slice.ensures.value c.as_slice-2.ensures.value c.index-as_slice-top.is in
+    let named = (stack-split (g.S.Pairs.task c.args.space.now) c.args.self.now.stack.items v.front c.index-as_slice-top.result v.is c.requires.named.stack).1 in
+    record {
+      kept_rightly = c.requires.remembered.kept_rightly;
+      expansions = c.leave.ensures.remembered v.front c.index-as_slice-top.result v.is (g.S.Pairs.problem c.args.space.now) (g.S.Pairs.task c.args.space.now) (g.S.Pairs.kept c.args.space.now) c.requires.remembered.expansions
+          (top-listed _ _ (g.S.Pairs.kept c.args.space.now) _ c.requires.ongoing.0 c.requires.ongoing.1 v.front c.index-as_slice-top.result v.is (g.S.Pairs.task c.args.space.now) named);
+    }
