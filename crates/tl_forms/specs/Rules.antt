@@ -6,7 +6,7 @@
 use Rattle.std.specs.Prelude.{◌≡◌, ℕ, ◌<◌, ◌≤◌, ◌⊎◌, List, [], ◌∷◌, Bool, Option, Some, None, if◌then◌else◌}
 use Rattle.tl_syntax.specs.Lists.{Each, Among}
 use Rattle.tl_forms.specs.declared.rule.Rule.{Rule}
-use Rattle.tl_forms.specs.declared.rule.Rule.TheVariants.{Shape, Unknown, Twice, Arity, Unbound, Shadow, NotInBound, Temporal, GoalArg, Limit, NotGround, TwoValues, NoOperator, ArgumentCount, NotAValue}
+use Rattle.tl_forms.specs.declared.rule.Rule.TheVariants.{Shape, Unknown, Twice, Arity, Unbound, Shadow, NotInBound, Temporal, GoalArg, Limit, NotGround, TwoValues, NoOperator, ArgumentCount, NotAValue, NoPair}
 
 -- the form at this offset breaks this rule
 abbrev pub Break : Type 0
@@ -29,6 +29,7 @@ rule_number TwoValues = 21
 rule_number NoOperator = 30
 rule_number ArgumentCount = 31
 rule_number NotAValue = 32
+rule_number NoPair = 33
 
 -- the rule is broken where the test says so
 abbrev pub breaks_if : Bool → Rule → ℕ → List Break

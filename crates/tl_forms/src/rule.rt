@@ -6,7 +6,7 @@ ghost use Rattle.tl_forms.specs.declared.rule.FormFault.TheVariants as fault;
 use std::alloc::{AllocError, AllocFailed};
 use tl_syntax::NoMemory;
 
-/// A rule of domain, problem and plan files. `docs/COMMANDS.md` says when a form breaks which rule.
+/// A rule of domain, problem, plan and proof files. `docs/COMMANDS.md` says when a form breaks which rule.
 #[derive(Clone, Copy, Debug, PartialEq, Eq)]
 pub enum Rule {
     /// The form has no shape that its place asks for.
@@ -39,10 +39,12 @@ pub enum Rule {
     ArgumentCount,
     /// The argument of an action is no value of the files.
     NotAValue,
+    /// A link of a proof file begins at a pair that no link before it makes.
+    NoPair,
 }
 
 impl Rule {
-    /// The number by which a refusal names the rule, from 10 to 32. It takes no memory.
+    /// The number by which a refusal names the rule, from 10 to 33. It takes no memory.
     pub fn number(self) -> u8
         ensures { result ≡ rule_number self }
     {
@@ -62,6 +64,7 @@ impl Rule {
             Rule::NoOperator => 30,
             Rule::ArgumentCount => 31,
             Rule::NotAValue => 32,
+            Rule::NoPair => 33,
         }
     }
 }

@@ -3,7 +3,7 @@ use Rattle.std.proofs.Common.{◌≡◌, ℕ, inl, inr, List, [], ◌∷◌, ref
 use Rattle.std.specs.Prelude.{◌==◌, if◌then◌else◌}
 use Rattle.tl_syntax.specs.Lists.{Each, Among}
 use Rattle.tl_forms.specs.declared.rule.Rule.{Rule}
-use Rattle.tl_forms.specs.declared.rule.Rule.TheVariants.{Shape, Unknown, Twice, Arity, Unbound, Shadow, NotInBound, Temporal, GoalArg, Limit, NotGround, TwoValues, NoOperator, ArgumentCount, NotAValue}
+use Rattle.tl_forms.specs.declared.rule.Rule.TheVariants.{Shape, Unknown, Twice, Arity, Unbound, Shadow, NotInBound, Temporal, GoalArg, Limit, NotGround, TwoValues, NoOperator, ArgumentCount, NotAValue, NoPair}
 use Rattle.tl_forms.specs.Rules.{Break, rule_number, IsNoLater, IsLeastBreak}
 
 -- the rule of this number
@@ -12,7 +12,7 @@ rule_of n =
     if n == 10 then Shape else (if n == 11 then Unknown else (if n == 12 then Twice else (if n == 13 then Arity else
     (if n == 14 then Unbound else (if n == 15 then Shadow else (if n == 16 then NotInBound else (if n == 17 then Temporal else
     (if n == 18 then GoalArg else (if n == 19 then Limit else (if n == 20 then NotGround else (if n == 21 then TwoValues else
-    (if n == 30 then NoOperator else (if n == 31 then ArgumentCount else NotAValue)))))))))))))
+    (if n == 30 then NoOperator else (if n == 31 then ArgumentCount else (if n == 32 then NotAValue else NoPair))))))))))))))
 
 rule_of_number : (r : Rule) → rule_of (rule_number r) ≡ r
 rule_of_number Shape = refl
@@ -30,6 +30,7 @@ rule_of_number TwoValues = refl
 rule_of_number NoOperator = refl
 rule_of_number ArgumentCount = refl
 rule_of_number NotAValue = refl
+rule_of_number NoPair = refl
 
 -- rules of one number are one rule
 one_rule : (r s : Rule) → rule_number r ≡ rule_number s → r ≡ s
