@@ -1,5 +1,5 @@
 -- What comes of an arrival.
-use Rattle.std.proofs.Common.{◌≡◌, ◌≢◌, ◌≤◌, ◌<◌, ◌+◌, ◌*◌, ◌^◌, ℕ, suc, List, [], ◌∷◌, ◌++◌, length, drop, set, Option, Some, None, refl, sym, ap, ◌∙◌, subst, arith, append_assoc, length-append}
+use Rattle.std.proofs.Common.{◌≡◌, ◌≢◌, ◌≤◌, ◌<◌, ◌+◌, ◌*◌, ◌^◌, ℕ, suc, List, [], ◌∷◌, ◌++◌, length, drop, set, true, false, Option, Some, None, refl, sym, ap, ◌∙◌, subst, arith, append_assoc, length-append}
 use Rattle.std.specs.List.{slice_get}
 use Rattle.tl_syntax.specs.declared.action.Action.{Action}
 use Rattle.tl_syntax.specs.Lists.{Each}
@@ -28,7 +28,7 @@ use Rattle.tl_depth.proofs.Running as run
 use Rattle.tl_depth.proofs.PairAnswers as answers
 use Rattle.tl_depth.proofs.PairWalks.{pairs-lawful, pairs-actions}
 use Rattle.tl_depth.specs.Outcomes.{Reported, AreFewCalls, IsDepthFirstOutcome, IsDepthFirstFault}
-use Rattle.tl_depth.specs.Ongoing.{AreSized, IsArrived, IsEntered, to_do, IsEntryFault, Turned}
+use Rattle.tl_depth.specs.Ongoing.{AreSized, IsUncut, IsArrived, IsEntered, to_do, IsEntryFault, Turned}
 use Rattle.tl_search.specs.declared.arrival.Arrival.{Arrival}
 use Rattle.tl_depth.specs.declared.stack.DepthFirst.{DepthFirst}
 use Rattle.tl_search.specs.declared.fault.SearchFault.{SearchFault}
@@ -36,37 +36,43 @@ use Rattle.tl_search.specs.declared.fault.SearchFault.TheVariants as fault
 use Rattle.tl_search.specs.declared.outcome.Outcome.{Outcome}
 use Rattle.tl_search.specs.declared.outcome.Outcome.TheVariants as outcome
 use Rattle.tl_depth.proofs.Spending.{led-near, led-spent}
-use Rattle.tl_depth.proofs.GoingOn.{told-reports, get-more, height-stepped, to-do-is, less-pass, less-enter, low, ongoing, sized-last, sized-stepped}
+use Rattle.tl_depth.proofs.GoingOn.{told-reports, get-more, height-stepped, to-do-is, less-pass, less-enter, low, ongoing, sized-last, sized-stepped, uncut-set, uncut-pushed}
 
 module _ (p : PlainProblem) (b : ℕ) (kept : List Pair) (w : DepthFirst) (arrival : Arrival) (left calls : ℕ) (s : IsArrived p b kept w arrival left calls) where
   told-kept : kept ≡ s.old → ReportsOneMore s.from s.action (Reported w.watch s.old s.before) (Reported w.watch kept w.events)
   told-kept e = told-reports w.watch s.before w.events s.top s.old kept s.from s.action s.told s.at_action s.at_node (λ j x h. subst (λ k. slice_get k j ≡ Some x) (sym e) h)
 
   -- the frames with their top passed are as before, but for that
-  pub passed : (after : DepthFirst) → ((front : List Level) (c : Level) → w.stack.items ≡ front ++ c ∷ [] → after.stack.items ≡ front ++ stepped c ∷ []) → after ≡ record w { stack = after.stack }
-      → (more : List Pair) (most : List ℕ) → kept ≡ more → after.most.items ≡ most
+  pub passed : (after : DepthFirst) → ((front : List Level) (c : Level) → w.stack.items ≡ front ++ c ∷ [] → after.stack.items ≡ front ++ stepped c ∷ []) → after.within ≡ w.within → after.watch ≡ w.watch → after.events ≡ w.events
+      → (more : List Pair) (most : List ℕ) → kept ≡ more → after.most.items ≡ most → (after.reenters ≡ false → IsUncut most)
       → IsRunning pair_discrete (graph_of p) w.within (Reported w.watch kept w.events) more most (s.front ++ stepped s.top ∷ []) (calls + 1) → length more ≤ b → entries_left b w.within most ≤ entries_left b w.within w.most.items
       → Turned p b kept w after (calls + 1) None
-  passed after st rest more most e m r f l = (
+  passed after st wn ww we more most e m u r f l = (
     ongoing p b w.within w.watch kept w.events most (s.front ++ stepped s.top ∷ []) (calls + 1) after s.unpruned (subst (λ k. IsRunning pair_discrete (graph_of p) w.within (Reported w.watch kept w.events) k most (s.front ++ stepped s.top ∷ []) (calls + 1)) (sym e) r) (omega (arith, ap length e, f))
-        (sized-stepped s.front s.top (subst AreSized s.stack s.sized)) (ap (λ (v : DepthFirst). v.within) rest) (ap (λ (v : DepthFirst). v.watch) rest) (ap (λ (v : DepthFirst). v.events) rest) m (st s.front s.top s.stack),
+        (sized-stepped s.front s.top (subst AreSized s.stack s.sized)) u wn ww we m (st s.front s.top s.stack),
     less,
-    ap (λ (v : DepthFirst). v.within) rest,
-    ap (λ (v : DepthFirst). v.watch) rest,
+    wn,
+    ww,
   )
     where
       less : to_do b after < to_do b w
-      less = subst (λ x. x < to_do b w) (sym (to-do-is b after w.within most (s.front ++ stepped s.top ∷ []) (ap (λ (v : DepthFirst). v.within) rest) m (st s.front s.top s.stack)))
+      less = subst (λ x. x < to_do b w) (sym (to-do-is b after w.within most (s.front ++ stepped s.top ∷ []) wn m (st s.front s.top s.stack)))
           (less-pass (entries_left b w.within w.most.items) (entries_left b w.within most) (suc w.within * 2 ^ 64) (level_height w.stack.items) (level_height (s.front ++ stepped s.top ∷ [])) l
           (subst (λ us. level_height (s.front ++ stepped s.top ∷ []) < level_height us) (sym s.stack) (height-stepped s.front s.top s.action s.at_action)))
+
+  -- and so is the search but for its stack
+  passed-alone : (after : DepthFirst) → ((front : List Level) (c : Level) → w.stack.items ≡ front ++ c ∷ [] → after.stack.items ≡ front ++ stepped c ∷ []) → after ≡ record w { stack = after.stack }
+      → kept ≡ s.old → IsRunning pair_discrete (graph_of p) w.within (Reported w.watch kept w.events) s.old w.most.items (s.front ++ stepped s.top ∷ []) (suc calls) → Turned p b kept w after (calls + 1) None
+  passed-alone after st rest e r = passed after st (ap (λ (v : DepthFirst). v.within) rest) (ap (λ (v : DepthFirst). v.watch) rest) (ap (λ (v : DepthFirst). v.events) rest) s.old w.most.items e (ap (λ (v : DepthFirst). v.most.items) rest)
+      (λ f. s.uncut (sym (ap (λ (v : DepthFirst). v.reenters) rest) ∙ f))
+      (subst (λ k. IsRunning pair_discrete (graph_of p) w.within (Reported w.watch kept w.events) s.old w.most.items (s.front ++ stepped s.top ∷ []) k) (let q : suc calls ≡ calls + 1 = omega arith in q) r)
+      s.few (omega arith)
 
   pub turned-pruned : (after : DepthFirst) → ((front : List Level) (c : Level) → w.stack.items ≡ front ++ c ∷ [] → after.stack.items ≡ front ++ stepped c ∷ []) → after ≡ record w { stack = after.stack }
       → (kept ≡ s.old) × (unless_pruned (next_pair p s.from s.action) ≡ None) → Turned p b kept w after (calls + 1) None
   unfolding graph_of
-  turned-pruned after st rest h = passed after st rest s.old w.most.items h.0 (ap (λ (v : DepthFirst). v.most.items) rest)
-      (subst (λ k. IsRunning pair_discrete (graph_of p) w.within (Reported w.watch kept w.events) s.old w.most.items (s.front ++ stepped s.top ∷ []) k) (let q : suc calls ≡ calls + 1 = omega arith in q)
-      (run.passes-pruned pair_discrete (graph_of p) w.within (pairs-lawful p) (Reported w.watch s.old s.before) (Reported w.watch kept w.events) s.old w.most.items s.front s.top calls s.action s.from s.running s.at_action s.at_node (told-kept h.0) h.1))
-      s.few (omega arith)
+  turned-pruned after st rest h = passed-alone after st rest h.0
+      (run.passes-pruned pair_discrete (graph_of p) w.within (pairs-lawful p) (Reported w.watch s.old s.before) (Reported w.watch kept w.events) s.old w.most.items s.front s.top calls s.action s.from s.running s.at_action s.at_node (told-kept h.0) h.1)
 
   -- the calls with this one are few
   few-calls : kept ≡ s.old → AreFewCalls p w.within kept (calls + 1)
@@ -127,16 +133,27 @@ module _ (p : PlainProblem) (b : ℕ) (kept : List Pair) (w : DepthFirst) (arriv
     pub turned-passes : (after : DepthFirst) → ((front : List Level) (c : Level) → w.stack.items ≡ front ++ c ∷ [] → after.stack.items ≡ front ++ stepped c ∷ []) → after ≡ record w { stack = after.stack }
         → (m : ℕ) → slice_get w.most.items k ≡ Some m → left ≤ m → Turned p b kept w after (calls + 1) None
     unfolding graph_of
-    turned-passes after st rest m e l = passed after st rest s.old w.most.items same (ap (λ (v : DepthFirst). v.most.items) rest)
-        (subst (λ z. IsRunning pair_discrete (graph_of p) w.within (Reported w.watch kept w.events) s.old w.most.items (s.front ++ stepped s.top ∷ []) z) (let z : suc calls ≡ calls + 1 = omega arith in z)
-        (run.passes-seen pair_discrete (graph_of p) w.within (pairs-lawful p) (Reported w.watch s.old s.before) (Reported w.watch kept w.events) s.old w.most.items s.front s.top calls s.action s.from s.running s.at_action s.at_node (told-kept same) k q m leads at-pair e (omega (arith, s.remaining))))
-        s.few (omega arith)
+    turned-passes after st rest m e l = passed-alone after st rest same
+        (run.passes-seen pair_discrete (graph_of p) w.within (pairs-lawful p) (Reported w.watch s.old s.before) (Reported w.watch kept w.events) s.old w.most.items s.front s.top calls s.action s.from s.running s.at_action s.at_node (told-kept same) k q m leads at-pair e (omega (arith, s.remaining)))
 
-    pub turned-again : (after : DepthFirst) → IsEntered p kept k left w.stack.items after.stack.items → after.within ≡ w.within → after.watch ≡ w.watch → after.events ≡ w.events → after.most.items ≡ set w.most.items k left
+    refused : IsPairAccepted p q → ⊥
+    refused = (answers.kept-led p w.within s.unpruned (Reported w.watch s.old s.before) s.old w.most.items (s.front ++ s.top ∷ []) calls s.running k q at-pair).1
+
+    -- where no pair is entered again, none was met with no remaining action
+    pub turned-kept : (after : DepthFirst) → ((front : List Level) (c : Level) → w.stack.items ≡ front ++ c ∷ [] → after.stack.items ≡ front ++ stepped c ∷ []) → after.within ≡ w.within → after.watch ≡ w.watch → after.events ≡ w.events → after.most.items ≡ set w.most.items k left
+        → (m : ℕ) → slice_get w.most.items k ≡ Some m → m < left → w.reenters ≡ false → Turned p b kept w after (calls + 1) None
+    unfolding graph_of
+    turned-kept after st wn ww we wm m e l u = passed after st wn ww we s.old (set w.most.items k left) same wm (λ f. uncut-set w.most.items k left (omega arith) (s.uncut u))
+        (subst (λ z. IsRunning pair_discrete (graph_of p) w.within (Reported w.watch kept w.events) s.old (set w.most.items k left) (s.front ++ stepped s.top ∷ []) z) (let z : suc calls ≡ calls + 1 = omega arith in z)
+        (run.passes-kept pair_discrete (graph_of p) w.within (pairs-lawful p) (Reported w.watch s.old s.before) (Reported w.watch kept w.events) s.old w.most.items s.front s.top calls s.action s.from s.running s.at_action s.at_node (told-kept same) q left leads s.remaining refused k m at-pair e l (s.uncut u)))
+        s.few (omega (arith, entries-set b w.within left m w.most.items k e l (omega (arith, under.0, s.remaining))))
+
+    pub turned-again : (after : DepthFirst) → IsEntered p kept k left w.stack.items after.stack.items → after.within ≡ w.within → after.watch ≡ w.watch → after.events ≡ w.events → after.reenters ≡ w.reenters → after.most.items ≡ set w.most.items k left
         → (m : ℕ) → slice_get w.most.items k ≡ Some m → m < left → Turned p b kept w after (calls + 1) None
     unfolding graph_of
-    turned-again after t wn ww we wm m e l = (
-      ongoing p b w.within w.watch kept w.events (set w.most.items k left) ((s.front ++ s.top ∷ []) ++ t.level ∷ []) (calls + 1) after s.unpruned running (omega (arith, ap length same, s.few)) sized wn ww we wm levels,
+    turned-again after t wn ww we wr wm m e l = (
+      ongoing p b w.within w.watch kept w.events (set w.most.items k left) ((s.front ++ s.top ∷ []) ++ t.level ∷ []) (calls + 1) after s.unpruned running (omega (arith, ap length same, s.few)) sized
+          (λ u. uncut-set w.most.items k left (omega arith) (s.uncut (sym wr ∙ u))) wn ww we wm levels,
       subst (λ x. x < to_do b w) (sym (to-do-is b after w.within (set w.most.items k left) ((s.front ++ s.top ∷ []) ++ t.level ∷ []) wn wm levels))
           (less-enter (entries_left b w.within w.most.items) (entries_left b w.within (set w.most.items k left)) (suc w.within * 2 ^ 64) (level_height w.stack.items) (level_height ((s.front ++ s.top ∷ []) ++ t.level ∷ []))
           (entries-set b w.within left m w.most.items k e l (omega (arith, under.0, s.remaining)))
@@ -150,9 +167,6 @@ module _ (p : PlainProblem) (b : ℕ) (kept : List Pair) (w : DepthFirst) (arriv
 
         sized : AreSized ((s.front ++ s.top ∷ []) ++ t.level ∷ [])
         sized = sized-last (s.front ++ s.top ∷ []) t.level (subst AreSized s.stack s.sized) t.sized
-
-        refused : IsPairAccepted p q → ⊥
-        refused = (answers.kept-led p w.within s.unpruned (Reported w.watch s.old s.before) s.old w.most.items (s.front ++ s.top ∷ []) calls s.running k q at-pair).1
 
         running : IsRunning pair_discrete (graph_of p) w.within (Reported w.watch kept w.events) kept (set w.most.items k left) ((s.front ++ s.top ∷ []) ++ t.level ∷ []) (calls + 1)
         running =
@@ -178,29 +192,19 @@ module _ (p : PlainProblem) (b : ℕ) (kept : List Pair) (w : DepthFirst) (arriv
     long = omega (arith, ap length more, length-append s.old (q ∷ []), number)
 
     pub turned-last : (after : DepthFirst) → ((front : List Level) (c : Level) → w.stack.items ≡ front ++ c ∷ [] → after.stack.items ≡ front ++ stepped c ∷ []) → after.within ≡ w.within → after.watch ≡ w.watch → after.events ≡ w.events
-        → after.most.items ≡ w.most.items ++ left ∷ [] → left ≡ 0 → k < b → (IsPairAccepted p q → ⊥) → Turned p b kept w after (calls + 1) None
+        → after.reenters ≡ true → after.most.items ≡ w.most.items ++ left ∷ [] → left ≡ 0 → k < b → (IsPairAccepted p q → ⊥) → Turned p b kept w after (calls + 1) None
     unfolding graph_of
-    turned-last after st wn ww we wm z l refused = (
-      ongoing p b w.within w.watch kept w.events (w.most.items ++ left ∷ []) (s.front ++ stepped s.top ∷ []) (calls + 1) after s.unpruned running (omega (arith, long)) (sized-stepped s.front s.top (subst AreSized s.stack s.sized)) wn ww we wm (st s.front s.top s.stack),
-      subst (λ x. x < to_do b w) (sym (to-do-is b after w.within (w.most.items ++ left ∷ []) (s.front ++ stepped s.top ∷ []) wn wm (st s.front s.top s.stack)))
-          (less-pass (entries_left b w.within w.most.items) (entries_left b w.within (w.most.items ++ left ∷ [])) (suc w.within * 2 ^ 64) (level_height w.stack.items) (level_height (s.front ++ stepped s.top ∷ []))
-          (omega (arith, entries-pushed b w.within left w.most.items (omega (arith, s.running.sized, number))))
-          (subst (λ us. level_height (s.front ++ stepped s.top ∷ []) < level_height us) (sym s.stack) (height-stepped s.front s.top s.action s.at_action))),
-      wn,
-      ww,
-    )
-      where
-        running : IsRunning pair_discrete (graph_of p) w.within (Reported w.watch kept w.events) kept (w.most.items ++ left ∷ []) (s.front ++ stepped s.top ∷ []) (calls + 1)
-        running =
-            subst (λ z. IsRunning pair_discrete (graph_of p) w.within (Reported w.watch kept w.events) z (w.most.items ++ left ∷ []) (s.front ++ stepped s.top ∷ []) (calls + 1)) (sym more)
-            (subst (λ z. IsRunning pair_discrete (graph_of p) w.within (Reported w.watch kept w.events) (s.old ++ q ∷ []) (w.most.items ++ left ∷ []) (s.front ++ stepped s.top ∷ []) z) (let z : suc calls ≡ calls + 1 = omega arith in z)
-            (run.passes-fresh pair_discrete (graph_of p) w.within (pairs-lawful p) (Reported w.watch s.old s.before) (Reported w.watch kept w.events) s.old w.most.items s.front s.top calls s.action s.from s.running s.at_action s.at_node told-more q left leads s.remaining refused new z))
+    turned-last after st wn ww we wr wm z l refused = passed after st wn ww we (s.old ++ q ∷ []) (w.most.items ++ left ∷ []) more wm (λ f. absurd (let u : false ≡ true = sym f ∙ wr in cc))
+        (subst (λ z. IsRunning pair_discrete (graph_of p) w.within (Reported w.watch kept w.events) (s.old ++ q ∷ []) (w.most.items ++ left ∷ []) (s.front ++ stepped s.top ∷ []) z) (let z : suc calls ≡ calls + 1 = omega arith in z)
+        (run.passes-fresh pair_discrete (graph_of p) w.within (pairs-lawful p) (Reported w.watch s.old s.before) (Reported w.watch kept w.events) s.old w.most.items s.front s.top calls s.action s.from s.running s.at_action s.at_node told-more q left leads s.remaining refused new z))
+        (omega (arith, long, ap length more)) (omega (arith, entries-pushed b w.within left w.most.items (omega (arith, s.running.sized, number))))
 
-    pub turned-entered : (after : DepthFirst) → IsEntered p kept k left w.stack.items after.stack.items → after.within ≡ w.within → after.watch ≡ w.watch → after.events ≡ w.events → after.most.items ≡ w.most.items ++ left ∷ []
+    pub turned-entered : (after : DepthFirst) → IsEntered p kept k left w.stack.items after.stack.items → after.within ≡ w.within → after.watch ≡ w.watch → after.events ≡ w.events → after.reenters ≡ w.reenters → after.most.items ≡ w.most.items ++ left ∷ []
         → 0 < left → k < b → (IsPairAccepted p q → ⊥) → Turned p b kept w after (calls + 1) None
     unfolding graph_of
-    turned-entered after t wn ww we wm z l refused = (
-      ongoing p b w.within w.watch kept w.events (w.most.items ++ left ∷ []) ((s.front ++ s.top ∷ []) ++ t.level ∷ []) (calls + 1) after s.unpruned running (omega (arith, long)) sized wn ww we wm levels,
+    turned-entered after t wn ww we wr wm z l refused = (
+      ongoing p b w.within w.watch kept w.events (w.most.items ++ left ∷ []) ((s.front ++ s.top ∷ []) ++ t.level ∷ []) (calls + 1) after s.unpruned running (omega (arith, long)) sized
+          (λ u. uncut-pushed w.most.items left z (s.uncut (sym wr ∙ u))) wn ww we wm levels,
       subst (λ x. x < to_do b w) (sym (to-do-is b after w.within (w.most.items ++ left ∷ []) ((s.front ++ s.top ∷ []) ++ t.level ∷ []) wn wm levels))
           (less-enter (entries_left b w.within w.most.items) (entries_left b w.within (w.most.items ++ left ∷ [])) (suc w.within * 2 ^ 64) (level_height w.stack.items) (level_height ((s.front ++ s.top ∷ []) ++ t.level ∷ []))
           (entries-pushed b w.within left w.most.items (omega (arith, s.running.sized, number)))

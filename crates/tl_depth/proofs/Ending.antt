@@ -38,7 +38,7 @@ use Rattle.tl_search.specs.declared.fault.SearchFault.{SearchFault}
 use Rattle.tl_search.specs.declared.fault.SearchFault.TheVariants as fault
 use Rattle.tl_depth.specs.declared.stack.DepthFirst.{DepthFirst}
 use Rattle.tl_search.specs.declared.outcome.Outcome.TheVariants as outcome
-use Rattle.tl_depth.proofs.GoingOn.{ongoing}
+use Rattle.tl_depth.proofs.GoingOn.{ongoing, uncut-pushed}
 
 -- ---- the end
 
@@ -149,13 +149,13 @@ module _ (p : PlainProblem) (b : ℕ) (kept : List Pair) (x : Pair) (some : 1 �
   refused-first : (IsPairAccepted p x → ⊥) → IsPairAccepted p (first_pair p) → ⊥
   refused-first r a = r (subst (IsPairAccepted p) (unpruned-first p x first).1 a)
 
-  pub begun-last : (w after : DepthFirst) → IsNew w → (IsPairAccepted p x → ⊥) → w.within ≡ 0 → after.within ≡ w.within → after.watch ≡ w.watch → after.events ≡ w.events → after.stack.items ≡ w.stack.items → after.most.items ≡ w.most.items ++ w.within ∷ []
+  pub begun-last : (w after : DepthFirst) → IsNew w → (IsPairAccepted p x → ⊥) → w.within ≡ 0 → after.within ≡ w.within → after.watch ≡ w.watch → after.events ≡ w.events → after.reenters ≡ true → after.stack.items ≡ w.stack.items → after.most.items ≡ w.most.items ++ w.within ∷ []
       → Begun p b kept w after None
   unfolding graph_of
-  begun-last w after new refused z wn ww we ws wm = (
+  begun-last w after new refused z wn ww we wr ws wm = (
     ongoing p b w.within w.watch kept w.events (w.within ∷ []) [] 0 after (unpruned-first p x first).0
         (subst (λ k. IsRunning pair_discrete (graph_of p) w.within (Reported w.watch kept w.events) k (w.within ∷ []) [] 0) (sym only) (run.begins-last pair_discrete (graph_of p) w.within (pairs-lawful p) (Reported w.watch kept w.events) z (refused-first refused)))
-        (omega (arith, ap length is)) tt wn ww we (wm ∙ ap (λ us. us ++ w.within ∷ []) new.most) (ws ∙ new.stack),
+        (omega (arith, ap length is)) tt (λ f. absurd (let u : false ≡ true = sym f ∙ wr in cc)) wn ww we (wm ∙ ap (λ us. us ++ w.within ∷ []) new.most) (ws ∙ new.stack),
     wn,
     ww,
   )
@@ -167,7 +167,7 @@ module _ (p : PlainProblem) (b : ℕ) (kept : List Pair) (x : Pair) (some : 1 �
     ongoing p b w.within w.watch kept w.events (w.within ∷ []) (t.level ∷ []) 0 after (unpruned-first p x first).0
         (subst (λ k. IsRunning pair_discrete (graph_of p) w.within (Reported w.watch kept w.events) k (w.within ∷ []) (t.level ∷ []) 0) (sym only)
         (run.begins pair_discrete (graph_of p) w.within (pairs-lawful p) (Reported w.watch kept w.events) t.level z (refused-first refused) t.its_pair t.its_left t.its_tried (pairs-actions p (first_pair p) t.level.actions (t.its_actions (first_pair p) (ap (λ k. slice_get k 0) only)))))
-        (omega (arith, ap length is)) (t.sized, tt) wn ww we (wm ∙ ap (λ us. us ++ w.within ∷ []) new.most) (t.is ∙ ap (λ us. us ++ t.level ∷ []) new.stack),
+        (omega (arith, ap length is)) (t.sized, tt) (λ f. uncut-pushed [] w.within z (λ k e. absurd (let u : ⊥ = cc in u))) wn ww we (wm ∙ ap (λ us. us ++ w.within ∷ []) new.most) (t.is ∙ ap (λ us. us ++ t.level ∷ []) new.stack),
     wn,
     ww,
   )

@@ -1,5 +1,5 @@
 -- What the search needs between its steps: what is left to do falls, and lists of actions keep their sizes.
-use Rattle.std.proofs.Common.{◌≡◌, ◌≢◌, ◌≤◌, ◌<◌, ◌+◌, ◌*◌, ◌^◌, ℕ, zero, suc, List, [], ◌∷◌, ◌++◌, length, drop, Bool, true, false, Some, sym, ap, ◌∙◌, subst, inl, inr, arith, mul-le-mul_right}
+use Rattle.std.proofs.Common.{◌≡◌, ◌≢◌, ◌≤◌, ◌<◌, ◌+◌, ◌*◌, ◌^◌, ℕ, zero, suc, List, [], ◌∷◌, ◌++◌, length, drop, set, Bool, true, false, Some, sym, ap, ◌∙◌, subst, inl, inr, arith, mul-le-mul_right}
 use Rattle.std.specs.List.{slice_get}
 use Rattle.tl_syntax.specs.declared.action.Action.{Action}
 use Rattle.tl_syntax.specs.Lists.{One}
@@ -17,7 +17,7 @@ use Rattle.tl_depth.proofs.Tables.{height-bounded}
 use Rattle.tl_depth.specs.Tables.{met_in, height}
 use Rattle.tl_depth.specs.Stacks.{IsEventOf, IsToldOf}
 use Rattle.tl_depth.specs.Outcomes.{Reported}
-use Rattle.tl_depth.specs.Ongoing.{AreSized, IsOngoing, to_do}
+use Rattle.tl_depth.specs.Ongoing.{AreSized, IsUncut, IsOngoing, to_do}
 use Rattle.tl_search.specs.declared.event.Event.{Event}
 use Rattle.tl_depth.specs.declared.stack.DepthFirst.{DepthFirst}
 
@@ -69,12 +69,27 @@ low p n reported kept most levels calls r z =
     let b = height-bounded (graph_of p) n reported (met_in pair_discrete kept most) (frames_of kept (graph_of p).root levels []) r.searching (frames-sized kept (graph_of p).root levels [] z tt) in
     omega (arith, h, b)
 
+-- ---- no pair was met with no remaining action
+
+pub uncut-set : (most : List ℕ) (k r : ℕ) → 0 < r → IsUncut most → IsUncut (set most k r)
+uncut-set [] k r p u j e = u j e
+uncut-set (m ∷ most) zero r p u zero e = let i : r ≡ 0 = cc in omega (arith, i)
+uncut-set (m ∷ most) zero r p u (suc j) e = u (suc j) e
+uncut-set (m ∷ most) (suc k) r p u zero e = u zero e
+uncut-set (m ∷ most) (suc k) r p u (suc j) e = uncut-set most k r p (λ i f. u (suc i) f) j e
+
+pub uncut-pushed : (most : List ℕ) (r : ℕ) → 0 < r → IsUncut most → IsUncut (most ++ r ∷ [])
+uncut-pushed [] r p u zero e = let i : r ≡ 0 = cc in omega (arith, i)
+uncut-pushed [] r p u (suc j) e = cc
+uncut-pushed (m ∷ most) r p u zero e = u zero e
+uncut-pushed (m ∷ most) r p u (suc j) e = uncut-pushed most r p (λ i f. u (suc i) f) j e
+
 -- ---- a search that goes on
 
 pub ongoing : (p : PlainProblem) (b n : ℕ) (watch : Bool) (kept : List Pair) (events : List Event) (most : List ℕ) (levels : List Level) (calls : ℕ) (w : DepthFirst) → (first_pair p).formula ≢ falsum
     → IsRunning pair_discrete (graph_of p) n (Reported watch kept events) kept most levels calls → length kept ≤ b → AreSized levels
-    → w.within ≡ n → w.watch ≡ watch → w.events ≡ events → w.most.items ≡ most → w.stack.items ≡ levels → IsOngoing p b kept w calls
-ongoing p b n watch kept events most levels calls w u r f z wn ww we wm ws = record {
+    → (w.reenters ≡ false → IsUncut most) → w.within ≡ n → w.watch ≡ watch → w.events ≡ events → w.most.items ≡ most → w.stack.items ≡ levels → IsOngoing p b kept w calls
+ongoing p b n watch kept events most levels calls w u r f z c wn ww we wm ws = record {
   unpruned = u;
   running =
       subst (λ x. IsRunning pair_discrete (graph_of p) x (Reported w.watch kept w.events) kept w.most.items w.stack.items calls) (sym wn)
@@ -84,6 +99,7 @@ ongoing p b n watch kept events most levels calls w u r f z wn ww we wm ws = rec
       (subst (λ x. IsRunning pair_discrete (graph_of p) n (Reported watch kept events) kept most x calls) (sym ws) r))));
   few = f;
   sized = subst AreSized (sym ws) z;
+  uncut = λ e. subst IsUncut (sym wm) (c e);
 }
 
 pub sized-front : (front : List Level) (c : Level) → AreSized (front ++ c ∷ []) → AreSized front

@@ -3,6 +3,7 @@ mod SeenPairs
 mod ListFacts
 mod WalkLaws
 mod OrderFacts
+mod Exploring
 mod StackLaws
 mod SearchSteps
 mod Meeting

@@ -1,12 +1,14 @@
 -- A node is met with more remaining actions than ever before.
-use Rattle.std.proofs.Common.{◌≡◌, ◌≢◌, ◌≤◌, ◌<◌, ◌+◌, ℕ, suc, List, [], ◌∷◌, ◌++◌, length, Some, None, sym, ap, ◌∙◌, subst, inl, inr, length-append, arith}
+use Rattle.std.specs.Prelude.{IsTrue}
+use Rattle.std.proofs.Common.{◌≡◌, ◌≢◌, ◌≤◌, ◌<◌, ◌+◌, ℕ, zero, suc, List, [], ◌∷◌, ◌++◌, length, Some, None, sym, ap, ◌∙◌, subst, inl, inr, length-append, arith}
 use Rattle.tl_syntax.specs.declared.action.Action.{Action}
 use Rattle.tl_syntax.specs.Lists.{Each}
 use Rattle.tl_depth.specs.ActionGraphs.{ActionGraph, IsLawful, AreActionsOf, node_after}
-use Rattle.tl_depth.specs.Search.{Memory, Reports, Frame, at_hand, gone, advanced, entered, IsCovered, AreFrames, IsOnStack, IsKept, IsDepthFirst, IsMet, IsDeeper}
+use Rattle.tl_depth.specs.Search.{Memory, Reports, Frame, at_hand, gone, advanced, entered, IsExplored, IsCovered, IsDone, AreFrames, IsOnStack, IsKept, IsDepthFirst, IsMet, IsDeeper}
 use Rattle.tl_depth.proofs.ListFacts.{each_map}
 use Rattle.tl_depth.proofs.WalkLaws.{walk-last, walk-nothing, simple-empty}
 use Rattle.tl_depth.proofs.OrderFacts.{none-before}
+use Rattle.tl_depth.proofs.Exploring.{explored-kept, met-explored, successors-explored, some-left, explored-on}
 use Rattle.tl_depth.proofs.StackLaws.{gone-under}
 use Rattle.tl_depth.proofs.SearchSteps.{leading-next, advance}
 
@@ -24,12 +26,29 @@ module _ {Node : Type 0} (same : Discrete Node) (g : ActionGraph Node) (n : ℕ)
           let longer : length (gone (h ∷ below)) ≡ length (gone below) + 1 = ap length (gone-under g n reported met h below s.2.0) ∙ length-append (gone below) (s.2.0.action ∷ []) in
           (w.0, w.1, omega (arith, s.0.budget, s.3.0.budget, w.2))
 
+  -- while no node was met with no remaining action, each kept one is explored as deep as the top frame has remaining actions: its successors are kept, and what is on the stack was met with as many
+  pub uncut-explored : (met : Memory Node) (f : Frame Node) (below : List (Frame Node)) → IsDepthFirst g n reported met (f ∷ below) → ((x : Node) → met x ≡ Some 0 → ⊥)
+      → (l : ℕ) → l ≤ f.left → (x : Node) (m : ℕ) → met x ≡ Some m → IsExplored g met l x
+  uncut-explored met f below s uncut zero b x m e = met-explored g met zero x m e (omega arith)
+  uncut-explored met f below s uncut (suc l) b x m e =
+      let p = some-left g met uncut x m e in
+      elim (s.done x m e p) [
+        | inl o ↦ let w = lefts met f below s.frames x o in met-explored g met (suc l) x w.0 w.1 (omega (arith, w.2))
+        | inr c ↦ successors-explored g met l x m e p (λ a z i.
+            let k = explored-kept g met 0 z ((c a (lawful.executes x z a i)).0 z i 0 p) in
+            uncut-explored met f below s uncut l (omega arith) z k.0 k.1)
+      ]
+
   module _ (before after : Memory Node) (q : Node) (r : ℕ) (deeper : IsDeeper before q r) (news : IsMet q r before after) where
-    covered-on : (x : Node) (m : ℕ) (a : Action) → IsCovered g before x m a → IsCovered g after x m a
-    covered-on x m a c y e = elim (same y q) [
-      | yes i ↦ let k = c y e in let d : k.0 < r = deeper k.0 (ap before (sym i) ∙ k.1) in (r, ap after i ∙ news.this, omega (arith, k.2))
-      | no d ↦ let k = c y e in (k.0, news.others y d ∙ k.1, k.2)
+    -- no node is met with fewer remaining actions
+    grows : (y : Node) (k : ℕ) → before y ≡ Some k → (j : ℕ) × (after y ≡ Some j) × (k ≤ j)
+    grows y k e = elim (same y q) [
+      | yes i ↦ let d : k < r = deeper k (ap before (sym i) ∙ e) in (r, ap after i ∙ news.this, omega arith)
+      | no d ↦ (k, news.others y d ∙ e, omega arith)
     ]
+
+    covered-on : (x : Node) (m : ℕ) (a : Action) → IsCovered g before x m a → IsCovered g after x m a
+    covered-on x m a c y e l b = explored-on g before after grows l y (c y e l b)
 
     frames-on : (stack : List (Frame Node)) → (IsOnStack stack q → ⊥) → AreFrames g n reported before stack → AreFrames g n reported after stack
     frames-on [] off s = tt
@@ -72,20 +91,48 @@ module _ {Node : Type 0} (same : Discrete Node) (g : ActionGraph Node) (n : ℕ)
         | yes i ↦ let d : n < r = deeper n (ap before (sym i) ∙ s.begun) in absurd (omega (arith, s.frames.0.budget))
       ]
 
-      -- it is met with no remaining action, and the frame goes on
-      pub meet-last : r ≡ 0 → reported f.node a → IsDepthFirst g n reported after (advanced f a later ∷ below)
-      meet-last z t = advance g n lawful reported after f below a later met-now r-rest (λ y e. (r, ap after (let d : Some q ≡ Some y = sym leads ∙ e in let i : y ≡ q = cc in i) ∙ news.this, omega arith)) t
+      -- it is done with, and the frame goes on
+      meet-done : (0 < r → IsDone g reported after q r) → reported f.node a → IsDepthFirst g n reported after (advanced f a later ∷ below)
+      meet-done own t = advance g n lawful reported after f below a later met-now r-rest (λ y e l b. met-explored g after l y r (ap after (let d : Some q ≡ Some y = sym leads ∙ e in let i : y ≡ q = cc in i) ∙ news.this) (omega arith)) t
         where
+          this : (x : Node) (m : ℕ) → x ≡ q → after x ≡ Some m → 0 < m → IsDone g reported after x m
+          this x m i e p =
+              let d : Some r ≡ Some m = sym news.this ∙ (ap after (sym i) ∙ e) in
+              let j : r ≡ m = cc in
+              subst (λ y. IsDone g reported after y m) (sym i) (subst (IsDone g reported after q) j (own (omega (arith, j))))
+
           met-now : IsDepthFirst g n reported after (f ∷ below)
           met-now = record {
             frames = frames-on (f ∷ below) off-stack s.frames;
             kept = kept-on;
             done = λ x m e p. elim (same x q) [
-              | yes i ↦ absurd (let d : Some r ≡ Some m = sym news.this ∙ (ap after (sym i) ∙ e) in let j : r ≡ m = cc in omega (arith, j))
+              | yes i ↦ inr (this x m i e p)
               | no d ↦ elim (s.done x m (sym (news.others x d) ∙ e) p) [ inl o ↦ inl o | inr c ↦ inr (λ b t. (covered-on x m b (c b t).0, (c b t).1)) ]
             ];
             begun = begun-on;
           }
+
+      -- it is met with no remaining action
+      pub meet-last : r ≡ 0 → reported f.node a → IsDepthFirst g n reported after (advanced f a later ∷ below)
+      meet-last z t = meet-done (λ p. absurd (omega arith)) t
+
+      -- it is kept, and no node was met with none: all that it leads to within r actions is explored already
+      pub meet-kept : (k : ℕ) → before q ≡ Some k → ((x : Node) → before x ≡ Some 0 → ⊥) → reported f.node a → IsDepthFirst g n reported after (advanced f a later ∷ below)
+      meet-kept k at uncut t = meet-done (λ p. own) t
+        where
+          some : 0 < k
+          some = some-left g before uncut q k at
+
+          deep : ((b : Action) → IsTrue (g.executable q b) → IsCovered g before q k b × reported q b) → IsDone g reported after q r
+          deep c b t' = (
+            λ z i l d.
+                let w = explored-kept g before 0 z ((c b t').0 z i 0 some) in
+                explored-on g before after grows l z (uncut-explored before f below s uncut l (omega (arith, fewer)) z w.0 w.1),
+            (c b t').1,
+          )
+
+          own : IsDone g reported after q r
+          own = elim (s.done q k at some) [ inl o ↦ absurd (off-stack o) | inr c ↦ deep c ]
 
       -- it is met with some remaining action, and entered
       pub meet-entered : 0 < r → reported f.node a → (actions : List Action) → AreActionsOf g q actions → IsDepthFirst g n reported after (entered q r actions ∷ f ∷ below)

@@ -89,4 +89,5 @@ as-learnt p b kept w v r left calls rest s = subst (λ u. IsArrived p b kept u r
   arrives = s.arrives;
   few = s.few;
   sized = s.sized;
+  uncut = s.uncut;
 })

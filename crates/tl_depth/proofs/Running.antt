@@ -9,11 +9,12 @@ use Rattle.tl_depth.specs.Tables.{met_in, AllDiffer, IsCounted}
 use Rattle.tl_depth.specs.Levels.{node_at, frame_of, frames_of, stepped, IsRunning}
 use Rattle.tl_depth.specs.declared.level.Level.{Level}
 use Rattle.tl_depth.proofs.ListFacts.{each_last}
-use Rattle.tl_depth.proofs.Tables.{met_in-at, met_in-fresh, met_in-pushed, met_in-set}
-use Rattle.tl_depth.proofs.Work.{count-begun, count-begun-last, count-advanced, count-last, count-fresh, count-deeper, count-left, count-climbed}
+use Rattle.tl_depth.proofs.Exploring.{met-explored, some-left}
+use Rattle.tl_depth.proofs.Tables.{met_in-at, met_in-fresh, met_in-pushed, met_in-set, met_in-kept}
+use Rattle.tl_depth.proofs.Work.{count-begun, count-begun-last, count-advanced, count-last, count-fresh, count-deeper, count-kept, count-left, count-climbed}
 use Rattle.tl_depth.proofs.LevelFacts.{get-rest, rest-get, rest-none, get-index, get-within, frames-last, frame-more, frames-more, frame-stepped}
 use Rattle.tl_depth.proofs.SearchSteps.{advance, leave, climb, reporting}
-use Rattle.tl_depth.proofs.Meeting.{meet-last, meet-entered, begin-last, begin-entered}
+use Rattle.tl_depth.proofs.Meeting.{meet-last, meet-kept, meet-entered, begin-last, begin-entered}
 
 each_first : {A : Type 0} (P : A → Type 0) (xs ys : List A) → Each P (xs ++ ys) → Each P xs
 each_first P [] ys h = tt
@@ -98,7 +99,7 @@ module _ {Node : Type 0} (same : Discrete Node) (g : ActionGraph Node) (n : ℕ)
     placed-stepped : Each (λ (d : Level). d.at < length kept) (front ++ stepped c ∷ [])
     placed-stepped = each_last (λ (d : Level). d.at < length kept) front (stepped c) (each_first (λ (d : Level). d.at < length kept) front (c ∷ []) s.placed) (each_end (λ (d : Level). d.at < length kept) front c s.placed)
 
-    -- and is done with it: the arrival was pruned, or its node was met with enough remaining actions before
+    -- and is done with it: the arrival was pruned, or its node is explored deep enough
     pub passes : IsCovered g (met_in same kept most) x c.left a → IsRunning same g n after kept most (front ++ stepped c ∷ []) (suc calls)
     passes covered = record {
       differ = s.differ;
@@ -114,7 +115,7 @@ module _ {Node : Type 0} (same : Discrete Node) (g : ActionGraph Node) (n : ℕ)
     passes-pruned e = passes (λ y f. cc)
 
     pub passes-seen : (k : ℕ) (q : Node) (m : ℕ) → g.next x a ≡ Some q → slice_get kept k ≡ Some q → slice_get most k ≡ Some m → c.left ≤ suc m → IsRunning same g n after kept most (front ++ stepped c ∷ []) (suc calls)
-    passes-seen k q m e i j l = passes (λ y f. (m, ap (met_in same kept most) (let d : Some q ≡ Some y = sym e ∙ f in let h : y ≡ q = cc in h) ∙ met_in-at same kept most k q m s.differ i j, l))
+    passes-seen k q m e i j l = passes (λ y f d b. met-explored g (met_in same kept most) d y m (ap (met_in same kept most) (let u : Some q ≡ Some y = sym e ∙ f in let h : y ≡ q = cc in h) ∙ met_in-at same kept most k q m s.differ i j) (omega arith))
 
     -- a node is met with more remaining actions than ever before
     module _ (q : Node) (r : ℕ) (leads : g.next x a ≡ Some q) (fewer : suc r ≡ c.left) (refused : g.Accepts q → ⊥) where
@@ -183,7 +184,30 @@ module _ {Node : Type 0} (same : Discrete Node) (g : ActionGraph Node) (n : ℕ)
           there : entered q r d.actions ∷ frame_of kept g.root c ∷ frames_of kept g.root front [] ≡ frames_of (kept ++ q ∷ []) g.root ((front ++ c ∷ []) ++ d ∷ []) []
           there = entered-here (kept ++ q ∷ []) d (more-here f) front-more (ap (slice_get (kept ++ q ∷ [])) at ∙ pushed kept) left tried
 
-      -- and a kept one again
+      deeper-kept : (k m : ℕ) → slice_get kept k ≡ Some q → slice_get most k ≡ Some m → m < r → IsDeeper (met_in same kept most) q r
+      deeper-kept k m i j l z e = let d : Some m ≡ Some z = sym (met_in-at same kept most k q m s.differ i j) ∙ e in let h : m ≡ z = cc in omega (arith, h)
+
+      -- a kept one is passed, where no node was met with none
+      pub passes-kept : (k m : ℕ) → slice_get kept k ≡ Some q → slice_get most k ≡ Some m → m < r → ((j : ℕ) → slice_get most j ≡ Some 0 → ⊥)
+          → IsRunning same g n after kept (set most k r) (front ++ stepped c ∷ []) (suc calls)
+      passes-kept k m i j l uncut = record {
+        differ = s.differ;
+        sized = set-length most k r ∙ s.sized;
+        placed = placed-stepped;
+        searching = subst (IsDepthFirst g n after (met_in same kept (set most k r))) (stepped-here kept refl refl)
+            (meet-kept same g n lawful after (met_in same kept most) (met_in same kept (set most k r)) q r (deeper-kept k m i j l) (met_in-set same kept most k q r s.differ i (get-within most k m j))
+            (frame_of kept g.root c) (frames_of kept g.root front []) a (drop (c.tried + 1) c.actions) now rest-here leads-here fewer refused m at none told-here);
+        counted = subst (λ z. IsCounted g kept (set most k r) z (suc calls)) (stepped-here kept refl refl)
+            (count-kept g kept most (frame_of kept g.root c) (frames_of kept g.root front []) calls a (drop (c.tried + 1) c.actions) k q m r rest-here i j (some-left g (met_in same kept most) none q m at) l counted-here);
+      }
+        where
+          at : met_in same kept most q ≡ Some m
+          at = met_in-at same kept most k q m s.differ i j
+
+          none : (y : Node) → met_in same kept most y ≡ Some 0 → ⊥
+          none y e = let w = met_in-kept same kept most y 0 e in uncut w.0 w.2
+
+      -- and else entered again
       pub enters-again : (d : Level) (k m : ℕ) → slice_get kept k ≡ Some q → slice_get most k ≡ Some m → m < r → d.at ≡ k → d.left ≡ r → d.tried ≡ 0 → AreActionsOf g q d.actions
           → IsRunning same g n after kept (set most k r) ((front ++ c ∷ []) ++ d ∷ []) (suc calls)
       enters-again d k m i j l at left tried all = record {
@@ -191,15 +215,12 @@ module _ {Node : Type 0} (same : Discrete Node) (g : ActionGraph Node) (n : ℕ)
         sized = set-length most k r ∙ s.sized;
         placed = each_last (λ (e : Level). e.at < length kept) (front ++ c ∷ []) d s.placed (omega (arith, at, get-within kept k q i));
         searching = subst (IsDepthFirst g n after (met_in same kept (set most k r))) there
-            (meet-entered same g n lawful after (met_in same kept most) (met_in same kept (set most k r)) q r deeper (met_in-set same kept most k q r s.differ i (get-within most k m j))
+            (meet-entered same g n lawful after (met_in same kept most) (met_in same kept (set most k r)) q r (deeper-kept k m i j l) (met_in-set same kept most k q r s.differ i (get-within most k m j))
             (frame_of kept g.root c) (frames_of kept g.root front []) a (drop (c.tried + 1) c.actions) now rest-here leads-here fewer refused (omega arith) told-here d.actions all);
         counted = subst (λ z. IsCounted g kept (set most k r) z (suc calls)) there
             (count-deeper g kept most (frame_of kept g.root c) (frames_of kept g.root front []) calls a (drop (c.tried + 1) c.actions) k q m r d.actions rest-here i j l all counted-here);
       }
         where
-          deeper : IsDeeper (met_in same kept most) q r
-          deeper z e = let d : Some m ≡ Some z = sym (met_in-at same kept most k q m s.differ i j) ∙ e in let h : m ≡ z = cc in omega (arith, h)
-
           there : entered q r d.actions ∷ frame_of kept g.root c ∷ frames_of kept g.root front [] ≡ frames_of kept g.root ((front ++ c ∷ []) ++ d ∷ []) []
           there = entered-here kept d refl refl (ap (slice_get kept) at ∙ i) left tried
 

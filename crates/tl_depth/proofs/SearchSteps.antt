@@ -7,6 +7,7 @@ use Rattle.tl_depth.specs.ActionGraphs.{ActionGraph, IsLawful, AreActionsOf, wal
 use Rattle.tl_depth.specs.Search.{Memory, Reports, Frame, at_hand, gone, advanced, IsCovered, IsFruitless, IsDone, IsUnderWay, AreFrames, IsOnStack, IsDepthFirst}
 use Rattle.tl_depth.proofs.ListFacts.{each_at, each_map, each_last, append_end, front_short}
 use Rattle.tl_depth.proofs.WalkLaws.{walk-by, walk-last, simple-last, goes-by}
+use Rattle.tl_depth.proofs.Exploring.{explored-kept, met-explored}
 use Rattle.tl_depth.proofs.StackLaws.{stack-fronts, stack-nodes, stack-simple, first-on, stack-first, reach}
 
 module _ {Node : Type 0} (g : ActionGraph Node) (n : ℕ) (lawful : IsLawful g) where
@@ -47,7 +48,7 @@ module _ {Node : Type 0} (g : ActionGraph Node) (n : ℕ) (lawful : IsLawful g) 
 
     -- ---- an action that is done with
 
-    -- where the action's node was met with enough remaining actions, no simple walk to an accepted node goes by it
+    -- where the action's node is explored deep enough, no simple walk to an accepted node goes by it
     pub fruitless : (f : Frame Node) (below : List (Frame Node)) (a : Action) → IsDepthFirst g n reported met (f ∷ below) → IsCovered g met f.node f.left a → IsFruitless g n (gone below) a
     fruitless f below a s c rest w = by_next (goes-by g f.node w.reaches.last a rest (sym (walk-by g (gone below) rest a f.node s.frames.0.ends) ∙ w.reaches.ends))
       where
@@ -74,10 +75,10 @@ module _ {Node : Type 0} (g : ActionGraph Node) (n : ℕ) (lawful : IsLawful g) 
 
         by_next : ((z : Node) × (g.next f.node a ≡ Some z) × (walked g (Some z) rest ≡ Some w.reaches.last)) → ⊥
         by_next v =
-            let k = c v.0 v.1 in
-            let enough : length rest ≤ k.0 = omega (arith, long, k.2, s.frames.0.budget, w.reaches.short) in
-            let d = reach g n reported met lawful (f ∷ below) s.done rest v.0 w.reaches.last k.0 k.1 enough v.2 (off v.0 v.1) in
-            (s.kept w.reaches.last d.0 d.1).refused w.reaches.accepted
+            let deep = c v.0 v.1 (length rest) (omega (arith, long, s.frames.0.budget, w.reaches.short)) in
+            let d = reach g n reported met lawful (f ∷ below) s.done rest (length rest) v.0 w.reaches.last deep (omega arith) v.2 (off v.0 v.1) in
+            let k = explored-kept g met d.0 w.reaches.last d.2 in
+            (s.kept w.reaches.last k.0 k.1).refused w.reaches.accepted
 
     -- the top frame is done with its next action
     pub advance : (f : Frame Node) (below : List (Frame Node)) (a : Action) (later : List Action) → IsDepthFirst g n reported met (f ∷ below) → f.rest ≡ a ∷ later → IsCovered g met f.node f.left a → reported f.node a
@@ -150,11 +151,11 @@ module _ {Node : Type 0} (g : ActionGraph Node) (n : ℕ) (lawful : IsLawful g) 
         leads = sym (walk-last g (gone below) a h.node s.frames.3.0.ends) ∙ (ap (node_after g) (sym way) ∙ s.frames.0.ends)
 
         covered : IsCovered g met h.node h.left a
-        covered y e =
+        covered y e l b =
             let i : Some f.node ≡ Some y = sym leads ∙ e in
             let j : f.node ≡ y = cc in
             let longer : length (gone (h ∷ below)) ≡ length (gone below) + 1 = ap length way ∙ length-append (gone below) (a ∷ []) in
-            (f.left, ap met (sym j) ∙ s.frames.0.most, omega (arith, s.frames.0.budget, s.frames.3.0.budget))
+            met-explored g met l y f.left (ap met (sym j) ∙ s.frames.0.most) (omega (arith, s.frames.0.budget, s.frames.3.0.budget))
 
         told : reported h.node a
         told = subst (reported h.node) same under.told

@@ -1,10 +1,10 @@
 -- What the frames of a stack say of its walk.
-use Rattle.std.proofs.Common.{◌≡◌, ◌≢◌, ◌≤◌, ◌<◌, ◌+◌, ◌⊎◌, ℕ, suc, List, [], ◌∷◌, ◌++◌, length, Some, Less, refl, sym, ap, ◌∙◌, subst, inl, inr, append_assoc, arith}
+use Rattle.std.proofs.Common.{◌≡◌, ◌≢◌, ◌≤◌, ◌<◌, ◌+◌, ◌⊎◌, ℕ, zero, suc, List, [], ◌∷◌, ◌++◌, length, Some, Less, refl, sym, ap, ◌∙◌, subst, inl, inr, append_assoc, arith}
 use Rattle.tl_syntax.specs.declared.action.Action.{Action}
 use Rattle.tl_syntax.specs.Lists.{Each, One}
 use Rattle.tl_terms.specs.Orders.{plan_cmp}
 use Rattle.tl_depth.specs.ActionGraphs.{ActionGraph, IsLawful, AreActionsOf, walked, node_after, IsSimpleWalk, IsSimpleGoalWalk}
-use Rattle.tl_depth.specs.Search.{Memory, Reports, Frame, at_hand, gone, IsFruitless, IsDone, IsFrame, IsUnderWay, AreFrames, IsOnStack}
+use Rattle.tl_depth.specs.Search.{Memory, Reports, Frame, at_hand, gone, IsExplored, IsFruitless, IsDone, IsFrame, IsUnderWay, AreFrames, IsOnStack}
 use Rattle.tl_depth.proofs.ListFacts.{split_last, each_at}
 use Rattle.tl_depth.proofs.WalkLaws.{walk-by, walk-nothing, walk-first, simple-last, simple-empty, goes-by}
 use Rattle.tl_depth.proofs.OrderFacts.{none-before, BranchesBefore, before-last, before-in}
@@ -56,10 +56,6 @@ module _ {Node : Type 0} (g : ActionGraph Node) (n : ℕ) (reported : Reports No
       (simple-last g (gone below) s.2.0.action f.node (stack-simple h below s.3) (ap (node_after g) (sym (gone-under h below s.2.0)) ∙ s.0.ends)
       (λ front rest p q. off-node f.node (h ∷ below) s.1 (one-path front f.node (h ∷ below) q (stack-fronts h below s.3 front rest p))))
 
-  -- what is to be shown of a walk from a node
-  abbrev Goes : List (Frame Node) → List Action → Node → Node → Type 0
-  Goes stack path y z = (k : ℕ) → met z ≡ Some k → length path ≤ k → walked g (Some z) path ≡ Some y → ((front rest : List Action) (u : Node) → front ++ rest ≡ path → walked g (Some z) front ≡ Some u → IsOnStack stack u → ⊥) → (j : ℕ) × (met y ≡ Some j) × (k ≤ j + length path)
-
   module _ (lawful : IsLawful g) where
     -- where no simple walk to an accepted node comes before a frame's path, none comes before the path with the frame's next action
     pub first-on : (path : List Action) (f : Frame Node) (a : Action) (later : List Action) → IsFrame g n reported met path f → (g.Accepts f.node → ⊥) → f.rest ≡ a ∷ later
@@ -87,23 +83,27 @@ module _ {Node : Type 0} (g : ActionGraph Node) (n : ℕ) (reported : Reports No
         (stack-first h below s.3 refused other w)
         (subst (λ path. plan_cmp other path ≡ Less) (gone-under h below s.2.0) l)
 
-    -- where a node was met with m remaining actions, a walk of at most m actions that leads off the stack goes from kept node to kept node
+    -- what is done with, off the stack, is explored as deep as it was met, and so by each of its actions to one less
+    explored-next : (stack : List (Frame Node)) → ((x : Node) (m : ℕ) → met x ≡ Some m → 0 < m → IsOnStack stack x ⊎ IsDone g reported met x m)
+        → (l : ℕ) (x z : Node) (a : Action) → IsExplored g met (suc l) x → (IsOnStack stack x → ⊥) → g.next x a ≡ Some z → IsExplored g met l z
+    unfolding IsExplored
+    explored-next stack done l x z a e off n = elim e.2 [
+      | inl h ↦ elim (done x e.0 e.1 (omega (arith, h))) [
+        | inl o ↦ absurd (off o)
+        | inr c ↦ (c a (lawful.executes x z a n)).0 z n l (omega (arith, h))
+      ]
+      | inr h ↦ h.1 a z n
+    ]
+
+    -- where a node is explored to a depth, a walk of at most so many actions that stays off the stack leads to a node that is explored to what is left of the depth
     pub reach : (stack : List (Frame Node)) → ((x : Node) (m : ℕ) → met x ≡ Some m → 0 < m → IsOnStack stack x ⊎ IsDone g reported met x m)
-        → (path : List Action) (x y : Node) (m : ℕ) → met x ≡ Some m → length path ≤ m → walked g (Some x) path ≡ Some y
+        → (path : List Action) (l : ℕ) (x y : Node) → IsExplored g met l x → length path ≤ l → walked g (Some x) path ≡ Some y
         → ((front rest : List Action) (z : Node) → front ++ rest ≡ path → walked g (Some x) front ≡ Some z → IsOnStack stack z → ⊥)
-        → (k : ℕ) × (met y ≡ Some k) × (m ≤ k + length path)
-    reach stack done [] x y m e l w off = (m, ap met (let q : Some y ≡ Some x = sym w ∙ walk-nothing g (Some x) in let p : y ≡ x = cc in p) ∙ e, omega arith)
-    reach stack done (a ∷ path) x y m e l w off =
-        go (λ z k p q r o. reach stack done path z y k p q r o) (done x m e (omega arith)) (goes-by g x y a path (sym (walk-first g x a path) ∙ w))
-      where
-        from : (z : Node) → g.next x a ≡ Some z → (us : List Action) → walked g (Some x) (a ∷ us) ≡ walked g (Some z) us
-        from z q us = walk-first g x a us ∙ ap (λ o. walked g o us) q
-
-        on : (z : Node) → Goes stack path y z → g.next x a ≡ Some z → walked g (Some z) path ≡ Some y → ((k : ℕ) × (met z ≡ Some k) × (m ≤ suc k)) → (k : ℕ) × (met y ≡ Some k) × (m ≤ k + length (a ∷ path))
-        on z ih p q c =
-            let d = ih c.0 c.1 (omega (arith, c.2)) q (λ front rest z' f t o. off (a ∷ front) rest z' (ap (λ us. a ∷ us) f) (from z p front ∙ t) o) in
-            (d.0, d.1, omega (arith, c.2, d.2))
-
-        go : ((z : Node) → Goes stack path y z) → (IsOnStack stack x ⊎ IsDone g reported met x m) → ((z : Node) × (g.next x a ≡ Some z) × (walked g (Some z) path ≡ Some y)) → (k : ℕ) × (met y ≡ Some k) × (m ≤ k + length (a ∷ path))
-        go ih (inl o) v = absurd (off [] (a ∷ path) x refl (walk-nothing g (Some x)) o)
-        go ih (inr c) v = on v.0 (ih v.0) v.1 v.2 ((c a (lawful.executes x v.0 a v.1)).0 v.0 v.1)
+        → (j : ℕ) × (l ≡ j + length path) × IsExplored g met j y
+    reach stack done [] l x y e b w off = (l, omega arith, subst (IsExplored g met l) (let q : Some x ≡ Some y = sym (walk-nothing g (Some x)) ∙ w in let p : x ≡ y = cc in p) e)
+    reach stack done (a ∷ path) zero x y e b w off = absurd (omega arith)
+    reach stack done (a ∷ path) (suc l) x y e b w off =
+        let v = goes-by g x y a path (sym (walk-first g x a path) ∙ w) in
+        let next = explored-next stack done l x v.0 a e (λ o. off [] (a ∷ path) x refl (walk-nothing g (Some x)) o) v.1 in
+        let d = reach stack done path l v.0 y next (omega arith) v.2 (λ front rest z f t o. off (a ∷ front) rest z (ap (λ us. a ∷ us) f) (walk-first g x a front ∙ (ap (λ u. walked g u front) v.1 ∙ t)) o) in
+        (d.0, omega (arith, d.1), d.2)

@@ -28,7 +28,7 @@ use Rattle.tl_depth.proofs.PairWalks.{pairs-lawful}
 use Rattle.tl_depth.specs.Arrivals.{ArrivesAs}
 use Rattle.tl_depth.specs.Stacks.{IsToldOf}
 use Rattle.tl_depth.specs.Outcomes.{Reported, AreFewCalls, IsDepthFirstFault}
-use Rattle.tl_depth.specs.Ongoing.{AreSized, IsOngoing, IsArrived, to_do, Turned, TurnedTo}
+use Rattle.tl_depth.specs.Ongoing.{AreSized, IsUncut, IsOngoing, IsArrived, to_do, Turned, TurnedTo}
 use Rattle.tl_search.specs.declared.arrival.Arrival.{Arrival}
 use Rattle.tl_depth.specs.declared.stack.DepthFirst.{DepthFirst}
 use Rattle.tl_search.specs.declared.fault.SearchFault.TheVariants as fault
@@ -118,6 +118,7 @@ module _ (p : PlainProblem) (b : ℕ) (kept : List Pair) (w : DepthFirst) (calls
       arrives = arrives top-pair.0 top-pair.1;
       few = s.few;
       sized = subst AreSized (sym (ap (λ (v : DepthFirst). v.stack.items) rest)) s.sized;
+      uncut = λ e. subst IsUncut (sym (ap (λ (v : DepthFirst). v.most.items) rest)) (s.uncut (sym (ap (λ (v : DepthFirst). v.reenters) rest) ∙ e));
     }
 
 -- ---- the same elsewhere
@@ -155,7 +156,7 @@ pub turned-left : (p : PlainProblem) (b : ℕ) (kept : List Pair) (w : DepthFirs
 turned-left p b kept w calls s [] c is over after root st rest = (
   ongoing p b w.within w.watch kept w.events w.most.items [] calls after s.unpruned
       (run.leaves-root pair_discrete (graph_of p) w.within (pairs-lawful p) (Reported w.watch kept w.events) kept w.most.items c calls over (subst (λ us. IsRunning pair_discrete (graph_of p) w.within (Reported w.watch kept w.events) kept w.most.items us calls) is s.running))
-      s.few tt (ap (λ (v : DepthFirst). v.within) rest) (ap (λ (v : DepthFirst). v.watch) rest) (ap (λ (v : DepthFirst). v.events) rest) (ap (λ (v : DepthFirst). v.most.items) rest) (root c is),
+      s.few tt (λ e. s.uncut (sym (ap (λ (v : DepthFirst). v.reenters) rest) ∙ e)) (ap (λ (v : DepthFirst). v.within) rest) (ap (λ (v : DepthFirst). v.watch) rest) (ap (λ (v : DepthFirst). v.events) rest) (ap (λ (v : DepthFirst). v.most.items) rest) (root c is),
   subst (λ x. x < to_do b w) (sym (to-do-is b after w.within w.most.items [] (ap (λ (v : DepthFirst). v.within) rest) (ap (λ (v : DepthFirst). v.most.items) rest) (root c is)))
       (less-pass (entries_left b w.within w.most.items) (entries_left b w.within w.most.items) (suc w.within * 2 ^ 64) (level_height w.stack.items) 0 (omega arith) (omega (arith, ap level_height is))),
   ap (λ (v : DepthFirst). v.within) rest,
@@ -167,7 +168,7 @@ turned-left p b kept w calls s (x ∷ xs) c is over after root st rest = go (las
     go v = (
       ongoing p b w.within w.watch kept w.events w.most.items (v.0 ++ stepped v.1 ∷ []) calls after s.unpruned
           (run.leaves pair_discrete (graph_of p) w.within (pairs-lawful p) (Reported w.watch kept w.events) kept w.most.items c calls over v.0 v.1 (subst (λ us. IsRunning pair_discrete (graph_of p) w.within (Reported w.watch kept w.events) kept w.most.items us calls) whole s.running))
-          s.few (sized-stepped v.0 v.1 (sized-front (v.0 ++ v.1 ∷ []) c (subst AreSized whole s.sized))) (ap (λ (u : DepthFirst). u.within) rest) (ap (λ (u : DepthFirst). u.watch) rest) (ap (λ (u : DepthFirst). u.events) rest) (ap (λ (u : DepthFirst). u.most.items) rest) (st v.0 v.1 c whole),
+          s.few (sized-stepped v.0 v.1 (sized-front (v.0 ++ v.1 ∷ []) c (subst AreSized whole s.sized))) (λ e. s.uncut (sym (ap (λ (u : DepthFirst). u.reenters) rest) ∙ e)) (ap (λ (u : DepthFirst). u.within) rest) (ap (λ (u : DepthFirst). u.watch) rest) (ap (λ (u : DepthFirst). u.events) rest) (ap (λ (u : DepthFirst). u.most.items) rest) (st v.0 v.1 c whole),
       subst (λ y. y < to_do b w) (sym (to-do-is b after w.within w.most.items (v.0 ++ stepped v.1 ∷ []) (ap (λ (u : DepthFirst). u.within) rest) (ap (λ (u : DepthFirst). u.most.items) rest) (st v.0 v.1 c whole)))
           (less-pass (entries_left b w.within w.most.items) (entries_left b w.within w.most.items) (suc w.within * 2 ^ 64) (level_height w.stack.items) (level_height (v.0 ++ stepped v.1 ∷ [])) (omega arith)
           (omega (arith, ap level_height whole, height-append (v.0 ++ v.1 ∷ []) c, height-append v.0 v.1, height-append v.0 (stepped v.1), short-drops v.1.actions v.1.tried))),

@@ -83,6 +83,17 @@ module _ {Node : Type 0} (g : ActionGraph Node) where
       let d = work-set kept most w.1 k q m r actions w.4 e f l a in
       (p * length w.0 + d.0, (w.0, d.0, w.2, refl, d.1), omega (arith, w.3, d.2))
 
+  -- the actions of a kept node that was met with some remaining action
+  work-actions : (kept : List Node) (most : List ℕ) (t : ℕ) (k : ℕ) (q : Node) (m : ℕ) → IsWork g kept most t → slice_get kept k ≡ Some q → slice_get most k ≡ Some m → 0 < m → (actions : List Action) × AreActionsOf g q actions
+  unfolding IsWork
+  work-actions [] most t k q m w e f p = cc
+  work-actions (x ∷ kept) [] t k q m w e f p = absurd w
+  work-actions (x ∷ kept) (l ∷ most) t zero q m w e f p =
+      let i : x ≡ q = cc in
+      let j : l ≡ m = cc in
+      (w.0, subst (λ y. AreActionsOf g y w.0) i (w.2 (omega (arith, j))))
+  work-actions (x ∷ kept) (l ∷ most) t (suc k) q m w e f p = work-actions kept most w.1 k q m w.4 e f p
+
   -- the work is at most n times the number of executable actions of nodes that are near
   pub work-near : (n : ℕ) (kept : List Node) (most : List ℕ) (t : ℕ) → IsWork g kept most t → ((k : ℕ) (x : Node) (m : ℕ) → slice_get kept k ≡ Some x → slice_get most k ≡ Some m → 0 < m → (m ≤ n) × IsNearNode g n x)
       → (s : ℕ) × IsNearSum g n kept s × (t ≤ n * s)
@@ -138,6 +149,14 @@ module _ {Node : Type 0} (g : ActionGraph Node) where
       → IsCounted g kept most (f ∷ below) calls → IsCounted g kept (set most k r) (entered q r actions ∷ f ∷ below) (suc calls)
   count-deeper kept most f below calls a later k q m r actions e i j l all c =
       let w = work-set kept most c.total k q m r actions c.work i j l all in
+      record { total = w.0; work = w.1; enough = omega (arith, c.enough, ap length e, w.2) }
+
+  -- a kept node is passed, with more remaining actions than ever before
+  pub count-kept : (kept : List Node) (most : List ℕ) (f : Frame Node) (below : List (Frame Node)) (calls : ℕ) (a : Action) (later : List Action) (k : ℕ) (q : Node) (m r : ℕ) → f.rest ≡ a ∷ later → slice_get kept k ≡ Some q → slice_get most k ≡ Some m → 0 < m → m < r
+      → IsCounted g kept most (f ∷ below) calls → IsCounted g kept (set most k r) (advanced f a later ∷ below) (suc calls)
+  count-kept kept most f below calls a later k q m r e i j p l c =
+      let all = work-actions kept most c.total k q m c.work i j p in
+      let w = work-set kept most c.total k q m r all.0 c.work i j l all.1 in
       record { total = w.0; work = w.1; enough = omega (arith, c.enough, ap length e, w.2) }
 
   -- a frame is done with

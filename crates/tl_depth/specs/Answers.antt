@@ -24,11 +24,23 @@ pub record AreLed (p : PlainProblem) (n b : ℕ) (xs : List Pair) : Type 0 where
   pub led : (i : ℕ) (x : Pair) → slice_get xs i ≡ Some x → IsLed p n x
   pub unaccepted : (i : ℕ) (x : Pair) → i < b → slice_get xs i ≡ Some x → IsPairAccepted p x → ⊥
 
--- nothing is left to expand: the kept pairs are those of distance at most n, each met with at most n less its distance; and what follows for plans
+-- a leading path that leaves m of n actions has the pair
+pub record IsLedWith (p : PlainProblem) (n : ℕ) (x : Pair) (m : ℕ) : Type 0 where
+  pub path : List Action
+  pub open_path : IsOpen p path
+  pub its_pair : pair_of p path ≡ Some x
+  pub leaves : length path + m ≡ n
+  pub leading : IsLeading p n path
+
+-- the pair is kept, and was met with some remaining action where l is less than n
+abbrev pub IsKeptWithin : ℕ → List Pair → List ℕ → Pair → ℕ → Type 0
+IsKeptWithin n kept most x l = (k : ℕ) × (slice_get kept k ≡ Some x) × (m : ℕ) × (slice_get most k ≡ Some m) × (l < n → 0 < m)
+
+-- nothing is left to expand: the kept pairs are those of open paths of at most n actions; and what follows for plans
 pub record IsExhausted (p : PlainProblem) (n : ℕ) (reported : Reports Pair) (kept : List Pair) (most : List ℕ) : Type 0 where
   pub none : HasNoPlanWithin p n
-  pub distances : (k : ℕ) (x : Pair) (m : ℕ) → slice_get kept k ≡ Some x → slice_get most k ≡ Some m → (d : ℕ) × IsDistance p x d × (d + m ≡ n)
-  pub all : (x : Pair) (d : ℕ) → IsDistance p x d → d ≤ n → (k : ℕ) × (slice_get kept k ≡ Some x) × (m : ℕ) × (slice_get most k ≡ Some m) × (d + m ≡ n)
+  pub led : (k : ℕ) (x : Pair) (m : ℕ) → slice_get kept k ≡ Some x → slice_get most k ≡ Some m → IsLedWith p n x m
+  pub all : (path : List Action) (x : Pair) → IsOpen p path → pair_of p path ≡ Some x → length path ≤ n → IsKeptWithin n kept most x (length path)
   pub cut : ((k : ℕ) × (slice_get most k ≡ Some 0)) ↔ HasPairAt p n
   pub uncut : ((k : ℕ) → slice_get most k ≡ Some 0 → ⊥) → HasNoPlan p × HasNoPairFrom p n
   pub told : (x : Pair) (d : ℕ) → IsDistance p x d → d < n → (a : Action) → IsTrue (is_some (step p x.world a)) → reported x a

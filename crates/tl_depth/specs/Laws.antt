@@ -25,7 +25,7 @@ abbrev pub WalksAreOpenPaths : Type 0
 WalksAreOpenPaths = (p : PlainProblem) → (first_pair p).formula ≢ falsum → (path : List Action) (x : Pair)
     → node_after (graph_of p) path ≡ Some x ↔ (IsOpen p path × (pair_of p path ≡ Some x))
 
--- where nothing is left to expand, the kept pairs are those of distance at most n, and what follows for plans
+-- where nothing is left to expand, the kept pairs are those of open paths of at most n actions, and what follows for plans
 abbrev pub DepthFirstEnds : Type 0
 DepthFirstEnds = (p : PlainProblem) (n : ℕ) → (first_pair p).formula ≢ falsum → (told : List (Pair × Action)) (kept : List Pair) (most : List ℕ) (calls : ℕ)
     → IsRunning pair_discrete (graph_of p) n (Told told) kept most [] calls → IsExhausted p n (Told told) kept most

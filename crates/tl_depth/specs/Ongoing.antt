@@ -1,5 +1,5 @@
 -- What is true of a search between its steps.
-use Rattle.std.specs.Prelude.{◌≡◌, ◌≢◌, ◌≤◌, ◌<◌, ◌+◌, ◌*◌, ◌^◌, ℕ, suc, List, [], ◌∷◌, ◌++◌, length, slice_get, Option, Some, None}
+use Rattle.std.specs.Prelude.{◌≡◌, ◌≢◌, ◌≤◌, ◌<◌, ◌+◌, ◌*◌, ◌^◌, ℕ, suc, List, [], ◌∷◌, ◌++◌, length, slice_get, false, Option, Some, None}
 use Rattle.tl_syntax.specs.declared.action.Action.{Action}
 use Rattle.tl_syntax.specs.Lists.{Each}
 use Rattle.tl_syntax.specs.Trees.{falsum}
@@ -30,12 +30,17 @@ use Rattle.tl_depth.specs.Outcomes.{Reported, AreFewCalls, IsDepthFirstOutcome, 
 abbrev pub AreSized : List Level → Type 0
 AreSized levels = Each (λ (c : Level). length c.actions < 2 ^ 64) levels
 
--- the search goes on: at most b pairs are kept, and so many calls were made
+-- no pair was met with no remaining action
+abbrev pub IsUncut : List ℕ → Type 0
+IsUncut most = (k : ℕ) → slice_get most k ≡ Some 0 → ⊥
+
+-- the search goes on: at most b pairs are kept, so many calls were made, and no pair was met with no remaining action, unless pairs are entered again
 pub record IsOngoing (p : PlainProblem) (b : ℕ) (kept : List Pair) (w : DepthFirst) (calls : ℕ) : Type 0 where
   pub unpruned : (first_pair p).formula ≢ falsum
   pub running : IsRunning pair_discrete (graph_of p) w.within (Reported w.watch kept w.events) kept w.most.items w.stack.items calls
   pub few : length kept ≤ b
   pub sized : AreSized w.stack.items
+  pub uncut : w.reenters ≡ false → IsUncut w.most.items
 
 -- the top level's next action was tried, and reported: this arrived
 pub record IsArrived (p : PlainProblem) (b : ℕ) (kept : List Pair) (w : DepthFirst) (arrival : Arrival) (left calls : ℕ) : Type 0 where
@@ -55,6 +60,7 @@ pub record IsArrived (p : PlainProblem) (b : ℕ) (kept : List Pair) (w : DepthF
   pub arrives : ArrivesAs old kept (next_pair p from action) arrival
   pub few : length old ≤ b
   pub sized : AreSized w.stack.items
+  pub uncut : w.reenters ≡ false → IsUncut w.most.items
 
 -- a pair was entered: one more level is there
 pub record IsEntered (p : PlainProblem) (kept : List Pair) (at left : ℕ) (before after : List Level) : Type 0 where

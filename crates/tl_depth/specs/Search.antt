@@ -1,5 +1,5 @@
 -- Depth-first search with a memory of remaining depths: its state, and what is true of it at every moment.
-use Rattle.std.specs.Prelude.{◌≡◌, ◌≢◌, ◌≤◌, ◌<◌, ◌+◌, ◌⊎◌, ℕ, suc, List, [], ◌∷◌, ◌++◌, length, Option, Some, IsTrue}
+use Rattle.std.specs.Prelude.{◌≡◌, ◌≢◌, ◌≤◌, ◌<◌, ◌+◌, ◌⊎◌, ℕ, zero, suc, List, [], ◌∷◌, ◌++◌, length, Option, Some, IsTrue}
 use Rattle.tl_syntax.specs.declared.action.Action.{Action}
 use Rattle.tl_syntax.specs.Lists.{Each, One}
 use Rattle.tl_depth.specs.ActionGraphs.{ActionGraph, AreActionsOf, node_after, IsSimpleGoalWalk, IsLeadingWalk}
@@ -37,9 +37,14 @@ advanced f a later = record { node = f.node; left = f.left; tried = f.tried ++ a
 abbrev pub entered : {Node : Type 0} → Node → ℕ → List Action → Frame Node
 entered x m actions = record { node = x; left = m; tried = []; rest = actions }
 
--- where the action has a successor, that was met with at least m - 1 remaining actions
+-- a node is explored to a depth: it was met with at least so many remaining actions, or with some, and each successor of it is explored to one less; to a depth of 0 it is only kept
+unfoldable pub IsExplored : {Node : Type 0} → ActionGraph Node → Memory Node → ℕ → Node → Type 0
+IsExplored {Node} g met zero y = (k : ℕ) × (met y ≡ Some k)
+IsExplored {Node} g met (suc l) y = (k : ℕ) × (met y ≡ Some k) × ((suc l ≤ k) ⊎ ((0 < k) × ((a : Action) (z : Node) → g.next y a ≡ Some z → IsExplored g met l z)))
+
+-- where the action has a successor, that is explored to each depth below m
 abbrev pub IsCovered : {Node : Type 0} → ActionGraph Node → Memory Node → Node → ℕ → Action → Type 0
-IsCovered {Node} g met x m a = (y : Node) → g.next x a ≡ Some y → (k : ℕ) × (met y ≡ Some k) × (m ≤ suc k)
+IsCovered {Node} g met x m a = (y : Node) → g.next x a ≡ Some y → (l : ℕ) → l < m → IsExplored g met l y
 
 -- no simple walk of at most n actions to an accepted node begins with the path and then the action
 abbrev pub IsFruitless : {Node : Type 0} → ActionGraph Node → ℕ → List Action → Action → Type 0
@@ -81,7 +86,7 @@ pub record IsKept {Node : Type 0} (g : ActionGraph Node) (n : ℕ) (x : Node) (m
   pub budget : length path + m ≡ n
   pub leading : IsLeadingWalk g n path
 
--- each executable action of the node was reported, and its successor was met with at least m - 1 remaining actions
+-- each executable action of the node was reported, and its successor is explored to each depth below m
 abbrev pub IsDone : {Node : Type 0} → ActionGraph Node → Reports Node → Memory Node → Node → ℕ → Type 0
 IsDone g reported met x m = (a : Action) → IsTrue (g.executable x a) → IsCovered g met x m a × reported x a
 

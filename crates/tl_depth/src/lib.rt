@@ -6,7 +6,7 @@
 //! - `expansions`: what is remembered of the pairs' actions and of what came of these, so that a pair that is entered again asks the space for nothing that is known.
 //! - `laws`: what is proved of the definitions.
 //!
-//! A pair is entered again only where it is met with more remaining actions than ever before, so within its bound the search misses no plan and yet goes through each pair at most once for each number of remaining actions.
+//! A pair is entered again only where it is met with more remaining actions than ever before, so within its bound the search misses no plan and yet goes through each pair at most once for each number of remaining actions. As long as no pair was met with no remaining action, all that a kept pair leads to is kept or on the stack: then none is entered again, and the search goes through each pair once.
 #![tactic(auto)]
 
 mod depth;

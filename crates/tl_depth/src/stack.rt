@@ -24,6 +24,8 @@ pub struct DepthFirst {
     pub within: u32,
     /// Whether events are wanted.
     pub watch: bool,
+    /// Whether a kept pair is entered again where it is met with more remaining actions than ever before: from the beginning where events are wanted, and else from the first pair on that was met with none.
+    pub reenters: bool,
     /// With how many remaining actions each pair was met, at most.
     pub most: Vec<u32>,
     /// The levels of the stack, the root's first.

@@ -1,9 +1,9 @@
 // What comes of an arrival: it is passed, enters a pair, or ends the search.
-ghost use Rattle.std.specs.Prelude.{◌≡◌, ◌<◌, length, None, IfOk, IfErr, OnOk};
+ghost use Rattle.std.specs.Prelude.{◌≡◌, ◌<◌, length, None, IfOk, IfErr, IfSome, OnOk};
 ghost use Rattle.tl_depth.specs.Levels.{path_of};
 ghost use Rattle.tl_search.specs.KeptPairs.{pairs_of};
 ghost use Rattle.tl_search.specs.NamedAnswers.{EndIsNamed, FaultIsNamed};
-ghost use Rattle.tl_depth.specs.Expansions.{Remembers, IsListed};
+ghost use Rattle.tl_depth.specs.Expansions.{Remembers, IsListed, StayExpansions, KnowsActions};
 ghost use Rattle.tl_depth.specs.NamedStacks.{SearchIsNamed};
 ghost use Rattle.tl_depth.specs.Endings.{EndsBy};
 ghost use Rattle.tl_depth.specs.Outcomes.{IsDepthFirstFault};
@@ -15,7 +15,7 @@ use crate::level::Level;
 use crate::stack::{DepthFirst, past_range, path};
 use std::alloc::Global;
 use tl_search::{Arrival, Outcome, Pairs, SearchFault, SpaceFault};
-use tl_terms::Actions;
+use tl_terms::{Actions, NoMemory};
 
 impl DepthFirst {
     /// What comes of an arrival.
@@ -101,6 +101,10 @@ impl DepthFirst {
             return Ok(());
         }
         self.most[k] = left;
+        if !self.reenters {
+            self.pass();
+            return Ok(());
+        }
         self.enter(alloc, space, k, left)
     }
 
@@ -131,6 +135,7 @@ impl DepthFirst {
             return Err(SearchFault::NoMemory);
         }
         if left == 0 {
+            self.reenters = true;
             self.pass();
             return Ok(());
         }
@@ -207,6 +212,7 @@ impl DepthFirst {
         }
         Ok(())
     }
+
     /// The executable actions of a pair: those that are remembered, or else those that the space lists.
     fn actions_of<S: Pairs>(
         &mut self,
@@ -226,7 +232,7 @@ impl DepthFirst {
         ensures remembered { OnOk result (Remembers (S.problem space.old) (S.task space.old) (S.kept space.old) self.new.expansions) }
         ensures path_named { IfErr result (FaultIsNamed (S.task space.old)) }
     {
-        if let Some(actions) = self.expansions.take_actions(alloc, at)? {
+        if let Some(actions) = self.remembered_actions(alloc, at)? {
             return Ok(actions);
         }
         match space.actions(at) {
@@ -237,5 +243,17 @@ impl DepthFirst {
             Err(SpaceFault::RangeAfter(_)) => unreachable!(),
             Err(SpaceFault::NoMemory) => Err(SearchFault::NoMemory),
         }
+    }
+
+    /// The executable actions of a pair, where they are remembered. While no pair is entered again nothing is, and no memory is taken for it.
+    fn remembered_actions(&mut self, alloc: Global, at: usize) -> Result<Option<Actions>, NoMemory>
+        ensures stay { OnOk result (StayExpansions self.old.expansions self.new.expansions) }
+        ensures actions { IfOk result (λ o. IfSome o (KnowsActions self.old.expansions at)) }
+        ensures rest { self.new ≡ record self.old { expansions = self.new.expansions } }
+    {
+        if self.reenters {
+            return self.expansions.take_actions(alloc, at);
+        }
+        Ok(None)
     }
 }

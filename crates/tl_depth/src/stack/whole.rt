@@ -149,6 +149,7 @@ impl DepthFirst {
             return Err(SearchFault::NoMemory);
         }
         if left == 0 {
+            self.reenters = true;
             return Ok(());
         }
         self.enter(alloc, space, 0, left)

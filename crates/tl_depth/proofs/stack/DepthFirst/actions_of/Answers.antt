@@ -5,6 +5,7 @@ use Rattle.tl_search.specs.KeptPairs.{pairs_of}
 use Rattle.tl_search.specs.NamedAnswers.{FaultIsNamed}
 use Rattle.tl_search.proofs.ListLaws.{get-inside}
 use Rattle.tl_depth.specs.Ongoing.{IsEntryFault}
+use Rattle.tl_depth.specs.declared.stack.DepthFirst.{DepthFirst}
 use Rattle.tl_depth.proofs.Ends.{range-holds}
 use Rattle.tl_depth.proofs.NamedStacks.{path-of-named}
 use Rattle.tl_depth.proofs.SeenPairs.{acts-pair}
@@ -26,13 +27,15 @@ returns-in-Ok-clause-remembered g c = record { kept_rightly = c.requires.remembe
 
 pub returns-in-Err-RangeHere-clause-fault : goal.returns-in-Err-RangeHere-clause-fault
 returns-in-Err-RangeHere-clause-fault g c =
+    let still = ap path_of c.as_slice.ensures.value ∙ ap (λ (w : DepthFirst). path_of w.stack.items) c.remembered_actions.ensures.rest in
     range-holds (IsEntryFault (g.S.Pairs.problem c.args.space.now) (pairs_of (g.S.Pairs.kept c.args.space.now)) c.args.at (path_of c.args.self.now.stack.items)) _ c.in-Err-RangeHere.note c.past_range.result c.past_range.ensures tt
-    (λ path e. (e ∙ ap path_of c.as_slice.ensures.value, acts-pair _ _ c.args.at _ (rw c.in-Err-RangeHere.field-0-is at c.in-Err-RangeHere.ensures.cause)))
+    (λ path e. (e ∙ still, acts-pair _ _ c.args.at _ (rw c.in-Err-RangeHere.field-0-is at c.in-Err-RangeHere.ensures.cause)))
 
 pub unreachable-requires : goal.unreachable-requires
 unreachable-requires g c = let x = get-inside (g.S.Pairs.kept c.args.space.now) c.args.at c.requires.at in (rw c.in-Err-RangeAfter.field-0-is at c.in-Err-RangeAfter.ensures.cause) x.0 x.1
 
 pub returns-in-Err-RangeHere-clause-path_named : goal.returns-in-Err-RangeHere-clause-path_named
 returns-in-Err-RangeHere-clause-path_named g c =
+    let still = ap path_of c.as_slice.ensures.value ∙ ap (λ (w : DepthFirst). path_of w.stack.items) c.remembered_actions.ensures.rest in
     range-holds (FaultIsNamed (g.S.Pairs.task c.args.space.now)) _ c.in-Err-RangeHere.note c.past_range.result c.past_range.ensures tt
-    (λ path e. subst (AreNamedIn (g.S.Pairs.task c.args.space.now)) (sym (e ∙ ap path_of c.as_slice.ensures.value)) (path-of-named (g.S.Pairs.task c.args.space.now) c.args.self.now.stack.items c.requires.named.stack))
+    (λ path e. subst (AreNamedIn (g.S.Pairs.task c.args.space.now)) (sym (e ∙ still)) (path-of-named (g.S.Pairs.task c.args.space.now) c.args.self.now.stack.items c.requires.named.stack))

@@ -10,7 +10,7 @@ pub returns-then-left-eq0-clause-begun : goal.returns-then-left-eq0-clause-begun
 returns-then-left-eq0-clause-begun g c =
     let r = c.requires.first in
     let more : c.push.new.self.items ≡ c.args.self.now.most.items ++ c.args.self.now.within ∷ [] = pushed _ _ c.args.self.now.most.items _ c.args.self.now.within c.push.ensures.items c.is_err.ensures.negation c.if-is_err.false in
-    begun-last _ _ _ r.0 r.3 r.1 r.2 c.args.self.now _ r.5 r.4 c.if-left-eq0.true refl refl refl refl more
+    begun-last _ _ _ r.0 r.3 r.1 r.2 c.args.self.now _ r.5 r.4 c.if-left-eq0.true refl refl refl refl refl more
 
 pub returns-clause-begun : goal.returns-clause-begun
 returns-clause-begun g c = on-ok c.enter.result _ _ c.enter.ensures.entered (λ t.

@@ -5,7 +5,7 @@ use Rattle.tl_depth.proofs.LevelFacts.{get-within}
 use Rattle.tl_search.specs.declared.arrival.Arrival.TheVariants as arrival
 use Rattle.tl_depth.specs.declared.stack.DepthFirst.{DepthFirst}
 use Rattle.tl_depth.proofs.Ends.{get-at, on-ok, if-err}
-use Rattle.tl_depth.proofs.Arriving.{turned-passes, turned-again, seen-within, fault-entering}
+use Rattle.tl_depth.proofs.Arriving.{turned-passes, turned-kept, turned-again, seen-within, fault-entering}
 use Rattle.tl_depth.proofs.SeenPairs.{number-kept}
 use Rattle.tl_depth.proofs.stack.DepthFirst.seen.Goals as goal
 
@@ -15,6 +15,20 @@ returns-then-left-as_slice-clause-turned g c calls s =
     let l = seen-within _ _ _ _ (arrival.Seen c.args.k) _ calls s c.args.k a.0 a.1.0 a.1.1 a.1.2 in
     let v : slice_index_or c.as_slice.result.now c.args.k 0 ≡ slice_index_or c.args.self.now.most.items c.args.k 0 = ap (λ us. slice_index_or us c.args.k 0) c.as_slice.ensures.value in
     turned-passes _ _ _ _ (arrival.Seen c.args.k) _ calls s c.args.k a.0 a.1.0 a.1.1 a.1.2 c.pass.new.self c.pass.ensures.stack c.pass.ensures.rest _ (get-at _ c.args.k 0 l) (omega (arith, v, c.if-left-as_slice.true))
+
+pub returns-then-not-self-clause-turned : goal.returns-then-not-self-clause-turned
+returns-then-not-self-clause-turned g c calls s =
+    let a = s.arrives in
+    let l = seen-within _ _ _ _ (arrival.Seen c.args.k) _ calls s c.args.k a.0 a.1.0 a.1.1 a.1.2 in
+    let v : slice_index_or c.as_slice.result.now c.args.k 0 ≡ slice_index_or c.args.self.now.most.items c.args.k 0 = ap (λ us. slice_index_or us c.args.k 0) c.as_slice.ensures.value in
+    let passed = c.pass-then-not-self.ensures in
+    turned-kept _ _ _ _ (arrival.Seen c.args.k) _ calls s c.args.k a.0 a.1.0 a.1.1 a.1.2 c.pass-then-not-self.new.self passed.stack (ap (λ (w : DepthFirst). w.within) passed.rest) (ap (λ (w : DepthFirst). w.watch) passed.rest) (ap (λ (w : DepthFirst). w.events) passed.rest)
+    (ap (λ (w : DepthFirst). w.most.items) passed.rest) _ (get-at _ c.args.k 0 l) (omega (arith, v, c.if-left-as_slice.false)) c.if-not-self.true
+
+pub returns-then-not-self-clause-named : goal.returns-then-not-self-clause-named
+returns-then-not-self-clause-named g c =
+    let s = c.requires.arrived.1 in
+    search-with (g.S.Pairs.task c.args.space.now) c.args.self.now c.pass-then-not-self.new.self (stack-stepped (g.S.Pairs.task c.args.space.now) c.args.self.now.stack.items s.front c.pass-then-not-self.new.self.stack.items s.top s.stack (c.pass-then-not-self.ensures.stack s.front s.top s.stack) c.requires.named.stack) (ap (λ (w : DepthFirst). w.events) c.pass-then-not-self.ensures.rest) c.requires.named
 
 pub index_mut-requires : goal.index_mut-requires
 index_mut-requires g c =
@@ -34,7 +48,7 @@ returns-clause-turned g c = on-ok c.enter.result _ _ c.enter.ensures.entered (λ
     let a = s.arrives in
     let l = seen-within _ _ _ _ (arrival.Seen c.args.k) _ calls s c.args.k a.0 a.1.0 a.1.1 a.1.2 in
     let v : slice_index_or c.as_slice.result.now c.args.k 0 ≡ slice_index_or c.args.self.now.most.items c.args.k 0 = ap (λ us. slice_index_or us c.args.k 0) c.as_slice.ensures.value in
-    turned-again _ _ _ _ (arrival.Seen c.args.k) _ calls s c.args.k a.0 a.1.0 a.1.1 a.1.2 c.enter.new.self t (ap (λ (w : DepthFirst). w.within) c.enter.ensures.rest) (ap (λ (w : DepthFirst). w.watch) c.enter.ensures.rest) (ap (λ (w : DepthFirst). w.events) c.enter.ensures.rest)
+    turned-again _ _ _ _ (arrival.Seen c.args.k) _ calls s c.args.k a.0 a.1.0 a.1.1 a.1.2 c.enter.new.self t (ap (λ (w : DepthFirst). w.within) c.enter.ensures.rest) (ap (λ (w : DepthFirst). w.watch) c.enter.ensures.rest) (ap (λ (w : DepthFirst). w.events) c.enter.ensures.rest) (ap (λ (w : DepthFirst). w.reenters) c.enter.ensures.rest)
     (ap (λ (w : DepthFirst). w.most.items) c.enter.ensures.rest) _ (get-at _ c.args.k 0 l) (omega (arith, v, c.if-left-as_slice.false)))
 
 pub returns-clause-fault : goal.returns-clause-fault
