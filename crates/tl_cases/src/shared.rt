@@ -56,6 +56,12 @@ way: a way from a to d
 loop: an edge from a to itself, and one to d
 (edge a a) (edge a d)
 
+two ways: edges from s to m, one of them the longer way, and on to t
+(edge s a) (edge a b) (edge b m) (edge s m) (edge m k) (edge k t)
+
+late cut: edges by which k is met with few actions left, then with more, and then from s, after the way by m
+(edge s d) (edge d e) (edge e f) (edge f g) (edge g k) (edge f k) (edge f m) (edge m n) (edge n o) (edge o t) (edge k f) (edge s k)
+
 leads: every edge leads on to where the goal edges end
 (always (forall (?x ?y) (edge ?x ?y) (forall (?u ?v) (goal (edge ?u ?v)) (reach ?y ?v))))
 

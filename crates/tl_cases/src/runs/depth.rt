@@ -37,13 +37,17 @@ fn first_plans_are_found(rt: HostRuntime) -> Result<(), Fail> {
     are_run(&rt, rt.alloc(), LAMPS)
 }
 
-/// Rows of the most actions, for a graph in which a node is met again with more actions left; then the status, and the output.
+/// Rows of the most actions and of the edges of a graph in which a node is met again with more actions left; then the status, and the output.
 const WAYS: &str = "
-plan depth {0} 100 g p | g = (domain g (predicate here 1) (predicate edge 2) (operator (go ?x ?y) (bounds (here ?x) (edge ?x ?y)) (effects (del (here ?x)) (add (here ?y))))) & p = (problem p (init (here s) (edge s a) (edge a b) (edge b m) (edge s m) (edge m k) (edge k t)) (goal (here t))) | {1} | {2}
-2 | 1 | ; none within 2
-3 | 0 | ; plan of 3 actions / (go s m) / (go m k) / (go k t)
-4 | 0 | ; plan of 3 actions / (go s m) / (go m k) / (go k t)
-5 | 0 | ; plan of 5 actions / (go s a) / (go a b) / (go b m) / (go m k) / (go k t)
+plan depth {0} 100 g p | g = (domain g (predicate here 1) (predicate edge 2) (operator (go ?x ?y) (bounds (here ?x) (edge ?x ?y)) (effects (del (here ?x)) (add (here ?y))))) & p = (problem p (init (here s) {1}) (goal (here t))) | {2} | {3}
+2 | {two ways} | 1 | ; none within 2
+3 | {two ways} | 0 | ; plan of 3 actions / (go s m) / (go m k) / (go k t)
+4 | {two ways} | 0 | ; plan of 3 actions / (go s m) / (go m k) / (go k t)
+5 | {two ways} | 0 | ; plan of 5 actions / (go s a) / (go a b) / (go b m) / (go m k) / (go k t)
+# k is passed while nothing is cut, and entered again after the way by m was
+5 | {late cut} | 1 | ; none within 5
+6 | {late cut} | 0 | ; plan of 6 actions / (go s k) / (go k f) / (go f m) / (go m n) / (go n o) / (go o t)
+7 | {late cut} | 0 | ; plan of 7 actions / (go s d) / (go d e) / (go e f) / (go f m) / (go m n) / (go n o) / (go o t)
 ";
 
 #[test]
