@@ -6,7 +6,7 @@ use Rattle.tl_syntax.specs.Lists.{Each}
 use Rattle.tl_terms.specs.Pairs.{Pair, pair_of, IsOpen, IsPairAccepted}
 use Rattle.tl_terms.specs.Problem.{PlainProblem}
 use Rattle.tl_depth.specs.Search.{at_hand, ReportsOneMore}
-use Rattle.tl_depth.specs.Tables.{entries_left}
+use Rattle.tl_depth.specs.Tables.{IsUncut, entries_left}
 use Rattle.tl_depth.specs.Levels.{path_of, stepped, frames_of, IsRunning, level_height}
 use Rattle.tl_depth.specs.PairGraph.{graph_of}
 use Rattle.tl_search.specs.PairGraph.{next_pair, unless_pruned}
@@ -28,7 +28,7 @@ use Rattle.tl_depth.proofs.Running as run
 use Rattle.tl_depth.proofs.PairAnswers as answers
 use Rattle.tl_depth.proofs.PairWalks.{pairs-lawful, pairs-actions}
 use Rattle.tl_depth.specs.Outcomes.{Reported, AreFewCalls, IsDepthFirstOutcome, IsDepthFirstFault}
-use Rattle.tl_depth.specs.Ongoing.{AreSized, IsUncut, IsArrived, IsEntered, to_do, IsEntryFault, Turned}
+use Rattle.tl_depth.specs.Ongoing.{AreSized, IsArrived, IsEntered, to_do, IsEntryFault, Turned}
 use Rattle.tl_search.specs.declared.arrival.Arrival.{Arrival}
 use Rattle.tl_depth.specs.declared.stack.DepthFirst.{DepthFirst}
 use Rattle.tl_search.specs.declared.fault.SearchFault.{SearchFault}

@@ -10,6 +10,7 @@ use Rattle.tl_terms.specs.Simplification.{is_falsum}
 use Rattle.tl_terms.proofs.PlanLaws.{accepted-exactly}
 use Rattle.tl_depth.specs.Levels.{IsRunning}
 use Rattle.tl_depth.specs.PairGraph.{first_pair, graph_of}
+use Rattle.tl_depth.specs.Tables.{IsUncut}
 use Rattle.tl_search.proofs.PathLaws.{pair-first}
 use Rattle.tl_search.specs.PairGraph.{unless_pruned}
 use Rattle.tl_depth.specs.SamePairs.{pair_discrete}
@@ -58,7 +59,7 @@ module _ (p : PlainProblem) (b : ℕ) (kept : List Pair) (w : DepthFirst) (calls
   pub ends-cut : w.stack.items ≡ [] → ((k : ℕ) × (slice_get w.most.items k ≡ Some 0)) → IsDepthFirstOutcome p w.within b kept outcome.NoneWithin
   ends-cut e k = let x = exhausted e in (x.none, x.cut.0 k, s.few, near-kept)
 
-  pub ends-uncut : w.stack.items ≡ [] → ((k : ℕ) → slice_get w.most.items k ≡ Some 0 → ⊥) → IsDepthFirstOutcome p w.within b kept outcome.NoPlan
+  pub ends-uncut : w.stack.items ≡ [] → IsUncut w.most.items → IsDepthFirstOutcome p w.within b kept outcome.NoPlan
   ends-uncut e h = let x = (exhausted e).uncut h in (x.0, x.1, s.few, near-kept)
 
 -- ---- the beginning

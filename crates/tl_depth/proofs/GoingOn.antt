@@ -7,7 +7,7 @@ use Rattle.tl_syntax.specs.Trees.{falsum}
 use Rattle.tl_terms.specs.Pairs.{Pair}
 use Rattle.tl_terms.specs.Problem.{PlainProblem}
 use Rattle.tl_depth.specs.Search.{Reports, ReportsOneMore}
-use Rattle.tl_depth.specs.Tables.{entries_left}
+use Rattle.tl_depth.specs.Tables.{IsUncut, entries_left}
 use Rattle.tl_depth.specs.Levels.{stepped, frames_of, IsRunning, level_height}
 use Rattle.tl_depth.specs.PairGraph.{first_pair, graph_of}
 use Rattle.tl_depth.specs.SamePairs.{pair_discrete}
@@ -17,7 +17,7 @@ use Rattle.tl_depth.proofs.Tables.{height-bounded}
 use Rattle.tl_depth.specs.Tables.{met_in, height}
 use Rattle.tl_depth.specs.Stacks.{IsEventOf, IsToldOf}
 use Rattle.tl_depth.specs.Outcomes.{Reported}
-use Rattle.tl_depth.specs.Ongoing.{AreSized, IsUncut, IsOngoing, to_do}
+use Rattle.tl_depth.specs.Ongoing.{AreSized, IsOngoing, to_do}
 use Rattle.tl_search.specs.declared.event.Event.{Event}
 use Rattle.tl_depth.specs.declared.stack.DepthFirst.{DepthFirst}
 

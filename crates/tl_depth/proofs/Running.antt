@@ -5,7 +5,7 @@ use Rattle.tl_syntax.specs.declared.action.Action.{Action}
 use Rattle.tl_syntax.specs.Lists.{Each}
 use Rattle.tl_depth.specs.ActionGraphs.{ActionGraph, IsLawful, AreActionsOf}
 use Rattle.tl_depth.specs.Search.{Reports, Frame, advanced, entered, IsCovered, IsUnderWay, IsDepthFirst, IsDeeper, ReportsOneMore}
-use Rattle.tl_depth.specs.Tables.{met_in, AllDiffer, IsCounted}
+use Rattle.tl_depth.specs.Tables.{met_in, IsUncut, AllDiffer, IsCounted}
 use Rattle.tl_depth.specs.Levels.{node_at, frame_of, frames_of, stepped, IsRunning}
 use Rattle.tl_depth.specs.declared.level.Level.{Level}
 use Rattle.tl_depth.proofs.ListFacts.{each_last}
@@ -188,7 +188,7 @@ module _ {Node : Type 0} (same : Discrete Node) (g : ActionGraph Node) (n : ℕ)
       deeper-kept k m i j l z e = let d : Some m ≡ Some z = sym (met_in-at same kept most k q m s.differ i j) ∙ e in let h : m ≡ z = cc in omega (arith, h)
 
       -- a kept one is passed, where no node was met with none
-      pub passes-kept : (k m : ℕ) → slice_get kept k ≡ Some q → slice_get most k ≡ Some m → m < r → ((j : ℕ) → slice_get most j ≡ Some 0 → ⊥)
+      pub passes-kept : (k m : ℕ) → slice_get kept k ≡ Some q → slice_get most k ≡ Some m → m < r → IsUncut most
           → IsRunning same g n after kept (set most k r) (front ++ stepped c ∷ []) (suc calls)
       passes-kept k m i j l uncut = record {
         differ = s.differ;

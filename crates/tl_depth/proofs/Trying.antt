@@ -8,7 +8,7 @@ use Rattle.tl_syntax.specs.Lists.{Each}
 use Rattle.tl_terms.specs.Pairs.{Pair, pair_of, IsOpen}
 use Rattle.tl_terms.specs.Problem.{PlainProblem}
 use Rattle.tl_depth.specs.Search.{Frame, at_hand, IsUnderWay, AreFrames}
-use Rattle.tl_depth.specs.Tables.{entries_left}
+use Rattle.tl_depth.specs.Tables.{IsUncut, entries_left}
 use Rattle.tl_depth.specs.Levels.{path_of, stepped, frame_of, frames_of, IsRunning, level_height}
 use Rattle.tl_depth.specs.PairGraph.{graph_of}
 use Rattle.tl_search.specs.PairGraph.{next_pair}
@@ -28,7 +28,7 @@ use Rattle.tl_depth.proofs.PairWalks.{pairs-lawful}
 use Rattle.tl_depth.specs.Arrivals.{ArrivesAs}
 use Rattle.tl_depth.specs.Stacks.{IsToldOf}
 use Rattle.tl_depth.specs.Outcomes.{Reported, AreFewCalls, IsDepthFirstFault}
-use Rattle.tl_depth.specs.Ongoing.{AreSized, IsUncut, IsOngoing, IsArrived, to_do, Turned, TurnedTo}
+use Rattle.tl_depth.specs.Ongoing.{AreSized, IsOngoing, IsArrived, to_do, Turned, TurnedTo}
 use Rattle.tl_search.specs.declared.arrival.Arrival.{Arrival}
 use Rattle.tl_depth.specs.declared.stack.DepthFirst.{DepthFirst}
 use Rattle.tl_search.specs.declared.fault.SearchFault.TheVariants as fault

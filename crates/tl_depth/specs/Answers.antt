@@ -8,6 +8,7 @@ use Rattle.tl_terms.specs.Pairs.{Pair, pair_of, IsOpen, IsPairAccepted}
 use Rattle.tl_terms.specs.Paths.{IsDistance, IsLeading}
 use Rattle.tl_terms.specs.Step.{step}
 use Rattle.tl_depth.specs.Search.{Reports}
+use Rattle.tl_depth.specs.Tables.{IsUncut}
 use Rattle.tl_search.specs.Plans.{HasNoPlan, HasNoPlanWithin, HasPairAt, HasNoPairFrom}
 use Rattle.tl_search.specs.ListedActions.{ListsActions}
 
@@ -42,7 +43,7 @@ pub record IsExhausted (p : PlainProblem) (n : ℕ) (reported : Reports Pair) (k
   pub led : (k : ℕ) (x : Pair) (m : ℕ) → slice_get kept k ≡ Some x → slice_get most k ≡ Some m → IsLedWith p n x m
   pub all : (path : List Action) (x : Pair) → IsOpen p path → pair_of p path ≡ Some x → length path ≤ n → IsKeptWithin n kept most x (length path)
   pub cut : ((k : ℕ) × (slice_get most k ≡ Some 0)) ↔ HasPairAt p n
-  pub uncut : ((k : ℕ) → slice_get most k ≡ Some 0 → ⊥) → HasNoPlan p × HasNoPairFrom p n
+  pub uncut : IsUncut most → HasNoPlan p × HasNoPairFrom p n
   pub told : (x : Pair) (d : ℕ) → IsDistance p x d → d < n → (a : Action) → IsTrue (is_some (step p x.world a)) → reported x a
 
 -- the pair of each proper prefix of a plan has an event for each of its executable actions up to and including the plan's next one

@@ -5,7 +5,7 @@ use Rattle.tl_syntax.specs.Lists.{Each}
 use Rattle.tl_syntax.specs.Trees.{falsum}
 use Rattle.tl_terms.specs.Problem.{PlainProblem}
 use Rattle.tl_terms.specs.Pairs.{Pair, IsPairAccepted}
-use Rattle.tl_depth.specs.Tables.{entries_left}
+use Rattle.tl_depth.specs.Tables.{IsUncut, entries_left}
 use Rattle.tl_depth.specs.Levels.{IsRunning, level_height}
 use Rattle.tl_depth.specs.PairGraph.{first_pair, graph_of}
 use Rattle.tl_search.specs.PairGraph.{next_pair, unless_pruned}
@@ -29,10 +29,6 @@ use Rattle.tl_depth.specs.Outcomes.{Reported, AreFewCalls, IsDepthFirstOutcome, 
 -- the levels' lists of actions have lengths of 64 bits
 abbrev pub AreSized : List Level → Type 0
 AreSized levels = Each (λ (c : Level). length c.actions < 2 ^ 64) levels
-
--- no pair was met with no remaining action
-abbrev pub IsUncut : List ℕ → Type 0
-IsUncut most = (k : ℕ) → slice_get most k ≡ Some 0 → ⊥
 
 -- the search goes on: at most b pairs are kept, so many calls were made, and no pair was met with no remaining action, unless pairs are entered again
 pub record IsOngoing (p : PlainProblem) (b : ℕ) (kept : List Pair) (w : DepthFirst) (calls : ℕ) : Type 0 where

@@ -1,5 +1,5 @@
 -- The tables of the search: what each kept node was met with, how much work that allows, and what is left to do.
-use Rattle.std.specs.Prelude.{◌≡◌, ◌≢◌, ◌≤◌, ◌<◌, ◌+◌, ◌-◌, ◌*◌, ◌⊎◌, ℕ, suc, List, [], ◌∷◌, length, Some, None}
+use Rattle.std.specs.Prelude.{◌≡◌, ◌≢◌, ◌≤◌, ◌<◌, ◌+◌, ◌-◌, ◌*◌, ◌⊎◌, ℕ, suc, List, [], ◌∷◌, length, slice_get, Some, None}
 use Rattle.tl_syntax.specs.declared.action.Action.{Action}
 use Rattle.tl_syntax.specs.Lists.{Each}
 use Rattle.tl_depth.specs.ActionGraphs.{ActionGraph, AreActionsOf, node_after}
@@ -15,6 +15,10 @@ unfoldable pub met_in : {Node : Type 0} → Discrete Node → List Node → List
 met_in same [] most y = None
 met_in same (x ∷ kept) [] y = None
 met_in same (x ∷ kept) (m ∷ most) y = where_same (same x y) (Some m) (met_in same kept most y)
+
+-- no node was met with no remaining action
+abbrev pub IsUncut : List ℕ → Type 0
+IsUncut most = (k : ℕ) → slice_get most k ≡ Some 0 → ⊥
 
 -- the nodes differ
 abbrev pub AllDiffer : {Node : Type 0} → List Node → Type 0

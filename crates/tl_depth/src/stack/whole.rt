@@ -9,6 +9,7 @@ ghost use Rattle.tl_search.specs.Ends.{Ends, EndsIfAny};
 ghost use Rattle.tl_depth.specs.Endings.{EndsUnkept};
 ghost use Rattle.tl_depth.specs.Outcomes.{IsDepthFirstFault, IsDepthFirstOutcome, IsToldOutcome};
 ghost use Rattle.tl_depth.specs.Reports.{AreFewSteps};
+ghost use Rattle.tl_depth.specs.Tables.{IsUncut};
 ghost use Rattle.tl_depth.specs.Turns.{GoesOn};
 ghost use Rattle.tl_depth.specs.Ongoing.{IsNew, IsFirst, Begun};
 
@@ -21,7 +22,7 @@ use tl_terms::{Actions, Steps};
 /// Whether some pair was met with no remaining action, and never with any.
 fn is_cut(most: &[u32]) -> bool
     ensures cut { result ≡ true → (k : ℕ) × (slice_get most.now k ≡ Some 0) }
-    ensures uncut { result ≡ false → (k : ℕ) → slice_get most.now k ≡ Some 0 → ⊥ }
+    ensures uncut { result ≡ false → IsUncut most.now }
 {
     for left in most {
         if *left == 0 {
