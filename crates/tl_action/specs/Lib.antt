@@ -2,6 +2,7 @@ pub mod Agreement
 pub mod LawsAgreement
 pub mod Answers
 pub mod Collected
+pub mod ChangedWorlds
 pub mod Sure
 pub mod Prepared
 pub mod Join

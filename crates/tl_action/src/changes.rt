@@ -1,19 +1,21 @@
 // What effects change.
 ghost use Rattle.std.specs.Prelude.{◌≡◌, [], IfOk};
+ghost use Rattle.tl_action.specs.ChangedWorlds.{world_after};
 ghost use Rattle.tl_action.specs.Collected.{nothing};
 
 use std::alloc::Global;
-use tl_syntax::{Facts, PlaceValues};
+use tl_syntax::{Facts, NoMemory, PlaceValues};
+use tl_world::World;
 
 /// What effects change: the facts that they delete and add, and the places that they set, with their values.
 #[derive(Drop)]
-pub(crate) struct Changes {
+pub struct Changes {
     /// The deleted facts.
-    pub(crate) dels: Facts,
+    pub dels: Facts,
     /// The added facts.
-    pub(crate) adds: Facts,
+    pub adds: Facts,
     /// The places that are set.
-    pub(crate) sets: PlaceValues,
+    pub sets: PlaceValues,
 }
 
 impl Changes {
@@ -26,5 +28,17 @@ impl Changes {
             adds: Facts::new(alloc),
             sets: PlaceValues::new(alloc),
         }
+    }
+
+    /// The world that the changes make of a world, which stays as it is. It fails for want of memory alone.
+    pub fn world_after(&self, alloc: Global, w: &World) -> Result<World, NoMemory>
+        ensures { IfOk result (λ next. next ≡ world_after w.now self.now) }
+    {
+        w.changed(
+            alloc,
+            self.dels.as_slice(),
+            self.adds.as_slice(),
+            self.sets.as_slice(),
+        )
     }
 }

@@ -2,10 +2,10 @@
 //!
 //! - `fault`: why a call gives no answer.
 //! - `step`: the step of an action.
-//! - `next`: the step of an action that is known to be executable.
+//! - `next`: the step of an action that is known to be executable, in one call or in two.
 //! - `all_actions`: all actions that are executable in a world.
 //! - `bounds`: whether bounds are true.
-//! - `changes`: what effects change.
+//! - `changes`: what effects change, and the world that this makes.
 //! - `clash`: whether places that are set agree with each other.
 //! - `collect`: the changes that effects make.
 //! - `join`: the rows of values with which an operator can be applied.
@@ -32,6 +32,7 @@ mod sure;
 mod values;
 
 pub use all_actions::actions;
+pub use changes::Changes;
 pub use fault::ActFault;
-pub use next::next_world;
+pub use next::{changes_by, next_world};
 pub use step::apply;

@@ -2,6 +2,7 @@
 ghost use Rattle.std.specs.Prelude.{◌≡◌, ◌+◌, length, Some, IfOk, IfErr};
 ghost use Rattle.tl_action.specs.Actions.{IsExecutable, StaysNamed};
 ghost use Rattle.tl_action.specs.Answers.{IsCausedBy};
+ghost use Rattle.tl_action.specs.ChangedWorlds.{world_after};
 ghost use Rattle.tl_terms.specs.Looked.{looked_by_action};
 ghost use Rattle.tl_terms.specs.ProblemMeaning.{plain_problem};
 ghost use Rattle.tl_terms.specs.Step.{step};
@@ -16,10 +17,37 @@ use tl_syntax::Action;
 use tl_terms::Steps;
 use tl_world::{Task, World};
 
-/// The world after an action that is executable in the world, as each of `actions` is. It is that of `apply`, for less: bounds and precondition are not tested again, and the places that are set are not compared.
+/// What an action changes that is executable in the world, as each of `actions` is: bounds and precondition are not tested again, and the places that are set are not compared.
+/// `Changes::world_after` then makes the next world; whoever sees from the changes that it is not needed makes none.
 ///
-/// All conditions and terms of the effects are read in the old world, from left to right. A range fault tells an operation that the action looks at. Each call counts one step.
+/// All conditions and terms of the effects are read in the world, from left to right. A range fault tells an operation that the action looks at. Each call counts one step.
 /// The frame is left with values of its own, as by `apply`.
+pub fn changes_by<L: Ledger>(
+    alloc: Global,
+    task: &Task,
+    w: &World,
+    env: &mut Env,
+    a: &Action,
+    steps: &mut Steps<L>,
+) -> Result<Changes, ActFault>
+    requires executable { IsExecutable (plain_problem task.now.problem) w.now a.now }
+    ensures world { IfOk result (λ c. Some (world_after w.now c) ≡ step (plain_problem task.now.problem) w.now a.now) }
+    ensures named { IfOk result (λ c. StaysNamed (length task.now.problem.names) w.now a.now (world_after w.now c)) }
+    ensures cause { IfErr result (IsCausedBy (looked_by_action (plain_problem task.now.problem) w.now a.now)) }
+    ensures ticks { steps.new ≡ steps.old + 1 }
+{
+    steps.tick();
+    let operator = &task.problem.domain.operators.as_slice()[a.op as usize];
+    env.put_values(operator.params.as_slice(), a.args.as_slice());
+    let mut changes = Changes::new(alloc);
+    match collect_all(alloc, task, w, env, &operator.effects, &mut changes) {
+        Ok(_) => Ok(changes),
+        Err(fault) => Err(fault),
+    }
+}
+
+/// The world after an action that is executable in the world, as each of `actions` is. It is that of `apply`, for less, as `changes_by` says.
+/// A range fault tells an operation that the action looks at. Each call counts one step. The frame is left with values of its own, as by `apply`.
 pub fn next_world<L: Ledger>(
     alloc: Global,
     task: &Task,
@@ -34,18 +62,9 @@ pub fn next_world<L: Ledger>(
     ensures cause { IfErr result (IsCausedBy (looked_by_action (plain_problem task.now.problem) w.now a.now)) }
     ensures ticks { steps.new ≡ steps.old + 1 }
 {
-    steps.tick();
-    let operator = &task.problem.domain.operators.as_slice()[a.op as usize];
-    env.put_values(operator.params.as_slice(), a.args.as_slice());
-    let mut changes = Changes::new(alloc);
-    match collect_all(alloc, task, w, env, &operator.effects, &mut changes) {
-        Ok(_) => {
-            let next = w.changed(
-                alloc,
-                changes.dels.as_slice(),
-                changes.adds.as_slice(),
-                changes.sets.as_slice(),
-            )?;
+    match changes_by(alloc, task, w, env, a, steps) {
+        Ok(changes) => {
+            let next = changes.world_after(alloc, w)?;
             Ok(next)
         }
         Err(fault) => Err(fault),

@@ -72,7 +72,7 @@ unfolding simplified_join
 joined-past All xs ys = and-past xs ys
 joined-past Any xs ys = or-past xs ys
 
-and-decided : (xs ys : List FormulaTree) → simplified_and (xs ++ falsum ∷ ys) ≡ falsum
+pub and-decided : (xs ys : List FormulaTree) → simplified_and (xs ++ falsum ∷ ys) ≡ falsum
 unfolding simplified_and and_parts
 and-decided xs ys = let ps = flat_map and_parts (xs ++ falsum ∷ ys) in ap (λ b. cond b falsum (conjunction_of (without_repeats (filter (λ f. not (is_verum f)) ps)))) (ap (list_any is_falsum) (flat-of and_parts xs ys falsum refl) ∙ any-here is_falsum (flat_map and_parts xs) (flat_map and_parts ys) falsum refl)
 

@@ -21,3 +21,6 @@ pub mod Sentences
 pub mod NamedResiduals
 pub mod FrameBindings
 pub mod Learned
+pub mod BrokenLaws
+pub mod KeptByWorld
+pub mod OpenParts

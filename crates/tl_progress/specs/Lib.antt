@@ -2,6 +2,8 @@ pub mod Parts
 pub mod Answers
 pub mod Sentences
 pub mod Known
+pub mod Broken
+pub mod KeptResiduals
 pub mod FrameValues
 pub mod Quantifiers
 pub mod Steps

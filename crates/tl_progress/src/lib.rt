@@ -13,14 +13,19 @@
 //! - `substitution`, `remaining`: values put into what remains.
 //! - `quantifier`: a quantifier in its node, and its instances, one after another.
 //! - `residual`: what has to hold next, under a frame.
+//! - `broken`: formulas that changes of facts make false, whatever else is true.
 //! - `early`: what decides a conjunction or a disjunction before its parts are worked out.
+//! - `joined`: conjunctions and disjunctions, by their parts with temporal words.
+//! - `residuals`: what is kept of worlds between calls.
 //! - `progression`: progression.
 #![tactic(auto)]
 
+mod broken;
 mod early;
 mod fault;
 mod frames;
 mod idling;
+mod joined;
 mod joins;
 mod known;
 mod order;
@@ -29,9 +34,12 @@ mod progression;
 mod quantifier;
 mod remaining;
 mod residual;
+mod residuals;
 mod substitution;
 mod truth;
 
+pub use broken::is_broken_by;
 pub use fault::ProgressFault;
 pub use idling::idle;
-pub use progression::progress;
+pub use progression::{progress, progress_kept};
+pub use residuals::{Incoming, Residuals};

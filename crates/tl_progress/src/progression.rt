@@ -5,7 +5,8 @@ ghost use Rattle.tl_nodes.specs.NodeTrees.{tree_at};
 ghost use Rattle.tl_nodes.specs.Numbering.{Keeps};
 ghost use Rattle.tl_nodes.specs.Numbers.{trees, Denotes};
 ghost use Rattle.tl_progress.specs.Answers.{IsCausedBy, looked_for_residual, residual};
-ghost use Rattle.tl_progress.specs.Known.{IsRight};
+ghost use Rattle.tl_progress.specs.KeptResiduals.{StaysElsewhere, found_in};
+ghost use Rattle.tl_progress.specs.Known.{AreResiduals, IsRight};
 ghost use Rattle.tl_progress.specs.Sentences.{IsSentence};
 ghost use Rattle.tl_syntax.specs.Assignment.{no_values};
 ghost use Rattle.tl_syntax.specs.Named.{IsNamed};
@@ -22,14 +23,17 @@ use crate::ProgressFault;
 use crate::early::early_residual;
 use crate::frames::empty_frame;
 use crate::idling::sentence_truth;
+use crate::joined::{Joined, joined_residual, kept_residual};
 use crate::joins::constant_number;
 use crate::known::Known;
 use crate::order::reached;
 use crate::residual::residual_of;
+use crate::residuals::{Incoming, Residuals};
 use crate::truth::truth_of;
 use std::alloc::Global;
 use tl_eval::Env;
-use tl_nodes::Nodes;
+use tl_nodes::{Node, Nodes};
+use tl_syntax::Junction;
 use tl_world::{Task, World};
 
 // Works out what has to hold next for a number's tree, or its truth where it has no temporal word, and keeps it. The tree has no free variable.
@@ -96,8 +100,8 @@ fn ordered_residual(
     residual_of(alloc, nodes, task, w, env, &known, id)
 }
 
-// The number of what has to hold next for a number's tree, which has no free variable: a part that decides it, or else what its parts give.
-fn temporal_residual(
+/// The number of what has to hold next for a number's tree, which has no free variable: a part that decides it, or else what its parts give. Nothing is kept between calls.
+pub(crate) fn temporal_residual(
     alloc: Global,
     nodes: &mut Nodes,
     task: &Task,
@@ -120,28 +124,71 @@ fn temporal_residual(
     }
 }
 
-// The number of what has to hold next for a number's tree, which has no free variable. Where it has no temporal word, it is a constant.
-fn sentence_residual(
-    alloc: Global,
+// The number of what has to hold next for a number's tree, which has a temporal word and no free variable, by what is kept of the world.
+fn found_residual(
     nodes: &mut Nodes,
     task: &Task,
     w: &World,
     env: &mut Env,
-    id: usize,
+    residuals: &mut Residuals,
+    incoming: Incoming,
 ) -> Result<usize, ProgressFault>
-    requires id { id < length (trees nodes.old) }
-    requires sentence { IsSentence (signature_of task.now.problem.domain) (tree_at (trees nodes.old) id) }
+    requires at { incoming.formula < length (trees nodes.old) }
+    requires sentence { IsSentence (signature_of task.now.problem.domain) (tree_at (trees nodes.old) incoming.formula) }
+    requires found { AreResiduals (plain_problem task.now.problem) w.now (trees nodes.old) (found_in residuals.old incoming.world) }
     ensures kept { Keeps (trees nodes.old) (trees nodes.new) }
-    ensures number { IfOk result (λ i. Denotes nodes.new i (residual (plain_problem task.now.problem) w.now (assignment_in env.old) (tree_at (trees nodes.old) id))) }
-    ensures same { IsState (tree_at (trees nodes.old) id) → trees nodes.new ≡ trees nodes.old }
-    ensures constant { IsState (tree_at (trees nodes.old) id) → IfOk result (λ i. i < 2) }
-    ensures cause { IfErr result (IsCausedBy (looked_for_residual (plain_problem task.now.problem) w.now (assignment_in env.old) (tree_at (trees nodes.old) id))) }
+    ensures number { IfOk result (λ i. Denotes nodes.new i (residual (plain_problem task.now.problem) w.now (assignment_in env.old) (tree_at (trees nodes.old) incoming.formula))) }
+    ensures found { AreResiduals (plain_problem task.now.problem) w.now (trees nodes.new) (found_in residuals.new incoming.world) }
+    ensures elsewhere { StaysElsewhere incoming.world residuals.old residuals.new }
+    ensures cause { IfErr result (IsCausedBy (looked_for_residual (plain_problem task.now.problem) w.now (assignment_in env.old) (tree_at (trees nodes.old) incoming.formula))) }
     ensures frame { env.new ≡ env.old }
 {
-    if nodes.temporal(id) {
-        return temporal_residual(alloc, nodes, task, w, env, id);
+    match nodes.get(incoming.formula) {
+        Node::And(_) => {
+            let joined = Joined {
+                junction: Junction::All,
+                world: incoming.world,
+                at: incoming.formula,
+            };
+            joined_residual(nodes, task, w, env, residuals, joined)
+        }
+        Node::Or(_) => {
+            let joined = Joined {
+                junction: Junction::Any,
+                world: incoming.world,
+                at: incoming.formula,
+            };
+            joined_residual(nodes, task, w, env, residuals, joined)
+        }
+        _ => kept_residual(nodes, task, w, env, residuals, incoming),
     }
-    match sentence_truth(alloc, nodes, task, w, env, id) {
+}
+
+// The number of what has to hold next for a number's tree, which has no free variable. Where it has no temporal word, it is a constant.
+fn sentence_residual(
+    nodes: &mut Nodes,
+    task: &Task,
+    w: &World,
+    env: &mut Env,
+    residuals: &mut Residuals,
+    incoming: Incoming,
+) -> Result<usize, ProgressFault>
+    requires at { incoming.formula < length (trees nodes.old) }
+    requires sentence { IsSentence (signature_of task.now.problem.domain) (tree_at (trees nodes.old) incoming.formula) }
+    requires found { AreResiduals (plain_problem task.now.problem) w.now (trees nodes.old) (found_in residuals.old incoming.world) }
+    ensures kept { Keeps (trees nodes.old) (trees nodes.new) }
+    ensures number { IfOk result (λ i. Denotes nodes.new i (residual (plain_problem task.now.problem) w.now (assignment_in env.old) (tree_at (trees nodes.old) incoming.formula))) }
+    ensures found { AreResiduals (plain_problem task.now.problem) w.now (trees nodes.new) (found_in residuals.new incoming.world) }
+    ensures elsewhere { StaysElsewhere incoming.world residuals.old residuals.new }
+    ensures same { IsState (tree_at (trees nodes.old) incoming.formula) → trees nodes.new ≡ trees nodes.old }
+    ensures constant { IsState (tree_at (trees nodes.old) incoming.formula) → IfOk result (λ i. i < 2) }
+    ensures cause { IfErr result (IsCausedBy (looked_for_residual (plain_problem task.now.problem) w.now (assignment_in env.old) (tree_at (trees nodes.old) incoming.formula))) }
+    ensures frame { env.new ≡ env.old }
+{
+    if nodes.temporal(incoming.formula) {
+        return found_residual(nodes, task, w, env, residuals, incoming);
+    }
+    match sentence_truth(residuals.alloc, nodes, task, w, env, incoming.formula) {
         Ok(truth) => Ok(constant_number(nodes, truth)),
         Err(fault) => Err(fault),
     }
@@ -151,7 +198,40 @@ fn sentence_residual(
 /// `Range` notes an operation that is looked at and past the 64 bits of an integer. The caller's frame stays as it was.
 /// Where the tree has no temporal word, the answer is 0 or 1, and no node is added. A refused call may have added nodes.
 ///
+/// What is kept for this world is right of it, before and after the call, a refused one included; what is kept for other worlds stays. Of a conjunction or a disjunction the parts without temporal words are read first, and what has to hold next for another part is worked out once for the world.
 /// The time grows with the parts of the tree, outside of quantifiers each counted once, with the tuples of its quantifiers, and with what the answer adds.
+pub fn progress_kept(
+    nodes: &mut Nodes,
+    task: &Task,
+    w: &World,
+    env: &mut Env,
+    residuals: &mut Residuals,
+    incoming: Incoming,
+) -> Result<usize, ProgressFault>
+    requires at { incoming.formula < length (trees nodes.old) }
+    requires sentence { IsSentence (signature_of task.now.problem.domain) (tree_at (trees nodes.old) incoming.formula) }
+    requires found { AreResiduals (plain_problem task.now.problem) w.now (trees nodes.old) (found_in residuals.old incoming.world) }
+    ensures number { IfOk result (λ n. Denotes nodes.new n (progressed (situation_of (plain_problem task.now.problem) w.now) no_values (tree_at (trees nodes.old) incoming.formula))) }
+    ensures lemma { IfOk result (λ n. (r : Run) (k : ℕ) → state_at r k ≡ w.now → Satisfies (plain_problem task.now.problem) r k (tree_at (trees nodes.old) incoming.formula) ↔ Satisfies (plain_problem task.now.problem) r (suc k) (tree_at (trees nodes.new) n)) }
+    ensures sentence { IfOk result (λ n. IsSentence (signature_of task.now.problem.domain) (tree_at (trees nodes.new) n)) }
+    ensures named { IfOk result (λ n. WorldIsNamed (length task.now.problem.names) w.now → IsNamed (length task.now.problem.names) (tree_at (trees nodes.old) incoming.formula) → IsNamed (length task.now.problem.names) (tree_at (trees nodes.new) n)) }
+    ensures kept { Keeps (trees nodes.old) (trees nodes.new) }
+    ensures found { AreResiduals (plain_problem task.now.problem) w.now (trees nodes.new) (found_in residuals.new incoming.world) }
+    ensures elsewhere { StaysElsewhere incoming.world residuals.old residuals.new }
+    ensures same { IsState (tree_at (trees nodes.old) incoming.formula) → trees nodes.new ≡ trees nodes.old }
+    ensures constant { IsState (tree_at (trees nodes.old) incoming.formula) → IfOk result (λ n. n < 2) }
+    ensures cause { IfErr result (IsCausedBy (looked_by_progressing (plain_problem task.now.problem) w.now (tree_at (trees nodes.old) incoming.formula))) }
+    ensures frame { env.new ≡ env.old }
+{
+    let frame = env.saved();
+    let empty = empty_frame();
+    env.restore(&empty);
+    let answer = sentence_residual(nodes, task, w, env, residuals, incoming);
+    env.restore(&frame);
+    answer
+}
+
+/// `progress_kept` where nothing is kept.
 pub fn progress(
     alloc: Global,
     nodes: &mut Nodes,
@@ -172,10 +252,10 @@ pub fn progress(
     ensures cause { IfErr result (IsCausedBy (looked_by_progressing (plain_problem task.now.problem) w.now (tree_at (trees nodes.old) id))) }
     ensures frame { env.new ≡ env.old }
 {
-    let frame = env.saved();
-    let empty = empty_frame();
-    env.restore(&empty);
-    let answer = sentence_residual(alloc, nodes, task, w, env, id);
-    env.restore(&frame);
-    answer
+    let mut nothing = Residuals::new(alloc);
+    let incoming = Incoming {
+        world: 0,
+        formula: id,
+    };
+    progress_kept(nodes, task, w, env, &mut nothing, incoming)
 }

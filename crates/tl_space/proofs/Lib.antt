@@ -7,3 +7,5 @@ pub mod Arriving
 pub mod Judging
 pub mod PathNames
 pub mod Walked
+pub mod FoundStay
+pub mod PrunedChildren

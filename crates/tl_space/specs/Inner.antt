@@ -1,12 +1,15 @@
 -- What the parts of a space say to each other.
 use Rattle.std.specs.Prelude.{◌≡◌, ◌≢◌, ◌<◌, ◌++◌, ◌∷◌, [], ℕ, List, slice_get, Some, vec_len, vec_capacity}
 use Rattle.indexmap.specs.IndexMap.{spare}
+use Rattle.tl_syntax.specs.Assignment.{no_values}
 use Rattle.tl_syntax.specs.Signature.{signature_of}
 use Rattle.tl_syntax.specs.declared.action.Action.{Action}
 use Rattle.tl_syntax.specs.Trees.{falsum}
+use Rattle.tl_terms.specs.Definitions.{situation_of}
 use Rattle.tl_terms.specs.Looked.{looked_by_progressing}
 use Rattle.tl_terms.specs.Pairs.{Pair}
 use Rattle.tl_terms.specs.Problem.{PlainProblem}
+use Rattle.tl_terms.specs.Progression.{progressed}
 use Rattle.tl_terms.specs.Step.{step}
 use Rattle.tl_terms.specs.World.{World}
 use Rattle.tl_nodes.specs.NodeTrees.{tree_at}
@@ -99,9 +102,17 @@ pub record IsKeyAfter (p : PlainProblem) (x : Pair) (a : Action) (s : Space) (n 
   pub number : slice_get (worlds_in s.worlds) n.world ≡ Some world
   pub label : slice_get (trees s.nodes) n.label ≡ Some x.formula
 
+-- the action leads to a world in which the pair's formula leaves FALSE
+abbrev pub IsPrunedAfter : PlainProblem → Pair → Action → Type 0
+IsPrunedAfter p x a = (w : World) × (step p x.world a ≡ Some w) × (progressed (situation_of p w) no_values x.formula ≡ falsum)
+
 -- so they are of the arrival by an action of the pair of a number
 abbrev pub IsChildKey : Space → Space → ℕ → Action → Numbers → Type 0
 IsChildKey old new at a n = ForPair (kept_of old) at (λ x. IsKeyAfter (problem_of old) x.node a new n)
+
+-- so it is for the pair of the number
+abbrev pub IsChildPruned : Space → ℕ → Action → Type 0
+IsChildPruned s at a = ForPair (kept_of s) at (λ x. IsPrunedAfter (problem_of s) x.node a)
 
 -- the path by which a pair is met in this way
 abbrev pub way_in : Space → Met → List Action

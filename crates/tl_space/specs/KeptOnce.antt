@@ -5,6 +5,7 @@ use Rattle.std.specs.Coded.{Π_prop}
 use Rattle.std.proofs.Common.{sym, ap, true≢false}
 use Rattle.std.proofs.Props.{props}
 use mathlib.Core.HLevel.{hedberg}
+use Rattle.tl_syntax.specs.Assignment.{Assignment}
 use Rattle.tl_syntax.specs.FreeVariables.{free_slots, InScope}
 use Rattle.tl_syntax.specs.KeptOnce.{fits-prop, named-prop, values-prop}
 use Rattle.tl_syntax.specs.Lists.{Each}
@@ -17,6 +18,8 @@ use Rattle.tl_terms.specs.Problem.{PlainProblem}
 use Rattle.tl_terms.specs.World.{World}
 use Rattle.tl_world.specs.Same.{world_eq, world-tells}
 use Rattle.tl_nodes.specs.NodeTrees.{tree_at}
+use Rattle.tl_progress.specs.declared.residuals.Residuals.{Residuals}
+use Rattle.tl_progress.specs.Answers.{residual}
 use Rattle.tl_progress.specs.Sentences.{IsSentence}
 use Rattle.tl_search.specs.KeptPairs.{KeptPair}
 use Rattle.tl_search.specs.Graphs.{walk}
@@ -26,8 +29,8 @@ use Rattle.tl_search.specs.declared.arrival.Arrival.TheVariants as arrival
 use Rattle.tl_space.specs.declared.numbers.Numbers.{Numbers}
 use Rattle.tl_space.specs.declared.numbers.Met.{Met}
 use Rattle.tl_space.specs.declared.numbers.Met.TheVariants as met
-use Rattle.tl_space.specs.Kept.{kept_over, nodes_at, paths_of, IsLabel, AreNumbers, AreWalks, IsNamedMet, AreKeptBy}
-use Rattle.tl_space.specs.Remembered.{pair_in_at, IsKnown, IsRemembered, AreRemembered}
+use Rattle.tl_space.specs.Kept.{world_at, kept_over, nodes_at, paths_of, IsLabel, AreNumbers, AreWalks, IsNamedMet, AreKeptBy}
+use Rattle.tl_space.specs.Remembered.{pair_in_at, IsKnown, IsRemembered, AreRemembered, AreFound}
 
 -- ---- pairs are the same in at most one way
 
@@ -95,6 +98,22 @@ remembered-prop p ws ts ns e = hlevel (props, known-prop (nodes_at ws ts ns) (pa
 
 pub all-remembered-prop : (p : PlainProblem) (ws : List World) (ts : List FormulaTree) (ns : List Numbers) (es : List (Numbers × Arrival)) → IsProp (AreRemembered p ws ts ns es)
 all-remembered-prop p ws ts ns es = Each-prop (IsRemembered p ws ts ns) (remembered-prop p ws ts ns) es
+
+some_formula : (a b : Option FormulaTree) → Dec (a ≡ b)
+some_formula None None = yes refl
+some_formula None (Some y) = no (λ e. let b : ⊥ = cc in b)
+some_formula (Some x) None = no (λ e. let b : ⊥ = cc in b)
+some_formula (Some x) (Some y) = by (formula_discrete x y)
+  where
+    by : Dec (x ≡ y) → Dec (Some x ≡ Some y)
+    by (yes p) = yes (ap (λ z. Some z) p)
+    by (no n) = no (λ e. n (let d : x ≡ y = cc in d))
+
+next-prop : (p : PlainProblem) (w : World) (ts : List FormulaTree) (i : ℕ) (f : FormulaTree) → IsProp ((e : Assignment) → slice_get ts i ≡ Some (residual p w e f))
+next-prop p w ts i f = Π_prop (λ e. hedberg some_formula (slice_get ts i) (Some (residual p w e f)))
+
+pub found-prop : (p : PlainProblem) (ws : List World) (ts : List FormulaTree) (r : Residuals) → IsProp (AreFound p ws ts r)
+found-prop p ws ts r = Π_prop (λ n. Π_prop (λ k. Π_prop (λ i. Π_prop (λ h. hlevel (props, next-prop p (world_at ws n) ts i (tree_at ts k))))))
 
 -- ---- named worlds
 

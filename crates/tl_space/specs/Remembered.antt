@@ -1,6 +1,6 @@
 -- Arrivals that are remembered, by the world and the formula that comes in.
-use Rattle.std.specs.Prelude.{◌≡◌, ◌<◌, List, length, slice_get, Some}
-use Rattle.tl_syntax.specs.Assignment.{no_values}
+use Rattle.std.specs.Prelude.{◌≡◌, ◌<◌, ℕ, List, length, slice_get, Some}
+use Rattle.tl_syntax.specs.Assignment.{Assignment, no_values}
 use Rattle.tl_syntax.specs.Lists.{Each}
 use Rattle.tl_syntax.specs.Trees.{FormulaTree, falsum}
 use Rattle.tl_terms.specs.Definitions.{situation_of}
@@ -9,6 +9,9 @@ use Rattle.tl_terms.specs.Problem.{PlainProblem}
 use Rattle.tl_terms.specs.Progression.{progressed}
 use Rattle.tl_terms.specs.World.{World}
 use Rattle.tl_nodes.specs.NodeTrees.{tree_at}
+use Rattle.tl_progress.specs.declared.residuals.Residuals.{Residuals}
+use Rattle.tl_progress.specs.Answers.{residual}
+use Rattle.tl_progress.specs.KeptResiduals.{found_in}
 use Rattle.tl_search.specs.declared.arrival.Arrival.{Arrival}
 use Rattle.tl_search.specs.declared.arrival.Arrival.TheVariants as arrival
 use Rattle.tl_space.specs.Kept.{world_at, nodes_at}
@@ -33,3 +36,7 @@ pub record IsRemembered (p : PlainProblem) (ws : List World) (ts : List FormulaT
 -- all that is remembered
 abbrev pub AreRemembered : PlainProblem → List World → List FormulaTree → List Numbers → List (Numbers × Arrival) → Type 0
 AreRemembered p ws ts ns es = Each (IsRemembered p ws ts ns) es
+
+-- what is kept of worlds for progression: the worlds and the formulas have numbers, and it is what has to hold next
+abbrev pub AreFound : PlainProblem → List World → List FormulaTree → Residuals → Type 0
+AreFound p ws ts r = (n k i : ℕ) → found_in r n k ≡ Some i → (n < length ws) × ((k < length ts) × ((e : Assignment) → slice_get ts i ≡ Some (residual p (world_at ws n) e (tree_at ts k))))

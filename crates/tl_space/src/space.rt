@@ -2,8 +2,8 @@
 ghost use Rattle.std.specs.Prelude.{◌≡◌, [], length, IfOk};
 ghost use Rattle.tl_nodes.specs.Numbers.{trees};
 ghost use Rattle.tl_space.specs.Kept.{AreKeptBy};
-ghost use Rattle.tl_space.specs.KeptOnce.{kept-prop, all-remembered-prop, worlds-prop};
-ghost use Rattle.tl_space.specs.Remembered.{AreRemembered};
+ghost use Rattle.tl_space.specs.KeptOnce.{kept-prop, all-remembered-prop, found-prop, worlds-prop};
+ghost use Rattle.tl_space.specs.Remembered.{AreFound, AreRemembered};
 ghost use Rattle.tl_world.specs.WorldNumbers.{worlds_in};
 ghost use Rattle.tl_syntax.specs.Lists.{Each};
 ghost use Rattle.tl_syntax.specs.Signature.{signature_of};
@@ -25,6 +25,7 @@ use indexmap::{IndexMap, IndexSet};
 use std::alloc::Global;
 use tl_eval::Env;
 use tl_nodes::Nodes;
+use tl_progress::Residuals;
 use tl_search::Arrival;
 use tl_terms::NoMemory;
 use tl_world::{Task, Worlds};
@@ -32,7 +33,7 @@ use tl_world::{Task, Worlds};
 /// Pairs of a world and a residual, each kept once under a number, with the path by which it was met first.
 ///
 /// No call changes the task, the tree of a number, or the number, label, world or path of a kept pair. A pair is kept as the last growth of a call: after a refused call the kept pairs are as before, and the same call can be made again.
-/// A pair is two numbers, that of its world and that of its residual. What came of an arrival is remembered by its world and the formula that came in, so progression is asked once for each.
+/// A pair is two numbers, that of its world and that of its residual. What came of an arrival is remembered by its world and the formula that came in, so progression is asked once for each; and what formulas that come in to one world have in common is progressed once for the world.
 #[derive(Drop)]
 pub struct Space {
     pub(crate) alloc: Global,
@@ -43,9 +44,11 @@ pub struct Space {
     pub(crate) pairs: IndexSet<Numbers>,
     pub(crate) from: Vec<Met>,
     pub(crate) arrivals: IndexMap<Numbers, Arrival>,
+    pub(crate) residuals: Residuals,
     ghost named_worlds: { Each (WorldIsNamed (length task.problem.names)) (worlds_in worlds) } by { worlds-prop (length task.problem.names) (worlds_in worlds) },
     ghost kept: { AreKeptBy (signature_of task.problem.domain) (length task.problem.names) (plain_problem task.problem) (worlds_in worlds) (trees nodes) pairs.keys from.items } by { kept-prop (signature_of task.problem.domain) (length task.problem.names) (plain_problem task.problem) (worlds_in worlds) (trees nodes) pairs.keys from.items },
     ghost remembered: { AreRemembered (plain_problem task.problem) (worlds_in worlds) (trees nodes) pairs.keys arrivals.entries } by { all-remembered-prop (plain_problem task.problem) (worlds_in worlds) (trees nodes) pairs.keys arrivals.entries },
+    ghost found: { AreFound (plain_problem task.problem) (worlds_in worlds) (trees nodes) residuals } by { found-prop (plain_problem task.problem) (worlds_in worlds) (trees nodes) residuals },
 }
 
 /// A frame without values, and the two constants.
@@ -86,6 +89,7 @@ impl Space {
             pairs: IndexSet::new(alloc),
             from: Vec::new(alloc),
             arrivals: IndexMap::new(alloc),
+            residuals: Residuals::new(alloc),
         }
     }
 }

@@ -1,17 +1,17 @@
 // The pair after an action.
-ghost use Rattle.std.specs.Prelude.{◌≡◌, ◌<◌, ◌+◌, length, IfOk, IfErr, OnErr};
+ghost use Rattle.std.specs.Prelude.{◌≡◌, ◌<◌, ◌+◌, length, IfOk, IfErr, IfNone, IfSome, OnErr};
 ghost use Rattle.tl_action.specs.Actions.{ArgumentsAreNamed};
 ghost use Rattle.tl_search.specs.Calls.{IsExecutableAt, ChildArrives, IsChildFault};
 ghost use Rattle.tl_search.specs.Kept.{AreKept};
 ghost use Rattle.tl_search.specs.PairGraph.{pair_graph};
-ghost use Rattle.tl_space.specs.Inner.{node_in, AreNumbersIn, KeepsPairs, IsToKeep, IsChildKey, IsProgressFault, way_after, IsWalk, LeadsTo, ArrivesBy, IsKeptLast};
+ghost use Rattle.tl_space.specs.Inner.{node_in, AreNumbersIn, KeepsPairs, IsToKeep, IsChildKey, IsChildPruned, IsProgressFault, way_after, IsWalk, LeadsTo, ArrivesBy, IsKeptLast};
 ghost use Rattle.tl_space.specs.Spaces.{problem_of, name_count, kept_of, Grows};
 
 use super::Space;
 use crate::numbers::{Found, Met, Numbers};
 use std::sync::ledger::Ledger;
-use tl_action::{ActFault, next_world};
-use tl_progress::ProgressFault;
+use tl_action::{ActFault, changes_by};
+use tl_progress::{ProgressFault, is_broken_by};
 use tl_search::{Arrival, SpaceFault};
 use tl_terms::{Action, NoMemory, Steps};
 
@@ -34,7 +34,8 @@ impl Space {
         ensures ticks { steps.new ≡ steps.old + 1 }
     {
         let key = match self.child_key(at, a, steps) {
-            Ok(key) => key,
+            Ok(Some(key)) => key,
+            Ok(None) => return Ok(Arrival::Pruned),
             Err(fault) => return Err(fault),
         };
         match self.arrive_after(key, at, a) {
@@ -92,23 +93,24 @@ impl Space {
         self.keep(key, numbers, Met::After(at, action))
     }
 
-    /// The numbers of the world after the action and of the pair's residual, which comes in there.
+    /// The numbers of the world after the action and of the pair's residual, which comes in there. None: what the action changes decides by itself that the residual leaves FALSE there, and no world is made.
     fn child_key<L: Ledger>(
         &mut self,
         at: usize,
         a: &Action,
         steps: &mut Steps<L>,
-    ) -> Result<Numbers, SpaceFault>
+    ) -> Result<Option<Numbers>, SpaceFault>
         requires at { at < length (kept_of self.old) }
         requires executable { IsExecutableAt (problem_of self.old) (kept_of self.old) at a.now }
         ensures keeps { KeepsPairs self.old self.new }
-        ensures numbers { IfOk result (AreNumbersIn self.new) }
-        ensures key { IfOk result (IsChildKey self.old self.new at a.now) }
+        ensures numbers { IfOk result (λ o. IfSome o (AreNumbersIn self.new)) }
+        ensures key { IfOk result (λ o. IfSome o (IsChildKey self.old self.new at a.now)) }
+        ensures pruned { IfOk result (λ o. IfNone o (IsChildPruned self.old at a.now)) }
         ensures cause { IfErr result (IsChildFault (problem_of self.old) (kept_of self.old) at a.now) }
         ensures ticks { steps.new ≡ steps.old + 1 }
     {
         let from = self.numbers(at);
-        let next = match next_world(
+        let changes = match changes_by(
             self.alloc,
             &self.task,
             self.worlds.get(from.world),
@@ -116,15 +118,20 @@ impl Space {
             a,
             steps,
         ) {
-            Ok(next) => next,
+            Ok(changes) => changes,
             Err(ActFault::Range(note)) => return Err(SpaceFault::RangeHere(note)),
             Err(ActFault::NoMemory) => return Err(SpaceFault::NoMemory),
         };
-        match self.number_of_world(next) {
-            Ok(world) => Ok(Numbers {
+        let dels = changes.dels.as_slice();
+        let adds = changes.adds.as_slice();
+        if is_broken_by(&self.nodes, from.label, dels, adds) {
+            return Ok(None);
+        }
+        match self.number_after(from.world, &changes) {
+            Ok(world) => Ok(Some(Numbers {
                 world,
                 label: from.label,
-            }),
+            })),
             Err(_) => Err(SpaceFault::NoMemory),
         }
     }

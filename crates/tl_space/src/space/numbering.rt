@@ -1,8 +1,10 @@
 // Worlds and formulas get their numbers. The pairs stay.
-ghost use Rattle.std.specs.Prelude.{◌≡◌, slice_get, Some, IfOk, IfErr};
+ghost use Rattle.std.specs.Prelude.{◌≡◌, ◌<◌, length, slice_get, Some, IfOk, IfErr};
+ghost use Rattle.tl_action.specs.ChangedWorlds.{world_after};
 ghost use Rattle.tl_nodes.specs.Numbering.{Keeps};
 ghost use Rattle.tl_nodes.specs.Numbers.{trees, Denotes};
 ghost use Rattle.tl_space.specs.Inner.{arriving_in, IsLabelIn, AreNumbersIn, KeepsPairs, IsProgressFault};
+ghost use Rattle.tl_space.specs.Kept.{world_at};
 ghost use Rattle.tl_space.specs.Spaces.{problem_of, name_count};
 ghost use Rattle.tl_world.specs.WorldNumbers.{worlds_in};
 ghost use Rattle.tl_terms.specs.NamedWorlds.{WorldIsNamed};
@@ -11,8 +13,9 @@ ghost use Rattle.tl_terms.specs.ProblemMeaning.{plain_problem};
 use super::Space;
 use crate::numbers::Numbers;
 use std::alloc::Global;
+use tl_action::Changes;
 use tl_nodes::Nodes;
-use tl_progress::{ProgressFault, progress};
+use tl_progress::{Incoming, ProgressFault, progress_kept};
 use tl_terms::NoMemory;
 use tl_world::{Task, World};
 
@@ -41,6 +44,21 @@ impl Space {
         self.worlds.number(world)
     }
 
+    /// The number of the world that the changes make of the world of a number.
+    pub(crate) fn number_after(
+        &mut self,
+        from: usize,
+        changes: &Changes,
+    ) -> Result<usize, NoMemory>
+        requires from { from < length (worlds_in self.old.worlds) }
+        requires named { WorldIsNamed (name_count self.old) (world_after (world_at (worlds_in self.old.worlds) from) changes.now) }
+        ensures keeps { KeepsPairs self.old self.new }
+        ensures number { IfOk result (λ n. slice_get (worlds_in self.new.worlds) n ≡ Some (world_after (world_at (worlds_in self.old.worlds) from) changes.now)) }
+    {
+        let next = changes.world_after(self.alloc, self.worlds.get(from))?;
+        self.number_of_world(next)
+    }
+
     /// The number of the first world.
     pub(crate) fn number_of_first(&mut self) -> Result<usize, NoMemory>
         ensures keeps { KeepsPairs self.old self.new }
@@ -67,13 +85,17 @@ impl Space {
         ensures label { IfOk result (IsLabelIn self.new) }
         ensures cause { IfErr result (IsProgressFault self.old key) }
     {
-        progress(
-            self.alloc,
+        let incoming = Incoming {
+            world: key.world,
+            formula: key.label,
+        };
+        progress_kept(
             &mut self.nodes,
             &self.task,
             self.worlds.get(key.world),
             &mut self.env,
-            key.label,
+            &mut self.residuals,
+            incoming,
         )
     }
 }

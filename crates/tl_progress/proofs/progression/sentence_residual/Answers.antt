@@ -17,11 +17,11 @@ returns-then-temporal-clause-constant c = λ h. absurd (true≢false (sym c.if-t
 
 pub returns-in-Ok-clause-number : goal.returns-in-Ok-clause-number
 returns-in-Ok-clause-number c =
-    c.constant_number.ensures.number ∙ ap (λ (f : FormulaTree). Some f) (constant-next (plain_problem c.args.task.now.problem) c.args.w.now (assignment_in c.args.env.now) (tree_at (trees c.args.nodes.now) c.args.id) c.in-Ok.truth (c.temporal.ensures.state.0 c.if-temporal.false) c.in-Ok.ensures.truth)
+    c.constant_number.ensures.number ∙ ap (λ (f : FormulaTree). Some f) (constant-next (plain_problem c.args.task.now.problem) c.args.w.now (assignment_in c.args.env.now) (tree_at (trees c.args.nodes.now) c.args.incoming.formula) c.in-Ok.truth (c.temporal.ensures.state.0 c.if-temporal.false) c.in-Ok.ensures.truth)
 
 pub returns-in-Ok-clause-constant : goal.returns-in-Ok-clause-constant
 returns-in-Ok-clause-constant c = λ h. c.constant_number.ensures.small
 
 pub returns-in-Err-clause-cause : goal.returns-in-Err-clause-cause
 returns-in-Err-clause-cause c =
-    subst (λ (x : List Operation). IsCausedBy x c.in-Err.fault) (looked-same (plain_problem c.args.task.now.problem) c.args.w.now (assignment_in c.args.env.now) (tree_at (trees c.args.nodes.now) c.args.id) (c.temporal.ensures.state.0 c.if-temporal.false)) c.in-Err.ensures.cause
+    subst (λ (x : List Operation). IsCausedBy x c.in-Err.fault) (looked-same (plain_problem c.args.task.now.problem) c.args.w.now (assignment_in c.args.env.now) (tree_at (trees c.args.nodes.now) c.args.incoming.formula) (c.temporal.ensures.state.0 c.if-temporal.false)) c.in-Err.ensures.cause

@@ -6,6 +6,7 @@ use Rattle.tl_space.specs.Spaces.{problem_of, kept_of}
 use Rattle.tl_space.proofs.SpaceLaws.{all-kept, keeps-kept, keeps-problem, keeps-grows, grows-behind}
 use Rattle.tl_space.proofs.Arriving.{child-walk, child-pair, child-told, arrives-as, path-later}
 use Rattle.tl_space.proofs.Judging.{arguments-named}
+use Rattle.tl_space.proofs.PrunedChildren.{pruned-arrives}
 use Rattle.tl_space.proofs.space.Space.child.Goals as goal
 
 pub returns-in-Err-clause-grows : goal.returns-in-Err-clause-grows
@@ -17,6 +18,21 @@ returns-in-Err-clause-kept g c = all-kept c.child_key.new.self
 pub returns-in-Err-clause-refused : goal.returns-in-Err-clause-refused
 returns-in-Err-clause-refused g c = keeps-kept c.args.self.now c.child_key.new.self c.child_key.ensures.keeps
 
+pub returns-in-Ok-None-clause-grows : goal.returns-in-Ok-None-clause-grows
+returns-in-Ok-None-clause-grows g c = keeps-grows c.args.self.now c.child_key.new.self c.child_key.ensures.keeps
+
+pub returns-in-Ok-None-clause-arrival : goal.returns-in-Ok-None-clause-arrival
+returns-in-Ok-None-clause-arrival g c = λ x e.
+    let s = c.args.self.now in
+    let t = c.child_key.new.self in
+    pruned-arrives (problem_of s) x c.args.a.now (kept_of s) (kept_of t) (x.path ++ c.args.a.now ∷ []) (keeps-kept s t c.child_key.ensures.keeps) ((rw c.in-Ok-None.field-0-is at c.in-Ok-None.ensures.pruned) x e)
+
+pub returns-in-Ok-None-clause-kept : goal.returns-in-Ok-None-clause-kept
+returns-in-Ok-None-clause-kept g c = all-kept c.child_key.new.self
+
+pub arrive_after-requires-clause-key : goal.arrive_after-requires-clause-key
+arrive_after-requires-clause-key g c = rw c.in-Ok-Some.field-0-is at c.in-Ok-Some.ensures.numbers
+
 pub arrive_after-requires-clause-at : goal.arrive_after-requires-clause-at
 arrive_after-requires-clause-at g c = subst (λ xs. c.args.at < length xs) (sym (keeps-kept c.args.self.now c.child_key.new.self c.child_key.ensures.keeps)) c.requires.at
 
@@ -24,7 +40,7 @@ pub arrive_after-requires-clause-named : goal.arrive_after-requires-clause-named
 arrive_after-requires-clause-named g c = arguments-named c.args.self.now c.child_key.new.self c.args.at c.args.a.now c.child_key.ensures.keeps c.requires.at c.requires.executable
 
 pub arrive_after-requires-clause-walk : goal.arrive_after-requires-clause-walk
-arrive_after-requires-clause-walk g c = child-walk c.args.self.now c.child_key.new.self c.child_key.ensures.keeps c.args.at c.args.a.now c.in-Ok.key c.requires.at c.in-Ok.ensures.key
+arrive_after-requires-clause-walk g c = child-walk c.args.self.now c.child_key.new.self c.child_key.ensures.keeps c.args.at c.args.a.now c.in-Ok-Some.key c.requires.at (rw c.in-Ok-Some.field-0-is at c.in-Ok-Some.ensures.key)
 
 pub returns-in-Ok-arrive_after-clause-grows : goal.returns-in-Ok-arrive_after-clause-grows
 returns-in-Ok-arrive_after-clause-grows g c = grows-behind c.args.self.now c.child_key.new.self c.arrive_after.new.self c.child_key.ensures.keeps c.arrive_after.ensures.grows
@@ -35,8 +51,8 @@ returns-in-Ok-arrive_after-clause-arrival g c = λ x e.
     let t = c.child_key.new.self in
     let k = c.child_key.ensures.keeps in
     let a = c.args.a.now in
-    arrives-as s t (kept_of c.arrive_after.new.self) (arriving_in t c.in-Ok.key) (next_pair (problem_of s) x.node a) (way_after t c.args.at a) (x.path ++ a ∷ []) c.in-Ok-arrive_after.arrival
-    (keeps-kept s t k) (child-pair (problem_of s) x.node a t c.in-Ok.key (keeps-problem s t k) (c.in-Ok.ensures.key x e)) (ap (λ (q : List Action). q ++ a ∷ []) (path-later s t k c.args.at x e)) c.in-Ok-arrive_after.ensures.arrival
+    arrives-as s t (kept_of c.arrive_after.new.self) (arriving_in t c.in-Ok-Some.key) (next_pair (problem_of s) x.node a) (way_after t c.args.at a) (x.path ++ a ∷ []) c.in-Ok-arrive_after.arrival
+    (keeps-kept s t k) (child-pair (problem_of s) x.node a t c.in-Ok-Some.key (keeps-problem s t k) ((rw c.in-Ok-Some.field-0-is at c.in-Ok-Some.ensures.key) x e)) (ap (λ (q : List Action). q ++ a ∷ []) (path-later s t k c.args.at x e)) c.in-Ok-arrive_after.ensures.arrival
 
 pub returns-in-Ok-arrive_after-clause-kept : goal.returns-in-Ok-arrive_after-clause-kept
 returns-in-Ok-arrive_after-clause-kept g c = all-kept c.arrive_after.new.self
@@ -54,7 +70,7 @@ pub returns-in-Err-Range-clause-cause : goal.returns-in-Err-Range-clause-cause
 returns-in-Err-Range-clause-cause g c = λ x e.
     let s = c.args.self.now in
     let t = c.child_key.new.self in
-    child-told (problem_of s) x.node c.args.a.now t c.in-Ok.key c.in-Err-Range.note (keeps-problem s t c.child_key.ensures.keeps) (c.in-Ok.ensures.key x e) (rw c.in-Err-Range.field-0-is at c.in-Err-Range.ensures.cause)
+    child-told (problem_of s) x.node c.args.a.now t c.in-Ok-Some.key c.in-Err-Range.note (keeps-problem s t c.child_key.ensures.keeps) ((rw c.in-Ok-Some.field-0-is at c.in-Ok-Some.ensures.key) x e) (rw c.in-Err-Range.field-0-is at c.in-Err-Range.ensures.cause)
 
 pub returns-in-Err-NoMemory-clause-grows : goal.returns-in-Err-NoMemory-clause-grows
 returns-in-Err-NoMemory-clause-grows g c = grows-behind c.args.self.now c.child_key.new.self c.arrive_after.new.self c.child_key.ensures.keeps c.arrive_after.ensures.grows

@@ -19,6 +19,7 @@ invariant_of-self c =
       named_worlds = s.named_worlds;
       kept = kept-by-with s n m _ _ e f new.numbers new.new.absent c.requires.met c.requires.named c.requires.walk;
       remembered = remembered-after s n m _ _ e f c.args.key c.in-Ok.at _ c.requires.key at new.arrives (when-ok c.insert.result _ (c.insert.ensures.succeeds new.room.arrivals) c.insert.ensures.entries);
+      found = s.found;
     }
 
 pub returns-in-Ok-clause-grows : goal.returns-in-Ok-clause-grows

@@ -1,3 +1,7 @@
+use Rattle.tl_space.proofs.FoundStay.{found-stays}
+use Rattle.tl_nodes.specs.Numbers.{trees}
+use Rattle.tl_world.specs.WorldNumbers.{worlds_in}
+use Rattle.tl_space.specs.Spaces.{problem_of}
 use Rattle.tl_space.proofs.SpaceLaws.{kept-still, remembered-still, if-ok-then, control-label}
 use Rattle.tl_space.proofs.space.Space.number_of_control.Goals as goal
 
@@ -8,6 +12,7 @@ invariant_of-self c =
       named_worlds = s.named_worlds;
       kept = kept-still s _ _ (λ i x e. e) c.number_control.ensures.kept;
       remembered = remembered-still s _ _ (λ i x e. e) c.number_control.ensures.kept;
+      found = found-stays (problem_of s) (worlds_in s.worlds) (worlds_in s.worlds) (trees s.nodes) _ s.residuals (λ i x e. e) c.number_control.ensures.kept s.found;
     }
 
 pub returns-clause-label : goal.returns-clause-label

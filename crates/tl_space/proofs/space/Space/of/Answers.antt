@@ -3,6 +3,7 @@ use Rattle.tl_syntax.specs.Lists.{Each}
 use Rattle.tl_terms.specs.NamedWorlds.{WorldIsNamed}
 use Rattle.tl_terms.specs.ProblemMeaning.{plain_problem}
 use Rattle.tl_space.specs.Remembered.{AreRemembered}
+use Rattle.tl_space.proofs.FoundStay.{none-found}
 use Rattle.tl_space.proofs.Growing.{none-kept, kept-by-none}
 use Rattle.tl_space.proofs.space.Space.of.Goals as goal
 
@@ -11,6 +12,7 @@ invariant_of-result c = record {
   named_worlds = subst (Each (WorldIsNamed _)) (sym c.new.ensures) tt;
   kept = kept-by-none _ _ _ _ _ _ _ c.new-2.ensures.empty c.new-3.ensures.items;
   remembered = subst (AreRemembered (plain_problem c.args.task.problem) _ _ _) (sym c.new-4.ensures.empty) tt;
+  found = none-found (plain_problem c.args.task.problem) _ _ _ c.new-5.ensures;
 }
 
 pub returns-clause-empty : goal.returns-clause-empty

@@ -16,4 +16,5 @@ invariant_of-self c =
       remembered = ok-or-err c.insert.result _ _ _ c.insert.ensures.entries c.insert.ensures.err
           (λ q. remembered-known s c.args.key c.args.arrival _ c.requires.key c.requires.known q)
           (λ q. subst (AreRemembered (problem_of s) (worlds_in s.worlds) (trees s.nodes) s.pairs.keys) (sym q) s.remembered);
+      found = s.found;
     }

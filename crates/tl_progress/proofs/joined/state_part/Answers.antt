@@ -1,0 +1,40 @@
+use Rattle.std.proofs.Common.{◌≡◌, List, [], Bool, None, Some, nat_eq, Result, Ok, Err, IfOk, IfErr, sym, ap, ◌∙◌, subst}
+use Rattle.std.specs.Map.{lookup}
+use Rattle.tl_eval.specs.Frames.{assignment_in}
+use Rattle.tl_nodes.specs.NodeTrees.{tree_at}
+use Rattle.tl_nodes.specs.Numbers.{trees}
+use Rattle.tl_syntax.specs.Assignment.{Assignment}
+use Rattle.tl_syntax.specs.StateFormulas.{IsState}
+use Rattle.tl_syntax.specs.Trees.{FormulaTree}
+use Rattle.tl_terms.specs.Operations.{Operation}
+use Rattle.tl_terms.specs.Problem.{PlainProblem}
+use Rattle.tl_terms.specs.ProblemMeaning.{plain_problem}
+use Rattle.tl_terms.specs.Progression.{constant}
+use Rattle.tl_terms.specs.World.{World}
+use Rattle.tl_progress.specs.declared.fault.ProgressFault.{ProgressFault}
+use Rattle.tl_progress.specs.Answers.{IsCausedBy, idly_true, residual}
+use Rattle.tl_progress.proofs.StateFormulas.{constant-next, looked-same}
+use Rattle.tl_progress.proofs.joined.state_part.Goals as goal
+
+-- the truth is the constant that is left
+leaves : (p : PlainProblem) (w : World) (e : Assignment) (f : FormulaTree) → IsState f → (r : Result Bool ProgressFault) → IfOk r (λ b. b ≡ idly_true p w e f) → IfOk r (λ b. residual p w e f ≡ constant b)
+leaves p w e f state (Ok b) h = sym (constant-next p w e f b state h)
+leaves p w e f state (Err x) h = tt
+
+pub truth_of-requires-clause-fits : goal.truth_of-requires-clause-fits
+truth_of-requires-clause-fits c = record { around = []; fits = c.requires.sentence.fits }
+
+pub truth_of-requires-clause-known : goal.truth_of-requires-clause-known
+truth_of-requires-clause-known c = λ k b h. let z : None ≡ Some b = sym (ap (lookup (nat_eq k)) c.new-nothing.ensures.empty) ∙ h in absurd (let f : ⊥ = cc in f)
+
+pub returns-then-is_plain-clause-truth : goal.returns-then-is_plain-clause-truth
+returns-then-is_plain-clause-truth c = leaves (plain_problem c.args.task.now.problem) c.args.w.now (assignment_in c.args.env.now) (tree_at (trees c.args.nodes.now) c.args.part) c.requires.state c.truth_of.result c.truth_of.ensures.truth
+
+pub returns-then-is_plain-clause-cause : goal.returns-then-is_plain-clause-cause
+returns-then-is_plain-clause-cause c = subst (λ (x : List Operation). IfErr c.truth_of.result (IsCausedBy x)) (looked-same (plain_problem c.args.task.now.problem) c.args.w.now (assignment_in c.args.env.now) (tree_at (trees c.args.nodes.now) c.args.part) c.requires.state) c.truth_of.ensures.cause
+
+pub returns-clause-truth : goal.returns-clause-truth
+returns-clause-truth c = leaves (plain_problem c.args.task.now.problem) c.args.w.now (assignment_in c.args.env.now) (tree_at (trees c.args.nodes.now) c.args.part) c.requires.state c.sentence_truth.result c.sentence_truth.ensures.truth
+
+pub returns-clause-cause : goal.returns-clause-cause
+returns-clause-cause c = subst (λ (x : List Operation). IfErr c.sentence_truth.result (IsCausedBy x)) (looked-same (plain_problem c.args.task.now.problem) c.args.w.now (assignment_in c.args.env.now) (tree_at (trees c.args.nodes.now) c.args.part) c.requires.state) c.sentence_truth.ensures.cause

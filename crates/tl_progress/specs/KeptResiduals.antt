@@ -1,0 +1,32 @@
+-- What is kept of worlds between calls of progression.
+use Rattle.std.specs.Prelude.{◌≡◌, ◌&&◌, ℕ, Bool, false, List, map, Option, nat_eq}
+use Rattle.indexmap.specs.IndexMap.{get}
+use Rattle.tl_nodes.specs.Joins.{simplified_join}
+use Rattle.tl_nodes.specs.NodeTrees.{tree_at, trees_at}
+use Rattle.tl_progress.specs.declared.residuals.Incoming.{Incoming}
+use Rattle.tl_progress.specs.declared.residuals.Residuals.{Residuals}
+use Rattle.tl_progress.specs.Answers.{residual}
+use Rattle.tl_progress.specs.Parts.{IsBelow}
+use Rattle.tl_syntax.specs.declared.junction.Junction.{Junction}
+use Rattle.tl_syntax.specs.Assignment.{Assignment}
+use Rattle.tl_syntax.specs.Lists.{Each}
+use Rattle.tl_syntax.specs.Trees.{FormulaTree}
+use Rattle.tl_terms.specs.Problem.{PlainProblem}
+use Rattle.tl_terms.specs.World.{World}
+
+-- the same world, and the same formula
+abbrev pub same_incoming : Incoming → Incoming → Bool
+same_incoming a b = nat_eq a.world b.world && nat_eq a.formula b.formula
+
+-- the number of what has to hold next that is kept for a world and a formula, by their numbers
+unfoldable pub found_in : Residuals → ℕ → ℕ → Option ℕ
+found_in r n k = get same_incoming r.table (record { world = n; formula = k })
+
+-- what is kept for all other worlds is as before
+abbrev pub StaysElsewhere : ℕ → Residuals → Residuals → Type 0
+StaysElsewhere n old new = (m k : ℕ) → (m ≡ n → ⊥) → found_in new m k ≡ found_in old m k
+
+-- these are parts of the join, and what has to hold next for it is the join of that for them
+pub record AreOpen (p : PlainProblem) (w : World) (e : Assignment) (ts : List FormulaTree) (at : ℕ) (junction : Junction) (open_parts : List ℕ) : Type 0 where
+  pub below : Each (IsBelow false ts at) open_parts
+  pub same : simplified_join junction (map (residual p w e) (trees_at ts open_parts)) ≡ residual p w e (tree_at ts at)

@@ -1,0 +1,142 @@
+// Formulas that changes of facts make false, whatever else is true.
+ghost use Rattle.std.specs.List.{list_any};
+ghost use Rattle.std.specs.Prelude.{◌≡◌, ◌<◌, ℕ, true, false, length, IsTrue};
+ghost use Rattle.tl_nodes.specs.Fits.{all_below};
+ghost use Rattle.tl_nodes.specs.NodeTrees.{tree_at};
+ghost use Rattle.tl_nodes.specs.Numbers.{trees};
+ghost use Rattle.tl_progress.specs.Broken.{Leaves, are_value_terms, is_added, is_deleted, is_fact_of, is_value_term};
+ghost use Rattle.tl_syntax.specs.DerivedTests.{fact_eq};
+ghost use Rattle.tl_syntax.specs.Lists.{Among};
+ghost use Rattle.tl_syntax.specs.TreeOfFormula.{tree_of_formula};
+ghost use Rattle.tl_syntax.specs.TreeOfTerm.{tree_of_term};
+
+use tl_nodes::{Node, Nodes};
+use tl_syntax::{Fact, Formula, Ids, Term, Value};
+
+// Whether the term is the value itself.
+fn is_value_term(term: &Term, value: Value) -> bool
+    ensures { result ≡ is_value_term (tree_of_term term.now) value }
+{
+    match term {
+        Term::Var(_) => false,
+        Term::Val(own) => *own == value,
+        Term::Place(_, _) => false,
+        Term::Arith(_, _, _, _) => false,
+    }
+}
+
+// Whether the terms are the values themselves.
+fn are_value_terms(terms: &[Term], values: &[Value]) -> bool
+    ensures { result ≡ are_value_terms terms.now values.now }
+{
+    if terms.len() != values.len() {
+        return false;
+    }
+    let mut k = 0;
+    while k < terms.len() {
+        if !is_value_term(&terms[k], values[k]) {
+            return false;
+        }
+        k += 1;
+    }
+    true
+}
+
+// Whether the fact is that of the predicate with these terms.
+fn is_fact_of(pred: u32, terms: &[Term], fact: &Fact) -> bool
+    ensures { result ≡ is_fact_of pred terms.now fact.now }
+{
+    fact.pred == pred && are_value_terms(terms, fact.args.as_slice())
+}
+
+// Whether a fact of the list is that of the predicate with these terms.
+fn is_added(pred: u32, terms: &[Term], adds: &[Fact]) -> bool
+    ensures { result ≡ is_added pred terms.now adds.now }
+{
+    adds.iter().any(|fact| is_fact_of(pred, terms, fact))
+}
+
+// Whether the fact is in the list.
+fn is_among(fact: &Fact, adds: &[Fact]) -> bool
+    ensures { result ≡ list_any (λ g. fact_eq g fact.now) adds.now }
+{
+    adds.iter().any(|other| other == fact)
+}
+
+// Whether the fact of the predicate with these terms is deleted, and not added again.
+fn is_deleted(pred: u32, terms: &[Term], dels: &[Fact], adds: &[Fact]) -> bool
+    ensures { result ≡ is_deleted pred terms.now dels.now adds.now }
+{
+    dels.iter()
+        .any(|fact| is_fact_of(pred, terms, fact) && !is_among(fact, adds))
+}
+
+// Whether the formula is a fact that the changes delete.
+fn deletes(f: &Formula, dels: &[Fact], adds: &[Fact]) -> bool
+    ensures { IsTrue result → Leaves false (tree_of_formula f.now) dels.now adds.now }
+{
+    match f {
+        Formula::Atom(pred, terms) => is_deleted(*pred, terms.as_slice(), dels, adds),
+        _ => false,
+    }
+}
+
+// Whether the formula is a fact that the changes add.
+fn adds_it(f: &Formula, dels: &[Fact], adds: &[Fact]) -> bool
+    ensures { IsTrue result → Leaves true (tree_of_formula f.now) dels.now adds.now }
+{
+    let _ = dels;
+    match f {
+        Formula::Atom(pred, terms) => is_added(*pred, terms.as_slice(), adds),
+        _ => false,
+    }
+}
+
+// Whether the number's tree is a fact that the changes add.
+fn is_made(nodes: &Nodes, at: usize, dels: &[Fact], adds: &[Fact]) -> bool
+    requires { at < length (trees nodes.now) }
+    ensures { IsTrue result → Leaves true (tree_at (trees nodes.now) at) dels.now adds.now }
+{
+    match nodes.get(at) {
+        Node::Basic(f) => adds_it(f, dels, adds),
+        _ => false,
+    }
+}
+
+// Whether the number's tree is a fact that the changes delete, or the negation of one that they add.
+fn is_broken(nodes: &Nodes, at: usize, dels: &[Fact], adds: &[Fact]) -> bool
+    requires { at < length (trees nodes.now) }
+    ensures { IsTrue result → Leaves false (tree_at (trees nodes.now) at) dels.now adds.now }
+{
+    match nodes.get(at) {
+        Node::Basic(f) => deletes(f, dels, adds),
+        Node::Not(part) => is_made(nodes, *part, dels, adds),
+        _ => false,
+    }
+}
+
+// Whether one of the numbers' trees is a fact that the changes delete, or the negation of one that they add. All are below `at`.
+fn is_one_broken(nodes: &Nodes, at: usize, parts: &Ids, dels: &[Fact], adds: &[Fact]) -> bool
+    requires inside { at < length (trees nodes.now) }
+    requires below { all_below at parts.now ≡ true }
+    ensures { IsTrue result → (q : ℕ) × Among q parts.now × Leaves false (tree_at (trees nodes.now) q) dels.now adds.now }
+{
+    for part in parts.as_slice().iter() {
+        if is_broken(nodes, *part, dels, adds) {
+            return true;
+        }
+    }
+    false
+}
+
+/// Whether the changes of facts decide by themselves that the number's tree leaves FALSE in the world after them: it is a fact that they delete, or the negation of one that they add, or a conjunction with such a part.
+/// Most residuals that prune a search are decided so, and the world need not be made. It takes no memory.
+pub fn is_broken_by(nodes: &Nodes, id: usize, dels: &[Fact], adds: &[Fact]) -> bool
+    requires { id < length (trees nodes.now) }
+    ensures { IsTrue result → Leaves false (tree_at (trees nodes.now) id) dels.now adds.now }
+{
+    match nodes.get(id) {
+        Node::And(parts) => is_one_broken(nodes, id, parts, dels, adds),
+        _ => is_broken(nodes, id, dels, adds),
+    }
+}
