@@ -42,20 +42,20 @@ arrive_after-requires-clause-named g c = arguments-named c.args.self.now c.child
 pub arrive_after-requires-clause-walk : goal.arrive_after-requires-clause-walk
 arrive_after-requires-clause-walk g c = child-walk c.args.self.now c.child_key.new.self c.child_key.ensures.keeps c.args.at c.args.a.now c.in-Ok-Some.key c.requires.at (rw c.in-Ok-Some.field-0-is at c.in-Ok-Some.ensures.key)
 
-pub returns-in-Ok-arrive_after-clause-grows : goal.returns-in-Ok-arrive_after-clause-grows
-returns-in-Ok-arrive_after-clause-grows g c = grows-behind c.args.self.now c.child_key.new.self c.arrive_after.new.self c.child_key.ensures.keeps c.arrive_after.ensures.grows
+pub returns-in-Ok-clause-grows : goal.returns-in-Ok-clause-grows
+returns-in-Ok-clause-grows g c = grows-behind c.args.self.now c.child_key.new.self c.arrive_after.new.self c.child_key.ensures.keeps c.arrive_after.ensures.grows
 
-pub returns-in-Ok-arrive_after-clause-arrival : goal.returns-in-Ok-arrive_after-clause-arrival
-returns-in-Ok-arrive_after-clause-arrival g c = λ x e.
+pub returns-in-Ok-clause-arrival : goal.returns-in-Ok-clause-arrival
+returns-in-Ok-clause-arrival g c = λ x e.
     let s = c.args.self.now in
     let t = c.child_key.new.self in
     let k = c.child_key.ensures.keeps in
     let a = c.args.a.now in
-    arrives-as s t (kept_of c.arrive_after.new.self) (arriving_in t c.in-Ok-Some.key) (next_pair (problem_of s) x.node a) (way_after t c.args.at a) (x.path ++ a ∷ []) c.in-Ok-arrive_after.arrival
-    (keeps-kept s t k) (child-pair (problem_of s) x.node a t c.in-Ok-Some.key (keeps-problem s t k) ((rw c.in-Ok-Some.field-0-is at c.in-Ok-Some.ensures.key) x e)) (ap (λ (q : List Action). q ++ a ∷ []) (path-later s t k c.args.at x e)) c.in-Ok-arrive_after.ensures.arrival
+    arrives-as s t (kept_of c.arrive_after.new.self) (arriving_in t c.in-Ok-Some.key) (next_pair (problem_of s) x.node a) (way_after t c.args.at a) (x.path ++ a ∷ []) c.in-Ok.arrival
+    (keeps-kept s t k) (child-pair (problem_of s) x.node a t c.in-Ok-Some.key (keeps-problem s t k) ((rw c.in-Ok-Some.field-0-is at c.in-Ok-Some.ensures.key) x e)) (ap (λ (q : List Action). q ++ a ∷ []) (path-later s t k c.args.at x e)) c.in-Ok.ensures.arrival
 
-pub returns-in-Ok-arrive_after-clause-kept : goal.returns-in-Ok-arrive_after-clause-kept
-returns-in-Ok-arrive_after-clause-kept g c = all-kept c.arrive_after.new.self
+pub returns-in-Ok-clause-kept : goal.returns-in-Ok-clause-kept
+returns-in-Ok-clause-kept g c = all-kept c.arrive_after.new.self
 
 pub returns-in-Err-Range-clause-grows : goal.returns-in-Err-Range-clause-grows
 returns-in-Err-Range-clause-grows g c = grows-behind c.args.self.now c.child_key.new.self c.arrive_after.new.self c.child_key.ensures.keeps c.arrive_after.ensures.grows

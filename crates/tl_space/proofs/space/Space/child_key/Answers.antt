@@ -75,6 +75,3 @@ returns-in-Ok-number_after-clause-key g c = λ x e.
       number = c.in-Ok-number_after.ensures.number;
       label = c.number_after.ensures.keeps.trees n.label x.node.formula (tree-of s n c.numbers-from.ensures.numbers.label.inside x.node is);
     }
-
-pub returns-in-Err-clause-keeps : goal.returns-in-Err-clause-keeps
-returns-in-Err-clause-keeps g c = let k = c.number_after.ensures.keeps in record { task = k.task; worlds = k.worlds; trees = k.trees; pairs = k.pairs; from = k.from }
