@@ -44,7 +44,7 @@ module _ {X : Type 0} where
   get-between from (e ∷ es) xs (suc k) d r p = get-between e es xs k d r (omega arith)
 
   -- a row within the list stays where more follows
-  same-row : (from e : ℕ) (xs ys : List X) → from ≤ e → e ≤ length xs → take (e - from) (drop from (xs ++ ys)) ≡ take (e - from) (drop from xs)
+  pub same-row : (from e : ℕ) (xs ys : List X) → from ≤ e → e ≤ length xs → take (e - from) (drop from (xs ++ ys)) ≡ take (e - from) (drop from xs)
   same-row from e xs ys p q =
       let low : from ≤ length xs = omega (arith, p, q) in
       let l : length (drop from xs) ≡ length xs - from = length-drop from xs in
@@ -151,7 +151,7 @@ module _ {X : Type 0} where
   append-between from [] gs xs zs h = λ i. rows_between (h i) gs (xs ++ zs)
   append-between from (e ∷ es) gs xs zs h = λ i. same-row from e xs zs h.0 (within e es (length xs) h.1) i ∷ append-between e es gs xs zs h.1 i
 
-  drop-past : (xs zs : List X) (n m : ℕ) → n ≡ length xs + m → drop n (xs ++ zs) ≡ drop m zs
+  pub drop-past : (xs zs : List X) (n m : ℕ) → n ≡ length xs + m → drop n (xs ++ zs) ≡ drop m zs
   drop-past [] zs n m e = ap (λ i. drop i zs) (let p : n ≡ m = omega (arith, e) in p)
   drop-past (x ∷ xs) zs zero m e = absurd (omega (arith, e))
   drop-past (x ∷ xs) zs (suc n) m e = drop-past xs zs n m (omega (arith, e))
@@ -162,7 +162,7 @@ module _ {X : Type 0} where
   take-less (suc n) (suc m) [] p = refl
   take-less (suc n) (suc m) (x ∷ xs) p = ap (λ ys. x ∷ ys) (take-less n m xs (omega (arith, p)))
 
-  drop-taken : (n m k : ℕ) (xs : List X) → m ≡ n + k → drop n (take m xs) ≡ take k (drop n xs)
+  pub drop-taken : (n m k : ℕ) (xs : List X) → m ≡ n + k → drop n (take m xs) ≡ take k (drop n xs)
   drop-taken zero m k xs e = ap (λ i. take i xs) (let p : m ≡ k = omega (arith, e) in p)
   drop-taken (suc n) zero k xs e = absurd (omega (arith, e))
   drop-taken (suc n) (suc m) k [] e = sym (ap (take k) (drop_all (suc n) [] (let p : 0 ≤ suc n = omega arith in p)) ∙ take_all k [] (let p : 0 ≤ k = omega arith in p))

@@ -1,7 +1,10 @@
 pub mod Cuts
 pub mod Pushing
 pub mod Inserting
-pub mod Runs
+pub mod Parts
+pub mod Joined
+pub mod PartSearch
+pub mod SameParts
 pub mod Narrowing
 pub mod Search
 pub mod Lookup

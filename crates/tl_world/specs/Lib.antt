@@ -3,6 +3,7 @@ pub mod Plain
 pub mod Codes
 pub mod RowTests
 pub mod Cuts
+pub mod Runs
 pub mod Tables
 pub mod Same
 pub mod Patterns

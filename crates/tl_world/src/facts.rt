@@ -11,7 +11,7 @@ ghost use Rattle.tl_world.specs.Tables.{InOrder, fact_tables, set_of};
 
 use crate::Rows;
 use crate::named::{Named, find_table};
-use crate::row_search::find_row;
+use crate::runs::find_row;
 use std::alloc::Global;
 use std::rc::Rc;
 use tl_syntax::{Fact, NoMemory, Value, Values};
@@ -29,7 +29,7 @@ fn moved_row(
 {
     for a in adds {
         if a.pred == pred {
-            if let Err(at) = find_row(rows.flat(), a.args.as_slice()) {
+            if let Err(at) = find_row(rows.runs(), a.args.as_slice()) {
                 let moved = rows.moved(alloc, cut, at, a.args.as_slice())?;
                 return Ok(Some(moved));
             }
@@ -71,7 +71,7 @@ fn without(
         Err(_) => Ok(()),
         Ok(i) => {
             let t = &tables[i];
-            match find_row(t.rows.flat(), args) {
+            match find_row(t.rows.runs(), args) {
                 Err(_) => Ok(()),
                 Ok(k) => {
                     let old = tables.remove(i);
@@ -118,7 +118,7 @@ fn rows_with(alloc: Global, rows: Rc<Rows>, k: usize, row: &[Value]) -> Result<R
     ensures { IfOk result (λ r. r ≡ insert rows.value k row.now) }
 {
     match Rc::try_unwrap(rows) {
-        Ok(own) => own.put(k, row),
+        Ok(own) => own.put(alloc, k, row),
         Err(shared) => shared.with(alloc, k, row),
     }
 }
@@ -147,7 +147,7 @@ fn with_fact(
         }
         Ok(i) => {
             let t = &tables[i];
-            match find_row(t.rows.flat(), args.as_slice()) {
+            match find_row(t.rows.runs(), args.as_slice()) {
                 Ok(_) => Ok(()),
                 Err(k) => {
                     let old = tables.remove(i);

@@ -1,9 +1,9 @@
 // Rows one after another in one list.
-ghost use Rattle.std.specs.List.{insert, remove};
+ghost use Rattle.std.specs.List.{insert};
 ghost use Rattle.std.specs.Prelude.{◌≡◌, ◌<◌, ◌≤◌, ◌+◌, ◌-◌, ◌^◌, List, [], ◌∷◌, ◌++◌, length, map, take, drop, slice_index_or, IfOk, OnOk};
 ghost use Rattle.tl_syntax.specs.Lists.{Each};
 ghost use Rattle.tl_world.specs.Cuts.{begin};
-ghost use Rattle.tl_world.specs.Moves.{place_after};
+ghost use Rattle.tl_world.specs.Runs.{between};
 ghost use Rattle.tl_world.specs.RowTests.{rows_eq, rows-tell};
 ghost use Rattle.tl_world.specs.Same.{tells-partial};
 
@@ -67,6 +67,7 @@ fn push_moved(
     ensures all { OnOk result (ends.new.items ≡ ends.old.items ++ map (λ e. after - (last - e)) more.now) }
     ensures first { take (length ends.old.items) ends.new.items ≡ ends.old.items }
 {
+    ends.reserve(more.len())?;
     for e in more {
         ends.push(after - (last - e))?;
     }
@@ -127,9 +128,15 @@ impl Flat {
     /// How many rows there are.
     #[tactic(auto, using(crate::proofs::Cuts::cuts))]
     pub(crate) fn len(&self) -> usize
-        ensures { result ≡ length self.now }
+        ensures len { result ≡ length self.now }
+        ensures small { result < 2 ^ 63 }
     {
         self.ends.len()
+    }
+
+    /// How many values there are in all.
+    pub(crate) fn values(&self) -> usize {
+        self.values.len()
     }
 
     /// Row `k`, counted from 0.
@@ -161,7 +168,7 @@ impl Flat {
     pub(crate) fn push_rows(&mut self, other: &Flat, from: usize, to: usize) -> Result<(), NoMemory>
         requires range { from ≤ to }
         requires bound { to ≤ length other.now }
-        ensures { OnOk result (self.new ≡ self.old ++ take (to - from) (drop from other.now)) }
+        ensures { OnOk result (self.new ≡ self.old ++ between other.now from to) }
     {
         let ends = other.ends.as_slice();
         let last = begin(ends, to);
@@ -180,19 +187,14 @@ impl Flat {
         }
     }
 
-    /// The rows with one more at place `k`.
-    pub(crate) fn with(&self, alloc: Global, k: usize, row: &[Value]) -> Result<Flat, NoMemory>
-        requires { k ≤ length self.now }
-        ensures { IfOk result (λ f. f ≡ insert self.now k row.now) }
+    /// The rows `from..to` alone.
+    pub(crate) fn part(&self, alloc: Global, from: usize, to: usize) -> Result<Flat, NoMemory>
+        requires range { from ≤ to }
+        requires bound { to ≤ length self.now }
+        ensures { IfOk result (λ f. f ≡ between self.now from to) }
     {
-        let mut out = Flat::with_room(
-            alloc,
-            self.len().saturating_add(1),
-            self.values.len().saturating_add(row.len()),
-        )?;
-        out.push_rows(self, 0, k)?;
-        out.push(row)?;
-        out.push_rows(self, k, self.len())?;
+        let mut out = Flat::with_room(alloc, to - from, 0)?;
+        out.push_rows(self, from, to)?;
         Ok(out)
     }
 
@@ -208,83 +210,5 @@ impl Flat {
         ends.insert(k, start)?;
         add_to_rest(ends.as_mut_slice(), k, row.len());
         Ok(Flat { ends, values })
-    }
-
-    /// The rows without that at place `k`.
-    pub(crate) fn without(&self, alloc: Global, k: usize) -> Result<Flat, NoMemory>
-        requires { k < length self.now }
-        ensures { IfOk result (λ f. f ≡ remove self.now k) }
-    {
-        let mut out = Flat::with_room(alloc, self.len(), self.values.len())?;
-        out.push_rows(self, 0, k)?;
-        out.push_rows(self, k + 1, self.len())?;
-        Ok(out)
-    }
-
-    /// The rows with one more at place `at`, and without that at the place `cut`, which is not before it.
-    fn moved_back(
-        &self,
-        alloc: Global,
-        cut: usize,
-        at: usize,
-        row: &[Value],
-    ) -> Result<Flat, NoMemory>
-        requires order { at ≤ cut }
-        requires bound { cut < length self.now }
-        ensures { IfOk result (λ f. f ≡ remove (insert self.now at row.now) (cut + 1)) }
-    {
-        let mut out = Flat::with_room(
-            alloc,
-            self.len(),
-            self.values.len().saturating_add(row.len()),
-        )?;
-        out.push_rows(self, 0, at)?;
-        out.push(row)?;
-        out.push_rows(self, at, cut)?;
-        out.push_rows(self, cut + 1, self.len())?;
-        Ok(out)
-    }
-
-    /// The rows with one more at place `at`, and without that at the place `cut`, which is before it.
-    fn moved_on(
-        &self,
-        alloc: Global,
-        cut: usize,
-        at: usize,
-        row: &[Value],
-    ) -> Result<Flat, NoMemory>
-        requires order { cut < at }
-        requires bound { at ≤ length self.now }
-        ensures { IfOk result (λ f. f ≡ remove (insert self.now at row.now) cut) }
-    {
-        let mut out = Flat::with_room(
-            alloc,
-            self.len(),
-            self.values.len().saturating_add(row.len()),
-        )?;
-        out.push_rows(self, 0, cut)?;
-        out.push_rows(self, cut + 1, at)?;
-        out.push(row)?;
-        out.push_rows(self, at, self.len())?;
-        Ok(out)
-    }
-
-    /// The rows with one more at place `at`, and without that at place `cut`, in one copy.
-    pub(crate) fn moved(
-        &self,
-        alloc: Global,
-        cut: usize,
-        at: usize,
-        row: &[Value],
-    ) -> Result<Flat, NoMemory>
-        requires cut { cut < length self.now }
-        requires at { at ≤ length self.now }
-        ensures { IfOk result (λ f. f ≡ remove (insert self.now at row.now) (place_after at cut)) }
-    {
-        if at <= cut {
-            self.moved_back(alloc, cut, at, row)
-        } else {
-            self.moved_on(alloc, cut, at, row)
-        }
     }
 }

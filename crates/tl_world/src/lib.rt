@@ -29,6 +29,8 @@ mod places;
 mod row_match;
 mod row_search;
 mod rows;
+mod runs;
+mod shared;
 mod table;
 mod task;
 mod world;

@@ -1,6 +1,7 @@
 // The place of a row in rows that rise, found by halves.
 ghost use Rattle.std.specs.List.Sorted.{IsBinarySearchResult, IsSearchInRange};
-ghost use Rattle.std.specs.Prelude.{◌≡◌, length};
+ghost use Rattle.std.specs.Ordering.{is_gt};
+ghost use Rattle.std.specs.Prelude.{◌≡◌, ◌<◌, [], length, slice_index_or};
 ghost use Rattle.tl_world.specs.Tables.{row_cmp};
 
 use crate::flat::Flat;
@@ -15,8 +16,16 @@ fn order_of(row: &[Value], args: &[Value]) -> Ordering
     row.cmp(args)
 }
 
+/// Whether the first row comes after the arguments.
+pub(crate) fn begins_after(rows: &Flat, args: &[Value]) -> bool
+    requires { 0 < length rows.now }
+    ensures { result ≡ is_gt (row_cmp (slice_index_or rows.now 0 []) args.now) }
+{
+    order_of(rows.row(0), args).is_gt()
+}
+
 /// The place of the row with these arguments, or the place at which it would stand.
-pub(crate) fn find_row(rows: &Flat, args: &[Value]) -> Result<usize, usize>
+pub(crate) fn find_in(rows: &Flat, args: &[Value]) -> Result<usize, usize>
     ensures range { IsSearchInRange result (length rows.now) }
     ensures place { IsBinarySearchResult (λ r. row_cmp r args.now) rows.now result }
 {

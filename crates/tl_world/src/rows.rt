@@ -8,16 +8,18 @@ ghost use Rattle.tl_world.specs.Moves.{place_after};
 ghost use Rattle.tl_world.specs.RowTests.{rows_eq, rows-tell};
 ghost use Rattle.tl_world.specs.Same.{tells-partial, tells-equivalence};
 
-use crate::flat::Flat;
+use crate::runs::Runs;
 use std::alloc::Global;
 use std::hash::{FoldHasher, Hash, Hasher};
 use std::marker::Model;
 use tl_syntax::{NoMemory, Value};
 
 /// The argument lists of one predicate's facts. Contracts see it as the list of its rows.
+///
+/// The rows stand in runs, which tables share.
 #[derive(Drop)]
 pub struct Rows {
-    flat: Flat,
+    runs: Runs,
     code: u64,
 }
 
@@ -28,9 +30,9 @@ impl Model for Rows {
 
     ghost Value = { List (List PlainValue) };
 
-    ghost view = { λ r. r.flat };
+    ghost view = { λ r. r.runs };
 
-    ghost invariant = { λ r. r.code ≡ rows_code r.flat };
+    ghost invariant = { λ r. r.code ≡ rows_code r.runs };
 }
 
 /// The code of a row.
@@ -48,14 +50,14 @@ impl Rows {
     pub fn len(&self) -> usize
         ensures { result ≡ length self.now }
     {
-        self.flat.len()
+        self.runs.len()
     }
 
     /// Whether there is no row.
     pub fn is_empty(&self) -> bool
         ensures { result ≡ (length self.now == 0) }
     {
-        self.flat.len() == 0
+        self.runs.len() == 0
     }
 
     /// The arguments of the fact at place `k`, counted from 0.
@@ -63,24 +65,22 @@ impl Rows {
         requires { k < length self.now }
         ensures { result.now ≡ slice_index_or self.now k result.now }
     {
-        self.flat.row(k)
+        self.runs.row(k)
     }
 
     /// The rows alone.
-    pub(crate) fn flat(&self) -> &Flat
+    pub(crate) fn runs(&self) -> &Runs
         ensures { result.now ≡ self.now }
     {
-        &self.flat
+        &self.runs
     }
 
     /// The table of one row.
     pub(crate) fn of_one(alloc: Global, row: &[Value]) -> Result<Rows, NoMemory>
         ensures { IfOk result (λ r. r ≡ row.now ∷ []) }
     {
-        let mut flat = Flat::with_room(alloc, 1, row.len())?;
-        flat.push(row)?;
         Ok(Rows {
-            flat,
+            runs: Runs::of_one(alloc, row)?,
             code: code_of_row(row),
         })
     }
@@ -91,18 +91,18 @@ impl Rows {
         ensures { IfOk result (λ r. r ≡ insert self.now k row.now) }
     {
         Ok(Rows {
-            flat: self.flat.with(alloc, k, row)?,
+            runs: self.runs.with(alloc, k, row)?,
             code: self.code.wrapping_add(code_of_row(row)),
         })
     }
 
     /// The rows with one more at place `k`, which is put into them.
-    pub(crate) fn put(self, k: usize, row: &[Value]) -> Result<Rows, NoMemory>
+    pub(crate) fn put(self, alloc: Global, k: usize, row: &[Value]) -> Result<Rows, NoMemory>
         requires { k ≤ length self }
         ensures { IfOk result (λ r. r ≡ insert self k row.now) }
     {
         Ok(Rows {
-            flat: self.flat.put(k, row)?,
+            runs: self.runs.put(alloc, k, row)?,
             code: self.code.wrapping_add(code_of_row(row)),
         })
     }
@@ -113,8 +113,8 @@ impl Rows {
         ensures { IfOk result (λ r. r ≡ remove self.now k) }
     {
         Ok(Rows {
-            flat: self.flat.without(alloc, k)?,
-            code: self.code.wrapping_sub(code_of_row(self.flat.row(k))),
+            runs: self.runs.without(alloc, k)?,
+            code: self.code.wrapping_sub(code_of_row(self.runs.row(k))),
         })
     }
 
@@ -132,8 +132,8 @@ impl Rows {
     {
         let more = self.code.wrapping_add(code_of_row(row));
         Ok(Rows {
-            flat: self.flat.moved(alloc, cut, at, row)?,
-            code: more.wrapping_sub(code_of_row(self.flat.row(cut))),
+            runs: self.runs.moved(alloc, cut, at, row)?,
+            code: more.wrapping_sub(code_of_row(self.runs.row(cut))),
         })
     }
 }
@@ -144,7 +144,10 @@ impl PartialEq for Rows {
     ghost laws = { tells-partial rows_eq rows-tell };
 
     fn eq(&self, other: &Rows) -> bool {
-        self.flat == other.flat
+        if self.code != other.code {
+            return false;
+        }
+        self.runs == other.runs
     }
 }
 

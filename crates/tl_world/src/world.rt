@@ -18,7 +18,7 @@ ghost use Rattle.tl_world.specs.Tables.{InOrder, fact_tables, place_tables, set_
 use crate::facts::change_facts;
 use crate::named::{Named, find_table, share};
 use crate::places::{change_places, find_place};
-use crate::row_search::find_row;
+use crate::runs::find_row;
 use crate::{PlaceRow, PlaceRows, Rows};
 use std::alloc::Global;
 use std::hash::{FoldHasher, Hash, Hasher};
@@ -128,7 +128,7 @@ impl World {
         match find_table(self.facts.as_slice(), pred) {
             Ok(i) => {
                 let t = &self.facts[i];
-                let found = find_row(t.rows.flat(), args);
+                let found = find_row(t.rows.runs(), args);
                 found.is_ok()
             }
             Err(_) => false,

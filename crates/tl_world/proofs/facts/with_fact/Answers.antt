@@ -32,7 +32,7 @@ returns-in_ok-insert-in-Err-clause-facts c =
 pub returns-in-Ok-find_row-clause-facts : goal.returns-in-Ok-find_row-clause-facts
 returns-in-Ok-find_row-clause-facts c =
     let found = change.found-at fact_row _ c.args.tables.now.items c.args.pred c.in-Ok.i c.index-t.result.now c.as_slice.ensures.value c.requires c.in-Ok.ensures.range c.in-Ok.ensures.place c.index-t.ensures in
-    let same = c.flat.ensures ∙ c.deref.ensures in
+    let same = c.runs.ensures ∙ c.deref.ensures in
     set-present (fact_tables c.args.tables.now.items) (c.args.pred, c.args.args.now)
     (at-table fact_table c.args.tables.now.items c.args.pred c.args.args.now c.in-Ok.i c.index-t.result.now c.requires found.below found.tie
     ∙ change.row-present fact_row _ _ _ _ found c.args.args.now c.in-Ok-find_row.field-0 [] _ same c.in-Ok-find_row.ensures.range (rw c.as_slice-in-Ok.ensures at c.in-Ok-find_row.ensures.place))
@@ -40,7 +40,7 @@ returns-in-Ok-find_row-clause-facts c =
 pub returns-in_ok-insert-in-Err-find_row-clause-order : goal.returns-in_ok-insert-in-Err-find_row-clause-order
 returns-in_ok-insert-in-Err-find_row-clause-order c =
     let found = change.found-at fact_row _ c.args.tables.now.items c.args.pred c.in-Ok.i c.remove-old.result c.as_slice.ensures.value c.requires c.in-Ok.ensures.range c.in-Ok.ensures.place c.remove-old.ensures.value in
-    let same = change.same-rows fact_row _ _ _ c.index-t.result.now c.remove-old.result _ found c.index-t.ensures (c.flat.ensures ∙ c.deref.ensures) in
+    let same = change.same-rows fact_row _ _ _ c.index-t.result.now c.remove-old.result _ found c.index-t.ensures (c.runs.ensures ∙ c.deref.ensures) in
     let k = c.in-Err-find_row.k in
     let row = c.as_slice-in-Err-find_row.result.now in
     let more = change.row-put fact_row _ _ _ _ found c.args.args.now tt k _ row same (ap fact_row c.as_slice-in-Err-find_row.ensures) c.in-Err-find_row.ensures.range (rw c.as_slice-in-Ok.ensures at c.in-Err-find_row.ensures.place) in
@@ -52,7 +52,7 @@ returns-in_ok-insert-in-Err-find_row-clause-order c =
 pub returns-in_ok-insert-in-Err-find_row-clause-facts : goal.returns-in_ok-insert-in-Err-find_row-clause-facts
 returns-in_ok-insert-in-Err-find_row-clause-facts c =
     let found = change.found-at fact_row _ c.args.tables.now.items c.args.pred c.in-Ok.i c.remove-old.result c.as_slice.ensures.value c.requires c.in-Ok.ensures.range c.in-Ok.ensures.place c.remove-old.ensures.value in
-    let same = change.same-rows fact_row _ _ _ c.index-t.result.now c.remove-old.result _ found c.index-t.ensures (c.flat.ensures ∙ c.deref.ensures) in
+    let same = change.same-rows fact_row _ _ _ c.index-t.result.now c.remove-old.result _ found c.index-t.ensures (c.runs.ensures ∙ c.deref.ensures) in
     let k = c.in-Err-find_row.k in
     let row = c.as_slice-in-Err-find_row.result.now in
     let more = change.row-put fact_row _ _ _ _ found c.args.args.now tt k _ row same (ap fact_row c.as_slice-in-Err-find_row.ensures) c.in-Err-find_row.ensures.range (rw c.as_slice-in-Ok.ensures at c.in-Err-find_row.ensures.place) in

@@ -25,7 +25,7 @@ filled (x ∷ xs) b t z = tt
 pub rows_without-requires : goal.rows_without-requires
 rows_without-requires c =
     let found = change.found-at fact_row _ c.args.tables.now.items c.args.pred c.in-Ok.i c.remove-old.result c.as_slice.ensures.value c.requires c.in-Ok.ensures.range c.in-Ok.ensures.place c.remove-old.ensures.value in
-    let same = change.same-rows fact_row _ _ _ c.index-t.result.now c.remove-old.result _ found c.index-t.ensures (c.flat.ensures ∙ c.deref.ensures) in
+    let same = change.same-rows fact_row _ _ _ c.index-t.result.now c.remove-old.result _ found c.index-t.ensures (c.runs.ensures ∙ c.deref.ensures) in
     subst (λ xs. c.in-Ok-find_row.k < length xs) (same ∙ sym c.as_ref.ensures) c.in-Ok-find_row.ensures.range
 
 pub returns-then-is_empty-clause-order : goal.returns-then-is_empty-clause-order
@@ -36,7 +36,7 @@ returns-then-is_empty-clause-order c =
 pub returns-then-is_empty-clause-facts : goal.returns-then-is_empty-clause-facts
 returns-then-is_empty-clause-facts c =
     let found = change.found-at fact_row _ c.args.tables.now.items c.args.pred c.in-Ok.i c.remove-old.result c.as_slice.ensures.value c.requires c.in-Ok.ensures.range c.in-Ok.ensures.place c.remove-old.ensures.value in
-    let same = change.same-rows fact_row _ _ _ c.index-t.result.now c.remove-old.result _ found c.index-t.ensures (c.flat.ensures ∙ c.deref.ensures) in
+    let same = change.same-rows fact_row _ _ _ c.index-t.result.now c.remove-old.result _ found c.index-t.ensures (c.runs.ensures ∙ c.deref.ensures) in
     let k = c.in-Ok-find_row.k in
     let taken : IsTakenOut c.remove-old.result.rows.value k c.args.pred c.args.adds.now c.in_ok-rows-in-Ok-find_row.rows = subst (λ xs. IsTakenOut xs k c.args.pred c.args.adds.now c.in_ok-rows-in-Ok-find_row.rows) c.as_ref.ensures c.in_ok-rows-in-Ok-find_row.ensures in
     let below : k < length c.remove-old.result.rows.value = subst (λ xs. k < length xs) same c.in-Ok-find_row.ensures.range in
@@ -58,7 +58,7 @@ returns-in-Err-clause-facts c = same-beside c.args.adds.now _ _ (
 pub returns-in-Err-find_row-clause-facts : goal.returns-in-Err-find_row-clause-facts
 returns-in-Err-find_row-clause-facts c =
     let found = change.found-at fact_row _ c.args.tables.now.items c.args.pred c.in-Ok.i c.index-t.result.now c.as_slice.ensures.value c.requires c.in-Ok.ensures.range c.in-Ok.ensures.place c.index-t.ensures in
-    let same = c.flat.ensures ∙ c.deref.ensures in
+    let same = c.runs.ensures ∙ c.deref.ensures in
     same-beside c.args.adds.now _ _ (
     set-absent (fact_tables c.args.tables.now.items) (c.args.pred, c.args.args.now)
     (at-table fact_table c.args.tables.now.items c.args.pred c.args.args.now c.in-Ok.i c.index-t.result.now c.requires found.below found.tie
@@ -68,7 +68,7 @@ returns-in-Err-find_row-clause-facts c =
 pub returns-in_ok-insert-in-Ok-find_row-clause-order : goal.returns-in_ok-insert-in-Ok-find_row-clause-order
 returns-in_ok-insert-in-Ok-find_row-clause-order c =
     let found = change.found-at fact_row _ c.args.tables.now.items c.args.pred c.in-Ok.i c.remove-old.result c.as_slice.ensures.value c.requires c.in-Ok.ensures.range c.in-Ok.ensures.place c.remove-old.ensures.value in
-    let same = change.same-rows fact_row _ _ _ c.index-t.result.now c.remove-old.result _ found c.index-t.ensures (c.flat.ensures ∙ c.deref.ensures) in
+    let same = change.same-rows fact_row _ _ _ c.index-t.result.now c.remove-old.result _ found c.index-t.ensures (c.runs.ensures ∙ c.deref.ensures) in
     let k = c.in-Ok-find_row.k in
     let taken : IsTakenOut c.remove-old.result.rows.value k c.args.pred c.args.adds.now c.in_ok-rows-in-Ok-find_row.rows = subst (λ xs. IsTakenOut xs k c.args.pred c.args.adds.now c.in_ok-rows-in-Ok-find_row.rows) c.as_ref.ensures c.in_ok-rows-in-Ok-find_row.ensures in
     let below : k < length c.remove-old.result.rows.value = subst (λ xs. k < length xs) same c.in-Ok-find_row.ensures.range in
@@ -84,7 +84,7 @@ returns-in_ok-insert-in-Ok-find_row-clause-order c =
 pub returns-in_ok-insert-in-Ok-find_row-clause-facts : goal.returns-in_ok-insert-in-Ok-find_row-clause-facts
 returns-in_ok-insert-in-Ok-find_row-clause-facts c =
     let found = change.found-at fact_row _ c.args.tables.now.items c.args.pred c.in-Ok.i c.remove-old.result c.as_slice.ensures.value c.requires c.in-Ok.ensures.range c.in-Ok.ensures.place c.remove-old.ensures.value in
-    let same = change.same-rows fact_row _ _ _ c.index-t.result.now c.remove-old.result _ found c.index-t.ensures (c.flat.ensures ∙ c.deref.ensures) in
+    let same = change.same-rows fact_row _ _ _ c.index-t.result.now c.remove-old.result _ found c.index-t.ensures (c.runs.ensures ∙ c.deref.ensures) in
     let k = c.in-Ok-find_row.k in
     let taken : IsTakenOut c.remove-old.result.rows.value k c.args.pred c.args.adds.now c.in_ok-rows-in-Ok-find_row.rows = subst (λ xs. IsTakenOut xs k c.args.pred c.args.adds.now c.in_ok-rows-in-Ok-find_row.rows) c.as_ref.ensures c.in_ok-rows-in-Ok-find_row.ensures in
     let below : k < length c.remove-old.result.rows.value = subst (λ xs. k < length xs) same c.in-Ok-find_row.ensures.range in

@@ -5,4 +5,4 @@ use Rattle.tl_world.proofs.rows.Rows.moved.Goals as goal
 pub invariant_of-result : goal.invariant_of-result
 invariant_of-result c =
     let fits : c.code_of_row-2.result ≤ 2 ^ 64 = first_of (omega arith, search rules) in
-    code-moved c.self.inside.code c.code_of_row.result c.code_of_row-2.result c.args.at c.args.cut c.self.inside.flat c.in_ok-moved.field-0 c.args.row.now c.row.result.now c.self.invariant c.code_of_row.ensures c.code_of_row-2.ensures fits c.row.ensures (subst (λ xs. c.args.at ≤ length xs) (sym c.self.view_is) c.requires.at) (subst (λ xs. c.args.cut < length xs) (sym c.self.view_is) c.requires.cut) c.in_ok-moved.ensures
+    code-moved c.self.inside.code c.code_of_row.result c.code_of_row-2.result c.args.at c.args.cut c.self.inside.runs c.in_ok-moved.field-0 c.args.row.now c.row.result.now c.self.invariant c.code_of_row.ensures c.code_of_row-2.ensures fits c.row.ensures (subst (λ xs. c.args.at ≤ length xs) (sym c.self.view_is) c.requires.at) (subst (λ xs. c.args.cut < length xs) (sym c.self.view_is) c.requires.cut) c.in_ok-moved.ensures

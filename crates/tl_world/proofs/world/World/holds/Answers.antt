@@ -36,7 +36,7 @@ missed s ts n a i same h place =
 pub returns-in-Ok : goal.returns-in-Ok
 returns-in-Ok c =
     c.is_ok.ensures.value
-    ∙ (found _ _ c.args.pred c.args.args.now c.in-Ok.i c.index-t.result.now _ _ c.as_slice.ensures.value c.index-t.ensures (c.flat.ensures ∙ c.deref.ensures) c.self.invariant.0.0
+    ∙ (found _ _ c.args.pred c.args.args.now c.in-Ok.i c.index-t.result.now _ _ c.as_slice.ensures.value c.index-t.ensures (c.runs.ensures ∙ c.deref.ensures) c.self.invariant.0.0
     c.in-Ok.ensures.range c.in-Ok.ensures.place c.find_row-found.ensures.range c.find_row-found.ensures.place
     ∙ ap (λ (w : World). has_fact w (c.args.pred, c.args.args.now)) c.self.view_is)
 

@@ -1,0 +1,36 @@
+-- Rows in runs that follow one another.
+use Rattle.std.specs.Prelude.{◌≡◌, ◌≢◌, ◌<◌, ◌≤◌, ◌+◌, ◌-◌, ◌^◌, ℕ, List, [], ◌∷◌, ◌++◌, length, take, drop, slice_index_or}
+use Rattle.std.specs.declared.cmp.Ordering.TheVariants.{Greater}
+use Rattle.tl_syntax.specs.declared.value.Value.{Value}
+use Rattle.tl_world.specs.declared.shared.Run.{Run}
+use Rattle.tl_world.specs.Plain.{row_cmp}
+
+-- the items from a place on up to another one
+abbrev pub between : {X : Type 0} → List X → ℕ → ℕ → List X
+between xs from to = take (to - from) (drop from xs)
+
+-- the rows of the runs one after another
+abbrev pub joined : List Run → List (List Value)
+joined [] = []
+joined (r ∷ rs) = r.rows.value ++ joined rs
+
+-- the place at which run i begins
+abbrev pub run_place : List Run → ℕ → ℕ
+run_place rs i = length (joined (take i rs))
+
+-- each run has rows, and ends where the rows up to its last are counted from n on
+abbrev pub AreCounted : ℕ → List Run → Type 0
+AreCounted n [] = Unit {0}
+AreCounted n (r ∷ rs) = ((n < r.end) × (r.end < 2 ^ 63) × (r.end ≡ n + length r.rows.value)) × AreCounted r.end rs
+
+-- the rows are some that follow one another, from a place on
+pub record IsPart (all : List (List Value)) (from : ℕ) (rows : List (List Value)) : Type 0 where
+  pub within : from + length rows ≤ length all
+  pub are : rows ≡ between all from (from + length rows)
+
+-- they are those among which a row with these arguments stands or would stand, where all rise
+pub record IsPartFor (args : List Value) (all : List (List Value)) (from : ℕ) (rows : List (List Value)) : Type 0 where
+  pub part : IsPart all from rows
+  pub filled : 0 < from → 0 < length rows
+  pub before : 0 < from → row_cmp (slice_index_or all from []) args ≢ Greater
+  pub after : from + length rows < length all → row_cmp (slice_index_or all (from + length rows) []) args ≡ Greater

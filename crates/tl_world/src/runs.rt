@@ -1,0 +1,398 @@
+// The rows of a table, in runs.
+ghost use Rattle.std.specs.List.{insert, remove};
+ghost use Rattle.std.specs.List.Sorted.{IsBinarySearchResult, IsSearchInRange};
+ghost use Rattle.std.specs.Prelude.{◌≡◌, ◌<◌, ◌≤◌, ◌+◌, ◌^◌, ◌↔◌, ◌++◌, [], ◌∷◌, length, take, slice_index_or, true, IfOk, OnOk};
+ghost use Rattle.tl_world.specs.Codes.{values_eq};
+ghost use Rattle.tl_world.specs.Moves.{place_after};
+ghost use Rattle.tl_world.specs.RowTests.{rows_eq, rows-tell};
+ghost use Rattle.tl_world.specs.Runs.{between, IsPart, IsPartFor};
+ghost use Rattle.tl_world.specs.Same.{tells-partial};
+ghost use Rattle.tl_world.specs.Tables.{row_cmp};
+
+use crate::flat::Flat;
+use crate::row_search::{begins_after, find_in};
+use crate::shared::{MOST, Shared};
+use std::alloc::Global;
+use std::marker::Model;
+use std::mem;
+use std::rc::Rc;
+use tl_syntax::{NoMemory, Value};
+
+/// Rows in runs that other tables may share, but for the last ones, which are the table's own. A table of few rows has no others. Contracts see the list of all rows.
+///
+/// A change copies the run in which it stands and the last rows, and shares the other runs (unrolled linked lists, Shao, Reppy and Appel 1994; leaves of a B+-tree, Comer 1979).
+#[derive(Drop)]
+pub(crate) struct Runs {
+    shared: Shared,
+    last: Flat,
+}
+
+impl Model for Runs {
+    ghost use Rattle.std.specs.Prelude.{List, ◌++◌};
+    ghost use Rattle.tl_syntax.specs.declared.value.Value.{Value as PlainValue};
+
+    ghost Value = { List (List PlainValue) };
+
+    ghost view = { λ r. r.shared ++ r.last };
+}
+
+/// Whether the two rows are the same.
+fn is_same_row(a: &[Value], b: &[Value]) -> bool
+    ensures { result ≡ values_eq a.now b.now }
+{
+    a == b
+}
+
+impl Runs {
+    /// The table of one row.
+    pub(crate) fn of_one(alloc: Global, row: &[Value]) -> Result<Runs, NoMemory>
+        ensures { IfOk result (λ r. r ≡ row.now ∷ []) }
+    {
+        let mut last = Flat::with_room(alloc, 1, row.len())?;
+        last.push(row)?;
+        Ok(Runs {
+            shared: Shared::with_room(alloc, 0)?,
+            last,
+        })
+    }
+
+    /// No rows, with room for runs and last rows as the table has, and for one more run and a row of so many values.
+    fn with_room(&self, alloc: Global, values: usize) -> Result<Runs, NoMemory>
+        ensures { IfOk result (λ r. r ≡ []) }
+    {
+        let runs = self.shared.runs();
+        let shared = Shared::with_room(alloc, if runs == 0 { 0 } else { runs.saturating_add(2) })?;
+        let last = Flat::with_room(
+            alloc,
+            self.last.len() + 1,
+            self.last.values().saturating_add(values),
+        )?;
+        Ok(Runs { shared, last })
+    }
+
+    /// How many rows there are.
+    pub(crate) fn len(&self) -> usize
+        ensures { result ≡ length self.now }
+    {
+        self.shared.len() + self.last.len()
+    }
+
+    /// The rows with which row `k` stands in one list, and the place at which they begin. A run is found by halves where it is not the one that is guessed.
+    fn part_of(&self, k: usize, guess: usize) -> (&Flat, usize)
+        ensures part { IsPart self.now result.1 result.0.now }
+        ensures from { result.1 ≤ k }
+        ensures to { k < length self.now → k < result.1 + length result.0.now }
+    {
+        let full = self.shared.len();
+        if k >= full {
+            (&self.last, full)
+        } else {
+            let mut guess = guess;
+            let (rows, from) = self.shared.run_of(k, &mut guess);
+            (rows.as_ref(), from)
+        }
+    }
+
+    /// The rows among which one with these arguments stands or would stand, and the place at which they begin.
+    fn part_for(&self, args: &[Value]) -> (&Flat, usize)
+        ensures part { IsPartFor args.now self.now result.1 result.0.now }
+        ensures small { result.1 + length result.0.now < 2 ^ 64 }
+    {
+        let full = self.shared.len();
+        let count = self.last.len();
+        if full == 0 || (count > 0 && !begins_after(&self.last, args)) {
+            (&self.last, full)
+        } else {
+            self.shared.run_for(args)
+        }
+    }
+
+    /// Row `k`, counted from 0.
+    pub(crate) fn row(&self, k: usize) -> &[Value]
+        requires { k < length self.now }
+        ensures { result.now ≡ slice_index_or self.now k result.now }
+    {
+        let (rows, from) = self.part_of(k, k / MOST);
+        rows.row(k - from)
+    }
+
+    /// Makes the last rows a run, so that new last rows begin.
+    fn close(&mut self, alloc: Global) -> Result<(), NoMemory>
+        ensures { OnOk result (self.new ≡ self.old) }
+    {
+        let none = Flat::with_room(alloc, 0, 0)?;
+        let rows = mem::replace(&mut self.last, none);
+        self.shared.push_rows(alloc, rows)
+    }
+
+    /// The rows of a run at the end, which is shared.
+    fn share(&mut self, alloc: Global, rows: &Rc<Flat>) -> Result<(), NoMemory>
+        ensures { OnOk result (self.new ≡ self.old ++ rows.now.value) }
+    {
+        let none = Flat::with_room(alloc, 0, 0)?;
+        let before = mem::replace(&mut self.last, none);
+        self.shared.push_rows(alloc, before)?;
+        self.shared.push(rows.clone()?)
+    }
+
+    /// The rows `from..to` of those at the end.
+    fn copy_rows(
+        &mut self,
+        alloc: Global,
+        rows: &Flat,
+        from: usize,
+        to: usize,
+    ) -> Result<(), NoMemory>
+        requires range { from ≤ to }
+        requires bound { to ≤ length rows.now }
+        ensures { OnOk result (self.new ≡ self.old ++ between rows.now from to) }
+    {
+        let count = self.last.len();
+        if count > 0 && from == 0 && to > MOST.saturating_sub(count) {
+            self.close(alloc)?;
+        }
+        self.last.push_rows(rows, from, to)
+    }
+
+    /// One more row at the end.
+    fn push(&mut self, alloc: Global, row: &[Value]) -> Result<(), NoMemory>
+        ensures { OnOk result (self.new ≡ self.old ++ row.now ∷ []) }
+    {
+        if self.last.len() >= MOST {
+            self.close(alloc)?;
+        }
+        self.last.push(row)
+    }
+
+    /// Whether the run goes in by sharing: one with few rows is copied, and so is one that fits in with the last rows.
+    fn takes_run(&self, rows: &Flat) -> bool {
+        let count = self.last.len();
+        rows.len() >= MOST / 4 && (count == 0 || count + rows.len() > MOST)
+    }
+
+    /// Some rows of the other from place `k` on, at the end, but none from the place `to` on. It gives the place after them. `guess` is a guess for the run of the other.
+    fn push_some(
+        &mut self,
+        alloc: Global,
+        other: &Runs,
+        k: usize,
+        to: usize,
+        guess: &mut usize,
+    ) -> Result<usize, NoMemory>
+        requires some { k < to }
+        requires bound { to ≤ length other.now }
+        ensures { IfOk result (λ n. (k < n) × (n ≤ to) × (self.new ≡ self.old ++ between other.now k n)) }
+    {
+        let full = other.shared.len();
+        if k >= full {
+            self.copy_rows(alloc, &other.last, k - full, to - full)?;
+            return Ok(to);
+        }
+        let (rows, from) = other.shared.run_of(k, guess);
+        let next = to.min(from + rows.len());
+        if next - k == rows.len() && self.takes_run(rows.as_ref()) {
+            self.share(alloc, rows)?;
+        } else {
+            self.copy_rows(alloc, rows.as_ref(), k - from, next - from)?;
+        }
+        Ok(next)
+    }
+
+    /// The rows `from..to` of the other at the end.
+    fn push_rows(
+        &mut self,
+        alloc: Global,
+        other: &Runs,
+        from: usize,
+        to: usize,
+    ) -> Result<(), NoMemory>
+        requires range { from ≤ to }
+        requires bound { to ≤ length other.now }
+        ensures { OnOk result (self.new ≡ self.old ++ between other.now from to) }
+    {
+        let mut k = from;
+        let mut guess = 0;
+        while k < to {
+            k = self.push_some(alloc, other, k, to, &mut guess)?;
+        }
+        if self.last.len() > MOST {
+            return self.close(alloc);
+        }
+        Ok(())
+    }
+
+    /// The rows with one more at place `k`.
+    pub(crate) fn with(&self, alloc: Global, k: usize, row: &[Value]) -> Result<Runs, NoMemory>
+        requires { k ≤ length self.now }
+        ensures { IfOk result (λ r. r ≡ insert self.now k row.now) }
+    {
+        let mut out = self.with_room(alloc, row.len())?;
+        out.push_rows(alloc, self, 0, k)?;
+        out.push(alloc, row)?;
+        out.push_rows(alloc, self, k, self.len())?;
+        Ok(out)
+    }
+
+    /// The rows with one more at place `k`, which is put into them where it comes among the last rows and there is room.
+    pub(crate) fn put(self, alloc: Global, k: usize, row: &[Value]) -> Result<Runs, NoMemory>
+        requires { k ≤ length self }
+        ensures { IfOk result (λ r. r ≡ insert self k row.now) }
+    {
+        let full = self.shared.len();
+        if k < full || self.last.len() >= MOST {
+            return self.with(alloc, k, row);
+        }
+        let shared = self.shared;
+        let last = self.last.put(k - full, row)?;
+        Ok(Runs { shared, last })
+    }
+
+    /// The rows without that at place `k`.
+    pub(crate) fn without(&self, alloc: Global, k: usize) -> Result<Runs, NoMemory>
+        requires { k < length self.now }
+        ensures { IfOk result (λ r. r ≡ remove self.now k) }
+    {
+        let count = self.len();
+        let mut out = self.with_room(alloc, 0)?;
+        out.push_rows(alloc, self, 0, k)?;
+        out.push_rows(alloc, self, k + 1, count)?;
+        Ok(out)
+    }
+
+    /// The rows with one more at place `at`, and without that at the place `cut`, which is not before it.
+    fn moved_back(
+        &self,
+        alloc: Global,
+        cut: usize,
+        at: usize,
+        row: &[Value],
+    ) -> Result<Runs, NoMemory>
+        requires order { at ≤ cut }
+        requires bound { cut < length self.now }
+        ensures { IfOk result (λ r. r ≡ remove (insert self.now at row.now) (cut + 1)) }
+    {
+        let count = self.len();
+        let mut out = self.with_room(alloc, row.len())?;
+        out.push_rows(alloc, self, 0, at)?;
+        out.push(alloc, row)?;
+        out.push_rows(alloc, self, at, cut)?;
+        out.push_rows(alloc, self, cut + 1, count)?;
+        Ok(out)
+    }
+
+    /// The rows with one more at place `at`, and without that at the place `cut`, which is before it.
+    fn moved_on(
+        &self,
+        alloc: Global,
+        cut: usize,
+        at: usize,
+        row: &[Value],
+    ) -> Result<Runs, NoMemory>
+        requires order { cut < at }
+        requires bound { at ≤ length self.now }
+        ensures { IfOk result (λ r. r ≡ remove (insert self.now at row.now) cut) }
+    {
+        let count = self.len();
+        let mut out = self.with_room(alloc, row.len())?;
+        out.push_rows(alloc, self, 0, cut)?;
+        out.push_rows(alloc, self, cut + 1, at)?;
+        out.push(alloc, row)?;
+        out.push_rows(alloc, self, at, count)?;
+        Ok(out)
+    }
+
+    /// The rows with one more at place `at`, and without that at place `cut`, in one copy.
+    pub(crate) fn moved(
+        &self,
+        alloc: Global,
+        cut: usize,
+        at: usize,
+        row: &[Value],
+    ) -> Result<Runs, NoMemory>
+        requires cut { cut < length self.now }
+        requires at { at ≤ length self.now }
+        ensures { IfOk result (λ r. r ≡ remove (insert self.now at row.now) (place_after at cut)) }
+    {
+        if at <= cut {
+            self.moved_back(alloc, cut, at, row)
+        } else {
+            self.moved_on(alloc, cut, at, row)
+        }
+    }
+
+    /// Whether the rows stand in the table from the place on, by a comparison of each row.
+    fn has_each_at(&self, at: usize, rows: &Flat) -> bool
+        requires bound { at + length rows.now ≤ length self.now }
+        requires small { at + length rows.now < 2 ^ 64 }
+        ensures { (result ≡ true) ↔ (between self.now at (at + length rows.now) ≡ rows.now) }
+    {
+        let mut i = 0;
+        while i < rows.len() {
+            if !is_same_row(self.row(at + i), rows.row(i)) {
+                return false;
+            }
+            i += 1;
+        }
+        true
+    }
+
+    /// Whether the rows stand in the table from the place on. `guess` is a guess for the run.
+    fn has_at(&self, at: usize, rows: &Flat, guess: usize) -> bool
+        requires bound { at + length rows.now ≤ length self.now }
+        requires small { at + length rows.now < 2 ^ 64 }
+        ensures { (result ≡ true) ↔ (between self.now at (at + length rows.now) ≡ rows.now) }
+    {
+        let (part, from) = self.part_of(at, guess);
+        if from == at && part.len() == rows.len() {
+            *part == *rows
+        } else {
+            self.has_each_at(at, rows)
+        }
+    }
+
+    /// Whether the table begins with the rows of the runs.
+    fn begins_with(&self, shared: &Shared) -> bool
+        requires { length shared.now ≤ length self.now }
+        ensures { (result ≡ true) ↔ (take (length shared.now) self.now ≡ shared.now) }
+    {
+        let mut k = 0;
+        let mut guess = 0;
+        while k < shared.len() {
+            let run = guess;
+            let (rows, from) = shared.run_of(k, &mut guess);
+            if !self.has_at(from, rows.as_ref(), run) {
+                return false;
+            }
+            k = from + rows.len();
+        }
+        true
+    }
+}
+
+impl PartialEq for Runs {
+    ghost eq = { λ x y. rows_eq x y };
+
+    ghost laws = { tells-partial rows_eq rows-tell };
+
+    fn eq(&self, other: &Runs) -> bool {
+        if self.len() != other.len() {
+            return false;
+        }
+        if !self.begins_with(&other.shared) {
+            return false;
+        }
+        self.has_at(other.shared.len(), &other.last, self.shared.runs())
+    }
+}
+
+/// The place of the row with these arguments, or the place at which it would stand: by halves, first over the first rows of the runs and then in one of them.
+pub(crate) fn find_row(rows: &Runs, args: &[Value]) -> Result<usize, usize>
+    ensures range { IsSearchInRange result (length rows.now) }
+    ensures place { IsBinarySearchResult (λ r. row_cmp r args.now) rows.now result }
+{
+    let (part, from) = rows.part_for(args);
+    match find_in(part, args) {
+        Ok(k) => Ok(from + k),
+        Err(k) => Err(from + k),
+    }
+}

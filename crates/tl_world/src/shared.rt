@@ -1,0 +1,179 @@
+// Runs of rows that tables share.
+ghost use Rattle.std.specs.Prelude.{◌≡◌, ◌≢◌, ◌<◌, ◌≤◌, ◌+◌, ◌^◌, [], ◌++◌, length, slice_index_or, IfOk, OnOk};
+ghost use Rattle.std.specs.declared.cmp.Ordering.TheVariants.{Greater};
+ghost use Rattle.tl_world.specs.Runs.{joined, run_place, AreCounted, IsPart, IsPartFor};
+ghost use Rattle.tl_world.specs.Tables.{row_cmp};
+
+use crate::flat::Flat;
+use crate::row_search::begins_after;
+use std::alloc::Global;
+use std::marker::Model;
+use std::rc::Rc;
+use tl_syntax::{NoMemory, Value};
+
+/// How many rows a run has at most, and so how many a table has that is not cut into runs.
+pub(crate) const MOST: usize = 64;
+
+/// One more than the greatest place that is counted.
+const COUNTED: usize = 9223372036854775808;
+
+/// A run of rows, with the place at which the next one begins.
+#[derive(Drop)]
+pub(crate) struct Run {
+    rows: Rc<Flat>,
+    end: usize,
+}
+
+/// Runs of rows that follow one another. Contracts see the list of all rows.
+#[derive(Drop)]
+pub(crate) struct Shared {
+    runs: Vec<Run>,
+}
+
+impl Model for Shared {
+    ghost use Rattle.std.specs.Prelude.{List};
+    ghost use Rattle.tl_syntax.specs.declared.value.Value.{Value as PlainValue};
+    ghost use Rattle.tl_world.specs.Runs.{joined, AreCounted};
+
+    ghost Value = { List (List PlainValue) };
+
+    ghost view = { λ s. joined s.runs.items };
+
+    ghost invariant = { λ s. AreCounted 0 s.runs.items };
+}
+
+/// The place at which run `i` begins.
+fn begin(runs: &[Run], i: usize) -> usize
+    requires counted { AreCounted 0 runs.now }
+    requires bound { i ≤ length runs.now }
+    ensures place { result ≡ run_place runs.now i }
+    ensures small { result < 2 ^ 63 }
+{
+    if i == 0 { 0 } else { runs[i - 1].end }
+}
+
+/// The run in which row `k` stands, found by halves where it is not the one that is guessed.
+fn find_run(runs: &[Run], k: usize, guess: usize) -> usize
+    requires counted { AreCounted 0 runs.now }
+    requires bound { k < length (joined runs.now) }
+    ensures bound { result < length runs.now }
+    ensures from { run_place runs.now result ≤ k }
+    ensures to { k < run_place runs.now (result + 1) }
+{
+    if guess < runs.len() && begin(runs, guess) <= k && k < runs[guess].end {
+        return guess;
+    }
+    let mut low = 0;
+    let mut high = runs.len();
+    while low < high {
+        let middle = low + (high - low) / 2;
+        if runs[middle].end <= k {
+            low = middle + 1;
+        } else {
+            high = middle;
+        }
+    }
+    low
+}
+
+/// The last run that does not begin after the arguments, found by halves, or else the first one.
+fn find_run_for(runs: &[Run], args: &[Value]) -> usize
+    requires counted { AreCounted 0 runs.now }
+    requires some { 0 < length runs.now }
+    ensures bound { result < length runs.now }
+    ensures before { 0 < result → row_cmp (slice_index_or (joined runs.now) (run_place runs.now result) []) args.now ≢ Greater }
+    ensures after { result + 1 < length runs.now → row_cmp (slice_index_or (joined runs.now) (run_place runs.now (result + 1)) []) args.now ≡ Greater }
+{
+    let mut low = 0;
+    let mut high = runs.len();
+    while low + 1 < high {
+        let middle = low + (high - low) / 2;
+        if begins_after(runs[middle].rows.as_ref(), args) {
+            high = middle;
+        } else {
+            low = middle;
+        }
+    }
+    low
+}
+
+impl Shared {
+    /// No runs, with room for as many as are given.
+    pub(crate) fn with_room(alloc: Global, runs: usize) -> Result<Shared, NoMemory>
+        ensures { IfOk result (λ s. s ≡ []) }
+    {
+        Ok(Shared {
+            runs: Vec::with_capacity(alloc, runs)?,
+        })
+    }
+
+    /// How many runs there are.
+    pub(crate) fn runs(&self) -> usize {
+        self.runs.len()
+    }
+
+    /// How many rows there are.
+    pub(crate) fn len(&self) -> usize
+        ensures len { result ≡ length self.now }
+        ensures small { result < 2 ^ 63 }
+    {
+        let runs = self.runs.as_slice();
+        begin(runs, runs.len())
+    }
+
+    /// The run in which row `k` stands, and the place at which it begins. It is found by halves where it is not the one that is guessed. The next run is then the guess.
+    pub(crate) fn run_of(&self, k: usize, guess: &mut usize) -> (&Rc<Flat>, usize)
+        requires { k < length self.now }
+        ensures part { IsPart self.now result.1 result.0.now.value }
+        ensures from { result.1 ≤ k }
+        ensures to { k < result.1 + length result.0.now.value }
+    {
+        let runs = self.runs.as_slice();
+        let i = find_run(runs, k, *guess);
+        *guess = i + 1;
+        (&runs[i].rows, begin(runs, i))
+    }
+
+    /// The run in which a row with these arguments stands or would stand, and the place at which it begins.
+    pub(crate) fn run_for(&self, args: &[Value]) -> (&Flat, usize)
+        requires { 0 < length self.now }
+        ensures part { IsPartFor args.now self.now result.1 result.0.now }
+        ensures filled { 0 < length result.0.now }
+    {
+        let runs = self.runs.as_slice();
+        let i = find_run_for(runs, args);
+        (runs[i].rows.as_ref(), begin(runs, i))
+    }
+
+    /// One more run at the end, which is shared. One without rows is left out.
+    pub(crate) fn push(&mut self, rows: Rc<Flat>) -> Result<(), NoMemory>
+        ensures { OnOk result (self.new ≡ self.old ++ rows.value) }
+    {
+        let count = rows.len();
+        if count == 0 {
+            return Ok(());
+        }
+        let end = self.len() + count;
+        if end >= COUNTED {
+            return Err(NoMemory);
+        }
+        self.runs.push(Run { rows, end })?;
+        Ok(())
+    }
+
+    /// Rows at the end, as one run or, where they are many, as two.
+    pub(crate) fn push_rows(&mut self, alloc: Global, rows: Flat) -> Result<(), NoMemory>
+        ensures { OnOk result (self.new ≡ self.old ++ rows) }
+    {
+        let count = rows.len();
+        if count <= MOST {
+            let run = Rc::new(alloc, rows)?;
+            return self.push(run);
+        }
+        let half = count / 2;
+        let front = Rc::new(alloc, rows.part(alloc, 0, half)?)?;
+        self.push(front)?;
+        let back = Rc::new(alloc, rows.part(alloc, half, count)?)?;
+        self.push(back)
+    }
+}
