@@ -141,6 +141,7 @@ impl Flat {
 
     /// Row `k`, counted from 0.
     #[tactic(auto, using(crate::proofs::Cuts::cuts))]
+    #[inline]
     pub(crate) fn row(&self, k: usize) -> &[Value]
         requires { k < length self.now }
         ensures { result.now ≡ slice_index_or self.now k result.now }

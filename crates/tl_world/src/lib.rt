@@ -1,8 +1,10 @@
 //! Worlds: a finite set of facts and a finite map of places to values.
 //!
-//! - `flat`, `rows`: the facts of one predicate, in one list, with a code that is kept.
+//! - `flat`: rows in one list.
+//! - `shared`, `runs`: rows in runs, which tables share.
+//! - `rows`: the facts of one predicate, with a code that is kept.
 //! - `table`: the places of one function with their values, with a code that is kept.
-//! - `row_search`: the place of a row, found by halves.
+//! - `row_search`: the place of a row in one list, found by halves.
 //! - `named`: a table with the number of its predicate or function, shared between worlds.
 //! - `facts`, `places`: the tables of facts and of places, and edits of them.
 //! - `world`: the world itself, with its look-ups, its matches and its changes.

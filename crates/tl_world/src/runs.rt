@@ -1,7 +1,7 @@
 // The rows of a table, in runs.
 ghost use Rattle.std.specs.List.{insert, remove};
 ghost use Rattle.std.specs.List.Sorted.{IsBinarySearchResult, IsSearchInRange};
-ghost use Rattle.std.specs.Prelude.{◌≡◌, ◌<◌, ◌≤◌, ◌+◌, ◌^◌, ◌↔◌, ◌++◌, [], ◌∷◌, length, take, slice_index_or, true, IfOk, OnOk};
+ghost use Rattle.std.specs.Prelude.{◌≡◌, ◌<◌, ◌≤◌, ◌+◌, ◌^◌, ◌↔◌, ◌++◌, [], ◌∷◌, length, take, slice_index_or, true, IfOk, IfSome, OnOk};
 ghost use Rattle.tl_world.specs.Codes.{values_eq};
 ghost use Rattle.tl_world.specs.Moves.{place_after};
 ghost use Rattle.tl_world.specs.RowTests.{rows_eq, rows-tell};
@@ -71,13 +71,27 @@ impl Runs {
     }
 
     /// How many rows there are.
+    #[inline]
     pub(crate) fn len(&self) -> usize
         ensures { result ≡ length self.now }
     {
         self.shared.len() + self.last.len()
     }
 
+    /// The rows in one list, where they are not cut into runs.
+    #[inline(always)]
+    fn uncut(&self) -> Option<&Flat>
+        ensures { IfSome result (λ rows. rows.now ≡ self.now) }
+    {
+        if self.shared.len() == 0 {
+            Some(&self.last)
+        } else {
+            None
+        }
+    }
+
     /// The rows with which row `k` stands in one list, and the place at which they begin. A run is found by halves where it is not the one that is guessed.
+    #[inline]
     fn part_of(&self, k: usize, guess: usize) -> (&Flat, usize)
         ensures part { IsPart self.now result.1 result.0.now }
         ensures from { result.1 ≤ k }
@@ -94,6 +108,7 @@ impl Runs {
     }
 
     /// The rows among which one with these arguments stands or would stand, and the place at which they begin.
+    #[inline]
     fn part_for(&self, args: &[Value]) -> (&Flat, usize)
         ensures part { IsPartFor args.now self.now result.1 result.0.now }
         ensures small { result.1 + length result.0.now < 2 ^ 64 }
@@ -108,6 +123,7 @@ impl Runs {
     }
 
     /// Row `k`, counted from 0.
+    #[inline]
     pub(crate) fn row(&self, k: usize) -> &[Value]
         requires { k < length self.now }
         ensures { result.now ≡ slice_index_or self.now k result.now }
@@ -129,6 +145,9 @@ impl Runs {
     fn share(&mut self, alloc: Global, rows: &Rc<Flat>) -> Result<(), NoMemory>
         ensures { OnOk result (self.new ≡ self.old ++ rows.now.value) }
     {
+        if self.last.len() == 0 {
+            return self.shared.push(rows.clone()?);
+        }
         let none = Flat::with_room(alloc, 0, 0)?;
         let before = mem::replace(&mut self.last, none);
         self.shared.push_rows(alloc, before)?;
@@ -385,8 +404,9 @@ impl PartialEq for Runs {
     }
 }
 
-/// The place of the row with these arguments, or the place at which it would stand: by halves, first over the first rows of the runs and then in one of them.
-pub(crate) fn find_row(rows: &Runs, args: &[Value]) -> Result<usize, usize>
+/// The place of the row with these arguments, or the place at which it would stand, by halves: first over the first rows of the runs, and then in one of them.
+#[inline(never)]
+fn find_in_runs(rows: &Runs, args: &[Value]) -> Result<usize, usize>
     ensures range { IsSearchInRange result (length rows.now) }
     ensures place { IsBinarySearchResult (λ r. row_cmp r args.now) rows.now result }
 {
@@ -394,5 +414,17 @@ pub(crate) fn find_row(rows: &Runs, args: &[Value]) -> Result<usize, usize>
     match find_in(part, args) {
         Ok(k) => Ok(from + k),
         Err(k) => Err(from + k),
+    }
+}
+
+/// The place of the row with these arguments, or the place at which it would stand, by halves.
+#[inline(always)]
+pub(crate) fn find_row(rows: &Runs, args: &[Value]) -> Result<usize, usize>
+    ensures range { IsSearchInRange result (length rows.now) }
+    ensures place { IsBinarySearchResult (λ r. row_cmp r args.now) rows.now result }
+{
+    match rows.uncut() {
+        Some(list) => find_in(list, args),
+        None => find_in_runs(rows, args),
     }
 }

@@ -43,6 +43,7 @@ impl Model for Shared {
 }
 
 /// The place at which run `i` begins.
+#[inline]
 fn begin(runs: &[Run], i: usize) -> usize
     requires counted { AreCounted 0 runs.now }
     requires bound { i ≤ length runs.now }
@@ -52,17 +53,15 @@ fn begin(runs: &[Run], i: usize) -> usize
     if i == 0 { 0 } else { runs[i - 1].end }
 }
 
-/// The run in which row `k` stands, found by halves where it is not the one that is guessed.
-fn find_run(runs: &[Run], k: usize, guess: usize) -> usize
+/// The run in which row `k` stands, found by halves.
+#[inline(never)]
+fn halve_runs(runs: &[Run], k: usize) -> usize
     requires counted { AreCounted 0 runs.now }
     requires bound { k < length (joined runs.now) }
     ensures bound { result < length runs.now }
     ensures from { run_place runs.now result ≤ k }
     ensures to { k < run_place runs.now (result + 1) }
 {
-    if guess < runs.len() && begin(runs, guess) <= k && k < runs[guess].end {
-        return guess;
-    }
     let mut low = 0;
     let mut high = runs.len();
     while low < high {
@@ -74,6 +73,21 @@ fn find_run(runs: &[Run], k: usize, guess: usize) -> usize
         }
     }
     low
+}
+
+/// The run in which row `k` stands, found by halves where it is not the one that is guessed.
+#[inline]
+fn find_run(runs: &[Run], k: usize, guess: usize) -> usize
+    requires counted { AreCounted 0 runs.now }
+    requires bound { k < length (joined runs.now) }
+    ensures bound { result < length runs.now }
+    ensures from { run_place runs.now result ≤ k }
+    ensures to { k < run_place runs.now (result + 1) }
+{
+    if guess < runs.len() && begin(runs, guess) <= k && k < runs[guess].end {
+        return guess;
+    }
+    halve_runs(runs, k)
 }
 
 /// The last run that does not begin after the arguments, found by halves, or else the first one.
@@ -113,6 +127,7 @@ impl Shared {
     }
 
     /// How many rows there are.
+    #[inline]
     pub(crate) fn len(&self) -> usize
         ensures len { result ≡ length self.now }
         ensures small { result < 2 ^ 63 }
@@ -122,6 +137,7 @@ impl Shared {
     }
 
     /// The run in which row `k` stands, and the place at which it begins. It is found by halves where it is not the one that is guessed. The next run is then the guess.
+    #[inline]
     pub(crate) fn run_of(&self, k: usize, guess: &mut usize) -> (&Rc<Flat>, usize)
         requires { k < length self.now }
         ensures part { IsPart self.now result.1 result.0.now.value }
@@ -166,6 +182,9 @@ impl Shared {
         ensures { OnOk result (self.new ≡ self.old ++ rows) }
     {
         let count = rows.len();
+        if count == 0 {
+            return Ok(());
+        }
         if count <= MOST {
             let run = Rc::new(alloc, rows)?;
             return self.push(run);

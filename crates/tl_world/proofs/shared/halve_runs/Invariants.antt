@@ -1,6 +1,6 @@
 use Rattle.std.proofs.Common.{◌<◌, ◌≤◌, ◌+◌, ◌-◌, length}
 use Rattle.tl_world.specs.Runs.{run_place}
-use Rattle.tl_world.proofs.shared.find_run.Given as goal
+use Rattle.tl_world.proofs.shared.halve_runs.Given as goal
 
 abbrev pub invariant-loop-low : goal.invariant-loop-low
 invariant-loop-low l = record {

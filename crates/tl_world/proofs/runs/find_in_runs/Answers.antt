@@ -1,6 +1,6 @@
 use Rattle.std.proofs.Common.{◌≡◌, ◌<◌, ◌≤◌, ◌+◌, length, refl, arith}
 use Rattle.tl_world.proofs.PartSearch.{found-in-part, within-part, absent-in-part}
-use Rattle.tl_world.proofs.runs.find_row.Goals as goal
+use Rattle.tl_world.proofs.runs.find_in_runs.Goals as goal
 
 pub returns-in-Ok-clause-place : goal.returns-in-Ok-clause-place
 returns-in-Ok-clause-place c = found-in-part c.args.args.now c.args.rows.now c.part_for-from.result.0.now c.part_for-from.result.1 c.part_for-from.ensures.part c.in-Ok.k (c.part_for-from.result.1 + c.in-Ok.k) refl c.in-Ok.ensures.range c.in-Ok.ensures.place
