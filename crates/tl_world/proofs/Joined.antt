@@ -75,8 +75,8 @@ run-part rs i d p =
     record {
       within = let l1 : length (joined rs) ≡ length front + length (run ++ rest) = ap length is ∙ length-append front (run ++ rest) in let l2 = length-append run rest in omega (arith, l1, l2);
       are = sym (ap (λ ys. between ys (length front) (length front + length run)) is
-      ∙ (ap (take (length front + length run - length front)) (drop-append_seam front (run ++ rest))
-      ∙ (ap (λ n. take n (run ++ rest)) (let m : length front + length run - length front ≡ length run = omega arith in m) ∙ take-append_seam run rest)));
+          ∙ (ap (take (length front + length run - length front)) (drop-append_seam front (run ++ rest))
+          ∙ (ap (λ n. take n (run ++ rest)) (let m : length front + length run - length front ≡ length run = omega arith in m) ∙ take-append_seam run rest)));
     }
 
 -- the first row of a run

@@ -1,14 +1,14 @@
 -- A search by halves among some rows that follow one another, as one among all of them.
-use Rattle.std.proofs.Common.{◌≡◌, ℕ, zero, suc, ◌+◌, ◌-◌, ◌<◌, ◌≤◌, List, [], ◌∷◌, ◌++◌, length, length-append, get_or, take, drop, refl, sym, ap, ◌∙◌, subst, arith, Ordering, Less, Equal, Greater, Ok, Err, Result, inl, inr}
+use Rattle.std.proofs.Common.{◌≡◌, ℕ, zero, suc, ◌+◌, ◌<◌, ◌≤◌, List, [], ◌++◌, length, length-append, get_or, refl, sym, ap, ◌∙◌, subst, arith, Ordering, Less, Equal, Greater, Err, inl, inr}
 use Rattle.std.proofs.lemmas.Bool.{cases_lt}
 use Rattle.std.proofs.lemmas.List.{get_or_append_left, get_or_default, get_or-append-add}
 use Rattle.std.specs.List.{HoldsAt, AllWithin}
 use Rattle.std.specs.List.Sorted.{IsBinarySearchResult, IsNonDecreasingBy, IsPartitionPoint}
 use Rattle.std.specs.Ordering.{ordering_index, is_gt}
-use Rattle.std.proofs.Common.{Bool, true, false, true≢false}
+use Rattle.std.proofs.Common.{true, false, true≢false}
 use Rattle.tl_syntax.specs.declared.value.Value.{Value}
 use Rattle.tl_world.specs.Plain.{row_cmp}
-use Rattle.tl_world.specs.Runs.{between, IsPart, IsPartFor}
+use Rattle.tl_world.specs.Runs.{IsPartFor}
 use Rattle.tl_world.proofs.Narrowing.{all-less, all-greater}
 use Rattle.tl_world.proofs.Parts.{row-of-part, last-part, first-part}
 
@@ -42,13 +42,13 @@ module _ (args : List Value) (all rows : List (List Value)) (from : ℕ) (h : Is
   -- the rows before a place that was found
   lower-all : (k : ℕ) → k ≤ length rows → IsPartitionPoint (λ r. row_cmp r args ≡ Less) (λ r. row_cmp r args ≡ Greater) rows k → IsNonDecreasingBy (λ r. ordering_index (row_cmp r args)) all → AllWithin (λ r. row_cmp r args ≡ Less) all 0 (from + k)
   lower-all zero p point rise j d _ q = elim (cases_lt 0 from) [
-      | inl some ↦
+    | inl some ↦
         let filled = h.filled some in
         let at : row_cmp (get_or rows 0 []) args ≡ Greater = point.1 0 [] (omega arith) filled in
         let same : get_or rows 0 [] ≡ get_or all from [] = here 0 [] filled ∙ ap (λ n. get_or all n []) (let n : from + 0 ≡ from = omega arith in n) in
         absurd (h.before some (subst (λ r. row_cmp r args ≡ Greater) same at))
-      | inr none ↦ absurd (omega (arith, none, q))
-    ]
+    | inr none ↦ absurd (omega (arith, none, q))
+  ]
   lower-all (suc k) p point rise j d a q =
       let w = h.part.within in
       let at : row_cmp (get_or rows k []) args ≡ Less = point.0 k [] (omega arith) (omega arith) in
@@ -57,17 +57,17 @@ module _ (args : List Value) (all rows : List (List Value)) (from : ℕ) (h : Is
 
   upper-all : (k : ℕ) → k ≤ length rows → IsPartitionPoint (λ r. row_cmp r args ≡ Less) (λ r. row_cmp r args ≡ Greater) rows k → IsNonDecreasingBy (λ r. ordering_index (row_cmp r args)) all → AllWithin (λ r. row_cmp r args ≡ Greater) all (from + k) (length all)
   upper-all k p point rise = elim (cases_lt k (length rows)) [
-      | inl low ↦
+    | inl low ↦
         let w = h.part.within in
         let at : row_cmp (get_or rows k []) args ≡ Greater = point.1 k [] (omega arith) low in
         greater-at (from + k) (omega (arith, low, w)) (subst (λ r. row_cmp r args ≡ Greater) (here k [] low) at) rise
-      | inr high ↦
+    | inr high ↦
         let e : from + length rows ≡ from + k = omega (arith, p, high) in
         subst (λ n. AllWithin (λ r. row_cmp r args ≡ Greater) all n (length all)) e (elim (cases_lt (from + length rows) (length all)) [
           | inl more ↦ greater-at (from + length rows) more (h.after more) rise
           | inr none ↦ λ j d a b. absurd (omega (arith, none, a, b))
         ])
-    ]
+  ]
 
   -- the place at which a row would stand among them is its place among all
   pub absent-in-part : (k i : ℕ) → i ≡ from + k → k ≤ length rows → IsBinarySearchResult (λ r. row_cmp r args) rows (Err k) → IsBinarySearchResult (λ r. row_cmp r args) all (Err i)
@@ -100,8 +100,8 @@ last-for args s t n e some low = record {
   part = last-part s t n e;
   filled = λ _. some;
   before = λ p f.
-    let at : get_or (s ++ t) n [] ≡ get_or t 0 [] = ap (λ k. get_or (s ++ t) k []) (let m : n ≡ length s + 0 = omega (arith, e) in m) ∙ get_or-append-add s t 0 [] in
-    not-after _ low (subst (λ r. row_cmp r args ≡ Greater) at f);
+      let at : get_or (s ++ t) n [] ≡ get_or t 0 [] = ap (λ k. get_or (s ++ t) k []) (let m : n ≡ length s + 0 = omega (arith, e) in m) ∙ get_or-append-add s t 0 [] in
+      not-after _ low (subst (λ r. row_cmp r args ≡ Greater) at f);
   after = λ p. let l : length (s ++ t) ≡ length s + length t = length-append s t in absurd (omega (arith, p, l, e));
 }
 
@@ -111,16 +111,16 @@ first-for args s t rows from h some high = record {
   part = first-part s t rows from h.part;
   filled = h.filled;
   before = λ p f.
-    let w = h.part.within in
-    let at : get_or (s ++ t) from [] ≡ get_or s from [] = get_or_append_left s t [] from (omega (arith, w, some)) in
-    h.before p (subst (λ r. row_cmp r args ≡ Greater) at f);
+      let w = h.part.within in
+      let at : get_or (s ++ t) from [] ≡ get_or s from [] = get_or_append_left s t [] from (omega (arith, w, some)) in
+      h.before p (subst (λ r. row_cmp r args ≡ Greater) at f);
   after = λ p. elim (cases_lt (from + length rows) (length s)) [
     | inl low ↦ subst (λ r. row_cmp r args ≡ Greater) (sym (get_or_append_left s t [] (from + length rows) low)) (h.after low)
     | inr past ↦
-      let w = h.part.within in
-      let l : length (s ++ t) ≡ length s + length t = length-append s t in
-      let filled : 0 < length t = omega (arith, p, l, past) in
-      let at : get_or (s ++ t) (from + length rows) [] ≡ get_or t 0 [] = ap (λ k. get_or (s ++ t) k []) (let m : from + length rows ≡ length s + 0 = omega (arith, w, past) in m) ∙ get_or-append-add s t 0 [] in
-      subst (λ r. row_cmp r args ≡ Greater) (sym at) (is-after _ (high filled))
+        let w = h.part.within in
+        let l : length (s ++ t) ≡ length s + length t = length-append s t in
+        let filled : 0 < length t = omega (arith, p, l, past) in
+        let at : get_or (s ++ t) (from + length rows) [] ≡ get_or t 0 [] = ap (λ k. get_or (s ++ t) k []) (let m : from + length rows ≡ length s + 0 = omega (arith, w, past) in m) ∙ get_or-append-add s t 0 [] in
+        subst (λ r. row_cmp r args ≡ Greater) (sym at) (is-after _ (high filled))
   ];
 }

@@ -1,7 +1,7 @@
 -- When rows in runs are the same.
-use Rattle.std.proofs.Common.{◌≡◌, ℕ, zero, suc, ◌+◌, ◌-◌, ◌<◌, ◌≤◌, Bool, true, false, true≢false, List, [], ◌∷◌, ◌++◌, length, length-append, get_or, take, drop, refl, sym, ap, ◌∙◌, subst, arith}
+use Rattle.std.proofs.Common.{◌≡◌, ℕ, ◌+◌, ◌-◌, ◌<◌, ◌≤◌, Bool, true, false, true≢false, List, [], ◌∷◌, ◌++◌, length, get_or, take, drop, refl, sym, ap, ◌∙◌, arith}
 use Rattle.std.proofs.lemmas.List.{take_all, take-append-drop, take-take, take_more, length-drop, get_or-take}
-use Rattle.std.proofs.Math.Seq.{take-append_seam, drop-append_seam}
+use Rattle.std.proofs.Math.Seq.{take-append_seam}
 use Rattle.tl_syntax.specs.declared.value.Value.{Value}
 use Rattle.tl_syntax.specs.DerivedTests.{value_eq}
 use Rattle.tl_syntax.proofs.Plain.{list-tells, value-tells}
@@ -9,7 +9,7 @@ use Rattle.tl_world.specs.Codes.{values_eq, rows_code}
 use Rattle.tl_world.specs.RowTests.{rows_eq, rows-tell}
 use Rattle.tl_world.specs.Same.{told_alike}
 use Rattle.tl_world.specs.Runs.{between, IsPart}
-use Rattle.tl_world.proofs.Parts.{between-to-end, between-front, between-joined, between-between, get-between-of}
+use Rattle.tl_world.proofs.Parts.{between-to-end, between-joined, between-between, get-between-of}
 
 module _ {X : Type 0} where
   from-first : (xs : List X) (b : ℕ) → between xs 0 b ≡ take b xs

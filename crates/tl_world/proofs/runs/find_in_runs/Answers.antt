@@ -1,5 +1,5 @@
-use Rattle.std.proofs.Common.{◌≡◌, ◌<◌, ◌≤◌, ◌+◌, length, refl, arith}
-use Rattle.tl_world.proofs.PartSearch.{found-in-part, within-part, absent-in-part}
+use Rattle.std.proofs.Common.{◌+◌, refl}
+use Rattle.tl_world.proofs.PartSearch.{found-in-part, absent-in-part}
 use Rattle.tl_world.proofs.runs.find_in_runs.Goals as goal
 
 pub returns-in-Ok-clause-place : goal.returns-in-Ok-clause-place

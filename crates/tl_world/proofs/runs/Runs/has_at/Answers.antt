@@ -1,4 +1,4 @@
-use Rattle.std.proofs.Common.{◌≡◌, length, sym, ◌∙◌}
+use Rattle.std.proofs.Common.{sym, ◌∙◌}
 use Rattle.tl_world.proofs.SameParts.{part-tells}
 use Rattle.tl_world.proofs.runs.Runs.has_at.Goals as goal
 

@@ -1,7 +1,7 @@
-use Rattle.std.proofs.Common.{◌≡◌, ◌<◌, ◌≤◌, ◌+◌, ◌-◌, ◌++◌, length, length-append, sym, ap, ◌∙◌, subst, arith}
+use Rattle.std.proofs.Common.{◌≡◌, ◌<◌, ◌≤◌, ◌+◌, ◌-◌, ◌++◌, length, sym, ap, ◌∙◌, subst, arith}
 use Rattle.std.specs.Prelude.{min}
 use Rattle.tl_world.specs.Runs.{between, IsPart}
-use Rattle.tl_world.proofs.Parts.{between-back, between-part, first-part}
+use Rattle.tl_world.proofs.Parts.{between-all, between-back, between-part, first-part}
 use Rattle.tl_world.proofs.runs.Runs.push_some.Goals as goal
 
 pub returns-then-k-full : goal.returns-then-k-full
@@ -24,7 +24,30 @@ returns-in_ok-copy_rows-2 c =
     let size : c.len.result ≡ length rows = c.len.ensures.len ∙ ap length c.deref.ensures in
     let next : c.min-next.result ≡ min c.args.to (from + c.len.result) = c.min-next.ensures in
     let below : c.args.k < c.min-next.result = omega (arith, next, size, c.run_of-from.ensures.to, c.requires.some) in
-    let within : c.min-next.result ≤ from + length rows = omega (arith, next, size) in
-    (below, (let m : c.min-next.result ≤ c.args.to = omega (arith, next) in m),
-    c.in_ok-copy_rows-2.ensures ∙ ap (λ xs. c.args.self.now ++ xs)
-    (ap (λ xs. between xs (c.args.k - from) (c.min-next.result - from)) c.as_ref-else-next-k.ensures ∙ between-part c.args.other.now rows from c.args.k c.min-next.result part c.run_of-from.ensures.from (omega (arith, below)) within))
+    let within : c.min-next.result ≤ from + length rows = omega (arith, next, size) in (
+      below,
+      (let m : c.min-next.result ≤ c.args.to = omega (arith, next) in m),
+      c.in_ok-copy_rows-2.ensures ∙ ap (λ xs. c.args.self.now ++ xs)
+          (ap (λ xs. between xs (c.args.k - from) (c.min-next.result - from)) c.as_ref-else-next-k.ensures ∙ between-part c.args.other.now rows from c.args.k c.min-next.result part c.run_of-from.ensures.from (omega (arith, below)) within),
+    )
+
+pub returns-in_ok-share : goal.returns-in_ok-share
+returns-in_ok-share c =
+    let s = c.other.inside.shared in
+    let t = c.other.inside.last in
+    let rows = c.run_of-from.result.0.now.value in
+    let from = c.run_of-from.result.1 in
+    let next = c.min-next.result in
+    let part : IsPart c.args.other.now from rows = subst (λ xs. IsPart xs from rows) c.other.view_is (first-part s t rows from c.run_of-from.ensures.part) in
+    let size : c.len.result ≡ length rows = c.len.ensures.len ∙ ap length c.deref.ensures in
+    let size2 : c.len-2.result ≡ length rows = c.len-2.ensures.len ∙ ap length c.deref-2.ensures in
+    let least : next ≡ min c.args.to (from + c.len.result) = c.min-next.ensures in
+    let below : c.args.k < next = omega (arith, least, size, c.run_of-from.ensures.to, c.requires.some) in
+    let within : next ≤ from + length rows = omega (arith, least, size) in
+    let start : c.args.k ≡ from = omega (arith, c.if-next-k.true, size2, within, c.run_of-from.ensures.from, below) in
+    let end : next - from ≡ length rows = omega (arith, c.if-next-k.true, size2, start) in
+    let all : between rows (c.args.k - from) (next - from) ≡ rows = ap (λ n. between rows n (next - from)) (let z : c.args.k - from ≡ 0 = omega (arith, start) in z) ∙ between-all rows (next - from) end in (
+      below,
+      (let m : next ≤ c.args.to = omega (arith, least) in m),
+      c.in_ok-share.ensures ∙ ap (λ xs. c.args.self.now ++ xs) (sym all ∙ between-part c.args.other.now rows from c.args.k next part c.run_of-from.ensures.from (omega (arith, below)) within),
+    )

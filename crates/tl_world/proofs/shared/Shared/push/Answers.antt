@@ -1,4 +1,4 @@
-use Rattle.std.proofs.Common.{◌≡◌, ◌<◌, ◌+◌, ◌^◌, ◌++◌, length, sym, ap, ◌∙◌, subst, arith}
+use Rattle.std.proofs.Common.{◌≡◌, ◌+◌, ◌++◌, length, sym, ap, ◌∙◌, subst, arith}
 use Rattle.tl_world.specs.declared.shared.Run.{Run}
 use Rattle.tl_world.specs.Runs.{joined, AreCounted}
 use Rattle.tl_world.proofs.Joined.{counted-pushed, joined-pushed}
