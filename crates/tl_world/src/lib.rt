@@ -1,7 +1,7 @@
 //! Worlds: a finite set of facts and a finite map of places to values.
 //!
 //! - `flat`: rows in one list.
-//! - `shared`, `runs`: rows in runs, which tables share.
+//! - `shared`, `runs`, `moves`: rows in runs, which tables share, and edits of them.
 //! - `rows`: the facts of one predicate, with a code that is kept.
 //! - `table`: the places of one function with their values, with a code that is kept.
 //! - `row_search`: the place of a row in one list, found by halves.
@@ -24,6 +24,7 @@ mod flat;
 mod front;
 pub mod laws;
 mod matches;
+mod moves;
 mod named;
 mod next;
 mod pattern;

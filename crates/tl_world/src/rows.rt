@@ -60,7 +60,7 @@ impl Rows {
         self.runs.len() == 0
     }
 
-    /// The arguments of the fact at place `k`, counted from 0.
+    /// The arguments of the fact at place `k`, counted from 0. Its run, where there are several, is guessed, and found by halves where the guess is wrong.
     pub fn row(&self, k: usize) -> &[Value]
         requires { k < length self.now }
         ensures { result.now ≡ slice_index_or self.now k result.now }

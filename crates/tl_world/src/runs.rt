@@ -1,9 +1,8 @@
 // The rows of a table, in runs.
-ghost use Rattle.std.specs.List.{insert, remove};
+ghost use Rattle.std.specs.List.{insert};
 ghost use Rattle.std.specs.List.Sorted.{IsBinarySearchResult, IsSearchInRange};
 ghost use Rattle.std.specs.Prelude.{◌≡◌, ◌<◌, ◌≤◌, ◌+◌, ◌^◌, ◌↔◌, ◌++◌, [], ◌∷◌, length, take, slice_index_or, true, IfOk, IfSome, OnOk};
 ghost use Rattle.tl_world.specs.Codes.{values_eq};
-ghost use Rattle.tl_world.specs.Moves.{place_after};
 ghost use Rattle.tl_world.specs.RowTests.{rows_eq, rows-tell};
 ghost use Rattle.tl_world.specs.Runs.{between, IsPart, IsPartFor};
 ghost use Rattle.tl_world.specs.Same.{tells-partial};
@@ -57,7 +56,7 @@ impl Runs {
     }
 
     /// No rows, with room for runs and last rows as the table has, and for one more run and a row of so many values.
-    fn with_room(&self, alloc: Global, values: usize) -> Result<Runs, NoMemory>
+    pub(crate) fn with_room(&self, alloc: Global, values: usize) -> Result<Runs, NoMemory>
         ensures { IfOk result (λ r. r ≡ []) }
     {
         let runs = self.shared.runs();
@@ -174,7 +173,7 @@ impl Runs {
     }
 
     /// One more row at the end.
-    fn push(&mut self, alloc: Global, row: &[Value]) -> Result<(), NoMemory>
+    pub(crate) fn push(&mut self, alloc: Global, row: &[Value]) -> Result<(), NoMemory>
         ensures { OnOk result (self.new ≡ self.old ++ row.now ∷ []) }
     {
         if self.last.len() >= MOST {
@@ -218,7 +217,7 @@ impl Runs {
     }
 
     /// The rows `from..to` of the other at the end.
-    fn push_rows(
+    pub(crate) fn push_rows(
         &mut self,
         alloc: Global,
         other: &Runs,
@@ -264,79 +263,6 @@ impl Runs {
         let shared = self.shared;
         let last = self.last.put(k - full, row)?;
         Ok(Runs { shared, last })
-    }
-
-    /// The rows without that at place `k`.
-    pub(crate) fn without(&self, alloc: Global, k: usize) -> Result<Runs, NoMemory>
-        requires { k < length self.now }
-        ensures { IfOk result (λ r. r ≡ remove self.now k) }
-    {
-        let count = self.len();
-        let mut out = self.with_room(alloc, 0)?;
-        out.push_rows(alloc, self, 0, k)?;
-        out.push_rows(alloc, self, k + 1, count)?;
-        Ok(out)
-    }
-
-    /// The rows with one more at place `at`, and without that at the place `cut`, which is not before it.
-    fn moved_back(
-        &self,
-        alloc: Global,
-        cut: usize,
-        at: usize,
-        row: &[Value],
-    ) -> Result<Runs, NoMemory>
-        requires order { at ≤ cut }
-        requires bound { cut < length self.now }
-        ensures { IfOk result (λ r. r ≡ remove (insert self.now at row.now) (cut + 1)) }
-    {
-        let count = self.len();
-        let mut out = self.with_room(alloc, row.len())?;
-        out.push_rows(alloc, self, 0, at)?;
-        out.push(alloc, row)?;
-        out.push_rows(alloc, self, at, cut)?;
-        out.push_rows(alloc, self, cut + 1, count)?;
-        Ok(out)
-    }
-
-    /// The rows with one more at place `at`, and without that at the place `cut`, which is before it.
-    fn moved_on(
-        &self,
-        alloc: Global,
-        cut: usize,
-        at: usize,
-        row: &[Value],
-    ) -> Result<Runs, NoMemory>
-        requires order { cut < at }
-        requires bound { at ≤ length self.now }
-        ensures { IfOk result (λ r. r ≡ remove (insert self.now at row.now) cut) }
-    {
-        let count = self.len();
-        let mut out = self.with_room(alloc, row.len())?;
-        out.push_rows(alloc, self, 0, cut)?;
-        out.push_rows(alloc, self, cut + 1, at)?;
-        out.push(alloc, row)?;
-        out.push_rows(alloc, self, at, count)?;
-        Ok(out)
-    }
-
-    /// The rows with one more at place `at`, and without that at place `cut`, in one copy.
-    pub(crate) fn moved(
-        &self,
-        alloc: Global,
-        cut: usize,
-        at: usize,
-        row: &[Value],
-    ) -> Result<Runs, NoMemory>
-        requires cut { cut < length self.now }
-        requires at { at ≤ length self.now }
-        ensures { IfOk result (λ r. r ≡ remove (insert self.now at row.now) (place_after at cut)) }
-    {
-        if at <= cut {
-            self.moved_back(alloc, cut, at, row)
-        } else {
-            self.moved_on(alloc, cut, at, row)
-        }
     }
 
     /// Whether the rows stand in the table from the place on, by a comparison of each row.

@@ -121,7 +121,7 @@ impl World {
         World::new(alloc).changed(alloc, &[], facts, places)
     }
 
-    /// Whether the fact of the predicate `pred` with these arguments is in the world. It takes no memory.
+    /// Whether the fact of the predicate `pred` with these arguments is in the world. It takes no memory. The table and the row are found by halves.
     pub fn holds(&self, pred: u32, args: &[Value]) -> bool
         ensures { result ≡ has_fact self.now (pred, args.now) }
     {
@@ -190,6 +190,7 @@ impl World {
     /// This world stays as it is, and tables that do not change are shared. It fails for want of memory alone.
     ///
     /// A table is copied for each fact that is deleted, and one fact that is added to it comes in with the same copy. The first fact that is added to another table of this world copies it, and later ones are put into the copies.
+    /// A copy of a table of facts takes its rows where they are at most 64. Of a larger one it takes the runs in which rows change and the last rows, some 200 rows at most, and a step for each of the other runs, which the worlds share: a table of n rows has some n / 64 to n / 16 of them. A copy of a table of places takes all its rows.
     pub fn changed(
         &self,
         alloc: Global,
