@@ -70,3 +70,23 @@ code-moved code a b at cut rows after row gone e is_a is_b fits is_gone p q made
     let out : row_code (get_or (insert rows at row) (place_after at cut) gone) ≡ b = ap row_code (k.0 ∙ sym is_gone) ∙ sym is_b in
     let sum : sum_by row_code (remove (insert rows at row) (place_after at cut)) + b ≡ sum_by row_code rows + a = omega (arith, more, less, out, is_a) in
     kept-up code a b (sum_by row_code rows) (sum_by row_code (remove (insert rows at row) (place_after at cut))) (2 ^ 64) e sum fits ∙ ap rows_code (sym made)
+
+-- the code of rows with one more
+pub code-added : (code a at : ℕ) (rows after : List (List Value)) (row : List Value) → code ≡ rows_code rows → a ≡ row_code row → after ≡ insert rows at row → (code + a) % 2 ^ 64 ≡ rows_code after
+code-added code a at rows after row e is_a made =
+    let more = sum_by-insert row_code rows at row in
+    ap (λ c. (c + a) % 2 ^ 64) e
+    ∙ (mod-add-mod (sum_by row_code rows) (2 ^ 64) a
+    ∙ (ap (λ u. u % 2 ^ 64) (let q : sum_by row_code rows + a ≡ sum_by row_code (insert rows at row) = omega (arith, more, is_a) in q) ∙ ap rows_code (sym made)))
+
+-- the code of rows without one
+pub code-removed : (code b cut : ℕ) (rows after : List (List Value)) (gone : List Value) → code ≡ rows_code rows → b ≡ row_code gone → b ≤ 2 ^ 64 → gone ≡ get_or rows cut gone → cut < length rows → after ≡ remove rows cut → (code + (2 ^ 64 - b)) % 2 ^ 64 ≡ rows_code after
+code-removed code b cut rows after gone e is_b fits is_gone p made =
+    let s = sum_by row_code rows in
+    let t = sum_by row_code (remove rows cut) in
+    let less = sum_by-remove row_code rows cut gone p in
+    let out : row_code (get_or rows cut gone) ≡ b = ap row_code (sym is_gone) ∙ sym is_b in
+    ap (λ c. (c + (2 ^ 64 - b)) % 2 ^ 64) e
+    ∙ (mod-add-mod s (2 ^ 64) (2 ^ 64 - b)
+    ∙ (ap (λ u. u % 2 ^ 64) (let q : s + (2 ^ 64 - b) ≡ t + 2 ^ 64 = omega (arith, less, out, fits) in q)
+    ∙ (add-mod_right t (2 ^ 64) ∙ ap rows_code (sym made))))
