@@ -1,0 +1,79 @@
+-- What a part of the check of a proof looks at is the cause of a fault past range.
+use Rattle.std.proofs.Common.{◌≡◌, ◌⊎◌, ◌∷◌, ◌++◌, ℕ, List, [], Option, Some, IsSome, is_some, take, slice_get, refl, sym, ap, ◌∙◌, subst, inl, inr}
+use Rattle.std.specs.Option.{option_map}
+use Rattle.tl_syntax.specs.declared.action.Action.{Action}
+use Rattle.tl_terms.specs.Acceptance.{states_from, states}
+use Rattle.tl_terms.specs.Pairs.{Pair, pair_of}
+use Rattle.tl_terms.specs.Problem.{PlainProblem}
+use Rattle.tl_terms.specs.Step.{step}
+use Rattle.tl_terms.specs.World.{World}
+use Rattle.tl_eval.specs.Notes.{operation_of}
+use Rattle.tl_eval.specs.declared.range.RangeNote.{RangeNote}
+use Rattle.tl_search.specs.KeptPairs.{KeptPair}
+use Rattle.tl_search.specs.PairGraph.{pair_in, next_pair}
+use Rattle.tl_search.specs.declared.fault.SearchFault.{SearchFault}
+use Rattle.tl_search.specs.declared.fault.SearchFault.TheVariants as fault
+use Rattle.tl_search.proofs.PathLaws.{pair-onward}
+use Rattle.tl_search.proofs.RangeLaws.{has-states}
+use Rattle.tl_cert.specs.Causes.{HasLink, IsAsked, IsListed, IsNoneCause, IsNoneFaultOf, IsVisited}
+use Rattle.tl_cert.specs.Checking.{IsActingCause, IsIdlingCause, IsJudgingCause, IsListingCause, IsProgressingCause, IsRootCause, IsTurnCause, IsVisitCause}
+use Rattle.tl_cert.specs.Links.{Lists}
+use Rattle.tl_cert.specs.declared.proof.Link.{Link}
+use Rattle.tl_cert.proofs.GoodLinks.{lists-end}
+
+-- a path with a pair executes
+pair-executes : (p : PlainProblem) (path : List Action) (x : Pair) → pair_of p path ≡ Some x → IsSome (states p path)
+pair-executes p path x e = let h = has-states p path x e in ap is_some h.executes
+
+module _ (p : PlainProblem) (bound : Option ℕ) (links : List Link) where
+  pub fault-at-root : (f : SearchFault) → IsRootCause p f → IsNoneFaultOf p bound links f
+  unfolding states_from
+  fault-at-root (fault.Range path note) h = record { executes = subst (λ q. IsSome (states p q)) (sym h.0) refl; past = h.1.1; looked = inl (h.0, h.1.0) }
+  fault-at-root fault.NoMemory h = tt
+
+  module _ (x : KeptPair) (end : pair_of p x.path ≡ Some x.node) where
+    executes-at : (path : List Action) → path ≡ x.path → IsSome (states p path)
+    executes-at path e = subst (λ q. IsSome (states p q)) (sym e) (pair-executes p x.path x.node end)
+
+    acting : (a : Action) (path : List Action) (note : RangeNote) → IsVisited p bound links x a → IsActingCause p x path note → IsNoneCause p bound links path (operation_of note)
+    acting a path note v h = record {
+      executes = executes-at path h.0;
+      past = h.1.1.1;
+      looked = inr (inr (inr (record { node = x; visits = a; visited = v; is_path = h.0; action = h.1.0; looked = h.1.1.0 })));
+    }
+
+    progressing : (a : Action) (path : List Action) (note : RangeNote) → IsVisited p bound links x a → IsProgressingCause p x a path note → IsNoneCause p bound links path (operation_of note)
+    progressing a path note v h = record {
+      executes = subst (λ q. IsSome (states p q)) (sym h.0) (pair-executes p (x.path ++ a ∷ []) (pair_in p x.node.formula h.1.0) (pair-onward p x.path a x.node end ∙ ap (option_map (pair_in p x.node.formula)) h.1.1));
+      past = h.1.2.1;
+      looked = inr (inl (record { node = x; action = a; visited = v; is_path = h.0; world = h.1.0; steps = h.1.1; looked = h.1.2.0 }));
+    }
+
+    idling : IsListed p bound links x → (f : SearchFault) → IsIdlingCause p x f → IsNoneFaultOf p bound links f
+    idling l (fault.Range path note) h = record {
+      executes = executes-at path h.0;
+      past = h.1.1;
+      looked = inr (inr (inl (record { node = x; is_listed = l; is_path = h.0; looked = h.1.0 })));
+    }
+    idling l fault.NoMemory h = tt
+
+    visiting : (a : Action) → IsVisited p bound links x a → (f : SearchFault) → IsVisitCause p a x f → IsNoneFaultOf p bound links f
+    visiting a v (fault.Range path note) (inl h) = acting a path note v h
+    visiting a v (fault.Range path note) (inr h) = progressing a path note v h
+    visiting a v fault.NoMemory h = tt
+
+    turning : ((a : Action) → IsVisited p bound links x a) → (f : SearchFault) → IsTurnCause p x f → IsNoneFaultOf p bound links f
+    turning v (fault.Range path note) (inl h) = acting h.1.0 path note (v h.1.0) h
+    turning v (fault.Range path note) (inr h) = progressing h.0 path note (v h.0) h.1
+    turning v fault.NoMemory h = tt
+
+  -- at a link after good ones
+  pub fault-at-link : (before : ℕ) (link : Link) (listed : List KeptPair) (x : KeptPair) → slice_get links before ≡ Some link → Lists p bound (take before links) listed → slice_get listed link.from ≡ Some x → (f : SearchFault) → IsVisitCause p link.action x f → IsNoneFaultOf p bound links f
+  fault-at-link before link listed x at lists from f h =
+      visiting x (lists-end p bound (take before links) listed lists link.from x from).0 link.action
+      (inl (record { before = before; link = link; is_link = at; listed = listed; lists = lists; from = from; action = refl })) f h
+
+  -- at a listed node, where all links are good
+  pub fault-at-node : (listed : List KeptPair) (k : ℕ) (x : KeptPair) → Lists p bound links listed → IsListed p bound links x → slice_get listed k ≡ Some x → (f : SearchFault) → IsJudgingCause p bound x f → IsNoneFaultOf p bound links f
+  fault-at-node listed k x lists l e f (inl h) = idling x (lists-end p bound links listed lists k x e).0 l f h
+  fault-at-node listed k x lists l e f (inr h) = turning x (lists-end p bound links listed lists k x e).0 (λ a. inr (record { listed = listed; lists = lists; number = k; node = e; asked = h.0 })) f h.1

@@ -1,0 +1,10 @@
+pub mod GoodLinks
+pub mod Covered
+pub mod OneVerdict
+pub mod Depths
+pub mod Judged
+pub mod FaultLaws
+pub mod Certified
+pub mod Rulesets
+pub mod ProofForms
+pub mod ProofOrder

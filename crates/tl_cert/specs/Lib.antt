@@ -1,0 +1,10 @@
+pub mod Links
+pub mod Covers
+pub mod Verdicts
+pub mod Causes
+pub mod Checking
+pub mod Reports
+pub mod ProofFiles
+pub mod MeaningOfProofs
+pub mod ProofTexts
+pub mod Laws

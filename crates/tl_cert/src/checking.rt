@@ -1,0 +1,56 @@
+// The nodes that a proof lists, while it is checked.
+ghost use Rattle.std.specs.Prelude.{◌≡◌, [], IfOk, IfErr, OnOk};
+ghost use Rattle.tl_search.specs.NamedAnswers.{FaultIsNamed};
+
+use crate::known::Known;
+use std::alloc::Global;
+use tl_search::{Arrival, Pairs, SearchFault, SpaceFault};
+use tl_terms::{Actions, Numbers32};
+
+/// What is known while a proof is checked, beside the nodes that the space keeps. Until all links are listed these are the listed ones, under the same numbers.
+#[derive(Drop)]
+pub(crate) struct Checking {
+    /// Where paths are stored.
+    pub(crate) alloc: Global,
+    /// The bound of the proof.
+    pub(crate) bound: Option<u32>,
+    /// How many actions the links take to each listed node.
+    pub(crate) depths: Numbers32,
+    /// The actions of the node that the last link starts from.
+    pub(crate) known: Option<Known>,
+}
+
+impl Checking {
+    ghost use Rattle.tl_cert.specs.Checking.{IsReady, IsRootCause};
+    ghost use Rattle.tl_cert.specs.Links.{ListsRoot};
+
+    /// Lists the node of the empty path, unless its residual is FALSE.
+    pub(crate) fn begin<S: Pairs>(
+        alloc: Global,
+        space: &mut S,
+        bound: Option<u32>,
+    ) -> Result<Checking, SearchFault>
+        requires empty { S.kept space.old ≡ [] }
+        ensures task { S.task space.new ≡ S.task space.old }
+        ensures problem { S.problem space.new ≡ S.problem space.old }
+        ensures root { OnOk result (ListsRoot (S.problem space.old) (S.kept space.new)) }
+        ensures ready { IfOk result (IsReady (S.task space.old) (S.problem space.old) (S.kept space.new)) }
+        ensures bound { IfOk result (λ checking. checking.bound ≡ bound) }
+        ensures fault { IfErr result (IsRootCause (S.problem space.old)) }
+        ensures named { IfErr result (FaultIsNamed (S.task space.old)) }
+    {
+        let mut depths = Numbers32::new(alloc);
+        match space.root() {
+            Ok(Arrival::Fresh(_)) => depths.push(0)?,
+            Ok(Arrival::Pruned) => {}
+            Ok(Arrival::Seen(_)) => unreachable!(),
+            Err(SpaceFault::RangeHere(note)) => {
+                let path = Actions::new(alloc);
+                return Err(SearchFault::Range { path, note });
+            }
+            Err(SpaceFault::RangeAfter(_)) => unreachable!(),
+            Err(SpaceFault::NoMemory) => return Err(SearchFault::NoMemory),
+        }
+        Ok(Checking { alloc, bound, depths, known: None })
+    }
+}

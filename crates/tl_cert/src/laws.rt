@@ -1,0 +1,12 @@
+// Laws of the definitions, each the contract of a function that does nothing.
+ghost use Rattle.tl_cert.specs.Laws.{CoveredHasNone, OneNoneVerdict};
+
+/// Where a proof covers the search space, no plan is accepted; with a bound, none of at most so many actions.
+pub fn covered_has_none()
+    ensures { CoveredHasNone }
+{}
+
+/// One verdict is right of a proof.
+pub fn one_none_verdict()
+    ensures { OneNoneVerdict }
+{}
