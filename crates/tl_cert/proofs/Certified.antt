@@ -1,5 +1,6 @@
 -- The events of a breadth-first search that found no plan give a proof that covers the search space.
-use Rattle.std.proofs.Common.{◌≡◌, ◌≢◌, ◌≤◌, ◌<◌, ◌+◌, ◌⊎◌, ℕ, suc, List, [], ◌∷◌, ◌++◌, length, slice_get, Option, Some, None, refl, sym, ap, ap₂, ◌∙◌, subst, inl, inr, arith}
+use Rattle.std.proofs.Common.{◌≡◌, ◌≢◌, ◌≤◌, ◌<◌, ◌+◌, ◌^◌, ◌⊎◌, ℕ, zero, suc, List, [], ◌∷◌, ◌++◌, length, take, slice_get, Option, Some, None, refl, sym, ap, ap₂, ◌∙◌, subst, inl, inr, arith}
+use Rattle.std.proofs.lemmas.Option.{slice_get_within}
 use Rattle.tl_syntax.specs.declared.action.Action.{Action}
 use Rattle.tl_syntax.specs.Lists.{Among, One}
 use Rattle.tl_syntax.specs.Trees.{falsum}
@@ -14,12 +15,12 @@ use Rattle.tl_search.specs.declared.event.Event.TheVariants as event
 use Rattle.tl_search.specs.declared.outcome.Outcome.{Outcome}
 use Rattle.tl_search.specs.declared.outcome.Outcome.TheVariants as outcome
 use Rattle.tl_search.specs.declared.outcome.Report.{Report}
-use Rattle.tl_search.proofs.ListLaws.{get-old, get-new, get-one, get-either, get-single}
+use Rattle.tl_search.proofs.ListLaws.{get-old, get-new, get-one, get-either, get-single, take-next}
 use Rattle.tl_search.proofs.PathLaws.{pair-onward, walk-pair, walk-open, walk-accepted}
 use Rattle.tl_search.proofs.WalkLaws.{length-snoc}
 use Rattle.tl_cert.specs.Covers.{Covers, IsListedNear, IsNoFarther, IsRight, MustBeClosed, StaysInside}
 use Rattle.tl_cert.specs.Links.{AreGood, IsGood, IsWithin, Lists, ListsRoot}
-use Rattle.tl_cert.specs.Reports.{bound_of, links_of, IsNoneReport, IsOf, IsRightNone}
+use Rattle.tl_cert.specs.Reports.{bound_of, links_of, IsNoneReport, IsOf, IsRightNone, IsSmall}
 use Rattle.tl_cert.specs.declared.proof.Link.{Link}
 use Rattle.tl_cert.specs.declared.proof.Proof.{Proof}
 use Rattle.tl_cert.proofs.GoodLinks.{lists-end}
@@ -193,3 +194,31 @@ module _ (p : PlainProblem) where
       lists = subst (λ b. Lists p b proof.links kept) (sym e) (subst (λ ls. Lists p (bound_of n report.outcome) ls kept) (sym f) listed);
       right = λ k x s. subst (λ b. IsRight p b kept x) (sym e) (is-right k x s);
     }
+
+-- ---- links from events, one after another
+
+pub links-more : (es : List Event) (k : ℕ) (e : Event) → slice_get es k ≡ Some e → links_of (take (k + 1) es) ≡ links_of (take k es) ++ links_of (e ∷ [])
+links-more es k e at = ap links_of (take-next es k e at) ∙ links-both (take k es) (e ∷ [])
+  where
+    links-both : (us vs : List Event) → links_of (us ++ vs) ≡ links_of us ++ links_of vs
+    links-both [] vs = refl
+    links-both (event.RootKept ∷ us) vs = links-both us vs
+    links-both (event.RootPruned ∷ us) vs = links-both us vs
+    links-both (event.Kept j a k ∷ us) vs = ap (λ ls. record { from = j; action = a } ∷ ls) (links-both us vs)
+    links-both (event.Seen j a k ∷ us) vs = links-both us vs
+    links-both (event.Pruned j a ∷ us) vs = links-both us vs
+
+-- the pairs that events start from are kept, so their numbers are small where few pairs are kept
+pub events-small : (p : PlainProblem) (old : List KeptPair) (es : List Event) (new : List KeptPair) (k : ℕ) (e : Event) → AreTrueEvents p old es new → slice_get es k ≡ Some e → length new < 2 ^ 32 → IsSmall e
+events-small p old [] new k e t at few = let b : ⊥ = cc in absurd b
+events-small p old (f ∷ es) new (suc k) e t at few = events-small p t.0 es new k e t.2 at few
+events-small p old (f ∷ es) new zero e t at few = subst IsSmall (let d : f ≡ e = cc in d) (small f t.1)
+  where
+    small : (g : Event) → IsTrueEvent p old g t.0 → IsSmall g
+    small event.RootKept u = tt
+    small event.RootPruned u = tt
+    small (event.Kept j a m) u =
+        let l : j < length new = slice_get_within new j u.0 (events-stay p t.0 es new j u.0 t.2 (event-stays p old (event.Kept j a m) t.0 j u.0 u u.2)) in
+        omega arith
+    small (event.Seen j a m) u = tt
+    small (event.Pruned j a) u = tt

@@ -3,11 +3,12 @@ use Rattle.std.proofs.Common.{◌≡◌, ◌⊎◌, ◌∷◌, ◌++◌, ℕ, Li
 use Rattle.std.specs.Option.{option_map}
 use Rattle.tl_syntax.specs.declared.action.Action.{Action}
 use Rattle.tl_terms.specs.Acceptance.{states_from, states}
+use Rattle.tl_terms.specs.Looked.{looked_by_progressing}
 use Rattle.tl_terms.specs.Pairs.{Pair, pair_of}
 use Rattle.tl_terms.specs.Problem.{PlainProblem}
 use Rattle.tl_terms.specs.Step.{step}
 use Rattle.tl_terms.specs.World.{World}
-use Rattle.tl_eval.specs.Notes.{operation_of}
+use Rattle.tl_eval.specs.Notes.{Tells, operation_of}
 use Rattle.tl_eval.specs.declared.range.RangeNote.{RangeNote}
 use Rattle.tl_search.specs.KeptPairs.{KeptPair}
 use Rattle.tl_search.specs.PairGraph.{pair_in, next_pair}
@@ -16,7 +17,7 @@ use Rattle.tl_search.specs.declared.fault.SearchFault.TheVariants as fault
 use Rattle.tl_search.proofs.PathLaws.{pair-onward}
 use Rattle.tl_search.proofs.RangeLaws.{has-states}
 use Rattle.tl_cert.specs.Causes.{HasLink, IsAsked, IsListed, IsNoneCause, IsNoneFaultOf, IsVisited}
-use Rattle.tl_cert.specs.Checking.{IsActingCause, IsIdlingCause, IsJudgingCause, IsListingCause, IsProgressingCause, IsRootCause, IsTurnCause, IsVisitCause}
+use Rattle.tl_cert.specs.Checking.{IsActingCause, IsAt, IsIdlingCause, IsJudgingCause, IsListingCause, IsProgressingCause, IsRootCause, IsTurnCause, IsVisitCause}
 use Rattle.tl_cert.specs.Links.{Lists}
 use Rattle.tl_cert.specs.declared.proof.Link.{Link}
 use Rattle.tl_cert.proofs.GoodLinks.{lists-end}
@@ -77,3 +78,10 @@ module _ (p : PlainProblem) (bound : Option ℕ) (links : List Link) where
   pub fault-at-node : (listed : List KeptPair) (k : ℕ) (x : KeptPair) → Lists p bound links listed → IsListed p bound links x → slice_get listed k ≡ Some x → (f : SearchFault) → IsJudgingCause p bound x f → IsNoneFaultOf p bound links f
   fault-at-node listed k x lists l e f (inl h) = idling x (lists-end p bound links listed lists k x e).0 l f h
   fault-at-node listed k x lists l e f (inr h) = turning x (lists-end p bound links listed lists k x e).0 (λ a. inr (record { listed = listed; lists = lists; number = k; node = e; asked = h.0 })) f h.1
+
+-- ---- the path to a fault
+
+-- after an action of the node
+pub after-cause : (p : PlainProblem) (x : KeptPair) (a : Action) (note : RangeNote) (f : SearchFault) → IsAt (x.path ++ a ∷ []) note f → (w : World) × (step p x.node.world a ≡ Some w) × Tells (looked_by_progressing p w x.node.formula) note → IsVisitCause p a x f
+after-cause p x a note (fault.Range path o) h c = inr (h.0, (c.0, c.1, subst (Tells (looked_by_progressing p c.0 x.node.formula)) (sym h.1) c.2))
+after-cause p x a note fault.NoMemory h c = tt

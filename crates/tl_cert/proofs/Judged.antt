@@ -22,11 +22,11 @@ use Rattle.tl_search.specs.ListedActions.{ListsActions}
 use Rattle.tl_search.specs.PairGraph.{pair_in, next_pair, pair_graph}
 use Rattle.tl_search.specs.declared.arrival.Arrival.TheVariants as arrival
 use Rattle.tl_search.proofs.EventLaws.{last-differs}
-use Rattle.tl_search.proofs.ListLaws.{get-one, get-either, rises-behind, take-next, split-at, among-new, among-at}
+use Rattle.tl_search.proofs.ListLaws.{get-one, get-either, get-single, rises-behind, take-next, split-at, among-new, among-at}
 use Rattle.tl_search.proofs.PathLaws.{walk-pair}
-use Rattle.tl_cert.specs.Checking.{depths_of, goes_on, is_no_farther, ListsLink, TellsInside, TellsClosed}
+use Rattle.tl_cert.specs.Checking.{AreShort, depths_of, goes_on, is_no_farther, ListsLink, TellsInside, TellsClosed}
 use Rattle.tl_cert.specs.Covers.{IsListedNear, IsNoFarther, StaysInside}
-use Rattle.tl_cert.specs.Links.{IsGood, IsWithin}
+use Rattle.tl_cert.specs.Links.{IsGood, IsWithin, ListsRoot}
 use Rattle.tl_cert.specs.Verdicts.{IsFirstOut, LeadsOut}
 use Rattle.tl_cert.specs.declared.proof.Link.{Link}
 use Rattle.tl_cert.proofs.Depths.{depth-kept, depth-some, depth-none, goes-within, stops-within, near-test, far-test}
@@ -43,7 +43,7 @@ module _ (p : PlainProblem) (bound : Option ℕ) (old : List KeptPair) where
   -- ---- a link
 
   module _ (link : Link) (d : ℕ) (at : slice_get (depths_of old) link.from ≡ Some d) where
-    from : (x : KeptPair) × (slice_get old link.from ≡ Some x) × (length x.path ≡ d)
+    pub from : (x : KeptPair) × (slice_get old link.from ≡ Some x) × (length x.path ≡ d)
     from = depth-some old link.from d at
 
     -- the node of a good link starts from this one
@@ -152,3 +152,24 @@ module _ (p : PlainProblem) (bound : Option ℕ) (old : List KeptPair) where
                 let q : Less ≡ Greater = sym less ∙ (actions-total.total.antisymm b a ∙ ap ordering_reverse later) in
                 let c : ⊥ = cc in
                 absurd c
+
+-- ---- the root
+
+-- the root that is kept is listed alone
+pub root-fresh : (p : PlainProblem) (old new : List KeptPair) (k : ℕ) → old ≡ [] → Arrives old new (pair_of p []) [] (arrival.Fresh k) → ListsRoot p new × (depths_of new ≡ 0 ∷ []) × AreShort new
+root-fresh p old new k e h =
+    let node : KeptPair = record { node = h.1.0; path = [] } in
+    let one : new ≡ node ∷ [] = h.1.3 ∙ ap (λ zs. zs ++ node ∷ []) e in (
+      (h.1.0, h.1.1, inr (h.1.2, one)),
+      ap depths_of one,
+      λ i x s. (let d = (get-single node i x (subst (λ zs. slice_get zs i ≡ Some x) one s)).1 in let q : length x.path ≡ 0 = ap (λ (z : KeptPair). length z.path) (sym d) in omega (arith, q)),
+    )
+
+-- where it is pruned nothing is listed
+pub root-pruned : (p : PlainProblem) (old new : List KeptPair) → old ≡ [] → Arrives old new (pair_of p []) [] arrival.Pruned → ListsRoot p new × (depths_of new ≡ []) × AreShort new
+root-pruned p old new e h =
+    let none : new ≡ [] = h.0 ∙ e in (
+      (h.1.0, h.1.1, inl (h.1.2, none)),
+      ap depths_of none,
+      λ i x s. (let d : slice_get [] i ≡ Some x = subst (λ zs. slice_get zs i ≡ Some x) none s in let b : ⊥ = cc in absurd b),
+    )

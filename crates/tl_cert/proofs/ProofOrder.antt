@@ -1,5 +1,5 @@
 -- The order of what the forms of a proof file break.
-use Rattle.std.proofs.Common.{◌≡◌, ◌<◌, ℕ, ◌+◌, ◌*◌, List, [], ◌∷◌, ◌++◌, true, arith, Option, Some, None, refl, sym, subst}
+use Rattle.std.proofs.Common.{◌≡◌, ◌≤◌, ◌<◌, ℕ, ◌+◌, ◌*◌, List, [], ◌∷◌, ◌++◌, true, arith, Option, Some, None, refl, sym, subst}
 use Rattle.std.specs.Prelude.{ℤ, nat_lt, not, Result, Ok, Err, IfErr}
 use Rattle.tl_sexpr.specs.Tree.{FormTree, FormTrees, symbol, integer, list, no_form, more_forms}
 use Rattle.tl_sexpr.specs.Offsets.{RisesFrom, RiseFrom, AreAsRead}
@@ -66,6 +66,7 @@ module _ (names : List (List ℕ)) (operators : List Operator) where
   head-order (integer z at) low next h = one Shape at (64 * low) (64 * next) (omega (arith, h.0)) (omega (arith, h.1))
   head-order (list fs at) low next h = by_parts (head_in fs) refl
     where
+      within : (low ≤ at) × (at < next)
       within = form-within (list fs at) low next h
 
       by_bound : (bound : Option (ℤ × ℕ)) → head_in fs ≡ Some bound → IsInOrder (64 * low) (bound_breaks bound) (64 * next)

@@ -1,9 +1,11 @@
 // The nodes that a proof lists, while it is checked.
-ghost use Rattle.std.specs.Prelude.{◌≡◌, [], IfOk, IfErr, OnOk};
+ghost use Rattle.std.specs.Prelude.{◌≡◌, [], ◌∷◌, IfOk, IfErr, OnOk};
 ghost use Rattle.tl_search.specs.NamedAnswers.{FaultIsNamed};
+ghost use Rattle.tl_cert.specs.Checking.{depths_of, AreShort, IsRootCause};
+ghost use Rattle.tl_cert.specs.Links.{ListsRoot};
 
 use crate::known::Known;
-use std::alloc::Global;
+use std::alloc::{AllocError, Global};
 use tl_search::{Arrival, Pairs, SearchFault, SpaceFault};
 use tl_terms::{Actions, Numbers32};
 
@@ -20,9 +22,41 @@ pub(crate) struct Checking {
     pub(crate) known: Option<Known>,
 }
 
+/// The depth of the node of the empty path alone.
+fn root_depth(alloc: Global) -> Result<Numbers32, AllocError>
+    ensures { IfOk result (λ depths. depths ≡ 0 ∷ []) }
+{
+    let mut depths = Numbers32::new(alloc);
+    depths.push(0)?;
+    Ok(depths)
+}
+
+/// Lists the node of the empty path, unless its residual is FALSE, and gives its depth.
+fn list_root<S: Pairs>(alloc: Global, space: &mut S) -> Result<Numbers32, SearchFault>
+    requires { S.kept space.old ≡ [] }
+    ensures task { S.task space.new ≡ S.task space.old }
+    ensures problem { S.problem space.new ≡ S.problem space.old }
+    ensures root { OnOk result (ListsRoot (S.problem space.old) (S.kept space.new)) }
+    ensures depths { IfOk result (λ depths. depths ≡ depths_of (S.kept space.new)) }
+    ensures short { OnOk result (AreShort (S.kept space.new)) }
+    ensures fault { IfErr result (IsRootCause (S.problem space.old)) }
+    ensures named { IfErr result (FaultIsNamed (S.task space.old)) }
+{
+    match space.root() {
+        Ok(Arrival::Fresh(_)) => Ok(root_depth(alloc)?),
+        Ok(Arrival::Pruned) => Ok(Numbers32::new(alloc)),
+        Ok(Arrival::Seen(_)) => unreachable!(),
+        Err(SpaceFault::RangeHere(note)) => {
+            let path = Actions::new(alloc);
+            Err(SearchFault::Range { path, note })
+        }
+        Err(SpaceFault::RangeAfter(_)) => unreachable!(),
+        Err(SpaceFault::NoMemory) => Err(SearchFault::NoMemory),
+    }
+}
+
 impl Checking {
-    ghost use Rattle.tl_cert.specs.Checking.{IsReady, IsRootCause};
-    ghost use Rattle.tl_cert.specs.Links.{ListsRoot};
+    ghost use Rattle.tl_cert.specs.Checking.{IsReady};
 
     /// Lists the node of the empty path, unless its residual is FALSE.
     pub(crate) fn begin<S: Pairs>(
@@ -39,18 +73,12 @@ impl Checking {
         ensures fault { IfErr result (IsRootCause (S.problem space.old)) }
         ensures named { IfErr result (FaultIsNamed (S.task space.old)) }
     {
-        let mut depths = Numbers32::new(alloc);
-        match space.root() {
-            Ok(Arrival::Fresh(_)) => depths.push(0)?,
-            Ok(Arrival::Pruned) => {}
-            Ok(Arrival::Seen(_)) => unreachable!(),
-            Err(SpaceFault::RangeHere(note)) => {
-                let path = Actions::new(alloc);
-                return Err(SearchFault::Range { path, note });
-            }
-            Err(SpaceFault::RangeAfter(_)) => unreachable!(),
-            Err(SpaceFault::NoMemory) => return Err(SearchFault::NoMemory),
-        }
-        Ok(Checking { alloc, bound, depths, known: None })
+        let depths = list_root(alloc, space)?;
+        Ok(Checking {
+            alloc,
+            bound,
+            depths,
+            known: None,
+        })
     }
 }
