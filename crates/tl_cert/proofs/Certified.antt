@@ -5,7 +5,7 @@ use Rattle.tl_syntax.specs.declared.action.Action.{Action}
 use Rattle.tl_syntax.specs.Lists.{Among, One}
 use Rattle.tl_syntax.specs.Trees.{falsum}
 use Rattle.tl_terms.specs.Acceptance.{IsAccepted}
-use Rattle.tl_terms.specs.Pairs.{Pair, pair_of, IsPairAccepted}
+use Rattle.tl_terms.specs.Pairs.{Pair, pair_of}
 use Rattle.tl_terms.specs.Problem.{PlainProblem}
 use Rattle.tl_search.specs.KeptPairs.{KeptPair}
 use Rattle.tl_search.specs.PairGraph.{next_pair}
@@ -19,7 +19,7 @@ use Rattle.tl_search.proofs.ListLaws.{get-old, get-new, get-one, get-either, get
 use Rattle.tl_search.proofs.PathLaws.{pair-onward, walk-pair, walk-open, walk-accepted}
 use Rattle.tl_search.proofs.WalkLaws.{length-snoc}
 use Rattle.tl_cert.specs.Covers.{Covers, IsListedNear, IsNoFarther, IsRight, MustBeClosed, StaysInside}
-use Rattle.tl_cert.specs.Links.{AreGood, IsGood, IsWithin, Lists, ListsRoot}
+use Rattle.tl_cert.specs.Links.{AreGood, IsWithin, Lists}
 use Rattle.tl_cert.specs.Reports.{bound_of, links_of, IsNoneReport, IsOf, IsRightNone, IsSmall}
 use Rattle.tl_cert.specs.declared.proof.Link.{Link}
 use Rattle.tl_cert.specs.declared.proof.Proof.{Proof}

@@ -1,5 +1,5 @@
 -- Where a proof covers the search space, each walk leads to a listed node, so none leads to an accepted one.
-use Rattle.std.proofs.Common.{◌≡◌, ◌≢◌, ◌≤◌, ◌<◌, ◌+◌, ◌⊎◌, ℕ, suc, List, [], ◌∷◌, ◌++◌, length, slice_get, Option, Some, None, refl, sym, ap, ◌∙◌, subst, inl, inr, arith}
+use Rattle.std.proofs.Common.{◌≡◌, ◌≢◌, ◌≤◌, ◌⊎◌, ℕ, List, [], ◌∷◌, ◌++◌, length, slice_get, Option, Some, None, refl, sym, ap, ◌∙◌, subst, inl, inr, arith}
 use Rattle.tl_syntax.specs.declared.action.Action.{Action}
 use Rattle.tl_syntax.specs.Trees.{falsum}
 use Rattle.tl_terms.specs.Acceptance.{IsAccepted}
@@ -7,11 +7,11 @@ use Rattle.tl_terms.specs.Pairs.{Pair, IsPairAccepted}
 use Rattle.tl_terms.specs.Problem.{PlainProblem}
 use Rattle.tl_search.specs.Graphs.{walk, walk_from}
 use Rattle.tl_search.specs.KeptPairs.{KeptPair}
-use Rattle.tl_search.specs.PairGraph.{next_pair, unless_pruned, pair_graph}
+use Rattle.tl_search.specs.PairGraph.{next_pair, pair_graph}
 use Rattle.tl_search.proofs.PathLaws.{unless-pruned, walk-accepted}
 use Rattle.tl_search.proofs.WalkLaws.{by_last, length-snoc, walk-back}
-use Rattle.tl_cert.specs.Covers.{Covers, HasNone, IsListedNear, IsNoFarther, IsRight, MustBeClosed, StaysInside}
-use Rattle.tl_cert.specs.Links.{IsWithin, Lists}
+use Rattle.tl_cert.specs.Covers.{Covers, HasNone, IsListedNear, IsNoFarther, IsRight, MustBeClosed}
+use Rattle.tl_cert.specs.Links.{IsWithin}
 use Rattle.tl_cert.specs.declared.proof.Proof.{Proof}
 use Rattle.tl_cert.proofs.GoodLinks.{root-listed}
 

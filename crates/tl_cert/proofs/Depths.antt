@@ -1,11 +1,9 @@
 -- How many actions the paths of listed nodes have, against the bound.
-use Rattle.std.proofs.Common.{◌≡◌, ◌≤◌, ◌<◌, ◌+◌, ℕ, zero, suc, List, [], ◌∷◌, ◌++◌, length, map, slice_get, slice_index, Bool, true, false, true≢false, Option, Some, None, refl, sym, ap, ◌∙◌, subst, arith, leb-true, leb-false, ltb-true, ltb-false}
-use Rattle.std.specs.Prelude.{nat_lt, nat_le}
+use Rattle.std.proofs.Common.{◌≡◌, ◌<◌, ◌+◌, ℕ, zero, suc, List, [], ◌∷◌, ◌++◌, length, slice_get, slice_index, true, false, true≢false, Option, Some, None, refl, sym, ap, ◌∙◌, arith, leb-true, leb-false, ltb-true, ltb-false}
 use Rattle.std.specs.Option.{option_map}
-use Rattle.std.proofs.lemmas.Option.{slice_get-map, get_or_from_slice_get}
+use Rattle.std.proofs.lemmas.Option.{slice_get-map, slice_get_within, get_or_from_slice_get}
 use Rattle.tl_syntax.specs.declared.action.Action.{Action}
 use Rattle.tl_search.specs.KeptPairs.{KeptPair}
-use Rattle.tl_search.proofs.ListLaws.{get-either}
 use Rattle.tl_search.proofs.WalkLaws.{length-snoc}
 use Rattle.tl_cert.specs.Checking.{depths_of, goes_on, is_no_farther}
 use Rattle.tl_cert.specs.Covers.{IsNoFarther, MustBeClosed}
@@ -55,3 +53,16 @@ near-test (Some n) path other t = leb-true (length other) (length path + 1) t
 pub far-test : (bound : Option ℕ) (path other : List Action) → is_no_farther bound (length path) (length other) ≡ false → IsNoFarther bound path other → ⊥
 far-test None path other t h = true≢false t
 far-test (Some n) path other t h = let b : ⊥ = omega (arith, leb-false (length other) (length path + 1) t) in b
+
+-- ---- by the number of a node
+
+-- its depth, where it is listed
+pub depth-at : (depths : List ℕ) (kept : List KeptPair) (at d : ℕ) → depths ≡ depths_of kept → Some d ≡ slice_get depths at → slice_get (depths_of kept) at ≡ Some d
+depth-at depths kept at d e f = ap (λ ds. slice_get ds at) (sym e) ∙ sym f
+
+-- it is listed, where it has a depth
+pub there : (depths : List ℕ) (kept : List KeptPair) (at d : ℕ) → depths ≡ depths_of kept → Some d ≡ slice_get depths at → at < length kept
+there depths kept at d e f = let x = depth-some kept at d (depth-at depths kept at d e f) in slice_get_within kept at x.0 x.1
+
+pub asked-at : (bound : Option ℕ) (depths : List ℕ) (kept : List KeptPair) (at : ℕ) (x : KeptPair) → depths ≡ depths_of kept → slice_get kept at ≡ Some x → goes_on bound (slice_index depths at) ≡ true → MustBeClosed bound x.path
+asked-at bound depths kept at x e s t = goes-asked bound (slice_index depths at) x.path (sym (ap (λ ds. slice_index ds at) e ∙ get_or_from_slice_get (depths_of kept) at (length x.path) 0 (depth-kept kept at x s))) t

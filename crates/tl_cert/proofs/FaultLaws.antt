@@ -1,5 +1,5 @@
 -- What a part of the check of a proof looks at is the cause of a fault past range.
-use Rattle.std.proofs.Common.{◌≡◌, ◌⊎◌, ◌∷◌, ◌++◌, ℕ, List, [], Option, Some, IsSome, is_some, take, slice_get, refl, sym, ap, ◌∙◌, subst, inl, inr}
+use Rattle.std.proofs.Common.{◌≡◌, ◌∷◌, ◌++◌, ℕ, List, [], Option, Some, IsSome, is_some, take, slice_get, Result, Ok, Err, OnErr, refl, sym, ap, ◌∙◌, subst, inl, inr}
 use Rattle.std.specs.Option.{option_map}
 use Rattle.tl_syntax.specs.declared.action.Action.{Action}
 use Rattle.tl_terms.specs.Acceptance.{states_from, states}
@@ -11,13 +11,13 @@ use Rattle.tl_terms.specs.World.{World}
 use Rattle.tl_eval.specs.Notes.{Tells, operation_of}
 use Rattle.tl_eval.specs.declared.range.RangeNote.{RangeNote}
 use Rattle.tl_search.specs.KeptPairs.{KeptPair}
-use Rattle.tl_search.specs.PairGraph.{pair_in, next_pair}
+use Rattle.tl_search.specs.PairGraph.{pair_in}
 use Rattle.tl_search.specs.declared.fault.SearchFault.{SearchFault}
 use Rattle.tl_search.specs.declared.fault.SearchFault.TheVariants as fault
 use Rattle.tl_search.proofs.PathLaws.{pair-onward}
 use Rattle.tl_search.proofs.RangeLaws.{has-states}
-use Rattle.tl_cert.specs.Causes.{HasLink, IsAsked, IsListed, IsNoneCause, IsNoneFaultOf, IsVisited}
-use Rattle.tl_cert.specs.Checking.{IsActingCause, IsAt, IsIdlingCause, IsJudgingCause, IsListingCause, IsProgressingCause, IsRootCause, IsTurnCause, IsVisitCause}
+use Rattle.tl_cert.specs.Causes.{IsListed, IsNoneCause, IsNoneFaultOf, IsVisited}
+use Rattle.tl_cert.specs.Checking.{IsActingCause, IsAt, IsIdlingCause, IsJudgingCause, IsProgressingCause, IsRootCause, IsTurnCause, IsVisitCause}
 use Rattle.tl_cert.specs.Links.{Lists}
 use Rattle.tl_cert.specs.declared.proof.Link.{Link}
 use Rattle.tl_cert.proofs.GoodLinks.{lists-end}
@@ -85,3 +85,14 @@ module _ (p : PlainProblem) (bound : Option ℕ) (links : List Link) where
 pub after-cause : (p : PlainProblem) (x : KeptPair) (a : Action) (note : RangeNote) (f : SearchFault) → IsAt (x.path ++ a ∷ []) note f → (w : World) × (step p x.node.world a ≡ Some w) × Tells (looked_by_progressing p w x.node.formula) note → IsVisitCause p a x f
 after-cause p x a note (fault.Range path o) h c = inr (h.0, (c.0, c.1, subst (Tells (looked_by_progressing p c.0 x.node.formula)) (sym h.1) c.2))
 after-cause p x a note fault.NoMemory h c = tt
+
+-- a visited action is one of all actions
+pub visit-turn : (p : PlainProblem) (x : KeptPair) (a : Action) (f : SearchFault) → IsVisitCause p a x f → IsTurnCause p x f
+visit-turn p x a (fault.Range path note) (inl h) = inl h
+visit-turn p x a (fault.Range path note) (inr h) = inr (a, h)
+visit-turn p x a fault.NoMemory h = tt
+
+-- at each exit with a fault
+pub err-anyway : {A E : Type 0} (X : Type 0) (r : Result A E) → X → OnErr r X
+err-anyway X (Ok a) x = tt
+err-anyway X (Err e) x = x

@@ -1,12 +1,12 @@
 -- What the links of a proof list: one list of nodes, each at the end of its path.
-use Rattle.std.proofs.Common.{◌≡◌, ◌≢◌, ◌≤◌, ◌<◌, ◌+◌, ◌⊎◌, ℕ, zero, suc, List, [], ◌∷◌, ◌++◌, length, take, slice_get, Option, Some, None, refl, sym, ap, ap₂, ◌∙◌, subst, inl, inr, arith}
+use Rattle.std.proofs.Common.{◌≡◌, ◌≢◌, ◌≤◌, ◌<◌, ◌⊎◌, ℕ, zero, suc, List, [], ◌∷◌, ◌++◌, length, take, slice_get, Option, Some, refl, sym, ap, ap₂, ◌∙◌, subst, inl, inr, arith}
 use Rattle.std.proofs.lemmas.Option.{slice_get_within}
 use Rattle.tl_syntax.specs.declared.action.Action.{Action}
 use Rattle.tl_syntax.specs.Trees.{falsum}
 use Rattle.tl_terms.specs.Pairs.{Pair, pair_of}
 use Rattle.tl_terms.specs.Problem.{PlainProblem}
 use Rattle.tl_search.specs.KeptPairs.{KeptPair}
-use Rattle.tl_search.specs.PairGraph.{next_pair, unless_pruned, pair_graph}
+use Rattle.tl_search.specs.PairGraph.{next_pair, pair_graph}
 use Rattle.tl_search.proofs.ListLaws.{get-old, get-one, get-single, get-either}
 use Rattle.tl_search.proofs.PathLaws.{pair-onward, unless-pruned}
 use Rattle.tl_search.proofs.WalkLaws.{length-snoc}
@@ -111,11 +111,11 @@ module _ (p : PlainProblem) (bound : Option ℕ) where
   short-more listed link next g h i x e = elim (get-either listed next i x e) [
     | inl k ↦ h i x k
     | inr k ↦ (
-      let q : length next.path ≡ suc (length g.from.path) = ap length g.path ∙ length-snoc g.from.path link.action in
-      let r : length g.from.path ≤ link.from = h link.from g.from g.is_from in
-      let s : link.from < length listed = slice_get_within listed link.from g.from g.is_from in
-      let t : length x.path ≡ length next.path = ap (λ (z : KeptPair). length z.path) (sym k.1) in
-      omega (arith, q, r, s, t, k.0))
+        let q : length next.path ≡ suc (length g.from.path) = ap length g.path ∙ length-snoc g.from.path link.action in
+        let r : length g.from.path ≤ link.from = h link.from g.from g.is_from in
+        let s : link.from < length listed = slice_get_within listed link.from g.from g.is_from in
+        let t : length x.path ≡ length next.path = ap (λ (z : KeptPair). length z.path) (sym k.1) in
+        omega (arith, q, r, s, t, k.0))
   ]
 
   -- ---- the root

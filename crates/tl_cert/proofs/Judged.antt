@@ -1,35 +1,41 @@
 -- What the parts of the check of a proof answer.
-use Rattle.std.proofs.Common.{◌≡◌, ◌≢◌, ◌≤◌, ◌<◌, ◌+◌, ◌⊎◌, ◌↔◌, ℕ, suc, List, [], ◌∷◌, ◌++◌, length, take, drop, slice_get, slice_index, Bool, true, false, Option, Some, None, IsTrue, is_some, Ordering, Less, Equal, Greater, refl, sym, ap, ◌∙◌, subst, inl, inr, arith}
+use Rattle.std.proofs.Common.{◌≡◌, ◌≤◌, ◌<◌, ◌+◌, ◌^◌, ◌⊎◌, ℕ, suc, List, [], ◌∷◌, ◌++◌, length, take, drop, slice_get, slice_index, Bool, true, false, Option, Some, None, is_some, Less, Equal, Greater, refl, sym, ap, ◌∙◌, subst, inl, inr, arith}
 use Rattle.std.specs.Option.{option_map}
 use Rattle.std.specs.Ordering.{ordering_reverse}
 use Rattle.std.specs.Cmp.{tied_itself}
 use Rattle.std.proofs.lemmas.Option.{slice_get_within, get_or_from_slice_get}
 use Rattle.tl_syntax.specs.declared.action.Action.{Action}
-use Rattle.tl_syntax.specs.Lists.{Among, Each, Rises}
+use Rattle.tl_syntax.specs.Lists.{Among, Rises}
 use Rattle.tl_syntax.specs.Trees.{falsum}
 use Rattle.tl_syntax.proofs.ListLaws.{Each-Among, One-append}
 use Rattle.tl_terms.specs.Orders.{action_cmp}
-use Rattle.tl_terms.specs.Pairs.{Pair, pair_of, IsPairAccepted}
+use Rattle.tl_terms.specs.Pairs.{Pair, pair_of}
 use Rattle.tl_terms.specs.Problem.{PlainProblem}
 use Rattle.tl_terms.specs.Step.{step}
 use Rattle.tl_terms.specs.World.{World}
 use Rattle.tl_terms.proofs.OrderLaws.{actions-total}
 use Rattle.tl_search.specs.Arrivals.{Arrives}
-use Rattle.tl_search.specs.Calls.{ForPair, IsExecutableAt, ListsActionsAt}
+use Rattle.tl_search.specs.Calls.{ChildArrives, ForPair, IsExecutableAt, ListsActionsAt}
 use Rattle.tl_search.specs.Kept.{AreKept}
 use Rattle.tl_search.specs.KeptPairs.{KeptPair}
 use Rattle.tl_search.specs.ListedActions.{ListsActions}
 use Rattle.tl_search.specs.PairGraph.{pair_in, next_pair, pair_graph}
+use Rattle.tl_search.specs.declared.arrival.Arrival.{Arrival}
 use Rattle.tl_search.specs.declared.arrival.Arrival.TheVariants as arrival
 use Rattle.tl_search.proofs.EventLaws.{last-differs}
-use Rattle.tl_search.proofs.ListLaws.{get-one, get-either, get-single, rises-behind, take-next, split-at, among-new, among-at}
+use Rattle.tl_search.proofs.ListLaws.{get-old, get-one, get-inside, get-single, rises-behind, take-next, split-at, among-new}
 use Rattle.tl_search.proofs.PathLaws.{walk-pair}
-use Rattle.tl_cert.specs.Checking.{AreShort, depths_of, goes_on, is_no_farther, ListsLink, TellsInside, TellsClosed}
+use Rattle.tl_search.proofs.WalkLaws.{length-snoc}
+use Rattle.tl_world.specs.declared.task.Task.{Task}
+use Rattle.tl_cert.specs.Checking.{AreShort, depths_of, goes_on, is_no_farther, IsKnown, IsReady, ListsLink, TellsInside, TellsClosed}
 use Rattle.tl_cert.specs.Covers.{IsListedNear, IsNoFarther, StaysInside}
 use Rattle.tl_cert.specs.Links.{IsGood, IsWithin, ListsRoot}
-use Rattle.tl_cert.specs.Verdicts.{IsFirstOut, LeadsOut}
+use Rattle.tl_cert.specs.Verdicts.{LeadsOut}
+use Rattle.tl_cert.specs.declared.checking.Checking.{Checking}
+use Rattle.tl_cert.specs.declared.known.Known.{Known}
 use Rattle.tl_cert.specs.declared.proof.Link.{Link}
-use Rattle.tl_cert.proofs.Depths.{depth-kept, depth-some, depth-none, goes-within, stops-within, near-test, far-test}
+use Rattle.tl_cert.proofs.Depths.{depth-kept, depth-some, depths-more, goes-within, stops-within, near-test, far-test}
+use Rattle.tl_cert.proofs.GoodLinks.{short-more}
 
 -- an action that leads to a pair has a step
 pub next-steps : (p : PlainProblem) (x : Pair) (a : Action) (y : Pair) → next_pair p x a ≡ Some y → is_some (step p x.world a) ≡ true
@@ -173,3 +179,58 @@ root-pruned p old new e h =
       ap depths_of none,
       λ i x s. (let d : slice_get [] i ≡ Some x = subst (λ zs. slice_get zs i ≡ Some x) none s in let b : ⊥ = cc in absurd b),
     )
+
+-- ---- over what a call before left the same
+
+pub tells-over : (p q : PlainProblem) (bound : Option ℕ) (old kept : List KeptPair) (at : ℕ) (a : Action) (b c : Bool) → q ≡ p → kept ≡ old → b ≡ c → TellsInside q bound kept at a b → TellsInside p bound old at a c
+tells-over p q bound old kept at a b c e f g h = subst (λ r. TellsInside r bound old at a c) e (subst (λ zs. TellsInside q bound zs at a c) f (subst (TellsInside q bound kept at a) g h))
+
+pub arrives-over : (p q : PlainProblem) (old kept new : List KeptPair) (at : ℕ) (a : Action) (r : Arrival) → q ≡ p → kept ≡ old → ChildArrives q kept new at a r → ChildArrives p old new at a r
+arrives-over p q old kept new at a r e f h = subst (λ s. ChildArrives s old new at a r) e (subst (λ zs. ChildArrives q zs new at a r) f h)
+
+-- what is known of a node stays so where a node is added
+pub known-more : (task : Task) (p : PlainProblem) (old new : List KeptPair) (x : KeptPair) (known : Option Known) → new ≡ old ++ x ∷ [] → IsKnown task p old known → IsKnown task p new known
+known-more task p old new x None e h = tt
+known-more task p old new x (Some known) e h = record {
+  inside = omega (arith, h.inside, ap length e, length-snoc old x);
+  actions = λ y s. (
+      let z = get-inside old known.at h.inside in
+      let t : slice_get new known.at ≡ Some z.0 = subst (λ zs. slice_get zs known.at ≡ Some z.0) (sym e) (get-old old (x ∷ []) known.at z.0 z.1) in
+      subst (λ (w : KeptPair). ListsActions p w.node.world known.actions) (get-one new known.at z.0 y t s) (h.actions z.0 z.1));
+  named = h.named;
+}
+
+-- a good link leaves what is known right
+pub ready-more : (task : Task) (p : PlainProblem) (bound : Option ℕ) (old new : List KeptPair) (link : Link) (d : ℕ) (c : Checking) → slice_get (depths_of old) link.from ≡ Some d → AreShort old → IsKnown task p old c.known → c.depths ≡ depths_of old ++ (d + 1) ∷ [] → ListsLink p bound old new link true → IsReady task p new c
+ready-more task p bound old new link d c at short known depths h = record {
+  depths = depths ∙ (ap (λ n. depths_of old ++ n ∷ []) (sym long) ∙ (sym (depths-more old h.0) ∙ ap depths_of (sym h.2)));
+  short = subst AreShort (sym h.2) (short-more p bound old link h.0 h.1 short);
+  known = known-more task p old new h.0 c.known h.2 known;
+}
+  where
+    from' : (x : KeptPair) × (slice_get old link.from ≡ Some x) × (length x.path ≡ d)
+    from' = depth-some old link.from d at
+
+    long : length h.0.path ≡ d + 1
+    long =
+        let q : length h.0.path ≡ suc (length h.1.from.path) = ap length h.1.path ∙ length-snoc h.1.from.path link.action in
+        let s : length h.1.from.path ≡ d = ap (λ (z : KeptPair). length z.path) (get-one old link.from h.1.from from'.0 h.1.is_from from'.1) ∙ from'.2 in
+        omega (arith, q, s)
+
+-- the depth of a node has 32 bits where its number and those of all nodes have
+pub depth-small : (old : List KeptPair) (at d : ℕ) → slice_get (depths_of old) at ≡ Some d → AreShort old → length old < 2 ^ 32 → d + 1 < 2 ^ 32
+depth-small old at d e short few =
+    let x = depth-some old at d e in
+    let l : at < length old = slice_get_within old at x.0 x.1 in
+    let m : length x.0.path ≤ at = short at x.0 x.1 in
+    omega (arith, l, m, x.2, few)
+
+pub links-over : (p q : PlainProblem) (bound other : Option ℕ) (old new : List KeptPair) (link : Link) (b c : Bool) → q ≡ p → other ≡ bound → b ≡ c → ListsLink q other old new link b → ListsLink p bound old new link c
+links-over p q bound other old new link b c e f g h = subst (λ r. ListsLink r bound old new link c) e (subst (λ o. ListsLink q o old new link c) f (subst (ListsLink q other old new link) g h))
+
+pub closed-over : (p q : PlainProblem) (bound : Option ℕ) (old kept : List KeptPair) (at : ℕ) (o : Option Action) → q ≡ p → kept ≡ old → TellsClosed q bound kept at o → TellsClosed p bound old at o
+closed-over p q bound old kept at o e f h = subst (λ r. TellsClosed r bound old at o) e (subst (λ zs. TellsClosed q bound zs at o) f h)
+
+-- one more node is listed
+pub link-length : (p : PlainProblem) (bound : Option ℕ) (old new : List KeptPair) (link : Link) → ListsLink p bound old new link true → length new ≡ length old + 1
+link-length p bound old new link h = let e = ap length h.2 in omega (arith, e, length-snoc old h.0)

@@ -4,6 +4,7 @@ pub mod OneVerdict
 pub mod Depths
 pub mod Judged
 pub mod FaultLaws
+pub mod Nodes
 pub mod Certified
 pub mod Rulesets
 pub mod ProofForms

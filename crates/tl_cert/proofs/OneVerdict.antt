@@ -1,18 +1,17 @@
 -- Two verdicts that are right of one proof are the same.
-use Rattle.std.proofs.Common.{◌≡◌, ◌≢◌, ◌<◌, ◌+◌, ◌⊎◌, ℕ, List, take, slice_get, Option, Some, Ordering, Less, Equal, Greater, refl, sym, ap, ap₂, ◌∙◌, subst, inl, inr, arith}
+use Rattle.std.proofs.Common.{◌≡◌, ◌<◌, ℕ, List, take, slice_get, Option, Some, Ordering, Less, Equal, Greater, refl, sym, ap, ap₂, ◌∙◌, subst, inl, inr, arith}
 use native.Mathlib.Decide.{dec_lt}
 use Rattle.std.specs.Ordering.{ordering_reverse}
 use Rattle.tl_syntax.specs.declared.action.Action.{Action}
-use Rattle.tl_syntax.specs.Trees.{falsum}
 use Rattle.tl_terms.specs.Orders.{action_cmp}
 use Rattle.tl_terms.specs.Pairs.{IsPairAccepted}
 use Rattle.tl_terms.specs.Problem.{PlainProblem}
 use Rattle.tl_terms.proofs.OrderLaws.{actions-total}
 use Rattle.tl_search.specs.KeptPairs.{KeptPair}
 use Rattle.tl_search.proofs.ListLaws.{get-one}
-use Rattle.tl_cert.specs.Covers.{Covers, IsListedNear, IsRight, StaysInside}
+use Rattle.tl_cert.specs.Covers.{IsRight, StaysInside}
 use Rattle.tl_cert.specs.Links.{IsGood, Lists}
-use Rattle.tl_cert.specs.Verdicts.{IsFirstBad, ComesTo, IsFirstAccepted, LeadsOut, IsFirstOut, IsOpenBy, IsFirstOpen, IsNoneVerdict}
+use Rattle.tl_cert.specs.Verdicts.{IsFirstBad, ComesTo, IsFirstAccepted, LeadsOut, IsFirstOpen, IsNoneVerdict}
 use Rattle.tl_cert.specs.declared.proof.Link.{Link}
 use Rattle.tl_cert.specs.declared.proof.Proof.{Proof}
 use Rattle.tl_cert.specs.declared.verdict.NoneVerdict.{NoneVerdict}

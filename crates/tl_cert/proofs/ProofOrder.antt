@@ -1,12 +1,12 @@
 -- The order of what the forms of a proof file break.
-use Rattle.std.proofs.Common.{◌≡◌, ◌≤◌, ◌<◌, ℕ, ◌+◌, ◌*◌, List, [], ◌∷◌, ◌++◌, true, arith, Option, Some, None, refl, sym, subst}
+use Rattle.std.proofs.Common.{◌≡◌, ◌≤◌, ◌<◌, ℕ, ◌+◌, ◌*◌, List, [], ◌∷◌, ◌++◌, true, arith, Option, Some, None, refl, subst}
 use Rattle.std.specs.Prelude.{ℤ, nat_lt, not, Result, Ok, Err, IfErr}
 use Rattle.tl_sexpr.specs.Tree.{FormTree, FormTrees, symbol, integer, list, no_form, more_forms}
 use Rattle.tl_sexpr.specs.Offsets.{RisesFrom, RiseFrom, AreAsRead}
 use Rattle.tl_syntax.specs.declared.operator.Operator.{Operator}
 use Rattle.tl_forms.specs.declared.rule.Rule.TheVariants.{Shape, Limit, NoPair}
 use Rattle.tl_forms.specs.Parts.{offset_of, is_call, is_within}
-use Rattle.tl_forms.specs.Rules.{Break, breaks_if}
+use Rattle.tl_forms.specs.Rules.{breaks_if}
 use Rattle.tl_forms.specs.declared.rule.FormFault.{FormFault}
 use Rattle.tl_forms.specs.declared.rule.FormFault.TheVariants.{Breaks, NoMemory}
 use Rattle.tl_forms.specs.Reads.{Reads, IsLeastFault}
@@ -17,7 +17,7 @@ use Rattle.tl_line.proofs.ActionOrder.{call-order}
 use Rattle.tl_cert.specs.ProofFiles.{head_in, bound_breaks, head_breaks_at, head_breaks, link_in, limit_breaks, link_breaks_at, link_breaks, links_breaks, proof_breaks}
 use Rattle.tl_cert.specs.MeaningOfProofs.{proof_meant}
 use Rattle.tl_cert.specs.declared.proof.Proof.{Proof}
-use Rattle.tl_cert.proofs.ProofForms.{IsLinkOf, link-back, IsHeadOf, head-back}
+use Rattle.tl_cert.proofs.ProofForms.{link-back, head-back}
 
 module _ (names : List (List ℕ)) (operators : List Operator) where
   -- ---- links

@@ -8,3 +8,4 @@ pub mod ProofFiles
 pub mod MeaningOfProofs
 pub mod ProofTexts
 pub mod Laws
+pub mod Examples

@@ -5,8 +5,8 @@ ghost use Rattle.tl_search.specs.NamedAnswers.{FaultIsNamed, IsNamedIn};
 ghost use Rattle.tl_cert.specs.Checking.{IsAt, IsVisitFault};
 
 use std::alloc::Global;
-use tl_search::{Pairs, SearchFault, SpaceFault};
 use tl_eval::RangeNote;
+use tl_search::{Pairs, SearchFault, SpaceFault};
 use tl_terms::{Action, Actions, NoMemory};
 
 /// The fault of an operation past range in the world of a node.

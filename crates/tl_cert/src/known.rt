@@ -32,7 +32,11 @@ fn is_among(a: &Action, actions: &[Action]) -> bool
 }
 
 /// The actions of a node, listed anew.
-pub(crate) fn listed<S: Pairs>(alloc: Global, space: &mut S, at: usize) -> Result<Known, SearchFault>
+pub(crate) fn listed<S: Pairs>(
+    alloc: Global,
+    space: &mut S,
+    at: usize,
+) -> Result<Known, SearchFault>
     requires at { at < length (S.kept space.old) }
     ensures task { S.task space.new ≡ S.task space.old }
     ensures problem { S.problem space.new ≡ S.problem space.old }

@@ -21,9 +21,9 @@ mod reports;
 mod text;
 mod verdict;
 
-pub use reports::certificate;
 pub use check::check_none;
 pub use proof::{Link, Links, Proof};
 pub use read::proof_of;
+pub use reports::certificate;
 pub use text::{none_text, proof_text};
 pub use verdict::NoneVerdict;

@@ -1,5 +1,5 @@
 // The links of a proof are listed, one after another.
-ghost use Rattle.std.specs.Prelude.{◌≡◌, ◌<◌, ◌^◌, true, length, slice_get, IfOk, IfErr};
+ghost use Rattle.std.specs.Prelude.{◌≡◌, ◌<◌, ◌^◌, true, length, slice_get, IfOk, IfErr, OnErr};
 ghost use Rattle.tl_search.specs.NamedAnswers.{FaultIsNamed};
 ghost use Rattle.tl_cert.specs.Causes.{IsNoneFaultOf};
 ghost use Rattle.tl_cert.specs.Checking.{goes_on, IsReady, IsVisitFault, ListsLink, ListsLinks};
@@ -46,6 +46,7 @@ impl Checking {
         ensures listed { IfOk result (ListsLink (S.problem space.old) self.old.bound (S.kept space.old) (S.kept space.new) link.now) }
         ensures ready { IfOk result (λ good. good ≡ true → IsReady (S.task space.old) (S.problem space.old) (S.kept space.new) self.new) }
         ensures fault { IfErr result (IsVisitFault (S.problem space.old) (S.kept space.old) link.now.from link.now.action) }
+        ensures there { OnErr result (link.now.from < length (S.kept space.old)) }
         ensures named { IfErr result (FaultIsNamed (S.task space.old)) }
     {
         let from = link.from as usize;

@@ -1,0 +1,8 @@
+use Rattle.tl_cert.proofs.Judged.{root-fresh, root-pruned}
+use Rattle.tl_cert.proofs.checking.list_root.Goals as goal
+
+pub returns-in_ok-root_depth-in-Ok-Fresh-clause-root : goal.returns-in_ok-root_depth-in-Ok-Fresh-clause-root
+returns-in_ok-root_depth-in-Ok-Fresh-clause-root g c = (root-fresh (g.S.Pairs.problem c.args.space.now) (g.S.Pairs.kept c.args.space.now) (g.S.Pairs.kept c.root.new.self) _ c.requires (rw c.in-Ok-Fresh.field-0-is at c.in-Ok-Fresh.ensures.arrival)).0
+
+pub returns-in-Ok-Pruned-clause-root : goal.returns-in-Ok-Pruned-clause-root
+returns-in-Ok-Pruned-clause-root g c = (root-pruned (g.S.Pairs.problem c.args.space.now) (g.S.Pairs.kept c.args.space.now) (g.S.Pairs.kept c.root.new.self) c.requires (rw c.in-Ok-Pruned.field-0-is at c.in-Ok-Pruned.ensures.arrival)).0
