@@ -40,7 +40,7 @@ fn fault_of(alloc: Global, text: &str, problem: bool) -> Result<Option<FormFault
 }
 
 /// What a row has before its text, and the offset of its mark, as a text.
-fn fault_text(alloc: Global, fault: Option<FormFault>) -> Result<String, Fail> {
+pub(crate) fn fault_text(alloc: Global, fault: Option<FormFault>) -> Result<String, Fail> {
     match fault {
         None => Ok(String::from_str(alloc, "ok at 0")?),
         Some(FormFault::Breaks { broken, at }) => {

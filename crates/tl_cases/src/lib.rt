@@ -18,7 +18,7 @@
 //! - `truth`, `terms`, `tuples`: state formulas, terms and bounds. `actions`, `steps`: the actions of a world, and where they lead. `counts`: counts of steps.
 //! - `outside`, `adapters`: files and answers, in memory and over the machine.
 //! - `progression`: what formulas progress to, and their idling check. `labels`: formulas as texts.
-//! - `spaces`: what arrives at a search space, which pairs are accepted, and paths.
+//! - `spaces`: what arrives at a search space, which pairs are accepted, and paths. `certificates`: proof files, and the verdicts on proofs that there is no plan.
 //! - `runs`: whole runs; in `samples`, those of generated problems. `runs::run` has the one call of `run`, which is costly to prove at each place where it stands.
 #![tactic(auto)]
 
@@ -28,6 +28,8 @@ mod actions;
 mod adapters;
 #[cfg(test)]
 mod answers;
+#[cfg(test)]
+mod certificates;
 #[cfg(test)]
 mod checks;
 #[cfg(test)]
