@@ -236,8 +236,6 @@ const REFUSALS: &str = "
 # the least offset is told
 - | {two} | (on a) | (none) (pair 5 (jump)) | 33 at 13
 - | {two} | (on a) | (none-within x) (pair 5 (jump)) | 10 at 0
-# more links than a file may have
-- | {two} | (on a) | (none) {100001 (pair 0 (press a)) } | 19 at 1900007
 ";
 
 #[test]
