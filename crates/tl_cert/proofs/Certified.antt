@@ -20,6 +20,7 @@ use Rattle.tl_search.proofs.PathLaws.{pair-onward, walk-pair, walk-open, walk-ac
 use Rattle.tl_search.proofs.WalkLaws.{length-snoc}
 use Rattle.tl_cert.specs.Covers.{Covers, IsListedNear, IsNoFarther, IsRight, MustBeClosed, StaysInside}
 use Rattle.tl_cert.specs.Links.{AreGood, IsWithin, Lists}
+use Rattle.tl_cert.specs.LawsReadBack.{StartBefore}
 use Rattle.tl_cert.specs.Reports.{bound_of, links_of, IsNoneReport, IsOf, IsRightNone, IsSmall}
 use Rattle.tl_cert.specs.declared.proof.Link.{Link}
 use Rattle.tl_cert.specs.declared.proof.Proof.{Proof}
@@ -27,6 +28,62 @@ use Rattle.tl_cert.proofs.GoodLinks.{lists-end}
 use Rattle.tl_cert.proofs.Judged.{next-steps}
 
 module _ (p : PlainProblem) where
+  -- ---- the numbers of links
+
+  -- with so many links before, of which each keeps a pair, an event that keeps one starts from a link before it or from the root
+  pub events-start : (old : List KeptPair) (es : List Event) (new : List KeptPair) (before : ℕ) → AreTrueEvents p old es new → length old ≤ before + 1 → StartBefore before (links_of es)
+  events-start old [] new before told few = tt
+  events-start old (event.RootKept ∷ es) new before told few =
+      let t = told.1 in
+      let m : length told.0 ≡ 1 = ap length t.4 in
+      events-start told.0 es new before told.2 (omega (arith, m))
+  events-start old (event.RootPruned ∷ es) new before told few =
+      let t = told.1 in
+      let m : length told.0 ≡ 0 = ap length t.4 in
+      events-start told.0 es new before told.2 (omega (arith, m))
+  events-start old (event.Kept j a k ∷ es) new before told few =
+      let t = told.1 in
+      let here : j < length old = slice_get_within old j t.0 t.2 in
+      let m : length told.0 ≡ suc (length old) = ap length t.7 ∙ length-snoc old (record { node = t.1; path = t.0.path ++ a ∷ [] }) in
+      (omega (arith, here, few), events-start told.0 es new (before + 1) told.2 (omega (arith, m, few)))
+  events-start old (event.Seen j a k ∷ es) new before told few =
+      let t = told.1 in
+      let m : length told.0 ≡ length old = ap length t.5 in
+      events-start told.0 es new before told.2 (omega (arith, m, few))
+  events-start old (event.Pruned j a ∷ es) new before told few =
+      let t = told.1 in
+      let m : length told.0 ≡ length old = ap length t.5 in
+      events-start told.0 es new before told.2 (omega (arith, m, few))
+
+  -- and there are no more of them than kept pairs
+  pub events-few : (old : List KeptPair) (es : List Event) (new : List KeptPair) → AreTrueEvents p old es new → length (links_of es) + length old ≤ length new
+  events-few old [] new told = let m : length old ≡ length new = ap length told in omega (arith, m)
+  events-few old (event.RootKept ∷ es) new told =
+      let t = told.1 in
+      let n : length old ≡ 0 = ap length t.3 in
+      let rest = events-few told.0 es new told.2 in
+      omega (arith, n, rest)
+  events-few old (event.RootPruned ∷ es) new told =
+      let t = told.1 in
+      let n : length old ≡ 0 = ap length t.3 in
+      let rest = events-few told.0 es new told.2 in
+      omega (arith, n, rest)
+  events-few old (event.Kept j a k ∷ es) new told =
+      let t = told.1 in
+      let m : length told.0 ≡ suc (length old) = ap length t.7 ∙ length-snoc old (record { node = t.1; path = t.0.path ++ a ∷ [] }) in
+      let rest = events-few told.0 es new told.2 in
+      omega (arith, m, rest)
+  events-few old (event.Seen j a k ∷ es) new told =
+      let t = told.1 in
+      let m : length told.0 ≡ length old = ap length t.5 in
+      let rest = events-few told.0 es new told.2 in
+      omega (arith, m, rest)
+  events-few old (event.Pruned j a ∷ es) new told =
+      let t = told.1 in
+      let m : length told.0 ≡ length old = ap length t.5 in
+      let rest = events-few told.0 es new told.2 in
+      omega (arith, m, rest)
+
   -- ---- true events
 
   -- kept pairs keep their numbers

@@ -9,3 +9,4 @@ pub mod Certified
 pub mod Rulesets
 pub mod ProofForms
 pub mod ProofOrder
+pub mod ProofReadBack

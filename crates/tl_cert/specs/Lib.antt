@@ -7,5 +7,6 @@ pub mod Reports
 pub mod ProofFiles
 pub mod MeaningOfProofs
 pub mod ProofTexts
+pub mod LawsReadBack
 pub mod Laws
 pub mod Examples

@@ -1,5 +1,6 @@
 // Laws of the definitions, each the contract of a function that does nothing.
 ghost use Rattle.tl_cert.specs.Laws.{CoveredHasNone, OneNoneVerdict};
+ghost use Rattle.tl_cert.specs.LawsReadBack.{ProofsAreReadBack};
 
 /// Where a proof covers the search space, no plan is accepted; with a bound, none of at most so many actions.
 pub fn covered_has_none()
@@ -9,4 +10,9 @@ pub fn covered_has_none()
 /// One verdict is right of a proof.
 pub fn one_none_verdict()
     ensures { OneNoneVerdict }
+{}
+
+/// The lines of a proof that can be written are read as this proof.
+pub fn proofs_are_read_back()
+    ensures { ProofsAreReadBack }
 {}

@@ -1,6 +1,7 @@
 // The proof that a search leaves.
-ghost use Rattle.std.specs.Prelude.{◌≡◌, ◌<◌, ◌^◌, [], ◌∷◌, ◌++◌, length, IfOk, OnOk};
+ghost use Rattle.std.specs.Prelude.{◌≡◌, ◌<◌, ◌≤◌, ◌^◌, [], ◌∷◌, ◌++◌, length, IfOk, OnOk};
 ghost use Rattle.tl_cert.specs.Covers.{Covers};
+ghost use Rattle.tl_cert.specs.LawsReadBack.{StartBefore};
 ghost use Rattle.tl_cert.specs.Reports.{bound_of, links_of, IsNoneReport, IsSmall};
 
 use crate::proof::{Link, Links, Proof};
@@ -47,7 +48,7 @@ fn bound_of(within: u32, outcome: &Outcome) -> Option<u32>
     }
 }
 
-/// The proof that a breadth-first search within so many actions leaves which found that there is no plan: its links are the events that keep a pair, and it has a bound where the search found none within its bound. It covers the search space.
+/// The proof that a breadth-first search within so many actions leaves which found that there is no plan: its links are the events that keep a pair, and it has a bound where the search found none within its bound. It covers the search space; each link starts from the root or from a node of a link before it, and there are no more links than kept pairs.
 /// The report has to have its events, and the space to be the one that was searched. It fails for want of memory alone.
 pub fn certificate<S: Pairs>(
     alloc: Global,
@@ -60,6 +61,8 @@ pub fn certificate<S: Pairs>(
     ensures covers { IfOk result (Covers (S.problem space.now)) }
     ensures bound { IfOk result (λ proof. proof.bound ≡ bound_of within report.now.outcome) }
     ensures links { IfOk result (λ proof. proof.links ≡ links_of report.now.events) }
+    ensures order { IfOk result (λ proof. StartBefore 0 proof.links) }
+    ensures many { IfOk result (λ proof. length proof.links ≤ length (S.kept space.now)) }
 {
     let mut links = Links::new(alloc);
     for event in report.events.as_slice() {

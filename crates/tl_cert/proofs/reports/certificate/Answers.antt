@@ -1,7 +1,9 @@
-use Rattle.std.proofs.Common.{◌≡◌, ◌++◌, ◌∷◌, [], slice_get, Some, refl, sym, ap, ◌∙◌, subst, take_all}
+use Rattle.std.proofs.Common.{◌≡◌, ◌++◌, ◌∷◌, [], List, length, slice_get, Some, refl, sym, ap, ◌∙◌, subst, take_all, arith}
 use Rattle.std.proofs.lemmas.Option.{slice_get_read}
 use Rattle.tl_cert.specs.Reports.{links_of}
-use Rattle.tl_cert.proofs.Certified.{certified, links-more, events-small}
+use Rattle.tl_cert.specs.LawsReadBack.{StartBefore}
+use Rattle.tl_cert.specs.declared.proof.Link.{Link}
+use Rattle.tl_cert.proofs.Certified.{certified, events-few, events-small, events-start, links-more}
 use Rattle.tl_cert.proofs.reports.certificate.Goals as goal
 
 pub add_event-requires : goal.add_event-requires
@@ -22,3 +24,17 @@ returns-clause-covers g c =
     let i = c.loop-event.invariant in
     certified (g.S.Pairs.problem c.args.space.now) c.args.within (g.S.Pairs.kept c.args.space.now) c.args.report.now c.requires.none (record { bound = c.bound_of-bound.result; links = c.loop-event.links }) c.bound_of-bound.ensures
     (i.links ∙ ap links_of (take_all c.loop-event.event-index c.as_slice-event-items.result.now c.loop-event-test.false ∙ i.items))
+
+pub returns-clause-order : goal.returns-clause-order
+returns-clause-order g c =
+    let i = c.loop-event.invariant in
+    let links = i.links ∙ ap links_of (take_all c.loop-event.event-index c.as_slice-event-items.result.now c.loop-event-test.false ∙ i.items) in
+    subst (λ (ls : List Link). StartBefore 0 ls) (sym links) (events-start (g.S.Pairs.problem c.args.space.now) [] c.args.report.now.events (g.S.Pairs.kept c.args.space.now) 0 c.requires.none.told (omega arith))
+
+pub returns-clause-many : goal.returns-clause-many
+returns-clause-many g c =
+    let i = c.loop-event.invariant in
+    let links = i.links ∙ ap links_of (take_all c.loop-event.event-index c.as_slice-event-items.result.now c.loop-event-test.false ∙ i.items) in
+    let few = events-few (g.S.Pairs.problem c.args.space.now) [] c.args.report.now.events (g.S.Pairs.kept c.args.space.now) c.requires.none.told in
+    let m : length c.loop-event.links ≡ length (links_of c.args.report.now.events) = ap length links in
+    omega (arith, m, few)
