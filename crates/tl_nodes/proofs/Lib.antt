@@ -15,3 +15,4 @@ pub mod LeftNumbers
 pub mod JoinedNumbers
 pub mod KeptNumbers
 pub mod FormulaLayers
+pub mod FilledTrees

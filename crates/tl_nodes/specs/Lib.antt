@@ -6,3 +6,5 @@ pub mod Joins
 pub mod Left
 pub mod Numbers
 pub mod Examples
+pub mod Filled
+pub mod FilledOnce

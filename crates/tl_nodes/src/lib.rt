@@ -4,7 +4,7 @@
 //! Contracts see `Nodes` as the list of the trees by number.
 //!
 //! - `node`: one layer of a formula, whose parts are numbers.
-//! - `nodes`: the table, and below it `intern` (a layer gets its number), `flags` (temporal words), `negation`, `join` (simplified conjunction and disjunction) with `left`, `few` and `flatten` (what is left of its parts), and `of_tree` (a whole formula).
+//! - `nodes`: the table, and below it `intern` (a layer gets its number), `flags` (temporal words), `negation`, `join` (simplified conjunction and disjunction) with `left`, `few` and `flatten` (what is left of its parts), `of_tree` (a whole formula), and `filling` with `filled` (trees with values put in, as they were found before).
 #![tactic(auto)]
 
 mod node;

@@ -2,12 +2,16 @@
 ghost use Rattle.std.specs.Prelude.{◌≡◌, ◌↔◌, ◌<◌, [], ◌∷◌, map, true, false, length, IfOk};
 ghost use Rattle.tl_syntax.specs.StateFormulas.{IsState};
 ghost use Rattle.tl_syntax.specs.Trees.{verum, falsum};
+ghost use Rattle.tl_nodes.specs.Filled.{AreFilled};
+ghost use Rattle.tl_nodes.specs.FilledOnce.{filled-prop};
 ghost use Rattle.tl_nodes.specs.Fits.{fits, EachFits, begins_with_constants};
 ghost use Rattle.tl_nodes.specs.NodeTrees.{tree_at, tree_of_node, trees_of_nodes};
 ghost use Rattle.tl_nodes.specs.Numbering.{OneToOne};
 ghost use Rattle.tl_nodes.specs.Temporal.{has_temporal};
 
 mod few;
+mod filled;
+mod filling;
 mod flags;
 mod flatten;
 mod intern;
@@ -17,6 +21,7 @@ mod negation;
 mod of_tree;
 
 use crate::Node;
+use filled::{Filled, PLACES};
 use indexmap::IndexSet;
 use std::alloc::Global;
 use tl_syntax::NoMemory;
@@ -28,10 +33,13 @@ pub struct Nodes {
     pub(crate) alloc: Global,
     pub(crate) table: IndexSet<Node>,
     pub(crate) temporal: Vec<bool>,
+    pub(crate) filled: Vec<Filled>,
     ghost below: { EachFits table.keys },
     ghost one_to_one: { OneToOne (trees_of_nodes table.keys) },
     ghost constants: { begins_with_constants table.keys ≡ true },
     ghost flags: { temporal.items ≡ map has_temporal (trees_of_nodes table.keys) },
+    ghost places: { length filled.items ≡ 1024 },
+    ghost filled_is: { AreFilled (trees_of_nodes table.keys) filled.items } by { filled-prop (trees_of_nodes table.keys) filled.items },
 }
 
 impl Nodes {
@@ -47,10 +55,12 @@ impl Nodes {
         let mut temporal = Vec::new(alloc);
         temporal.push(false)?;
         temporal.push(false)?;
+        let filled = vec![in alloc; Filled::none(); PLACES]?;
         Ok(Nodes {
             alloc,
             table,
             temporal,
+            filled,
         })
     }
 

@@ -20,7 +20,7 @@ ghost use Rattle.tl_terms.specs.Progression.{constant};
 use crate::ProgressFault;
 use crate::idling::sentence_truth;
 use crate::joins::{constant_number, decides, gather, join};
-use crate::order::is_plain;
+use crate::order::is_shallow;
 use crate::parts::{part_at, part_count};
 use crate::progression::temporal_residual;
 use crate::residuals::{Incoming, Residuals};
@@ -59,7 +59,7 @@ fn state_part(
     ensures cause { IfErr result (IsCausedBy (looked_for_residual (plain_problem task.now.problem) w.now (assignment_in env.old) (tree_at (trees nodes.now) part))) }
     ensures frame { env.new ≡ env.old }
 {
-    if is_plain(nodes, part) {
+    if is_shallow(nodes, part) {
         let nothing = IndexMap::new(alloc);
         return truth_of(nodes, task, w, env, &nothing, part);
     }

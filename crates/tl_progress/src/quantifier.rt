@@ -1,5 +1,5 @@
 // A quantifier that stands in a node, and its instances, one after another.
-ghost use Rattle.std.specs.Prelude.{◌≡◌, ◌<◌, ◌≤◌, List, Option, length, None, IsSome, IfSome};
+ghost use Rattle.std.specs.Prelude.{◌≡◌, ◌<◌, ◌≤◌, List, Option, length, None};
 ghost use Rattle.tl_eval.specs.Frames.{assignment_in, AgreeElsewhere, AreKept};
 ghost use Rattle.tl_eval.specs.Reader.{Reads};
 ghost use Rattle.tl_nodes.specs.NodeTrees.{tree_at};
@@ -18,29 +18,6 @@ use tl_eval::{Env, TupleReader};
 use tl_nodes::{Node, Nodes};
 use tl_syntax::{Bound, Junction, Value, Vars};
 use tl_world::{Task, World};
-
-/// The instances of a quantifier, before the first one. They take no memory.
-#[derive(Drop)]
-pub(crate) struct Instances {
-    /// The tuples of the bound.
-    pub tuples: TupleReader,
-    /// What the slots of the variables have before.
-    pub outer: [Option<Value>; 9],
-}
-
-/// The instances of a quantifier of the variables under the frame.
-pub(crate) fn open_instances(task: &Task, env: &Env, vars: &Vars, bound: &Bound) -> Instances
-    requires differ { DifferInSlot vars.now }
-    requires occur { OccurIn vars.now bound.now }
-    requires fits { BoundFits (signature_of task.now.problem.domain) bound.now }
-    ensures reads { Reads vars.now (assignment_in env.now) bound.now result.tuples }
-    ensures before { result.tuples.tuple ≡ None }
-    ensures kept { AreKept vars.now env.now result.outer }
-{
-    let tuples = TupleReader::open(task, env, vars, bound);
-    let outer = env.kept(vars.as_slice());
-    Instances { tuples, outer }
-}
 
 /// Goes on to the next instance: the variables get its values. False: there is none. It takes no memory.
 pub(crate) fn put_instance(
@@ -74,20 +51,33 @@ pub(crate) struct Quantifier {
 }
 
 impl Quantifier {
-    /// Its instances under the frame.
-    pub fn open(self, nodes: &Nodes, task: &Task, env: &Env) -> Option<Instances>
+    /// The tuples of its bound under the frame, before the first one.
+    pub fn open(self, nodes: &Nodes, task: &Task, env: &Env) -> TupleReader
         requires at { self.at < length (trees nodes.now) }
         requires stands { Stands (trees nodes.now) self }
         requires fits { FitsSomewhere (signature_of task.now.problem.domain) (tree_at (trees nodes.now) self.at) }
-        ensures there { IsSome result }
-        ensures reads { IfSome result (λ i. Reads (node_vars (trees nodes.now) self) (assignment_in env.now) (node_bound (trees nodes.now) self) i.tuples) }
-        ensures before { IfSome result (λ i. i.tuples.tuple ≡ None) }
-        ensures kept { IfSome result (λ i. AreKept (node_vars (trees nodes.now) self) env.now i.outer) }
+        ensures reads { Reads (node_vars (trees nodes.now) self) (assignment_in env.now) (node_bound (trees nodes.now) self) result }
+        ensures before { result.tuple ≡ None }
+        ensures few { length (node_vars (trees nodes.now) self) ≤ 9 }
     {
         match nodes.get(self.at) {
-            Node::ForAll(vars, bound, _) => Some(open_instances(task, env, vars, bound)),
-            Node::Exists(vars, bound, _) => Some(open_instances(task, env, vars, bound)),
-            _ => None,
+            Node::ForAll(vars, bound, _) => TupleReader::open(task, env, vars, bound),
+            Node::Exists(vars, bound, _) => TupleReader::open(task, env, vars, bound),
+            _ => unreachable!(),
+        }
+    }
+
+    /// What the slots of its variables have in the frame, for `give_back`.
+    pub fn kept(self, nodes: &Nodes, env: &Env) -> [Option<Value>; 9]
+        requires at { self.at < length (trees nodes.now) }
+        requires stands { Stands (trees nodes.now) self }
+        requires few { length (node_vars (trees nodes.now) self) ≤ 9 }
+        ensures { AreKept (node_vars (trees nodes.now) self) env.now result }
+    {
+        match nodes.get(self.at) {
+            Node::ForAll(vars, _, _) => env.kept(vars.as_slice()),
+            Node::Exists(vars, _, _) => env.kept(vars.as_slice()),
+            _ => unreachable!(),
         }
     }
 

@@ -6,6 +6,7 @@ ghost use Rattle.tl_nodes.specs.NodeTrees.{tree_at};
 ghost use Rattle.tl_nodes.specs.Numbering.{Keeps};
 ghost use Rattle.tl_nodes.specs.Numbers.{trees, Denotes};
 ghost use Rattle.tl_progress.specs.Steps.{step_node, steps_left};
+ghost use Rattle.tl_syntax.specs.Bindings.{assignment_of};
 ghost use Rattle.tl_syntax.specs.declared.junction.Junction.TheVariants.{All, Any};
 ghost use Rattle.tl_syntax.specs.Substitution.{substituted};
 
@@ -15,9 +16,25 @@ use crate::substitution::put_in;
 use std::alloc::Global;
 use tl_eval::Env;
 use tl_nodes::{Node, Nodes};
-use tl_syntax::{Junction, NoMemory};
+use tl_syntax::{Binding, Junction, NoMemory};
 
-/// The number of the tree with the frame's values put in.
+// The number of the tree with the values put in, which is remembered then.
+fn put_in_anew(
+    alloc: Global,
+    nodes: &mut Nodes,
+    bindings: &[Binding],
+    at: usize,
+) -> Result<usize, NoMemory>
+    requires { at < length (trees nodes.old) }
+    ensures kept { Keeps (trees nodes.old) (trees nodes.new) }
+    ensures number { IfOk result (λ i. Denotes nodes.new i (substituted (assignment_of bindings.now) (tree_at (trees nodes.old) at))) }
+{
+    let number = put_in(alloc, nodes, bindings, at)?;
+    nodes.keep_filled(at, bindings, number);
+    Ok(number)
+}
+
+/// The number of the tree with the frame's values put in. It is made once, where it is remembered still.
 pub(crate) fn remaining(
     alloc: Global,
     nodes: &mut Nodes,
@@ -32,7 +49,11 @@ pub(crate) fn remaining(
     if bindings.is_empty() {
         return Ok(at);
     }
-    put_in(alloc, nodes, bindings.as_slice(), at)
+    let values = bindings.as_slice();
+    match nodes.find_filled(at, values) {
+        Some(number) => Ok(number),
+        None => put_in_anew(alloc, nodes, values, at),
+    }
 }
 
 /// The number of the join of a part and of what remains of a tree. Where the part decides, nothing is put in.

@@ -19,7 +19,7 @@ use crate::ProgressFault;
 use crate::joins::{constant_number, decides, gather, join};
 use crate::known::Known;
 use crate::parts::{part_at, part_count};
-use crate::quantifier::{Instances, Quantifier};
+use crate::quantifier::Quantifier;
 use crate::remaining::{remaining, until_remaining, with_fewer_steps, with_remaining};
 use crate::truth::truth_of;
 use indexmap::IndexMap;
@@ -233,9 +233,19 @@ fn quantifier_residual(
     ensures cause { IfErr result (IsCausedBy (looked_for_residual (plain_problem task.now.problem) w.now (assignment_in env.old) (tree_at (trees nodes.old) quantifier.at))) }
     ensures frame { env.new ≡ env.old }
 {
-    let Instances { tuples, outer } = quantifier.open(nodes, task, env).unwrap();
+    let mut tuples = quantifier.open(nodes, task, env);
+    let outer = quantifier.kept(nodes, env);
     let known = Known::new(alloc);
-    let answer = instances_residual(alloc, nodes, task, w, env, &known, quantifier, tuples);
+    let answer = instances_residual(
+        alloc,
+        nodes,
+        task,
+        w,
+        env,
+        &known,
+        quantifier,
+        &mut tuples,
+    );
     quantifier.give_back(nodes, env, &outer);
     answer
 }
@@ -250,22 +260,22 @@ fn instances_residual(
     env: &mut Env,
     known: &Known,
     quantifier: Quantifier,
-    mut tuples: TupleReader,
+    tuples: &mut TupleReader,
 ) -> Result<usize, ProgressFault>
     requires at { quantifier.at < length (trees nodes.old) }
     requires part { quantifier.part < length (trees nodes.old) }
     requires stands { Stands (trees nodes.old) quantifier }
     requires fits { FitsSomewhere (signature_of task.now.problem.domain) (tree_at (trees nodes.old) quantifier.at) }
     requires known { IsRight (plain_problem task.now.problem) w.now (trees nodes.old) known.now }
-    requires reads { Reads (node_vars (trees nodes.old) quantifier) (assignment_in env.old) (node_bound (trees nodes.old) quantifier) tuples }
-    requires before { tuples.tuple ≡ None }
+    requires reads { Reads (node_vars (trees nodes.old) quantifier) (assignment_in env.old) (node_bound (trees nodes.old) quantifier) tuples.old }
+    requires before { tuples.old.tuple ≡ None }
     ensures kept { Keeps (trees nodes.old) (trees nodes.new) }
     ensures number { IfOk result (λ i. Denotes nodes.new i (residual (plain_problem task.now.problem) w.now (assignment_in env.old) (tree_at (trees nodes.old) quantifier.at))) }
     ensures cause { IfErr result (IsCausedBy (looked_for_residual (plain_problem task.now.problem) w.now (assignment_in env.old) (tree_at (trees nodes.old) quantifier.at))) }
     ensures others { AgreeElsewhere (node_vars (trees nodes.old) quantifier) (assignment_in env.new) (assignment_in env.old) }
 {
     let mut answers = Vec::new(alloc);
-    'tuples: while quantifier.put_next(nodes, task, w, env, &mut tuples) {
+    'tuples: while quantifier.put_next(nodes, task, w, env, tuples) {
         match residual_of(alloc, nodes, task, w, env, known, quantifier.part) {
             Ok(number) => {
                 if decides(nodes, number, quantifier.junction) {

@@ -20,7 +20,7 @@ ghost use Rattle.tl_terms.specs.ProblemMeaning.{plain_problem};
 ghost use Rattle.tl_terms.specs.Truth.{state_true};
 
 use crate::ProgressFault;
-use crate::quantifier::{Instances, open_instances, put_instance};
+use crate::quantifier::put_instance;
 use indexmap::IndexMap;
 use tl_eval::{Env, TupleReader, state};
 use tl_nodes::{Node, Nodes};
@@ -183,9 +183,19 @@ fn quantifier_truth(
     ensures cause { IfErr result (IsCausedBy (looked_idly (plain_problem task.now.problem) w.now (assignment_in env.old) (quantified junction vars.now bound.now (tree_at (trees nodes.now) part)))) }
     ensures frame { env.new ≡ env.old }
 {
-    let Instances { tuples, outer } = open_instances(task, env, vars, bound);
+    let mut tuples = TupleReader::open(task, env, vars, bound);
+    let outer = env.kept(vars.as_slice());
     let truth = instances_truth(
-        nodes, task, w, env, known, vars, bound, part, junction, tuples,
+        nodes,
+        task,
+        w,
+        env,
+        known,
+        vars,
+        bound,
+        part,
+        junction,
+        &mut tuples,
     );
     env.give_back(vars.as_slice(), &outer);
     truth
@@ -203,19 +213,19 @@ fn instances_truth(
     bound: &Bound,
     part: usize,
     junction: Junction,
-    mut tuples: TupleReader,
+    tuples: &mut TupleReader,
 ) -> Result<bool, ProgressFault>
     requires part { part < length (trees nodes.now) }
     requires fits { FitsSomewhere (signature_of task.now.problem.domain) (quantified junction vars.now bound.now (tree_at (trees nodes.now) part)) }
     requires known { AreTruths (plain_problem task.now.problem) w.now (trees nodes.now) (get nat_eq known.now) }
-    requires reads { Reads vars.now (assignment_in env.old) bound.now tuples }
-    requires before { tuples.tuple ≡ None }
+    requires reads { Reads vars.now (assignment_in env.old) bound.now tuples.old }
+    requires before { tuples.old.tuple ≡ None }
     ensures truth { IfOk result (λ b. b ≡ idly_true (plain_problem task.now.problem) w.now (assignment_in env.old) (quantified junction vars.now bound.now (tree_at (trees nodes.now) part))) }
     ensures cause { IfErr result (IsCausedBy (looked_idly (plain_problem task.now.problem) w.now (assignment_in env.old) (quantified junction vars.now bound.now (tree_at (trees nodes.now) part)))) }
     ensures others { AgreeElsewhere vars.now (assignment_in env.new) (assignment_in env.old) }
 {
     let stop = junction.deciding_truth();
-    while put_instance(task, w, env, vars, bound, &mut tuples) {
+    while put_instance(task, w, env, vars, bound, tuples) {
         match truth_of(nodes, task, w, env, known, part) {
             Ok(truth) => {
                 if truth == stop {

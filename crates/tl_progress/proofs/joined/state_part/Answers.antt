@@ -27,11 +27,11 @@ truth_of-requires-clause-fits c = record { around = []; fits = c.requires.senten
 pub truth_of-requires-clause-known : goal.truth_of-requires-clause-known
 truth_of-requires-clause-known c = λ k b h. let z : None ≡ Some b = sym (ap (lookup (nat_eq k)) c.new-nothing.ensures.empty) ∙ h in absurd (let f : ⊥ = cc in f)
 
-pub returns-then-is_plain-clause-truth : goal.returns-then-is_plain-clause-truth
-returns-then-is_plain-clause-truth c = leaves (plain_problem c.args.task.now.problem) c.args.w.now (assignment_in c.args.env.now) (tree_at (trees c.args.nodes.now) c.args.part) c.requires.state c.truth_of.result c.truth_of.ensures.truth
+pub returns-then-is_shallow-clause-truth : goal.returns-then-is_shallow-clause-truth
+returns-then-is_shallow-clause-truth c = leaves (plain_problem c.args.task.now.problem) c.args.w.now (assignment_in c.args.env.now) (tree_at (trees c.args.nodes.now) c.args.part) c.requires.state c.truth_of.result c.truth_of.ensures.truth
 
-pub returns-then-is_plain-clause-cause : goal.returns-then-is_plain-clause-cause
-returns-then-is_plain-clause-cause c = subst (λ (x : List Operation). IfErr c.truth_of.result (IsCausedBy x)) (looked-same (plain_problem c.args.task.now.problem) c.args.w.now (assignment_in c.args.env.now) (tree_at (trees c.args.nodes.now) c.args.part) c.requires.state) c.truth_of.ensures.cause
+pub returns-then-is_shallow-clause-cause : goal.returns-then-is_shallow-clause-cause
+returns-then-is_shallow-clause-cause c = subst (λ (x : List Operation). IfErr c.truth_of.result (IsCausedBy x)) (looked-same (plain_problem c.args.task.now.problem) c.args.w.now (assignment_in c.args.env.now) (tree_at (trees c.args.nodes.now) c.args.part) c.requires.state) c.truth_of.ensures.cause
 
 pub returns-clause-truth : goal.returns-clause-truth
 returns-clause-truth c = leaves (plain_problem c.args.task.now.problem) c.args.w.now (assignment_in c.args.env.now) (tree_at (trees c.args.nodes.now) c.args.part) c.requires.state c.sentence_truth.result c.sentence_truth.ensures.truth

@@ -12,6 +12,10 @@ returns-then-is_empty-clause-number c =
     subst (λ (d : Assignment). slice_get (trees c.args.nodes.now) c.args.at ≡ Some (substituted d (tree_at (trees c.args.nodes.now) c.args.at))) c.in_ok-bindings.ensures
     (nothing-put c.in_ok-bindings.bindings (eqb-true _ 0 (sym c.is_empty.ensures ∙ c.if-is_empty.true)) (trees c.args.nodes.now) c.args.at c.requires)
 
-pub returns-clause-number : goal.returns-clause-number
-returns-clause-number c =
-    subst (λ (d : Assignment). IfOk c.put_in.result (λ i. Denotes c.put_in.new.nodes i (substituted d (tree_at (trees c.args.nodes.now) c.args.at)))) (ap assignment_of c.as_slice.ensures ∙ c.in_ok-bindings.ensures) c.put_in.ensures.number
+pub returns-in-Some-clause-number : goal.returns-in-Some-clause-number
+returns-in-Some-clause-number c =
+    subst (λ (d : Assignment). slice_get (trees c.args.nodes.now) c.in-Some.number ≡ Some (substituted d (tree_at (trees c.args.nodes.now) c.args.at))) (ap assignment_of c.as_slice-values.ensures ∙ c.in_ok-bindings.ensures) c.in-Some.ensures
+
+pub returns-in-None-clause-number : goal.returns-in-None-clause-number
+returns-in-None-clause-number c =
+    subst (λ (d : Assignment). IfOk c.put_in_anew.result (λ i. Denotes c.put_in_anew.new.nodes i (substituted d (tree_at (trees c.args.nodes.now) c.args.at)))) (ap assignment_of c.as_slice-values.ensures ∙ c.in_ok-bindings.ensures) c.put_in_anew.ensures.number

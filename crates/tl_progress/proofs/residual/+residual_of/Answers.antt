@@ -14,7 +14,6 @@ use Rattle.tl_terms.specs.Definitions.{situation_of}
 use Rattle.tl_terms.specs.ProblemMeaning.{plain_problem}
 use Rattle.tl_progress.specs.Answers.{IsCausedBy, looked_for_residual, residual}
 use Rattle.tl_progress.specs.Parts.{parts, join_parts}
-use Rattle.tl_progress.specs.declared.quantifier.Instances.{Instances}
 use Rattle.tl_progress.specs.Quantifiers.{bound_in, node_bound, node_vars, vars_in}
 use Rattle.tl_progress.specs.Sentences.{FitsSomewhere}
 use Rattle.tl_progress.proofs.Below.{part-lower, part-among}
@@ -515,13 +514,10 @@ quantifier_residual-give_back-requires-clause-few t c =
 
 pub quantifier_residual-returns-clause-frame : goal.quantifier_residual-returns-clause-frame
 quantifier_residual-returns-clause-frame t c =
-    let was = subst (λ (r : Option Instances). IfSome r (λ i. AreKept (node_vars (trees c.args.nodes.now) c.args.quantifier) c.args.env.now i.outer)) c.unwrap-tuples.ensures c.open.ensures.kept in
-    c.give_back.ensures c.args.env.now (subst (λ (f : FormulaTree). AreKept (vars_in f) c.args.env.now c.unwrap-tuples.result.outer) (sym (same-node (trees c.args.nodes.now) (trees c.instances_residual-answer.new.nodes) c.instances_residual-answer.ensures.kept c.args.quantifier c.requires.at)) was)
+    c.give_back.ensures c.args.env.now (subst (λ (f : FormulaTree). AreKept (vars_in f) c.args.env.now c.kept-outer.result) (sym (same-node (trees c.args.nodes.now) (trees c.instances_residual-answer.new.nodes) c.instances_residual-answer.ensures.kept c.args.quantifier c.requires.at)) c.kept-outer.ensures)
     (subst (λ (f : FormulaTree). AgreeElsewhere (vars_in f) (assignment_in c.instances_residual-answer.new.env) (assignment_in c.args.env.now)) (sym (same-node (trees c.args.nodes.now) (trees c.instances_residual-answer.new.nodes) c.instances_residual-answer.ensures.kept c.args.quantifier c.requires.at)) c.instances_residual-answer.ensures.others)
 
 pub quantifier_residual-instances_residual-answer-requires : goal.quantifier_residual-instances_residual-answer-requires
 quantifier_residual-instances_residual-answer-requires t c =
     let known = c.new-known.ensures (plain_problem c.args.task.now.problem) c.args.w.now (trees c.args.nodes.now) in
-    let reads = subst (λ (r : Option Instances). IfSome r (λ i. Reads (node_vars (trees c.args.nodes.now) c.args.quantifier) (assignment_in c.args.env.now) (node_bound (trees c.args.nodes.now) c.args.quantifier) i.tuples)) c.unwrap-tuples.ensures c.open.ensures.reads in
-    let before = subst (λ (r : Option Instances). IfSome r (λ i. i.tuples.tuple ≡ None)) c.unwrap-tuples.ensures c.open.ensures.before in
-    (omega (arith, c.decreases), (c.requires.at, (c.requires.part, (c.requires.stands, (c.requires.fits, (known, (reads, before)))))))
+    (omega (arith, c.decreases), (c.requires.at, (c.requires.part, (c.requires.stands, (c.requires.fits, (known, (c.open-tuples.ensures.reads, c.open-tuples.ensures.before)))))))

@@ -239,25 +239,25 @@ join_truth-returns-clause-frame t c = c.loop-part.invariant.frame
 
 -- ---- the instances of a quantifier
 
-pub quantifier_truth-open_instances-tuples-requires-clause-differ : goal.quantifier_truth-open_instances-tuples-requires-clause-differ
-quantifier_truth-open_instances-tuples-requires-clause-differ t c =
+pub quantifier_truth-open-tuples-requires-clause-differ : goal.quantifier_truth-open-tuples-requires-clause-differ
+quantifier_truth-open-tuples-requires-clause-differ t c =
     let fit = quantifier-fits c.args.task.now.problem c.args.junction c.args.vars.now c.args.bound.now (tree_at (trees c.args.nodes.now) c.args.part) c.requires.fits in
     fit.differ
 
-pub quantifier_truth-open_instances-tuples-requires-clause-occur : goal.quantifier_truth-open_instances-tuples-requires-clause-occur
-quantifier_truth-open_instances-tuples-requires-clause-occur t c =
+pub quantifier_truth-open-tuples-requires-clause-occur : goal.quantifier_truth-open-tuples-requires-clause-occur
+quantifier_truth-open-tuples-requires-clause-occur t c =
     let fit = quantifier-fits c.args.task.now.problem c.args.junction c.args.vars.now c.args.bound.now (tree_at (trees c.args.nodes.now) c.args.part) c.requires.fits in
     fit.occur
 
-pub quantifier_truth-open_instances-tuples-requires-clause-fits : goal.quantifier_truth-open_instances-tuples-requires-clause-fits
-quantifier_truth-open_instances-tuples-requires-clause-fits t c =
+pub quantifier_truth-open-tuples-requires-clause-fits : goal.quantifier_truth-open-tuples-requires-clause-fits
+quantifier_truth-open-tuples-requires-clause-fits t c =
     let fit = quantifier-fits c.args.task.now.problem c.args.junction c.args.vars.now c.args.bound.now (tree_at (trees c.args.nodes.now) c.args.part) c.requires.fits in
     fit.bound
 
 pub quantifier_truth-give_back-requires-clause-slots : goal.quantifier_truth-give_back-requires-clause-slots
 quantifier_truth-give_back-requires-clause-slots t c =
     let fit = quantifier-fits c.args.task.now.problem c.args.junction c.args.vars.now c.args.bound.now (tree_at (trees c.args.nodes.now) c.args.part) c.requires.fits in
-    subst (λ (ss : List Var). Each (λ s. s.slot < 32) ss) (sym c.as_slice.ensures) fit.in_frame
+    subst (λ (ss : List Var). Each (λ s. s.slot < 32) ss) (sym c.as_slice-2.ensures) fit.in_frame
 
 pub instances_truth-loop-tuples-init : goal.instances_truth-loop-tuples-init
 instances_truth-loop-tuples-init t c =

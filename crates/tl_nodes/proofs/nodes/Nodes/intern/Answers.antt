@@ -3,6 +3,7 @@ use Rattle.tl_nodes.proofs.nodes.Nodes.intern.Goals as goal
 use Rattle.tl_nodes.specs.Fits.{EachFits}
 use Rattle.tl_nodes.specs.NodeTrees.{trees_of_nodes}
 use Rattle.tl_nodes.proofs.Insertion.{absent, pushed, unmoved, number, keeps, same-trees, more-trees, below-more, one-more, constants-more, flags-more, flags-pushed, where_refused}
+use Rattle.tl_nodes.proofs.FilledTrees.{filled-stay}
 use Rattle.tl_nodes.proofs.OneMoreNode.{fresh}
 
 pub returns-in-Err-clause-kept : goal.returns-in-Err-clause-kept
@@ -29,6 +30,8 @@ invariant_of-self-then-is_new c =
       flags = flags-pushed s.temporal.items _ _ _ _ _ c.args.node c.reserve.ensures.items c.as_slice.ensures.value c.temporal_of-flag.ensures
           (c.push.ensures.succeeds (omega (arith, c.in-Ok.ensures.ok))) c.push.ensures.items
           ∙ flags-more _ _ _ e c.requires s.temporal.items s.flags;
+      places = s.places;
+      filled_is = filled-stay _ _ (keeps _ _ _ (more-trees _ _ _ e)) s.filled.items s.filled_is;
     }
 
 pub returns-then-is_new-clause-kept : goal.returns-then-is_new-clause-kept

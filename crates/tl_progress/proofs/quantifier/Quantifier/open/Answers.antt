@@ -1,4 +1,4 @@
-use Rattle.std.proofs.Common.{List, refl, sym, subst}
+use Rattle.std.proofs.Common.{◌≤◌, List, length, refl, sym, subst}
 use Rattle.tl_eval.specs.Frames.{assignment_in, AreKept}
 use Rattle.tl_eval.specs.Reader.{Reads}
 use Rattle.tl_nodes.specs.NodeTrees.{tree_at}
@@ -14,55 +14,53 @@ use Rattle.tl_progress.proofs.Instances.{quantifier-fits}
 use Rattle.tl_progress.proofs.QuantifierNodes.{vars-ForAll, vars-Exists, bound-ForAll, bound-Exists, no-quantifier}
 use Rattle.tl_progress.proofs.quantifier.Quantifier.open.Goals as goal
 
-pub open_instances-requires-clause-differ : goal.open_instances-requires-clause-differ
-open_instances-requires-clause-differ c =
+pub open-requires-clause-differ : goal.open-requires-clause-differ
+open-requires-clause-differ c =
     let q = quantifier-fits c.args.task.now.problem c.args.self.junction (node_vars (trees c.args.nodes.now) c.args.self) (node_bound (trees c.args.nodes.now) c.args.self) (tree_at (trees c.args.nodes.now) c.args.self.part) (subst (FitsSomewhere (signature_of c.args.task.now.problem.domain)) c.requires.stands c.requires.fits) in
     subst DifferInSlot (vars-ForAll (trees c.args.nodes.now) c.args.self.at c.get.result.now c.get.ensures.tree c.in-ForAll.vars c.in-ForAll.bound c.in-ForAll.field-2 c.in-ForAll.is) q.differ
 
-pub open_instances-requires-clause-occur : goal.open_instances-requires-clause-occur
-open_instances-requires-clause-occur c =
+pub open-requires-clause-occur : goal.open-requires-clause-occur
+open-requires-clause-occur c =
     let q = quantifier-fits c.args.task.now.problem c.args.self.junction (node_vars (trees c.args.nodes.now) c.args.self) (node_bound (trees c.args.nodes.now) c.args.self) (tree_at (trees c.args.nodes.now) c.args.self.part) (subst (FitsSomewhere (signature_of c.args.task.now.problem.domain)) c.requires.stands c.requires.fits) in
     subst (λ (ss : List Var). OccurIn ss c.in-ForAll.bound) (vars-ForAll (trees c.args.nodes.now) c.args.self.at c.get.result.now c.get.ensures.tree c.in-ForAll.vars c.in-ForAll.bound c.in-ForAll.field-2 c.in-ForAll.is)
     (subst (OccurIn (node_vars (trees c.args.nodes.now) c.args.self)) (bound-ForAll (trees c.args.nodes.now) c.args.self.at c.get.result.now c.get.ensures.tree c.in-ForAll.vars c.in-ForAll.bound c.in-ForAll.field-2 c.in-ForAll.is) q.occur)
 
-pub open_instances-requires-clause-fits : goal.open_instances-requires-clause-fits
-open_instances-requires-clause-fits c =
+pub open-requires-clause-fits : goal.open-requires-clause-fits
+open-requires-clause-fits c =
     let q = quantifier-fits c.args.task.now.problem c.args.self.junction (node_vars (trees c.args.nodes.now) c.args.self) (node_bound (trees c.args.nodes.now) c.args.self) (tree_at (trees c.args.nodes.now) c.args.self.part) (subst (FitsSomewhere (signature_of c.args.task.now.problem.domain)) c.requires.stands c.requires.fits) in
     subst (BoundFits (signature_of c.args.task.now.problem.domain)) (bound-ForAll (trees c.args.nodes.now) c.args.self.at c.get.result.now c.get.ensures.tree c.in-ForAll.vars c.in-ForAll.bound c.in-ForAll.field-2 c.in-ForAll.is) q.bound
 
 pub returns-in-ForAll-clause-reads : goal.returns-in-ForAll-clause-reads
 returns-in-ForAll-clause-reads c =
-    subst (λ (ss : List Var). Reads ss (assignment_in c.args.env.now) (node_bound (trees c.args.nodes.now) c.args.self) c.open_instances.result.tuples) (sym (vars-ForAll (trees c.args.nodes.now) c.args.self.at c.get.result.now c.get.ensures.tree c.in-ForAll.vars c.in-ForAll.bound c.in-ForAll.field-2 c.in-ForAll.is))
-    (subst (λ (b : Bound). Reads c.in-ForAll.vars (assignment_in c.args.env.now) b c.open_instances.result.tuples) (sym (bound-ForAll (trees c.args.nodes.now) c.args.self.at c.get.result.now c.get.ensures.tree c.in-ForAll.vars c.in-ForAll.bound c.in-ForAll.field-2 c.in-ForAll.is)) c.open_instances.ensures.reads)
+    subst (λ (ss : List Var). Reads ss (assignment_in c.args.env.now) (node_bound (trees c.args.nodes.now) c.args.self) c.open.result) (sym (vars-ForAll (trees c.args.nodes.now) c.args.self.at c.get.result.now c.get.ensures.tree c.in-ForAll.vars c.in-ForAll.bound c.in-ForAll.field-2 c.in-ForAll.is))
+    (subst (λ (b : Bound). Reads c.in-ForAll.vars (assignment_in c.args.env.now) b c.open.result) (sym (bound-ForAll (trees c.args.nodes.now) c.args.self.at c.get.result.now c.get.ensures.tree c.in-ForAll.vars c.in-ForAll.bound c.in-ForAll.field-2 c.in-ForAll.is)) c.open.ensures.reads)
 
-pub returns-in-ForAll-clause-kept : goal.returns-in-ForAll-clause-kept
-returns-in-ForAll-clause-kept c =
-    subst (λ (ss : List Var). AreKept ss c.args.env.now c.open_instances.result.outer) (sym (vars-ForAll (trees c.args.nodes.now) c.args.self.at c.get.result.now c.get.ensures.tree c.in-ForAll.vars c.in-ForAll.bound c.in-ForAll.field-2 c.in-ForAll.is)) c.open_instances.ensures.kept
-
-pub open_instances-requires-in-Exists-clause-differ : goal.open_instances-requires-in-Exists-clause-differ
-open_instances-requires-in-Exists-clause-differ c =
+pub open-requires-in-Exists-clause-differ : goal.open-requires-in-Exists-clause-differ
+open-requires-in-Exists-clause-differ c =
     let q = quantifier-fits c.args.task.now.problem c.args.self.junction (node_vars (trees c.args.nodes.now) c.args.self) (node_bound (trees c.args.nodes.now) c.args.self) (tree_at (trees c.args.nodes.now) c.args.self.part) (subst (FitsSomewhere (signature_of c.args.task.now.problem.domain)) c.requires.stands c.requires.fits) in
     subst DifferInSlot (vars-Exists (trees c.args.nodes.now) c.args.self.at c.get.result.now c.get.ensures.tree c.in-Exists.vars c.in-Exists.bound c.in-Exists.field-2 c.in-Exists.is) q.differ
 
-pub open_instances-requires-in-Exists-clause-occur : goal.open_instances-requires-in-Exists-clause-occur
-open_instances-requires-in-Exists-clause-occur c =
+pub open-requires-in-Exists-clause-occur : goal.open-requires-in-Exists-clause-occur
+open-requires-in-Exists-clause-occur c =
     let q = quantifier-fits c.args.task.now.problem c.args.self.junction (node_vars (trees c.args.nodes.now) c.args.self) (node_bound (trees c.args.nodes.now) c.args.self) (tree_at (trees c.args.nodes.now) c.args.self.part) (subst (FitsSomewhere (signature_of c.args.task.now.problem.domain)) c.requires.stands c.requires.fits) in
     subst (λ (ss : List Var). OccurIn ss c.in-Exists.bound) (vars-Exists (trees c.args.nodes.now) c.args.self.at c.get.result.now c.get.ensures.tree c.in-Exists.vars c.in-Exists.bound c.in-Exists.field-2 c.in-Exists.is)
     (subst (OccurIn (node_vars (trees c.args.nodes.now) c.args.self)) (bound-Exists (trees c.args.nodes.now) c.args.self.at c.get.result.now c.get.ensures.tree c.in-Exists.vars c.in-Exists.bound c.in-Exists.field-2 c.in-Exists.is) q.occur)
 
-pub open_instances-requires-in-Exists-clause-fits : goal.open_instances-requires-in-Exists-clause-fits
-open_instances-requires-in-Exists-clause-fits c =
+pub open-requires-in-Exists-clause-fits : goal.open-requires-in-Exists-clause-fits
+open-requires-in-Exists-clause-fits c =
     let q = quantifier-fits c.args.task.now.problem c.args.self.junction (node_vars (trees c.args.nodes.now) c.args.self) (node_bound (trees c.args.nodes.now) c.args.self) (tree_at (trees c.args.nodes.now) c.args.self.part) (subst (FitsSomewhere (signature_of c.args.task.now.problem.domain)) c.requires.stands c.requires.fits) in
     subst (BoundFits (signature_of c.args.task.now.problem.domain)) (bound-Exists (trees c.args.nodes.now) c.args.self.at c.get.result.now c.get.ensures.tree c.in-Exists.vars c.in-Exists.bound c.in-Exists.field-2 c.in-Exists.is) q.bound
 
 pub returns-in-Exists-clause-reads : goal.returns-in-Exists-clause-reads
 returns-in-Exists-clause-reads c =
-    subst (λ (ss : List Var). Reads ss (assignment_in c.args.env.now) (node_bound (trees c.args.nodes.now) c.args.self) c.open_instances-in-Exists.result.tuples) (sym (vars-Exists (trees c.args.nodes.now) c.args.self.at c.get.result.now c.get.ensures.tree c.in-Exists.vars c.in-Exists.bound c.in-Exists.field-2 c.in-Exists.is))
-    (subst (λ (b : Bound). Reads c.in-Exists.vars (assignment_in c.args.env.now) b c.open_instances-in-Exists.result.tuples) (sym (bound-Exists (trees c.args.nodes.now) c.args.self.at c.get.result.now c.get.ensures.tree c.in-Exists.vars c.in-Exists.bound c.in-Exists.field-2 c.in-Exists.is)) c.open_instances-in-Exists.ensures.reads)
+    subst (λ (ss : List Var). Reads ss (assignment_in c.args.env.now) (node_bound (trees c.args.nodes.now) c.args.self) c.open-in-Exists.result) (sym (vars-Exists (trees c.args.nodes.now) c.args.self.at c.get.result.now c.get.ensures.tree c.in-Exists.vars c.in-Exists.bound c.in-Exists.field-2 c.in-Exists.is))
+    (subst (λ (b : Bound). Reads c.in-Exists.vars (assignment_in c.args.env.now) b c.open-in-Exists.result) (sym (bound-Exists (trees c.args.nodes.now) c.args.self.at c.get.result.now c.get.ensures.tree c.in-Exists.vars c.in-Exists.bound c.in-Exists.field-2 c.in-Exists.is)) c.open-in-Exists.ensures.reads)
 
-pub returns-in-Exists-clause-kept : goal.returns-in-Exists-clause-kept
-returns-in-Exists-clause-kept c =
-    subst (λ (ss : List Var). AreKept ss c.args.env.now c.open_instances-in-Exists.result.outer) (sym (vars-Exists (trees c.args.nodes.now) c.args.self.at c.get.result.now c.get.ensures.tree c.in-Exists.vars c.in-Exists.bound c.in-Exists.field-2 c.in-Exists.is)) c.open_instances-in-Exists.ensures.kept
+pub returns-in-ForAll-clause-few : goal.returns-in-ForAll-clause-few
+returns-in-ForAll-clause-few c = subst (λ (ss : List Var). length ss ≤ 9) (sym (vars-ForAll (trees c.args.nodes.now) c.args.self.at c.get.result.now c.get.ensures.tree c.in-ForAll.vars c.in-ForAll.bound c.in-ForAll.field-2 c.in-ForAll.is)) c.open.ensures.few
 
-pub returns-in_default : goal.returns-in_default
-returns-in_default c = absurd (no-quantifier (trees c.args.nodes.now) c.args.self.at c.get.result.now c.get.ensures.tree c.get.ensures.parts c.in_default.not-ForAll c.in_default.not-Exists c.args.self refl c.requires.stands)
+pub returns-in-Exists-clause-few : goal.returns-in-Exists-clause-few
+returns-in-Exists-clause-few c = subst (λ (ss : List Var). length ss ≤ 9) (sym (vars-Exists (trees c.args.nodes.now) c.args.self.at c.get.result.now c.get.ensures.tree c.in-Exists.vars c.in-Exists.bound c.in-Exists.field-2 c.in-Exists.is)) c.open-in-Exists.ensures.few
+
+pub prove-unreachable-requires : goal.prove-unreachable-requires
+prove-unreachable-requires c = (no-quantifier (trees c.args.nodes.now) c.args.self.at c.get.result.now c.get.ensures.tree c.get.ensures.parts c.in_default.not-ForAll c.in_default.not-Exists c.args.self refl c.requires.stands)
