@@ -225,7 +225,7 @@ fn instances_truth(
     ensures others { AgreeElsewhere vars.now (assignment_in env.new) (assignment_in env.old) }
 {
     let stop = junction.deciding_truth();
-    while put_instance(task, w, env, vars, bound, tuples) {
+    'tuples: while put_instance(task, w, env, vars, bound, tuples) {
         match truth_of(nodes, task, w, env, known, part) {
             Ok(truth) => {
                 if truth == stop {

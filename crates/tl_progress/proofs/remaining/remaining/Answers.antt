@@ -16,6 +16,6 @@ pub returns-in-Some-clause-number : goal.returns-in-Some-clause-number
 returns-in-Some-clause-number c =
     subst (λ (d : Assignment). slice_get (trees c.args.nodes.now) c.in-Some.number ≡ Some (substituted d (tree_at (trees c.args.nodes.now) c.args.at))) (ap assignment_of c.as_slice-values.ensures ∙ c.in_ok-bindings.ensures) c.in-Some.ensures
 
-pub returns-in-None-clause-number : goal.returns-in-None-clause-number
-returns-in-None-clause-number c =
+pub returns-clause-number : goal.returns-clause-number
+returns-clause-number c =
     subst (λ (d : Assignment). IfOk c.put_in_anew.result (λ i. Denotes c.put_in_anew.new.nodes i (substituted d (tree_at (trees c.args.nodes.now) c.args.at)))) (ap assignment_of c.as_slice-values.ensures ∙ c.in_ok-bindings.ensures) c.put_in_anew.ensures.number

@@ -259,8 +259,8 @@ quantifier_truth-give_back-requires-clause-slots t c =
     let fit = quantifier-fits c.args.task.now.problem c.args.junction c.args.vars.now c.args.bound.now (tree_at (trees c.args.nodes.now) c.args.part) c.requires.fits in
     subst (λ (ss : List Var). Each (λ s. s.slot < 32) ss) (sym c.as_slice-2.ensures) fit.in_frame
 
-pub instances_truth-loop-tuples-init : goal.instances_truth-loop-tuples-init
-instances_truth-loop-tuples-init t c =
+pub instances_truth-tuples-init : goal.instances_truth-tuples-init
+instances_truth-tuples-init t c =
     record { reads = c.requires.reads; others = λ u. refl; passed = subst (Open (plain_problem c.args.task.now.problem) c.args.w.now (assignment_in c.args.env.now) c.args.vars.now c.args.bound.now (tree_at (trees c.args.nodes.now) c.args.part) c.deciding_truth-stop.result) (sym c.requires.before) (open-begun (plain_problem c.args.task.now.problem) c.args.w.now (assignment_in c.args.env.now) c.args.vars.now c.args.bound.now (tree_at (trees c.args.nodes.now) c.args.part) c.deciding_truth-stop.result) }
 
 pub instances_truth-put_instance-requires-clause-slots : goal.instances_truth-put_instance-requires-clause-slots
@@ -276,33 +276,33 @@ instances_truth-truth_of-requires t c =
 pub instances_truth-returns-then-truth-stop-clause-truth : goal.instances_truth-returns-then-truth-stop-clause-truth
 instances_truth-returns-then-truth-stop-clause-truth t c =
     let fit = quantifier-fits c.args.task.now.problem c.args.junction c.args.vars.now c.args.bound.now (tree_at (trees c.args.nodes.now) c.args.part) c.requires.fits in
-    let come = has-come (plain_problem c.args.task.now.problem) c.args.w.now (assignment_in c.args.env.now) c.args.vars.now c.args.bound.now (tree_at (trees c.args.nodes.now) c.args.part) c.loop-tuples.tuples c.put_instance.new.tuples c.loop-tuples.env c.put_instance.new.env c.put_instance.result c.put_instance.ensures c.loop-tuples.invariant.reads fit.differ fit.occur c.loop-tuples.invariant.others c.loop-tuples-test.true in
-    open-here (plain_problem c.args.task.now.problem) c.args.w.now (assignment_in c.args.env.now) c.args.vars.now c.args.bound.now (tree_at (trees c.args.nodes.now) c.args.part) fit.differ fit.occur c.loop-tuples.tuples.tuple c.put_instance.new.tuples.tuple come.tuple come.next come.is c.args.junction c.deciding_truth-stop.result c.in-Ok.truth c.deciding_truth-stop.ensures c.loop-tuples.invariant.passed (subst (λ (d : Assignment). c.in-Ok.truth ≡ idly_true (plain_problem c.args.task.now.problem) c.args.w.now d (tree_at (trees c.args.nodes.now) c.args.part)) come.here c.in-Ok.ensures.truth) c.if-truth-stop.true
+    let come = has-come (plain_problem c.args.task.now.problem) c.args.w.now (assignment_in c.args.env.now) c.args.vars.now c.args.bound.now (tree_at (trees c.args.nodes.now) c.args.part) c.tuples.tuples c.put_instance.new.tuples c.tuples.env c.put_instance.new.env c.put_instance.result c.put_instance.ensures c.tuples.invariant.reads fit.differ fit.occur c.tuples.invariant.others c.tuples-test.true in
+    open-here (plain_problem c.args.task.now.problem) c.args.w.now (assignment_in c.args.env.now) c.args.vars.now c.args.bound.now (tree_at (trees c.args.nodes.now) c.args.part) fit.differ fit.occur c.tuples.tuples.tuple c.put_instance.new.tuples.tuple come.tuple come.next come.is c.args.junction c.deciding_truth-stop.result c.in-Ok.truth c.deciding_truth-stop.ensures c.tuples.invariant.passed (subst (λ (d : Assignment). c.in-Ok.truth ≡ idly_true (plain_problem c.args.task.now.problem) c.args.w.now d (tree_at (trees c.args.nodes.now) c.args.part)) come.here c.in-Ok.ensures.truth) c.if-truth-stop.true
 
 pub instances_truth-returns-in-Err-clause-cause : goal.instances_truth-returns-in-Err-clause-cause
 instances_truth-returns-in-Err-clause-cause t c =
     let fit = quantifier-fits c.args.task.now.problem c.args.junction c.args.vars.now c.args.bound.now (tree_at (trees c.args.nodes.now) c.args.part) c.requires.fits in
-    let come = has-come (plain_problem c.args.task.now.problem) c.args.w.now (assignment_in c.args.env.now) c.args.vars.now c.args.bound.now (tree_at (trees c.args.nodes.now) c.args.part) c.loop-tuples.tuples c.put_instance.new.tuples c.loop-tuples.env c.put_instance.new.env c.put_instance.result c.put_instance.ensures c.loop-tuples.invariant.reads fit.differ fit.occur c.loop-tuples.invariant.others c.loop-tuples-test.true in
-    caused (plain_problem c.args.task.now.problem) c.args.w.now (assignment_in c.args.env.now) c.args.vars.now c.args.bound.now (tree_at (trees c.args.nodes.now) c.args.part) fit.differ fit.occur c.loop-tuples.tuples.tuple c.put_instance.new.tuples.tuple come.tuple come.next come.is c.args.junction c.in-Err.fault (subst (λ (d : Assignment). IsCausedBy (looked_idly (plain_problem c.args.task.now.problem) c.args.w.now d (tree_at (trees c.args.nodes.now) c.args.part)) c.in-Err.fault) come.here c.in-Err.ensures.cause)
+    let come = has-come (plain_problem c.args.task.now.problem) c.args.w.now (assignment_in c.args.env.now) c.args.vars.now c.args.bound.now (tree_at (trees c.args.nodes.now) c.args.part) c.tuples.tuples c.put_instance.new.tuples c.tuples.env c.put_instance.new.env c.put_instance.result c.put_instance.ensures c.tuples.invariant.reads fit.differ fit.occur c.tuples.invariant.others c.tuples-test.true in
+    caused (plain_problem c.args.task.now.problem) c.args.w.now (assignment_in c.args.env.now) c.args.vars.now c.args.bound.now (tree_at (trees c.args.nodes.now) c.args.part) fit.differ fit.occur c.tuples.tuples.tuple c.put_instance.new.tuples.tuple come.tuple come.next come.is c.args.junction c.in-Err.fault (subst (λ (d : Assignment). IsCausedBy (looked_idly (plain_problem c.args.task.now.problem) c.args.w.now d (tree_at (trees c.args.nodes.now) c.args.part)) c.in-Err.fault) come.here c.in-Err.ensures.cause)
 
-pub instances_truth-loop-tuples-smaller : goal.instances_truth-loop-tuples-smaller
-instances_truth-loop-tuples-smaller t c =
+pub instances_truth-tuples-smaller : goal.instances_truth-tuples-smaller
+instances_truth-tuples-smaller t c =
     let fit = quantifier-fits c.args.task.now.problem c.args.junction c.args.vars.now c.args.bound.now (tree_at (trees c.args.nodes.now) c.args.part) c.requires.fits in
-    let come = has-come (plain_problem c.args.task.now.problem) c.args.w.now (assignment_in c.args.env.now) c.args.vars.now c.args.bound.now (tree_at (trees c.args.nodes.now) c.args.part) c.loop-tuples.tuples c.put_instance.new.tuples c.loop-tuples.env c.put_instance.new.env c.put_instance.result c.put_instance.ensures c.loop-tuples.invariant.reads fit.differ fit.occur c.loop-tuples.invariant.others c.loop-tuples-test.true in
+    let come = has-come (plain_problem c.args.task.now.problem) c.args.w.now (assignment_in c.args.env.now) c.args.vars.now c.args.bound.now (tree_at (trees c.args.nodes.now) c.args.part) c.tuples.tuples c.put_instance.new.tuples c.tuples.env c.put_instance.new.env c.put_instance.result c.put_instance.ensures c.tuples.invariant.reads fit.differ fit.occur c.tuples.invariant.others c.tuples-test.true in
     come.fewer
 
-pub instances_truth-loop-tuples-preserved : goal.instances_truth-loop-tuples-preserved
-instances_truth-loop-tuples-preserved t c =
+pub instances_truth-tuples-preserved : goal.instances_truth-tuples-preserved
+instances_truth-tuples-preserved t c =
     let fit = quantifier-fits c.args.task.now.problem c.args.junction c.args.vars.now c.args.bound.now (tree_at (trees c.args.nodes.now) c.args.part) c.requires.fits in
-    let come = has-come (plain_problem c.args.task.now.problem) c.args.w.now (assignment_in c.args.env.now) c.args.vars.now c.args.bound.now (tree_at (trees c.args.nodes.now) c.args.part) c.loop-tuples.tuples c.put_instance.new.tuples c.loop-tuples.env c.put_instance.new.env c.put_instance.result c.put_instance.ensures c.loop-tuples.invariant.reads fit.differ fit.occur c.loop-tuples.invariant.others c.loop-tuples-test.true in
+    let come = has-come (plain_problem c.args.task.now.problem) c.args.w.now (assignment_in c.args.env.now) c.args.vars.now c.args.bound.now (tree_at (trees c.args.nodes.now) c.args.part) c.tuples.tuples c.put_instance.new.tuples c.tuples.env c.put_instance.new.env c.put_instance.result c.put_instance.ensures c.tuples.invariant.reads fit.differ fit.occur c.tuples.invariant.others c.tuples-test.true in
     record {
-      reads = c.put_instance.ensures.reads (assignment_in c.args.env.now) c.loop-tuples.invariant.reads;
-      others = still-others (plain_problem c.args.task.now.problem) c.args.w.now (assignment_in c.args.env.now) c.args.vars.now c.args.bound.now (tree_at (trees c.args.nodes.now) c.args.part) c.loop-tuples.tuples c.put_instance.new.tuples c.loop-tuples.env c.put_instance.new.env c.put_instance.result c.put_instance.ensures c.loop-tuples.invariant.reads c.loop-tuples.invariant.others c.truth_of.new.env c.truth_of.ensures.frame;
-      passed = subst (Open (plain_problem c.args.task.now.problem) c.args.w.now (assignment_in c.args.env.now) c.args.vars.now c.args.bound.now (tree_at (trees c.args.nodes.now) c.args.part) c.deciding_truth-stop.result) (sym come.is) (open-on (plain_problem c.args.task.now.problem) c.args.w.now (assignment_in c.args.env.now) c.args.vars.now c.args.bound.now (tree_at (trees c.args.nodes.now) c.args.part) fit.differ fit.occur c.loop-tuples.tuples.tuple c.put_instance.new.tuples.tuple come.tuple come.next come.is c.deciding_truth-stop.result c.in-Ok.truth c.loop-tuples.invariant.passed (subst (λ (d : Assignment). c.in-Ok.truth ≡ idly_true (plain_problem c.args.task.now.problem) c.args.w.now d (tree_at (trees c.args.nodes.now) c.args.part)) come.here c.in-Ok.ensures.truth) c.if-truth-stop.false);
+      reads = c.put_instance.ensures.reads (assignment_in c.args.env.now) c.tuples.invariant.reads;
+      others = still-others (plain_problem c.args.task.now.problem) c.args.w.now (assignment_in c.args.env.now) c.args.vars.now c.args.bound.now (tree_at (trees c.args.nodes.now) c.args.part) c.tuples.tuples c.put_instance.new.tuples c.tuples.env c.put_instance.new.env c.put_instance.result c.put_instance.ensures c.tuples.invariant.reads c.tuples.invariant.others c.truth_of.new.env c.truth_of.ensures.frame;
+      passed = subst (Open (plain_problem c.args.task.now.problem) c.args.w.now (assignment_in c.args.env.now) c.args.vars.now c.args.bound.now (tree_at (trees c.args.nodes.now) c.args.part) c.deciding_truth-stop.result) (sym come.is) (open-on (plain_problem c.args.task.now.problem) c.args.w.now (assignment_in c.args.env.now) c.args.vars.now c.args.bound.now (tree_at (trees c.args.nodes.now) c.args.part) fit.differ fit.occur c.tuples.tuples.tuple c.put_instance.new.tuples.tuple come.tuple come.next come.is c.deciding_truth-stop.result c.in-Ok.truth c.tuples.invariant.passed (subst (λ (d : Assignment). c.in-Ok.truth ≡ idly_true (plain_problem c.args.task.now.problem) c.args.w.now d (tree_at (trees c.args.nodes.now) c.args.part)) come.here c.in-Ok.ensures.truth) c.if-truth-stop.false);
     }
 
 pub instances_truth-returns-clause-truth : goal.instances_truth-returns-clause-truth
 instances_truth-returns-clause-truth t c =
     let fit = quantifier-fits c.args.task.now.problem c.args.junction c.args.vars.now c.args.bound.now (tree_at (trees c.args.nodes.now) c.args.part) c.requires.fits in
-    open-end (plain_problem c.args.task.now.problem) c.args.w.now (assignment_in c.args.env.now) c.args.vars.now c.args.bound.now (tree_at (trees c.args.nodes.now) c.args.part) fit.differ fit.occur c.loop-tuples.tuples.tuple c.args.junction c.deciding_truth-stop.result c.deciding_truth-stop.ensures c.loop-tuples.invariant.passed
-    (none-left (plain_problem c.args.task.now.problem) c.args.w.now (assignment_in c.args.env.now) c.args.vars.now c.args.bound.now (tree_at (trees c.args.nodes.now) c.args.part) c.loop-tuples.tuples c.put_instance.new.tuples c.loop-tuples.env c.put_instance.new.env c.put_instance.result c.put_instance.ensures c.loop-tuples.invariant.reads fit.differ fit.occur c.loop-tuples-test.false)
+    open-end (plain_problem c.args.task.now.problem) c.args.w.now (assignment_in c.args.env.now) c.args.vars.now c.args.bound.now (tree_at (trees c.args.nodes.now) c.args.part) fit.differ fit.occur c.tuples.tuples.tuple c.args.junction c.deciding_truth-stop.result c.deciding_truth-stop.ensures c.tuples.invariant.passed
+    (none-left (plain_problem c.args.task.now.problem) c.args.w.now (assignment_in c.args.env.now) c.args.vars.now c.args.bound.now (tree_at (trees c.args.nodes.now) c.args.part) c.tuples.tuples c.put_instance.new.tuples c.tuples.env c.put_instance.new.env c.put_instance.result c.put_instance.ensures c.tuples.invariant.reads fit.differ fit.occur c.tuples-test.false)

@@ -30,11 +30,11 @@ invariant-join_truth-loop-part l = record {
       ≡ decided l.stop (λ (k : ℕ). idly_true (plain_problem l.task.problem) l.w (assignment_in l.fn.env) (tree_at (trees l.nodes) k)) (drop l.part-index l.part-items);
 }
 
-abbrev pub decreases-instances_truth-loop-tuples : goal.decreases-instances_truth-loop-tuples
-decreases-instances_truth-loop-tuples l = length (left_after (plain_problem l.task.problem) l.w (assignment_in l.fn.env) l.vars l.bound (tree_at (trees l.nodes) l.part) l.tuples.tuple)
+abbrev pub decreases-instances_truth-tuples : goal.decreases-instances_truth-tuples
+decreases-instances_truth-tuples l = length (left_after (plain_problem l.task.problem) l.w (assignment_in l.fn.env) l.vars l.bound (tree_at (trees l.nodes) l.part) l.tuples.tuple)
 
-abbrev pub invariant-instances_truth-loop-tuples : goal.invariant-instances_truth-loop-tuples
-invariant-instances_truth-loop-tuples l = record {
+abbrev pub invariant-instances_truth-tuples : goal.invariant-instances_truth-tuples
+invariant-instances_truth-tuples l = record {
   reads : Reads l.vars (assignment_in l.fn.env) l.bound l.tuples;
   others : AgreeElsewhere l.vars (assignment_in l.env) (assignment_in l.fn.env);
   passed : Open (plain_problem l.task.problem) l.w (assignment_in l.fn.env) l.vars l.bound (tree_at (trees l.nodes) l.part) l.stop l.tuples.tuple;

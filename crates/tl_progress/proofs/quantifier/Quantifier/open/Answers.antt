@@ -62,5 +62,5 @@ returns-in-ForAll-clause-few c = subst (λ (ss : List Var). length ss ≤ 9) (sy
 pub returns-in-Exists-clause-few : goal.returns-in-Exists-clause-few
 returns-in-Exists-clause-few c = subst (λ (ss : List Var). length ss ≤ 9) (sym (vars-Exists (trees c.args.nodes.now) c.args.self.at c.get.result.now c.get.ensures.tree c.in-Exists.vars c.in-Exists.bound c.in-Exists.field-2 c.in-Exists.is)) c.open-in-Exists.ensures.few
 
-pub prove-unreachable-requires : goal.prove-unreachable-requires
-prove-unreachable-requires c = (no-quantifier (trees c.args.nodes.now) c.args.self.at c.get.result.now c.get.ensures.tree c.get.ensures.parts c.in_default.not-ForAll c.in_default.not-Exists c.args.self refl c.requires.stands)
+pub unreachable-requires : goal.unreachable-requires
+unreachable-requires c = (no-quantifier (trees c.args.nodes.now) c.args.self.at c.get.result.now c.get.ensures.tree c.get.ensures.parts c.in_default.not-ForAll c.in_default.not-Exists c.args.self refl c.requires.stands)
