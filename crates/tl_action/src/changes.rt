@@ -1,5 +1,5 @@
 // What effects change.
-ghost use Rattle.std.specs.Prelude.{◌≡◌, [], IfOk};
+ghost use Rattle.std.specs.Prelude.{◌≡◌, IfOk};
 ghost use Rattle.tl_action.specs.ChangedWorlds.{world_after};
 ghost use Rattle.tl_action.specs.Collected.{nothing};
 

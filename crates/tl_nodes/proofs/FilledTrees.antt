@@ -1,5 +1,5 @@
 -- Trees with values put in that are remembered stay right.
-use Rattle.std.proofs.Common.{◌≡◌, ◌<◌, ◌≤◌, ◌≢◌, ◌&&◌, ◌==◌, ℕ, zero, suc, List, [], ◌∷◌, length, take, replicate, get_or, Bool, true, false, true≢false, eqb-true, Option, Some, None, slice_get, refl, sym, ap, ap₂, ◌∙◌, subst, arith}
+use Rattle.std.proofs.Common.{◌≡◌, ◌<◌, ◌≤◌, ◌≢◌, ◌&&◌, ◌==◌, ℕ, zero, suc, List, [], ◌∷◌, length, replicate, get_or, true, false, true≢false, eqb-true, Option, Some, None, slice_get, refl, sym, ap, ap₂, ◌∙◌, subst, arith}
 use Rattle.std.proofs.lemmas.Option.{slice_get_within}
 use Rattle.std.specs.Prelude.{slice_set}
 use Rattle.tl_nodes.specs.declared.nodes.filled.Filled.{Filled}
@@ -10,8 +10,6 @@ use Rattle.tl_nodes.proofs.TreesOfNodes.{at-is, at-there}
 use Rattle.tl_syntax.specs.declared.substitution.Binding.{Binding}
 use Rattle.tl_syntax.specs.declared.value.Value.{Value}
 use Rattle.tl_syntax.specs.Bindings.{assignment_of}
-use Rattle.tl_syntax.specs.DerivedTests.{value_eq}
-use Rattle.tl_syntax.specs.Lists.{Each}
 use Rattle.tl_syntax.specs.Substitution.{substituted}
 use Rattle.tl_syntax.specs.Trees.{FormulaTree, verum}
 use Rattle.tl_syntax.proofs.Plain.{both, value-tells}

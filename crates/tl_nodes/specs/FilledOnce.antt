@@ -7,7 +7,6 @@ use Rattle.tl_nodes.specs.declared.nodes.filled.Filled.{Filled}
 use Rattle.tl_nodes.specs.Filled.{IsFilled, AreFilled, bindings_in}
 use Rattle.tl_nodes.specs.NodeTrees.{tree_at}
 use Rattle.tl_syntax.specs.Bindings.{assignment_of}
-use Rattle.tl_syntax.specs.Lists.{Each}
 use Rattle.tl_syntax.specs.Same.{formula_discrete}
 use Rattle.tl_syntax.specs.Substitution.{substituted}
 use Rattle.tl_syntax.specs.Trees.{FormulaTree}

@@ -1,5 +1,5 @@
 -- Facts that changes delete or add, and what formulas then leave.
-use Rattle.std.proofs.Common.{◌≡◌, ◌≢◌, ◌==◌, ℕ, suc, length, List, [], ◌∷◌, ◌++◌, map, Bool, true, false, true≢false, not, ◌&&◌, ◌||◌, eqb-true, Option, Some, slice_get, inl, inr, refl, sym, ap, ap₂, ◌∙◌}
+use Rattle.std.proofs.Common.{◌≡◌, ◌≢◌, ◌==◌, ℕ, suc, length, List, [], ◌∷◌, ◌++◌, map, Bool, true, false, true≢false, not, ◌&&◌, ◌||◌, eqb-true, Some, slice_get, inl, inr, refl, sym, ap, ap₂, ◌∙◌}
 use Rattle.std.specs.FinSet as set
 use Rattle.std.specs.List.{list_any}
 use Rattle.std.specs.Ordering.{eq_by_cmp}
@@ -18,7 +18,7 @@ use Rattle.tl_syntax.specs.Lists.{Among}
 use Rattle.tl_syntax.specs.TotalOrders.{key_total}
 use Rattle.tl_syntax.specs.TreeOfFormula.{tree_of_formula}
 use Rattle.tl_syntax.specs.TreeOfTerm.{tree_of_term, terms_of_list}
-use Rattle.tl_syntax.specs.Trees.{TermTree, variable, value, place, arith, FormulaTree, falsum, atom, negation, conjunction, formulas_of_list}
+use Rattle.tl_syntax.specs.Trees.{TermTree, variable, value, place, arith, FormulaTree, falsum, atom, conjunction, formulas_of_list}
 use Rattle.tl_syntax.proofs.FormulaTrees.{tree-Atom}
 use Rattle.tl_syntax.proofs.Plain.{both, fact_eq, fact_eq-key, value-tells}
 use Rattle.tl_syntax.proofs.TermTrees.{trees-Terms}

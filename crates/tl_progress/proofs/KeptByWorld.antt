@@ -1,9 +1,7 @@
 -- What is kept of worlds, and one number more.
-use Rattle.std.proofs.Common.{◌≡◌, ◌<◌, ◌&&◌, ℕ, List, Bool, true, false, cond, nat_eq, eqb-true, eq-eqb, Option, Some, None, slice_get, length, refl, sym, ap, ◌∙◌}
+use Rattle.std.proofs.Common.{◌≡◌, ◌&&◌, ℕ, List, Bool, true, false, cond, nat_eq, eqb-true, eq-eqb, Option, Some, refl, sym, ap, ◌∙◌}
 use Rattle.std.specs.Map.{lookup}
 use Rattle.indexmap.specs.IndexMap.{get}
-use Rattle.tl_nodes.specs.NodeTrees.{tree_at}
-use Rattle.tl_nodes.specs.Numbering.{Keeps}
 use Rattle.tl_syntax.specs.Trees.{FormulaTree}
 use Rattle.tl_terms.specs.Problem.{PlainProblem}
 use Rattle.tl_terms.specs.World.{World}

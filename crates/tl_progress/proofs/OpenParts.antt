@@ -1,11 +1,10 @@
 -- The parts of a join with temporal words, where those without are read.
-use Rattle.std.proofs.Common.{◌≡◌, ◌<◌, ◌≤◌, ◌+◌, ℕ, zero, suc, List, [], ◌∷◌, ◌++◌, map, drop, get_or, arith, Bool, true, false, not, Option, Some, slice_get, length, refl, sym, ap, ap₂, ◌∙◌, subst, append_assoc}
+use Rattle.std.proofs.Common.{◌≡◌, ◌<◌, ◌≤◌, ◌+◌, ℕ, zero, suc, List, [], ◌∷◌, ◌++◌, map, drop, get_or, arith, Bool, true, false, not, Some, slice_get, length, refl, sym, ap, ◌∙◌, subst, append_assoc}
 use mathlib.Core.Bool.{beq}
 use Rattle.std.proofs.lemmas.List.{map-append}
 use Rattle.std.proofs.Math.Seq.{drop-cons}
 use Rattle.tl_nodes.specs.Joins.{simplified_join}
 use Rattle.tl_nodes.specs.NodeTrees.{tree_at, trees_at}
-use Rattle.tl_nodes.specs.Numbering.{Keeps}
 use Rattle.tl_syntax.specs.declared.junction.Junction.{Junction}
 use Rattle.tl_syntax.specs.Assignment.{Assignment}
 use Rattle.tl_syntax.specs.Junctions.{deciding_truth}

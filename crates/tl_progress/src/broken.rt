@@ -67,8 +67,7 @@ fn is_among(fact: &Fact, adds: &[Fact]) -> bool
 fn is_deleted(pred: u32, terms: &[Term], dels: &[Fact], adds: &[Fact]) -> bool
     ensures { result ≡ is_deleted pred terms.now dels.now adds.now }
 {
-    dels.iter()
-        .any(|fact| is_fact_of(pred, terms, fact) && !is_among(fact, adds))
+    dels.iter().any(|fact| is_fact_of(pred, terms, fact) && !is_among(fact, adds))
 }
 
 // Whether the formula is a fact that the changes delete.

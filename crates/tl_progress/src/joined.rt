@@ -1,5 +1,5 @@
 // What has to hold next for a conjunction or a disjunction without free variables, from its parts with temporal words: the others are read first, and most residuals that prune a search are decided by one of them.
-ghost use Rattle.std.specs.Prelude.{◌≡◌, ◌<◌, List, map, length, IfOk, IfErr, IfSome, IfNone, false};
+ghost use Rattle.std.specs.Prelude.{◌≡◌, ◌<◌, map, length, IfOk, IfErr, IfSome, IfNone, false};
 ghost use Rattle.tl_eval.specs.Frames.{assignment_in};
 ghost use Rattle.tl_nodes.specs.Joins.{simplified_join};
 ghost use Rattle.tl_nodes.specs.NodeTrees.{tree_at, trees_at};
@@ -219,15 +219,7 @@ pub(crate) fn joined_residual(
 {
     match open_parts(residuals.alloc, nodes, task, w, env, joined) {
         Ok(Some(parts)) => {
-            parts_residual(
-                nodes,
-                task,
-                w,
-                env,
-                residuals,
-                joined,
-                parts.as_slice(),
-            )
+            parts_residual(nodes, task, w, env, residuals, joined, parts.as_slice())
         }
         Ok(None) => Ok(constant_number(nodes, joined.junction.deciding_truth())),
         Err(fault) => Err(fault),

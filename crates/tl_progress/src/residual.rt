@@ -236,16 +236,7 @@ fn quantifier_residual(
     let mut tuples = quantifier.open(nodes, task, env);
     let outer = quantifier.kept(nodes, env);
     let known = Known::new(alloc);
-    let answer = instances_residual(
-        alloc,
-        nodes,
-        task,
-        w,
-        env,
-        &known,
-        quantifier,
-        &mut tuples,
-    );
+    let answer = instances_residual(alloc, nodes, task, w, env, &known, quantifier, &mut tuples);
     quantifier.give_back(nodes, env, &outer);
     answer
 }

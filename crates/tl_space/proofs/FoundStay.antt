@@ -1,5 +1,5 @@
 -- What is kept of worlds for progression stays right.
-use Rattle.std.proofs.Common.{◌≡◌, ◌<◌, ℕ, List, Bool, true, false, nat_eq, eqb-true, eq-eqb, true≢false, Option, Some, None, slice_get, length, refl, sym, ap, subst, ◌∙◌}
+use Rattle.std.proofs.Common.{◌≡◌, ◌<◌, ℕ, List, Bool, true, false, nat_eq, eqb-true, eq-eqb, true≢false, Some, None, slice_get, length, refl, sym, ap, subst, ◌∙◌}
 use Rattle.tl_syntax.specs.Assignment.{Assignment}
 use Rattle.tl_syntax.specs.Trees.{FormulaTree}
 use Rattle.tl_terms.specs.Problem.{PlainProblem}

@@ -1,5 +1,5 @@
 -- Pairs that the changes of an action prune.
-use Rattle.std.proofs.Common.{◌≡◌, ◌++◌, ◌∷◌, ℕ, List, [], map, false, Some, slice_get, refl, sym, ap, ◌∙◌}
+use Rattle.std.proofs.Common.{◌≡◌, ℕ, List, map, false, Some, sym, ap, ◌∙◌}
 use Rattle.std.specs.Option.{option_map}
 use Rattle.tl_action.specs.declared.changes.Changes.{Changes}
 use Rattle.tl_action.specs.ChangedWorlds.{world_after}
@@ -7,7 +7,7 @@ use Rattle.tl_syntax.specs.declared.action.Action.{Action}
 use Rattle.tl_syntax.specs.declared.fact.Fact.{Fact}
 use Rattle.tl_syntax.specs.Assignment.{no_values}
 use Rattle.tl_syntax.specs.Keys.{fact_key}
-use Rattle.tl_syntax.specs.Trees.{FormulaTree, falsum}
+use Rattle.tl_syntax.specs.Trees.{FormulaTree}
 use Rattle.tl_terms.specs.Definitions.{situation_of}
 use Rattle.tl_terms.specs.Pairs.{Pair}
 use Rattle.tl_terms.specs.Problem.{PlainProblem}

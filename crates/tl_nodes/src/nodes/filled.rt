@@ -1,5 +1,5 @@
 // Trees with values put in, as they were found before.
-ghost use Rattle.std.specs.Prelude.{◌≡◌, ◌<◌, ◌≤◌, [], length, true, IsTrue};
+ghost use Rattle.std.specs.Prelude.{◌≡◌, ◌<◌, ◌≤◌, length, true, IsTrue};
 ghost use Rattle.tl_nodes.specs.Filled.{bindings_in, same_bindings, same_option};
 
 use tl_syntax::{Binding, Value};

@@ -45,11 +45,7 @@ impl Space {
     }
 
     /// The number of the world that the changes make of the world of a number.
-    pub(crate) fn number_after(
-        &mut self,
-        from: usize,
-        changes: &Changes,
-    ) -> Result<usize, NoMemory>
+    pub(crate) fn number_after(&mut self, from: usize, changes: &Changes) -> Result<usize, NoMemory>
         requires from { from < length (worlds_in self.old.worlds) }
         requires named { WorldIsNamed (name_count self.old) (world_after (world_at (worlds_in self.old.worlds) from) changes.now) }
         ensures keeps { KeepsPairs self.old self.new }

@@ -1,4 +1,4 @@
-use Rattle.std.proofs.Common.{◌≡◌, length, Some, ap, subst, ◌∙◌, sym}
+use Rattle.std.proofs.Common.{length, Some, ap, subst, ◌∙◌, sym}
 use Rattle.tl_action.specs.Actions.{StaysNamed}
 use Rattle.tl_terms.specs.World.{World}
 use Rattle.tl_action.proofs.next.next_world.Goals as goal

@@ -1,4 +1,4 @@
-use Rattle.std.proofs.Common.{◌<◌, length, true≢false, false, sym, arith}
+use Rattle.std.proofs.Common.{true≢false, false, sym, arith}
 use Rattle.tl_nodes.specs.Numbers.{trees}
 use Rattle.tl_progress.proofs.BrokenLaws.{leaves-basic, leaves-not}
 use Rattle.tl_progress.proofs.PutLayers.{less-Not}

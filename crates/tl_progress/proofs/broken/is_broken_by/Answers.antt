@@ -1,4 +1,3 @@
-use Rattle.std.proofs.Common.{sym}
 use Rattle.tl_nodes.specs.Numbers.{trees}
 use Rattle.tl_progress.proofs.BrokenLaws.{leaves-and}
 use Rattle.tl_progress.proofs.PutLayers.{below-And}

@@ -1,7 +1,5 @@
-use Rattle.std.proofs.Common.{◌≡◌, ◌<◌, ℕ, List, true, length, get_or, sym, subst, arith}
+use Rattle.std.proofs.Common.{◌≡◌, ℕ, List, true, get_or, sym, subst, arith}
 use Rattle.tl_nodes.specs.Fits.{all_below}
-use Rattle.tl_nodes.specs.NodeTrees.{tree_at}
-use Rattle.tl_nodes.specs.Numbers.{trees}
 use Rattle.tl_syntax.specs.Lists.{Among}
 use Rattle.tl_progress.proofs.Below.{among-at}
 use Rattle.tl_progress.proofs.PutLayers.{at-below}

@@ -1,18 +1,17 @@
 use Rattle.std.proofs.Common.{◌≡◌, List, ℕ, Option, Some, IfOk, IfErr, slice_get, sym, ap, ◌∙◌, subst}
 use Rattle.tl_eval.specs.Frames.{assignment_in}
 use Rattle.tl_nodes.specs.NodeTrees.{tree_at}
-use Rattle.tl_nodes.specs.Numbers.{trees, Denotes}
+use Rattle.tl_nodes.specs.Numbers.{trees}
 use Rattle.tl_syntax.specs.declared.value.Value.{Value}
 use Rattle.tl_syntax.specs.Lists.{Each}
 use Rattle.tl_syntax.specs.Trees.{FormulaTree}
 use Rattle.tl_terms.specs.ProblemMeaning.{plain_problem}
 use Rattle.tl_progress.specs.Answers.{IsCausedBy, looked_for_residual, residual}
-use Rattle.tl_progress.specs.KeptResiduals.{AreOpen}
 use Rattle.tl_progress.specs.Parts.{IsBelow}
 use Rattle.tl_nodes.specs.Joins.{simplified_join}
 use Rattle.tl_nodes.specs.NodeTrees.{trees_at}
 use Rattle.tl_terms.specs.Progression.{constant}
-use Rattle.std.specs.Prelude.{map, false, true}
+use Rattle.std.specs.Prelude.{map, false}
 use Rattle.tl_progress.proofs.joined.joined_residual.Goals as goal
 
 pub parts_residual-requires-clause-below : goal.parts_residual-requires-clause-below

@@ -1,4 +1,4 @@
-use Rattle.std.proofs.Common.{◌≡◌, ◌<◌, List, Bool, false, length, Option, refl, sym, ap, ◌∙◌, subst, arith}
+use Rattle.std.proofs.Common.{◌≡◌, List, Bool, false, Option, refl, sym, ap, ◌∙◌, subst, arith}
 use mathlib.Core.Bool.{beq}
 use Rattle.tl_eval.specs.Frames.{assignment_in}
 use Rattle.tl_nodes.specs.NodeTrees.{tree_at}

@@ -1,7 +1,6 @@
 use Rattle.std.proofs.Common.{◌≡◌, false}
 use Rattle.tl_eval.specs.Frames.{assignment_in}
 use Rattle.tl_nodes.specs.Numbers.{trees}
-use Rattle.tl_syntax.specs.Junctions.{deciding_truth}
 use Rattle.tl_syntax.specs.Lists.{Each}
 use Rattle.tl_terms.specs.ProblemMeaning.{plain_problem}
 use Rattle.tl_progress.specs.Parts.{IsBelow}

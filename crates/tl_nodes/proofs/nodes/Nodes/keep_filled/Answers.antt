@@ -1,10 +1,5 @@
-use Rattle.std.proofs.Common.{◌≡◌, ◌<◌, length, Some, slice_get, refl, sym, ap, ◌∙◌, arith, subst}
-use Rattle.std.specs.Prelude.{slice_set}
-use Rattle.tl_nodes.specs.NodeTrees.{tree_at}
+use Rattle.std.proofs.Common.{◌∙◌}
 use Rattle.tl_nodes.specs.Numbers.{trees}
-use Rattle.tl_nodes.specs.Filled.{IsFilled}
-use Rattle.tl_syntax.specs.Bindings.{assignment_of}
-use Rattle.tl_syntax.specs.Substitution.{substituted}
 use Rattle.tl_nodes.proofs.FilledTrees.{filled-set, set-length, is-filled}
 use Rattle.tl_nodes.proofs.nodes.Nodes.keep_filled.Goals as goal
 

@@ -1,5 +1,5 @@
 use Rattle.std.proofs.Common.{◌≤◌, List, length, refl, sym, subst}
-use Rattle.tl_eval.specs.Frames.{assignment_in, AreKept}
+use Rattle.tl_eval.specs.Frames.{assignment_in}
 use Rattle.tl_eval.specs.Reader.{Reads}
 use Rattle.tl_nodes.specs.NodeTrees.{tree_at}
 use Rattle.tl_nodes.specs.Numbers.{trees}
