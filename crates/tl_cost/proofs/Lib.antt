@@ -1,0 +1,15 @@
+pub mod CostOrder
+pub mod Reach
+pub mod Settling
+pub mod Improving
+pub mod Answering
+pub mod Ticking
+pub mod Rulesets
+pub mod Entries
+pub mod Followed
+pub mod Arriving
+pub mod Meeting
+pub mod Faulting
+pub mod Expanding
+pub mod Searching
+pub mod FileOrder

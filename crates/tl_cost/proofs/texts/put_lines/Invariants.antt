@@ -1,0 +1,14 @@
+use Rattle.std.proofs.Common.{◌≡◌, ◌++◌, drop}
+use Rattle.tl_syntax.specs.Lists.{Each}
+use Rattle.tl_line.specs.NamedActions.{ActionIsNamed}
+use Rattle.tl_line.specs.Puts.{Begins}
+use Rattle.tl_cost.specs.CostTexts.{plan_lines}
+use Rattle.tl_cost.proofs.texts.put_lines.Given as goal
+
+-- the lines so far, and after them those of the actions that are left
+abbrev pub invariant-loop-action : goal.invariant-loop-action
+invariant-loop-action l = record {
+  text : l.initial.out ++ plan_lines l.problem.names l.problem.domain.operators l.plan ≡ l.out ++ plan_lines l.problem.names l.problem.domain.operators (drop l.action-index l.plan);
+  named : Each (ActionIsNamed l.problem.names l.problem.domain.operators) (drop l.action-index l.plan);
+  begins : Begins l.initial.out l.out;
+}

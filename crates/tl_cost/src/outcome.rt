@@ -1,0 +1,13 @@
+// What a search for a cheapest plan answers.
+use tl_terms::Actions;
+
+/// What a search for a cheapest plan answers within a budget of pairs.
+#[derive(Drop)]
+pub enum CostOutcome {
+    /// An accepted plan of the least cost, and of those one of the fewest actions, with its cost.
+    Plan(Actions, u64),
+    /// No plan of any length is accepted.
+    NoPlan,
+    /// More pairs were met than the budget allows.
+    Spent,
+}

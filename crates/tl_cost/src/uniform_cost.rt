@@ -1,0 +1,107 @@
+// The search for a cheapest plan as its callers see it.
+ghost use Rattle.std.specs.Prelude.{◌≡◌, ◌≤◌, ℕ, [], length, IfOk, IfErr};
+ghost use Rattle.tl_search.specs.NamedAnswers.{FaultIsNamed};
+ghost use Rattle.tl_cost.specs.Ongoing.{IsBetweenTurns};
+ghost use Rattle.tl_cost.specs.Outcomes.{AnswersWhereCalm, CostOutcomeIsNamed, IsCheapestFault, IsCheapestOutcome};
+ghost use Rattle.tl_cost.specs.Ticks.{IsCounted, IsTicked};
+
+use crate::costs::Costs;
+use crate::outcome::CostOutcome;
+use crate::turn::UniformCost;
+use crate::ways::{Found, Way};
+use std::alloc::Global;
+use std::sync::ledger::Ledger;
+use tl_search::{Arrival, Pairs, SearchFault, SpaceFault};
+use tl_terms::{Actions, Steps};
+
+impl UniformCost<'_> {
+    /// The root, and then the pairs in their turns.
+    fn outcome<S: Pairs, L: Ledger>(
+        &self,
+        space: &mut S,
+        steps: &mut Steps<L>,
+    ) -> Result<CostOutcome, SearchFault>
+        requires empty { S.kept space.old ≡ [] }
+        requires some_nodes { 1 ≤ self.now.nodes }
+        requires nodes { self.now.nodes ≤ 100000 }
+        ensures task { S.task space.new ≡ S.task space.old }
+        ensures problem { S.problem space.new ≡ S.problem space.old }
+        ensures outcome { IfOk result (IsCheapestOutcome (S.problem space.old) self.now.costs.now self.now.nodes (S.kept space.new)) }
+        ensures steps { IsTicked (S.problem space.old) steps.old (S.kept space.new) steps.new }
+        ensures fault { IfErr result (IsCheapestFault (S.problem space.old) self.now.costs.now self.now.nodes) }
+        ensures plan_named { IfOk result (CostOutcomeIsNamed (S.task space.old)) }
+        ensures path_named { IfErr result (FaultIsNamed (S.task space.old)) }
+    {
+        match space.root() {
+            Ok(Arrival::Fresh(_)) => {
+                let mut found = Found::new(self.alloc);
+                found.add(Way::at_root())?;
+                self.all_turns(space, &mut found, steps)
+            }
+            Ok(Arrival::Seen(_)) => unreachable!(),
+            Ok(Arrival::Pruned) => Ok(CostOutcome::NoPlan),
+            Err(SpaceFault::RangeHere(note)) => {
+                let path = Actions::new(self.alloc);
+                Err(SearchFault::Range { path, note })
+            }
+            Err(SpaceFault::RangeAfter(_)) => unreachable!(),
+            Err(SpaceFault::NoMemory) => Err(SearchFault::NoMemory),
+        }
+    }
+
+    /// The open pairs are settled one after another, the one of the least cost first, and of those one of the least length.
+    fn all_turns<S: Pairs, L: Ledger>(
+        &self,
+        space: &mut S,
+        found: &mut Found,
+        steps: &mut Steps<L>,
+    ) -> Result<CostOutcome, SearchFault>
+        requires between { IsBetweenTurns (S.problem space.old) (S.task space.old) self.now.costs.now self.now.nodes (S.kept space.old) found.old }
+        requires nodes { self.now.nodes ≤ 100000 }
+        ensures task { S.task space.new ≡ S.task space.old }
+        ensures problem { S.problem space.new ≡ S.problem space.old }
+        ensures outcome { IfOk result (IsCheapestOutcome (S.problem space.old) self.now.costs.now self.now.nodes (S.kept space.new)) }
+        ensures steps { (from : ℕ) → IsCounted (S.problem space.old) from (S.kept space.old) found.old steps.old → IsTicked (S.problem space.old) from (S.kept space.new) steps.new }
+        ensures fault { IfErr result (IsCheapestFault (S.problem space.old) self.now.costs.now self.now.nodes) }
+        ensures plan_named { IfOk result (CostOutcomeIsNamed (S.task space.old)) }
+        ensures path_named { IfErr result (FaultIsNamed (S.task space.old)) }
+    {
+        while let Some(next) = found.open_list.take_first() {
+            match self.settle(space, found, next.number, steps)? {
+                Some(outcome) => return Ok(outcome),
+                None => {}
+            }
+        }
+        Ok(CostOutcome::NoPlan)
+    }
+}
+
+/// Searches for a plan of the least cost among at most `nodes` pairs, by uniform-cost search (Dijkstra 1959): of the kept pairs that are not settled, the one with the least cost, then the least length and then the least number is settled next.
+/// The cost of a plan is the sum of the costs of its actions' operators, which may be 0; of the accepted plans of the least cost the answer has one of the fewest actions. `Spent` comes with the pair that is one too many.
+/// It fails for want of memory, and at an operation past the 64 bits of an integer, with a path to it. Each action of a kept pair is tried at most once.
+pub fn cheapest<S: Pairs, L: Ledger>(
+    alloc: Global,
+    space: &mut S,
+    costs: &Costs,
+    nodes: u32,
+    steps: &mut Steps<L>,
+) -> Result<CostOutcome, SearchFault>
+    requires empty { S.kept space.old ≡ [] }
+    requires some_nodes { 1 ≤ nodes }
+    requires nodes { nodes ≤ 100000 }
+    ensures task { S.task space.new ≡ S.task space.old }
+    ensures problem { S.problem space.new ≡ S.problem space.old }
+    ensures outcome { IfOk result (IsCheapestOutcome (S.problem space.old) costs.now nodes (S.kept space.new)) }
+    ensures steps { IsTicked (S.problem space.old) steps.old (S.kept space.new) steps.new }
+    ensures calm { AnswersWhereCalm (S.problem space.old) costs.now nodes result }
+    ensures fault { IfErr result (IsCheapestFault (S.problem space.old) costs.now nodes) }
+    ensures named { IfOk result (CostOutcomeIsNamed (S.task space.old)) }
+    ensures path_named { IfErr result (FaultIsNamed (S.task space.old)) }
+{
+    let search = UniformCost {
+        alloc,
+        costs,
+        nodes: nodes as usize,
+    };
+    search.outcome(space, steps)
+}
