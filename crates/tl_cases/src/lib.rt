@@ -16,6 +16,7 @@
 //! - `names`, `lists`, `trees`: the parts of a problem. `renumbering`: other numbers for names. `nodes`: interned formulas.
 //! - `worlds`, `matches`: worlds without a domain, and the matches of patterns in them.
 //! - `truth`, `terms`, `tuples`: state formulas, terms and bounds. `actions`, `steps`: the actions of a world, and where they lead. `counts`: counts of steps.
+//! - `costs`: costs files, and cheapest plans.
 //! - `outside`, `adapters`: files and answers, in memory and over the machine.
 //! - `progression`: what formulas progress to, and their idling check. `labels`: formulas as texts.
 //! - `spaces`: what arrives at a search space, which pairs are accepted, and paths. `certificates`: proof files, and the verdicts on proofs that there is no plan.
@@ -32,6 +33,8 @@ mod answers;
 mod certificates;
 #[cfg(test)]
 mod checks;
+#[cfg(test)]
+mod costs;
 #[cfg(test)]
 mod counts;
 #[cfg(test)]
