@@ -1,9 +1,7 @@
 -- What a search for a cheapest plan answers.
-use Rattle.std.proofs.Common.{◌≡◌, ◌≤◌, ◌<◌, ◌⊎◌, ℕ, ◌+◌, Bool, true, false, List, [], ◌∷◌, ◌++◌, length, slice_get, Option, Some, None, refl, sym, ap, ◌∙◌, subst, inl, inr, arith, add-one}
+use Rattle.std.proofs.Common.{◌≡◌, ◌≤◌, ◌<◌, ◌⊎◌, ℕ, ◌+◌, Bool, false, List, [], ◌∷◌, ◌++◌, length, slice_get, Option, Some, None, refl, sym, ap, ◌∙◌, subst, inl, inr, arith, add-one}
 use Rattle.std.proofs.lemmas.Option.{slice_get_within}
 use Rattle.tl_syntax.specs.declared.action.Action.{Action}
-use Rattle.tl_syntax.specs.Lists.{Among}
-use Rattle.tl_terms.specs.Acceptance.{IsAccepted}
 use Rattle.tl_terms.specs.Looked.{looked_by_action, looked_by_idling, looked_by_progressing}
 use Rattle.tl_terms.specs.Pairs.{Pair, pair_of, IsOpen, IsPairAccepted}
 use Rattle.tl_terms.specs.Problem.{PlainProblem}
@@ -16,24 +14,22 @@ use Rattle.tl_search.specs.Calls.{AreNamedIn}
 use Rattle.tl_search.specs.Graphs.{walk}
 use Rattle.tl_search.specs.Kept.{AreKept}
 use Rattle.tl_search.specs.KeptPairs.{KeptPair, pairs_of}
-use Rattle.tl_search.specs.NamedAnswers.{IsNamedIn}
 use Rattle.tl_search.specs.PairGraph.{pair_graph}
 use Rattle.tl_search.proofs.KeptLaws.{pair-kept}
 use Rattle.tl_search.proofs.NamedLaws.{path-named}
 use Rattle.tl_search.proofs.PathLaws.{walk-pair, walk-open, walk-accepted, prefix-open}
-use Rattle.tl_search.proofs.RangeLaws.{range-at-root, range-by-idling, range-by-action, range-after}
+use Rattle.tl_search.proofs.RangeLaws.{range-by-idling, range-by-action, range-after}
 use Rattle.tl_search.proofs.WalkLaws.{by_last, length-snoc, walk-onward}
 use Rattle.tl_search.proofs.ListLaws.{get-one, get-either, get-inside}
-use Rattle.tl_cost.specs.LeastCosts.{AreNearPairs, BeginsCheaply, EndsCheaply, HasNoCheaperPlan, IsCheapestCause, IsCheapestPlan, IsLeastCost, IsNearPair}
-use Rattle.tl_cost.specs.Ongoing.{IsAt, IsWayTo, IsLinked, IsOngoing}
+use Rattle.tl_cost.specs.LeastCosts.{AreNearPairs, BeginsCheaply, HasNoCheaperPlan, IsCheapestCause, IsCheapestPlan, IsLeastCost, IsNearPair}
+use Rattle.tl_cost.specs.Ongoing.{IsAt, IsLinked, IsOngoing}
 use Rattle.tl_cost.specs.PlanCosts.{action_cost, plan_cost}
-use Rattle.tl_cost.specs.Ways.{IsUpto, AreLinked, Follows, at_root, onward, entry_of}
+use Rattle.tl_cost.specs.Ways.{AreLinked, Follows, at_root, onward, entry_of}
 use Rattle.tl_cost.specs.declared.open_list.Entry.{Entry}
 use Rattle.tl_cost.specs.declared.ways.Way.{Way}
 use Rattle.tl_cost.specs.declared.ways.LastStep.{LastStep}
 use Rattle.tl_cost.proofs.CostOrder.{plan-cost-snoc}
 use Rattle.tl_cost.proofs.Improving.{pair-at}
-use Rattle.tl_cost.proofs.Settling.{at-one}
 
 -- a path that the last steps of ways give
 pub record IsFollowed (p : PlainProblem) (task : Task) (costs : List ℕ) (x : Pair) (w : Way) (path : List Action) : Type 0 where

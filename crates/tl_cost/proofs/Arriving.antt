@@ -1,7 +1,5 @@
 -- What a search does with the pair after an action.
-use Rattle.std.proofs.Common.{◌≡◌, ◌≢◌, ◌≤◌, ◌<◌, ◌⊎◌, ◌↔◌, ℕ, ◌+◌, ◌*◌, ◌^◌, Bool, true, false, List, [], ◌∷◌, ◌++◌, length, slice_get, Option, Some, None, IsTrue, is_some, refl, sym, ap, ◌∙◌, subst, inl, inr, arith}
-use native.Mathlib.Decide.{ℕ_discrete}
-use Rattle.std.specs.List.{slice_set}
+use Rattle.std.proofs.Common.{◌≡◌, ◌≢◌, ◌≤◌, ◌<◌, ◌↔◌, ℕ, ◌+◌, ◌*◌, Bool, true, false, List, [], ◌∷◌, ◌++◌, length, slice_get, Option, Some, refl, sym, ap, ◌∙◌, subst, inl, inr, arith}
 use Rattle.std.proofs.lemmas.List.{length-set}
 use Rattle.std.proofs.lemmas.Option.{slice_get_within}
 use Rattle.tl_syntax.specs.declared.action.Action.{Action}
@@ -15,16 +13,16 @@ use Rattle.tl_search.specs.Graphs.{walk}
 use Rattle.tl_search.specs.Kept.{AreKept}
 use Rattle.tl_search.specs.KeptPairs.{KeptPair}
 use Rattle.tl_search.specs.NamedAnswers.{IsNamedIn}
-use Rattle.tl_search.specs.PairGraph.{next_pair, unless_pruned, pair_graph}
+use Rattle.tl_search.specs.PairGraph.{next_pair, pair_graph}
 use Rattle.tl_search.specs.declared.arrival.Arrival.TheVariants as arrival
-use Rattle.tl_search.proofs.ListLaws.{get-old, get-new, get-either, get-one, get-inside}
+use Rattle.tl_search.proofs.ListLaws.{get-old, get-new, get-either, get-inside}
 use Rattle.tl_search.proofs.PathLaws.{unless-pruned, walk-pair}
 use Rattle.tl_search.proofs.WalkLaws.{length-snoc}
-use Rattle.tl_cost.specs.Ongoing.{IsAt, IsReached, IsOngoing, IsInTurn}
+use Rattle.tl_cost.specs.Ongoing.{IsAt, IsInTurn}
 use Rattle.tl_cost.specs.Outcomes.{IsSpentNear, OpensAsMany}
 use Rattle.tl_cost.specs.PlanCosts.{action_cost}
-use Rattle.tl_cost.specs.Ticks.{Extends, IsSettled, StaySettled}
-use Rattle.tl_cost.specs.Ways.{IsUpto, Adds, GoesOn, HasRoom, Improves, IsMet, Meets, Moves, entry_of, is_listed, listed_len}
+use Rattle.tl_cost.specs.Ticks.{Extends, StaySettled}
+use Rattle.tl_cost.specs.Ways.{IsUpto, Adds, GoesOn, HasRoom, Improves, IsMet, Meets, entry_of, is_listed, listed_len}
 use Rattle.tl_cost.specs.declared.open_list.Entry.{Entry}
 use Rattle.tl_cost.specs.declared.ways.Way.{Way}
 use Rattle.tl_cost.specs.declared.ways.Found.{Found}

@@ -1,5 +1,5 @@
 -- The order of ways by cost and length, and the costs of paths with one more action.
-use Rattle.std.proofs.Common.{◌≡◌, ◌≤◌, ℕ, ◌+◌, List, [], ◌∷◌, ◌++◌, length, refl, sym, ap, ◌∙◌, arith, add-one}
+use Rattle.std.proofs.Common.{◌≡◌, ◌≤◌, ℕ, ◌+◌, List, [], ◌∷◌, ◌++◌, length, sym, ◌∙◌, arith, add-one}
 use Rattle.tl_syntax.specs.declared.action.Action.{Action}
 use Rattle.tl_search.proofs.WalkLaws.{length-snoc}
 use Rattle.tl_cost.specs.PlanCosts.{action_cost, plan_cost}

@@ -1,11 +1,10 @@
 -- The open list as a set of entries in their order.
-use Rattle.std.proofs.Common.{◌≡◌, ◌<◌, ◌≤◌, ◌⊎◌, ℕ, ◌+◌, Bool, true, false, not, List, [], length, Less, Equal, Greater, refl, sym, ap, ◌∙◌, arith, Ordering, cond, IsTrue}
+use Rattle.std.proofs.Common.{◌≡◌, ◌<◌, ℕ, true, false, Less, Equal, Greater, refl, sym, ap, arith, Ordering}
 use native.Mathlib.Decide.{ℕ_discrete}
-use Rattle.std.specs.Cmp.{IsTotalOrder}
 use Rattle.std.specs.Ordering.{nat_cmp, ordering_then, is_gt, is_eq, MatchOrdering}
 use Rattle.std.specs.BTreeMap.{is_at}
-use Rattle.std.specs.BTreeSet.{BTreeSet, IsLowerBound, Updates}
-use Rattle.std.proofs.lemmas.Cmp.{ranked, tied_itself, nat_cmp_total, on_total, then_total}
+use Rattle.std.specs.BTreeSet.{IsLowerBound, Updates}
+use Rattle.std.proofs.lemmas.Cmp.{ranked}
 use Rattle.tl_cost.specs.Ways.{IsUpto, Adds, Drops, IsFirstOf, entry_cmp, is_listed}
 use Rattle.tl_cost.specs.declared.open_list.Entry.{Entry}
 use Rattle.tl_cost.specs.declared.open_list.OpenList.{OpenList}

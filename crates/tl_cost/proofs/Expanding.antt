@@ -1,7 +1,6 @@
 -- A pair's actions are tried one after another.
-use Rattle.std.proofs.Common.{◌≡◌, ◌≤◌, ◌<◌, ℕ, zero, suc, ◌+◌, List, [], ◌∷◌, length, drop, slice_get, Option, Some, None, IsTrue, is_some, refl, sym, ap, ◌∙◌, subst, arith}
+use Rattle.std.proofs.Common.{◌≡◌, ◌≤◌, ℕ, zero, suc, ◌+◌, List, [], ◌∷◌, length, drop, slice_get, Option, Some, None, IsTrue, is_some, refl, sym, ap, ◌∙◌, subst, arith}
 use Rattle.tl_syntax.specs.declared.action.Action.{Action}
-use Rattle.tl_syntax.specs.Lists.{Among}
 use Rattle.tl_terms.specs.Problem.{PlainProblem}
 use Rattle.tl_terms.specs.Step.{step}
 use Rattle.tl_world.specs.declared.task.Task.{Task}

@@ -1,5 +1,5 @@
 -- Faults past range in the turn of a pair.
-use Rattle.std.proofs.Common.{◌≡◌, ◌<◌, ℕ, List, [], ◌∷◌, ◌++◌, length, Option, Some, refl, sym, subst}
+use Rattle.std.proofs.Common.{◌≡◌, ◌<◌, ℕ, List, length, Option, Some, refl, sym, subst}
 use Rattle.std.proofs.lemmas.Option.{slice_get_within}
 use Rattle.tl_syntax.specs.declared.action.Action.{Action}
 use Rattle.tl_terms.specs.Looked.{looked_by_action, looked_by_idling, looked_by_progressing}
@@ -18,7 +18,7 @@ use Rattle.tl_search.proofs.NamedLaws.{path-named}
 use Rattle.tl_cost.specs.LeastCosts.{IsCheapestCause}
 use Rattle.tl_cost.specs.Ongoing.{IsInTurn}
 use Rattle.tl_cost.specs.Outcomes.{IsCheapestFault, TellsWay, TellsWayOn}
-use Rattle.tl_cost.specs.Ways.{AreLinked, Follows, is_listed, listed_len}
+use Rattle.tl_cost.specs.Ways.{AreLinked, is_listed, listed_len}
 use Rattle.tl_cost.specs.declared.ways.Found.{Found}
 use Rattle.tl_cost.proofs.Answering.{are-linked, turn-acting, turn-after, turn-idling, turn-named}
 

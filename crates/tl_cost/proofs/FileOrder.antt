@@ -1,9 +1,9 @@
 -- The order of what the forms of a costs file break, and how many costs they stand for.
-use Rattle.std.proofs.Common.{◌≡◌, ◌≤◌, ◌<◌, ℕ, ◌+◌, ◌*◌, List, [], ◌∷◌, ◌++◌, length, map, Option, Some, None, refl, sym, ap, ◌∙◌, arith}
+use Rattle.std.proofs.Common.{◌≡◌, ◌≤◌, ℕ, ◌+◌, ◌*◌, List, length, Option, Some, None, refl, ap, ◌∙◌, arith}
 use Rattle.std.specs.Prelude.{ℤ, not, is_some, unwrap_or, Result, Ok, Err, IfErr, IfOk}
 use Rattle.std.proofs.lemmas.List.{length-map, length-replicate, length-set}
-use Rattle.tl_sexpr.specs.Tree.{FormTree, FormTrees, no_form, more_forms}
-use Rattle.tl_sexpr.specs.Offsets.{RisesFrom, RiseFrom, AreAsRead}
+use Rattle.tl_sexpr.specs.Tree.{FormTrees, no_form, more_forms}
+use Rattle.tl_sexpr.specs.Offsets.{RiseFrom, AreAsRead}
 use Rattle.tl_syntax.specs.declared.operator.Operator.{Operator}
 use Rattle.tl_forms.specs.declared.rule.Rule.TheVariants.{Shape, Twice, Limit, NoOperator}
 use Rattle.tl_forms.specs.Parts.{offset_of, is_within}
@@ -13,7 +13,7 @@ use Rattle.tl_forms.specs.Reads.{Reads, IsLeastFault}
 use Rattle.tl_forms.proofs.Offsets.{form-within}
 use Rattle.tl_forms.proofs.Order.{first-least, IsInOrder, both, none, one, tested}
 use Rattle.tl_line.specs.Actions.{operator_at}
-use Rattle.tl_cost.specs.CostFiles.{cost_breaks, costs_breaks, costs_meant, entries_breaks, entry_breaks, entry_meant, entry_of_form, given_after, is_given, none_given, parts_breaks, with_entry}
+use Rattle.tl_cost.specs.CostFiles.{cost_breaks, costs_breaks, costs_meant, entries_breaks, entry_meant, entry_of_form, given_after, is_given, none_given, parts_breaks, with_entry}
 
 cost-order : (given : List (Option ℕ)) (op : Option ℕ) (z : ℤ) (at low high : ℕ) → low ≤ 64 * at + 12 → 64 * at + 30 ≤ high → IsInOrder low (cost_breaks given op z at) high
 cost-order given op z at low high before after = both low (64 * at + 12) high _ _ (tested (is_given given op) Twice at low (64 * at + 12) (omega arith) (omega arith)) (both (64 * at + 12) (64 * at + 19) high _ _ (tested (not (is_within 0 1000000 z)) Limit at (64 * at + 12) (64 * at + 19) (omega arith) (omega arith)) (tested (not (is_some op)) NoOperator at (64 * at + 19) high (omega arith) (omega arith)))

@@ -5,7 +5,6 @@ use Rattle.std.specs.Option.{option_map}
 use Rattle.std.proofs.lemmas.List.{reverse-append}
 use Rattle.std.proofs.lemmas.Option.{slice_get_within}
 use Rattle.tl_syntax.specs.declared.action.Action.{Action}
-use Rattle.tl_search.proofs.ListLaws.{get-one}
 use Rattle.tl_cost.specs.Ways.{AreLinked, Follows, at_root, onward}
 use Rattle.tl_cost.specs.declared.ways.Way.{Way}
 use Rattle.tl_cost.specs.declared.ways.LastStep.{LastStep}

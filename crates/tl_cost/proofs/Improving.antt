@@ -1,26 +1,24 @@
 -- A pair is kept with its first way, or its way is replaced by one that comes no later.
-use Rattle.std.proofs.Common.{◌≡◌, ◌≤◌, ◌<◌, ◌⊎◌, ℕ, ◌+◌, ◌*◌, Bool, true, false, List, [], ◌∷◌, ◌++◌, length, slice_get, Option, Some, None, refl, sym, ap, ◌∙◌, subst, inl, inr, arith, add-one}
+use Rattle.std.proofs.Common.{◌≡◌, ◌≤◌, ◌<◌, ℕ, ◌+◌, ◌*◌, Bool, true, false, List, [], ◌∷◌, ◌++◌, length, slice_get, Option, Some, None, refl, sym, ap, ◌∙◌, subst, inl, inr, arith, add-one}
 use native.Mathlib.Decide.{ℕ_discrete}
-use Rattle.std.specs.List.{slice_set}
 use Rattle.std.proofs.lemmas.Option.{slice_get_within}
 use Rattle.tl_syntax.specs.declared.action.Action.{Action}
-use Rattle.tl_terms.specs.Pairs.{Pair, IsPairAccepted}
+use Rattle.tl_terms.specs.Pairs.{Pair}
 use Rattle.tl_terms.specs.Problem.{PlainProblem}
 use Rattle.tl_world.specs.declared.task.Task.{Task}
-use Rattle.tl_search.specs.Graphs.{walk}
 use Rattle.tl_search.specs.Kept.{AreKept}
 use Rattle.tl_search.specs.KeptPairs.{KeptPair}
 use Rattle.tl_search.specs.NamedAnswers.{IsNamedIn}
 use Rattle.tl_search.specs.PairGraph.{pair_graph}
-use Rattle.tl_search.proofs.ListLaws.{get-one, get-inside}
+use Rattle.tl_search.proofs.ListLaws.{get-inside}
 use Rattle.tl_search.proofs.WalkLaws.{length-snoc, walk-onward}
-use Rattle.tl_cost.specs.Ongoing.{IsAt, IsWayTo, IsReached, IsLinked, IsStepFrom, IsUntried, IsOngoing}
-use Rattle.tl_cost.specs.PlanCosts.{action_cost, plan_cost}
+use Rattle.tl_cost.specs.Ongoing.{IsAt, IsWayTo, IsReached, IsLinked, IsOngoing}
+use Rattle.tl_cost.specs.PlanCosts.{action_cost}
 use Rattle.tl_cost.specs.Ways.{IsUpto, GoesOn, entry_of}
 use Rattle.tl_cost.specs.declared.open_list.Entry.{Entry}
 use Rattle.tl_cost.specs.declared.ways.Way.{Way}
 use Rattle.tl_cost.specs.declared.ways.LastStep.{LastStep}
-use Rattle.tl_cost.proofs.CostOrder.{upto-refl, upto-trans, upto-from, upto-grows, upto-never, plan-cost-snoc}
+use Rattle.tl_cost.proofs.CostOrder.{upto-refl, upto-trans, upto-from, upto-grows, plan-cost-snoc}
 use Rattle.tl_cost.proofs.Settling.{at-one, linked-on, untried-more}
 
 -- the pair of number k is y, open and with this way, and had none or one that comes no earlier, and was open; all else is as before

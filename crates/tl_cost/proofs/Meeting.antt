@@ -1,10 +1,10 @@
 -- A kept pair is met again.
-use Rattle.std.proofs.Common.{◌≡◌, ◌≤◌, ℕ, ◌+◌, Bool, true, false, List, length, slice_get, Some, refl, sym, ap, ◌∙◌, subst, inl, inr, arith}
+use Rattle.std.proofs.Common.{◌≡◌, ℕ, ◌+◌, Bool, true, false, List, slice_get, Some, refl, sym, ap, ◌∙◌, subst, inl, inr}
 use Rattle.std.specs.List.{slice_set}
 use Rattle.tl_syntax.specs.declared.action.Action.{Action}
 use Rattle.tl_search.proofs.ListLaws.{get-one}
 use Rattle.tl_cost.specs.PlanCosts.{action_cost}
-use Rattle.tl_cost.specs.Ways.{IsUpto, GoesOn, Improves, IsMet, Meets, Moves, TellsOrder, entry_of, is_listed, listed_len}
+use Rattle.tl_cost.specs.Ways.{IsUpto, GoesOn, IsMet, Meets, Moves, TellsOrder, entry_of, is_listed, listed_len}
 use Rattle.tl_cost.specs.declared.open_list.Entry.{Entry}
 use Rattle.tl_cost.specs.declared.ways.Way.{Way}
 use Rattle.tl_cost.specs.declared.ways.Found.{Found}

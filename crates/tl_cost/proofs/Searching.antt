@@ -1,5 +1,5 @@
 -- A search from the root on, turn by turn.
-use Rattle.std.proofs.Common.{◌≡◌, ◌≢◌, ◌≤◌, ◌<◌, ◌⊎◌, ℕ, ◌+◌, ◌-◌, Bool, true, false, List, [], ◌∷◌, ◌++◌, length, slice_get, Option, Some, None, Result, Ok, Err, IfOk, refl, sym, ap, ◌∙◌, subst, inl, inr, arith}
+use Rattle.std.proofs.Common.{◌≡◌, ◌≢◌, ◌≤◌, ◌<◌, ℕ, ◌+◌, ◌-◌, Bool, true, false, List, [], ◌∷◌, ◌++◌, length, slice_get, Option, Some, None, Result, Ok, Err, IfOk, refl, sym, ap, ◌∙◌, subst, inl, arith}
 use Rattle.std.specs.Prelude.{IfErr}
 use Rattle.tl_syntax.specs.declared.action.Action.{Action}
 use Rattle.tl_syntax.specs.Trees.{falsum}
@@ -24,15 +24,14 @@ use Rattle.tl_search.proofs.PathLaws.{unless-pruned, walk-accepted}
 use Rattle.tl_search.proofs.RangeLaws.{range-at-root}
 use Rattle.tl_cost.specs.LeastCosts.{HasFewNearPairs, IsCalmAtLeastCost, IsCheapestCause}
 use Rattle.tl_cost.specs.Ongoing.{IsAt, IsOngoing, IsBetweenTurns, IsInTurn}
-use Rattle.tl_cost.specs.Outcomes.{AnswersWhereCalm, IsCheapestFault, IsCheapestOutcome, IsPlanOrNone, OpensAsMany}
-use Rattle.tl_cost.specs.Ticks.{Turn, AreTurns, IsTicked, IsCounted, IsSettled, StaySettled}
+use Rattle.tl_cost.specs.Outcomes.{AnswersWhereCalm, IsCheapestFault, IsCheapestOutcome, OpensAsMany}
+use Rattle.tl_cost.specs.Ticks.{IsTicked, IsCounted, IsSettled, StaySettled}
 use Rattle.tl_cost.specs.Ways.{Adds, Drops, IsFirstOf, entry_of, is_listed, listed_len}
 use Rattle.tl_cost.specs.declared.open_list.Entry.{Entry}
 use Rattle.tl_cost.specs.declared.open_list.OpenList.{OpenList}
 use Rattle.tl_cost.specs.declared.outcome.CostOutcome.{CostOutcome}
 use Rattle.tl_cost.specs.declared.outcome.CostOutcome.TheVariants as outcome
 use Rattle.tl_cost.specs.declared.ways.Found.{Found}
-use Rattle.tl_cost.specs.declared.ways.LastStep.{LastStep}
 use Rattle.tl_cost.specs.declared.ways.Way.{Way}
 use Rattle.tl_cost.proofs.CostOrder.{upto-zero}
 use Rattle.tl_cost.proofs.Entries.{same-entry}

@@ -4,7 +4,6 @@ use native.Mathlib.Decide.{ℕ_discrete}
 use Rattle.std.specs.Option.{option_map}
 use Rattle.tl_syntax.specs.declared.action.Action.{Action}
 use Rattle.tl_syntax.specs.Lists.{Among}
-use Rattle.tl_terms.specs.Acceptance.{IsAccepted}
 use Rattle.tl_terms.specs.Orders.{action_cmp}
 use Rattle.tl_terms.specs.Pairs.{Pair, IsPairAccepted}
 use Rattle.tl_terms.specs.Problem.{PlainProblem}
@@ -12,13 +11,12 @@ use Rattle.tl_terms.specs.Step.{step}
 use Rattle.tl_terms.specs.World.{World}
 use Rattle.tl_terms.proofs.OrderLaws.{actions-total}
 use Rattle.tl_world.specs.declared.task.Task.{Task}
-use Rattle.tl_search.specs.Graphs.{walk}
 use Rattle.tl_search.specs.KeptPairs.{KeptPair}
 use Rattle.tl_search.specs.ListedActions.{ListsActions}
 use Rattle.tl_search.specs.PairGraph.{pair_in, next_pair, pair_graph}
 use Rattle.tl_search.proofs.ListLaws.{get-one, decide_among}
 use Rattle.tl_search.proofs.PathLaws.{unless-pruned}
-use Rattle.tl_cost.specs.Ongoing.{IsAt, IsReached, IsLinked, IsStepFrom, IsUntried, IsOngoing}
+use Rattle.tl_cost.specs.Ongoing.{IsAt, IsReached, IsLinked, IsUntried, IsOngoing}
 use Rattle.tl_cost.specs.PlanCosts.{action_cost, plan_cost}
 use Rattle.tl_cost.specs.Ways.{IsUpto, Drops, entry_of}
 use Rattle.tl_cost.specs.declared.open_list.Entry.{Entry}

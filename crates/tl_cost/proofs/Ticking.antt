@@ -1,8 +1,8 @@
 -- The steps of turns add up.
-use Rattle.std.proofs.Common.{◌≡◌, ◌≤◌, ◌⊎◌, ℕ, ◌+◌, List, [], ◌∷◌, ◌++◌, length, take, drop, slice_get, Some, IsTrue, is_some, refl, sym, ap, ◌∙◌, subst, arith, inl, inr, add-one}
+use Rattle.std.proofs.Common.{◌≡◌, ◌≤◌, ◌⊎◌, ℕ, ◌+◌, List, [], ◌∷◌, ◌++◌, length, take, drop, slice_get, Some, IsTrue, is_some, sym, ap, ◌∙◌, subst, arith, inl, inr}
 use Rattle.std.proofs.lemmas.List.{length-take-le, take-append-drop}
 use Rattle.tl_syntax.specs.declared.action.Action.{Action}
-use Rattle.tl_syntax.specs.Lists.{Among, Each, Rises}
+use Rattle.tl_syntax.specs.Lists.{Among, Rises}
 use Rattle.tl_syntax.proofs.ListLaws.{Each-append}
 use Rattle.tl_terms.specs.Orders.{action_cmp}
 use Rattle.tl_terms.specs.Problem.{PlainProblem}

@@ -1,4 +1,4 @@
-use Rattle.std.proofs.Common.{◌≡◌, ◌+◌, true, false, Bool, cond, ℕ, length, ap, subst, ◌∙◌}
+use Rattle.std.proofs.Common.{◌≡◌, ◌+◌, true, false, Bool, length, ap, subst, ◌∙◌}
 use Rattle.std.specs.Prelude.{not, if◌then◌else◌}
 use Rattle.tl_cost.specs.Ways.{is_listed}
 use Rattle.tl_cost.proofs.Entries.{adds-one}

@@ -1,4 +1,4 @@
-use Rattle.std.proofs.Common.{◌≡◌, false, Option, Some, None}
+use Rattle.std.proofs.Common.{false, Option, Some, None}
 use Rattle.std.specs.Prelude.{IfSome}
 use Rattle.std.specs.BTreeSet.{IsLowerBound, Updates}
 use Rattle.tl_cost.specs.Ways.{Drops, IsFirstOf, entry_cmp, is_listed}

@@ -1,8 +1,7 @@
-use Rattle.std.proofs.Common.{◌≡◌, ◌+◌, ℕ, length, refl, sym, ap, ◌∙◌, subst, arith}
-use Rattle.tl_cost.specs.Ongoing.{IsBetweenTurns, IsInTurn}
+use Rattle.std.proofs.Common.{refl, ◌∙◌, subst}
+use Rattle.tl_cost.specs.Ongoing.{IsBetweenTurns}
 use Rattle.tl_cost.specs.Outcomes.{IsCheapestOutcome}
-use Rattle.tl_cost.specs.Ticks.{TicksTurn, IsTicked}
-use Rattle.tl_cost.specs.Ways.{listed_len}
+use Rattle.tl_cost.specs.Ticks.{TicksTurn}
 use Rattle.tl_cost.specs.declared.ways.Found.{Found}
 use Rattle.tl_cost.proofs.Expanding.{turn-same}
 use Rattle.tl_cost.proofs.Searching.{between-none, between-few, between-settles, between-unsettled, between-stay, turn-settled, turns-fall, counted-ticked}

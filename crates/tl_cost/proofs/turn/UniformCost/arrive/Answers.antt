@@ -1,11 +1,9 @@
-use Rattle.std.proofs.Common.{◌≡◌, ◌≤◌, ◌<◌, ℕ, ◌+◌, List, [], ◌∷◌, ◌++◌, length, slice_get, Some, refl, sym, ap, ◌∙◌, subst, inl, inr, arith}
+use Rattle.std.proofs.Common.{subst}
 use Rattle.tl_search.specs.Kept.{AreKept}
 use Rattle.tl_search.specs.PairGraph.{pair_graph}
 use Rattle.tl_search.proofs.ListLaws.{get-one}
-use Rattle.tl_cost.specs.Ongoing.{IsInTurn}
-use Rattle.tl_cost.specs.Ticks.{Extends}
 use Rattle.tl_cost.specs.Ways.{IsMet}
-use Rattle.tl_cost.proofs.Arriving.{turn-room, fresh-unlisted, fresh-spent, fresh-turn, fresh-stay, fresh-opens, fresh-extends, its-way, seen-met, seen-turn, seen-stay, seen-opens, stay-settled, pruned-turn}
+use Rattle.tl_cost.proofs.Arriving.{fresh-unlisted, fresh-spent, fresh-turn, fresh-stay, fresh-extends, its-way, seen-met, seen-turn, seen-stay, seen-opens, stay-settled, pruned-turn}
 use Rattle.tl_cost.proofs.Faulting.{turn-inside, turn-linked, fault-named, fault-acting, fault-after, fault-after-named}
 use Rattle.tl_cost.proofs.turn.UniformCost.arrive.Goals as goal
 

@@ -1,7 +1,6 @@
-use Rattle.std.proofs.Common.{◌≡◌, ◌+◌, length, slice_get, Some, None, refl, sym, ap, ◌∙◌, subst, arith}
+use Rattle.std.proofs.Common.{◌≡◌, ◌+◌, length, slice_get, Some, refl, sym, ap, ◌∙◌, subst, arith}
 use Rattle.std.proofs.lemmas.Option.{slice_get_read}
 use Rattle.tl_syntax.proofs.ListLaws.{Each-Among}
-use Rattle.tl_terms.specs.Looked.{looked_by_action}
 use Rattle.tl_search.specs.Calls.{AreNamedIn, IsExecutableAt}
 use Rattle.tl_search.specs.ListedActions.{ListsActions}
 use Rattle.tl_search.specs.NamedAnswers.{IsNamedIn}

@@ -1,4 +1,4 @@
-use Rattle.std.proofs.Common.{◌≡◌, [], sym, ◌∙◌, subst, IfOk}
+use Rattle.std.proofs.Common.{subst, IfOk}
 use Rattle.tl_search.specs.Kept.{AreKept}
 use Rattle.tl_search.specs.PairGraph.{pair_graph}
 use Rattle.tl_cost.specs.Outcomes.{IsCheapestOutcome}

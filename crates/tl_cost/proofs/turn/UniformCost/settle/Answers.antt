@@ -1,11 +1,9 @@
-use Rattle.std.proofs.Common.{◌≡◌, ◌≤◌, true, length, slice_get, Some, None, refl, sym, ap, ◌∙◌, subst, arith}
+use Rattle.std.proofs.Common.{◌≡◌, ◌≤◌, true, length, slice_get, Some, refl, sym, subst, arith}
 use Rattle.std.proofs.lemmas.Option.{slice_get_read}
 use Rattle.tl_terms.specs.Pairs.{IsPairAccepted}
-use Rattle.tl_search.specs.KeptPairs.{KeptPair}
 use Rattle.tl_search.proofs.ListLaws.{get-one}
 use Rattle.tl_cost.specs.LeastCosts.{IsCheapestPlan}
 use Rattle.tl_cost.specs.Outcomes.{IsUnaccepted}
-use Rattle.tl_cost.specs.Ways.{is_listed, listed_len}
 use Rattle.tl_cost.specs.declared.ways.Way.{Way}
 use Rattle.tl_cost.proofs.Answering.{turn-plan, turn-named}
 use Rattle.tl_cost.proofs.Expanding.{turn-same}
