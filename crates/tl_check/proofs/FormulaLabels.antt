@@ -1,19 +1,25 @@
 -- The labels of a formula come from those of its parts.
-use Rattle.std.proofs.Common.{◌≡◌, ◌<◌, ◌+◌, ◌-◌, ℕ, zero, suc, List, [], ◌∷◌, ◌++◌, map, take, drop, length, get_or, Bool, true, false, not, None, Err, Box, Global, inl, inr, refl, sym, ap, ap₂, ◌∙◌, subst, arith, append-nil, length-drop}
+use Rattle.std.proofs.Common.{◌≡◌, ◌≤◌, ◌<◌, ◌+◌, ◌-◌, ℕ, zero, suc, List, [], ◌∷◌, ◌++◌, map, take, drop, length, get_or, Bool, false, not, None, Ok, Err, Result, IsErrAnd, Box, Global, inl, inr, refl, sym, ap, ap₂, ◌∙◌, subst, arith, append-nil, length-drop}
 use Rattle.std.specs.Prelude.{slice_get}
 use Rattle.tl_check.proofs.CursorLaws.{found-among, whole}
-use Rattle.tl_check.proofs.LabelLaws.{marks-not, marks-next, marks-always, marks-eventually, marks-until, marks-within, marks-during, marks-length}
+use Rattle.tl_check.proofs.LabelLaws.{marks-not, marks-next, marks-always, marks-eventually, marks-until, marks-within, marks-during}
 use Rattle.tl_check.proofs.LookedLaws.{not-looked, next-looked, always-looked, eventually-looked, within-looked, during-looked, until-first-looked, until-second-looked, part-looked, instance-looked}
+use Rattle.tl_check.proofs.SpanLaws.{marks_in-by, marks_in-at, marks_in-length, marks_in-rest}
 use Rattle.tl_check.proofs.Sizes.{size, sizes}
-use Rattle.tl_check.specs.Ahead.{Ahead, true_ahead, marks}
+use Rattle.tl_check.specs.Ahead.{Ahead, true_ahead, next_of, marks}
 use Rattle.tl_check.specs.Cursors.{Quantifier, AreAt}
 use Rattle.tl_check.specs.Found.{IsFound}
 use Rattle.tl_check.specs.Labelled.{looked_at, AreLabels}
-use Rattle.tl_check.specs.Passes.{next_labels, always_labels, eventually_labels, until_labels, within_labels}
+use Rattle.tl_check.specs.Later.{later_tree, later_labels}
+use Rattle.tl_check.specs.Passes.{next_labels, until_labels}
+use Rattle.tl_check.specs.Spans.{IsWithin, marks_in}
 use Rattle.tl_check.specs.declared.cursor.Cursor.{Cursor}
 use Rattle.tl_check.specs.declared.fault.CheckFault.{CheckFault}
 use Rattle.tl_check.specs.declared.fault.CheckFault.TheVariants as fault
 use Rattle.tl_check.specs.declared.found.Found.{Found}
+use Rattle.tl_check.specs.declared.later.Later.{Later}
+use Rattle.tl_check.specs.declared.later.Later.TheVariants as later
+use Rattle.tl_check.specs.declared.span.Span.{Span}
 use Rattle.tl_eval.specs.Notes.{operation_of}
 use Rattle.tl_syntax.specs.declared.junction.Junction.{Junction}
 use Rattle.tl_syntax.specs.declared.junction.Junction.TheVariants.{All, Any}
@@ -34,7 +40,7 @@ use Rattle.tl_syntax.specs.Lists.{Among}
 use Rattle.tl_syntax.specs.Signature.{Signature}
 use Rattle.tl_syntax.specs.StateFormulas.{IsState}
 use Rattle.tl_syntax.specs.TreeOfFormula.{tree_of_formula, tree_of_formulas}
-use Rattle.tl_syntax.specs.Trees.{FormulaTree, FormulaTrees, negation, conjunction, disjunction, for_all, for_some, next, always, eventually, until, within, during, formulas_of_list}
+use Rattle.tl_syntax.specs.Trees.{FormulaTree, FormulaTrees, negation, conjunction, disjunction, for_all, for_some, next, until, formulas_of_list}
 use Rattle.tl_terms.specs.Operations.{Operation}
 use Rattle.tl_terms.specs.Problem.{PlainProblem}
 use Rattle.tl_terms.specs.World.{World}
@@ -66,103 +72,184 @@ state-GoalPlace f k xs x q = subst IsState (sym (ap tree_of_formula q ∙ tree-G
 pub state-GoalNot : (f : Formula) (p : ℕ) (xs : List Arg) → f ≡ formula.GoalNot p xs → IsState (tree_of_formula f)
 state-GoalNot f p xs q = subst IsState (sym (ap tree_of_formula q ∙ tree-GoalNot p xs)) tt
 
--- ---- words of one formula
+-- ---- a note of a part
 
--- the pass makes the labels of the whole from those of its part
-pub record OnePart (whole part : FormulaTree) (pass : List Bool → List Bool) : Type 0 where
-  pub labels : (p : PlainProblem) (e : Assignment) (ws : List World) → pass (marks (true_ahead p e part) ws) ≡ marks (true_ahead p e whole) ws
-  pub looked : (p : PlainProblem) (ws : List World) (o : Operation) (e : Assignment) (k : ℕ) → Among o (looked_at p ws k e part) → Among o (looked_at p ws k e whole)
-  pub fits : (g : Signature) → Fits g [] whole → Fits g [] part
-  pub smaller : size part < size whole
+-- a note of a part, in a span that begins no earlier, is one of the whole
+pub noted-by : (p : PlainProblem) (ws : List World) (span inner : Span) (e d : Assignment) (whole part : FormulaTree) → span.from ≤ inner.from → ((o : Operation) (k : ℕ) → Among o (looked_at p ws k d part) → Among o (looked_at p ws k e whole)) → (x : CheckFault) → AreLabels p ws inner d part (Err x) → AreLabels p ws span e whole (Err x)
+noted-by p ws span inner e d whole part from step (fault.Range k n) h = (let later = h.0 in omega arith, (step (operation_of n) k h.1.0, h.1.1))
+noted-by p ws span inner e d whole part from step fault.NoMemory h = tt
 
-one-by : (f : Formula) (whole other : FormulaTree) (g : Formula) (x : Box Formula Global) (pass : List Bool → List Bool) → tree_of_formula f ≡ other → g ≡ x.value → OnePart other (tree_of_formula x.value) pass → OnePart (tree_of_formula f) (tree_of_formula g) pass
-one-by f whole other g x pass q s h = subst (λ (t : FormulaTree). OnePart t (tree_of_formula g) pass) (sym q) (subst (λ (y : Formula). OnePart other (tree_of_formula y) pass) (sym s) h)
+take-map : {A B : Type 0} (f : A → B) (n : ℕ) (xs : List A) → take n (map f xs) ≡ map f (take n xs)
+take-map f zero xs = refl
+take-map f (suc n) [] = refl
+take-map f (suc n) (x ∷ xs) = ap (λ (ys : List _). f x ∷ ys) (take-map f n xs)
 
-pub one-Not : (f g : Formula) (x : Box Formula Global) → f ≡ formula.Not x → g ≡ x.value → OnePart (tree_of_formula f) (tree_of_formula g) (map not)
-unfolding true_ahead Fits size
-one-Not f g x q s = one-by f (tree_of_formula f) (negation (tree_of_formula x.value)) g x (map not) (ap tree_of_formula q ∙ tree-Not x) s (record {
-  labels = λ p e ws. marks-not (true_ahead p e (tree_of_formula x.value)) ws;
-  looked = λ p ws o e k h. not-looked p ws o e (tree_of_formula x.value) k h;
-  fits = λ g h. h;
-  smaller = omega arith;
-})
+next-at : (t : Ahead) (ws : List World) (i : ℕ) → suc i < length ws → next_of t (drop i ws) ≡ t (drop (suc i) ws)
+next-at t [] i h = absurd (omega arith)
+next-at t (w ∷ []) i h = absurd (omega arith)
+next-at t (w ∷ v ∷ ws) zero h = refl
+next-at t (w ∷ v ∷ ws) (suc i) h = next-at t (v ∷ ws) i (omega arith)
 
-pub one-Next : (f g : Formula) (x : Box Formula Global) → f ≡ formula.Next x → g ≡ x.value → OnePart (tree_of_formula f) (tree_of_formula g) next_labels
-unfolding true_ahead Fits size
-one-Next f g x q s = one-by f (tree_of_formula f) (next (tree_of_formula x.value)) g x next_labels (ap tree_of_formula q ∙ tree-Next x) s (record {
-  labels = λ p e ws. marks-next (true_ahead p e (tree_of_formula x.value)) ws;
-  looked = λ p ws o e k h. next-looked p ws o e (tree_of_formula x.value) k h;
-  fits = λ g h. h;
-  smaller = omega arith;
-})
+module _ (p : PlainProblem) (ws : List World) (span : Span) (within : IsWithin span (length ws)) (e : Assignment) (f : FormulaTree) where
+  -- ---- negation
 
-pub one-Always : (f g : Formula) (x : Box Formula Global) → f ≡ formula.Always x → g ≡ x.value → OnePart (tree_of_formula f) (tree_of_formula g) always_labels
-unfolding true_ahead Fits size
-one-Always f g x q s = one-by f (tree_of_formula f) (always (tree_of_formula x.value)) g x always_labels (ap tree_of_formula q ∙ tree-Always x) s (record {
-  labels = λ p e ws. marks-always (true_ahead p e (tree_of_formula x.value)) ws;
-  looked = λ p ws o e k h. always-looked p ws o e (tree_of_formula x.value) k h;
-  fits = λ g h. h;
-  smaller = omega arith;
-})
+  pub not-made : (bs cs : List Bool) → bs ≡ marks_in (true_ahead p e f) ws span → cs ≡ map not bs → cs ≡ marks_in (true_ahead p e (negation f)) ws span
+  unfolding true_ahead
+  not-made bs cs h q =
+      let s = drop span.from ws in
+      q ∙ (ap (map not) h ∙ (sym (take-map not (span.to - span.from) (marks (true_ahead p e f) s)) ∙ ap (take (span.to - span.from)) (marks-not (true_ahead p e f) s)))
 
-pub one-Eventually : (f g : Formula) (x : Box Formula Global) → f ≡ formula.Eventually x → g ≡ x.value → OnePart (tree_of_formula f) (tree_of_formula g) eventually_labels
-unfolding true_ahead Fits size
-one-Eventually f g x q s = one-by f (tree_of_formula f) (eventually (tree_of_formula x.value)) g x eventually_labels (ap tree_of_formula q ∙ tree-Eventually x) s (record {
-  labels = λ p e ws. marks-eventually (true_ahead p e (tree_of_formula x.value)) ws;
-  looked = λ p ws o e k h. eventually-looked p ws o e (tree_of_formula x.value) k h;
-  fits = λ g h. h;
-  smaller = omega arith;
-})
+  pub not-noted : (x : CheckFault) → AreLabels p ws span e f (Err x) → AreLabels p ws span e (negation f) (Err x)
+  not-noted x h = noted-by p ws span span e e (negation f) f (omega arith) (λ o k m. not-looked p ws o e f k m) x h
 
-pub one-Within : (f g : Formula) (n : ℕ) (x : Box Formula Global) → f ≡ formula.Within n x → g ≡ x.value → OnePart (tree_of_formula f) (tree_of_formula g) (within_labels n)
-unfolding true_ahead Fits size
-one-Within f g n x q s = one-by f (tree_of_formula f) (within n (tree_of_formula x.value)) g x (within_labels n) (ap tree_of_formula q ∙ tree-Within n x) s (record {
-  labels = λ p e ws. marks-within (true_ahead p e (tree_of_formula x.value)) n ws;
-  looked = λ p ws o e k h. within-looked p ws o e (tree_of_formula x.value) n k h;
-  fits = λ g h. h;
-  smaller = omega arith;
-})
+  -- ---- next
 
-pub one-During : (f g : Formula) (n : ℕ) (x : Box Formula Global) → f ≡ formula.During n x → g ≡ x.value → OnePart (tree_of_formula f) (tree_of_formula g) (λ bs. map not (within_labels n (map not bs)))
-unfolding true_ahead Fits size
-one-During f g n x q s = one-by f (tree_of_formula f) (during n (tree_of_formula x.value)) g x (λ bs. map not (within_labels n (map not bs))) (ap tree_of_formula q ∙ tree-During n x) s (record {
-  labels = λ p e ws. marks-during (true_ahead p e (tree_of_formula x.value)) n ws;
-  looked = λ p ws o e k h. during-looked p ws o e (tree_of_formula x.value) n k h;
-  fits = λ g h. h;
-  smaller = omega arith;
-})
+  -- the span of the next positions
+  abbrev pub shifted : Span
+  shifted = record { from = span.from + 1; to = span.to + 1 }
 
--- a note of a part is one of the whole
-pub noted-by : (p : PlainProblem) (ws : List World) (from : ℕ) (e : Assignment) (whole part : FormulaTree) → ((o : Operation) (k : ℕ) → Among o (looked_at p ws k e part) → Among o (looked_at p ws k e whole)) → (x : CheckFault) → AreLabels p ws from e part (Err x) → AreLabels p ws from e whole (Err x)
-noted-by p ws from e whole part step (fault.Range k n) h = (h.0, (step (operation_of n) k h.1.0, h.1.1))
-noted-by p ws from e whole part step fault.NoMemory h = tt
+  pub shifted-within : span.to < length ws → IsWithin shifted (length ws)
+  shifted-within h = record { order = (let order = within.order in omega arith); within = omega arith }
 
-module _ (p : PlainProblem) (ws : List World) (from : ℕ) (e : Assignment) (whole part : FormulaTree) (pass : List Bool → List Bool) (one : OnePart whole part pass) where
-  pub one-labels : (bs cs : List Bool) → bs ≡ marks (true_ahead p e part) (drop from ws) → cs ≡ pass bs → cs ≡ marks (true_ahead p e whole) (drop from ws)
-  one-labels bs cs h q = q ∙ (ap pass h ∙ one.labels p e (drop from ws))
+  pub next-inside : span.to < length ws → (bs : List Bool) → bs ≡ marks_in (true_ahead p e f) ws shifted → bs ≡ marks_in (true_ahead p e (next f)) ws span
+  unfolding true_ahead
+  next-inside h bs q = marks_in-by (next_of (true_ahead p e f)) ws span within bs
+      (ap length q ∙ (marks_in-length (true_ahead p e f) ws shifted (shifted-within h) ∙ (let order = within.order in omega arith)))
+      (λ k l. (
+      let i : suc (span.from + k) < length ws = omega arith in
+      let place : span.from + 1 + k ≡ suc (span.from + k) = omega arith in
+      ap (λ (cs : List Bool). get_or cs k false) q
+      ∙ (marks_in-at (true_ahead p e f) ws shifted (shifted-within h) k false (omega arith)
+      ∙ (ap (λ (m : ℕ). true_ahead p e f (drop m ws)) place ∙ sym (next-at (true_ahead p e f) ws (span.from + k) i)))
+      ))
 
-  pub one-noted : (x : CheckFault) → AreLabels p ws from e part (Err x) → AreLabels p ws from e whole (Err x)
-  one-noted x h = noted-by p ws from e whole part (λ o k m. one.looked p ws o e k m) x h
+  pub next-last : span.to ≡ length ws → (bs cs : List Bool) → bs ≡ marks_in (true_ahead p e f) ws span → cs ≡ next_labels bs → cs ≡ marks_in (true_ahead p e (next f)) ws span
+  unfolding true_ahead
+  next-last h bs cs q r =
+      let s = drop span.from ws in
+      r ∙ (ap next_labels (q ∙ marks_in-rest (true_ahead p e f) ws span within h) ∙ (marks-next (true_ahead p e f) s ∙ sym (marks_in-rest (next_of (true_ahead p e f)) ws span within h)))
 
--- ---- until
+  pub next-noted : (inner : Span) → span.from ≤ inner.from → (x : CheckFault) → AreLabels p ws inner e f (Err x) → AreLabels p ws span e (next f) (Err x)
+  next-noted inner from x h = noted-by p ws span inner e e (next f) f from (λ o k m. next-looked p ws o e f k m) x h
+
+  -- ---- words that ask for later positions
+
+  -- the positions up to the last one
+  abbrev pub rest : Span
+  rest = record { from = span.from; to = length ws }
+
+  pub rest-within : IsWithin rest (length ws)
+  rest-within = record { order = (let order = within.order in let room = within.within in omega arith); within = omega arith }
+
+  pub later-made : (word : Later) (bs cs ds : List Bool) → bs ≡ marks_in (true_ahead p e f) ws rest → cs ≡ later_labels word bs → ds ≡ take (span.to - span.from) cs → ds ≡ marks_in (true_ahead p e (later_tree word f)) ws span
+  unfolding true_ahead
+  later-made word bs cs ds h q r =
+      let s = drop span.from ws in
+      r ∙ ap (take (span.to - span.from)) (q ∙ (ap (later_labels word) (h ∙ marks_in-rest (true_ahead p e f) ws rest rest-within refl) ∙ by word s))
+    where
+      by : (word : Later) (s : List World) → later_labels word (marks (true_ahead p e f) s) ≡ marks (true_ahead p e (later_tree word f)) s
+      by later.Always s = marks-always (true_ahead p e f) s
+      by later.Eventually s = marks-eventually (true_ahead p e f) s
+      by (later.Within n) s = marks-within (true_ahead p e f) n s
+      by (later.During n) s = marks-during (true_ahead p e f) n s
+
+  pub later-noted : (word : Later) (x : CheckFault) → AreLabels p ws rest e f (Err x) → AreLabels p ws span e (later_tree word f) (Err x)
+  later-noted word x h = noted-by p ws span rest e e (later_tree word f) f (omega arith) (λ o k m. by word o k m) x h
+    where
+      by : (word : Later) (o : Operation) (k : ℕ) → Among o (looked_at p ws k e f) → Among o (looked_at p ws k e (later_tree word f))
+      by later.Always o k m = always-looked p ws o e f k m
+      by later.Eventually o k m = eventually-looked p ws o e f k m
+      by (later.Within n) o k m = within-looked p ws o e f n k m
+      by (later.During n) o k m = during-looked p ws o e f n k m
+
+  -- ---- until
+
+  module _ (d : Assignment) (h : FormulaTree) where
+    pub until-made : (bs cs new ds : List Bool) → d ≡ e → bs ≡ marks_in (true_ahead p e f) ws rest → cs ≡ marks_in (true_ahead p d h) ws rest → new ≡ until_labels bs cs → ds ≡ take (span.to - span.from) new → ds ≡ marks_in (true_ahead p e (until f h)) ws span
+    unfolding true_ahead
+    until-made bs cs new ds q r s t u =
+        let vs = drop span.from ws in
+        u ∙ ap (take (span.to - span.from))
+        (t ∙ (ap₂ until_labels (r ∙ marks_in-rest (true_ahead p e f) ws rest rest-within refl) (s ∙ (ap (λ (x : Assignment). marks_in (true_ahead p x h) ws rest) q ∙ marks_in-rest (true_ahead p e h) ws rest rest-within refl))
+        ∙ marks-until (true_ahead p e f) (true_ahead p e h) vs))
+
+    pub until-first-noted : (x : CheckFault) → AreLabels p ws rest e f (Err x) → AreLabels p ws span e (until f h) (Err x)
+    until-first-noted x k = noted-by p ws span rest e e (until f h) f (omega arith) (λ o j m. until-first-looked p ws o e f h j m) x k
+
+    pub until-second-noted : (x : CheckFault) → d ≡ e → AreLabels p ws rest d h (Err x) → AreLabels p ws span e (until f h) (Err x)
+    until-second-noted x q k = noted-by p ws span rest e e (until f h) h (omega arith) (λ o j m. until-second-looked p ws o e f h j m) x (subst (λ (y : Assignment). AreLabels p ws rest y h (Err x)) q k)
+
+-- labels of one span are equally many
+pub same-length : (ws : List World) (span : Span) → IsWithin span (length ws) → (t u : Ahead) (bs cs : List Bool) → bs ≡ marks_in t ws span → cs ≡ marks_in u ws span → length bs ≡ length cs
+same-length ws span inside t u bs cs r s = ap length r ∙ (marks_in-length t ws span inside ∙ sym (ap length s ∙ marks_in-length u ws span inside))
+
+-- ---- formulas with one or two formulas below them
+
+-- the tree of a formula and what its part is
+pub record OnePart (f : Formula) (whole part : FormulaTree) : Type 0 where
+  pub tree : tree_of_formula f ≡ whole
+  pub smaller : size part < size (tree_of_formula f)
+
+pub fits-word : (g : Signature) (f : FormulaTree) (word : Later) → Fits g [] (later_tree word f) → Fits g [] f
+unfolding Fits
+fits-word g f later.Always h = h
+fits-word g f later.Eventually h = h
+fits-word g f (later.Within n) h = h
+fits-word g f (later.During n) h = h
+
+pub fits-not : (g : Signature) (f : FormulaTree) → Fits g [] (negation f) → Fits g [] f
+unfolding Fits
+fits-not g f h = h
+
+pub fits-next : (g : Signature) (f : FormulaTree) → Fits g [] (next f) → Fits g [] f
+unfolding Fits
+fits-next g f h = h
 
 pub until-parts : (g : Signature) (f h : FormulaTree) → Fits g [] (until f h) → Fits g [] f × Fits g [] h
 unfolding Fits
 until-parts g f h k = k
 
-module _ (p : PlainProblem) (ws : List World) (from : ℕ) (e d : Assignment) (f h : FormulaTree) where
-  pub until-made : (bs cs new : List Bool) → d ≡ e → bs ≡ marks (true_ahead p e f) (drop from ws) → cs ≡ marks (true_ahead p d h) (drop from ws) → new ≡ until_labels bs cs → new ≡ marks (true_ahead p e (until f h)) (drop from ws)
-  unfolding true_ahead
-  until-made bs cs new q r s t = t ∙ (ap₂ until_labels r (s ∙ ap (λ (x : Assignment). marks (true_ahead p x h) (drop from ws)) q) ∙ marks-until (true_ahead p e f) (true_ahead p e h) (drop from ws))
+pub one-Not : (f g : Formula) (x : Box Formula Global) → f ≡ formula.Not x → g ≡ x.value → OnePart f (negation (tree_of_formula g)) (tree_of_formula g)
+unfolding size
+one-Not f g x q r =
+    let tree : tree_of_formula f ≡ negation (tree_of_formula g) = ap tree_of_formula q ∙ (tree-Not x ∙ ap (λ (y : Formula). negation (tree_of_formula y)) (sym r)) in
+    let total : size (tree_of_formula f) ≡ 1 + size (tree_of_formula g) = ap size tree in
+    record { tree = tree; smaller = omega arith }
 
-  pub until-first-noted : (x : CheckFault) → AreLabels p ws from e f (Err x) → AreLabels p ws from e (until f h) (Err x)
-  until-first-noted x k = noted-by p ws from e (until f h) f (λ o j m. until-first-looked p ws o e f h j m) x k
+pub one-Next : (f g : Formula) (x : Box Formula Global) → f ≡ formula.Next x → g ≡ x.value → OnePart f (next (tree_of_formula g)) (tree_of_formula g)
+unfolding size
+one-Next f g x q r =
+    let tree : tree_of_formula f ≡ next (tree_of_formula g) = ap tree_of_formula q ∙ (tree-Next x ∙ ap (λ (y : Formula). next (tree_of_formula y)) (sym r)) in
+    let total : size (tree_of_formula f) ≡ 1 + size (tree_of_formula g) = ap size tree in
+    record { tree = tree; smaller = omega arith }
 
-  pub until-second-noted : (x : CheckFault) → d ≡ e → AreLabels p ws from d h (Err x) → AreLabels p ws from e (until f h) (Err x)
-  until-second-noted x q k = noted-by p ws from e (until f h) h (λ o j m. until-second-looked p ws o e f h j m) x (subst (λ (y : Assignment). AreLabels p ws from y h (Err x)) q k)
+pub one-Always : (f g : Formula) (x : Box Formula Global) → f ≡ formula.Always x → g ≡ x.value → OnePart f (later_tree later.Always (tree_of_formula g)) (tree_of_formula g)
+unfolding size
+one-Always f g x q r =
+    let tree : tree_of_formula f ≡ later_tree later.Always (tree_of_formula g) = ap tree_of_formula q ∙ (tree-Always x ∙ ap (λ (y : Formula). later_tree later.Always (tree_of_formula y)) (sym r)) in
+    let total : size (tree_of_formula f) ≡ 1 + size (tree_of_formula g) = ap size tree in
+    record { tree = tree; smaller = omega arith }
 
-  pub same-length : (t u : Ahead) (bs cs : List Bool) → bs ≡ marks t (drop from ws) → cs ≡ marks u (drop from ws) → length bs ≡ length cs
-  same-length t u bs cs r s = ap length r ∙ (marks-length t (drop from ws) ∙ (sym (marks-length u (drop from ws)) ∙ sym (ap length s)))
+pub one-Eventually : (f g : Formula) (x : Box Formula Global) → f ≡ formula.Eventually x → g ≡ x.value → OnePart f (later_tree later.Eventually (tree_of_formula g)) (tree_of_formula g)
+unfolding size
+one-Eventually f g x q r =
+    let tree : tree_of_formula f ≡ later_tree later.Eventually (tree_of_formula g) = ap tree_of_formula q ∙ (tree-Eventually x ∙ ap (λ (y : Formula). later_tree later.Eventually (tree_of_formula y)) (sym r)) in
+    let total : size (tree_of_formula f) ≡ 1 + size (tree_of_formula g) = ap size tree in
+    record { tree = tree; smaller = omega arith }
+
+pub one-Within : (f g : Formula) (n : ℕ) (x : Box Formula Global) → f ≡ formula.Within n x → g ≡ x.value → OnePart f (later_tree (later.Within n) (tree_of_formula g)) (tree_of_formula g)
+unfolding size
+one-Within f g n x q r =
+    let tree : tree_of_formula f ≡ later_tree (later.Within n) (tree_of_formula g) = ap tree_of_formula q ∙ (tree-Within n x ∙ ap (λ (y : Formula). later_tree (later.Within n) (tree_of_formula y)) (sym r)) in
+    let total : size (tree_of_formula f) ≡ 1 + size (tree_of_formula g) = ap size tree in
+    record { tree = tree; smaller = omega arith }
+
+pub one-During : (f g : Formula) (n : ℕ) (x : Box Formula Global) → f ≡ formula.During n x → g ≡ x.value → OnePart f (later_tree (later.During n) (tree_of_formula g)) (tree_of_formula g)
+unfolding size
+one-During f g n x q r =
+    let tree : tree_of_formula f ≡ later_tree (later.During n) (tree_of_formula g) = ap tree_of_formula q ∙ (tree-During n x ∙ ap (λ (y : Formula). later_tree (later.During n) (tree_of_formula y)) (sym r)) in
+    let total : size (tree_of_formula f) ≡ 1 + size (tree_of_formula g) = ap size tree in
+    record { tree = tree; smaller = omega arith }
 
 -- the whole tree
 pub record TwoParts (f : Formula) (g h : Formula) : Type 0 where
@@ -201,13 +288,13 @@ among-items [] i x h r = absurd (omega arith)
 among-items (y ∷ xs) zero x h r = inl (ap tree_of_formula (sym r))
 among-items (y ∷ xs) (suc i) x h r = inr (among-items xs i x (omega arith) r)
 
-pub item-noted : (p : PlainProblem) (ws : List World) (from : ℕ) (e d : Assignment) (junction : Junction) (fs : Formulas) (xs : List Formula) (i : ℕ) (x : Formula) → xs ≡ fs.items.items → i < length xs → x ≡ get_or xs i x → d ≡ e
-    → (y : CheckFault) → AreLabels p ws from d (tree_of_formula x) (Err y) → AreLabels p ws from e (joined junction (tree_of_formulas fs)) (Err y)
-item-noted p ws from e d junction fs xs i x q h r s y k =
+pub item-noted : (p : PlainProblem) (ws : List World) (span : Span) (e d : Assignment) (junction : Junction) (fs : Formulas) (xs : List Formula) (i : ℕ) (x : Formula) → xs ≡ fs.items.items → i < length xs → x ≡ get_or xs i x → d ≡ e
+    → (y : CheckFault) → AreLabels p ws span d (tree_of_formula x) (Err y) → AreLabels p ws span e (joined junction (tree_of_formulas fs)) (Err y)
+item-noted p ws span e d junction fs xs i x q h r s y k =
     let whole : tree_of_formulas fs ≡ formulas_of_list (map tree_of_formula xs) = trees-Formulas fs ∙ ap (λ (ys : List Formula). formulas_of_list (map tree_of_formula ys)) (sym q) in
-    subst (λ (ts : FormulaTrees). AreLabels p ws from e (joined junction ts) (Err y)) (sym whole)
-    (noted-by p ws from e (joined junction (formulas_of_list (map tree_of_formula xs))) (tree_of_formula x) (λ o j m. part-looked p ws o e junction (map tree_of_formula xs) (tree_of_formula x) j (among-items xs i x h r) m) y
-    (subst (λ (z : Assignment). AreLabels p ws from z (tree_of_formula x) (Err y)) s k))
+    subst (λ (ts : FormulaTrees). AreLabels p ws span e (joined junction ts) (Err y)) (sym whole)
+    (noted-by p ws span span e e (joined junction (formulas_of_list (map tree_of_formula xs))) (tree_of_formula x) (omega arith) (λ o j m. part-looked p ws o e junction (map tree_of_formula xs) (tree_of_formula x) j (among-items xs i x h r) m) y
+    (subst (λ (z : Assignment). AreLabels p ws span z (tree_of_formula x) (Err y)) s k))
 
 -- ---- quantifiers
 
@@ -264,20 +351,31 @@ slice_get-both (suc from) at [] = nothing at ∙ sym (nothing (suc from + at))
     nothing (suc k) = refl
 slice_get-both (suc from) at (w ∷ ws) = slice_get-both from at ws ∙ ap (slice_get (w ∷ ws)) (let e : suc (from + at) ≡ suc from + at = omega arith in e)
 
-module _ (p : PlainProblem) (ws : List World) (from : ℕ) (e d : Assignment) (q : Quantifier) (x : Found) where
+module _ (p : PlainProblem) (ws : List World) (span : Span) (within : IsWithin span (length ws)) (e d : Assignment) (q : Quantifier) (x : Found) where
   -- the cursors after an instance
-  pub instance-on : (rest : List World) (cs old new : List Cursor) (labels : List Bool) → rest ≡ drop from ws → cs ≡ old → d ≡ bind q.vars (tuple_of x.tuple) e
+  pub instance-on : (rest : List World) (cs old new : List Cursor) (labels : List Bool) → rest ≡ drop span.from ws → cs ≡ old → d ≡ bind q.vars (tuple_of x.tuple) e
       → (labels ≡ marks (true_ahead p (bind q.vars (tuple_of x.tuple) e) q.part) (drop x.at rest) → AreAt p e q cs rest → AreAt p e q new rest)
-      → labels ≡ marks (true_ahead p d q.part) (drop (from + x.at) ws) → AreAt p e q old (drop from ws) → AreAt p e q new (drop from ws)
+      → labels ≡ marks (true_ahead p d q.part) (drop (span.from + x.at) ws) → AreAt p e q old (drop span.from ws) → AreAt p e q new (drop span.from ws)
   instance-on rest cs old new labels r c s moves told at =
       subst (λ (vs : List World). AreAt p e q new vs) r
-      (moves (told ∙ ap₂ (λ (y : Assignment) (vs : List World). marks (true_ahead p y q.part) vs) s (sym (ap (drop x.at) r ∙ drop-both from x.at ws)))
+      (moves (told ∙ ap₂ (λ (y : Assignment) (vs : List World). marks (true_ahead p y q.part) vs) s (sym (ap (drop x.at) r ∙ drop-both span.from x.at ws)))
       (subst (λ (ds : List Cursor). AreAt p e q ds rest) (sym c) (subst (λ (vs : List World). AreAt p e q old vs) (sym r) at)))
 
   -- a note of an instance is one of the quantified formula
-  pub instance-noted : (cs : List Cursor) → AreAt p e q cs (drop from ws) → IsFound cs x → d ≡ bind q.vars (tuple_of x.tuple) e → (y : CheckFault) → AreLabels p ws (from + x.at) d q.part (Err y) → AreLabels p ws from e (quantified q.junction q.vars q.bound q.part) (Err y)
+  pub instance-noted : (cs : List Cursor) → AreAt p e q cs (drop span.from ws) → IsFound cs x → d ≡ bind q.vars (tuple_of x.tuple) e → (y : CheckFault) → AreLabels p ws (record { from = span.from + x.at; to = length ws }) d q.part (Err y) → AreLabels p ws span e (quantified q.junction q.vars q.bound q.part) (Err y)
   instance-noted cs at f s fault.NoMemory h = tt
   instance-noted cs at f s (fault.Range k n) h =
-      let found = found-among p e q cs (drop from ws) x at f in
+      let found = found-among p e q cs (drop span.from ws) x at f in
       let told : Among (operation_of n) (looked_at p ws k (bind q.vars (tuple_of x.tuple) e) q.part) = subst (λ (z : Assignment). Among (operation_of n) (looked_at p ws k z q.part)) s h.1.0 in
-      (omega (arith, h.0), (instance-looked p ws (operation_of n) e q.junction q.vars q.bound q.part (tuple_of x.tuple) (from + x.at) k found.0 (sym (slice_get-both from x.at ws) ∙ found.1) h.0 found.2 told, h.1.1))
+      (let later = h.0 in omega arith, (instance-looked p ws (operation_of n) e q.junction q.vars q.bound q.part (tuple_of x.tuple) (span.from + x.at) k found.0 (sym (slice_get-both span.from x.at ws) ∙ found.1) h.0 found.2 told, h.1.1))
+
+-- ---- the exit of a `?`
+
+pub handed : {A : Type 0} (P : Result A CheckFault → Type 0) (r : Result A CheckFault) (x : CheckFault) → IsErrAnd r (λ y. y ≡ x) → P (Err x) → P r
+handed P (Ok a) x same h = absurd same
+handed P (Err y) x same h = subst (λ (z : CheckFault). P (Err z)) (sym same) h
+
+-- the labels of the next positions
+pub next-handed : (p : PlainProblem) (ws : List World) (span : Span) (within : IsWithin span (length ws)) (e : Assignment) (f : FormulaTree) → span.to < length ws → (r : Result (List Bool) CheckFault) → AreLabels p ws (shifted p ws span within e f) e f r → AreLabels p ws span e (next f) r
+next-handed p ws span inside e f h (Ok bs) k = next-inside p ws span inside e f h bs k
+next-handed p ws span inside e f h (Err x) k = next-noted p ws span inside e f (shifted p ws span inside e f) (omega arith) x k

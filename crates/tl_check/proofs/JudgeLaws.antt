@@ -1,16 +1,19 @@
 -- The verdict on a plan whose states are known.
-use Rattle.std.proofs.Common.{◌≡◌, ◌≤◌, ◌<◌, ◌-◌, ◌↔◌, ℕ, suc, List, [], ◌∷◌, take, drop, length, get_or, Bool, true, false, true≢false, Option, Some, None, Result, Ok, Err, IfOk, refl, sym, ap, ap₂, ◌∙◌, subst, inr, arith}
+use Rattle.std.proofs.Common.{◌≡◌, ◌≤◌, ◌<◌, ◌-◌, ◌↔◌, ℕ, suc, List, [], ◌∷◌, take, length, get_or, Bool, true, false, true≢false, Option, Some, None, Result, Ok, Err, IfOk, refl, sym, ap, ap₂, ◌∙◌, subst, inr, arith}
 use mathlib.Core.Path.{fun_ext}
 use Rattle.std.specs.Prelude.{slice_get}
 use Rattle.std.proofs.lemmas.Option.{slice_get_within}
 use Rattle.tl_check.proofs.AheadLaws.{satisfies-ahead}
 use Rattle.tl_check.proofs.ExecutionLaws.{last-is, states-count}
 use Rattle.tl_check.proofs.LookedLaws.{along-looked}
-use Rattle.tl_check.specs.Ahead.{true_ahead, marks}
+use Rattle.tl_check.proofs.SpanLaws.{marks_in-at}
+use Rattle.tl_check.specs.Ahead.{true_ahead}
 use Rattle.tl_check.specs.Labelled.{AreLabels, looked_at, looked_there}
+use Rattle.tl_check.specs.Spans.{IsWithin, marks_in}
 use Rattle.tl_check.specs.Verdicts.{MissesGoal, BreaksControl, IsVerdict, IsCause}
 use Rattle.tl_check.specs.declared.fault.CheckFault.{CheckFault}
 use Rattle.tl_check.specs.declared.fault.CheckFault.TheVariants as fault
+use Rattle.tl_check.specs.declared.span.Span.{Span}
 use Rattle.tl_check.specs.declared.verdict.Verdict.{Verdict}
 use Rattle.tl_check.specs.declared.verdict.Verdict.TheVariants as verdict
 use Rattle.tl_check.proofs.VerdictLaws.{one-verdict}
@@ -26,6 +29,10 @@ use Rattle.tl_terms.specs.Operations.{Operation}
 use Rattle.tl_terms.specs.Problem.{PlainProblem}
 use Rattle.tl_terms.specs.ProblemMeaning.{plain_problem}
 use Rattle.tl_terms.specs.World.{World}
+
+-- the first position alone
+abbrev pub first : Span
+first = record { from = 0; to = 1 }
 
 -- a frame in which nothing has a value
 pub nothing-given : (e : Assignment) → ((q : ℕ) → e q ≡ None) → e ≡ no_values
@@ -66,10 +73,16 @@ module _ (p : PlainProblem) (plan : List Action) (ws : List World) (u : World) (
     met-last : meets_goal (last_of known.from known.after) p.goal p.avoid ≡ true
     met-last = ap (λ (w : World). meets_goal w p.goal p.avoid) known.last ∙ met
 
-    first-label : (bs : List Bool) (b : Bool) → bs ≡ marks (true_ahead p d f) (drop 0 ws) → b ≡ get_or bs 0 false → b ≡ true_ahead p no_values p.control (known.from ∷ known.after)
-    first-label bs b q r = r ∙ ap (λ (cs : List Bool). get_or cs 0 false) (q ∙ (ap₂ (λ (x : Assignment) (g : FormulaTree). marks (true_ahead p x g) ws) nothing control ∙ ap (marks (true_ahead p no_values p.control)) known.all))
+    within : IsWithin first (length ws)
+    within = record { order = omega arith; within = omega arith }
 
-    pub accepts : (bs : List Bool) (b : Bool) → bs ≡ marks (true_ahead p d f) (drop 0 ws) → b ≡ get_or bs 0 false → b ≡ true → IsAccepted p plan
+    first-label : (bs : List Bool) (b : Bool) → bs ≡ marks_in (true_ahead p d f) ws first → b ≡ get_or bs 0 false → b ≡ true_ahead p no_values p.control (known.from ∷ known.after)
+    first-label bs b q r =
+        r ∙ (ap (λ (cs : List Bool). get_or cs 0 false) q
+        ∙ (marks_in-at (true_ahead p d f) ws first within 0 false (omega arith)
+        ∙ (ap₂ (λ (x : Assignment) (g : FormulaTree). true_ahead p x g ws) nothing control ∙ ap (true_ahead p no_values p.control) known.all)))
+
+    pub accepts : (bs : List Bool) (b : Bool) → bs ≡ marks_in (true_ahead p d f) ws first → b ≡ get_or bs 0 false → b ≡ true → IsAccepted p plan
     accepts bs b q r h = record {
       from = known.from;
       after = known.after;
@@ -78,7 +91,7 @@ module _ (p : PlainProblem) (plan : List Action) (ws : List World) (u : World) (
       obeys = (satisfies-ahead p known.from known.after p.control).1 (sym (first-label bs b q r) ∙ h);
     }
 
-    pub breaks : (bs : List Bool) (b : Bool) → bs ≡ marks (true_ahead p d f) (drop 0 ws) → b ≡ get_or bs 0 false → b ≡ false → BreaksControl p plan
+    pub breaks : (bs : List Bool) (b : Bool) → bs ≡ marks_in (true_ahead p d f) ws first → b ≡ get_or bs 0 false → b ≡ false → BreaksControl p plan
     breaks bs b q r h = record {
       from = known.from;
       after = known.after;
@@ -94,7 +107,7 @@ module _ (p : PlainProblem) (plan : List Action) (ws : List World) (u : World) (
         by None q m = absurd m
         by (Some w) q m = let a = slice_get_within ws k w q in let b = states-count p plan ws e in omega arith
 
-    pub past : (y : CheckFault) → AreLabels p ws 0 d f (Err y) → IsCause p plan y
+    pub past : (y : CheckFault) → AreLabels p ws first d f (Err y) → IsCause p plan y
     past fault.NoMemory h = tt
     past (fault.Range k n) h =
         let told : Among (operation_of n) (looked_at p ws k no_values p.control) = subst (λ (g : FormulaTree). Among (operation_of n) (looked_at p ws k no_values g)) control (subst (λ (x : Assignment). Among (operation_of n) (looked_at p ws k x f)) nothing h.1.0) in

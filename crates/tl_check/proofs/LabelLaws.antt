@@ -3,7 +3,6 @@ use Rattle.std.proofs.Common.{◌≡◌, ◌≤◌, ◌<◌, ◌+◌, ◌-◌, �
 use Rattle.tl_check.specs.Ahead.{Ahead, next_of, always_of, eventually_of, until_of, within_of, during_of, marks}
 use Rattle.tl_check.specs.Passes.{first_or, next_labels, always_labels, eventually_labels, until_labels, one_within, within_labels, joins, joined_labels}
 use Rattle.tl_syntax.specs.declared.junction.Junction.{Junction}
-use Rattle.tl_syntax.specs.declared.junction.Junction.TheVariants.{All, Any}
 use Rattle.tl_terms.specs.World.{World}
 
 pub marks-length : (t : Ahead) (ws : List World) → length (marks t ws) ≡ length ws

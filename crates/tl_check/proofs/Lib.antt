@@ -14,3 +14,10 @@ pub mod VerdictLaws
 pub mod ExecutionLaws
 pub mod JudgeLaws
 pub mod NoValue
+pub mod SpanLaws
+pub mod LineLaws
+pub mod TrackLaws
+pub mod DifferenceLaws
+pub mod HistoryLaws
+pub mod AtomLaws
+pub mod GuidedLaws

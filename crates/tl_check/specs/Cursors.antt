@@ -4,6 +4,7 @@ use Rattle.std.specs.Option.{option_map}
 use Rattle.std.specs.Ordering.{is_lt}
 use Rattle.tl_check.specs.Ahead.{true_ahead}
 use Rattle.tl_check.specs.Passes.{joins}
+use Rattle.tl_check.specs.declared.binder.Binder.{Binder}
 use Rattle.tl_check.specs.declared.cursor.Cursor.{Cursor}
 use Rattle.tl_syntax.specs.declared.bound.Bound.{Bound}
 use Rattle.tl_syntax.specs.declared.junction.Junction.{Junction}
@@ -26,6 +27,10 @@ pub record Quantifier : Type 0 where
   pub vars : List Var
   pub bound : Bound
   pub part : FormulaTree
+
+-- a quantifier with the formula below it
+abbrev pub with_part : Binder → FormulaTree → Quantifier
+with_part b f = record { junction = b.junction; vars = b.vars.now; bound = b.bound.now; part = f }
 
 -- its tuples in the first world, where there is one
 abbrev pub tuples_ahead : PlainProblem → Assignment → List Var → Bound → List World → List (List Value)

@@ -1,8 +1,10 @@
 -- What the labelling of positions answers.
-use Rattle.std.specs.Prelude.{◌≡◌, ◌≤◌, ℕ, suc, List, [], Bool, true, Option, Some, None, Result, Ok, Err, map, take, drop, slice_get}
-use Rattle.tl_check.specs.Ahead.{marks, true_ahead}
+use Rattle.std.specs.Prelude.{◌≡◌, ◌≤◌, ℕ, suc, List, [], Bool, true, Option, Some, None, Result, Ok, Err, map, take, slice_get}
+use Rattle.tl_check.specs.Ahead.{true_ahead}
+use Rattle.tl_check.specs.Spans.{marks_in}
 use Rattle.tl_check.specs.declared.fault.CheckFault.{CheckFault}
 use Rattle.tl_check.specs.declared.fault.CheckFault.TheVariants as fault
+use Rattle.tl_check.specs.declared.span.Span.{Span}
 use Rattle.tl_eval.specs.Notes.{Tells}
 use Rattle.tl_syntax.specs.Assignment.{Assignment}
 use Rattle.tl_syntax.specs.Trees.{FormulaTree}
@@ -21,8 +23,8 @@ looked_there p ws (Some w) e f = looked_in_basics true (looks_of p w) (map (situ
 abbrev pub looked_at : PlainProblem → List World → ℕ → Assignment → FormulaTree → List Operation
 looked_at p ws k e f = looked_there p (take (suc k) ws) (slice_get ws k) e f
 
--- the labels of the worlds from a position on, or a note of an operation that is looked at in a world from there on
-abbrev pub AreLabels : PlainProblem → List World → ℕ → Assignment → FormulaTree → Result (List Bool) CheckFault → Type 0
-AreLabels p ws from e f (Ok bs) = bs ≡ marks (true_ahead p e f) (drop from ws)
-AreLabels p ws from e f (Err (fault.Range k note)) = (from ≤ k) × Tells (looked_at p ws k e f) note
-AreLabels p ws from e f (Err fault.NoMemory) = Unit {0}
+-- the labels of the span's positions, or a note of an operation that is looked at in a world from its first position on
+abbrev pub AreLabels : PlainProblem → List World → Span → Assignment → FormulaTree → Result (List Bool) CheckFault → Type 0
+AreLabels p ws span e f (Ok bs) = bs ≡ marks_in (true_ahead p e f) ws span
+AreLabels p ws span e f (Err (fault.Range k note)) = (span.from ≤ k) × Tells (looked_at p ws k e f) note
+AreLabels p ws span e f (Err fault.NoMemory) = Unit {0}

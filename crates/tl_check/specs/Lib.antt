@@ -1,8 +1,16 @@
 pub mod Ahead
 pub mod Passes
 pub mod LawsAhead
+pub mod Lines
+pub mod Tracks
+pub mod Differences
+pub mod Histories
+pub mod Facts
+pub mod Spans
+pub mod Later
 pub mod Labelled
 pub mod Cursors
+pub mod Instances
 pub mod Found
 pub mod Verdicts
 pub mod Executions

@@ -7,8 +7,11 @@ ghost use Rattle.tl_syntax.specs.Lists.{Each};
 ghost use Rattle.tl_terms.specs.Acceptance.{IsAccepted, states};
 ghost use Rattle.tl_terms.specs.ProblemMeaning.{plain_problem};
 
+use crate::along::Along;
 use crate::execution::{Execution, executed};
 use crate::formula_labels::labels_of;
+use crate::predicates::histories_of;
+use crate::span::Span;
 use crate::{CheckFault, Verdict};
 use std::alloc::Global;
 use std::marker::Brand;
@@ -32,10 +35,7 @@ fn execution_of<L: Ledger>(
     requires some { 0 < blank.parts }
     ensures { IsExecution (plain_problem task.now.problem) plan.now result }
 {
-    let mut env = match Env::new(alloc) {
-        Ok(env) => env,
-        Err(_) => return Err(CheckFault::NoMemory),
-    };
+    let mut env = Env::new(alloc)?;
     let mut steps: Steps<L> = Steps::new(blank);
     executed(alloc, task, plan, &mut env, &mut steps)
 }
@@ -50,35 +50,29 @@ fn judged(alloc: Global, task: &Task, worlds: &[World]) -> Result<Verdict, Check
     if !task.met(&worlds[worlds.len() - 1]) {
         return Ok(Verdict::GoalUnmet);
     }
-    let mut env = match Env::new(alloc) {
-        Ok(env) => env,
-        Err(_) => return Err(CheckFault::NoMemory),
-    };
-    match labels_of(
-        &task.problem.domain.control,
+    let histories = histories_of(alloc, &task.problem.domain.control, worlds)?;
+    let along = Along {
         alloc,
         task,
         worlds,
-        0,
-        &mut env,
-    ) {
-        Ok(labels) => {
-            if labels.at(0) {
-                Ok(Verdict::Valid)
-            } else {
-                Ok(Verdict::Disobeys)
-            }
-        }
-        Err(fault) => Err(fault),
+        histories: histories.as_slice(),
+    };
+    let first = Span { from: 0, to: 1 };
+    let mut env = Env::new(alloc)?;
+    let labels = labels_of(&task.problem.domain.control, &along, first, &mut env)?;
+    if labels.at(0) {
+        Ok(Verdict::Valid)
+    } else {
+        Ok(Verdict::Disobeys)
     }
 }
 
 /// The verdict on a plan: `Valid` exactly where it is accepted, and each other verdict exactly where it is right.
 ///
-/// The plan is executed first. Then each subformula of the control formula is labelled with its truth at each state, from the last one backwards, and no formula is progressed.
+/// The plan is executed first. Then each subformula of the control formula is labelled with its truth at the states where it is asked for, from the last one backwards, and no formula is progressed.
 /// It fails for want of memory, or where an operation is past range that an action looks at in its turn, or the control formula along the states.
 ///
-/// Time and memory grow as the number of states times the number of instances of subformulas, of which those of one quantifier are labelled one after another. Worlds share the tables that stay as they were.
+/// When the facts of the control formula's predicates hold is found by one pass over their rows in each state. After that an instance of a quantifier takes the time of the states from the first to the last at which its tuple makes the bound true, and temporal words below it that of the states to the last one; the labels of one instance are kept at a time. Worlds share the tables that stay as they were.
 pub fn check(alloc: Global, task: &Task, plan: &[Action]) -> Result<Verdict, CheckFault>
     requires operators { Each (HasOperator (plain_problem task.now.problem)) plan.now }
     requires short { length plan.now < 2 ^ 32 }

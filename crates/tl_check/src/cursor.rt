@@ -2,7 +2,7 @@
 ghost use Rattle.std.specs.Option.{option_map};
 ghost use Rattle.std.specs.Prelude.{◌≡◌, ◌↔◌, ◌≤◌, ◌<◌, ◌∷◌, List, true, length, Some, IfSome};
 ghost use Rattle.tl_check.specs.Ahead.{true_ahead};
-ghost use Rattle.tl_check.specs.Cursors.{IsAt, left_at};
+ghost use Rattle.tl_check.specs.Cursors.{IsAt, left_at, with_part};
 ghost use Rattle.tl_eval.specs.Frames.{assignment_in};
 ghost use Rattle.tl_syntax.specs.Assignment.{bind};
 ghost use Rattle.tl_syntax.specs.BoundVariables.{DifferInSlot, OccurIn};
@@ -13,9 +13,10 @@ ghost use Rattle.tl_terms.specs.ProblemMeaning.{plain_problem};
 ghost use Rattle.tl_terms.specs.World.{World as PlainWorld};
 ghost use Rattle.tl_world.specs.Patterns.{tuple_of};
 
+use crate::binder::Binder;
 use crate::labels::join;
 use tl_eval::{Env, next_tuple};
-use tl_syntax::{Bound, Junction, Value, Vars};
+use tl_syntax::Value;
 use tl_world::{Match, Task, World};
 
 /// Where the reading of a quantifier stands at one position.
@@ -47,22 +48,15 @@ fn is_next(next: &Option<Match>, tuple: &Match) -> bool
 }
 
 /// The cursor before the first instance. It takes no memory.
-pub(crate) fn begun(
-    task: &Task,
-    w: &World,
-    env: &Env,
-    vars: &Vars,
-    bound: &Bound,
-    junction: Junction,
-) -> Cursor
-    requires differ { DifferInSlot vars.now }
-    requires occur { OccurIn vars.now bound.now }
-    requires fits { BoundFits (signature_of task.now.problem.domain) bound.now }
-    ensures { (f : FormulaTree) (ws : List PlainWorld) → IsAt (plain_problem task.now.problem) (assignment_in env.now) (record { junction = junction; vars = vars.now; bound = bound.now; part = f }) (w.now ∷ ws) result }
+pub(crate) fn begun(task: &Task, w: &World, env: &Env, binder: &Binder) -> Cursor
+    requires differ { DifferInSlot binder.now.vars.now }
+    requires occur { OccurIn binder.now.vars.now binder.now.bound.now }
+    requires fits { BoundFits (signature_of task.now.problem.domain) binder.now.bound.now }
+    ensures { (f : FormulaTree) (ws : List PlainWorld) → IsAt (plain_problem task.now.problem) (assignment_in env.now) (with_part binder.now f) (w.now ∷ ws) result }
 {
     Cursor {
-        truth: !junction.deciding_truth(),
-        next: next_tuple(task, w, env, vars, bound, None),
+        truth: !binder.junction.deciding_truth(),
+        next: next_tuple(task, w, env, binder.vars, binder.bound, None),
     }
 }
 
@@ -71,28 +65,26 @@ pub(crate) fn moved(
     task: &Task,
     w: &World,
     env: &Env,
-    vars: &Vars,
-    bound: &Bound,
-    junction: Junction,
+    binder: &Binder,
     cursor: Cursor,
     tuple: &Match,
     label: bool,
 ) -> Cursor
-    requires differ { DifferInSlot vars.now }
-    requires occur { OccurIn vars.now bound.now }
-    requires fits { BoundFits (signature_of task.now.problem.domain) bound.now }
-    requires few { length vars.now ≤ 9 }
-    requires count { IfSome cursor.next (λ m. m.len ≡ length vars.now) }
-    requires tuple { tuple.now.len ≡ length vars.now }
-    ensures count { IfSome result.next (λ m. m.len ≡ length vars.now) }
-    ensures at { (f : FormulaTree) (ws : List PlainWorld) → label ≡ true_ahead (plain_problem task.now.problem) (bind vars.now (tuple_of tuple.now) (assignment_in env.now)) f (w.now ∷ ws) → IsAt (plain_problem task.now.problem) (assignment_in env.now) (record { junction = junction; vars = vars.now; bound = bound.now; part = f }) (w.now ∷ ws) cursor → IsAt (plain_problem task.now.problem) (assignment_in env.now) (record { junction = junction; vars = vars.now; bound = bound.now; part = f }) (w.now ∷ ws) result }
-    ensures no_more { (ws : List PlainWorld) → length (left_at (plain_problem task.now.problem) (assignment_in env.now) vars.now bound.now (w.now ∷ ws) result) ≤ length (left_at (plain_problem task.now.problem) (assignment_in env.now) vars.now bound.now (w.now ∷ ws) cursor) }
-    ensures fewer { (ws : List PlainWorld) → option_map tuple_of cursor.next ≡ Some (tuple_of tuple.now) → length (left_at (plain_problem task.now.problem) (assignment_in env.now) vars.now bound.now (w.now ∷ ws) result) < length (left_at (plain_problem task.now.problem) (assignment_in env.now) vars.now bound.now (w.now ∷ ws) cursor) }
+    requires differ { DifferInSlot binder.now.vars.now }
+    requires occur { OccurIn binder.now.vars.now binder.now.bound.now }
+    requires fits { BoundFits (signature_of task.now.problem.domain) binder.now.bound.now }
+    requires few { length binder.now.vars.now ≤ 9 }
+    requires count { IfSome cursor.next (λ m. m.len ≡ length binder.now.vars.now) }
+    requires tuple { tuple.now.len ≡ length binder.now.vars.now }
+    ensures count { IfSome result.next (λ m. m.len ≡ length binder.now.vars.now) }
+    ensures at { (f : FormulaTree) (ws : List PlainWorld) → label ≡ true_ahead (plain_problem task.now.problem) (bind binder.now.vars.now (tuple_of tuple.now) (assignment_in env.now)) f (w.now ∷ ws) → IsAt (plain_problem task.now.problem) (assignment_in env.now) (with_part binder.now f) (w.now ∷ ws) cursor → IsAt (plain_problem task.now.problem) (assignment_in env.now) (with_part binder.now f) (w.now ∷ ws) result }
+    ensures no_more { (ws : List PlainWorld) → length (left_at (plain_problem task.now.problem) (assignment_in env.now) binder.now.vars.now binder.now.bound.now (w.now ∷ ws) result) ≤ length (left_at (plain_problem task.now.problem) (assignment_in env.now) binder.now.vars.now binder.now.bound.now (w.now ∷ ws) cursor) }
+    ensures fewer { (ws : List PlainWorld) → option_map tuple_of cursor.next ≡ Some (tuple_of tuple.now) → length (left_at (plain_problem task.now.problem) (assignment_in env.now) binder.now.vars.now binder.now.bound.now (w.now ∷ ws) result) < length (left_at (plain_problem task.now.problem) (assignment_in env.now) binder.now.vars.now binder.now.bound.now (w.now ∷ ws) cursor) }
 {
     if is_next(&cursor.next, tuple) {
         Cursor {
-            truth: join(cursor.truth, label, junction),
-            next: next_tuple(task, w, env, vars, bound, cursor.next),
+            truth: join(cursor.truth, label, binder.junction),
+            next: next_tuple(task, w, env, binder.vars, binder.bound, cursor.next),
         }
     } else {
         cursor

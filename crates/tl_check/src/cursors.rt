@@ -2,7 +2,7 @@
 ghost use Rattle.std.specs.Option.{option_map};
 ghost use Rattle.std.specs.Prelude.{◌≡◌, ◌≤◌, ◌<◌, ◌+◌, ◌⊎◌, List, None, Some, IfOk, IfSome, IfNone, drop, map, length, slice_get};
 ghost use Rattle.tl_check.specs.Ahead.{marks, true_ahead};
-ghost use Rattle.tl_check.specs.Cursors.{AreAt, work_left};
+ghost use Rattle.tl_check.specs.Cursors.{AreAt, work_left, with_part};
 ghost use Rattle.tl_check.specs.Found.{IsFound, HaveCounts};
 ghost use Rattle.tl_eval.specs.Frames.{assignment_in};
 ghost use Rattle.tl_syntax.specs.Assignment.{bind};
@@ -14,12 +14,13 @@ ghost use Rattle.tl_syntax.specs.Trees.{FormulaTree};
 ghost use Rattle.tl_terms.specs.ProblemMeaning.{plain_problem};
 ghost use Rattle.tl_world.specs.Patterns.{tuple_of};
 
+use crate::binder::Binder;
 use crate::cursor::{Cursor, begun, moved};
 use crate::found::{Found, lesser};
 use crate::labels::Labels;
 use std::alloc::Global;
 use tl_eval::Env;
-use tl_syntax::{Bound, Junction, NoMemory, Vars};
+use tl_syntax::NoMemory;
 use tl_world::{Task, World};
 
 /// The cursors before the first instance, one for each world. It fails for want of memory alone.
@@ -28,22 +29,17 @@ pub(crate) fn cursors_at(
     task: &Task,
     worlds: &[World],
     env: &Env,
-    vars: &Vars,
-    bound: &Bound,
-    junction: Junction,
+    binder: &Binder,
 ) -> Result<Vec<Cursor>, NoMemory>
-    requires differ { DifferInSlot vars.now }
-    requires occur { OccurIn vars.now bound.now }
-    requires fits { BoundFits (signature_of task.now.problem.domain) bound.now }
-    ensures at { IfOk result (λ cs. (f : FormulaTree) → AreAt (plain_problem task.now.problem) (assignment_in env.now) (record { junction = junction; vars = vars.now; bound = bound.now; part = f }) cs.items worlds.now) }
+    requires differ { DifferInSlot binder.now.vars.now }
+    requires occur { OccurIn binder.now.vars.now binder.now.bound.now }
+    requires fits { BoundFits (signature_of task.now.problem.domain) binder.now.bound.now }
+    ensures at { IfOk result (λ cs. (f : FormulaTree) → AreAt (plain_problem task.now.problem) (assignment_in env.now) (with_part binder.now f) cs.items worlds.now) }
 {
     let mut cursors = Vec::new(alloc);
     for i in 0..worlds.len() {
-        let cursor = begun(task, &worlds[i], env, vars, bound, junction);
-        match cursors.push(cursor) {
-            Ok(()) => {}
-            Err(_) => return Err(NoMemory),
-        }
+        let cursor = begun(task, &worlds[i], env, binder);
+        cursors.push(cursor)?;
     }
     Ok(cursors)
 }
@@ -66,23 +62,21 @@ pub(crate) fn advance(
     task: &Task,
     worlds: &[World],
     env: &Env,
-    vars: &Vars,
-    bound: &Bound,
-    junction: Junction,
+    binder: &Binder,
     cursors: &mut [Cursor],
     found: &Found,
     labels: &Labels,
 )
-    requires differ { DifferInSlot vars.now }
-    requires occur { OccurIn vars.now bound.now }
-    requires fits { BoundFits (signature_of task.now.problem.domain) bound.now }
-    requires few { length vars.now ≤ 9 }
+    requires differ { DifferInSlot binder.now.vars.now }
+    requires occur { OccurIn binder.now.vars.now binder.now.bound.now }
+    requires fits { BoundFits (signature_of task.now.problem.domain) binder.now.bound.now }
+    requires few { length binder.now.vars.now ≤ 9 }
     requires size { length cursors.old ≡ length worlds.now }
-    requires counts { HaveCounts (length vars.now) cursors.old }
+    requires counts { HaveCounts (length binder.now.vars.now) cursors.old }
     requires found { IsFound cursors.old found.now }
     requires labels { length labels.now + found.now.at ≡ length worlds.now }
-    ensures at { (f : FormulaTree) → labels.now ≡ marks (true_ahead (plain_problem task.now.problem) (bind vars.now (tuple_of found.now.tuple) (assignment_in env.now)) f) (drop found.now.at worlds.now) → AreAt (plain_problem task.now.problem) (assignment_in env.now) (record { junction = junction; vars = vars.now; bound = bound.now; part = f }) cursors.old worlds.now → AreAt (plain_problem task.now.problem) (assignment_in env.now) (record { junction = junction; vars = vars.now; bound = bound.now; part = f }) cursors.new worlds.now }
-    ensures fewer { work_left (plain_problem task.now.problem) (assignment_in env.now) vars.now bound.now cursors.new worlds.now < work_left (plain_problem task.now.problem) (assignment_in env.now) vars.now bound.now cursors.old worlds.now }
+    ensures at { (f : FormulaTree) → labels.now ≡ marks (true_ahead (plain_problem task.now.problem) (bind binder.now.vars.now (tuple_of found.now.tuple) (assignment_in env.now)) f) (drop found.now.at worlds.now) → AreAt (plain_problem task.now.problem) (assignment_in env.now) (with_part binder.now f) cursors.old worlds.now → AreAt (plain_problem task.now.problem) (assignment_in env.now) (with_part binder.now f) cursors.new worlds.now }
+    ensures fewer { work_left (plain_problem task.now.problem) (assignment_in env.now) binder.now.vars.now binder.now.bound.now cursors.new worlds.now < work_left (plain_problem task.now.problem) (assignment_in env.now) binder.now.vars.now binder.now.bound.now cursors.old worlds.now }
 {
     for i in found.at..cursors.len() {
         let label = labels.at(i - found.at);
@@ -90,9 +84,7 @@ pub(crate) fn advance(
             task,
             &worlds[i],
             env,
-            vars,
-            bound,
-            junction,
+            binder,
             cursors[i],
             &found.tuple,
             label,
@@ -106,10 +98,7 @@ pub(crate) fn truths_of(alloc: Global, cursors: &[Cursor]) -> Result<Labels, NoM
 {
     let mut labels = Labels::new(alloc);
     for cursor in cursors.iter() {
-        match labels.push(cursor.truth) {
-            Ok(()) => {}
-            Err(note) => return Err(note),
-        }
+        labels.push(cursor.truth)?;
     }
     Ok(labels)
 }

@@ -1,128 +1,168 @@
 // The labels of formulas.
-ghost use Rattle.std.specs.Prelude.{◌≡◌, ◌≤◌, ◌^◌, [], length};
+ghost use Rattle.std.specs.Prelude.{◌≡◌, ◌<◌, ◌≤◌, ◌-◌, ◌+◌, ℕ, [], length, false, slice_index_or, OnOk, IfOk};
+ghost use Rattle.tl_check.specs.Facts.{IsAlong, Guides};
 ghost use Rattle.tl_check.specs.Labelled.{AreLabels};
+ghost use Rattle.tl_check.specs.Instances.{JoinsInstance};
+ghost use Rattle.tl_check.specs.Later.{later_tree};
+ghost use Rattle.tl_check.specs.Spans.{IsWithin};
 ghost use Rattle.tl_eval.specs.Frames.{assignment_in};
 ghost use Rattle.tl_syntax.specs.Fits.{Fits};
 ghost use Rattle.tl_syntax.specs.Junctions.{joined, quantified};
 ghost use Rattle.tl_syntax.specs.Signature.{signature_of};
 ghost use Rattle.tl_syntax.specs.TreeOfFormula.{tree_of_formula, tree_of_formulas};
-ghost use Rattle.tl_syntax.specs.Trees.{until};
+ghost use Rattle.tl_syntax.specs.Trees.{negation, next, until};
 ghost use Rattle.tl_terms.specs.ProblemMeaning.{plain_problem};
 
 use crate::CheckFault;
+use crate::along::Along;
+use crate::atoms::{atom_labels, bound_labels, guide_of};
+use crate::binder::Binder;
 use crate::cursors::{advance, cursors_at, least, truths_of};
 use crate::labels::Labels;
+use crate::later::Later;
+use crate::plain::is_plain;
+use crate::span::Span;
 use crate::state_labels::state_labels;
 use crate::temporal::is_state;
-use std::alloc::Global;
-use tl_eval::Env;
-use tl_syntax::{Bound, Formula, Formulas, Junction, Vars};
-use tl_world::{Task, World};
+use tl_eval::{Env, TupleReader};
+use tl_syntax::{Formula, Formulas, Junction};
+use tl_world::World;
 
-/// The truth of a formula at each position from some one on, under the frame's values, where the last world is repeated for ever.
-/// A formula without temporal words is read in each world. The labels of other formulas come from those of their parts, each of which is worked out once.
+/// The truth of a formula at each position of the span, under the frame's values, where the last state is repeated for ever.
+///
+/// Atoms and bounds are labelled by when their facts hold, and what else has no formula below it is read in each state. The labels of other formulas come from those of their parts, which are asked for where they count.
 #[cycle(labels_of)]
 pub(crate) fn labels_of(
     f: &Formula,
-    alloc: Global,
-    task: &Task,
-    worlds: &[World],
-    from: usize,
+    along: &Along,
+    span: Span,
     env: &mut Env,
 ) -> Result<Labels, CheckFault>
-    requires few { length worlds.now ≤ 2 ^ 32 }
-    requires from { from ≤ length worlds.now }
+    requires along { IsAlong along.now }
+    requires span { IsWithin span (length along.now.worlds.now) }
     requires frame { length env.old ≡ 32 }
-    requires fits { Fits (signature_of task.now.problem.domain) [] (tree_of_formula f.now) }
-    ensures labels { AreLabels (plain_problem task.now.problem) worlds.now from (assignment_in env.old) (tree_of_formula f.now) result }
-    ensures frame { env.new ≡ env.old }
+    requires fits { Fits (signature_of along.now.task.now.problem.domain) [] (tree_of_formula f.now) }
+    ensures labels { AreLabels (plain_problem along.now.task.now.problem) along.now.worlds.now span (assignment_in env.old) (tree_of_formula f.now) result }
+    ensures frame { OnOk result (env.new ≡ env.old) }
 {
-    if is_state(f) {
-        return state_labels(alloc, task, worlds, from, env, f);
+    if !is_plain(f) && is_state(f) {
+        return state_labels(f, along, span, env);
     }
     match f {
-        Formula::True => state_labels(alloc, task, worlds, from, env, f),
-        Formula::False => state_labels(alloc, task, worlds, from, env, f),
-        Formula::Atom(_, _) => state_labels(alloc, task, worlds, from, env, f),
-        Formula::Defined(_, _) => state_labels(alloc, task, worlds, from, env, f),
-        Formula::Compare(_, _, _) => state_labels(alloc, task, worlds, from, env, f),
-        Formula::GoalFact(_, _) => state_labels(alloc, task, worlds, from, env, f),
-        Formula::GoalPlace(_, _, _) => state_labels(alloc, task, worlds, from, env, f),
-        Formula::GoalNot(_, _) => state_labels(alloc, task, worlds, from, env, f),
-        Formula::Not(part) => match labels_of(part, alloc, task, worlds, from, env) {
-            Ok(mut found) => {
-                found.negate();
-                Ok(found)
-            }
-            Err(fault) => Err(fault),
+        Formula::True => state_labels(f, along, span, env),
+        Formula::False => state_labels(f, along, span, env),
+        Formula::Atom(pred, terms) => match atom_labels(*pred, terms, along, span, env)? {
+            Some(labels) => Ok(labels),
+            None => state_labels(f, along, span, env),
         },
-        Formula::And(parts) => parts_labels(parts, alloc, task, worlds, from, env, Junction::All),
-        Formula::Or(parts) => parts_labels(parts, alloc, task, worlds, from, env, Junction::Any),
+        Formula::Defined(_, _) => state_labels(f, along, span, env),
+        Formula::Compare(_, _, _) => state_labels(f, along, span, env),
+        Formula::GoalFact(_, _) => state_labels(f, along, span, env),
+        Formula::GoalPlace(_, _, _) => state_labels(f, along, span, env),
+        Formula::GoalNot(_, _) => state_labels(f, along, span, env),
+        Formula::Not(part) => negated_labels(part, along, span, env),
+        Formula::And(parts) => parts_labels(parts, Junction::All, along, span, env),
+        Formula::Or(parts) => parts_labels(parts, Junction::Any, along, span, env),
         Formula::ForAll(vars, bound, part) => {
-            quantified_labels(
-                part,
-                alloc,
-                task,
-                worlds,
-                from,
-                env,
+            let binder = Binder {
+                junction: Junction::All,
                 vars,
                 bound,
-                Junction::All,
-            )
+            };
+            quantified_labels(part, &binder, along, span, env)
         }
         Formula::Exists(vars, bound, part) => {
-            quantified_labels(
-                part,
-                alloc,
-                task,
-                worlds,
-                from,
-                env,
+            let binder = Binder {
+                junction: Junction::Any,
                 vars,
                 bound,
-                Junction::Any,
-            )
+            };
+            quantified_labels(part, &binder, along, span, env)
         }
-        Formula::Next(part) => match labels_of(part, alloc, task, worlds, from, env) {
-            Ok(mut found) => {
-                found.shift();
-                Ok(found)
-            }
-            Err(fault) => Err(fault),
-        },
-        Formula::Always(part) => match labels_of(part, alloc, task, worlds, from, env) {
-            Ok(mut found) => {
-                found.always();
-                Ok(found)
-            }
-            Err(fault) => Err(fault),
-        },
-        Formula::Eventually(part) => match labels_of(part, alloc, task, worlds, from, env) {
-            Ok(mut found) => {
-                found.eventually();
-                Ok(found)
-            }
-            Err(fault) => Err(fault),
-        },
-        Formula::Until(first, second) => {
-            until_labels(first, second, alloc, task, worlds, from, env)
+        Formula::Next(part) => next_labels(part, along, span, env),
+        Formula::Always(part) => later_labels(part, Later::Always, along, span, env),
+        Formula::Eventually(part) => later_labels(part, Later::Eventually, along, span, env),
+        Formula::Until(first, second) => until_labels(first, second, along, span, env),
+        Formula::Within(steps, part) => {
+            later_labels(part, Later::Within(*steps), along, span, env)
         }
-        Formula::Within(steps, part) => match labels_of(part, alloc, task, worlds, from, env) {
-            Ok(mut found) => {
-                found.within(*steps);
-                Ok(found)
-            }
-            Err(fault) => Err(fault),
-        },
-        Formula::During(steps, part) => match labels_of(part, alloc, task, worlds, from, env) {
-            Ok(mut found) => {
-                found.during(*steps);
-                Ok(found)
-            }
-            Err(fault) => Err(fault),
-        },
+        Formula::During(steps, part) => {
+            later_labels(part, Later::During(*steps), along, span, env)
+        }
     }
+}
+
+/// The labels of a negation.
+#[cycle(labels_of)]
+fn negated_labels(
+    part: &Formula,
+    along: &Along,
+    span: Span,
+    env: &mut Env,
+) -> Result<Labels, CheckFault>
+    requires along { IsAlong along.now }
+    requires span { IsWithin span (length along.now.worlds.now) }
+    requires frame { length env.old ≡ 32 }
+    requires fits { Fits (signature_of along.now.task.now.problem.domain) [] (negation (tree_of_formula part.now)) }
+    ensures labels { AreLabels (plain_problem along.now.task.now.problem) along.now.worlds.now span (assignment_in env.old) (negation (tree_of_formula part.now)) result }
+    ensures frame { OnOk result (env.new ≡ env.old) }
+{
+    let mut found = labels_of(part, along, span, env)?;
+    found.negate();
+    Ok(found)
+}
+
+/// The labels of `next`: those of its part, one position later.
+#[cycle(labels_of)]
+fn next_labels(
+    part: &Formula,
+    along: &Along,
+    span: Span,
+    env: &mut Env,
+) -> Result<Labels, CheckFault>
+    requires along { IsAlong along.now }
+    requires span { IsWithin span (length along.now.worlds.now) }
+    requires frame { length env.old ≡ 32 }
+    requires fits { Fits (signature_of along.now.task.now.problem.domain) [] (next (tree_of_formula part.now)) }
+    ensures labels { AreLabels (plain_problem along.now.task.now.problem) along.now.worlds.now span (assignment_in env.old) (next (tree_of_formula part.now)) result }
+    ensures frame { OnOk result (env.new ≡ env.old) }
+{
+    if span.to < along.worlds.len() {
+        let later = Span {
+            from: span.from + 1,
+            to: span.to + 1,
+        };
+        return labels_of(part, along, later, env);
+    }
+    let mut found = labels_of(part, along, span, env)?;
+    found.shift();
+    Ok(found)
+}
+
+/// The labels of a word that asks for its part at later positions.
+#[cycle(labels_of)]
+fn later_labels(
+    part: &Formula,
+    word: Later,
+    along: &Along,
+    span: Span,
+    env: &mut Env,
+) -> Result<Labels, CheckFault>
+    requires along { IsAlong along.now }
+    requires span { IsWithin span (length along.now.worlds.now) }
+    requires frame { length env.old ≡ 32 }
+    requires fits { Fits (signature_of along.now.task.now.problem.domain) [] (later_tree word (tree_of_formula part.now)) }
+    ensures labels { AreLabels (plain_problem along.now.task.now.problem) along.now.worlds.now span (assignment_in env.old) (later_tree word (tree_of_formula part.now)) result }
+    ensures frame { OnOk result (env.new ≡ env.old) }
+{
+    let rest = Span {
+        from: span.from,
+        to: along.worlds.len(),
+    };
+    let mut found = labels_of(part, along, rest, env)?;
+    found.later(word);
+    found.truncate(span.to - span.from);
+    Ok(found)
 }
 
 /// The labels of `until`.
@@ -130,113 +170,176 @@ pub(crate) fn labels_of(
 fn until_labels(
     first: &Formula,
     second: &Formula,
-    alloc: Global,
-    task: &Task,
-    worlds: &[World],
-    from: usize,
+    along: &Along,
+    span: Span,
     env: &mut Env,
 ) -> Result<Labels, CheckFault>
-    requires few { length worlds.now ≤ 2 ^ 32 }
-    requires from { from ≤ length worlds.now }
+    requires along { IsAlong along.now }
+    requires span { IsWithin span (length along.now.worlds.now) }
     requires frame { length env.old ≡ 32 }
-    requires fits { Fits (signature_of task.now.problem.domain) [] (until (tree_of_formula first.now) (tree_of_formula second.now)) }
-    ensures labels { AreLabels (plain_problem task.now.problem) worlds.now from (assignment_in env.old) (until (tree_of_formula first.now) (tree_of_formula second.now)) result }
-    ensures frame { env.new ≡ env.old }
+    requires fits { Fits (signature_of along.now.task.now.problem.domain) [] (until (tree_of_formula first.now) (tree_of_formula second.now)) }
+    ensures labels { AreLabels (plain_problem along.now.task.now.problem) along.now.worlds.now span (assignment_in env.old) (until (tree_of_formula first.now) (tree_of_formula second.now)) result }
+    ensures frame { OnOk result (env.new ≡ env.old) }
 {
-    match labels_of(first, alloc, task, worlds, from, env) {
-        Ok(mut found) => match labels_of(second, alloc, task, worlds, from, env) {
-            Ok(other) => {
-                found.until(&other);
-                Ok(found)
-            }
-            Err(fault) => Err(fault),
-        },
-        Err(fault) => Err(fault),
-    }
+    let rest = Span {
+        from: span.from,
+        to: along.worlds.len(),
+    };
+    let mut found = labels_of(first, along, rest, env)?;
+    let other = labels_of(second, along, rest, env)?;
+    found.until(&other);
+    found.truncate(span.to - span.from);
+    Ok(found)
 }
 
 /// The labels of a conjunction or a disjunction.
 #[cycle(labels_of)]
 fn parts_labels(
     parts: &Formulas,
-    alloc: Global,
-    task: &Task,
-    worlds: &[World],
-    from: usize,
-    env: &mut Env,
     junction: Junction,
+    along: &Along,
+    span: Span,
+    env: &mut Env,
 ) -> Result<Labels, CheckFault>
-    requires few { length worlds.now ≤ 2 ^ 32 }
-    requires from { from ≤ length worlds.now }
+    requires along { IsAlong along.now }
+    requires span { IsWithin span (length along.now.worlds.now) }
     requires frame { length env.old ≡ 32 }
-    requires fits { Fits (signature_of task.now.problem.domain) [] (joined junction (tree_of_formulas parts.now)) }
-    ensures labels { AreLabels (plain_problem task.now.problem) worlds.now from (assignment_in env.old) (joined junction (tree_of_formulas parts.now)) result }
-    ensures frame { env.new ≡ env.old }
+    requires fits { Fits (signature_of along.now.task.now.problem.domain) [] (joined junction (tree_of_formulas parts.now)) }
+    ensures labels { AreLabels (plain_problem along.now.task.now.problem) along.now.worlds.now span (assignment_in env.old) (joined junction (tree_of_formulas parts.now)) result }
+    ensures frame { OnOk result (env.new ≡ env.old) }
 {
-    let mut all = match Labels::all(alloc, worlds.len() - from, !junction.deciding_truth()) {
-        Ok(all) => all,
-        Err(_) => return Err(CheckFault::NoMemory),
-    };
+    let mut all = Labels::all(along.alloc, span.to - span.from, !junction.deciding_truth())?;
     for part in parts.as_slice().iter() {
-        match labels_of(part, alloc, task, worlds, from, env) {
-            Ok(found) => all.join(&found, junction),
-            Err(fault) => return Err(fault),
-        }
+        let found = labels_of(part, along, span, env)?;
+        all.join(&found, junction);
     }
     Ok(all)
 }
 
 /// The labels of a universal or an existential formula.
+#[cycle(labels_of)]
+fn quantified_labels(
+    part: &Formula,
+    binder: &Binder,
+    along: &Along,
+    span: Span,
+    env: &mut Env,
+) -> Result<Labels, CheckFault>
+    requires along { IsAlong along.now }
+    requires span { IsWithin span (length along.now.worlds.now) }
+    requires frame { length env.old ≡ 32 }
+    requires fits { Fits (signature_of along.now.task.now.problem.domain) [] (quantified binder.now.junction binder.now.vars.now binder.now.bound.now (tree_of_formula part.now)) }
+    ensures labels { AreLabels (plain_problem along.now.task.now.problem) along.now.worlds.now span (assignment_in env.old) (quantified binder.now.junction binder.now.vars.now binder.now.bound.now (tree_of_formula part.now)) result }
+    ensures frame { OnOk result (env.new ≡ env.old) }
+{
+    match guide_of(binder.bound, along) {
+        Some(guide) => guided_labels(part, binder, guide, along, span, env),
+        None => stepped_labels(part, binder, along, span, env),
+    }
+}
+
+/// The labels of a quantified formula whose tuples are all among those of one world: each instance is labelled once, where its tuple makes the bound true.
+#[cycle(labels_of)]
+fn guided_labels(
+    part: &Formula,
+    binder: &Binder,
+    guide: &World,
+    along: &Along,
+    span: Span,
+    env: &mut Env,
+) -> Result<Labels, CheckFault>
+    requires along { IsAlong along.now }
+    requires span { IsWithin span (length along.now.worlds.now) }
+    requires frame { length env.old ≡ 32 }
+    requires fits { Fits (signature_of along.now.task.now.problem.domain) [] (quantified binder.now.junction binder.now.vars.now binder.now.bound.now (tree_of_formula part.now)) }
+    requires guide { Guides (plain_problem along.now.task.now.problem) along.now.worlds.now binder.now.bound.now guide.now }
+    ensures labels { AreLabels (plain_problem along.now.task.now.problem) along.now.worlds.now span (assignment_in env.old) (quantified binder.now.junction binder.now.vars.now binder.now.bound.now (tree_of_formula part.now)) result }
+    ensures frame { OnOk result (env.new ≡ env.old) }
+{
+    let outer = env.kept(binder.vars.as_slice());
+    let mut all = Labels::all(
+        along.alloc,
+        span.to - span.from,
+        !binder.junction.deciding_truth(),
+    )?;
+    let mut tuples = TupleReader::open(along.task, env, binder.vars, binder.bound);
+    'instances: while tuples.next(along.task, guide, binder.bound) {
+        env.put_values(binder.vars.as_slice(), tuples.values());
+        join_instance(part, binder, along, span, env, &mut all)?;
+    }
+    env.give_back(binder.vars.as_slice(), &outer);
+    Ok(all)
+}
+
+/// Joins the labels of an instance, whose values are in the frame, with those of the ones before.
+#[cycle(labels_of)]
+fn join_instance(
+    part: &Formula,
+    binder: &Binder,
+    along: &Along,
+    span: Span,
+    env: &mut Env,
+    all: &mut Labels,
+) -> Result<(), CheckFault>
+    requires along { IsAlong along.now }
+    requires span { IsWithin span (length along.now.worlds.now) }
+    requires frame { length env.old ≡ 32 }
+    requires fits { Fits (signature_of along.now.task.now.problem.domain) [] (quantified binder.now.junction binder.now.vars.now binder.now.bound.now (tree_of_formula part.now)) }
+    requires size { span.from + length all.old ≡ span.to }
+    ensures joined { JoinsInstance (plain_problem along.now.task.now.problem) along.now.worlds.now span (assignment_in env.old) (record { junction = binder.now.junction; vars = binder.now.vars.now; bound = binder.now.bound.now; part = tree_of_formula part.now }) all.old all.new result }
+    ensures frame { OnOk result (env.new ≡ env.old) }
+{
+    let there = bound_labels(binder.bound, along, span, env)?;
+    match there.hull(span) {
+        None => Ok(()),
+        Some(hull) => {
+            let found = labels_of(part, along, hull, env)?;
+            all.join_where(&there, &found, hull.from - span.from, binder.junction);
+            Ok(())
+        }
+    }
+}
+
+/// The labels of a quantified formula whose tuples are found state by state.
 ///
 /// Each instance is labelled once, from the first position on at which its tuple makes the bound true; its labels count at those positions where the tuple does.
 /// So a tuple costs one comparison at each position, and one look-up where it makes the bound true.
 #[cycle(labels_of)]
-fn quantified_labels(
+fn stepped_labels(
     part: &Formula,
-    alloc: Global,
-    task: &Task,
-    worlds: &[World],
-    from: usize,
+    binder: &Binder,
+    along: &Along,
+    span: Span,
     env: &mut Env,
-    vars: &Vars,
-    bound: &Bound,
-    junction: Junction,
 ) -> Result<Labels, CheckFault>
-    requires few { length worlds.now ≤ 2 ^ 32 }
-    requires from { from ≤ length worlds.now }
+    requires along { IsAlong along.now }
+    requires span { IsWithin span (length along.now.worlds.now) }
     requires frame { length env.old ≡ 32 }
-    requires fits { Fits (signature_of task.now.problem.domain) [] (quantified junction vars.now bound.now (tree_of_formula part.now)) }
-    ensures labels { AreLabels (plain_problem task.now.problem) worlds.now from (assignment_in env.old) (quantified junction vars.now bound.now (tree_of_formula part.now)) result }
-    ensures frame { env.new ≡ env.old }
+    requires fits { Fits (signature_of along.now.task.now.problem.domain) [] (quantified binder.now.junction binder.now.vars.now binder.now.bound.now (tree_of_formula part.now)) }
+    ensures labels { AreLabels (plain_problem along.now.task.now.problem) along.now.worlds.now span (assignment_in env.old) (quantified binder.now.junction binder.now.vars.now binder.now.bound.now (tree_of_formula part.now)) result }
+    ensures frame { OnOk result (env.new ≡ env.old) }
 {
-    let mut inner = match env.copy(alloc) {
-        Ok(inner) => inner,
-        Err(_) => return Err(CheckFault::NoMemory),
-    };
-    let rest = &worlds[from..];
-    let mut cursors = match cursors_at(alloc, task, rest, env, vars, bound, junction) {
-        Ok(cursors) => cursors,
-        Err(_) => return Err(CheckFault::NoMemory),
-    };
-    while let Some(found) = least(cursors.as_slice(), vars.len()) {
-        inner.put_values(vars.as_slice(), found.tuple.counted_values());
-        match labels_of(part, alloc, task, worlds, from + found.at, &mut inner) {
-            Ok(instance) => advance(
-                task,
-                rest,
-                env,
-                vars,
-                bound,
-                junction,
-                cursors.as_mut_slice(),
-                &found,
-                &instance,
-            ),
-            Err(fault) => return Err(fault),
-        }
+    let mut inner = env.copy(along.alloc)?;
+    let rest = &along.worlds[span.from..];
+    let mut cursors = cursors_at(along.alloc, along.task, rest, env, binder)?;
+    while let Some(found) = least(cursors.as_slice(), binder.vars.len()) {
+        inner.put_values(binder.vars.as_slice(), found.tuple.counted_values());
+        let later = Span {
+            from: span.from + found.at,
+            to: along.worlds.len(),
+        };
+        let instance = labels_of(part, along, later, &mut inner)?;
+        advance(
+            along.task,
+            rest,
+            env,
+            binder,
+            cursors.as_mut_slice(),
+            &found,
+            &instance,
+        );
     }
-    match truths_of(alloc, cursors.as_slice()) {
-        Ok(labels) => Ok(labels),
-        Err(_) => Err(CheckFault::NoMemory),
-    }
+    let mut labels = truths_of(along.alloc, cursors.as_slice())?;
+    labels.truncate(span.to - span.from);
+    Ok(labels)
 }

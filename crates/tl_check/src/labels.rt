@@ -1,7 +1,11 @@
 // The truth of a formula at each of some positions in a row.
-ghost use Rattle.std.specs.Prelude.{◌≡◌, ◌<◌, ◌^◌, map, not, length, replicate, IfOk, OnOk, OnErr, slice_index_or, false, [], ◌∷◌, ◌++◌};
+ghost use Rattle.std.specs.Prelude.{◌≡◌, ◌<◌, ◌≤◌, ◌+◌, ◌-◌, ◌^◌, ℕ, map, not, length, replicate, take, IfOk, IfSome, IfNone, OnOk, OnErr, slice_index_or, false, true, [], ◌∷◌, ◌++◌};
 ghost use Rattle.tl_check.specs.Passes.{next_labels, always_labels, eventually_labels, until_labels, steps_past, within_labels, last_or, joins, joined_labels};
+ghost use Rattle.tl_check.specs.Later.{later_labels};
+ghost use Rattle.tl_check.specs.Spans.{IsHull, joined_where};
 
+use crate::later::Later;
+use crate::span::Span;
 use std::alloc::Global;
 use std::marker::Model;
 use tl_syntax::{Junction, NoMemory};
@@ -118,7 +122,7 @@ impl Labels {
     }
 
     /// The labels from now on. It takes no memory.
-    pub(crate) fn always(&mut self)
+    fn always(&mut self)
         ensures { self.new ≡ always_labels self.old }
     {
         let mut later = true;
@@ -131,7 +135,7 @@ impl Labels {
     }
 
     /// The labels of now or later. It takes no memory.
-    pub(crate) fn eventually(&mut self)
+    fn eventually(&mut self)
         ensures { self.new ≡ eventually_labels self.old }
     {
         let mut later = false;
@@ -158,7 +162,7 @@ impl Labels {
     }
 
     /// The labels of now or within so many steps: they go by the number of steps to the next position where the label is true. It takes no memory.
-    pub(crate) fn within(&mut self, steps: u32)
+    fn within(&mut self, steps: u32)
         ensures { self.new ≡ within_labels steps self.old }
     {
         let most = steps as usize;
@@ -172,12 +176,24 @@ impl Labels {
     }
 
     /// The labels of now and throughout so many steps: they go by the number of steps to the next position where the label is false. It takes no memory.
-    pub(crate) fn during(&mut self, steps: u32)
+    fn during(&mut self, steps: u32)
         ensures { self.new ≡ map not (within_labels steps (map not self.old)) }
     {
         self.negate();
         self.within(steps);
         self.negate();
+    }
+
+    /// The labels of the word before the formula. It takes no memory.
+    pub(crate) fn later(&mut self, word: Later)
+        ensures { self.new ≡ later_labels word self.old }
+    {
+        match word {
+            Later::Always => self.always(),
+            Later::Eventually => self.eventually(),
+            Later::Within(steps) => self.within(steps),
+            Later::During(steps) => self.during(steps),
+        }
     }
 
     /// The labels of the conjunction or the disjunction of both. It takes no memory.
@@ -190,6 +206,60 @@ impl Labels {
             i -= 1;
             let both = join(self.truths[i], other.truths[i], junction);
             self.truths[i] = both;
+        }
+    }
+
+    /// Leaves the labels of so many positions. It takes no memory.
+    pub(crate) fn truncate(&mut self, count: usize)
+        ensures { self.new ≡ take count self.old }
+    {
+        self.truths.truncate(count);
+    }
+
+    /// The least span with all positions where the label is true, if there is one, where the labels are those of this span. It takes no memory.
+    pub(crate) fn hull(&self, span: Span) -> Option<Span>
+        requires { span.from + length self.now ≡ span.to }
+        ensures none { IfNone result ((k : ℕ) → slice_index_or self.now k false ≡ false) }
+        ensures hull { IfSome result (IsHull self.now span) }
+    {
+        let mut first = 0;
+        while first < self.truths.len() && !self.truths[first] {
+            first += 1;
+        }
+        let mut end = self.truths.len();
+        while first < end && !self.truths[end - 1] {
+            end -= 1;
+        }
+        if first < end {
+            Some(Span {
+                from: span.from + first,
+                to: span.from + end,
+            })
+        } else {
+            None
+        }
+    }
+
+    /// The labels together with those of the other list, which are for the positions from `at` on, at those of them where `there` is true. It takes no memory.
+    pub(crate) fn join_where(
+        &mut self,
+        there: &Labels,
+        other: &Labels,
+        at: usize,
+        junction: Junction,
+    )
+        requires size { length self.old ≡ length there.now }
+        requires within { at + length other.now ≤ length there.now }
+        ensures size { length self.new ≡ length self.old }
+        ensures joined { (k : ℕ) → k < length self.old → slice_index_or self.new k false ≡ joined_where junction there.now other.now at k (slice_index_or self.old k false) }
+    {
+        let mut i = other.truths.len();
+        while i > 0 {
+            i -= 1;
+            if there.truths[at + i] {
+                let both = join(self.truths[at + i], other.truths[i], junction);
+                self.truths[at + i] = both;
+            }
         }
     }
 }

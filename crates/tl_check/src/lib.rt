@@ -4,26 +4,45 @@
 //! - `verdict`: what a verdict says.
 //! - `fault`: what a check may end with in place of a verdict.
 //! - `execution`: the states of a plan.
+//! - `predicates`: the predicates of which a formula speaks.
+//! - `history`: when the facts of a predicate hold along the states of a plan.
+//! - `line`: when one fact holds, by its changes.
+//! - `tracks`, `differences`: the changes, as they are found from state to state.
+//! - `along`: the states of a plan, with these histories.
+//! - `span`: positions in a row.
 //! - `formula_labels`: the labels of formulas, from those of their parts.
-//! - `state_labels`: the labels of formulas without temporal words.
-//! - `temporal`: whether a formula has temporal words.
-//! - `labels`: the truth of a formula at each of some positions, from the last one backwards.
+//! - `atoms`: the labels of atoms and bounds.
+//! - `state_labels`: the labels of formulas that are read in each state.
+//! - `temporal`, `plain`: whether a formula has temporal words, and whether it speaks of facts alone.
+//! - `labels`, `later`: the truth of a formula at each of some positions, from the last one backwards.
+//! - `binder`: quantifiers.
 //! - `cursor`, `cursors`: where the reading of a quantifier stands, at one position and at some in a row.
 //! - `found`: the next instance of a quantifier.
 //! - `laws`: what is proved of labels and verdicts.
 #![tactic(auto)]
 
+mod along;
+mod atoms;
+mod binder;
 mod checker;
 mod cursor;
 mod cursors;
+mod differences;
 mod execution;
 mod fault;
 mod formula_labels;
 mod found;
+mod history;
 mod labels;
+mod later;
 pub mod laws;
+mod line;
+mod plain;
+mod predicates;
+mod span;
 mod state_labels;
 mod temporal;
+mod tracks;
 mod verdict;
 
 pub use checker::check;

@@ -3,7 +3,7 @@ use Rattle.std.proofs.lemmas.List.{length-set}
 use Rattle.tl_check.proofs.CursorLaws.{read-same, counts-here, counts-set, found-count, found-within, at-here, at-set, work-on}
 use Rattle.tl_check.proofs.LabelLaws.{label-there}
 use Rattle.tl_check.specs.Ahead.{true_ahead}
-use Rattle.tl_check.specs.Cursors.{Quantifier}
+use Rattle.tl_check.specs.Cursors.{with_part, Quantifier}
 use Rattle.tl_check.specs.declared.cursor.Cursor.{Cursor}
 use Rattle.tl_eval.specs.Frames.{assignment_in}
 use Rattle.tl_syntax.specs.Assignment.{bind}
@@ -25,16 +25,16 @@ loop-i-preserved c =
     let here = read-same c.loop-i.cursors i d room in
     record {
       size = length-set c.loop-i.cursors i c.moved.result ∙ was.size;
-      counts = counts-set (length c.args.vars.now) c.loop-i.cursors i c.moved.result was.counts c.moved.ensures.count;
+      counts = counts-set (length c.args.binder.now.vars.now) c.loop-i.cursors i c.moved.result was.counts c.moved.ensures.count;
       at = λ f told at.
-          let q : Quantifier = record { junction = c.args.junction; vars = c.args.vars.now; bound = c.args.bound.now; part = f } in
+          let q : Quantifier = with_part c.args.binder.now f in
           let so_far = was.at f told at in
-          let label = c.at-label.ensures ∙ label-there (true_ahead p (bind c.args.vars.now (tuple_of c.args.found.now.tuple) e) f) ws c.args.found.now.at i w c.args.labels.now told c.loop-i.auto.i within c.index-worlds-i.is in
+          let label = c.at-label.ensures ∙ label-there (true_ahead p (bind c.args.binder.now.vars.now (tuple_of c.args.found.now.tuple) e) f) ws c.args.found.now.at i w c.args.labels.now told c.loop-i.auto.i within c.index-worlds-i.is in
           at-set p e q c.loop-i.cursors ws i c.moved.result w so_far within c.index-worlds-i.is
           (c.moved.ensures.at f (drop (suc i) ws) label (at-here p e q c.loop-i.cursors ws i (get_or c.loop-i.cursors i d) w so_far within here c.index-worlds-i.is));
       before = λ same. absurd (omega (arith, same, c.loop-i.auto.i));
       fewer = λ past.
-          work-on p e c.args.vars.now c.args.bound.now c.args.cursors.now c.loop-i.cursors ws i (get_or c.loop-i.cursors i d) c.moved.result w c.args.found.now was.size within here c.index-worlds-i.is
+          work-on p e c.args.binder.now.vars.now c.args.binder.now.bound.now c.args.cursors.now c.loop-i.cursors ws i (get_or c.loop-i.cursors i d) c.moved.result w c.args.found.now was.size within here c.index-worlds-i.is
           c.requires.found was.before was.fewer (c.moved.ensures.no_more (drop (suc i) ws)) (c.moved.ensures.fewer (drop (suc i) ws)) c.loop-i.auto.i past;
     }
 
@@ -42,10 +42,10 @@ pub moved-requires-clause-count : goal.moved-requires-clause-count
 moved-requires-clause-count c =
     let d : Cursor = record { truth = false; next = None } in
     let room : c.loop-i.i < length c.loop-i.cursors = omega (arith, c.loop-i-test.true, c.loop-i.auto.cursors) in
-    counts-here (length c.args.vars.now) c.loop-i.cursors c.loop-i.i (get_or c.loop-i.cursors c.loop-i.i d) c.loop-i.invariant.counts room (read-same c.loop-i.cursors c.loop-i.i d room)
+    counts-here (length c.args.binder.now.vars.now) c.loop-i.cursors c.loop-i.i (get_or c.loop-i.cursors c.loop-i.i d) c.loop-i.invariant.counts room (read-same c.loop-i.cursors c.loop-i.i d room)
 
 pub moved-requires-clause-tuple : goal.moved-requires-clause-tuple
-moved-requires-clause-tuple c = found-count (length c.args.vars.now) c.args.cursors.now c.args.found.now c.requires.counts c.requires.found
+moved-requires-clause-tuple c = found-count (length c.args.binder.now.vars.now) c.args.cursors.now c.args.found.now c.requires.counts c.requires.found
 
 pub returns-clause-at : goal.returns-clause-at
 returns-clause-at c = c.loop-i.invariant.at

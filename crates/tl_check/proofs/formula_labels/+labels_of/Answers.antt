@@ -1,394 +1,578 @@
-use Rattle.std.proofs.Common.{◌≡◌, ◌<◌, ◌+◌, ◌-◌, [], List, length, drop, map, replicate, Bool, not, None, Option, IfNone, refl, sym, ap, ◌∙◌, subst, arith, length-drop}
+use Rattle.std.proofs.Common.{◌≡◌, ◌<◌, ◌+◌, ◌-◌, [], List, length, take, drop, map, replicate, Bool, not, Ok, Err, None, Option, IfNone, IfSome, refl, sym, ap, ◌∙◌, subst, arith, length-drop}
 use Rattle.tl_check.proofs.CursorLaws.{at-counts, at-size, at-end, found-count, found-within}
 use Rattle.tl_check.proofs.FitLaws.{quantified-parts, item-fits}
-use Rattle.tl_check.proofs.FormulaLabels.{state-True, state-False, state-Atom, state-Defined, state-Compare, state-GoalFact, state-GoalPlace, state-GoalNot, one-Not, one-Next, one-Always, one-Eventually, one-Within, one-During, one-labels, one-noted, until-parts, until-made, until-first-noted, until-second-noted, same-length, two-Until, all-And, all-Or, item-noted, body-ForAll, body-Exists, rest-whole, same-items, instance-on, instance-noted}
+use Rattle.tl_check.proofs.FormulaLabels.{state-True, state-False, state-Atom, state-Defined, state-Compare, state-GoalFact, state-GoalPlace, state-GoalNot, one-Not, one-Next, one-Always, one-Eventually, one-Within, one-During, not-made, not-noted, shifted-within, next-handed, next-last, next-noted, rest, rest-within, later-made, later-noted, until-parts, until-made, until-first-noted, until-second-noted, same-length, fits-not, fits-next, fits-word, two-Until, all-And, all-Or, item-noted, body-ForAll, body-Exists, rest-whole, same-items, instance-on, instance-noted, handed}
+use Rattle.tl_check.proofs.GuidedLaws.{Guided, guided-begun, guided-on, guided-fewer, guided-noted, guided-end, hull-within, instance-nowhere, instance-joined}
+use Rattle.tl_check.proofs.GuidedLaws as guided
 use Rattle.tl_check.proofs.LabelLaws.{marks-length}
+use Rattle.tl_check.proofs.NoValue.{none-left}
 use Rattle.tl_check.proofs.PartLabels.{parts-begun, parts-on, parts-end}
 use Rattle.tl_check.proofs.Sizes.{size-at}
-use Rattle.tl_check.specs.Ahead.{true_ahead, marks}
-use Rattle.tl_check.specs.Cursors.{Quantifier, AreAt}
+use Rattle.tl_check.proofs.SpanLaws.{marks_in-length, marks_in-rest}
+use Rattle.tl_check.specs.Ahead.{true_ahead}
+use Rattle.tl_check.specs.Cursors.{Quantifier, AreAt, with_part}
+use Rattle.tl_check.specs.Facts.{bound_ahead}
 use Rattle.tl_check.specs.Found.{IsFound, HaveCounts}
+use Rattle.tl_check.specs.Instances.{JoinsInstance}
 use Rattle.tl_check.specs.Labelled.{AreLabels}
-use Rattle.tl_check.specs.Passes.{next_labels, always_labels, eventually_labels, within_labels}
+use Rattle.tl_check.specs.Later.{later_tree}
+use Rattle.tl_check.specs.Spans.{marks_in}
 use Rattle.tl_check.specs.declared.cursor.Cursor.{Cursor}
 use Rattle.tl_eval.proofs.BindLaws.{bind-through}
-use Rattle.tl_check.proofs.NoValue.{none-left}
+use Rattle.tl_eval.proofs.TupleRest.{rest_after}
 use Rattle.tl_eval.specs.Frames.{assignment_in}
+use Rattle.tl_syntax.proofs.FormulaTrees.{tree-Atom}
 use Rattle.tl_syntax.specs.declared.value.Value.{Value}
 use Rattle.tl_syntax.specs.declared.variable.Var.{Var}
 use Rattle.tl_syntax.specs.Assignment.{Assignment, bind}
 use Rattle.tl_syntax.specs.Fits.{Fits}
+use Rattle.tl_syntax.specs.Junctions.{joined, quantified}
 use Rattle.tl_syntax.specs.Lists.{Each}
 use Rattle.tl_syntax.specs.Signature.{signature_of}
-use Rattle.tl_syntax.specs.TreeOfFormula.{tree_of_formula}
-use Rattle.tl_syntax.specs.Trees.{FormulaTree}
+use Rattle.tl_syntax.specs.TreeOfFormula.{tree_of_formula, tree_of_formulas}
+use Rattle.tl_syntax.specs.TreeOfTerm.{tree_of_terms}
+use Rattle.tl_syntax.specs.Trees.{FormulaTree, atom, negation, next, until}
+use Rattle.tl_terms.specs.Bounds.{bound_true, tuples}
+use Rattle.tl_terms.specs.Definitions.{situation_of}
 use Rattle.tl_terms.specs.ProblemMeaning.{plain_problem}
+use Rattle.tl_world.specs.Next.{IsNext}
 use Rattle.tl_world.specs.Patterns.{tuple_of}
 use Rattle.tl_check.proofs.formula_labels.+labels_of.Goals as goal
 
--- ---- formulas that have none below them
-
 pub labels_of-state_labels-requires-in-True-clause-state : goal.labels_of-state_labels-requires-in-True-clause-state
-labels_of-state_labels-requires-in-True-clause-state t c = state-True c.args.f.now c.in-True.is
+labels_of-state_labels-requires-in-True-clause-state t c =
+    state-True c.args.f.now c.in-True.is
 
 pub labels_of-state_labels-requires-in-False-clause-state : goal.labels_of-state_labels-requires-in-False-clause-state
-labels_of-state_labels-requires-in-False-clause-state t c = state-False c.args.f.now c.in-False.is
-
-pub labels_of-state_labels-requires-in-Atom-clause-state : goal.labels_of-state_labels-requires-in-Atom-clause-state
-labels_of-state_labels-requires-in-Atom-clause-state t c = state-Atom c.args.f.now c.in-Atom.field-0 c.in-Atom.field-1 c.in-Atom.is
-
-pub labels_of-state_labels-requires-in-Defined-clause-state : goal.labels_of-state_labels-requires-in-Defined-clause-state
-labels_of-state_labels-requires-in-Defined-clause-state t c = state-Defined c.args.f.now c.in-Defined.field-0 c.in-Defined.field-1 c.in-Defined.is
+labels_of-state_labels-requires-in-False-clause-state t c =
+    state-False c.args.f.now c.in-False.is
 
 pub labels_of-state_labels-requires-in-Compare-clause-state : goal.labels_of-state_labels-requires-in-Compare-clause-state
-labels_of-state_labels-requires-in-Compare-clause-state t c = state-Compare c.args.f.now c.in-Compare.field-0 c.in-Compare.field-1 c.in-Compare.field-2 c.in-Compare.is
+labels_of-state_labels-requires-in-Compare-clause-state t c =
+    state-Compare c.args.f.now c.in-Compare.field-0 c.in-Compare.field-1 c.in-Compare.field-2 c.in-Compare.is
+
+pub labels_of-state_labels-requires-in-Defined-clause-state : goal.labels_of-state_labels-requires-in-Defined-clause-state
+labels_of-state_labels-requires-in-Defined-clause-state t c =
+    state-Defined c.args.f.now c.in-Defined.field-0 c.in-Defined.field-1 c.in-Defined.is
 
 pub labels_of-state_labels-requires-in-GoalFact-clause-state : goal.labels_of-state_labels-requires-in-GoalFact-clause-state
-labels_of-state_labels-requires-in-GoalFact-clause-state t c = state-GoalFact c.args.f.now c.in-GoalFact.field-0 c.in-GoalFact.field-1 c.in-GoalFact.is
+labels_of-state_labels-requires-in-GoalFact-clause-state t c =
+    state-GoalFact c.args.f.now c.in-GoalFact.field-0 c.in-GoalFact.field-1 c.in-GoalFact.is
 
 pub labels_of-state_labels-requires-in-GoalPlace-clause-state : goal.labels_of-state_labels-requires-in-GoalPlace-clause-state
-labels_of-state_labels-requires-in-GoalPlace-clause-state t c = state-GoalPlace c.args.f.now c.in-GoalPlace.field-0 c.in-GoalPlace.field-1 c.in-GoalPlace.field-2 c.in-GoalPlace.is
+labels_of-state_labels-requires-in-GoalPlace-clause-state t c =
+    state-GoalPlace c.args.f.now c.in-GoalPlace.field-0 c.in-GoalPlace.field-1 c.in-GoalPlace.field-2 c.in-GoalPlace.is
 
 pub labels_of-state_labels-requires-in-GoalNot-clause-state : goal.labels_of-state_labels-requires-in-GoalNot-clause-state
-labels_of-state_labels-requires-in-GoalNot-clause-state t c = state-GoalNot c.args.f.now c.in-GoalNot.field-0 c.in-GoalNot.field-1 c.in-GoalNot.is
+labels_of-state_labels-requires-in-GoalNot-clause-state t c =
+    state-GoalNot c.args.f.now c.in-GoalNot.field-0 c.in-GoalNot.field-1 c.in-GoalNot.is
 
--- ---- words of one formula
+pub labels_of-state_labels-requires-in-None-clause-state : goal.labels_of-state_labels-requires-in-None-clause-state
+labels_of-state_labels-requires-in-None-clause-state t c =
+    state-Atom c.args.f.now c.in-Atom.pred c.in-Atom.terms c.in-Atom.is
 
-pub labels_of-labels_of-requires : goal.labels_of-labels_of-requires
-labels_of-labels_of-requires t c =
+pub labels_of-returns-in-Some-clause-labels : goal.labels_of-returns-in-Some-clause-labels
+labels_of-returns-in-Some-clause-labels t c =
+    let found = subst (λ (o : Option (List Bool)). IfSome o (λ labels. labels ≡ marks_in (true_ahead (plain_problem c.args.along.now.task.now.problem) (assignment_in c.args.env.now) (atom c.in-Atom.pred (tree_of_terms c.in-Atom.terms))) c.args.along.now.worlds.now c.args.span)) c.in-Some.is c.in_ok-labels-in-Atom.ensures in
+    subst (λ (x : FormulaTree). c.in-Some.labels ≡ marks_in (true_ahead (plain_problem c.args.along.now.task.now.problem) (assignment_in c.args.env.now) x) c.args.along.now.worlds.now c.args.span) (sym (ap tree_of_formula c.in-Atom.is ∙ tree-Atom c.in-Atom.pred c.in-Atom.terms)) found
+
+pub labels_of-negated_labels-requires : goal.labels_of-negated_labels-requires
+labels_of-negated_labels-requires t c =
     let one = one-Not c.args.f.now c.deref.result.now c.in-Not.part c.in-Not.is c.deref.ensures in
-    (omega (arith, one.smaller, c.decreases), (c.requires.few, (c.requires.from, (c.requires.frame, one.fits (signature_of c.args.task.now.problem.domain) c.requires.fits))))
+    (omega (arith, one.smaller, c.decreases), (c.requires.along, (c.requires.span, (c.requires.frame, subst (Fits (signature_of c.args.along.now.task.now.problem.domain) []) one.tree c.requires.fits))))
 
-pub labels_of-returns-in-Ok-clause-labels : goal.labels_of-returns-in-Ok-clause-labels
-labels_of-returns-in-Ok-clause-labels t c = one-labels (plain_problem c.args.task.now.problem) c.args.worlds.now c.args.from (assignment_in c.args.env.now) (tree_of_formula c.args.f.now) (tree_of_formula c.deref.result.now) (map not) (one-Not c.args.f.now c.deref.result.now c.in-Not.part c.in-Not.is c.deref.ensures) c.in-Ok.found c.negate.new.self c.in-Ok.ensures.labels c.negate.ensures
-
-pub labels_of-returns-in-Err-clause-labels : goal.labels_of-returns-in-Err-clause-labels
-labels_of-returns-in-Err-clause-labels t c = one-noted (plain_problem c.args.task.now.problem) c.args.worlds.now c.args.from (assignment_in c.args.env.now) (tree_of_formula c.args.f.now) (tree_of_formula c.deref.result.now) (map not) (one-Not c.args.f.now c.deref.result.now c.in-Not.part c.in-Not.is c.deref.ensures) c.in-Err.fault c.in-Err.ensures.labels
-
-pub labels_of-labels_of-requires-in-Next : goal.labels_of-labels_of-requires-in-Next
-labels_of-labels_of-requires-in-Next t c =
-    let one = one-Next c.args.f.now c.deref-in-Next.result.now c.in-Next.part c.in-Next.is c.deref-in-Next.ensures in
-    (omega (arith, one.smaller, c.decreases), (c.requires.few, (c.requires.from, (c.requires.frame, one.fits (signature_of c.args.task.now.problem.domain) c.requires.fits))))
-
-pub labels_of-returns-in-Ok-labels_of-clause-labels : goal.labels_of-returns-in-Ok-labels_of-clause-labels
-labels_of-returns-in-Ok-labels_of-clause-labels t c = one-labels (plain_problem c.args.task.now.problem) c.args.worlds.now c.args.from (assignment_in c.args.env.now) (tree_of_formula c.args.f.now) (tree_of_formula c.deref-in-Next.result.now) (next_labels) (one-Next c.args.f.now c.deref-in-Next.result.now c.in-Next.part c.in-Next.is c.deref-in-Next.ensures) c.in-Ok-labels_of.found c.shift.new.self c.in-Ok-labels_of.ensures.labels c.shift.ensures
-
-pub labels_of-returns-in-Err-labels_of-clause-labels : goal.labels_of-returns-in-Err-labels_of-clause-labels
-labels_of-returns-in-Err-labels_of-clause-labels t c = one-noted (plain_problem c.args.task.now.problem) c.args.worlds.now c.args.from (assignment_in c.args.env.now) (tree_of_formula c.args.f.now) (tree_of_formula c.deref-in-Next.result.now) (next_labels) (one-Next c.args.f.now c.deref-in-Next.result.now c.in-Next.part c.in-Next.is c.deref-in-Next.ensures) c.in-Err-labels_of.fault c.in-Err-labels_of.ensures.labels
-
-pub labels_of-labels_of-requires-in-Always : goal.labels_of-labels_of-requires-in-Always
-labels_of-labels_of-requires-in-Always t c =
-    let one = one-Always c.args.f.now c.deref-in-Always.result.now c.in-Always.part c.in-Always.is c.deref-in-Always.ensures in
-    (omega (arith, one.smaller, c.decreases), (c.requires.few, (c.requires.from, (c.requires.frame, one.fits (signature_of c.args.task.now.problem.domain) c.requires.fits))))
-
-pub labels_of-returns-in-Ok-labels_of-2-clause-labels : goal.labels_of-returns-in-Ok-labels_of-2-clause-labels
-labels_of-returns-in-Ok-labels_of-2-clause-labels t c = one-labels (plain_problem c.args.task.now.problem) c.args.worlds.now c.args.from (assignment_in c.args.env.now) (tree_of_formula c.args.f.now) (tree_of_formula c.deref-in-Always.result.now) (always_labels) (one-Always c.args.f.now c.deref-in-Always.result.now c.in-Always.part c.in-Always.is c.deref-in-Always.ensures) c.in-Ok-labels_of-2.found c.always.new.self c.in-Ok-labels_of-2.ensures.labels c.always.ensures
-
-pub labels_of-returns-in-Err-labels_of-2-clause-labels : goal.labels_of-returns-in-Err-labels_of-2-clause-labels
-labels_of-returns-in-Err-labels_of-2-clause-labels t c = one-noted (plain_problem c.args.task.now.problem) c.args.worlds.now c.args.from (assignment_in c.args.env.now) (tree_of_formula c.args.f.now) (tree_of_formula c.deref-in-Always.result.now) (always_labels) (one-Always c.args.f.now c.deref-in-Always.result.now c.in-Always.part c.in-Always.is c.deref-in-Always.ensures) c.in-Err-labels_of-2.fault c.in-Err-labels_of-2.ensures.labels
-
-pub labels_of-labels_of-requires-in-Eventually : goal.labels_of-labels_of-requires-in-Eventually
-labels_of-labels_of-requires-in-Eventually t c =
-    let one = one-Eventually c.args.f.now c.deref-in-Eventually.result.now c.in-Eventually.part c.in-Eventually.is c.deref-in-Eventually.ensures in
-    (omega (arith, one.smaller, c.decreases), (c.requires.few, (c.requires.from, (c.requires.frame, one.fits (signature_of c.args.task.now.problem.domain) c.requires.fits))))
-
-pub labels_of-returns-in-Ok-labels_of-3-clause-labels : goal.labels_of-returns-in-Ok-labels_of-3-clause-labels
-labels_of-returns-in-Ok-labels_of-3-clause-labels t c = one-labels (plain_problem c.args.task.now.problem) c.args.worlds.now c.args.from (assignment_in c.args.env.now) (tree_of_formula c.args.f.now) (tree_of_formula c.deref-in-Eventually.result.now) (eventually_labels) (one-Eventually c.args.f.now c.deref-in-Eventually.result.now c.in-Eventually.part c.in-Eventually.is c.deref-in-Eventually.ensures) c.in-Ok-labels_of-3.found c.eventually.new.self c.in-Ok-labels_of-3.ensures.labels c.eventually.ensures
-
-pub labels_of-returns-in-Err-labels_of-3-clause-labels : goal.labels_of-returns-in-Err-labels_of-3-clause-labels
-labels_of-returns-in-Err-labels_of-3-clause-labels t c = one-noted (plain_problem c.args.task.now.problem) c.args.worlds.now c.args.from (assignment_in c.args.env.now) (tree_of_formula c.args.f.now) (tree_of_formula c.deref-in-Eventually.result.now) (eventually_labels) (one-Eventually c.args.f.now c.deref-in-Eventually.result.now c.in-Eventually.part c.in-Eventually.is c.deref-in-Eventually.ensures) c.in-Err-labels_of-3.fault c.in-Err-labels_of-3.ensures.labels
-
-pub labels_of-labels_of-requires-in-Within : goal.labels_of-labels_of-requires-in-Within
-labels_of-labels_of-requires-in-Within t c =
-    let one = one-Within c.args.f.now c.deref-in-Within.result.now c.in-Within.steps c.in-Within.part c.in-Within.is c.deref-in-Within.ensures in
-    (omega (arith, one.smaller, c.decreases), (c.requires.few, (c.requires.from, (c.requires.frame, one.fits (signature_of c.args.task.now.problem.domain) c.requires.fits))))
-
-pub labels_of-returns-in-Ok-labels_of-4-clause-labels : goal.labels_of-returns-in-Ok-labels_of-4-clause-labels
-labels_of-returns-in-Ok-labels_of-4-clause-labels t c = one-labels (plain_problem c.args.task.now.problem) c.args.worlds.now c.args.from (assignment_in c.args.env.now) (tree_of_formula c.args.f.now) (tree_of_formula c.deref-in-Within.result.now) (within_labels c.in-Within.steps) (one-Within c.args.f.now c.deref-in-Within.result.now c.in-Within.steps c.in-Within.part c.in-Within.is c.deref-in-Within.ensures) c.in-Ok-labels_of-4.found c.within.new.self c.in-Ok-labels_of-4.ensures.labels c.within.ensures
-
-pub labels_of-returns-in-Err-labels_of-4-clause-labels : goal.labels_of-returns-in-Err-labels_of-4-clause-labels
-labels_of-returns-in-Err-labels_of-4-clause-labels t c = one-noted (plain_problem c.args.task.now.problem) c.args.worlds.now c.args.from (assignment_in c.args.env.now) (tree_of_formula c.args.f.now) (tree_of_formula c.deref-in-Within.result.now) (within_labels c.in-Within.steps) (one-Within c.args.f.now c.deref-in-Within.result.now c.in-Within.steps c.in-Within.part c.in-Within.is c.deref-in-Within.ensures) c.in-Err-labels_of-4.fault c.in-Err-labels_of-4.ensures.labels
-
-pub labels_of-labels_of-requires-in-During : goal.labels_of-labels_of-requires-in-During
-labels_of-labels_of-requires-in-During t c =
-    let one = one-During c.args.f.now c.deref-in-During.result.now c.in-During.steps c.in-During.part c.in-During.is c.deref-in-During.ensures in
-    (omega (arith, one.smaller, c.decreases), (c.requires.few, (c.requires.from, (c.requires.frame, one.fits (signature_of c.args.task.now.problem.domain) c.requires.fits))))
-
-pub labels_of-returns-in-Ok-labels_of-5-clause-labels : goal.labels_of-returns-in-Ok-labels_of-5-clause-labels
-labels_of-returns-in-Ok-labels_of-5-clause-labels t c = one-labels (plain_problem c.args.task.now.problem) c.args.worlds.now c.args.from (assignment_in c.args.env.now) (tree_of_formula c.args.f.now) (tree_of_formula c.deref-in-During.result.now) (λ bs. map not (within_labels c.in-During.steps (map not bs))) (one-During c.args.f.now c.deref-in-During.result.now c.in-During.steps c.in-During.part c.in-During.is c.deref-in-During.ensures) c.in-Ok-labels_of-5.found c.during.new.self c.in-Ok-labels_of-5.ensures.labels c.during.ensures
-
-pub labels_of-returns-in-Err-labels_of-5-clause-labels : goal.labels_of-returns-in-Err-labels_of-5-clause-labels
-labels_of-returns-in-Err-labels_of-5-clause-labels t c = one-noted (plain_problem c.args.task.now.problem) c.args.worlds.now c.args.from (assignment_in c.args.env.now) (tree_of_formula c.args.f.now) (tree_of_formula c.deref-in-During.result.now) (λ bs. map not (within_labels c.in-During.steps (map not bs))) (one-During c.args.f.now c.deref-in-During.result.now c.in-During.steps c.in-During.part c.in-During.is c.deref-in-During.ensures) c.in-Err-labels_of-5.fault c.in-Err-labels_of-5.ensures.labels
-
--- ---- conjunctions and disjunctions
+pub labels_of-returns-in-Not-clause-labels : goal.labels_of-returns-in-Not-clause-labels
+labels_of-returns-in-Not-clause-labels t c =
+    let one = one-Not c.args.f.now c.deref.result.now c.in-Not.part c.in-Not.is c.deref.ensures in
+    subst (λ (x : FormulaTree). AreLabels (plain_problem c.args.along.now.task.now.problem) c.args.along.now.worlds.now c.args.span (assignment_in c.args.env.now) x c.negated_labels.result) (sym one.tree) c.negated_labels.ensures.labels
 
 pub labels_of-parts_labels-requires : goal.labels_of-parts_labels-requires
 labels_of-parts_labels-requires t c =
-    let all = all-And c.args.f.now c.in-And.parts c.in-And.is in
-    (omega (arith, all.smaller, c.decreases), (c.requires.few, (c.requires.from, (c.requires.frame, subst (Fits (signature_of c.args.task.now.problem.domain) []) all.tree c.requires.fits))))
+    let one = all-And c.args.f.now c.in-And.parts c.in-And.is in
+    (omega (arith, one.smaller, c.decreases), (c.requires.along, (c.requires.span, (c.requires.frame, subst (Fits (signature_of c.args.along.now.task.now.problem.domain) []) one.tree c.requires.fits))))
 
 pub labels_of-returns-in-And-clause-labels : goal.labels_of-returns-in-And-clause-labels
 labels_of-returns-in-And-clause-labels t c =
-    let all = all-And c.args.f.now c.in-And.parts c.in-And.is in
-    subst (λ (x : FormulaTree). AreLabels (plain_problem c.args.task.now.problem) c.args.worlds.now c.args.from (assignment_in c.args.env.now) x c.parts_labels.result) (sym all.tree) c.parts_labels.ensures.labels
+    let one = all-And c.args.f.now c.in-And.parts c.in-And.is in
+    subst (λ (x : FormulaTree). AreLabels (plain_problem c.args.along.now.task.now.problem) c.args.along.now.worlds.now c.args.span (assignment_in c.args.env.now) x c.parts_labels.result) (sym one.tree) c.parts_labels.ensures.labels
 
 pub labels_of-parts_labels-requires-in-Or : goal.labels_of-parts_labels-requires-in-Or
 labels_of-parts_labels-requires-in-Or t c =
-    let all = all-Or c.args.f.now c.in-Or.parts c.in-Or.is in
-    (omega (arith, all.smaller, c.decreases), (c.requires.few, (c.requires.from, (c.requires.frame, subst (Fits (signature_of c.args.task.now.problem.domain) []) all.tree c.requires.fits))))
+    let one = all-Or c.args.f.now c.in-Or.parts c.in-Or.is in
+    (omega (arith, one.smaller, c.decreases), (c.requires.along, (c.requires.span, (c.requires.frame, subst (Fits (signature_of c.args.along.now.task.now.problem.domain) []) one.tree c.requires.fits))))
 
 pub labels_of-returns-in-Or-clause-labels : goal.labels_of-returns-in-Or-clause-labels
 labels_of-returns-in-Or-clause-labels t c =
-    let all = all-Or c.args.f.now c.in-Or.parts c.in-Or.is in
-    subst (λ (x : FormulaTree). AreLabels (plain_problem c.args.task.now.problem) c.args.worlds.now c.args.from (assignment_in c.args.env.now) x c.parts_labels-in-Or.result) (sym all.tree) c.parts_labels-in-Or.ensures.labels
-
--- ---- quantifiers
+    let one = all-Or c.args.f.now c.in-Or.parts c.in-Or.is in
+    subst (λ (x : FormulaTree). AreLabels (plain_problem c.args.along.now.task.now.problem) c.args.along.now.worlds.now c.args.span (assignment_in c.args.env.now) x c.parts_labels-in-Or.result) (sym one.tree) c.parts_labels-in-Or.ensures.labels
 
 pub labels_of-quantified_labels-requires : goal.labels_of-quantified_labels-requires
 labels_of-quantified_labels-requires t c =
-    let body = body-ForAll c.args.f.now c.deref-in-ForAll.result.now c.in-ForAll.vars c.in-ForAll.bound c.in-ForAll.part c.in-ForAll.is c.deref-in-ForAll.ensures in
-    (omega (arith, body.smaller, c.decreases), (c.requires.few, (c.requires.from, (c.requires.frame, subst (Fits (signature_of c.args.task.now.problem.domain) []) body.tree c.requires.fits))))
+    let one = body-ForAll c.args.f.now c.deref-in-ForAll.result.now c.in-ForAll.vars c.in-ForAll.bound c.in-ForAll.part c.in-ForAll.is c.deref-in-ForAll.ensures in
+    (omega (arith, one.smaller, c.decreases), (c.requires.along, (c.requires.span, (c.requires.frame, subst (Fits (signature_of c.args.along.now.task.now.problem.domain) []) one.tree c.requires.fits))))
 
 pub labels_of-returns-in-ForAll-clause-labels : goal.labels_of-returns-in-ForAll-clause-labels
 labels_of-returns-in-ForAll-clause-labels t c =
-    let body = body-ForAll c.args.f.now c.deref-in-ForAll.result.now c.in-ForAll.vars c.in-ForAll.bound c.in-ForAll.part c.in-ForAll.is c.deref-in-ForAll.ensures in
-    subst (λ (x : FormulaTree). AreLabels (plain_problem c.args.task.now.problem) c.args.worlds.now c.args.from (assignment_in c.args.env.now) x c.quantified_labels.result) (sym body.tree) c.quantified_labels.ensures.labels
+    let one = body-ForAll c.args.f.now c.deref-in-ForAll.result.now c.in-ForAll.vars c.in-ForAll.bound c.in-ForAll.part c.in-ForAll.is c.deref-in-ForAll.ensures in
+    subst (λ (x : FormulaTree). AreLabels (plain_problem c.args.along.now.task.now.problem) c.args.along.now.worlds.now c.args.span (assignment_in c.args.env.now) x c.quantified_labels.result) (sym one.tree) c.quantified_labels.ensures.labels
 
 pub labels_of-quantified_labels-requires-in-Exists : goal.labels_of-quantified_labels-requires-in-Exists
 labels_of-quantified_labels-requires-in-Exists t c =
-    let body = body-Exists c.args.f.now c.deref-in-Exists.result.now c.in-Exists.vars c.in-Exists.bound c.in-Exists.part c.in-Exists.is c.deref-in-Exists.ensures in
-    (omega (arith, body.smaller, c.decreases), (c.requires.few, (c.requires.from, (c.requires.frame, subst (Fits (signature_of c.args.task.now.problem.domain) []) body.tree c.requires.fits))))
+    let one = body-Exists c.args.f.now c.deref-in-Exists.result.now c.in-Exists.vars c.in-Exists.bound c.in-Exists.part c.in-Exists.is c.deref-in-Exists.ensures in
+    (omega (arith, one.smaller, c.decreases), (c.requires.along, (c.requires.span, (c.requires.frame, subst (Fits (signature_of c.args.along.now.task.now.problem.domain) []) one.tree c.requires.fits))))
 
 pub labels_of-returns-in-Exists-clause-labels : goal.labels_of-returns-in-Exists-clause-labels
 labels_of-returns-in-Exists-clause-labels t c =
-    let body = body-Exists c.args.f.now c.deref-in-Exists.result.now c.in-Exists.vars c.in-Exists.bound c.in-Exists.part c.in-Exists.is c.deref-in-Exists.ensures in
-    subst (λ (x : FormulaTree). AreLabels (plain_problem c.args.task.now.problem) c.args.worlds.now c.args.from (assignment_in c.args.env.now) x c.quantified_labels-in-Exists.result) (sym body.tree) c.quantified_labels-in-Exists.ensures.labels
+    let one = body-Exists c.args.f.now c.deref-in-Exists.result.now c.in-Exists.vars c.in-Exists.bound c.in-Exists.part c.in-Exists.is c.deref-in-Exists.ensures in
+    subst (λ (x : FormulaTree). AreLabels (plain_problem c.args.along.now.task.now.problem) c.args.along.now.worlds.now c.args.span (assignment_in c.args.env.now) x c.quantified_labels-in-Exists.result) (sym one.tree) c.quantified_labels-in-Exists.ensures.labels
 
--- ---- until
+pub labels_of-next_labels-requires : goal.labels_of-next_labels-requires
+labels_of-next_labels-requires t c =
+    let one = one-Next c.args.f.now c.deref-in-Next.result.now c.in-Next.part c.in-Next.is c.deref-in-Next.ensures in
+    (omega (arith, one.smaller, c.decreases), (c.requires.along, (c.requires.span, (c.requires.frame, subst (Fits (signature_of c.args.along.now.task.now.problem.domain) []) one.tree c.requires.fits))))
+
+pub labels_of-returns-in-Next-clause-labels : goal.labels_of-returns-in-Next-clause-labels
+labels_of-returns-in-Next-clause-labels t c =
+    let one = one-Next c.args.f.now c.deref-in-Next.result.now c.in-Next.part c.in-Next.is c.deref-in-Next.ensures in
+    subst (λ (x : FormulaTree). AreLabels (plain_problem c.args.along.now.task.now.problem) c.args.along.now.worlds.now c.args.span (assignment_in c.args.env.now) x c.next_labels.result) (sym one.tree) c.next_labels.ensures.labels
+
+pub labels_of-later_labels-requires : goal.labels_of-later_labels-requires
+labels_of-later_labels-requires t c =
+    let one = one-Always c.args.f.now c.deref-in-Always.result.now c.in-Always.part c.in-Always.is c.deref-in-Always.ensures in
+    (omega (arith, one.smaller, c.decreases), (c.requires.along, (c.requires.span, (c.requires.frame, subst (Fits (signature_of c.args.along.now.task.now.problem.domain) []) one.tree c.requires.fits))))
+
+pub labels_of-returns-in-Always-clause-labels : goal.labels_of-returns-in-Always-clause-labels
+labels_of-returns-in-Always-clause-labels t c =
+    let one = one-Always c.args.f.now c.deref-in-Always.result.now c.in-Always.part c.in-Always.is c.deref-in-Always.ensures in
+    subst (λ (x : FormulaTree). AreLabels (plain_problem c.args.along.now.task.now.problem) c.args.along.now.worlds.now c.args.span (assignment_in c.args.env.now) x c.later_labels.result) (sym one.tree) c.later_labels.ensures.labels
+
+pub labels_of-later_labels-requires-in-Eventually : goal.labels_of-later_labels-requires-in-Eventually
+labels_of-later_labels-requires-in-Eventually t c =
+    let one = one-Eventually c.args.f.now c.deref-in-Eventually.result.now c.in-Eventually.part c.in-Eventually.is c.deref-in-Eventually.ensures in
+    (omega (arith, one.smaller, c.decreases), (c.requires.along, (c.requires.span, (c.requires.frame, subst (Fits (signature_of c.args.along.now.task.now.problem.domain) []) one.tree c.requires.fits))))
+
+pub labels_of-returns-in-Eventually-clause-labels : goal.labels_of-returns-in-Eventually-clause-labels
+labels_of-returns-in-Eventually-clause-labels t c =
+    let one = one-Eventually c.args.f.now c.deref-in-Eventually.result.now c.in-Eventually.part c.in-Eventually.is c.deref-in-Eventually.ensures in
+    subst (λ (x : FormulaTree). AreLabels (plain_problem c.args.along.now.task.now.problem) c.args.along.now.worlds.now c.args.span (assignment_in c.args.env.now) x c.later_labels-in-Eventually.result) (sym one.tree) c.later_labels-in-Eventually.ensures.labels
 
 pub labels_of-until_labels-requires : goal.labels_of-until_labels-requires
 labels_of-until_labels-requires t c =
-    let two = two-Until c.args.f.now c.deref-in-Until.result.now c.deref-in-Until-2.result.now c.in-Until.first c.in-Until.second c.in-Until.is c.deref-in-Until.ensures c.deref-in-Until-2.ensures in
-    (omega (arith, two.smaller, c.decreases), (c.requires.few, (c.requires.from, (c.requires.frame, subst (Fits (signature_of c.args.task.now.problem.domain) []) two.tree c.requires.fits))))
+    let one = two-Until c.args.f.now c.deref-in-Until.result.now c.deref-in-Until-2.result.now c.in-Until.first c.in-Until.second c.in-Until.is c.deref-in-Until.ensures c.deref-in-Until-2.ensures in
+    (omega (arith, one.smaller, c.decreases), (c.requires.along, (c.requires.span, (c.requires.frame, subst (Fits (signature_of c.args.along.now.task.now.problem.domain) []) one.tree c.requires.fits))))
 
 pub labels_of-returns-in-Until-clause-labels : goal.labels_of-returns-in-Until-clause-labels
 labels_of-returns-in-Until-clause-labels t c =
-    let two = two-Until c.args.f.now c.deref-in-Until.result.now c.deref-in-Until-2.result.now c.in-Until.first c.in-Until.second c.in-Until.is c.deref-in-Until.ensures c.deref-in-Until-2.ensures in
-    subst (λ (x : FormulaTree). AreLabels (plain_problem c.args.task.now.problem) c.args.worlds.now c.args.from (assignment_in c.args.env.now) x c.until_labels.result) (sym two.tree) c.until_labels.ensures.labels
+    let one = two-Until c.args.f.now c.deref-in-Until.result.now c.deref-in-Until-2.result.now c.in-Until.first c.in-Until.second c.in-Until.is c.deref-in-Until.ensures c.deref-in-Until-2.ensures in
+    subst (λ (x : FormulaTree). AreLabels (plain_problem c.args.along.now.task.now.problem) c.args.along.now.worlds.now c.args.span (assignment_in c.args.env.now) x c.until_labels.result) (sym one.tree) c.until_labels.ensures.labels
+
+pub labels_of-later_labels-requires-in-Within : goal.labels_of-later_labels-requires-in-Within
+labels_of-later_labels-requires-in-Within t c =
+    let one = one-Within c.args.f.now c.deref-in-Within.result.now c.in-Within.steps c.in-Within.part c.in-Within.is c.deref-in-Within.ensures in
+    (omega (arith, one.smaller, c.decreases), (c.requires.along, (c.requires.span, (c.requires.frame, subst (Fits (signature_of c.args.along.now.task.now.problem.domain) []) one.tree c.requires.fits))))
+
+pub labels_of-returns-in-Within-clause-labels : goal.labels_of-returns-in-Within-clause-labels
+labels_of-returns-in-Within-clause-labels t c =
+    let one = one-Within c.args.f.now c.deref-in-Within.result.now c.in-Within.steps c.in-Within.part c.in-Within.is c.deref-in-Within.ensures in
+    subst (λ (x : FormulaTree). AreLabels (plain_problem c.args.along.now.task.now.problem) c.args.along.now.worlds.now c.args.span (assignment_in c.args.env.now) x c.later_labels-in-Within.result) (sym one.tree) c.later_labels-in-Within.ensures.labels
+
+pub labels_of-later_labels-requires-in-During : goal.labels_of-later_labels-requires-in-During
+labels_of-later_labels-requires-in-During t c =
+    let one = one-During c.args.f.now c.deref-in-During.result.now c.in-During.steps c.in-During.part c.in-During.is c.deref-in-During.ensures in
+    (omega (arith, one.smaller, c.decreases), (c.requires.along, (c.requires.span, (c.requires.frame, subst (Fits (signature_of c.args.along.now.task.now.problem.domain) []) one.tree c.requires.fits))))
+
+pub labels_of-returns-in-During-clause-labels : goal.labels_of-returns-in-During-clause-labels
+labels_of-returns-in-During-clause-labels t c =
+    let one = one-During c.args.f.now c.deref-in-During.result.now c.in-During.steps c.in-During.part c.in-During.is c.deref-in-During.ensures in
+    subst (λ (x : FormulaTree). AreLabels (plain_problem c.args.along.now.task.now.problem) c.args.along.now.worlds.now c.args.span (assignment_in c.args.env.now) x c.later_labels-in-During.result) (sym one.tree) c.later_labels-in-During.ensures.labels
+
+pub negated_labels-labels_of-requires : goal.negated_labels-labels_of-requires
+negated_labels-labels_of-requires t c =
+    (omega (arith, c.decreases), (c.requires.along, (c.requires.span, (c.requires.frame, fits-not (signature_of c.args.along.now.task.now.problem.domain) (tree_of_formula c.args.part.now) c.requires.fits))))
+
+pub negated_labels-returns-clause-labels : goal.negated_labels-returns-clause-labels
+negated_labels-returns-clause-labels t c =
+    not-made (plain_problem c.args.along.now.task.now.problem) c.args.along.now.worlds.now c.args.span c.requires.span (assignment_in c.args.env.now) (tree_of_formula c.args.part.now) c.in_ok-found.found c.negate.new.self c.in_ok-found.ensures.labels c.negate.ensures
+
+pub negated_labels-returns-in_err-found-clause-labels : goal.negated_labels-returns-in_err-found-clause-labels
+negated_labels-returns-in_err-found-clause-labels t c =
+    handed (λ r. AreLabels (plain_problem c.args.along.now.task.now.problem) c.args.along.now.worlds.now c.args.span (assignment_in c.args.env.now) (negation (tree_of_formula c.args.part.now)) r) c.from_residual.result c.in_err-found.field-0.0 c.from_residual.ensures.1 (not-noted (plain_problem c.args.along.now.task.now.problem) c.args.along.now.worlds.now c.args.span c.requires.span (assignment_in c.args.env.now) (tree_of_formula c.args.part.now) c.in_err-found.field-0.0 c.in_err-found.ensures.labels)
+
+pub next_labels-labels_of-requires : goal.next_labels-labels_of-requires
+next_labels-labels_of-requires t c =
+    (omega (arith, c.decreases), (c.requires.along, (shifted-within (plain_problem c.args.along.now.task.now.problem) c.args.along.now.worlds.now c.args.span c.requires.span (assignment_in c.args.env.now) (tree_of_formula c.args.part.now) c.if-span-along.true, (c.requires.frame, fits-next (signature_of c.args.along.now.task.now.problem.domain) (tree_of_formula c.args.part.now) c.requires.fits))))
+
+pub next_labels-labels_of-requires-2 : goal.next_labels-labels_of-requires-2
+next_labels-labels_of-requires-2 t c =
+    (omega (arith, c.decreases), (c.requires.along, (c.requires.span, (c.requires.frame, fits-next (signature_of c.args.along.now.task.now.problem.domain) (tree_of_formula c.args.part.now) c.requires.fits))))
+
+pub next_labels-returns-then-span-along-clause-labels : goal.next_labels-returns-then-span-along-clause-labels
+next_labels-returns-then-span-along-clause-labels t c =
+    next-handed (plain_problem c.args.along.now.task.now.problem) c.args.along.now.worlds.now c.args.span c.requires.span (assignment_in c.args.env.now) (tree_of_formula c.args.part.now) c.if-span-along.true c.labels_of.result c.labels_of.ensures.labels
+
+pub next_labels-returns-clause-labels : goal.next_labels-returns-clause-labels
+next_labels-returns-clause-labels t c =
+    next-last (plain_problem c.args.along.now.task.now.problem) c.args.along.now.worlds.now c.args.span c.requires.span (assignment_in c.args.env.now) (tree_of_formula c.args.part.now) (omega (arith, c.if-span-along.false, c.requires.span.within)) c.in_ok-found.found c.shift.new.self c.in_ok-found.ensures.labels c.shift.ensures
+
+pub next_labels-returns-in_err-found-clause-labels : goal.next_labels-returns-in_err-found-clause-labels
+next_labels-returns-in_err-found-clause-labels t c =
+    handed (λ r. AreLabels (plain_problem c.args.along.now.task.now.problem) c.args.along.now.worlds.now c.args.span (assignment_in c.args.env.now) (next (tree_of_formula c.args.part.now)) r) c.from_residual.result c.in_err-found.field-0.0 c.from_residual.ensures.1 (next-noted (plain_problem c.args.along.now.task.now.problem) c.args.along.now.worlds.now c.args.span c.requires.span (assignment_in c.args.env.now) (tree_of_formula c.args.part.now) c.args.span (omega arith) c.in_err-found.field-0.0 c.in_err-found.ensures.labels)
+
+pub later_labels-labels_of-requires : goal.later_labels-labels_of-requires
+later_labels-labels_of-requires t c =
+    (omega (arith, c.decreases), (c.requires.along, (rest-within (plain_problem c.args.along.now.task.now.problem) c.args.along.now.worlds.now c.args.span c.requires.span (assignment_in c.args.env.now) (tree_of_formula c.args.part.now), (c.requires.frame, fits-word (signature_of c.args.along.now.task.now.problem.domain) (tree_of_formula c.args.part.now) c.args.word c.requires.fits))))
+
+pub later_labels-returns-clause-labels : goal.later_labels-returns-clause-labels
+later_labels-returns-clause-labels t c =
+    later-made (plain_problem c.args.along.now.task.now.problem) c.args.along.now.worlds.now c.args.span c.requires.span (assignment_in c.args.env.now) (tree_of_formula c.args.part.now) c.args.word c.in_ok-found.found c.later.new.self c.truncate.new.self c.in_ok-found.ensures.labels c.later.ensures c.truncate.ensures
+
+pub later_labels-returns-in_err-found-clause-labels : goal.later_labels-returns-in_err-found-clause-labels
+later_labels-returns-in_err-found-clause-labels t c =
+    handed (λ r. AreLabels (plain_problem c.args.along.now.task.now.problem) c.args.along.now.worlds.now c.args.span (assignment_in c.args.env.now) (later_tree c.args.word (tree_of_formula c.args.part.now)) r) c.from_residual.result c.in_err-found.field-0.0 c.from_residual.ensures.1 (later-noted (plain_problem c.args.along.now.task.now.problem) c.args.along.now.worlds.now c.args.span c.requires.span (assignment_in c.args.env.now) (tree_of_formula c.args.part.now) c.args.word c.in_err-found.field-0.0 c.in_err-found.ensures.labels)
 
 pub until_labels-labels_of-requires : goal.until_labels-labels_of-requires
 until_labels-labels_of-requires t c =
-    let parts = until-parts (signature_of c.args.task.now.problem.domain) (tree_of_formula c.args.first.now) (tree_of_formula c.args.second.now) c.requires.fits in
-    (omega (arith, c.decreases), (c.requires.few, (c.requires.from, (c.requires.frame, parts.0))))
+    let parts = until-parts (signature_of c.args.along.now.task.now.problem.domain) (tree_of_formula c.args.first.now) (tree_of_formula c.args.second.now) c.requires.fits in
+    (omega (arith, c.decreases), (c.requires.along, (rest-within (plain_problem c.args.along.now.task.now.problem) c.args.along.now.worlds.now c.args.span c.requires.span (assignment_in c.args.env.now) (tree_of_formula c.args.first.now), (c.requires.frame, parts.0))))
 
-pub until_labels-labels_of-requires-in-Ok : goal.until_labels-labels_of-requires-in-Ok
-until_labels-labels_of-requires-in-Ok t c =
-    let parts = until-parts (signature_of c.args.task.now.problem.domain) (tree_of_formula c.args.first.now) (tree_of_formula c.args.second.now) c.requires.fits in
-    (omega (arith, c.decreases), (c.requires.few, (c.requires.from, (ap length c.in-Ok.ensures.frame ∙ c.requires.frame, parts.1))))
+pub until_labels-labels_of-requires-2 : goal.until_labels-labels_of-requires-2
+until_labels-labels_of-requires-2 t c =
+    let parts = until-parts (signature_of c.args.along.now.task.now.problem.domain) (tree_of_formula c.args.first.now) (tree_of_formula c.args.second.now) c.requires.fits in
+    (omega (arith, c.decreases), (c.requires.along, (rest-within (plain_problem c.args.along.now.task.now.problem) c.args.along.now.worlds.now c.args.span c.requires.span (assignment_in c.args.env.now) (tree_of_formula c.args.first.now), (ap length c.in_ok-found.ensures.frame ∙ c.requires.frame, parts.1))))
 
 pub until_labels-until-requires : goal.until_labels-until-requires
 until_labels-until-requires t c =
-    same-length (plain_problem c.args.task.now.problem) c.args.worlds.now c.args.from (assignment_in c.args.env.now) (assignment_in c.labels_of.new.env) (tree_of_formula c.args.first.now) (tree_of_formula c.args.second.now)
-    (true_ahead (plain_problem c.args.task.now.problem) (assignment_in c.args.env.now) (tree_of_formula c.args.first.now)) (true_ahead (plain_problem c.args.task.now.problem) (assignment_in c.labels_of.new.env) (tree_of_formula c.args.second.now)) c.in-Ok.found c.in-Ok-labels_of.other c.in-Ok.ensures.labels c.in-Ok-labels_of.ensures.labels
+    same-length c.args.along.now.worlds.now (rest (plain_problem c.args.along.now.task.now.problem) c.args.along.now.worlds.now c.args.span c.requires.span (assignment_in c.args.env.now) (tree_of_formula c.args.first.now)) (rest-within (plain_problem c.args.along.now.task.now.problem) c.args.along.now.worlds.now c.args.span c.requires.span (assignment_in c.args.env.now) (tree_of_formula c.args.first.now)) (true_ahead (plain_problem c.args.along.now.task.now.problem) (assignment_in c.args.env.now) (tree_of_formula c.args.first.now)) (true_ahead (plain_problem c.args.along.now.task.now.problem) (assignment_in c.labels_of.new.env) (tree_of_formula c.args.second.now)) c.in_ok-found.found c.in_ok-other.other c.in_ok-found.ensures.labels c.in_ok-other.ensures.labels
 
-pub until_labels-returns-in-Ok-labels_of-clause-labels : goal.until_labels-returns-in-Ok-labels_of-clause-labels
-until_labels-returns-in-Ok-labels_of-clause-labels t c =
-    until-made (plain_problem c.args.task.now.problem) c.args.worlds.now c.args.from (assignment_in c.args.env.now) (assignment_in c.labels_of.new.env) (tree_of_formula c.args.first.now) (tree_of_formula c.args.second.now) c.in-Ok.found c.in-Ok-labels_of.other c.until.new.self (ap assignment_in c.in-Ok.ensures.frame) c.in-Ok.ensures.labels c.in-Ok-labels_of.ensures.labels c.until.ensures
+pub until_labels-returns-clause-labels : goal.until_labels-returns-clause-labels
+until_labels-returns-clause-labels t c =
+    until-made (plain_problem c.args.along.now.task.now.problem) c.args.along.now.worlds.now c.args.span c.requires.span (assignment_in c.args.env.now) (tree_of_formula c.args.first.now) (assignment_in c.labels_of.new.env) (tree_of_formula c.args.second.now) c.in_ok-found.found c.in_ok-other.other c.until.new.self c.truncate.new.self (ap assignment_in c.in_ok-found.ensures.frame) c.in_ok-found.ensures.labels c.in_ok-other.ensures.labels c.until.ensures c.truncate.ensures
 
-pub until_labels-returns-in-Err-labels_of-clause-labels : goal.until_labels-returns-in-Err-labels_of-clause-labels
-until_labels-returns-in-Err-labels_of-clause-labels t c =
-    until-second-noted (plain_problem c.args.task.now.problem) c.args.worlds.now c.args.from (assignment_in c.args.env.now) (assignment_in c.labels_of.new.env) (tree_of_formula c.args.first.now) (tree_of_formula c.args.second.now) c.in-Err-labels_of.fault (ap assignment_in c.in-Ok.ensures.frame) c.in-Err-labels_of.ensures.labels
+pub until_labels-returns-in_err-found-clause-labels : goal.until_labels-returns-in_err-found-clause-labels
+until_labels-returns-in_err-found-clause-labels t c =
+    handed (λ r. AreLabels (plain_problem c.args.along.now.task.now.problem) c.args.along.now.worlds.now c.args.span (assignment_in c.args.env.now) (until (tree_of_formula c.args.first.now) (tree_of_formula c.args.second.now)) r) c.from_residual.result c.in_err-found.field-0.0 c.from_residual.ensures.1 (until-first-noted (plain_problem c.args.along.now.task.now.problem) c.args.along.now.worlds.now c.args.span c.requires.span (assignment_in c.args.env.now) (tree_of_formula c.args.first.now) (assignment_in c.args.env.now) (tree_of_formula c.args.second.now) c.in_err-found.field-0.0 c.in_err-found.ensures.labels)
 
-pub until_labels-returns-in-Err-clause-labels : goal.until_labels-returns-in-Err-clause-labels
-until_labels-returns-in-Err-clause-labels t c =
-    until-first-noted (plain_problem c.args.task.now.problem) c.args.worlds.now c.args.from (assignment_in c.args.env.now) (assignment_in c.args.env.now) (tree_of_formula c.args.first.now) (tree_of_formula c.args.second.now) c.in-Err.fault c.in-Err.ensures.labels
-
--- ---- the parts of conjunctions and disjunctions
+pub until_labels-returns-in_err-other-clause-labels : goal.until_labels-returns-in_err-other-clause-labels
+until_labels-returns-in_err-other-clause-labels t c =
+    handed (λ r. AreLabels (plain_problem c.args.along.now.task.now.problem) c.args.along.now.worlds.now c.args.span (assignment_in c.args.env.now) (until (tree_of_formula c.args.first.now) (tree_of_formula c.args.second.now)) r) c.from_residual-in_err-other.result c.in_err-other.field-0.0 c.from_residual-in_err-other.ensures.1 (until-second-noted (plain_problem c.args.along.now.task.now.problem) c.args.along.now.worlds.now c.args.span c.requires.span (assignment_in c.args.env.now) (tree_of_formula c.args.first.now) (assignment_in c.labels_of.new.env) (tree_of_formula c.args.second.now) c.in_err-other.field-0.0 (ap assignment_in c.in_ok-found.ensures.frame) c.in_err-other.ensures.labels)
 
 pub parts_labels-loop-part-init : goal.parts_labels-loop-part-init
-parts_labels-loop-part-init t c = record {
-  frame = refl;
-  so_far = parts-begun (plain_problem c.args.task.now.problem) (assignment_in c.args.env.now) (drop c.args.from c.args.worlds.now) c.args.junction c.as_slice-part-items.result.now (length c.args.worlds.now - c.args.from) c.in-Ok.all (sym (length-drop c.args.from c.args.worlds.now))
-      (c.in-Ok.ensures.same ∙ ap (λ (b : Bool). replicate (length c.args.worlds.now - c.args.from) (not b)) c.deciding_truth.ensures);
-}
+parts_labels-loop-part-init t c =
+    record {
+      frame = refl;
+      so_far = parts-begun (plain_problem c.args.along.now.task.now.problem) (assignment_in c.args.env.now) c.args.along.now.worlds.now c.args.span c.requires.span c.args.junction c.as_slice-part-items.result.now c.in_ok-all.all (c.in_ok-all.ensures.same ∙ ap (λ (b : Bool). replicate (c.args.span.to - c.args.span.from) (not b)) c.deciding_truth.ensures);
+    }
 
 pub parts_labels-labels_of-requires : goal.parts_labels-labels_of-requires
 parts_labels-labels_of-requires t c =
-    let less = size-at c.as_slice-part-items.result.now c.args.parts.now c.loop-part.part-index c.part-item.result c.as_slice-part-items.ensures c.loop-part-test.true c.part-item.is in (
-      omega (arith, less, c.decreases),
-      (
-        c.requires.few,
-        (
-          c.requires.from,
-          (
-            ap length c.loop-part.invariant.frame ∙ c.requires.frame,
-            item-fits (signature_of c.args.task.now.problem.domain) c.args.junction c.args.parts.now c.as_slice-part-items.result.now c.loop-part.part-index c.part-item.result c.as_slice-part-items.ensures c.loop-part-test.true c.part-item.is c.requires.fits,
-          ),
-        ),
-      ),
-    )
+    let less = size-at c.as_slice-part-items.result.now c.args.parts.now c.loop-part.part-index c.part-item.result c.as_slice-part-items.ensures c.loop-part-test.true c.part-item.is in
+    (omega (arith, less, c.decreases), (c.requires.along, (c.requires.span, (ap length c.loop-part.invariant.frame ∙ c.requires.frame, item-fits (signature_of c.args.along.now.task.now.problem.domain) c.args.junction c.args.parts.now c.as_slice-part-items.result.now c.loop-part.part-index c.part-item.result c.as_slice-part-items.ensures c.loop-part-test.true c.part-item.is c.requires.fits))))
 
 pub parts_labels-join-requires : goal.parts_labels-join-requires
 parts_labels-join-requires t c =
-    let p = plain_problem c.args.task.now.problem in
-    same-length p c.args.worlds.now c.args.from (assignment_in c.args.env.now) (assignment_in c.args.env.now) (tree_of_formula c.part-item.result) (tree_of_formula c.part-item.result)
-    c.loop-part.invariant.so_far.so_far (true_ahead p (assignment_in c.loop-part.env) (tree_of_formula c.part-item.result)) c.loop-part.all c.in-Ok-labels_of.found c.loop-part.invariant.so_far.labels c.in-Ok-labels_of.ensures.labels
-
-pub parts_labels-returns-in-Err-labels_of-clause-labels : goal.parts_labels-returns-in-Err-labels_of-clause-labels
-parts_labels-returns-in-Err-labels_of-clause-labels t c =
-    item-noted (plain_problem c.args.task.now.problem) c.args.worlds.now c.args.from (assignment_in c.args.env.now) (assignment_in c.loop-part.env) c.args.junction c.args.parts.now c.as_slice-part-items.result.now c.loop-part.part-index c.part-item.result
-    c.as_slice-part-items.ensures c.loop-part-test.true c.part-item.is (ap assignment_in c.loop-part.invariant.frame) c.in-Err-labels_of.fault c.in-Err-labels_of.ensures.labels
+    same-length c.args.along.now.worlds.now c.args.span c.requires.span c.loop-part.invariant.so_far.so_far (true_ahead (plain_problem c.args.along.now.task.now.problem) (assignment_in c.loop-part.env) (tree_of_formula c.part-item.result)) c.loop-part.all c.in_ok-found.found c.loop-part.invariant.so_far.labels c.in_ok-found.ensures.labels
 
 pub parts_labels-loop-part-preserved : goal.parts_labels-loop-part-preserved
-parts_labels-loop-part-preserved t c = record {
-  frame = c.in-Ok-labels_of.ensures.frame ∙ c.loop-part.invariant.frame;
-  so_far = parts-on (plain_problem c.args.task.now.problem) (assignment_in c.args.env.now) (drop c.args.from c.args.worlds.now) c.args.junction c.as_slice-part-items.result.now c.loop-part.all c.in-Ok-labels_of.found c.join.new.self c.loop-part.part-index c.part-item.result c.loop-part-test.true c.part-item.is c.loop-part.invariant.so_far
-      (c.in-Ok-labels_of.ensures.labels ∙ ap (λ (x : Assignment). marks (true_ahead (plain_problem c.args.task.now.problem) x (tree_of_formula c.part-item.result)) (drop c.args.from c.args.worlds.now)) (ap assignment_in c.loop-part.invariant.frame)) c.join.ensures;
-}
-
-pub parts_labels-returns-clause-labels : goal.parts_labels-returns-clause-labels
-parts_labels-returns-clause-labels t c = parts-end (plain_problem c.args.task.now.problem) (assignment_in c.args.env.now) (drop c.args.from c.args.worlds.now) c.args.junction c.as_slice-part-items.result.now c.args.parts.now c.loop-part.all c.loop-part.part-index c.as_slice-part-items.ensures c.loop-part-test.false c.loop-part.invariant.so_far
-
--- ---- the instances of quantifiers
-
-pub quantified_labels-cursors_at-requires-clause-differ : goal.quantified_labels-cursors_at-requires-clause-differ
-quantified_labels-cursors_at-requires-clause-differ t c =
-    let parts = quantified-parts c.args.task.now.problem c.args.junction c.args.vars.now c.args.bound.now (tree_of_formula c.args.part.now) c.requires.fits in
-    parts.differ
-
-pub quantified_labels-advance-requires-clause-differ : goal.quantified_labels-advance-requires-clause-differ
-quantified_labels-advance-requires-clause-differ t c =
-    let parts = quantified-parts c.args.task.now.problem c.args.junction c.args.vars.now c.args.bound.now (tree_of_formula c.args.part.now) c.requires.fits in
-    parts.differ
-
-pub quantified_labels-cursors_at-requires-clause-occur : goal.quantified_labels-cursors_at-requires-clause-occur
-quantified_labels-cursors_at-requires-clause-occur t c =
-    let parts = quantified-parts c.args.task.now.problem c.args.junction c.args.vars.now c.args.bound.now (tree_of_formula c.args.part.now) c.requires.fits in
-    parts.occur
-
-pub quantified_labels-advance-requires-clause-occur : goal.quantified_labels-advance-requires-clause-occur
-quantified_labels-advance-requires-clause-occur t c =
-    let parts = quantified-parts c.args.task.now.problem c.args.junction c.args.vars.now c.args.bound.now (tree_of_formula c.args.part.now) c.requires.fits in
-    parts.occur
-
-pub quantified_labels-cursors_at-requires-clause-fits : goal.quantified_labels-cursors_at-requires-clause-fits
-quantified_labels-cursors_at-requires-clause-fits t c =
-    let parts = quantified-parts c.args.task.now.problem c.args.junction c.args.vars.now c.args.bound.now (tree_of_formula c.args.part.now) c.requires.fits in
-    parts.bound
-
-pub quantified_labels-advance-requires-clause-fits : goal.quantified_labels-advance-requires-clause-fits
-quantified_labels-advance-requires-clause-fits t c =
-    let parts = quantified-parts c.args.task.now.problem c.args.junction c.args.vars.now c.args.bound.now (tree_of_formula c.args.part.now) c.requires.fits in
-    parts.bound
-
-pub quantified_labels-advance-requires-clause-few : goal.quantified_labels-advance-requires-clause-few
-quantified_labels-advance-requires-clause-few t c =
-    let parts = quantified-parts c.args.task.now.problem c.args.junction c.args.vars.now c.args.bound.now (tree_of_formula c.args.part.now) c.requires.fits in
-    parts.few
-
-pub quantified_labels-least-requires : goal.quantified_labels-least-requires
-quantified_labels-least-requires t c =
-    let parts = quantified-parts c.args.task.now.problem c.args.junction c.args.vars.now c.args.bound.now (tree_of_formula c.args.part.now) c.requires.fits in
-    omega (arith, parts.few, c.len.ensures)
-
-pub quantified_labels-counted_values-requires : goal.quantified_labels-counted_values-requires
-quantified_labels-counted_values-requires t c =
-    let parts = quantified-parts c.args.task.now.problem c.args.junction c.args.vars.now c.args.bound.now (tree_of_formula c.args.part.now) c.requires.fits in
-    let p = plain_problem c.args.task.now.problem in
-    let e = assignment_in c.args.env.now in
-    let q : Quantifier = record { junction = c.args.junction; vars = c.args.vars.now; bound = c.args.bound.now; part = tree_of_formula c.args.part.now } in
-    let found = subst (λ (cs : List Cursor). IsFound cs c.in-Some.found) c.as_slice.ensures.value c.in-Some.ensures.some in
-    omega (arith, parts.few, found-count (length c.args.vars.now) c.loop-found.cursors.items c.in-Some.found (at-counts p e q c.loop-found.cursors.items (drop c.args.from c.args.worlds.now) c.loop-found.invariant.at) found)
-
-pub quantified_labels-put_values-requires-clause-slots : goal.quantified_labels-put_values-requires-clause-slots
-quantified_labels-put_values-requires-clause-slots t c =
-    let parts = quantified-parts c.args.task.now.problem c.args.junction c.args.vars.now c.args.bound.now (tree_of_formula c.args.part.now) c.requires.fits in
-    subst (Each (λ (s : Var). s.slot < 32)) (sym c.as_slice-in-Some.ensures) parts.in_frame
-
-pub quantified_labels-put_values-requires-clause-same : goal.quantified_labels-put_values-requires-clause-same
-quantified_labels-put_values-requires-clause-same t c =
-    let parts = quantified-parts c.args.task.now.problem c.args.junction c.args.vars.now c.args.bound.now (tree_of_formula c.args.part.now) c.requires.fits in
-    let p = plain_problem c.args.task.now.problem in
-    let e = assignment_in c.args.env.now in
-    let q : Quantifier = record { junction = c.args.junction; vars = c.args.vars.now; bound = c.args.bound.now; part = tree_of_formula c.args.part.now } in
-    let found = subst (λ (cs : List Cursor). IsFound cs c.in-Some.found) c.as_slice.ensures.value c.in-Some.ensures.some in
-    omega (arith, ap length c.as_slice-in-Some.ensures, c.counted_values.ensures.count, found-count (length c.args.vars.now) c.loop-found.cursors.items c.in-Some.found (at-counts p e q c.loop-found.cursors.items (drop c.args.from c.args.worlds.now) c.loop-found.invariant.at) found)
-
-pub quantified_labels-overflow_add-from : goal.quantified_labels-overflow_add-from
-quantified_labels-overflow_add-from t c =
-    let parts = quantified-parts c.args.task.now.problem c.args.junction c.args.vars.now c.args.bound.now (tree_of_formula c.args.part.now) c.requires.fits in
-    let p = plain_problem c.args.task.now.problem in
-    let e = assignment_in c.args.env.now in
-    let q : Quantifier = record { junction = c.args.junction; vars = c.args.vars.now; bound = c.args.bound.now; part = tree_of_formula c.args.part.now } in
-    let found = subst (λ (cs : List Cursor). IsFound cs c.in-Some.found) c.as_slice.ensures.value c.in-Some.ensures.some in
-    omega (arith, found-within c.loop-found.cursors.items c.in-Some.found found, at-size p e q c.loop-found.cursors.items (drop c.args.from c.args.worlds.now) c.loop-found.invariant.at, length-drop c.args.from c.args.worlds.now, c.requires.few, c.requires.from)
-
-pub quantified_labels-labels_of-requires : goal.quantified_labels-labels_of-requires
-quantified_labels-labels_of-requires t c =
-    let parts = quantified-parts c.args.task.now.problem c.args.junction c.args.vars.now c.args.bound.now (tree_of_formula c.args.part.now) c.requires.fits in
-    let p = plain_problem c.args.task.now.problem in
-    let e = assignment_in c.args.env.now in
-    let q : Quantifier = record { junction = c.args.junction; vars = c.args.vars.now; bound = c.args.bound.now; part = tree_of_formula c.args.part.now } in
-    let found = subst (λ (cs : List Cursor). IsFound cs c.in-Some.found) c.as_slice.ensures.value c.in-Some.ensures.some in
-    (omega (arith, c.decreases), (c.requires.few, (omega (arith, found-within c.loop-found.cursors.items c.in-Some.found found, at-size p e q c.loop-found.cursors.items (drop c.args.from c.args.worlds.now) c.loop-found.invariant.at, length-drop c.args.from c.args.worlds.now, c.requires.from), (c.put_values.ensures.slots ∙ c.loop-found.invariant.slots, parts.body))))
-
-pub quantified_labels-advance-requires-clause-size : goal.quantified_labels-advance-requires-clause-size
-quantified_labels-advance-requires-clause-size t c =
-    let parts = quantified-parts c.args.task.now.problem c.args.junction c.args.vars.now c.args.bound.now (tree_of_formula c.args.part.now) c.requires.fits in
-    let p = plain_problem c.args.task.now.problem in
-    let e = assignment_in c.args.env.now in
-    let q : Quantifier = record { junction = c.args.junction; vars = c.args.vars.now; bound = c.args.bound.now; part = tree_of_formula c.args.part.now } in
-    ap length c.as_mut_slice.ensures.value ∙ (at-size p e q c.loop-found.cursors.items (drop c.args.from c.args.worlds.now) c.loop-found.invariant.at ∙ sym (ap length (rest-whole c.args.worlds.now c.args.from)))
-
-pub quantified_labels-advance-requires-clause-counts : goal.quantified_labels-advance-requires-clause-counts
-quantified_labels-advance-requires-clause-counts t c =
-    let parts = quantified-parts c.args.task.now.problem c.args.junction c.args.vars.now c.args.bound.now (tree_of_formula c.args.part.now) c.requires.fits in
-    let p = plain_problem c.args.task.now.problem in
-    let e = assignment_in c.args.env.now in
-    let q : Quantifier = record { junction = c.args.junction; vars = c.args.vars.now; bound = c.args.bound.now; part = tree_of_formula c.args.part.now } in
-    subst (λ (cs : List Cursor). HaveCounts (length c.args.vars.now) cs) (sym c.as_mut_slice.ensures.value) (at-counts p e q c.loop-found.cursors.items (drop c.args.from c.args.worlds.now) c.loop-found.invariant.at)
-
-pub quantified_labels-advance-requires-clause-labels : goal.quantified_labels-advance-requires-clause-labels
-quantified_labels-advance-requires-clause-labels t c =
-    let parts = quantified-parts c.args.task.now.problem c.args.junction c.args.vars.now c.args.bound.now (tree_of_formula c.args.part.now) c.requires.fits in
-    let p = plain_problem c.args.task.now.problem in
-    let e = assignment_in c.args.env.now in
-    let q : Quantifier = record { junction = c.args.junction; vars = c.args.vars.now; bound = c.args.bound.now; part = tree_of_formula c.args.part.now } in
-    let found = subst (λ (cs : List Cursor). IsFound cs c.in-Some.found) c.as_slice.ensures.value c.in-Some.ensures.some in
-    omega (arith, ap length c.in-Ok-labels_of.ensures.labels, marks-length (true_ahead p (assignment_in c.put_values.new.self) (tree_of_formula c.args.part.now)) (drop (c.args.from + c.in-Some.found.at) c.args.worlds.now), length-drop (c.args.from + c.in-Some.found.at) c.args.worlds.now, ap length (rest-whole c.args.worlds.now c.args.from), found-within c.loop-found.cursors.items c.in-Some.found found, at-size p e q c.loop-found.cursors.items (drop c.args.from c.args.worlds.now) c.loop-found.invariant.at, length-drop c.args.from c.args.worlds.now, c.requires.from)
-
-pub quantified_labels-loop-found-preserved : goal.quantified_labels-loop-found-preserved
-quantified_labels-loop-found-preserved t c =
-    let parts = quantified-parts c.args.task.now.problem c.args.junction c.args.vars.now c.args.bound.now (tree_of_formula c.args.part.now) c.requires.fits in
-    let p = plain_problem c.args.task.now.problem in
-    let e = assignment_in c.args.env.now in
-    let q : Quantifier = record { junction = c.args.junction; vars = c.args.vars.now; bound = c.args.bound.now; part = tree_of_formula c.args.part.now } in
-    let scope : assignment_in c.put_values.new.self ≡ bind c.args.vars.now (tuple_of c.in-Some.found.tuple) e =
-    c.put_values.ensures.values ∙ (ap (λ (ss : List Var). bind ss c.counted_values.result.now (assignment_in c.loop-found.inner)) c.as_slice-in-Some.ensures ∙ (ap (λ (u : List Value). bind c.args.vars.now u (assignment_in c.loop-found.inner)) c.counted_values.ensures.values ∙ c.loop-found.invariant.scope (tuple_of c.in-Some.found.tuple))) in
+parts_labels-loop-part-preserved t c =
     record {
-      slots = ap length c.in-Ok-labels_of.ensures.frame ∙ (c.put_values.ensures.slots ∙ c.loop-found.invariant.slots);
-      scope = λ u. bind-through c.args.vars.now u (tuple_of c.in-Some.found.tuple) (assignment_in c.labels_of.new.env) e (ap assignment_in c.in-Ok-labels_of.ensures.frame ∙ scope);
-      at = subst (λ (cs : List Cursor). AreAt p e q cs (drop c.args.from c.args.worlds.now)) (sym (same-items c.loop-found.cursors.len c.loop-found.cursors.items c.advance.new.cursors (c.advance.auto.cursors ∙ ap length c.as_mut_slice.ensures.value) c.loop-found.cursors.ok.0))
-          (instance-on p c.args.worlds.now c.args.from e (assignment_in c.put_values.new.self) q c.in-Some.found _ c.as_mut_slice.result.now c.loop-found.cursors.items c.advance.new.cursors c.in-Ok-labels_of.instance (rest-whole c.args.worlds.now c.args.from) c.as_mut_slice.ensures.value scope (c.advance.ensures.at q.part) c.in-Ok-labels_of.ensures.labels c.loop-found.invariant.at);
+      frame = c.in_ok-found.ensures.frame ∙ c.loop-part.invariant.frame;
+      so_far = parts-on (plain_problem c.args.along.now.task.now.problem) (assignment_in c.args.env.now) c.args.along.now.worlds.now c.args.span c.requires.span c.args.junction c.as_slice-part-items.result.now c.loop-part.all c.in_ok-found.found c.join.new.self c.loop-part.part-index c.part-item.result c.loop-part-test.true c.part-item.is c.loop-part.invariant.so_far
+          (c.in_ok-found.ensures.labels ∙ ap (λ (x : Assignment). marks_in (true_ahead (plain_problem c.args.along.now.task.now.problem) x (tree_of_formula c.part-item.result)) c.args.along.now.worlds.now c.args.span) (ap assignment_in c.loop-part.invariant.frame)) c.join.ensures;
     }
 
-pub quantified_labels-returns-in-Err-labels_of-clause-labels : goal.quantified_labels-returns-in-Err-labels_of-clause-labels
-quantified_labels-returns-in-Err-labels_of-clause-labels t c =
-    let parts = quantified-parts c.args.task.now.problem c.args.junction c.args.vars.now c.args.bound.now (tree_of_formula c.args.part.now) c.requires.fits in
-    let p = plain_problem c.args.task.now.problem in
-    let e = assignment_in c.args.env.now in
-    let q : Quantifier = record { junction = c.args.junction; vars = c.args.vars.now; bound = c.args.bound.now; part = tree_of_formula c.args.part.now } in
-    let scope : assignment_in c.put_values.new.self ≡ bind c.args.vars.now (tuple_of c.in-Some.found.tuple) e =
-    c.put_values.ensures.values ∙ (ap (λ (ss : List Var). bind ss c.counted_values.result.now (assignment_in c.loop-found.inner)) c.as_slice-in-Some.ensures ∙ (ap (λ (u : List Value). bind c.args.vars.now u (assignment_in c.loop-found.inner)) c.counted_values.ensures.values ∙ c.loop-found.invariant.scope (tuple_of c.in-Some.found.tuple))) in
-    let found = subst (λ (cs : List Cursor). IsFound cs c.in-Some.found) c.as_slice.ensures.value c.in-Some.ensures.some in
-    instance-noted p c.args.worlds.now c.args.from e (assignment_in c.put_values.new.self) q c.in-Some.found c.loop-found.cursors.items c.loop-found.invariant.at found scope c.in-Err-labels_of.fault c.in-Err-labels_of.ensures.labels
+pub parts_labels-returns-clause-labels : goal.parts_labels-returns-clause-labels
+parts_labels-returns-clause-labels t c =
+    parts-end (plain_problem c.args.along.now.task.now.problem) (assignment_in c.args.env.now) c.args.along.now.worlds.now c.args.span c.requires.span c.args.junction c.as_slice-part-items.result.now c.args.parts.now c.loop-part.all c.loop-part.part-index c.as_slice-part-items.ensures c.loop-part-test.false c.loop-part.invariant.so_far
 
-pub quantified_labels-returns-in-Ok-truths_of-clause-labels : goal.quantified_labels-returns-in-Ok-truths_of-clause-labels
-quantified_labels-returns-in-Ok-truths_of-clause-labels t c =
-    let parts = quantified-parts c.args.task.now.problem c.args.junction c.args.vars.now c.args.bound.now (tree_of_formula c.args.part.now) c.requires.fits in
-    let p = plain_problem c.args.task.now.problem in
+pub parts_labels-returns-in_err-found-clause-labels : goal.parts_labels-returns-in_err-found-clause-labels
+parts_labels-returns-in_err-found-clause-labels t c =
+    handed (λ r. AreLabels (plain_problem c.args.along.now.task.now.problem) c.args.along.now.worlds.now c.args.span (assignment_in c.args.env.now) (joined c.args.junction (tree_of_formulas c.args.parts.now)) r) c.from_residual-in_err-found.result c.in_err-found.field-0.0 c.from_residual-in_err-found.ensures.1 (item-noted (plain_problem c.args.along.now.task.now.problem) c.args.along.now.worlds.now c.args.span (assignment_in c.args.env.now) (assignment_in c.loop-part.env) c.args.junction c.args.parts.now c.as_slice-part-items.result.now c.loop-part.part-index c.part-item.result c.as_slice-part-items.ensures c.loop-part-test.true c.part-item.is (ap assignment_in c.loop-part.invariant.frame) c.in_err-found.field-0.0 c.in_err-found.ensures.labels)
+
+pub quantified_labels-guided_labels-requires : goal.quantified_labels-guided_labels-requires
+quantified_labels-guided_labels-requires t c =
+    (omega (arith, c.decreases), (c.requires.along, (c.requires.span, (c.requires.frame, (c.requires.fits, c.in-Some.ensures)))))
+
+pub quantified_labels-stepped_labels-requires : goal.quantified_labels-stepped_labels-requires
+quantified_labels-stepped_labels-requires t c =
+    (omega (arith, c.decreases), (c.requires.along, (c.requires.span, (c.requires.frame, c.requires.fits))))
+
+pub quantified_labels-returns-in-Some-clause-labels : goal.quantified_labels-returns-in-Some-clause-labels
+quantified_labels-returns-in-Some-clause-labels t c =
+    c.guided_labels.ensures.labels
+
+pub quantified_labels-returns-in-None-clause-labels : goal.quantified_labels-returns-in-None-clause-labels
+quantified_labels-returns-in-None-clause-labels t c =
+    c.stepped_labels.ensures.labels
+
+pub guided_labels-kept-outer-requires : goal.guided_labels-kept-outer-requires
+guided_labels-kept-outer-requires t c =
+    let parts = quantified-parts c.args.along.now.task.now.problem c.args.binder.now.junction c.args.binder.now.vars.now c.args.binder.now.bound.now (tree_of_formula c.args.part.now) c.requires.fits in
+    record { few = omega (arith, ap length c.as_slice.ensures, parts.few) }
+
+pub guided_labels-open-tuples-requires-clause-differ : goal.guided_labels-open-tuples-requires-clause-differ
+guided_labels-open-tuples-requires-clause-differ t c =
+    let parts = quantified-parts c.args.along.now.task.now.problem c.args.binder.now.junction c.args.binder.now.vars.now c.args.binder.now.bound.now (tree_of_formula c.args.part.now) c.requires.fits in
+    parts.differ
+
+pub guided_labels-open-tuples-requires-clause-occur : goal.guided_labels-open-tuples-requires-clause-occur
+guided_labels-open-tuples-requires-clause-occur t c =
+    let parts = quantified-parts c.args.along.now.task.now.problem c.args.binder.now.junction c.args.binder.now.vars.now c.args.binder.now.bound.now (tree_of_formula c.args.part.now) c.requires.fits in
+    parts.occur
+
+pub guided_labels-open-tuples-requires-clause-fits : goal.guided_labels-open-tuples-requires-clause-fits
+guided_labels-open-tuples-requires-clause-fits t c =
+    let parts = quantified-parts c.args.along.now.task.now.problem c.args.binder.now.junction c.args.binder.now.vars.now c.args.binder.now.bound.now (tree_of_formula c.args.part.now) c.requires.fits in
+    parts.bound
+
+pub guided_labels-instances-init : goal.guided_labels-instances-init
+guided_labels-instances-init t c =
+    let parts = quantified-parts c.args.along.now.task.now.problem c.args.binder.now.junction c.args.binder.now.vars.now c.args.binder.now.bound.now (tree_of_formula c.args.part.now) c.requires.fits in
+    record {
+      reads = c.open-tuples.ensures.reads;
+      scope = λ u. refl;
+      slots = c.requires.frame;
+      so_far = guided-begun (plain_problem c.args.along.now.task.now.problem) c.args.along.now.worlds.now (assignment_in c.args.env.now) (with_part c.args.binder.now (tree_of_formula c.args.part.now)) parts.differ parts.occur c.args.guide.now c.requires.guide c.args.span c.requires.span c.in_ok-all.all c.open-tuples.result.tuple c.open-tuples.ensures.before (c.in_ok-all.ensures.same ∙ ap (λ (b : Bool). replicate (c.args.span.to - c.args.span.from) (not b)) c.deciding_truth.ensures);
+    }
+
+pub guided_labels-values-requires : goal.guided_labels-values-requires
+guided_labels-values-requires t c =
+    c.next.ensures.found c.instances-test.true
+
+pub guided_labels-put_values-requires-clause-slots : goal.guided_labels-put_values-requires-clause-slots
+guided_labels-put_values-requires-clause-slots t c =
+    let parts = quantified-parts c.args.along.now.task.now.problem c.args.binder.now.junction c.args.binder.now.vars.now c.args.binder.now.bound.now (tree_of_formula c.args.part.now) c.requires.fits in
+    subst (Each (λ (s : Var). s.slot < 32)) (sym c.as_slice-in-instances.ensures) parts.in_frame
+
+pub guided_labels-put_values-requires-clause-same : goal.guided_labels-put_values-requires-clause-same
+guided_labels-put_values-requires-clause-same t c =
+    ap length c.as_slice-in-instances.ensures ∙ sym (c.values.ensures.count c.args.binder.now.vars.now (assignment_in c.args.env.now) c.args.binder.now.bound.now (c.next.ensures.reads c.args.binder.now.vars.now (assignment_in c.args.env.now) c.instances.invariant.reads))
+
+pub guided_labels-join_instance-requires : goal.guided_labels-join_instance-requires
+guided_labels-join_instance-requires t c =
+    (omega (arith, c.decreases), (c.requires.along, (c.requires.span, (c.put_values.ensures.slots ∙ c.instances.invariant.slots, (c.requires.fits, omega (arith, c.instances.invariant.so_far.size, c.requires.span.order))))))
+
+pub guided_labels-instances-smaller : goal.guided_labels-instances-smaller
+guided_labels-instances-smaller t c =
+    let parts = quantified-parts c.args.along.now.task.now.problem c.args.binder.now.junction c.args.binder.now.vars.now c.args.binder.now.bound.now (tree_of_formula c.args.part.now) c.requires.fits in
+    let next = subst (IsNext (length c.args.binder.now.vars.now) (λ t. bound_true (situation_of (plain_problem c.args.along.now.task.now.problem) c.args.guide.now) (bind c.args.binder.now.vars.now t (assignment_in c.args.env.now)) c.args.binder.now.bound.now) c.instances.tuples.tuple) c.values.ensures.values (c.next.ensures.next c.args.binder.now.vars.now (assignment_in c.args.env.now) c.instances.invariant.reads) in
+    subst (λ (o : Option (List Value)). length (rest_after o (tuples (situation_of (plain_problem c.args.along.now.task.now.problem) c.args.guide.now) (assignment_in c.args.env.now) c.args.binder.now.vars.now c.args.binder.now.bound.now)) < length (rest_after c.instances.tuples.tuple (tuples (situation_of (plain_problem c.args.along.now.task.now.problem) c.args.guide.now) (assignment_in c.args.env.now) c.args.binder.now.vars.now c.args.binder.now.bound.now))) (sym c.values.ensures.values) (guided-fewer (plain_problem c.args.along.now.task.now.problem) c.args.along.now.worlds.now (assignment_in c.args.env.now) (with_part c.args.binder.now (tree_of_formula c.args.part.now)) parts.differ parts.occur c.args.guide.now c.requires.guide c.args.span c.requires.span c.instances.all c.instances.tuples.tuple c.instances.invariant.so_far c.values.result.now next)
+
+pub guided_labels-instances-preserved : goal.guided_labels-instances-preserved
+guided_labels-instances-preserved t c =
+    let parts = quantified-parts c.args.along.now.task.now.problem c.args.binder.now.junction c.args.binder.now.vars.now c.args.binder.now.bound.now (tree_of_formula c.args.part.now) c.requires.fits in
+    let next = subst (IsNext (length c.args.binder.now.vars.now) (λ t. bound_true (situation_of (plain_problem c.args.along.now.task.now.problem) c.args.guide.now) (bind c.args.binder.now.vars.now t (assignment_in c.args.env.now)) c.args.binder.now.bound.now) c.instances.tuples.tuple) c.values.ensures.values (c.next.ensures.next c.args.binder.now.vars.now (assignment_in c.args.env.now) c.instances.invariant.reads) in
+    let here = c.put_values.ensures.values ∙ (ap (λ (ss : List Var). bind ss c.values.result.now (assignment_in c.instances.env)) c.as_slice-in-instances.ensures ∙ c.instances.invariant.scope c.values.result.now) in
+    record {
+      reads = c.next.ensures.reads c.args.binder.now.vars.now (assignment_in c.args.env.now) c.instances.invariant.reads;
+      scope = λ u. bind-through c.args.binder.now.vars.now u c.values.result.now (assignment_in c.join_instance.new.env) (assignment_in c.args.env.now) (ap assignment_in c.in_ok-join_instance.ensures.frame ∙ here);
+      slots = ap length c.in_ok-join_instance.ensures.frame ∙ (c.put_values.ensures.slots ∙ c.instances.invariant.slots);
+      so_far = subst (Guided (plain_problem c.args.along.now.task.now.problem) c.args.along.now.worlds.now (assignment_in c.args.env.now) (with_part c.args.binder.now (tree_of_formula c.args.part.now)) c.args.guide.now c.args.span c.join_instance.new.all) (sym c.values.ensures.values)
+          (guided-on (plain_problem c.args.along.now.task.now.problem) c.args.along.now.worlds.now (assignment_in c.args.env.now) (with_part c.args.binder.now (tree_of_formula c.args.part.now)) parts.differ parts.occur c.args.guide.now c.requires.guide c.args.span c.requires.span c.instances.all c.instances.tuples.tuple c.instances.invariant.so_far c.values.result.now next c.join_instance.new.all c.in_ok-join_instance.field-0
+          (subst (λ (x : Assignment). JoinsInstance (plain_problem c.args.along.now.task.now.problem) c.args.along.now.worlds.now c.args.span x (with_part c.args.binder.now (tree_of_formula c.args.part.now)) c.instances.all c.join_instance.new.all (Ok c.in_ok-join_instance.field-0)) here c.in_ok-join_instance.ensures.joined));
+    }
+
+pub guided_labels-give_back-requires-clause-slots : goal.guided_labels-give_back-requires-clause-slots
+guided_labels-give_back-requires-clause-slots t c =
+    let parts = quantified-parts c.args.along.now.task.now.problem c.args.binder.now.junction c.args.binder.now.vars.now c.args.binder.now.bound.now (tree_of_formula c.args.part.now) c.requires.fits in
+    subst (Each (λ (s : Var). s.slot < 32)) (sym c.as_slice-2.ensures) parts.in_frame
+
+pub guided_labels-returns-clause-labels : goal.guided_labels-returns-clause-labels
+guided_labels-returns-clause-labels t c =
+    let parts = quantified-parts c.args.along.now.task.now.problem c.args.binder.now.junction c.args.binder.now.vars.now c.args.binder.now.bound.now (tree_of_formula c.args.part.now) c.requires.fits in
+    guided-end (plain_problem c.args.along.now.task.now.problem) c.args.along.now.worlds.now (assignment_in c.args.env.now) (with_part c.args.binder.now (tree_of_formula c.args.part.now)) parts.differ parts.occur c.args.guide.now c.requires.guide c.args.span c.requires.span c.instances.all c.instances.tuples.tuple c.next.new.self.tuple (c.next.ensures.next c.args.binder.now.vars.now (assignment_in c.args.env.now) c.instances.invariant.reads) (c.next.ensures.end c.instances-test.false) c.instances.invariant.so_far
+
+pub guided_labels-returns-in_err-join_instance-clause-labels : goal.guided_labels-returns-in_err-join_instance-clause-labels
+guided_labels-returns-in_err-join_instance-clause-labels t c =
+    let parts = quantified-parts c.args.along.now.task.now.problem c.args.binder.now.junction c.args.binder.now.vars.now c.args.binder.now.bound.now (tree_of_formula c.args.part.now) c.requires.fits in
+    let next = subst (IsNext (length c.args.binder.now.vars.now) (λ t. bound_true (situation_of (plain_problem c.args.along.now.task.now.problem) c.args.guide.now) (bind c.args.binder.now.vars.now t (assignment_in c.args.env.now)) c.args.binder.now.bound.now) c.instances.tuples.tuple) c.values.ensures.values (c.next.ensures.next c.args.binder.now.vars.now (assignment_in c.args.env.now) c.instances.invariant.reads) in
+    let here = c.put_values.ensures.values ∙ (ap (λ (ss : List Var). bind ss c.values.result.now (assignment_in c.instances.env)) c.as_slice-in-instances.ensures ∙ c.instances.invariant.scope c.values.result.now) in
+    handed (λ r. AreLabels (plain_problem c.args.along.now.task.now.problem) c.args.along.now.worlds.now c.args.span (assignment_in c.args.env.now) (quantified c.args.binder.now.junction c.args.binder.now.vars.now c.args.binder.now.bound.now (tree_of_formula c.args.part.now)) r) c.from_residual-in_err-join_instance.result c.in_err-join_instance.field-0.0 c.from_residual-in_err-join_instance.ensures.1
+    (guided-noted (plain_problem c.args.along.now.task.now.problem) c.args.along.now.worlds.now (assignment_in c.args.env.now) (with_part c.args.binder.now (tree_of_formula c.args.part.now)) parts.differ parts.occur c.args.guide.now c.requires.guide c.args.span c.requires.span c.instances.all c.instances.tuples.tuple c.instances.invariant.so_far c.values.result.now next c.join_instance.new.all c.in_err-join_instance.field-0.0
+    (subst (λ (y : Assignment). JoinsInstance (plain_problem c.args.along.now.task.now.problem) c.args.along.now.worlds.now c.args.span y (with_part c.args.binder.now (tree_of_formula c.args.part.now)) c.instances.all c.join_instance.new.all (Err c.in_err-join_instance.field-0.0)) here c.in_err-join_instance.ensures.joined))
+
+pub join_instance-bound_labels-requires-clause-fits : goal.join_instance-bound_labels-requires-clause-fits
+join_instance-bound_labels-requires-clause-fits t c =
+    let parts = quantified-parts c.args.along.now.task.now.problem c.args.binder.now.junction c.args.binder.now.vars.now c.args.binder.now.bound.now (tree_of_formula c.args.part.now) c.requires.fits in
+    parts.bound
+
+pub join_instance-hull-requires : goal.join_instance-hull-requires
+join_instance-hull-requires t c =
+    omega (arith, ap length c.in_ok-there.ensures, marks_in-length (bound_ahead (plain_problem c.args.along.now.task.now.problem) (assignment_in c.args.env.now) c.args.binder.now.bound.now) c.args.along.now.worlds.now c.args.span c.requires.span, c.requires.span.order)
+
+pub join_instance-labels_of-requires : goal.join_instance-labels_of-requires
+join_instance-labels_of-requires t c =
+    let parts = quantified-parts c.args.along.now.task.now.problem c.args.binder.now.junction c.args.binder.now.vars.now c.args.binder.now.bound.now (tree_of_formula c.args.part.now) c.requires.fits in
+    (omega (arith, c.decreases), (c.requires.along, (hull-within (plain_problem c.args.along.now.task.now.problem) c.args.along.now.worlds.now c.args.span (assignment_in c.args.env.now) (with_part c.args.binder.now (tree_of_formula c.args.part.now)) c.requires.span c.in_ok-there.there c.in_ok-there.ensures c.in-Some.hull c.in-Some.ensures.hull, (c.requires.frame, parts.body))))
+
+pub join_instance-overflow_sub-hull : goal.join_instance-overflow_sub-hull
+join_instance-overflow_sub-hull t c =
+    c.in-Some.ensures.hull.from
+
+pub join_instance-join_where-requires-clause-size : goal.join_instance-join_where-requires-clause-size
+join_instance-join_where-requires-clause-size t c =
+    omega (arith, ap length c.in_ok-there.ensures, marks_in-length (bound_ahead (plain_problem c.args.along.now.task.now.problem) (assignment_in c.args.env.now) c.args.binder.now.bound.now) c.args.along.now.worlds.now c.args.span c.requires.span, c.requires.span.order, c.requires.size)
+
+pub join_instance-join_where-requires-clause-within : goal.join_instance-join_where-requires-clause-within
+join_instance-join_where-requires-clause-within t c =
+    let hull = c.in-Some.ensures.hull in
+    omega (arith, ap length c.in_ok-there.ensures, marks_in-length (bound_ahead (plain_problem c.args.along.now.task.now.problem) (assignment_in c.args.env.now) c.args.binder.now.bound.now) c.args.along.now.worlds.now c.args.span c.requires.span, c.requires.span.order, ap length c.in_ok-found-in-Some.ensures.labels, marks_in-length (true_ahead (plain_problem c.args.along.now.task.now.problem) (assignment_in c.args.env.now) (tree_of_formula c.args.part.now)) c.args.along.now.worlds.now c.in-Some.hull (hull-within (plain_problem c.args.along.now.task.now.problem) c.args.along.now.worlds.now c.args.span (assignment_in c.args.env.now) (with_part c.args.binder.now (tree_of_formula c.args.part.now)) c.requires.span c.in_ok-there.there c.in_ok-there.ensures c.in-Some.hull hull), hull.from, hull.order, hull.to)
+
+pub join_instance-returns-in-None-clause-joined : goal.join_instance-returns-in-None-clause-joined
+join_instance-returns-in-None-clause-joined t c =
+    instance-nowhere (plain_problem c.args.along.now.task.now.problem) c.args.along.now.worlds.now c.args.span (assignment_in c.args.env.now) (with_part c.args.binder.now (tree_of_formula c.args.part.now)) c.requires.span c.in_ok-there.there c.in_ok-there.ensures c.args.all.now tt (omega (arith, c.requires.size)) c.in-None.ensures.none
+
+pub join_instance-returns-clause-joined : goal.join_instance-returns-clause-joined
+join_instance-returns-clause-joined t c =
+    instance-joined (plain_problem c.args.along.now.task.now.problem) c.args.along.now.worlds.now c.args.span (assignment_in c.args.env.now) (with_part c.args.binder.now (tree_of_formula c.args.part.now)) c.requires.span c.in_ok-there.there c.in_ok-there.ensures c.in-Some.hull c.in-Some.ensures.hull c.args.all.now c.join_where.new.self c.in_ok-found-in-Some.found tt (omega (arith, c.requires.size)) c.in_ok-found-in-Some.ensures.labels c.join_where.ensures.size c.join_where.ensures.joined
+
+pub join_instance-returns-in_err-found-in-Some-clause-joined : goal.join_instance-returns-in_err-found-in-Some-clause-joined
+join_instance-returns-in_err-found-in-Some-clause-joined t c =
+    handed (λ r. JoinsInstance (plain_problem c.args.along.now.task.now.problem) c.args.along.now.worlds.now c.args.span (assignment_in c.args.env.now) (with_part c.args.binder.now (tree_of_formula c.args.part.now)) c.args.all.now c.args.all.now r) c.from_residual-in_err-found-in-Some.result c.in_err-found-in-Some.field-0.0 c.from_residual-in_err-found-in-Some.ensures.1 (guided.instance-noted (plain_problem c.args.along.now.task.now.problem) c.args.along.now.worlds.now c.args.span (assignment_in c.args.env.now) (with_part c.args.binder.now (tree_of_formula c.args.part.now)) c.requires.span c.in_ok-there.there c.in_ok-there.ensures c.in-Some.hull c.in-Some.ensures.hull c.args.all.now c.args.all.now c.in_err-found-in-Some.field-0.0 c.in_err-found-in-Some.ensures.labels)
+
+pub stepped_labels-cursors_at-requires-clause-differ : goal.stepped_labels-cursors_at-requires-clause-differ
+stepped_labels-cursors_at-requires-clause-differ t c =
+    let parts = quantified-parts c.args.along.now.task.now.problem c.args.binder.now.junction c.args.binder.now.vars.now c.args.binder.now.bound.now (tree_of_formula c.args.part.now) c.requires.fits in
+    parts.differ
+
+pub stepped_labels-advance-requires-clause-differ : goal.stepped_labels-advance-requires-clause-differ
+stepped_labels-advance-requires-clause-differ t c =
+    let parts = quantified-parts c.args.along.now.task.now.problem c.args.binder.now.junction c.args.binder.now.vars.now c.args.binder.now.bound.now (tree_of_formula c.args.part.now) c.requires.fits in
+    parts.differ
+
+pub stepped_labels-cursors_at-requires-clause-occur : goal.stepped_labels-cursors_at-requires-clause-occur
+stepped_labels-cursors_at-requires-clause-occur t c =
+    let parts = quantified-parts c.args.along.now.task.now.problem c.args.binder.now.junction c.args.binder.now.vars.now c.args.binder.now.bound.now (tree_of_formula c.args.part.now) c.requires.fits in
+    parts.occur
+
+pub stepped_labels-advance-requires-clause-occur : goal.stepped_labels-advance-requires-clause-occur
+stepped_labels-advance-requires-clause-occur t c =
+    let parts = quantified-parts c.args.along.now.task.now.problem c.args.binder.now.junction c.args.binder.now.vars.now c.args.binder.now.bound.now (tree_of_formula c.args.part.now) c.requires.fits in
+    parts.occur
+
+pub stepped_labels-cursors_at-requires-clause-fits : goal.stepped_labels-cursors_at-requires-clause-fits
+stepped_labels-cursors_at-requires-clause-fits t c =
+    let parts = quantified-parts c.args.along.now.task.now.problem c.args.binder.now.junction c.args.binder.now.vars.now c.args.binder.now.bound.now (tree_of_formula c.args.part.now) c.requires.fits in
+    parts.bound
+
+pub stepped_labels-advance-requires-clause-fits : goal.stepped_labels-advance-requires-clause-fits
+stepped_labels-advance-requires-clause-fits t c =
+    let parts = quantified-parts c.args.along.now.task.now.problem c.args.binder.now.junction c.args.binder.now.vars.now c.args.binder.now.bound.now (tree_of_formula c.args.part.now) c.requires.fits in
+    parts.bound
+
+pub stepped_labels-advance-requires-clause-few : goal.stepped_labels-advance-requires-clause-few
+stepped_labels-advance-requires-clause-few t c =
+    let parts = quantified-parts c.args.along.now.task.now.problem c.args.binder.now.junction c.args.binder.now.vars.now c.args.binder.now.bound.now (tree_of_formula c.args.part.now) c.requires.fits in
+    parts.few
+
+pub stepped_labels-least-requires : goal.stepped_labels-least-requires
+stepped_labels-least-requires t c =
+    let parts = quantified-parts c.args.along.now.task.now.problem c.args.binder.now.junction c.args.binder.now.vars.now c.args.binder.now.bound.now (tree_of_formula c.args.part.now) c.requires.fits in
+    omega (arith, parts.few, c.len.ensures)
+
+pub stepped_labels-counted_values-requires : goal.stepped_labels-counted_values-requires
+stepped_labels-counted_values-requires t c =
+    let parts = quantified-parts c.args.along.now.task.now.problem c.args.binder.now.junction c.args.binder.now.vars.now c.args.binder.now.bound.now (tree_of_formula c.args.part.now) c.requires.fits in
+    let p = plain_problem c.args.along.now.task.now.problem in
     let e = assignment_in c.args.env.now in
-    let q : Quantifier = record { junction = c.args.junction; vars = c.args.vars.now; bound = c.args.bound.now; part = tree_of_formula c.args.part.now } in
+    let q : Quantifier = with_part c.args.binder.now (tree_of_formula c.args.part.now) in
+    let found = subst (λ (cs : List Cursor). IsFound cs c.in-Some.found) c.as_slice.ensures.value c.in-Some.ensures.some in
+    omega (arith, parts.few, found-count (length c.args.binder.now.vars.now) c.loop-found.cursors.items c.in-Some.found (at-counts p e q c.loop-found.cursors.items (drop c.args.span.from c.args.along.now.worlds.now) c.loop-found.invariant.at) found)
+
+pub stepped_labels-put_values-requires-clause-slots : goal.stepped_labels-put_values-requires-clause-slots
+stepped_labels-put_values-requires-clause-slots t c =
+    let parts = quantified-parts c.args.along.now.task.now.problem c.args.binder.now.junction c.args.binder.now.vars.now c.args.binder.now.bound.now (tree_of_formula c.args.part.now) c.requires.fits in
+    subst (Each (λ (s : Var). s.slot < 32)) (sym c.as_slice-in-Some.ensures) parts.in_frame
+
+pub stepped_labels-put_values-requires-clause-same : goal.stepped_labels-put_values-requires-clause-same
+stepped_labels-put_values-requires-clause-same t c =
+    let parts = quantified-parts c.args.along.now.task.now.problem c.args.binder.now.junction c.args.binder.now.vars.now c.args.binder.now.bound.now (tree_of_formula c.args.part.now) c.requires.fits in
+    let p = plain_problem c.args.along.now.task.now.problem in
+    let e = assignment_in c.args.env.now in
+    let q : Quantifier = with_part c.args.binder.now (tree_of_formula c.args.part.now) in
+    let found = subst (λ (cs : List Cursor). IsFound cs c.in-Some.found) c.as_slice.ensures.value c.in-Some.ensures.some in
+    omega (arith, ap length c.as_slice-in-Some.ensures, c.counted_values.ensures.count, found-count (length c.args.binder.now.vars.now) c.loop-found.cursors.items c.in-Some.found (at-counts p e q c.loop-found.cursors.items (drop c.args.span.from c.args.along.now.worlds.now) c.loop-found.invariant.at) found)
+
+pub stepped_labels-overflow_add-later : goal.stepped_labels-overflow_add-later
+stepped_labels-overflow_add-later t c =
+    let parts = quantified-parts c.args.along.now.task.now.problem c.args.binder.now.junction c.args.binder.now.vars.now c.args.binder.now.bound.now (tree_of_formula c.args.part.now) c.requires.fits in
+    let p = plain_problem c.args.along.now.task.now.problem in
+    let e = assignment_in c.args.env.now in
+    let q : Quantifier = with_part c.args.binder.now (tree_of_formula c.args.part.now) in
+    let found = subst (λ (cs : List Cursor). IsFound cs c.in-Some.found) c.as_slice.ensures.value c.in-Some.ensures.some in
+    omega (arith, found-within c.loop-found.cursors.items c.in-Some.found found, at-size p e q c.loop-found.cursors.items (drop c.args.span.from c.args.along.now.worlds.now) c.loop-found.invariant.at, length-drop c.args.span.from c.args.along.now.worlds.now, c.requires.along.few, c.requires.span.order, c.requires.span.within)
+
+pub stepped_labels-labels_of-requires : goal.stepped_labels-labels_of-requires
+stepped_labels-labels_of-requires t c =
+    let parts = quantified-parts c.args.along.now.task.now.problem c.args.binder.now.junction c.args.binder.now.vars.now c.args.binder.now.bound.now (tree_of_formula c.args.part.now) c.requires.fits in
+    let p = plain_problem c.args.along.now.task.now.problem in
+    let e = assignment_in c.args.env.now in
+    let q : Quantifier = with_part c.args.binder.now (tree_of_formula c.args.part.now) in
+    let found = subst (λ (cs : List Cursor). IsFound cs c.in-Some.found) c.as_slice.ensures.value c.in-Some.ensures.some in
+    let size = at-size p e q c.loop-found.cursors.items (drop c.args.span.from c.args.along.now.worlds.now) c.loop-found.invariant.at in
+    let within = found-within c.loop-found.cursors.items c.in-Some.found found in
+    let count = length-drop c.args.span.from c.args.along.now.worlds.now in
+    (omega (arith, c.decreases), (c.requires.along, (record { order = omega (arith, within, size, count, c.requires.span.order, c.requires.span.within); within = omega arith }, (c.put_values.ensures.slots ∙ c.loop-found.invariant.slots, parts.body))))
+
+pub stepped_labels-advance-requires-clause-size : goal.stepped_labels-advance-requires-clause-size
+stepped_labels-advance-requires-clause-size t c =
+    let parts = quantified-parts c.args.along.now.task.now.problem c.args.binder.now.junction c.args.binder.now.vars.now c.args.binder.now.bound.now (tree_of_formula c.args.part.now) c.requires.fits in
+    let p = plain_problem c.args.along.now.task.now.problem in
+    let e = assignment_in c.args.env.now in
+    let q : Quantifier = with_part c.args.binder.now (tree_of_formula c.args.part.now) in
+    ap length c.as_mut_slice.ensures.value ∙ (at-size p e q c.loop-found.cursors.items (drop c.args.span.from c.args.along.now.worlds.now) c.loop-found.invariant.at ∙ sym (ap length (rest-whole c.args.along.now.worlds.now c.args.span.from)))
+
+pub stepped_labels-advance-requires-clause-counts : goal.stepped_labels-advance-requires-clause-counts
+stepped_labels-advance-requires-clause-counts t c =
+    let parts = quantified-parts c.args.along.now.task.now.problem c.args.binder.now.junction c.args.binder.now.vars.now c.args.binder.now.bound.now (tree_of_formula c.args.part.now) c.requires.fits in
+    let p = plain_problem c.args.along.now.task.now.problem in
+    let e = assignment_in c.args.env.now in
+    let q : Quantifier = with_part c.args.binder.now (tree_of_formula c.args.part.now) in
+    subst (λ (cs : List Cursor). HaveCounts (length c.args.binder.now.vars.now) cs) (sym c.as_mut_slice.ensures.value) (at-counts p e q c.loop-found.cursors.items (drop c.args.span.from c.args.along.now.worlds.now) c.loop-found.invariant.at)
+
+pub stepped_labels-advance-requires-clause-labels : goal.stepped_labels-advance-requires-clause-labels
+stepped_labels-advance-requires-clause-labels t c =
+    let parts = quantified-parts c.args.along.now.task.now.problem c.args.binder.now.junction c.args.binder.now.vars.now c.args.binder.now.bound.now (tree_of_formula c.args.part.now) c.requires.fits in
+    let p = plain_problem c.args.along.now.task.now.problem in
+    let e = assignment_in c.args.env.now in
+    let q : Quantifier = with_part c.args.binder.now (tree_of_formula c.args.part.now) in
+    let found = subst (λ (cs : List Cursor). IsFound cs c.in-Some.found) c.as_slice.ensures.value c.in-Some.ensures.some in
+    omega (arith, ap length (c.in_ok-instance.ensures.labels ∙ marks_in-rest (true_ahead p (assignment_in c.put_values.new.self) (tree_of_formula c.args.part.now)) c.args.along.now.worlds.now (record { from = c.args.span.from + c.in-Some.found.at; to = length c.args.along.now.worlds.now }) (record { order = omega (arith, found-within c.loop-found.cursors.items c.in-Some.found found, at-size p e q c.loop-found.cursors.items (drop c.args.span.from c.args.along.now.worlds.now) c.loop-found.invariant.at, length-drop c.args.span.from c.args.along.now.worlds.now, c.requires.span.order, c.requires.span.within); within = omega arith }) refl), marks-length (true_ahead p (assignment_in c.put_values.new.self) (tree_of_formula c.args.part.now)) (drop (c.args.span.from + c.in-Some.found.at) c.args.along.now.worlds.now), length-drop (c.args.span.from + c.in-Some.found.at) c.args.along.now.worlds.now, ap length (rest-whole c.args.along.now.worlds.now c.args.span.from), found-within c.loop-found.cursors.items c.in-Some.found found, at-size p e q c.loop-found.cursors.items (drop c.args.span.from c.args.along.now.worlds.now) c.loop-found.invariant.at, length-drop c.args.span.from c.args.along.now.worlds.now, c.requires.span.order, c.requires.span.within)
+
+pub stepped_labels-loop-found-preserved : goal.stepped_labels-loop-found-preserved
+stepped_labels-loop-found-preserved t c =
+    let parts = quantified-parts c.args.along.now.task.now.problem c.args.binder.now.junction c.args.binder.now.vars.now c.args.binder.now.bound.now (tree_of_formula c.args.part.now) c.requires.fits in
+    let p = plain_problem c.args.along.now.task.now.problem in
+    let e = assignment_in c.args.env.now in
+    let q : Quantifier = with_part c.args.binder.now (tree_of_formula c.args.part.now) in
+    let scope : assignment_in c.put_values.new.self ≡ bind c.args.binder.now.vars.now (tuple_of c.in-Some.found.tuple) e =
+    c.put_values.ensures.values ∙ (ap (λ (ss : List Var). bind ss c.counted_values.result.now (assignment_in c.loop-found.inner)) c.as_slice-in-Some.ensures ∙ (ap (λ (u : List Value). bind c.args.binder.now.vars.now u (assignment_in c.loop-found.inner)) c.counted_values.ensures.values ∙ c.loop-found.invariant.scope (tuple_of c.in-Some.found.tuple))) in
+    let found = subst (λ (cs : List Cursor). IsFound cs c.in-Some.found) c.as_slice.ensures.value c.in-Some.ensures.some in
+    record {
+      slots = ap length c.in_ok-instance.ensures.frame ∙ (c.put_values.ensures.slots ∙ c.loop-found.invariant.slots);
+      scope = λ u. bind-through c.args.binder.now.vars.now u (tuple_of c.in-Some.found.tuple) (assignment_in c.labels_of.new.env) e (ap assignment_in c.in_ok-instance.ensures.frame ∙ scope);
+      at = subst (λ (cs : List Cursor). AreAt p e q cs (drop c.args.span.from c.args.along.now.worlds.now)) (sym (same-items c.loop-found.cursors.len c.loop-found.cursors.items c.advance.new.cursors (c.advance.auto.cursors ∙ ap length c.as_mut_slice.ensures.value) c.loop-found.cursors.ok.0))
+          (instance-on p c.args.along.now.worlds.now c.args.span c.requires.span e (assignment_in c.put_values.new.self) q c.in-Some.found _ c.as_mut_slice.result.now c.loop-found.cursors.items c.advance.new.cursors c.in_ok-instance.instance (rest-whole c.args.along.now.worlds.now c.args.span.from) c.as_mut_slice.ensures.value scope (c.advance.ensures.at q.part) (c.in_ok-instance.ensures.labels ∙ marks_in-rest (true_ahead p (assignment_in c.put_values.new.self) (tree_of_formula c.args.part.now)) c.args.along.now.worlds.now (record { from = c.args.span.from + c.in-Some.found.at; to = length c.args.along.now.worlds.now }) (record { order = omega (arith, found-within c.loop-found.cursors.items c.in-Some.found found, at-size p e q c.loop-found.cursors.items (drop c.args.span.from c.args.along.now.worlds.now) c.loop-found.invariant.at, length-drop c.args.span.from c.args.along.now.worlds.now, c.requires.span.order, c.requires.span.within); within = omega arith }) refl) c.loop-found.invariant.at);
+    }
+
+pub stepped_labels-returns-in_err-instance-clause-labels : goal.stepped_labels-returns-in_err-instance-clause-labels
+stepped_labels-returns-in_err-instance-clause-labels t c =
+    let parts = quantified-parts c.args.along.now.task.now.problem c.args.binder.now.junction c.args.binder.now.vars.now c.args.binder.now.bound.now (tree_of_formula c.args.part.now) c.requires.fits in
+    let p = plain_problem c.args.along.now.task.now.problem in
+    let e = assignment_in c.args.env.now in
+    let q : Quantifier = with_part c.args.binder.now (tree_of_formula c.args.part.now) in
+    let scope : assignment_in c.put_values.new.self ≡ bind c.args.binder.now.vars.now (tuple_of c.in-Some.found.tuple) e =
+    c.put_values.ensures.values ∙ (ap (λ (ss : List Var). bind ss c.counted_values.result.now (assignment_in c.loop-found.inner)) c.as_slice-in-Some.ensures ∙ (ap (λ (u : List Value). bind c.args.binder.now.vars.now u (assignment_in c.loop-found.inner)) c.counted_values.ensures.values ∙ c.loop-found.invariant.scope (tuple_of c.in-Some.found.tuple))) in
+    let found = subst (λ (cs : List Cursor). IsFound cs c.in-Some.found) c.as_slice.ensures.value c.in-Some.ensures.some in
+    handed (λ r. AreLabels p c.args.along.now.worlds.now c.args.span e (quantified q.junction q.vars q.bound q.part) r) c.from_residual-in_err-instance.result c.in_err-instance.field-0.0 c.from_residual-in_err-instance.ensures.1
+    (instance-noted p c.args.along.now.worlds.now c.args.span c.requires.span e (assignment_in c.put_values.new.self) q c.in-Some.found c.loop-found.cursors.items c.loop-found.invariant.at found scope c.in_err-instance.field-0.0 c.in_err-instance.ensures.labels)
+
+pub stepped_labels-returns-clause-labels : goal.stepped_labels-returns-clause-labels
+stepped_labels-returns-clause-labels t c =
+    let parts = quantified-parts c.args.along.now.task.now.problem c.args.binder.now.junction c.args.binder.now.vars.now c.args.binder.now.bound.now (tree_of_formula c.args.part.now) c.requires.fits in
+    let p = plain_problem c.args.along.now.task.now.problem in
+    let e = assignment_in c.args.env.now in
+    let q : Quantifier = with_part c.args.binder.now (tree_of_formula c.args.part.now) in
     let none = subst (λ (o : Option _). IfNone o (Each (λ (x : Cursor). x.next ≡ None) c.as_slice.result.now)) (none-left c.least.result c.in_default.not-Some) c.least.ensures.none in
     let all = subst (λ (cs : List Cursor). Each (λ (x : Cursor). x.next ≡ None) cs) c.as_slice.ensures.value none in
-    c.in-Ok-truths_of.ensures ∙ (ap (map (λ (x : Cursor). x.truth)) c.as_slice-2.ensures.value ∙ at-end p e q c.loop-found.cursors.items (drop c.args.from c.args.worlds.now) c.loop-found.invariant.at all)
+    c.truncate.ensures
+    ∙ ap (take (c.args.span.to - c.args.span.from)) (c.in_ok-labels.ensures ∙ (ap (map (λ (x : Cursor). x.truth)) c.as_slice-2.ensures.value ∙ at-end p e q c.loop-found.cursors.items (drop c.args.span.from c.args.along.now.worlds.now) c.loop-found.invariant.at all))

@@ -1,38 +1,72 @@
-use Rattle.std.proofs.Common.{◌≡◌, ◌+◌, List, drop, length}
+use Rattle.std.proofs.Common.{◌≡◌, ◌+◌, ◌*◌, List, drop, length}
+use Rattle.tl_check.proofs.GuidedLaws.{Guided}
 use Rattle.tl_check.proofs.PartLabels.{PartsSoFar}
 use Rattle.tl_check.proofs.Sizes.{size, sizes}
-use Rattle.tl_check.specs.Cursors.{AreAt, work_left}
-use Rattle.tl_eval.specs.Frames.{assignment_in}
+use Rattle.tl_check.specs.Cursors.{AreAt, work_left, with_part}
+use Rattle.tl_eval.proofs.TupleRest.{rest_after}
+use Rattle.tl_eval.specs.Frames.{assignment_in, AgreeElsewhere}
+use Rattle.tl_eval.specs.Reader.{Reads}
 use Rattle.tl_syntax.specs.declared.value.Value.{Value}
 use Rattle.tl_syntax.specs.Assignment.{bind}
 use Rattle.tl_syntax.specs.TreeOfFormula.{tree_of_formula, tree_of_formulas}
+use Rattle.tl_terms.specs.Bounds.{tuples}
+use Rattle.tl_terms.specs.Definitions.{situation_of}
 use Rattle.tl_terms.specs.ProblemMeaning.{plain_problem}
 use Rattle.tl_check.proofs.formula_labels.+labels_of.Given as goal
 
 abbrev pub decreases-labels_of : goal.decreases-labels_of
-decreases-labels_of l = size (tree_of_formula l.f.now)
+decreases-labels_of l = 4 * size (tree_of_formula l.f.now)
+
+abbrev pub decreases-negated_labels : goal.decreases-negated_labels
+decreases-negated_labels l = 1 + 4 * size (tree_of_formula l.part.now)
+
+abbrev pub decreases-next_labels : goal.decreases-next_labels
+decreases-next_labels l = 1 + 4 * size (tree_of_formula l.part.now)
+
+abbrev pub decreases-later_labels : goal.decreases-later_labels
+decreases-later_labels l = 1 + 4 * size (tree_of_formula l.part.now)
 
 abbrev pub decreases-until_labels : goal.decreases-until_labels
-decreases-until_labels l = 1 + (size (tree_of_formula l.first.now) + size (tree_of_formula l.second.now))
+decreases-until_labels l = 1 + 4 * (size (tree_of_formula l.first.now) + size (tree_of_formula l.second.now))
 
 abbrev pub decreases-parts_labels : goal.decreases-parts_labels
-decreases-parts_labels l = sizes (tree_of_formulas l.parts.now)
+decreases-parts_labels l = 4 * sizes (tree_of_formulas l.parts.now)
 
 abbrev pub decreases-quantified_labels : goal.decreases-quantified_labels
-decreases-quantified_labels l = 1 + size (tree_of_formula l.part.now)
+decreases-quantified_labels l = 3 + 4 * size (tree_of_formula l.part.now)
+
+abbrev pub decreases-guided_labels : goal.decreases-guided_labels
+decreases-guided_labels l = 2 + 4 * size (tree_of_formula l.part.now)
+
+abbrev pub decreases-join_instance : goal.decreases-join_instance
+decreases-join_instance l = 1 + 4 * size (tree_of_formula l.part.now)
+
+abbrev pub decreases-stepped_labels : goal.decreases-stepped_labels
+decreases-stepped_labels l = 1 + 4 * size (tree_of_formula l.part.now)
 
 abbrev pub invariant-parts_labels-loop-part : goal.invariant-parts_labels-loop-part
 invariant-parts_labels-loop-part l = record {
   frame : l.env ≡ l.fn.env;
-  so_far : PartsSoFar (plain_problem l.task.problem) (assignment_in l.fn.env) (drop l.from l.worlds) l.junction l.part-items (drop l.part-index l.part-items) l.all;
+  so_far : PartsSoFar (plain_problem l.along.task.now.problem) (assignment_in l.fn.env) l.along.worlds.now l.span l.junction l.part-items (drop l.part-index l.part-items) l.all;
 }
 
-abbrev pub invariant-quantified_labels-loop-found : goal.invariant-quantified_labels-loop-found
-invariant-quantified_labels-loop-found l = record {
+abbrev pub decreases-guided_labels-instances : goal.decreases-guided_labels-instances
+decreases-guided_labels-instances l = length (rest_after l.tuples.tuple (tuples (situation_of (plain_problem l.along.task.now.problem) l.guide) (assignment_in l.fn.env) l.binder.vars.now l.binder.bound.now))
+
+abbrev pub invariant-guided_labels-instances : goal.invariant-guided_labels-instances
+invariant-guided_labels-instances l = record {
+  reads : Reads l.binder.vars.now (assignment_in l.fn.env) l.binder.bound.now l.tuples;
+  scope : AgreeElsewhere l.binder.vars.now (assignment_in l.env) (assignment_in l.fn.env);
+  slots : length l.env ≡ 32;
+  so_far : Guided (plain_problem l.along.task.now.problem) l.along.worlds.now (assignment_in l.fn.env) (with_part l.binder (tree_of_formula l.part)) l.guide l.span l.all l.tuples.tuple;
+}
+
+abbrev pub invariant-stepped_labels-loop-found : goal.invariant-stepped_labels-loop-found
+invariant-stepped_labels-loop-found l = record {
   slots : length l.inner ≡ 32;
-  scope : (t : List Value) → bind l.vars t (assignment_in l.inner) ≡ bind l.vars t (assignment_in l.env);
-  at : AreAt (plain_problem l.task.problem) (assignment_in l.env) (record { junction = l.junction; vars = l.vars; bound = l.bound; part = tree_of_formula l.part }) l.cursors.items (drop l.from l.worlds);
+  scope : (t : List Value) → bind l.binder.vars.now t (assignment_in l.inner) ≡ bind l.binder.vars.now t (assignment_in l.env);
+  at : AreAt (plain_problem l.along.task.now.problem) (assignment_in l.env) (with_part l.binder (tree_of_formula l.part)) l.cursors.items (drop l.span.from l.along.worlds.now);
 }
 
-abbrev pub decreases-quantified_labels-loop-found : goal.decreases-quantified_labels-loop-found
-decreases-quantified_labels-loop-found l = work_left (plain_problem l.task.problem) (assignment_in l.env) l.vars l.bound l.cursors.items (drop l.from l.worlds)
+abbrev pub decreases-stepped_labels-loop-found : goal.decreases-stepped_labels-loop-found
+decreases-stepped_labels-loop-found l = work_left (plain_problem l.along.task.now.problem) (assignment_in l.env) l.binder.vars.now l.binder.bound.now l.cursors.items (drop l.span.from l.along.worlds.now)

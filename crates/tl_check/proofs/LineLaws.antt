@@ -1,0 +1,70 @@
+-- When a fact holds, by its changes.
+use Rattle.std.proofs.Common.{◌≡◌, ◌≤◌, ◌<◌, ◌+◌, ◌-◌, ℕ, zero, suc, List, [], ◌∷◌, ◌++◌, drop, length, get_or, cond, nat_le, Bool, true, false, refl, sym, ap, ◌∙◌, arith, drop-cons, add-one, append_assoc}
+use Rattle.std.proofs.lemmas.Bool.{le-leb, lt-leb}
+use Rattle.tl_check.proofs.SpanLaws.{test_from-more}
+use Rattle.tl_check.specs.Differences.{AreBefore}
+use Rattle.tl_check.specs.Lines.{truth_from, test_from}
+use Rattle.tl_check.specs.declared.line.Change.{Change}
+
+up-to : (at i : ℕ) → at ≤ i → nat_le at i ≡ true
+up-to at i h = le-leb at i h
+
+after : (at i : ℕ) → i < at → nat_le at i ≡ false
+after at i h = lt-leb at i h
+
+-- a change that is passed
+pub change-passed : (b : Bool) (line : List Change) (j : ℕ) (c : Change) (k : ℕ) → j < length line → c ≡ get_or line j c → c.at ≤ k → truth_from b (drop j line) k ≡ truth_from c.truth (drop (j + 1) line) k
+change-passed b line j c k h q l =
+    ap (λ (cs : List Change). truth_from b cs k) (drop-cons line j c h ∙ ap (λ (x : Change). x ∷ drop (suc j) line) (sym q))
+    ∙ (ap (λ (x : Bool). cond x (truth_from c.truth (drop (suc j) line) k) b) (up-to c.at k l)
+    ∙ ap (λ (i : ℕ). truth_from c.truth (drop i line) k) (sym (add-one j)))
+
+-- a change that is still to come
+pub change-ahead : (b : Bool) (line : List Change) (j : ℕ) (c : Change) (k : ℕ) → j < length line → c ≡ get_or line j c → k < c.at → truth_from b (drop j line) k ≡ b
+change-ahead b line j c k h q l =
+    ap (λ (cs : List Change). truth_from b cs k) (drop-cons line j c h ∙ ap (λ (x : Change). x ∷ drop (suc j) line) (sym q))
+    ∙ ap (λ (x : Bool). cond x (truth_from c.truth (drop (suc j) line) k) b) (after c.at k l)
+
+past : (xs : List Change) (n : ℕ) → length xs ≤ n → drop n xs ≡ []
+past [] zero h = refl
+past [] (suc n) h = refl
+past (x ∷ xs) zero h = absurd (omega arith)
+past (x ∷ xs) (suc n) h = past xs n (omega arith)
+
+-- no change is left
+pub changes-done : (b : Bool) (line : List Change) (j k : ℕ) → length line ≤ j → truth_from b (drop j line) k ≡ b
+changes-done b line j k h = ap (λ (cs : List Change). truth_from b cs k) (past line j h)
+
+-- ---- one change more
+
+pub truth-before_change : (b : Bool) (cs : List Change) (c : Change) (i : ℕ) → i < c.at → truth_from b (cs ++ c ∷ []) i ≡ truth_from b cs i
+truth-before_change b [] c i h = ap (λ (x : Bool). cond x c.truth b) (after c.at i h)
+truth-before_change b (d ∷ cs) c i h = ap (λ (x : Bool). cond (nat_le d.at i) x b) (truth-before_change d.truth cs c i h)
+
+pub truth-at_change : (b : Bool) (cs : List Change) (c : Change) (i : ℕ) → AreBefore (i + 1) cs → c.at ≡ i → truth_from b (cs ++ c ∷ []) i ≡ c.truth
+truth-at_change b [] c i h q = ap (λ (x : Bool). cond x c.truth b) (up-to c.at i (omega arith))
+truth-at_change b (d ∷ cs) c i h q = let first = h.0 in
+    ap (λ (x : Bool). cond x (truth_from d.truth (cs ++ c ∷ []) i) b) (up-to d.at i (omega (arith, first))) ∙ truth-at_change d.truth cs c i h.1 q
+
+-- where no change comes after the position before, the truth stays
+pub truth-stays : (b : Bool) (cs : List Change) (i : ℕ) → AreBefore (i + 1) cs → truth_from b cs (i + 1) ≡ truth_from b cs i
+truth-stays b [] i h = refl
+truth-stays b (d ∷ cs) i h = let first = h.0 in
+    ap (λ (x : Bool). cond x (truth_from d.truth cs (i + 1)) b) (up-to d.at (i + 1) (omega (arith, first)))
+    ∙ (truth-stays d.truth cs i h.1 ∙ sym (ap (λ (x : Bool). cond x (truth_from d.truth cs i) b) (up-to d.at i (omega (arith, first)))))
+
+pub before-more : (n : ℕ) (cs : List Change) → AreBefore n cs → AreBefore (n + 1) cs
+before-more n [] h = tt
+before-more n (c ∷ cs) h = (let first = h.0 in omega (arith, first), before-more n cs h.1)
+
+pub before-added : (n : ℕ) (cs : List Change) (c : Change) → AreBefore n cs → c.at < n → AreBefore n (cs ++ c ∷ [])
+before-added n [] c h l = (l, tt)
+before-added n (d ∷ cs) c h l = (h.0, before-added n cs c h.1 l)
+
+-- ---- labels from a line
+
+pub labels-on : (t : ℕ → Bool) (whole labels new : List Bool) (i to : ℕ) (b : Bool) → i < to → b ≡ t i → new ≡ labels ++ b ∷ [] → labels ++ test_from t i (to - i) ≡ whole → new ++ test_from t (i + 1) (to - (i + 1)) ≡ whole
+labels-on t whole labels new i to b h q added so =
+    ap (λ (cs : List Bool). cs ++ test_from t (i + 1) (to - (i + 1))) added
+    ∙ (append_assoc labels (b ∷ []) (test_from t (i + 1) (to - (i + 1)))
+    ∙ (ap (λ (cs : List Bool). labels ++ cs) (ap (λ (x : Bool). x ∷ test_from t (i + 1) (to - (i + 1))) q ∙ sym (test_from-more t i to h)) ∙ so))

@@ -1,0 +1,11 @@
+use Rattle.std.proofs.Common.{◌≡◌, ◌++◌, ◌-◌, ℕ, drop}
+use Rattle.tl_check.specs.Facts.{bound_ahead}
+use Rattle.tl_check.specs.Lines.{test_from}
+use Rattle.tl_eval.specs.Frames.{assignment_in}
+use Rattle.tl_terms.specs.ProblemMeaning.{plain_problem}
+use Rattle.tl_check.proofs.atoms.bound_read.Given as goal
+
+abbrev pub invariant-loop-i : goal.invariant-loop-i
+invariant-loop-i l =
+    let t = λ (i : ℕ). bound_ahead (plain_problem l.along.task.now.problem) (assignment_in l.env) l.bound (drop i l.along.worlds.now) in
+    l.labels ++ test_from t l.i (l.fn.span.to - l.i) ≡ test_from t l.fn.span.from (l.fn.span.to - l.fn.span.from)

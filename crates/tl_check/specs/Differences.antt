@@ -1,0 +1,31 @@
+-- Where the facts of a predicate differ between one state and the next.
+use Rattle.std.specs.Prelude.{◌≡◌, ◌↔◌, ◌+◌, ◌<◌, ℕ, List, true, false, Option, Some, None}
+use Rattle.tl_check.specs.Lines.{truth_from}
+use Rattle.tl_check.specs.declared.differences.First.{First}
+use Rattle.tl_check.specs.declared.differences.First.TheVariants.{Both, Earlier, Later, Neither}
+use Rattle.tl_check.specs.declared.line.Change.{Change}
+use Rattle.tl_syntax.specs.declared.fact.Fact.{Fact}
+use Rattle.tl_syntax.specs.declared.value.Value.{Value}
+use Rattle.tl_syntax.specs.Lists.{Each, Among}
+use Rattle.tl_terms.specs.World.{World, has_fact}
+
+-- what is known of two next rows, whichever order rows have
+abbrev pub IsFirst : Option (List Value) → Option (List Value) → First → Type 0
+IsFirst x y Both = (a : List Value) × (x ≡ Some a) × (y ≡ Some a)
+IsFirst x y (Earlier row) = x ≡ Some row.now
+IsFirst x y (Later row) = y ≡ Some row.now
+IsFirst x y Neither = (x ≡ None) × (y ≡ None)
+
+-- all changes come before the position
+abbrev pub AreBefore : ℕ → List Change → Type 0
+AreBefore n cs = Each (λ c. c.at < n) cs
+
+-- the fact of a predicate with these arguments
+abbrev pub fact_with : ℕ → List Value → Fact
+fact_with q a = record { pred = q; args = a }
+
+-- what was told of earlier positions stays, and the facts of the predicate are told at this one, where the rows are those that hold at the one before
+pub record TellsNext (q at : ℕ) (rows : List (List Value)) (w : World) (old new : Fact → List Change) : Type 0 where
+  pub earlier : (a : List Value) (j : ℕ) → j < at → truth_from false (new (fact_with q a)) j ≡ truth_from false (old (fact_with q a)) j
+  pub bounded : (a : List Value) → AreBefore at (old (fact_with q a)) → AreBefore (at + 1) (new (fact_with q a))
+  pub told : (a : List Value) → AreBefore at (old (fact_with q a)) → (Among a rows ↔ (truth_from false (old (fact_with q a)) at ≡ true)) → truth_from false (new (fact_with q a)) at ≡ has_fact w (q, a)

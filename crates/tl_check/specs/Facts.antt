@@ -1,0 +1,40 @@
+-- The states of a plan with what is known of the facts in them.
+use Rattle.std.specs.Prelude.{◌≡◌, ◌≤◌, ◌^◌, List, [], ◌∷◌, length, true, false}
+use Rattle.tl_check.specs.Ahead.{Ahead, in_first}
+use Rattle.tl_check.specs.Histories.{IsHistory}
+use Rattle.tl_check.specs.declared.along.Along.{Along}
+use Rattle.tl_syntax.specs.declared.bound.Bound.{Bound}
+use Rattle.tl_syntax.specs.declared.bound.Bound.TheVariants as bound
+use Rattle.tl_syntax.specs.Assignment.{Assignment}
+use Rattle.tl_syntax.specs.Keys.{Key}
+use Rattle.tl_syntax.specs.Lists.{Each, Among}
+use Rattle.tl_terms.specs.Bounds.{bound_true}
+use Rattle.tl_terms.specs.Definitions.{situation_of}
+use Rattle.tl_terms.specs.Problem.{PlainProblem}
+use Rattle.tl_terms.specs.World.{World, has_fact}
+
+-- the states are at most as many as a plan has, and the histories are theirs
+pub record IsAlong (along : Along) : Type 0 where
+  pub few : length along.worlds.now ≤ 2 ^ 32
+  pub histories : Each (IsHistory along.worlds.now) along.histories.now
+
+-- the fact is in the first world, where there is one
+abbrev pub fact_ahead : Key → Ahead
+fact_ahead k [] = false
+fact_ahead k (w ∷ ws) = has_fact w k
+
+-- the bound is true in the first world, where there is one
+abbrev pub bound_ahead : PlainProblem → Assignment → Bound → Ahead
+bound_ahead p e b = in_first p (λ s. bound_true s e b)
+
+-- the bound speaks of the goal list
+abbrev pub IsOverGoal : Bound → Type 0
+IsOverGoal (bound.Fact q xs) = ⊥
+IsOverGoal (bound.Place f xs x) = ⊥
+IsOverGoal (bound.GoalFact q xs) = Unit {0}
+IsOverGoal (bound.GoalPlace f xs x) = Unit {0}
+IsOverGoal (bound.GoalNot q xs) = Unit {0}
+
+-- what makes the bound true in one of the worlds makes it true in this one
+abbrev pub Guides : PlainProblem → List World → Bound → World → Type 0
+Guides p ws b guide = (e : Assignment) (w : World) → Among w ws → bound_true (situation_of p w) e b ≡ true → bound_true (situation_of p guide) e b ≡ true

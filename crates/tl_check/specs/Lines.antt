@@ -1,0 +1,13 @@
+-- When a fact holds along some worlds, told by its changes.
+use Rattle.std.specs.Prelude.{ℕ, zero, suc, List, [], ◌∷◌, Bool, cond, nat_le}
+use Rattle.tl_check.specs.declared.line.Change.{Change}
+
+-- the truth at a position: that of the last change up to it, and b before the first one
+abbrev pub truth_from : Bool → List Change → ℕ → Bool
+truth_from b [] i = b
+truth_from b (c ∷ cs) i = cond (nat_le c.at i) (truth_from c.truth cs i) b
+
+-- the test at n positions from i on
+abbrev pub test_from : (ℕ → Bool) → ℕ → ℕ → List Bool
+test_from t i zero = []
+test_from t i (suc n) = t i ∷ test_from t (suc i) n

@@ -1,0 +1,28 @@
+-- Labels of the positions of a span.
+use Rattle.std.specs.Prelude.{◌≡◌, ◌<◌, ◌≤◌, ◌+◌, ◌-◌, ◌&&◌, ℕ, List, length, take, drop, Bool, true, false, cond, nat_le, nat_lt, slice_index_or}
+use Rattle.tl_check.specs.Ahead.{Ahead, marks}
+use Rattle.tl_check.specs.Passes.{joins}
+use Rattle.tl_check.specs.declared.span.Span.{Span}
+use Rattle.tl_syntax.specs.declared.junction.Junction.{Junction}
+use Rattle.tl_terms.specs.World.{World}
+
+-- it begins before it ends, among so many positions
+pub record IsWithin (span : Span) (count : ℕ) : Type 0 where
+  pub order : span.from ≤ span.to
+  pub within : span.to ≤ count
+
+-- the test at each position of the span
+abbrev pub marks_in : Ahead → List World → Span → List Bool
+marks_in t ws span = take (span.to - span.from) (marks t (drop span.from ws))
+
+-- the span, of labels of another span, begins where the label is true and has all positions where it is
+pub record IsHull (bs : List Bool) (span hull : Span) : Type 0 where
+  pub from : span.from ≤ hull.from
+  pub order : hull.from < hull.to
+  pub to : hull.to ≤ span.to
+  pub first : slice_index_or bs (hull.from - span.from) false ≡ true
+  pub all : (k : ℕ) → slice_index_or bs k false ≡ true → (hull.from ≤ span.from + k) × (span.from + k < hull.to)
+
+-- the label together with the one of the other list, where that has one and `there` is true
+abbrev pub joined_where : Junction → List Bool → List Bool → ℕ → ℕ → Bool → Bool
+joined_where j there other at k b = cond ((nat_le at k && nat_lt k (at + length other)) && slice_index_or there k false) (joins j b (slice_index_or other (k - at) false)) b

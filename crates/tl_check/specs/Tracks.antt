@@ -1,0 +1,28 @@
+-- The changes of facts, as they are found.
+use Rattle.std.specs.Prelude.{List, [], Option, Some, None, IsSome}
+use Rattle.std.specs.HashMap.{HashMap, get}
+use Rattle.std.specs.Global.{Vec}
+use Rattle.std.specs.declared.hash.FoldHasher.{FoldHasher}
+use Rattle.std.specs.declared.hash.BuildHasherDefault.{BuildHasherDefault}
+use Rattle.tl_check.specs.declared.line.Change.{Change}
+use Rattle.tl_check.specs.declared.tracks.Tracks.{Tracks}
+use Rattle.tl_syntax.specs.declared.fact.Fact.{Fact}
+use Rattle.tl_syntax.specs.DerivedTests.{fact_eq}
+use Rattle.tl_syntax.specs.Lists.{Among}
+
+-- the changes of each fact that has some
+abbrev pub Lines : Type 0
+Lines = HashMap Fact (Vec Change) (BuildHasherDefault FoldHasher)
+
+-- the changes, where there are some
+abbrev pub changes_in : Option (Vec Change) → List Change
+changes_in None = []
+changes_in (Some v) = v.items
+
+-- the changes of a fact
+abbrev pub line_in : Lines → Fact → List Change
+line_in lines g = changes_in (get fact_eq lines g)
+
+-- every fact that has changes was seen
+abbrev pub IsCovered : Tracks → Type 0
+IsCovered t = (g : Fact) → IsSome (get fact_eq t.lines g) → Among g t.seen.items

@@ -1,0 +1,14 @@
+// Quantifiers before their formulas.
+
+use tl_syntax::{Bound, Junction, Vars};
+
+/// A quantifier, without the formula below it.
+#[derive(Clone, Copy)]
+pub(crate) struct Binder<'a> {
+    /// All instances, or one.
+    pub(crate) junction: Junction,
+    /// Its variables.
+    pub(crate) vars: &'a Vars,
+    /// The bound that gives them their values.
+    pub(crate) bound: &'a Bound,
+}

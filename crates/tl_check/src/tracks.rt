@@ -1,0 +1,64 @@
+// The changes of facts, as they are found.
+ghost use Rattle.std.specs.Prelude.{◌≡◌, [], ◌∷◌, ◌++◌, cond, IfOk, OnOk};
+ghost use Rattle.std.specs.HashMap.{get};
+ghost use Rattle.tl_check.specs.Tracks.{line_in, IsCovered};
+ghost use Rattle.tl_syntax.specs.DerivedTests.{fact_eq};
+ghost use Rattle.tl_syntax.specs.Lists.{Among};
+ghost use Rattle.tl_syntax.specs.declared.fact.Fact.{Fact as PlainFact};
+
+use crate::line::Change;
+use std::alloc::Global;
+use std::collections::HashMap;
+use tl_syntax::{Fact, NoMemory};
+
+/// The changes of the facts of one predicate, along the states so far.
+#[derive(Drop)]
+pub(crate) struct Tracks {
+    /// The changes of each fact that held in a state so far.
+    pub(crate) lines: HashMap<Fact, Vec<Change>>,
+    /// These facts, each once.
+    pub(crate) seen: Vec<Fact>,
+}
+
+impl Tracks {
+    /// No fact has changed. It takes no memory.
+    pub(crate) fn new(alloc: Global) -> Tracks
+        ensures none { (g : PlainFact) → line_in result.lines g ≡ [] }
+        ensures covered { IsCovered result }
+    {
+        Tracks {
+            lines: HashMap::new(alloc),
+            seen: Vec::new(alloc),
+        }
+    }
+
+    /// Takes the changes of a fact out, and counts it among those that were seen. It fails for want of memory alone.
+    fn take_line(&mut self, alloc: Global, fact: &Fact) -> Result<Vec<Change>, NoMemory>
+        requires { IsCovered self.old }
+        ensures line { IfOk result (λ line. line.items ≡ line_in self.old.lines fact.now) }
+        ensures lines { OnOk result ((g : PlainFact) → get fact_eq self.new.lines g ≡ cond (fact_eq fact.now g) None (get fact_eq self.old.lines g)) }
+        ensures seen { OnOk result (Among fact.now self.new.seen.items) }
+        ensures stay { OnOk result ((g : PlainFact) → Among g self.old.seen.items → Among g self.new.seen.items) }
+    {
+        match self.lines.remove(fact) {
+            Some(line) => Ok(line),
+            None => {
+                let copy = fact.copy(alloc)?;
+                self.seen.push(copy)?;
+                Ok(Vec::new(alloc))
+            }
+        }
+    }
+
+    /// Adds a change of the fact after its other ones. It fails for want of memory alone.
+    pub(crate) fn note(&mut self, alloc: Global, fact: Fact, change: Change) -> Result<(), NoMemory>
+        requires { IsCovered self.old }
+        ensures noted { OnOk result ((g : PlainFact) → line_in self.new.lines g ≡ cond (fact_eq fact g) (line_in self.old.lines g ++ change ∷ []) (line_in self.old.lines g)) }
+        ensures covered { OnOk result (IsCovered self.new) }
+    {
+        let mut line = self.take_line(alloc, &fact)?;
+        line.push(change)?;
+        self.lines.insert(fact, line)?;
+        Ok(())
+    }
+}
