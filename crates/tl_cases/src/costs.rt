@@ -214,7 +214,10 @@ fn cheapest_plans_are_found(rt: HostRuntime) -> Result<(), Fail> {
 fn answers_with_costs_have_their_texts(rt: HostRuntime) -> Result<(), Fail> {
     let task = task_in(rt.alloc(), "- | (at s) | (at t)")?;
     for (outcome, wanted) in [
-        (CostOutcome::Plan(Actions::new(rt.alloc()), 4_296_000_000), "; cheapest plan of 0 actions costs 4296000000\n"),
+        (
+            CostOutcome::Plan(Actions::new(rt.alloc()), 4_296_000_000),
+            "; cheapest plan of 0 actions costs 4296000000\n",
+        ),
         (CostOutcome::NoPlan, "; none\n"),
         (CostOutcome::Spent, "; spent 12\n"),
     ] {
