@@ -313,9 +313,30 @@ fn have_lines<R: Abort>(rt: &R, alloc: Global, problem: &Problem) -> Result<(), 
     let proved = NoneVerdict::Proved;
     has_line(rt, alloc, problem, None, &proved, "; proved none\n")?;
     let within = Some(100_000);
-    has_line(rt, alloc, problem, within, &proved, "; proved none within 100000\n")?;
-    has_line(rt, alloc, problem, None, &NoneVerdict::BadLink(7), "; bad link 7\n")?;
-    has_line(rt, alloc, problem, within, &NoneVerdict::Accepts(0), "; accepts 0\n")?;
+    has_line(
+        rt,
+        alloc,
+        problem,
+        within,
+        &proved,
+        "; proved none within 100000\n",
+    )?;
+    has_line(
+        rt,
+        alloc,
+        problem,
+        None,
+        &NoneVerdict::BadLink(7),
+        "; bad link 7\n",
+    )?;
+    has_line(
+        rt,
+        alloc,
+        problem,
+        within,
+        &NoneVerdict::Accepts(0),
+        "; accepts 0\n",
+    )?;
     has_open_line(rt, alloc, problem)
 }
 
