@@ -21,7 +21,7 @@ all: bin/tlplan
 bin/tlplan: $(SOURCES)
 	@rm -f bin/tlplan
 	@mkdir -p bin
-	@echo 'Each line names the crate whose proofs it is about. From nothing it takes about an hour on four processors.'
+	@echo 'Each line names the crate whose proofs it is about. From nothing it should take about an hour on four processors.'
 	@{ ( $(BUILD) ) 2>&1; echo $$? > bin/build.status; } | tee bin/build.log | awk '{ print substr($$0, 1, 120); fflush() }'
 	@if [ "$$(cat bin/build.status)" != 0 ]; then echo; echo 'A proof or a build failed:'; grep -v ': proved' bin/build.log | tail -n 60; exit 1; fi
 	cp crates/tl_main/out/tl_main bin/tlplan
