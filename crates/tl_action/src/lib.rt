@@ -6,6 +6,7 @@
 //! - `all_actions`: all actions that are executable in a world.
 //! - `bounds`: whether bounds are true.
 //! - `changes`: what effects change, and the world that this makes.
+//! - `check_fault`: what a check of a plan may end with in place of a verdict.
 //! - `clash`: whether places that are set agree with each other.
 //! - `collect`: the changes that effects make.
 //! - `join`: the rows of values with which an operator can be applied.
@@ -19,6 +20,7 @@
 mod all_actions;
 mod bounds;
 mod changes;
+mod check_fault;
 mod clash;
 mod collect;
 mod fault;
@@ -33,6 +35,7 @@ mod values;
 
 pub use all_actions::actions;
 pub use changes::Changes;
+pub use check_fault::CheckFault;
 pub use fault::ActFault;
 pub use next::{changes_by, next_world};
 pub use step::apply;

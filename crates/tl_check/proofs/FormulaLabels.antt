@@ -14,8 +14,8 @@ use Rattle.tl_check.specs.Later.{later_tree, later_labels}
 use Rattle.tl_check.specs.Passes.{next_labels, until_labels}
 use Rattle.tl_check.specs.Spans.{IsWithin, marks_in}
 use Rattle.tl_check.specs.declared.cursor.Cursor.{Cursor}
-use Rattle.tl_check.specs.declared.fault.CheckFault.{CheckFault}
-use Rattle.tl_check.specs.declared.fault.CheckFault.TheVariants as fault
+use Rattle.tl_action.specs.declared.check_fault.CheckFault.{CheckFault}
+use Rattle.tl_action.specs.declared.check_fault.CheckFault.TheVariants as fault
 use Rattle.tl_check.specs.declared.found.Found.{Found}
 use Rattle.tl_check.specs.declared.later.Later.{Later}
 use Rattle.tl_check.specs.declared.later.Later.TheVariants as later

@@ -14,8 +14,8 @@ use Rattle.tl_check.specs.Instances.{instance_ahead, JoinsInstance}
 use Rattle.tl_check.specs.Labelled.{AreLabels}
 use Rattle.tl_check.specs.Passes.{joins}
 use Rattle.tl_check.specs.Spans.{IsWithin, IsHull, marks_in, joined_where}
-use Rattle.tl_check.specs.declared.fault.CheckFault.{CheckFault}
-use Rattle.tl_check.specs.declared.fault.CheckFault.TheVariants as fault
+use Rattle.tl_action.specs.declared.check_fault.CheckFault.{CheckFault}
+use Rattle.tl_action.specs.declared.check_fault.CheckFault.TheVariants as fault
 use Rattle.tl_check.specs.declared.span.Span.{Span}
 use Rattle.tl_eval.proofs.TupleRest.{rest_after, all-after-none, rest-none, rest-some}
 use Rattle.tl_eval.specs.Notes.{operation_of}

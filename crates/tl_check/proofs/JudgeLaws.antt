@@ -11,8 +11,8 @@ use Rattle.tl_check.specs.Ahead.{true_ahead}
 use Rattle.tl_check.specs.Labelled.{AreLabels, looked_at, looked_there}
 use Rattle.tl_check.specs.Spans.{IsWithin, marks_in}
 use Rattle.tl_check.specs.Verdicts.{MissesGoal, BreaksControl, IsVerdict, IsCause}
-use Rattle.tl_check.specs.declared.fault.CheckFault.{CheckFault}
-use Rattle.tl_check.specs.declared.fault.CheckFault.TheVariants as fault
+use Rattle.tl_action.specs.declared.check_fault.CheckFault.{CheckFault}
+use Rattle.tl_action.specs.declared.check_fault.CheckFault.TheVariants as fault
 use Rattle.tl_check.specs.declared.span.Span.{Span}
 use Rattle.tl_check.specs.declared.verdict.Verdict.{Verdict}
 use Rattle.tl_check.specs.declared.verdict.Verdict.TheVariants as verdict

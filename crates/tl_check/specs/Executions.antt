@@ -5,8 +5,8 @@ use Rattle.tl_action.specs.declared.fault.ActFault.TheVariants as act
 use Rattle.tl_check.specs.Verdicts.{StopsAt, IsPastInAction}
 use Rattle.tl_check.specs.declared.execution.Execution.{Execution}
 use Rattle.tl_check.specs.declared.execution.Execution.TheVariants as execution
-use Rattle.tl_check.specs.declared.fault.CheckFault.{CheckFault}
-use Rattle.tl_check.specs.declared.fault.CheckFault.TheVariants as fault
+use Rattle.tl_action.specs.declared.check_fault.CheckFault.{CheckFault}
+use Rattle.tl_action.specs.declared.check_fault.CheckFault.TheVariants as fault
 use Rattle.tl_syntax.specs.declared.action.Action.{Action}
 use Rattle.tl_terms.specs.Acceptance.{states}
 use Rattle.tl_terms.specs.Problem.{PlainProblem}

@@ -5,8 +5,8 @@ use Rattle.tl_check.specs.Cursors.{Quantifier}
 use Rattle.tl_check.specs.Facts.{bound_ahead}
 use Rattle.tl_check.specs.Labelled.{looked_at}
 use Rattle.tl_check.specs.Passes.{joins}
-use Rattle.tl_check.specs.declared.fault.CheckFault.{CheckFault}
-use Rattle.tl_check.specs.declared.fault.CheckFault.TheVariants as fault
+use Rattle.tl_action.specs.declared.check_fault.CheckFault.{CheckFault}
+use Rattle.tl_action.specs.declared.check_fault.CheckFault.TheVariants as fault
 use Rattle.tl_check.specs.declared.span.Span.{Span}
 use Rattle.tl_eval.specs.Notes.{Tells}
 use Rattle.tl_syntax.specs.Assignment.{Assignment}

@@ -2,8 +2,8 @@
 use Rattle.std.specs.Prelude.{◌≡◌, ◌≤◌, ℕ, suc, List, [], Bool, true, Option, Some, None, Result, Ok, Err, map, take, slice_get}
 use Rattle.tl_check.specs.Ahead.{true_ahead}
 use Rattle.tl_check.specs.Spans.{marks_in}
-use Rattle.tl_check.specs.declared.fault.CheckFault.{CheckFault}
-use Rattle.tl_check.specs.declared.fault.CheckFault.TheVariants as fault
+use Rattle.tl_action.specs.declared.check_fault.CheckFault.{CheckFault}
+use Rattle.tl_action.specs.declared.check_fault.CheckFault.TheVariants as fault
 use Rattle.tl_check.specs.declared.span.Span.{Span}
 use Rattle.tl_eval.specs.Notes.{Tells}
 use Rattle.tl_syntax.specs.Assignment.{Assignment}

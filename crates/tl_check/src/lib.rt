@@ -2,7 +2,6 @@
 //!
 //! - `checker`: the verdict on a plan.
 //! - `verdict`: what a verdict says.
-//! - `fault`: what a check may end with in place of a verdict.
 //! - `execution`: the states of a plan.
 //! - `predicates`: the predicates of which a formula speaks.
 //! - `history`: when the facts of a predicate hold along the states of a plan.
@@ -29,7 +28,6 @@ mod cursor;
 mod cursors;
 mod differences;
 mod execution;
-mod fault;
 mod formula_labels;
 mod found;
 mod history;
@@ -46,5 +44,5 @@ mod tracks;
 mod verdict;
 
 pub use checker::check;
-pub use fault::CheckFault;
+pub use tl_action::CheckFault;
 pub use verdict::Verdict;

@@ -3,7 +3,7 @@ use Rattle.std.proofs.Common.{◌≡◌, inl, inr, ℕ, List, sym, ap, subst}
 use Rattle.std.specs.Prelude.{Option}
 use Rattle.tl_check.specs.LawsVerdict.{OneVerdict}
 use Rattle.tl_check.specs.Verdicts.{IsVerdict, IsCause}
-use Rattle.tl_check.specs.declared.fault.CheckFault.TheVariants as fault
+use Rattle.tl_action.specs.declared.check_fault.CheckFault.TheVariants as fault
 use Rattle.tl_check.specs.declared.verdict.Verdict.{Verdict}
 use Rattle.tl_check.specs.declared.verdict.Verdict.TheVariants.{Valid, NotExecutable, GoalUnmet, Disobeys}
 use Rattle.tl_eval.specs.declared.range.RangeNote.{RangeNote}

@@ -3,7 +3,7 @@ use Rattle.std.proofs.Common.{◌≡◌, inl, inr, ℕ, ◌*◌, ◌≤◌, List
 use Rattle.std.specs.Prelude.{Option}
 use Rattle.tl_check.specs.LawsVerdict.{OneVerdict}
 use Rattle.tl_check.specs.Verdicts.{IsCause}
-use Rattle.tl_check.specs.declared.fault.CheckFault.TheVariants as fault
+use Rattle.tl_action.specs.declared.check_fault.CheckFault.TheVariants as fault
 use Rattle.tl_check.specs.declared.verdict.Verdict.{Verdict}
 use Rattle.tl_check.specs.declared.verdict.Verdict.TheVariants.{Valid}
 use Rattle.tl_eval.specs.Notes.{operation_of}

@@ -5,7 +5,7 @@ use Rattle.tl_syntax.specs.declared.operator.Operator.{Operator}
 use Rattle.tl_terms.specs.ProblemMeaning.{plain_problem}
 use Rattle.tl_eval.specs.declared.range.RangeNote.{RangeNote}
 use Rattle.tl_check.specs.Verdicts.{IsVerdict, IsCause}
-use Rattle.tl_check.specs.declared.fault.CheckFault.TheVariants as fault
+use Rattle.tl_action.specs.declared.check_fault.CheckFault.TheVariants as fault
 use Rattle.tl_check.specs.declared.verdict.Verdict.{Verdict}
 use Rattle.tl_check.specs.declared.verdict.Verdict.TheVariants.{Valid, NotExecutable, GoalUnmet, Disobeys}
 use Rattle.tl_search.specs.KeptPairs.{KeptPair}

@@ -7,7 +7,7 @@ use Rattle.tl_terms.specs.Acceptance.{IsAccepted}
 use Rattle.tl_terms.specs.ProblemMeaning.{plain_problem}
 use Rattle.tl_eval.specs.declared.range.RangeNote.{RangeNote}
 use Rattle.tl_check.specs.Verdicts.{IsCause}
-use Rattle.tl_check.specs.declared.fault.CheckFault.TheVariants as fault
+use Rattle.tl_action.specs.declared.check_fault.CheckFault.TheVariants as fault
 use Rattle.tl_run.specs.Commands.{Command}
 use Rattle.tl_run.specs.Inputs.{a_plan}
 use Rattle.tl_run.specs.Turns.{HoldInput}

@@ -10,7 +10,7 @@ use Rattle.tl_terms.specs.Problem.{PlainProblem}
 use Rattle.tl_terms.specs.ProblemMeaning.{plain_problem}
 use Rattle.tl_eval.specs.declared.range.RangeNote.{RangeNote}
 use Rattle.tl_check.specs.Verdicts.{IsVerdict, IsCause}
-use Rattle.tl_check.specs.declared.fault.CheckFault.TheVariants as fault
+use Rattle.tl_action.specs.declared.check_fault.CheckFault.TheVariants as fault
 use Rattle.tl_check.specs.declared.verdict.Verdict.{Verdict}
 use Rattle.tl_check.specs.declared.verdict.Verdict.TheVariants.{Valid}
 use Rattle.tl_search.specs.Plans.{HasNoPlan, HasNoPlanWithin, IsPlanWithin}

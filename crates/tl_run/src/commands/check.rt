@@ -3,7 +3,7 @@ ghost use Rattle.std.specs.Prelude.{◌≡◌, ◌≤◌, ℕ, List, [], length,
 ghost use Rattle.tl_syntax.specs.Lists.{Each};
 ghost use Rattle.tl_line.specs.NamedActions.{ActionIsNamed};
 ghost use Rattle.tl_check.specs.Verdicts.{IsCause};
-ghost use Rattle.tl_check.specs.declared.fault.CheckFault.TheVariants as fault;
+ghost use Rattle.tl_action.specs.declared.check_fault.CheckFault.TheVariants as fault;
 ghost use Rattle.tl_terms.specs.ProblemMeaning.{plain_problem};
 ghost use Rattle.tl_text.specs.Ranges.{range_text};
 ghost use Rattle.tl_text.specs.Verdicts.{verdict_text};

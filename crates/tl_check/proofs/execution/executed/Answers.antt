@@ -2,7 +2,7 @@ use Rattle.std.proofs.Common.{◌+◌, ◌∷◌, [], ℕ, length, ap, sym, ◌�
 use Rattle.tl_action.specs.Actions.{HasOperator}
 use Rattle.tl_check.proofs.ExecutionLaws.{action-at, states-begun, states-on, stops-here, fault-here, states-end}
 use Rattle.tl_check.specs.Executions.{IsExecution}
-use Rattle.tl_check.specs.declared.fault.CheckFault.{CheckFault}
+use Rattle.tl_action.specs.declared.check_fault.CheckFault.{CheckFault}
 use Rattle.tl_terms.specs.ProblemMeaning.{plain_problem}
 use Rattle.tl_check.proofs.execution.executed.Goals as goal
 

@@ -1,10 +1,12 @@
-// What a check may end with in place of a verdict.
+// What a check of a plan may end with in place of a verdict.
+ghost use Rattle.std.specs.Prelude.{◌≡◌};
+ghost use Rattle.tl_action.specs.declared.check_fault.CheckFault.TheVariants as fault;
 
 use std::alloc::AllocError;
 use tl_eval::RangeNote;
 use tl_syntax::NoMemory;
 
-/// What a check may end with in place of a verdict.
+/// What a check of a plan may end with in place of a verdict. Both checkers have it: that of plans that end, and that of plans with a part that is repeated for ever.
 #[derive(Clone, Copy, Debug, PartialEq, Eq)]
 pub enum CheckFault {
     /// An operation is past range.
@@ -19,9 +21,6 @@ pub enum CheckFault {
 }
 
 impl From<NoMemory> for CheckFault {
-    ghost use Rattle.std.specs.Prelude.{◌≡◌};
-    ghost use Rattle.tl_check.specs.declared.fault.CheckFault.TheVariants as fault;
-
     ghost from_gives = { λ _ e. e ≡ fault.NoMemory };
 
     fn from(_: NoMemory) -> Self {
@@ -30,9 +29,6 @@ impl From<NoMemory> for CheckFault {
 }
 
 impl From<AllocError> for CheckFault {
-    ghost use Rattle.std.specs.Prelude.{◌≡◌};
-    ghost use Rattle.tl_check.specs.declared.fault.CheckFault.TheVariants as fault;
-
     ghost from_gives = { λ _ e. e ≡ fault.NoMemory };
 
     fn from(_: AllocError) -> Self {
