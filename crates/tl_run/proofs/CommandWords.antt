@@ -14,15 +14,6 @@ three_words f (a ∷ b ∷ []) h k = absurd (omega (arith, h))
 three_words f (a ∷ b ∷ c ∷ []) h k = refl
 three_words f (a ∷ b ∷ c ∷ d ∷ ws) h k = absurd (omega (arith, k))
 
-pub five_words : {W : Type 0} (f : W → List ℕ) (ws : List W) → 4 < length ws → length ws < 6 → None ≡ command_in (map f ws)
-five_words f [] h k = absurd (omega (arith, h))
-five_words f (a ∷ []) h k = absurd (omega (arith, h))
-five_words f (a ∷ b ∷ []) h k = absurd (omega (arith, h))
-five_words f (a ∷ b ∷ c ∷ []) h k = absurd (omega (arith, h))
-five_words f (a ∷ b ∷ c ∷ d ∷ []) h k = absurd (omega (arith, h))
-five_words f (a ∷ b ∷ c ∷ d ∷ e ∷ []) h k = refl
-five_words f (a ∷ b ∷ c ∷ d ∷ e ∷ g ∷ ws) h k = absurd (omega (arith, k))
-
 pub many_words : {W : Type 0} (f : W → List ℕ) (ws : List W) → 6 < length ws → None ≡ command_in (map f ws)
 many_words f [] h = absurd (omega (arith, h))
 many_words f (a ∷ []) h = absurd (omega (arith, h))

@@ -6,10 +6,10 @@ use Rattle.tl_sexpr.specs.Tree.{FormTrees}
 use Rattle.tl_run.specs.declared.turn.Input.{Input as Held}
 use Rattle.tl_run.specs.declared.turn.Input.TheVariants as held
 use Rattle.tl_run.specs.declared.words.Role.TheVariants as role
-use Rattle.tl_run.specs.Commands.{Command, check, search, trace, explain, sample}
+use Rattle.tl_run.specs.Commands.{Command, check, search, trace, explain, prove_none, check_none, sample}
 use Rattle.tl_run.specs.Held.{IsHeld}
 use Rattle.tl_run.specs.declared.search.Search.{Search}
-use Rattle.tl_run.specs.Inputs.{Input, a_domain, a_problem, a_plan, IsMeant}
+use Rattle.tl_run.specs.Inputs.{Input, a_domain, a_problem, a_plan, a_proof, IsMeant}
 use Rattle.tl_run.specs.Replies.{Fits}
 use Rattle.tl_run.specs.Sample.{sample_search}
 use Rattle.tl_run.specs.Turns.{HoldInput}
@@ -27,7 +27,24 @@ plan_fits d p q (held.Plan problem plan) x is h = refl
 plan_fits d p q held.Nothing (a_plan problem plan) is h = absurd h
 plan_fits d p q (held.Domain names domain) (a_plan problem plan) is h = absurd h
 plan_fits d p q (held.Problem other) (a_plan problem plan) is h = absurd h
+plan_fits d p q (held.Proof other proof) (a_plan problem plan) is h = absurd h
 plan_fits d p q h x is k = absurd is
+
+abbrev IsProof : Input → Type 0
+IsProof (a_proof p proof) = Unit {0}
+IsProof x = ⊥
+
+proof_last : (before after : Input) (forms : FormTrees) → IsMeant role.Proof before forms after → IsProof after
+proof_last (a_problem p) (a_proof q proof) forms h = tt
+proof_last before after forms h = absurd h
+
+proof_fits : (d p q : List ℕ) (h : Held) (x : Input) → IsProof x → IsHeld h x → Fits (check_none d p q) h
+proof_fits d p q (held.Proof problem proof) x is h = refl
+proof_fits d p q held.Nothing (a_proof problem proof) is h = absurd h
+proof_fits d p q (held.Domain names domain) (a_proof problem proof) is h = absurd h
+proof_fits d p q (held.Problem other) (a_proof problem proof) is h = absurd h
+proof_fits d p q (held.Plan other plan) (a_proof problem proof) is h = absurd h
+proof_fits d p q h x is k = absurd is
 
 explain_fits : (d p q : List ℕ) (h : Held) (x : Input) → IsPlan x → IsHeld h x → Fits (explain d p q) h
 explain_fits d p q h x is k = plan_fits d p q h x is k
@@ -45,6 +62,7 @@ problem_fits s d p (held.Problem problem) x is h = refl
 problem_fits s d p held.Nothing (a_problem problem) is h = absurd h
 problem_fits s d p (held.Domain names domain) (a_problem problem) is h = absurd h
 problem_fits s d p (held.Plan other plan) (a_problem problem) is h = absurd h
+problem_fits s d p (held.Proof other proof) (a_problem problem) is h = absurd h
 problem_fits s d p h x is k = absurd is
 
 search_fits : (files : Option Files) (s : Search) (d p : List ℕ) (h : Held) (x : Input) → HoldInput files (search s d p) x → IsHeld h x → Fits (search s d p) h
@@ -70,6 +88,13 @@ fits files (explain d p q) h x stand is =
     let stands = third.3 in
     let e = third.4 in
     explain_fits d p q h x (subst IsPlan e (plan_last second.1 third.1 stands.forms stands.meant)) is
+fits files (prove_none s d p) h x stand is = search_fits files s d p h x stand is
+fits files (check_none d p q) h x stand is =
+    let second = stand.4 in
+    let third = second.4 in
+    let stands = third.3 in
+    let e = third.4 in
+    proof_fits d p q h x (subst IsProof e (proof_last second.1 third.1 stands.forms stands.meant)) is
 fits files (sample balls) h x stand is =
     let stands = stand.2 in
     problem_fits (sample_search balls) [] [] h x (problem_last stand.0 x stands.forms stands.meant) is

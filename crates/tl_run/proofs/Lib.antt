@@ -1,5 +1,6 @@
 pub mod SeenTwice
 pub mod SameOperators
+pub mod SameProofs
 pub mod SameLines
 pub mod SameLabels
 pub mod LeastBreaks
@@ -15,6 +16,9 @@ pub mod SearchLaws
 pub mod TraceLaws
 pub mod ExplainLaws
 pub mod SampleLaws
+pub mod NoneReports
+pub mod ProveNoneLaws
+pub mod CheckNoneLaws
 pub mod SamplePrefixes
 pub mod Promised
 pub mod Sent
@@ -24,6 +28,7 @@ pub mod Fitting
 pub mod Replied
 pub mod NamedPlans
 pub mod NamedEvents
+pub mod NamedProofs
 pub mod TrueTraces
 pub mod Numbers
 pub mod CommandWords

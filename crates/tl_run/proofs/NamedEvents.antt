@@ -30,7 +30,7 @@ steps_take : StepByItsConditions → (p : PlainProblem) (x y : Pair) (a : Action
 steps_take law p x y a None is e = absurd (let z : ⊥ = cc in z)
 steps_take law p x y a (Some w) is e = step_takes law p x.world w a is
 
-action_is_named : StepByItsConditions → (task : Task) (x y : Pair) (a : Action) → next_pair (plain_problem task.problem) x a ≡ Some y → IsNamedIn task a → ActionIsNamed task.problem.names task.problem.domain.operators a
+pub action_is_named : StepByItsConditions → (task : Task) (x y : Pair) (a : Action) → next_pair (plain_problem task.problem) x a ≡ Some y → IsNamedIn task a → ActionIsNamed task.problem.names task.problem.domain.operators a
 action_is_named law task x y a e named =
     let p = plain_problem task.problem in
     let both = named_both task.problem (a ∷ []) (steps_take law p x y a (step p x.world a) refl e, tt) (named, tt) in

@@ -39,7 +39,7 @@ step_takes law p w v a e =
 no_states : (w : World) (ws : List World) → then_states w None ≡ Some ws → ⊥
 no_states w ws e = let k : ⊥ = cc in k
 
-states_take : StepByItsConditions → (p : PlainProblem) (w : World) (plan : List Action) (ws : List World) → states_from p (Some w) plan ≡ Some ws → Each (IsOfOperator p) plan
+pub states_take : StepByItsConditions → (p : PlainProblem) (w : World) (plan : List Action) (ws : List World) → states_from p (Some w) plan ≡ Some ws → Each (IsOfOperator p) plan
 unfolding states_from
 states_take law p w [] ws e = tt
 states_take law p w (a ∷ plan) ws e = by_step (step p w a) refl (λ v vs t. states_take law p v plan vs t)

@@ -1,6 +1,8 @@
 -- What follows from an answer that the files allow.
 use Rattle.std.proofs.Common.{◌≡◌, ◌⊎◌, inl, inr, ℕ, List, refl, sym, ap, ◌∙◌, subst}
 use Rattle.std.specs.Prelude.{Option, Some}
+use Rattle.tl_cert.specs.declared.verdict.NoneVerdict.{NoneVerdict}
+use Rattle.tl_cert.specs.declared.verdict.NoneVerdict.TheVariants.{Proved, BadLink, Accepts, Open}
 use Rattle.tl_check.specs.declared.verdict.Verdict.{Verdict}
 use Rattle.tl_check.specs.declared.verdict.Verdict.TheVariants.{Valid, NotExecutable, GoalUnmet, Disobeys}
 use Rattle.tl_outside.specs.Told.{Files}
@@ -9,18 +11,22 @@ use Rattle.tl_search.specs.declared.outcome.Outcome.TheVariants as outcome
 use Rattle.tl_run.specs.declared.status.Status.{Status}
 use Rattle.tl_run.specs.declared.status.Status.TheVariants.{Refused}
 use Rattle.tl_run.specs.declared.stop.Broken.{Broken}
-use Rattle.tl_run.specs.Answers.{Answer, refusal, past_range, judged, searched, traced, IsRight, status_of, text_of, outcome_status, verdict_status, explained, sampled}
-use Rattle.tl_run.specs.Commands.{Command, check, search, trace, explain, sample}
-use Rattle.tl_run.specs.Inputs.{Input, a_problem, a_plan}
+use Rattle.tl_run.specs.Answers.{Answer, refusal, past_range, judged, searched, traced, IsRight, status_of, text_of, outcome_status, verdict_status, explained, certified, unproved, judged_proof, sampled}
+use Rattle.tl_run.specs.CheckNone.{none_status}
+use Rattle.tl_run.specs.Commands.{Command, check, search, trace, explain, prove_none, check_none, sample}
+use Rattle.tl_run.specs.Inputs.{Input, a_problem, a_plan, a_proof}
 use Rattle.tl_run.specs.Laws.{Laws}
 use Rattle.tl_run.specs.Promises.{Allows, Headline, IsAnswer, IsCalm, IsCalmStatus, IsTextOf}
+use Rattle.tl_run.specs.ProveNone.{unproved_status}
 use Rattle.tl_run.specs.Refusals.{refusal_text}
 use Rattle.tl_run.specs.Replies.{HasLines}
 use Rattle.tl_run.specs.Turns.{Begun, HoldInput, IsRefused}
 use Rattle.tl_run.proofs.Agreement.{Agrees}
 use Rattle.tl_run.proofs.CheckLaws.{check_agrees, check_calm, check_says}
+use Rattle.tl_run.proofs.CheckNoneLaws.{check_none_agrees, check_none_calm, check_none_says}
 use Rattle.tl_run.proofs.ExplainLaws.{explain_agrees, explain_calm, explain_says}
 use Rattle.tl_run.proofs.InTurn.{no_refusal, one_input, one_refusal}
+use Rattle.tl_run.proofs.ProveNoneLaws.{prove_none_agrees, prove_none_calm, prove_none_says}
 use Rattle.tl_run.proofs.SameInputs.{SameInput}
 use Rattle.tl_run.proofs.SampleLaws.{sample_agrees, sample_calm, sample_says}
 use Rattle.tl_run.proofs.SearchLaws.{search_agrees, search_calm, search_says}
@@ -38,6 +44,18 @@ outcome_has_lines outcome.NoPlan = tt
 outcome_has_lines outcome.NoneWithin = tt
 outcome_has_lines outcome.Spent = tt
 
+unproved_has_lines : (o : Outcome) → HasLines (unproved_status o)
+unproved_has_lines (outcome.Plan plan) = tt
+unproved_has_lines outcome.NoPlan = tt
+unproved_has_lines outcome.NoneWithin = tt
+unproved_has_lines outcome.Spent = tt
+
+proof_has_lines : (v : NoneVerdict) → HasLines (none_status v)
+proof_has_lines Proved = tt
+proof_has_lines (BadLink k) = tt
+proof_has_lines (Accepts k) = tt
+proof_has_lines (Open k a) = tt
+
 answer_has_lines : (a : Answer) → HasLines (status_of a)
 answer_has_lines (refusal number m) = tt
 answer_has_lines (past_range after note path) = tt
@@ -45,6 +63,9 @@ answer_has_lines (judged v) = verdict_has_lines v
 answer_has_lines (searched s o) = outcome_has_lines o
 answer_has_lines (traced s kept events o) = outcome_has_lines o
 answer_has_lines explained = tt
+answer_has_lines (certified s proof) = tt
+answer_has_lines (unproved s o) = unproved_has_lines o
+answer_has_lines (judged_proof v) = proof_has_lines v
 answer_has_lines (sampled n kept o v) = tt
 
 -- the status of an answer comes with lines
@@ -57,6 +78,8 @@ refused_says files (check d p q) text = tt
 refused_says files (search s d p) text = tt
 refused_says files (trace s d p) text = tt
 refused_says files (explain d p q) text = tt
+refused_says files (prove_none s d p) text = tt
+refused_says files (check_none d p q) text = tt
 refused_says files (sample m) text = tt
 
 -- what it says of a right answer: one line for each command
@@ -65,6 +88,8 @@ right_says laws files (check d p q) x a text stand right line = check_says files
 right_says laws files (search s d p) x a text stand right line = search_says files s d p x a text stand right line
 right_says laws files (trace s d p) x a text stand right line = trace_says files s d p x a text stand right line
 right_says laws files (explain d p q) x a text stand right line = explain_says files d p q x a text stand right line
+right_says laws files (prove_none s d p) x a text stand right line = prove_none_says laws files s d p x a text stand right line
+right_says laws files (check_none d p q) x a text stand right line = check_none_says laws files d p q x a text stand right line
 right_says laws files (sample m) x a text stand right line = sample_says laws files m x a text stand right line
 
 allowed_says : Laws → (files : Option Files) (c : Command) (x : Input) (a : Answer) (text : List ℕ) → Allows files c x a → text ≡ text_of x a → Headline files c (status_of a) text
@@ -74,6 +99,9 @@ allowed_says laws files c x (judged v) text allowed line = right_says laws files
 allowed_says laws files c x (searched s o) text allowed line = right_says laws files c x (searched s o) text allowed.0 allowed.1 line
 allowed_says laws files c x (traced s kept events o) text allowed line = right_says laws files c x (traced s kept events o) text allowed.0 allowed.1 line
 allowed_says laws files c x explained text allowed line = right_says laws files c x explained text allowed.0 allowed.1 line
+allowed_says laws files c x (certified s proof) text allowed line = right_says laws files c x (certified s proof) text allowed.0 allowed.1 line
+allowed_says laws files c x (unproved s o) text allowed line = right_says laws files c x (unproved s o) text allowed.0 allowed.1 line
+allowed_says laws files c x (judged_proof v) text allowed line = right_says laws files c x (judged_proof v) text allowed.0 allowed.1 line
 allowed_says laws files c x (sampled n kept o v) text allowed line = right_says laws files c x (sampled n kept o v) text allowed.0 allowed.1 line
 
 -- an answer that the files allow says what the headline says
@@ -86,6 +114,8 @@ right_agrees laws (check d p q) x y a b same h k = check_agrees laws.verdicts d 
 right_agrees laws (search s d p) x y a b same h k = search_agrees laws s d p x y a b same h k
 right_agrees laws (trace s d p) x y a b same h k = trace_agrees laws s d p x y a b same h k
 right_agrees laws (explain d p q) x y a b same h k = explain_agrees d p q x y a b same h k
+right_agrees laws (prove_none s d p) x y a b same h k = prove_none_agrees laws s d p x y a b same h k
+right_agrees laws (check_none d p q) x y a b same h k = check_none_agrees laws.none_verdicts d p q x y a b same h k
 right_agrees laws (sample m) x y a b same h k = sample_agrees laws m x y a b same h k
 
 -- over told files, an answer that is right of what they stand for is no refusal
@@ -106,6 +136,9 @@ splits files c x (judged v) h = inr h
 splits files c x (searched s o) h = inr h
 splits files c x (traced s kept events o) h = inr h
 splits files c x explained h = inr h
+splits files c x (certified s proof) h = inr h
+splits files c x (unproved s o) h = inr h
+splits files c x (judged_proof v) h = inr h
 splits files c x (sampled n kept o v) h = inr h
 
 split_agree : Laws → (files : Files) (c : Command) (x y : Input) (a b : Answer) → Splits files c x a → Splits files c y b → Agrees x a (status_of b) (text_of y b)
@@ -132,6 +165,8 @@ calm_passes files (check d p q) calm = (a_plan calm.problem calm.plan, calm.stan
 calm_passes files (search s d p) calm = (a_problem calm.problem, calm.stand)
 calm_passes files (trace s d p) calm = (a_problem calm.problem, calm.stand)
 calm_passes files (explain d p q) calm = (a_plan calm.problem calm.plan, calm.stand)
+calm_passes files (prove_none s d p) calm = (a_problem calm.problem, calm.stand)
+calm_passes files (check_none d p q) calm = (a_proof calm.problem calm.proof, calm.stand)
 calm_passes files (sample m) calm = (a_problem calm.problem, calm.stand)
 
 -- right answers where nothing past range is looked at: one line for each command
@@ -144,6 +179,10 @@ right_calm laws files (trace s d p) x a calm h =
     trace_calm laws s d p calm.problem x a (one_input laws.problems files (trace s d p) (a_problem calm.problem) x calm.stand h.0) calm.calm calm.few h.1
 right_calm laws files (explain d p q) x a calm h =
     explain_calm d p q calm.problem calm.plan x a (one_input laws.problems files (explain d p q) (a_plan calm.problem calm.plan) x calm.stand h.0) calm.calm h.1
+right_calm laws files (prove_none s d p) x a calm h =
+    prove_none_calm laws s d p calm.problem x a (one_input laws.problems files (prove_none s d p) (a_problem calm.problem) x calm.stand h.0) calm.calm calm.few h.1
+right_calm laws files (check_none d p q) x a calm h =
+    check_none_calm d p q calm.problem calm.proof x a (one_input laws.problems files (check_none d p q) (a_proof calm.problem calm.proof) x calm.stand h.0) calm.calm h.1
 right_calm laws files (sample m) x a calm h =
     sample_calm laws m calm.problem x a (one_input laws.problems files (sample m) (a_problem calm.problem) x calm.stand h.0) calm.calm calm.checked h.1
 

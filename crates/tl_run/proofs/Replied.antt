@@ -2,9 +2,12 @@
 use Rattle.std.proofs.Common.{◌≡◌, inl, inr, ℕ, List, [], ◌∷◌, map, length, refl, sym, subst}
 use Rattle.std.specs.Prelude.{Option, Result, Ok, Err, IfOk}
 use Rattle.tl_action.specs.Actions.{HasOperator}
+use Rattle.tl_cert.specs.Causes.{IsNoneCause}
+use Rattle.tl_cert.specs.declared.proof.Proof.{Proof}
 use Rattle.tl_check.specs.Verdicts.{IsVerdict, IsCause}
 use Rattle.tl_action.specs.declared.check_fault.CheckFault.TheVariants as fault
 use Rattle.tl_check.specs.declared.verdict.Verdict.{Verdict}
+use Rattle.tl_eval.specs.Notes.{operation_of}
 use Rattle.tl_eval.specs.declared.range.RangeNote.{RangeNote}
 use Rattle.tl_line.specs.NamedActions.{ActionIsNamed}
 use Rattle.tl_outside.specs.Told.{Files}
@@ -25,9 +28,9 @@ use Rattle.tl_run.specs.declared.status.Status.{Status}
 use Rattle.tl_run.specs.declared.status.Status.TheVariants.{Yes, Refused, Range}
 use Rattle.tl_run.specs.declared.stop.Broken.{Broken}
 use Rattle.tl_run.specs.declared.search.Search.{Search}
-use Rattle.tl_run.specs.Answers.{Answer, refusal, past_range, judged, searched, traced, IsRight, verdict_status, explained, sampled}
-use Rattle.tl_run.specs.Commands.{Command, check, search, trace, explain, sample}
-use Rattle.tl_run.specs.Inputs.{Input, nothing, a_problem, a_plan}
+use Rattle.tl_run.specs.Answers.{Answer, refusal, past_range, judged, searched, traced, IsRight, verdict_status, explained, certified, unproved, judged_proof, sampled}
+use Rattle.tl_run.specs.Commands.{Command, check, search, trace, explain, prove_none, check_none, sample}
+use Rattle.tl_run.specs.Inputs.{Input, nothing, a_problem, a_plan, a_proof}
 use Rattle.tl_run.specs.Plan.{IsOutcome, EndsPastRange}
 use Rattle.tl_run.specs.Promises.{Allows, IsAnswer, LeavesOff}
 use Rattle.tl_run.specs.Refusals.{refusal_text}
@@ -72,6 +75,14 @@ explained_replied d p q problem plan text t = record { answer = explained; right
 pub explain_range_replied : (d p q : List ℕ) (problem : Problem) (plan : List Action) (after : ℕ) (note : RangeNote) (text : List ℕ) → IsPastInExplanation (plain_problem problem) plan after note → text ≡ range_text problem.names problem.domain.operators note after [] → Replies (explain d p q) (a_plan problem plan) (record { status = Range; text = text })
 explain_range_replied d p q problem plan after note text cause t = record { answer = past_range after note []; right = (cause, refl); status_is = refl; text_is = t }
 
+-- and so does the search of `prove-none`
+pub prove_none_range_replied : (s : Search) (d p : List ℕ) (problem : Problem) (note : RangeNote) (path : List Action) (text : List ℕ) → EndsPastRange s (plain_problem problem) path note → text ≡ range_text problem.names problem.domain.operators note (length path) path → Replies (prove_none s d p) (a_problem problem) (record { status = Range; text = text })
+prove_none_range_replied s d p problem note path text cause t = record { answer = past_range (length path) note path; right = (cause, refl); status_is = refl; text_is = t }
+
+-- the reply where the check of a proof does
+pub proof_range_replied : (d p q : List ℕ) (problem : Problem) (proof : Proof) (note : RangeNote) (path : List Action) (text : List ℕ) → IsNoneCause (plain_problem problem) proof.bound proof.links path (operation_of note) → text ≡ range_text problem.names problem.domain.operators note (length path) path → Replies (check_none d p q) (a_proof problem proof) (record { status = Range; text = text })
+proof_range_replied d p q problem proof note path text cause t = record { answer = past_range (length path) note path; right = (cause, refl); status_is = refl; text_is = t }
+
 -- the reply with the lines of a sample
 pub summary_replied : {E : Type 0} (m : ℕ) (problem : Problem) (kept : ℕ) (o : Outcome) (v : Option Verdict) (r : Result Reply E) → IsSummary m (plain_problem problem) kept o v → IfOk r (λ reply. reply.status ≡ Yes) → IfOk r (λ reply. reply.text ≡ sample_text m kept o v) → IfOk r (Replies (sample m) (a_problem problem))
 summary_replied m problem kept o v (Ok reply) right s t = record { answer = sampled m kept o v; right = (refl, right); status_is = s; text_is = t }
@@ -105,6 +116,10 @@ never_right (trace s d p) (a_problem problem) number m right = right
 never_right (trace s d p) x number m right = right
 never_right (explain d p q) (a_plan problem plan) number m right = right
 never_right (explain d p q) x number m right = right
+never_right (prove_none s d p) (a_problem problem) number m right = right
+never_right (prove_none s d p) x number m right = right
+never_right (check_none d p q) (a_proof problem proof) number m right = right
+never_right (check_none d p q) x number m right = right
 never_right (sample n) (a_problem problem) number m right = right
 never_right (sample n) x number m right = right
 
@@ -115,6 +130,9 @@ right_allowed files c x (judged v) stand right = (stand, right)
 right_allowed files c x (searched s o) stand right = (stand, right)
 right_allowed files c x (traced s kept events o) stand right = (stand, right)
 right_allowed files c x explained stand right = (stand, right)
+right_allowed files c x (certified s proof) stand right = (stand, right)
+right_allowed files c x (unproved s o) stand right = (stand, right)
+right_allowed files c x (judged_proof v) stand right = (stand, right)
 right_allowed files c x (sampled n kept o v) stand right = (stand, right)
 
 right_leaves : (files : Option Files) (c : Command) (begun : Begun) (x : Input) (a : Answer) → IsRight c x a → LeavesOff files c begun a
@@ -124,6 +142,9 @@ right_leaves files c begun x (judged v) right = tt
 right_leaves files c begun x (searched s o) right = tt
 right_leaves files c begun x (traced s kept events o) right = tt
 right_leaves files c begun x explained right = tt
+right_leaves files c begun x (certified s proof) right = tt
+right_leaves files c begun x (unproved s o) right = tt
+right_leaves files c begun x (judged_proof v) right = tt
 right_leaves files c begun x (sampled n kept o v) right = tt
 
 -- a right reply over the input is an answer that the files allow

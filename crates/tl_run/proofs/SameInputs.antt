@@ -7,14 +7,18 @@ use Rattle.tl_syntax.specs.declared.problem.Problem.{Problem}
 use Rattle.tl_domain.specs.DomainFiles.{domain_file_breaks}
 use Rattle.tl_domain.specs.Files.{AreFilesOf, problem_breaks}
 use Rattle.tl_domain.specs.LawsFiles.{FilesStandForOneProblem}
+use Rattle.tl_cert.specs.MeaningOfProofs.{proof_meant}
+use Rattle.tl_cert.specs.ProofFiles.{proof_breaks}
+use Rattle.tl_cert.specs.declared.proof.Proof.{Proof}
 use Rattle.tl_text.specs.Plans.{plan_breaks}
 use Rattle.tl_text.specs.MeaningOfPlans.{plan_meant}
 use Rattle.tl_run.specs.declared.words.Role.{Role}
 use Rattle.tl_run.specs.declared.words.Role.TheVariants as role
 use Rattle.tl_run.specs.Files.{SpellShortly}
-use Rattle.tl_run.specs.Inputs.{Input, nothing, a_domain, a_problem, a_plan, breaks_of, IsMeant, StandsFor}
+use Rattle.tl_run.specs.Inputs.{Input, nothing, a_domain, a_problem, a_plan, a_proof, breaks_of, IsMeant, StandsFor}
 use Rattle.tl_run.proofs.OneProblem.{SameProblem, same_problem}
 use Rattle.tl_run.proofs.SameOperators.{same_plan_breaks, same_plan_meant}
+use Rattle.tl_run.proofs.SameProofs.{same_proof_breaks, same_proof_meant}
 
 -- the same was read
 abbrev pub SameInput : Input → Input → Type 0
@@ -22,6 +26,7 @@ SameInput nothing nothing = Unit {0}
 SameInput (a_domain f) (a_domain g) = f ≡ g
 SameInput (a_problem p) (a_problem q) = SameProblem p q
 SameInput (a_plan p plan) (a_plan q other) = SameProblem p q × (plan ≡ other)
+SameInput (a_proof p proof) (a_proof q other) = SameProblem p q × (proof ≡ other)
 SameInput a b = ⊥
 
 same_problem_back : (p q : Problem) → SameProblem p q → SameProblem q p
@@ -39,6 +44,7 @@ same_back nothing nothing same = tt
 same_back (a_domain f) (a_domain g) same = sym same
 same_back (a_problem p) (a_problem q) same = same_problem_back p q same
 same_back (a_plan p plan) (a_plan q other) same = (same_problem_back p q same.0, sym same.1)
+same_back (a_proof p proof) (a_proof q other) same = (same_problem_back p q same.0, sym same.1)
 same_back a b same = absurd same
 
 -- the forms of a file are one
@@ -51,15 +57,24 @@ one_breaks role.Domain nothing nothing fs gs same e = ap domain_file_breaks e
 one_breaks role.Domain (a_domain f) (a_domain g) fs gs same e = refl
 one_breaks role.Domain (a_problem p) (a_problem q) fs gs same e = refl
 one_breaks role.Domain (a_plan p plan) (a_plan q other) fs gs same e = refl
+one_breaks role.Domain (a_proof p proof) (a_proof q other) fs gs same e = refl
 one_breaks role.Problem nothing nothing fs gs same e = refl
 one_breaks role.Problem (a_domain f) (a_domain g) fs gs same e = λ i. problem_breaks (same i) (e i)
 one_breaks role.Problem (a_problem p) (a_problem q) fs gs same e = refl
 one_breaks role.Problem (a_plan p plan) (a_plan q other) fs gs same e = refl
+one_breaks role.Problem (a_proof p proof) (a_proof q other) fs gs same e = refl
 one_breaks role.Plan nothing nothing fs gs same e = refl
 one_breaks role.Plan (a_domain f) (a_domain g) fs gs same e = refl
 one_breaks role.Plan (a_problem p) (a_problem q) fs gs same e =
     same_plan_breaks p.names p.domain.operators q.domain.operators fs same.heads ∙ (λ i. plan_breaks (same.names i) q.domain.operators (e i))
 one_breaks role.Plan (a_plan p plan) (a_plan q other) fs gs same e = refl
+one_breaks role.Plan (a_proof p proof) (a_proof q other) fs gs same e = refl
+one_breaks role.Proof nothing nothing fs gs same e = refl
+one_breaks role.Proof (a_domain f) (a_domain g) fs gs same e = refl
+one_breaks role.Proof (a_problem p) (a_problem q) fs gs same e =
+    same_proof_breaks p.names p.domain.operators q.domain.operators same.heads fs ∙ (λ i. proof_breaks (same.names i) q.domain.operators (e i))
+one_breaks role.Proof (a_plan p plan) (a_plan q other) fs gs same e = refl
+one_breaks role.Proof (a_proof p proof) (a_proof q other) fs gs same e = refl
 one_breaks r a b fs gs same e = absurd same
 
 domain_meant : (b y : Input) (f fs gs : FormTrees) → SameInput nothing b → fs ≡ gs → f ≡ fs → IsMeant role.Domain b gs y → SameInput (a_domain f) y
@@ -85,11 +100,23 @@ plan_is_meant (a_problem q) (a_plan q' other) p p' plan fs gs same e a h k = pla
 plan_is_meant (a_problem q) y p p' plan fs gs same e a h k = absurd k
 plan_is_meant b y p p' plan fs gs same e a h k = absurd same
 
+proof_same : (p q p' q' : Problem) (proof other : Proof) (fs gs : FormTrees) → SameProblem p q → fs ≡ gs → p' ≡ p → proof ≡ proof_meant p.names p.domain.operators fs → q' ≡ q → other ≡ proof_meant q.names q.domain.operators gs → SameProblem p' q' × (proof ≡ other)
+proof_same p q p' q' proof other fs gs same e a h b k = (
+  subst (λ (u : Problem). SameProblem u q') (sym a) (subst (λ (u : Problem). SameProblem p u) (sym b) same),
+  h ∙ same_proof_meant p.names p.domain.operators q.domain.operators same.heads fs ∙ (λ i. proof_meant (same.names i) q.domain.operators (e i)) ∙ sym k,
+)
+
+proof_is_meant : (b y : Input) (p p' : Problem) (proof : Proof) (fs gs : FormTrees) → SameInput (a_problem p) b → fs ≡ gs → p' ≡ p → proof ≡ proof_meant p.names p.domain.operators fs → IsMeant role.Proof b gs y → SameInput (a_proof p' proof) y
+proof_is_meant (a_problem q) (a_proof q' other) p p' proof fs gs same e a h k = proof_same p q p' q' proof other fs gs same e a h k.0 k.1
+proof_is_meant (a_problem q) y p p' proof fs gs same e a h k = absurd k
+proof_is_meant b y p p' proof fs gs same e a h k = absurd same
+
 -- the same is meant
 one_meant : FilesStandForOneProblem → (r : Role) (a b x y : Input) (fs gs : FormTrees) → SameInput a b → fs ≡ gs → IsMeant r a fs x → IsMeant r b gs y → SameInput x y
 one_meant law role.Domain nothing b (a_domain f) y fs gs same e h k = domain_meant b y f fs gs same e h k
 one_meant law role.Problem (a_domain f) b (a_problem p) y fs gs same e h k = problem_meant law b y f fs gs p same e h k
 one_meant law role.Plan (a_problem p) b (a_plan p' plan) y fs gs same e h k = plan_is_meant b y p p' plan fs gs same e h.0 h.1 k
+one_meant law role.Proof (a_problem p) b (a_proof p' proof) y fs gs same e h k = proof_is_meant b y p p' proof fs gs same e h.0 h.1 k
 one_meant law r a b x y fs gs same e h k = absurd h
 
 -- bytes stand for one thing, after the same

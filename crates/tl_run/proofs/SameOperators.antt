@@ -58,7 +58,7 @@ module _ (names : List (List ℕ)) (os us : List Operator) (alike : map head_of 
       let takes = same_takes op n in
       λ i. breaks_if (not (takes i)) ArgumentCount at
 
-  same_action : (f : FormTree) → action_breaks names os f ≡ action_breaks names us f
+  pub same_action : (f : FormTree) → action_breaks names os f ≡ action_breaks names us f
   unfolding action_breaks
   same_action (symbol text at) = refl
   same_action (integer z at) = refl
@@ -82,7 +82,7 @@ module _ (names : List (List ℕ)) (os us : List Operator) (alike : map head_of 
       let others = same_actions (before + 1) fs in
       λ i. first i ++ others i
 
-  same_meaning : (f : FormTree) → action_meant names os f ≡ action_meant names us f
+  pub same_meaning : (f : FormTree) → action_meant names os f ≡ action_meant names us f
   unfolding action_meant
   same_meaning (symbol text at) = refl
   same_meaning (integer z at) = refl

@@ -6,7 +6,7 @@ use Rattle.tl_outside.specs.Causes.{Rose}
 use Rattle.tl_outside.specs.Told.{Files}
 use Rattle.tl_run.specs.declared.status.Status.{Status}
 use Rattle.tl_run.specs.declared.status.Status.TheVariants.{Yes, No, Spent, Refused, Range, ReadFault, WriteFault, NoMemory, Usage}
-use Rattle.tl_run.specs.Answers.{Answer, refusal, past_range, judged, searched, traced, explained, sampled}
+use Rattle.tl_run.specs.Answers.{Answer, refusal, past_range, judged, searched, traced, explained, certified, unproved, judged_proof, sampled}
 use Rattle.tl_run.specs.Commands.{Command}
 use Rattle.tl_run.specs.Inputs.{Input}
 use Rattle.tl_run.specs.Promises.{Gives, IsCalmStatus, Writes, Yields}
@@ -42,6 +42,9 @@ yields_outside (judged v) = (tt, tt, tt)
 yields_outside (searched s o) = (tt, tt, tt)
 yields_outside (traced s kept events o) = (tt, tt, tt)
 yields_outside explained = (tt, tt, tt)
+yields_outside (certified s proof) = (tt, tt, tt)
+yields_outside (unproved s o) = (tt, tt, tt)
+yields_outside (judged_proof v) = (tt, tt, tt)
 yields_outside (sampled n kept o v) = (tt, tt, tt)
 
 agrees_gives : (old new : Option (List ℕ)) (x : Input) (a : Answer) (status : Status) (text : List ℕ) → Agrees x a status text → new ≡ append_known old text → Gives old new x a status

@@ -1,9 +1,15 @@
 -- The answers of commands: when each is right, its status and its lines.
-use Rattle.std.specs.Prelude.{◌≡◌, ℕ, List, [], ◌++◌, length, ⊤, Option}
+use Rattle.std.specs.Prelude.{◌≡◌, ℕ, List, [], ◌++◌, length, ⊤, Option, None}
 use Rattle.tl_syntax.specs.declared.action.Action.{Action}
 use Rattle.tl_syntax.specs.declared.operator.Operator.{Operator}
 use Rattle.tl_terms.specs.ProblemMeaning.{plain_problem}
+use Rattle.tl_eval.specs.Notes.{operation_of}
 use Rattle.tl_eval.specs.declared.range.RangeNote.{RangeNote}
+use Rattle.tl_cert.specs.Causes.{IsNoneCause}
+use Rattle.tl_cert.specs.ProofTexts.{none_text, proof_text}
+use Rattle.tl_cert.specs.Verdicts.{IsNoneVerdict}
+use Rattle.tl_cert.specs.declared.proof.Proof.{Proof}
+use Rattle.tl_cert.specs.declared.verdict.NoneVerdict.{NoneVerdict}
 use Rattle.tl_check.specs.Verdicts.{IsVerdict, IsCause}
 use Rattle.tl_action.specs.declared.check_fault.CheckFault.TheVariants as fault
 use Rattle.tl_check.specs.declared.verdict.Verdict.{Verdict}
@@ -22,14 +28,16 @@ use Rattle.tl_run.specs.declared.search.Search.{Search}
 use Rattle.tl_run.specs.declared.status.Status.{Status}
 use Rattle.tl_run.specs.declared.status.Status.TheVariants.{Yes, No, Spent, Refused, Range}
 use Rattle.tl_run.specs.declared.stop.Broken.{Broken}
-use Rattle.tl_run.specs.Commands.{Command, check, search, trace, explain, sample}
-use Rattle.tl_run.specs.Inputs.{Input, nothing, a_domain, a_problem, a_plan}
+use Rattle.tl_run.specs.CheckNone.{none_status}
+use Rattle.tl_run.specs.Commands.{Command, check, search, trace, explain, prove_none, check_none, sample}
+use Rattle.tl_run.specs.Inputs.{Input, nothing, a_domain, a_problem, a_plan, a_proof}
 use Rattle.tl_run.specs.Plan.{IsOutcome, EndsPastRange}
+use Rattle.tl_run.specs.ProveNone.{IsCertificate, LeavesNoProof, unproved_status}
 use Rattle.tl_run.specs.Refusals.{refusal_text}
 use Rattle.tl_run.specs.Trace.{IsTrace}
 use Rattle.tl_run.specs.Sample.{IsSummary, SampleEndsPastRange, sample_text}
 
--- the file of this number is refused by this rule; an operation is past range after so many actions, which are those of the path where one is shown; the verdict on a plan; the outcome of a search, or this with the search nodes that it kept and its events; the residuals along a plan, which its files determine; or, of the sample of so many balls, how many search nodes were kept, the outcome of its search and the verdict on its plan
+-- the file of this number is refused by this rule; an operation is past range after so many actions, which are those of the path where one is shown; the verdict on a plan; the outcome of a search, or this with the search nodes that it kept and its events; the residuals along a plan, which its files determine; the proof that a search leaves, or the outcome of one that leaves none; the verdict on a proof; or, of the sample of so many balls, how many search nodes were kept, the outcome of its search and the verdict on its plan
 pub data Answer : Type 0 where
   refusal : ℕ → Broken → Answer
   past_range : ℕ → RangeNote → List Action → Answer
@@ -37,6 +45,9 @@ pub data Answer : Type 0 where
   searched : Search → Outcome → Answer
   traced : Search → List KeptPair → List Event → Outcome → Answer
   explained : Answer
+  certified : Search → Proof → Answer
+  unproved : Search → Outcome → Answer
+  judged_proof : NoneVerdict → Answer
   sampled : ℕ → ℕ → Outcome → Option Verdict → Answer
 
 -- over what its files stand for, the answer is right for the command: one line for each command and answer
@@ -49,6 +60,11 @@ IsRight (trace s d p) (a_problem problem) (traced t kept events o) = (t ≡ s) �
 IsRight (trace s d p) (a_problem problem) (past_range after note path) = EndsPastRange s (plain_problem problem) path note × (after ≡ length path)
 IsRight (explain d p q) (a_plan problem plan) explained = ⊤
 IsRight (explain d p q) (a_plan problem plan) (past_range after note path) = IsPastInExplanation (plain_problem problem) plan after note × (path ≡ [])
+IsRight (prove_none s d p) (a_problem problem) (certified t proof) = (t ≡ s) × IsCertificate s (plain_problem problem) proof
+IsRight (prove_none s d p) (a_problem problem) (unproved t o) = (t ≡ s) × IsOutcome s (plain_problem problem) o × LeavesNoProof o
+IsRight (prove_none s d p) (a_problem problem) (past_range after note path) = EndsPastRange s (plain_problem problem) path note × (after ≡ length path)
+IsRight (check_none d p q) (a_proof problem proof) (judged_proof v) = IsNoneVerdict (plain_problem problem) proof v
+IsRight (check_none d p q) (a_proof problem proof) (past_range after note path) = IsNoneCause (plain_problem problem) proof.bound proof.links path (operation_of note) × (after ≡ length path)
 IsRight (sample m) (a_problem problem) (sampled n kept o v) = (n ≡ m) × IsSummary m (plain_problem problem) kept o v
 IsRight (sample m) (a_problem problem) (past_range after note path) = SampleEndsPastRange m (plain_problem problem) after note path
 IsRight command input answer = ⊥
@@ -75,6 +91,9 @@ status_of (judged v) = verdict_status v
 status_of (searched s o) = outcome_status o
 status_of (traced s kept events o) = outcome_status o
 status_of explained = Yes
+status_of (certified s proof) = Yes
+status_of (unproved s o) = unproved_status o
+status_of (judged_proof v) = none_status v
 status_of (sampled n kept o v) = Yes
 
 -- the names that actions are written with
@@ -83,6 +102,7 @@ names_in nothing = []
 names_in (a_domain forms) = []
 names_in (a_problem p) = p.names
 names_in (a_plan p plan) = p.names
+names_in (a_proof p proof) = p.names
 
 -- the operators of these actions
 abbrev pub operators_in : Input → List Operator
@@ -90,6 +110,7 @@ operators_in nothing = []
 operators_in (a_domain forms) = []
 operators_in (a_problem p) = p.domain.operators
 operators_in (a_plan p plan) = p.domain.operators
+operators_in (a_proof p proof) = p.domain.operators
 
 -- the lines of events, over the problem that the files stand for
 abbrev pub events_text : Input → List KeptPair → List Event → List ℕ
@@ -97,6 +118,7 @@ events_text nothing kept events = []
 events_text (a_domain forms) kept events = []
 events_text (a_problem p) kept events = trace_text p.names p.domain kept events
 events_text (a_plan p plan) kept events = trace_text p.names p.domain kept events
+events_text (a_proof p proof) kept events = trace_text p.names p.domain kept events
 
 -- the lines that explain the plan of the files
 abbrev pub explanation_in : Input → List ℕ
@@ -104,6 +126,15 @@ explanation_in nothing = []
 explanation_in (a_domain forms) = []
 explanation_in (a_problem p) = []
 explanation_in (a_plan p plan) = explain_text p plan
+explanation_in (a_proof p proof) = []
+
+-- the bound of the proof of the files
+abbrev pub bound_in : Input → Option ℕ
+bound_in nothing = None
+bound_in (a_domain forms) = None
+bound_in (a_problem p) = None
+bound_in (a_plan p plan) = None
+bound_in (a_proof p proof) = proof.bound
 
 -- the lines of an answer
 abbrev pub text_of : Input → Answer → List ℕ
@@ -113,4 +144,7 @@ text_of input (judged v) = verdict_text v
 text_of input (searched s o) = outcome_text (names_in input) (operators_in input) s.within s.nodes o
 text_of input (traced s kept events o) = events_text input kept events ++ outcome_text (names_in input) (operators_in input) s.within s.nodes o
 text_of input explained = explanation_in input
+text_of input (certified s proof) = proof_text (names_in input) (operators_in input) proof
+text_of input (unproved s o) = outcome_text (names_in input) (operators_in input) s.within s.nodes o
+text_of input (judged_proof v) = none_text (names_in input) (operators_in input) (bound_in input) v
 text_of input (sampled n kept o v) = sample_text n kept o v

@@ -1,18 +1,21 @@
 -- The commands, their files, and the words that write them.
-use Rattle.std.specs.Prelude.{ℕ, ◌≤◌, List, [], ◌∷◌, Option, Some, None, option_and_then, if◌then◌else◌, codes, ⊤}
+use Rattle.std.specs.Prelude.{◌≡◌, ℕ, ◌≤◌, List, [], ◌∷◌, Option, Some, None, option_and_then, if◌then◌else◌, codes, ⊤}
 use Rattle.std.specs.Option.{option_map}
 use Rattle.std.specs.Str.{bytes_eq}
 use Rattle.tl_run.specs.declared.search.Search.{Search}
 use Rattle.tl_run.specs.declared.words.Role.{Role}
 use Rattle.tl_run.specs.declared.words.Role.TheVariants as role
-use Rattle.tl_run.specs.Searches.{number_in, search_in, IsWithinLimits}
+use Rattle.tl_run.specs.declared.search.Mode.TheVariants.{Breadth}
+use Rattle.tl_run.specs.Searches.{breadth_in, number_in, search_in, IsWithinLimits}
 
--- a command, with the names of its files: `check`, `plan` and `trace` with their search, and `explain`; and `sample` with its number of balls
+-- a command, with the names of its files: `check`, `plan` and `trace` with their search, `explain`, `prove-none` with its search, and `check-none`; and `sample` with its number of balls
 pub data Command : Type 0 where
   check : List ℕ → List ℕ → List ℕ → Command
   search : Search → List ℕ → List ℕ → Command
   trace : Search → List ℕ → List ℕ → Command
   explain : List ℕ → List ℕ → List ℕ → Command
+  prove_none : Search → List ℕ → List ℕ → Command
+  check_none : List ℕ → List ℕ → List ℕ → Command
   sample : ℕ → Command
 
 -- the files of a command, in the order in which they are read, each with what it is read as; a sample has none
@@ -21,17 +24,20 @@ files_of (check domain problem plan) = (role.Domain, domain) ∷ ((role.Problem,
 files_of (search s domain problem) = (role.Domain, domain) ∷ ((role.Problem, problem) ∷ [])
 files_of (trace s domain problem) = (role.Domain, domain) ∷ ((role.Problem, problem) ∷ [])
 files_of (explain domain problem plan) = (role.Domain, domain) ∷ ((role.Problem, problem) ∷ ((role.Plan, plan) ∷ []))
+files_of (prove_none s domain problem) = (role.Domain, domain) ∷ ((role.Problem, problem) ∷ [])
+files_of (check_none domain problem proof) = (role.Domain, domain) ∷ ((role.Problem, problem) ∷ ((role.Proof, proof) ∷ []))
 files_of (sample balls) = []
 
 -- the command on a sample that a word names
 abbrev pub sample_command : List ℕ → List ℕ → Option Command
 sample_command word balls = if bytes_eq word (codes "sample") then option_map sample (number_in 1 100 balls) else None
 
--- the command on a plan that a word names
+-- the command on a plan, or on a proof, that a word names
 abbrev pub plan_command : List ℕ → List ℕ → List ℕ → List ℕ → Option Command
 plan_command word domain problem plan =
     if bytes_eq word (codes "check") then Some (check domain problem plan)
-    else (if bytes_eq word (codes "explain") then Some (explain domain problem plan) else None)
+    else (if bytes_eq word (codes "explain") then Some (explain domain problem plan)
+    else (if bytes_eq word (codes "check-none") then Some (check_none domain problem plan) else None))
 
 -- the command with a search that a word names
 abbrev pub search_command : List ℕ → List ℕ → List ℕ → Search → Option Command
@@ -39,10 +45,16 @@ search_command word domain problem s =
     if bytes_eq word (codes "plan") then Some (search s domain problem)
     else (if bytes_eq word (codes "trace") then Some (trace s domain problem) else None)
 
+-- the command with a search breadth-first that a word names
+abbrev pub none_command : List ℕ → List ℕ → List ℕ → Search → Option Command
+none_command word domain problem s = if bytes_eq word (codes "prove-none") then Some (prove_none s domain problem) else None
+
 -- the command that the words after the program's name write
 abbrev pub command_in : List (List ℕ) → Option Command
 command_in (word ∷ (balls ∷ [])) = sample_command word balls
 command_in (word ∷ (domain ∷ (problem ∷ (plan ∷ [])))) = plan_command word domain problem plan
+command_in (word ∷ (within ∷ (nodes ∷ (domain ∷ (problem ∷ []))))) =
+    option_and_then (none_command word domain problem) (breadth_in within nodes)
 command_in (word ∷ (mode ∷ (within ∷ (nodes ∷ (domain ∷ (problem ∷ [])))))) =
     option_and_then (search_command word domain problem) (search_in mode within nodes)
 command_in words = None
@@ -53,4 +65,6 @@ KeepsLimits (check domain problem plan) = ⊤
 KeepsLimits (search s domain problem) = IsWithinLimits s
 KeepsLimits (trace s domain problem) = IsWithinLimits s
 KeepsLimits (explain domain problem plan) = ⊤
+KeepsLimits (prove_none s domain problem) = (s.mode ≡ Breadth) × IsWithinLimits s
+KeepsLimits (check_none domain problem proof) = ⊤
 KeepsLimits (sample balls) = (1 ≤ balls) × (balls ≤ 100)

@@ -5,12 +5,13 @@ use Rattle.tl_syntax.specs.Kept.{DomainKeeps}
 use Rattle.tl_syntax.specs.Lists.{Each}
 use Rattle.tl_line.specs.NamedActions.{ActionIsNamed}
 use Rattle.tl_run.specs.declared.turn.Input.{Input}
-use Rattle.tl_run.specs.declared.turn.Input.TheVariants.{Nothing, Domain, Problem, Plan}
+use Rattle.tl_run.specs.declared.turn.Input.TheVariants.{Nothing, Domain, Problem, Plan, Proof}
 use Rattle.tl_run.specs.declared.words.Role.{Role}
 use Rattle.tl_run.specs.declared.words.Role.TheVariants as role
 use Rattle.tl_domain.specs.Files.{IsDomainOf}
 use Rattle.tl_outside.specs.Told.{Files, IsContent}
-use Rattle.tl_run.specs.Inputs.{nothing, a_domain, a_problem, a_plan, breaks_of, IsMeant, StandsFor}
+use Rattle.tl_cert.specs.ProofTexts.{LinksAreNamed}
+use Rattle.tl_run.specs.Inputs.{nothing, a_domain, a_problem, a_plan, a_proof, breaks_of, IsMeant, StandsFor}
 use Rattle.tl_run.specs.Inputs as inputs
 
 -- what is held is this, as the definitions have it
@@ -19,6 +20,7 @@ IsHeld Nothing nothing = ⊤
 IsHeld (Domain names domain) (a_domain forms) = IsDomainOf forms names domain
 IsHeld (Problem p) (a_problem q) = q ≡ p
 IsHeld (Plan p plan) (a_plan q actions) = (q ≡ p) × (actions ≡ plan)
+IsHeld (Proof p proof) (a_proof q other) = (q ≡ p) × (other ≡ proof)
 IsHeld held input = ⊥
 
 -- what more is known of what is held
@@ -27,12 +29,14 @@ KeepsBounds Nothing = ⊤
 KeepsBounds (Domain names domain) = DomainKeeps (length names) domain × (length names ≤ 4194304)
 KeepsBounds (Problem p) = ⊤
 KeepsBounds (Plan p plan) = (length plan ≤ 100000) × Each (ActionIsNamed p.names p.domain.operators) plan
+KeepsBounds (Proof p proof) = (length proof.links ≤ 100000) × LinksAreNamed p.names p.domain.operators proof.links
 
 -- the role of the file before one of this role, if there is one before it
 abbrev pub role_before : Role → Option Role
 role_before role.Domain = None
 role_before role.Problem = Some role.Domain
 role_before role.Plan = Some role.Problem
+role_before role.Proof = Some role.Problem
 
 -- the role of the file that was read last
 abbrev pub last_role : Input → Option Role
@@ -40,6 +44,7 @@ last_role Nothing = None
 last_role (Domain names domain) = Some role.Domain
 last_role (Problem p) = Some role.Problem
 last_role (Plan p plan) = Some role.Plan
+last_role (Proof p proof) = Some role.Proof
 
 -- each file comes after one of the role that it needs before it
 abbrev pub AreInOrder : Option Role → List (Role × List ℕ) → Type 0

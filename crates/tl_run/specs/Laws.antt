@@ -1,11 +1,12 @@
 -- What is proved below of the definitions in the promises.
+use Rattle.tl_cert.specs.Laws.{CoveredHasNone, OneNoneVerdict}
 use Rattle.tl_check.specs.LawsVerdict.{OneVerdict}
 use Rattle.tl_domain.specs.LawsFiles.{FilesStandForOneProblem}
 use Rattle.tl_search.specs.LawsOutcomes.{AnswersExcludeEachOther, FewPairsAreNotSpent}
 use Rattle.tl_search.specs.LawsRange.{CalmHasNoCause}
 use Rattle.tl_terms.specs.LawsOrders.{PlanOrderIsTotal}
 
--- one verdict is right of a plan, two files stand for one problem, plans are totally ordered, and what a search answers excludes what else it could answer
+-- one verdict is right of a plan, and of a proof, which leaves no plan where it covers the search space; two files stand for one problem, plans are totally ordered, and what a search answers excludes what else it could answer
 pub record Laws : Type 0 where
   pub verdicts : OneVerdict
   pub problems : FilesStandForOneProblem
@@ -13,3 +14,5 @@ pub record Laws : Type 0 where
   pub exclusions : AnswersExcludeEachOther
   pub few_pairs : FewPairsAreNotSpent
   pub calm : CalmHasNoCause
+  pub covered : CoveredHasNone
+  pub none_verdicts : OneNoneVerdict

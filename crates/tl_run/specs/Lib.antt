@@ -12,6 +12,8 @@ pub mod Check
 pub mod Plan
 pub mod Trace
 pub mod Explain
+pub mod ProveNone
+pub mod CheckNone
 pub mod Sample
 pub mod Searched
 pub mod Promises

@@ -1,6 +1,7 @@
 -- What a run promises.
 use Rattle.std.specs.Prelude.{◌≡◌, ◌⊎◌, ℕ, List, Option, ⊤}
 use Rattle.std.specs.Io.KnownBytes.{append_known}
+use Rattle.tl_cert.specs.declared.proof.Proof.{Proof}
 use Rattle.tl_check.specs.declared.verdict.Verdict.{Verdict}
 use Rattle.tl_outside.specs.Told.{Files, GrowsByPart}
 use Rattle.tl_search.specs.KeptPairs.{KeptPair}
@@ -10,12 +11,14 @@ use Rattle.tl_search.specs.declared.outcome.Outcome.TheVariants as outcome
 use Rattle.tl_run.specs.declared.status.Status.{Status}
 use Rattle.tl_run.specs.declared.status.Status.TheVariants.{Yes, No, Spent, Range, ReadFault, WriteFault, NoMemory, Usage}
 use Rattle.tl_text.specs.Outcomes.{spent_text}
-use Rattle.tl_run.specs.Answers.{Answer, refusal, past_range, judged, searched, traced, IsRight, status_of, text_of, explained, sampled, outcome_status}
+use Rattle.tl_run.specs.Answers.{Answer, refusal, past_range, judged, searched, traced, IsRight, status_of, text_of, explained, certified, unproved, judged_proof, sampled, outcome_status}
 use Rattle.tl_run.specs.Check.{SaysAccepted, HasCalmPlan}
-use Rattle.tl_run.specs.Commands.{Command, check, search, trace, explain, sample}
+use Rattle.tl_run.specs.CheckNone.{SaysProved, HasCalmProof}
+use Rattle.tl_run.specs.Commands.{Command, check, search, trace, explain, prove_none, check_none, sample}
 use Rattle.tl_run.specs.Explain.{ExplainsPlan, HasCalmStates}
 use Rattle.tl_run.specs.Inputs.{Input}
 use Rattle.tl_run.specs.Plan.{PrintsPlan, SaysNoPlan, HasCalmSearch}
+use Rattle.tl_run.specs.ProveNone.{IsCertificateOver, PrintsProof}
 use Rattle.tl_run.specs.Trace.{IsTraceOver, TellsEvents}
 use Rattle.tl_run.specs.Turns.{Begun, HoldInput, IsRefused, LeavesOffAt}
 use Rattle.tl_run.specs.Sample.{IsSummaryOver, SaysSummary, HasCalmSample, sample_text}
@@ -64,6 +67,10 @@ Yields (judged v) Range = ⊤
 Yields (searched s o) status = OutcomeYields o status
 Yields (traced s kept events o) status = OutcomeYields o status
 Yields explained Range = ⊤
+Yields (certified s proof) Range = ⊤
+Yields (certified s proof) Spent = ⊤
+Yields (unproved s o) status = OutcomeYields o status
+Yields (judged_proof v) Range = ⊤
 Yields (sampled n kept o v) Range = ⊤
 Yields (past_range after note path) Range = ⊤
 Yields (past_range after note path) Spent = ⊤
@@ -80,10 +87,12 @@ pub record SummarizesAlike (input : Input) (balls : ℕ) (o : Outcome) (text : L
   pub alike : (ended ≡ o) ⊎ OutcomeYields o (outcome_status ended)
   pub lines : text ≡ sample_text balls kept ended verdict
 
--- the lines are those of the answer; a trace may tell of other events that are right of its search and its outcome, and a sample of another number of kept search nodes
+-- the lines are those of the answer; a trace may tell of other events that are right of its search and its outcome, a proof may be another one with the same bound that covers the search space, and a sample of another number of kept search nodes
 abbrev pub IsTextOf : Input → Answer → List ℕ → Type 0
 IsTextOf input (traced s kept events o) text =
     (others : List KeptPair) × (told : List Event) × IsTraceOver input s others told o × (text ≡ text_of input (traced s others told o))
+IsTextOf input (certified s proof) text =
+    (other : Proof) × IsCertificateOver input s other × (other.bound ≡ proof.bound) × (text ≡ text_of input (certified s other))
 IsTextOf input (sampled n kept o v) text = SummarizesAlike input n o text
 IsTextOf input answer text = text ≡ text_of input answer
 
@@ -91,7 +100,7 @@ IsTextOf input answer text = text ≡ text_of input answer
 abbrev pub Gives : Option (List ℕ) → Option (List ℕ) → Input → Answer → Status → Type 0
 Gives old new input answer status = ((status ≡ status_of answer) × ((text : List ℕ) × IsTextOf input answer text × (new ≡ append_known old text))) ⊎ Yields answer status
 
--- what a reader of the lines may rely on: `; valid` says that the plan is accepted; a printed plan is accepted and short enough, and breadth-first no accepted plan is shorter; `; none` says that no plan is accepted, and `; none within N` that none of at most N actions is; each branch that a trace reports as pruned begins no run that satisfies the control formula; the lines that explain a plan show the residual after each of its states, and which action is the first without a step; and the lines of a sample say so too, and no sample ends with another status than Yes
+-- what a reader of the lines may rely on: `; valid` says that the plan is accepted; a printed plan is accepted and short enough, and breadth-first no accepted plan is shorter; `; none` says that no plan is accepted, and `; none within N` that none of at most N actions is; each branch that a trace reports as pruned begins no run that satisfies the control formula; the lines that explain a plan show the residual after each of its states, and which action is the first without a step; a printed proof covers the search space, and `; proved none` says that the proof of the files does, so that no plan is accepted, or none within the proof's bound; and the lines of a sample say so too, and no sample ends with another status than Yes
 abbrev pub Headline : Option Files → Command → Status → List ℕ → Type 0
 Headline files (check d p q) Yes text = SaysAccepted files (check d p q) text
 Headline files (search s d p) Yes text = PrintsPlan files (search s d p) s text
@@ -100,6 +109,9 @@ Headline files (trace s d p) Yes text = TellsEvents files (trace s d p) (PrintsP
 Headline files (trace s d p) No text = TellsEvents files (trace s d p) (SaysNoPlan files (trace s d p) s) text
 Headline files (trace s d p) Spent text = TellsEvents files (trace s d p) (λ rest. rest ≡ spent_text s.nodes) text
 Headline files (explain d p q) Yes text = ExplainsPlan files (explain d p q) text
+Headline files (prove_none s d p) Yes text = PrintsProof files (prove_none s d p) text
+Headline files (prove_none s d p) No text = PrintsPlan files (prove_none s d p) s text
+Headline files (check_none d p q) Yes text = SaysProved files (check_none d p q) text
 Headline files (sample balls) Yes text = SaysSummary balls text
 Headline files (sample balls) No text = ⊥
 Headline files (sample balls) Spent text = ⊥
@@ -111,6 +123,8 @@ IsCalm files (check d p q) = HasCalmPlan files (check d p q)
 IsCalm files (search s d p) = HasCalmSearch files (search s d p) s
 IsCalm files (trace s d p) = HasCalmSearch files (trace s d p) s
 IsCalm files (explain d p q) = HasCalmStates files (explain d p q)
+IsCalm files (prove_none s d p) = HasCalmSearch files (prove_none s d p) s
+IsCalm files (check_none d p q) = HasCalmProof files (check_none d p q)
 IsCalm files (sample balls) = HasCalmSample balls
 
 -- an answer of the command itself, or one by a cause outside it

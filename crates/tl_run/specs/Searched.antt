@@ -4,6 +4,8 @@ use Rattle.tl_line.specs.NamedActions.{ActionIsNamed}
 use Rattle.tl_search.specs.KeptPairs.{KeptPair}
 use Rattle.tl_search.specs.declared.fault.SearchFault.{SearchFault}
 use Rattle.tl_search.specs.declared.fault.SearchFault.TheVariants as fault
+use Rattle.tl_search.specs.declared.outcome.Outcome.{Outcome}
+use Rattle.tl_search.specs.declared.outcome.Outcome.TheVariants as outcome
 use Rattle.tl_search.specs.declared.outcome.Report.{Report}
 use Rattle.tl_syntax.specs.Lists.{Each}
 use Rattle.tl_syntax.specs.declared.operator.Operator.{Operator}
@@ -24,6 +26,13 @@ IsSearchFault s p fault.NoMemory = ⊤
 abbrev pub HasNamedPath : List (List ℕ) → List Operator → SearchFault → Type 0
 HasNamedPath names operators (fault.Range path note) = Each (ActionIsNamed names operators) path
 HasNamedPath names operators fault.NoMemory = ⊤
+
+-- a search found that there is no plan, or none within its bound
+abbrev pub FindsNone : Outcome → Type 0
+FindsNone (outcome.Plan plan) = ⊥
+FindsNone outcome.NoPlan = ⊤
+FindsNone outcome.NoneWithin = ⊤
+FindsNone outcome.Spent = ⊥
 
 -- the kept search nodes, with the events and the outcome of a report, are right of the search
 abbrev pub IsTraceReport : Search → PlainProblem → List KeptPair → Report → Type 0

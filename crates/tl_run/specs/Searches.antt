@@ -25,6 +25,10 @@ search_with mode within nodes = None
 abbrev pub search_in : List ℕ → List ℕ → List ℕ → Option Search
 search_in mode within nodes = search_with (mode_in mode) (number_in 0 100000 within) (number_in 1 100000 nodes)
 
+-- the search breadth-first that two words write: the most actions of a plan, and the most search nodes
+abbrev pub breadth_in : List ℕ → List ℕ → Option Search
+breadth_in within nodes = search_with (Some Breadth) (number_in 0 100000 within) (number_in 1 100000 nodes)
+
 -- the numbers of a search are within their limits
 pub record IsWithinLimits (s : Search) : Type 0 where
   pub within : s.within ≤ 100000

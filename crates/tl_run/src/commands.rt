@@ -1,8 +1,10 @@
 // The commands, each from its input to a reply.
 
 pub(crate) mod check;
+pub(crate) mod check_none;
 pub(crate) mod explain;
 pub(crate) mod plan;
+pub(crate) mod prove_none;
 pub(crate) mod sample;
 mod searching;
 pub(crate) mod trace;

@@ -11,7 +11,7 @@ ghost use Rattle.tl_run.specs.Stops.{IsBareStatus};
 ghost use Rattle.tl_run.specs.Turns.{BegunInTurn};
 ghost use Rattle.tl_run.specs.Words.{command_meant};
 
-use crate::commands::{check, explain, plan, sample, trace};
+use crate::commands::{check, check_none, explain, plan, prove_none, sample, trace};
 use crate::input::read_input;
 use crate::status::Status;
 use crate::stop::{Broken, Stop};
@@ -56,6 +56,13 @@ fn reply_over(alloc: Global, command: Command<'_>, input: Input) -> Result<Reply
         Command::Explain { .. } => {
             let (problem, plan) = input.into_plan();
             explain::reply(alloc, problem, plan.as_slice())
+        }
+        Command::ProveNone { search, .. } => {
+            prove_none::reply(alloc, input.into_problem(), search)
+        }
+        Command::CheckNone { .. } => {
+            let (problem, proof) = input.into_proof();
+            check_none::reply(alloc, problem, &proof)
         }
         Command::Sample { balls } => sample::reply(alloc, input.into_problem(), balls),
     }

@@ -1,7 +1,7 @@
 // A search, as words write it.
-ghost use Rattle.std.specs.Prelude.{◌≡◌, ◌≤◌, IfSome};
+ghost use Rattle.std.specs.Prelude.{◌≡◌, ◌≤◌, Some, IfSome};
 ghost use Rattle.std.specs.Str.{all_ascii_digits};
-ghost use Rattle.tl_run.specs.Searches.{mode_in, number_in, search_in, IsWithinLimits};
+ghost use Rattle.tl_run.specs.Searches.{breadth_in, mode_in, number_in, search_in, search_with, IsWithinLimits};
 
 /// The order in which a search goes over search nodes.
 #[derive(Clone, Copy)]
@@ -56,14 +56,32 @@ fn mode_of(word: &str) -> Option<Mode>
     }
 }
 
+/// The search in this mode whose most actions and most search nodes the words write. It takes no memory.
+fn search_with(mode: Mode, within: &str, nodes: &str) -> Option<Search>
+    ensures search { result ≡ search_with (Some mode) (number_in 0 100000 within.now) (number_in 1 100000 nodes.now) }
+    ensures mode { IfSome result (λ search. search.mode ≡ mode) }
+    ensures limits { IfSome result IsWithinLimits }
+{
+    Some(Search {
+        mode,
+        within: number_of(within, 0, 100_000)?,
+        nodes: number_of(nodes, 1, 100_000)?,
+    })
+}
+
+/// The search breadth-first that the words for the most actions and the most search nodes write. It takes no memory.
+pub(crate) fn breadth_of(within: &str, nodes: &str) -> Option<Search>
+    ensures search { result ≡ breadth_in within.now nodes.now }
+    ensures breadth { IfSome result (λ search. search.mode ≡ Mode.Breadth) }
+    ensures limits { IfSome result IsWithinLimits }
+{
+    search_with(Mode::Breadth, within, nodes)
+}
+
 /// The search that the words for its mode, the most actions and the most search nodes write. It takes no memory.
 pub(crate) fn search_of(mode: &str, within: &str, nodes: &str) -> Option<Search>
     ensures search { result ≡ search_in mode.now within.now nodes.now }
     ensures limits { IfSome result IsWithinLimits }
 {
-    Some(Search {
-        mode: mode_of(mode)?,
-        within: number_of(within, 0, 100_000)?,
-        nodes: number_of(nodes, 1, 100_000)?,
-    })
+    search_with(mode_of(mode)?, within, nodes)
 }

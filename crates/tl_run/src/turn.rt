@@ -6,6 +6,8 @@ ghost use Rattle.tl_sexpr.specs.Tree.{FormTrees, trees_of};
 ghost use Rattle.tl_syntax.specs.Kept.{DomainKeeps};
 ghost use Rattle.tl_syntax.specs.Lists.{Each};
 ghost use Rattle.tl_line.specs.NamedActions.{ActionIsNamed};
+ghost use Rattle.tl_cert.specs.MeaningOfProofs.{proof_meant};
+ghost use Rattle.tl_cert.specs.ProofTexts.{LinksAreNamed};
 ghost use Rattle.tl_text.specs.MeaningOfPlans.{plan_meant};
 ghost use Rattle.tl_run.specs.declared.words.Role.TheVariants as role;
 ghost use Rattle.tl_domain.specs.Files.{IsDomainOf};
@@ -18,6 +20,7 @@ use crate::stop::Stop;
 use crate::words::{File, Role};
 use std::alloc::Global;
 use std::mem;
+use tl_cert::{Proof, proof_of};
 use tl_domain::{domain_of, problem_of};
 use tl_outside::{Store, read_whole};
 use tl_sexpr::{Forms, offsets_rise, read_forms};
@@ -34,6 +37,8 @@ pub(crate) enum Input {
     Problem(Problem),
     /// A problem with a plan.
     Plan(Problem, Actions),
+    /// A problem with a proof that it has no plan.
+    Proof(Problem, Proof),
 }
 
 // Written out, so that what drops an input calls this.
@@ -44,6 +49,7 @@ impl Drop for Input {
             Input::Domain(_names, _domain) => {}
             Input::Problem(_problem) => {}
             Input::Plan(_problem, _actions) => {}
+            Input::Proof(_problem, _proof) => {}
         }
     }
 }
@@ -78,6 +84,17 @@ impl Input {
     {
         match self {
             Input::Plan(problem, plan) => (problem, plan),
+            _ => unreachable!(),
+        }
+    }
+
+    /// The proof that was read last, and the problem before it.
+    pub(crate) fn into_proof(self) -> (Problem, Proof)
+        requires { last_role self ≡ Some role.Proof }
+        ensures { self ≡ Input.Proof result.0 result.1 }
+    {
+        match self {
+            Input::Proof(problem, proof) => (problem, proof),
             _ => unreachable!(),
         }
     }
@@ -172,6 +189,38 @@ fn plan_in(alloc: Global, number: u8, forms: &Forms, problem: Problem) -> Result
     }
 }
 
+/// The links and the bound of the forms of a file, after files that stand for this problem.
+fn links_in(alloc: Global, number: u8, forms: &Forms, problem: &Problem) -> Result<Proof, Stop>
+    requires { AreAsRead (trees_of forms.now) }
+    ensures lawful { OnOk result (breaks_of role.Proof (a_problem problem.now) (trees_of forms.now) ≡ []) }
+    ensures meant { IfOk result (λ proof. proof ≡ proof_meant problem.now.names problem.now.domain.operators (trees_of forms.now)) }
+    ensures few { IfOk result (λ proof. length proof.links ≤ 100000) }
+    ensures named { IfOk result (λ proof. LinksAreNamed problem.now.names problem.now.domain.operators proof.links) }
+    ensures stop { IfErr result (IsFormsStop number (breaks_of role.Proof (a_problem problem.now) (trees_of forms.now))) }
+{
+    match proof_of(alloc, forms, problem) {
+        Ok(proof) => Ok(proof),
+        Err(fault) => Err(Stop::of_forms(number, fault)),
+    }
+}
+
+/// The proof of the forms of a file, after files that stand for this problem.
+fn proof_in(alloc: Global, number: u8, forms: &Forms, problem: Problem) -> Result<Input, Stop>
+    requires { AreAsRead (trees_of forms.now) }
+    ensures held { IfOk result (HoldsForms role.Proof (a_problem problem) (trees_of forms.now)) }
+    ensures keeps { IfOk result KeepsBounds }
+    ensures last { IfOk result (λ held. last_role held ≡ Some role.Proof) }
+    ensures stop { IfErr result (IsFormsStop number (breaks_of role.Proof (a_problem problem) (trees_of forms.now))) }
+{
+    match links_in(alloc, number, forms, &problem) {
+        Ok(proof) => Ok(Input::Proof(problem, proof)),
+        Err(stop) => {
+            drop(problem);
+            Err(stop)
+        }
+    }
+}
+
 /// What the forms of a file of this role stand for, together with what was read before.
 fn forms_in(
     alloc: Global,
@@ -196,6 +245,7 @@ fn forms_in(
             problem_in(alloc, number, forms, names, domain)
         }
         Role::Plan => plan_in(alloc, number, forms, before.into_problem()),
+        Role::Proof => proof_in(alloc, number, forms, before.into_problem()),
     }
 }
 

@@ -1,12 +1,13 @@
 // The words of a command line.
-ghost use Rattle.std.specs.Prelude.{◌≡◌, ◌≤◌, length, map, IfOk, IfSome};
+ghost use Rattle.std.specs.Prelude.{◌≡◌, ◌≤◌, [], ◌∷◌, length, map, IfOk, IfSome};
 ghost use Rattle.std.specs.Option.{option_map};
 ghost use Rattle.std.specs.String.{string_bytes};
-ghost use Rattle.tl_run.specs.Commands.{check, command_in, files_of, plan_command, sample_command, search_command, KeepsLimits};
+ghost use Rattle.tl_run.specs.Commands.{command_in, files_of, none_command, plan_command, sample_command, search_command, KeepsLimits};
+ghost use Rattle.tl_run.specs.declared.words.Role.TheVariants as role;
 ghost use Rattle.tl_run.specs.Searches.{IsWithinLimits};
 ghost use Rattle.tl_run.specs.Words.{command_meant, file_meant};
 
-use crate::search::{Search, number_of, search_of};
+use crate::search::{Mode, Search, breadth_of, number_of, search_of};
 use std::alloc::{AllocError, Global};
 
 /// What a file of a command is read as.
@@ -18,6 +19,8 @@ pub(crate) enum Role {
     Problem,
     /// A plan, after a problem.
     Plan,
+    /// A proof that there is no plan, after a problem.
+    Proof,
 }
 
 /// A file of a command.
@@ -68,6 +71,24 @@ pub(crate) enum Command<'a> {
         /// The name of the plan file.
         plan: &'a str,
     },
+    /// A search for a plan, and a proof that there is none.
+    ProveNone {
+        /// The search, which is breadth-first.
+        search: Search,
+        /// The name of the domain file.
+        domain: &'a str,
+        /// The name of the problem file.
+        problem: &'a str,
+    },
+    /// The verdict on a proof that there is no plan.
+    CheckNone {
+        /// The name of the domain file.
+        domain: &'a str,
+        /// The name of the problem file.
+        problem: &'a str,
+        /// The name of the proof file.
+        proof: &'a str,
+    },
     /// The search of a sample, and the check of its plan.
     Sample {
         /// The number of balls, from 1 to 100.
@@ -86,7 +107,7 @@ impl<'a> Command<'a> {
                 domain,
                 problem,
                 plan,
-            } => files_with_plan(alloc, domain, problem, plan),
+            } => files_with(alloc, domain, problem, Role::Plan.file(plan)),
             Command::Plan {
                 domain,
                 problem,
@@ -101,7 +122,17 @@ impl<'a> Command<'a> {
                 domain,
                 problem,
                 plan,
-            } => files_with_plan(alloc, domain, problem, plan),
+            } => files_with(alloc, domain, problem, Role::Plan.file(plan)),
+            Command::ProveNone {
+                domain,
+                problem,
+                ..
+            } => Ok(vec![in alloc; Role::Domain.file(domain), Role::Problem.file(problem)]?),
+            Command::CheckNone {
+                domain,
+                problem,
+                proof,
+            } => files_with(alloc, domain, problem, Role::Proof.file(proof)),
             Command::Sample { .. } => Ok(Vec::new(alloc)),
         }
     }
@@ -116,19 +147,19 @@ impl Role {
     }
 }
 
-/// The files of a command on a plan.
-fn files_with_plan<'a>(
+/// The files of a command on a problem and a file after it.
+fn files_with<'a>(
     alloc: Global,
     domain: &'a str,
     problem: &'a str,
-    plan: &'a str,
+    last: File<'a>,
 ) -> Result<Vec<File<'a>>, AllocError>
-    ensures { IfOk result (λ files. map file_meant files.items ≡ files_of (check domain.now problem.now plan.now)) }
+    ensures { IfOk result (λ files. map file_meant files.items ≡ (role.Domain, domain.now) ∷ ((role.Problem, problem.now) ∷ (file_meant last.entry ∷ []))) }
 {
     let files = vec![in alloc;
         Role::Domain.file(domain),
         Role::Problem.file(problem),
-        Role::Plan.file(plan),
+        last,
     ]?;
     Ok(files)
 }
@@ -146,7 +177,7 @@ fn sample_command<'a>(word: &str, balls: &str) -> Option<Command<'a>>
     }
 }
 
-/// The command on a plan that the word names. It takes no memory.
+/// The command on a plan, or on a proof, that the word names. It takes no memory.
 fn plan_command<'a>(
     word: &str,
     domain: &'a str,
@@ -166,6 +197,11 @@ fn plan_command<'a>(
             domain,
             problem,
             plan,
+        }),
+        "check-none" => Some(Command::CheckNone {
+            domain,
+            problem,
+            proof: plan,
         }),
         _ => None,
     }
@@ -197,6 +233,28 @@ fn search_command<'a>(
     }
 }
 
+/// The command with a search breadth-first that the word names. It takes no memory.
+fn none_command<'a>(
+    word: &str,
+    search: Search,
+    domain: &'a str,
+    problem: &'a str,
+) -> Option<Command<'a>>
+    requires breadth { search.mode ≡ Mode.Breadth }
+    requires limits { IsWithinLimits search }
+    ensures command { option_map command_meant result ≡ none_command word.now domain.now problem.now search }
+    ensures limits { IfSome result (λ command. KeepsLimits (command_meant command)) }
+{
+    match word {
+        "prove-none" => Some(Command::ProveNone {
+            search,
+            domain,
+            problem,
+        }),
+        _ => None,
+    }
+}
+
 /// The command that the words write. It takes no memory.
 pub(crate) fn command_of(words: &[String]) -> Option<Command<'_>>
     ensures command { option_map command_meant result ≡ command_in (map string_bytes words.now) }
@@ -210,6 +268,10 @@ pub(crate) fn command_of(words: &[String]) -> Option<Command<'_>>
             problem.as_str(),
             plan.as_str(),
         ),
+        [word, within, nodes, domain, problem] => {
+            let search = breadth_of(within.as_str(), nodes.as_str())?;
+            none_command(word.as_str(), search, domain.as_str(), problem.as_str())
+        }
         [word, mode, within, nodes, domain, problem] => {
             let search = search_of(mode.as_str(), within.as_str(), nodes.as_str())?;
             search_command(word.as_str(), search, domain.as_str(), problem.as_str())

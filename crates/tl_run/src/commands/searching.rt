@@ -1,4 +1,4 @@
-// What `plan`, `trace` and `sample` have in common: a space is searched, and the search may end at an operation past range.
+// What `plan`, `trace`, `prove-none` and `sample` have in common: a space is searched, and the search may end at an operation past range.
 ghost use Rattle.std.specs.Prelude.{◌≡◌, ◌<◌, ℕ, List, [], true, IfOk, IfErr};
 ghost use Rattle.tl_search.specs.NamedAnswers.{EventsAreNamed, FaultIsNamed, OutcomeIsNamed};
 ghost use Rattle.tl_space.specs.Spaces.{task_of, problem_of, kept_of};
@@ -38,7 +38,7 @@ pub(crate) fn status_of(outcome: &Outcome) -> Status
     }
 }
 
-/// The reply where a search ends with a fault: to `plan`, to `trace`, which shows no events then, and to `sample` where this is its search.
+/// The reply where a search ends with a fault: to `plan`, to `trace`, which shows no events then, to `prove-none`, and to `sample` where this is its search.
 pub(crate) fn fault_reply(
     alloc: Global,
     problem: &Problem,
@@ -50,6 +50,7 @@ pub(crate) fn fault_reply(
     requires named { HasNamedPath problem.now.names problem.now.domain.operators fault }
     ensures plan { (d p : List ℕ) → IfOk result (Replies (commands.search search d p) (a_problem problem.now)) }
     ensures trace { (d p : List ℕ) → IfOk result (Replies (commands.trace search d p) (a_problem problem.now)) }
+    ensures prove_none { (d p : List ℕ) → IfOk result (Replies (commands.prove_none search d p) (a_problem problem.now)) }
     ensures sample { (m : ℕ) → search ≡ sample_search m → IfOk result (Replies (commands.sample m) (a_problem problem.now)) }
 {
     match fault {

@@ -42,3 +42,13 @@ pub returns-in-Plan-clause-stop : goal.returns-in-Plan-clause-stop
 returns-in-Plan-clause-stop c = λ x is.
     rw c.in-Plan.is (problem_held (λ (y : Input). IfErr c.plan_in.result (IsFormsStop c.args.number (breaks_of role.Plan y (trees_of c.args.forms.now)))) c.into_problem.result x
     (subst (λ (h : Held). IsHeld h x) c.into_problem.ensures is) c.plan_in.ensures.stop)
+
+pub returns-in-Proof-clause-held : goal.returns-in-Proof-clause-held
+returns-in-Proof-clause-held c = λ x is.
+    rw c.in-Proof.is (problem_held (λ (y : Input). IfOk c.proof_in.result (HoldsForms role.Proof y (trees_of c.args.forms.now))) c.into_problem-in-Proof.result x
+    (subst (λ (h : Held). IsHeld h x) c.into_problem-in-Proof.ensures is) c.proof_in.ensures.held)
+
+pub returns-in-Proof-clause-stop : goal.returns-in-Proof-clause-stop
+returns-in-Proof-clause-stop c = λ x is.
+    rw c.in-Proof.is (problem_held (λ (y : Input). IfErr c.proof_in.result (IsFormsStop c.args.number (breaks_of role.Proof y (trees_of c.args.forms.now)))) c.into_problem-in-Proof.result x
+    (subst (λ (h : Held). IsHeld h x) c.into_problem-in-Proof.ensures is) c.proof_in.ensures.stop)
