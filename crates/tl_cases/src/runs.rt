@@ -9,6 +9,7 @@ mod lamps;
 mod levels;
 mod limits;
 mod plans;
+mod proof_files;
 mod refusals;
 mod run;
 mod samples;

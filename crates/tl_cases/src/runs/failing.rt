@@ -15,6 +15,8 @@ check l p q | l = {lamps} ) & p = {ab} & q = (press a) (press b) | 0 | ; valid
 plan breadth 5 100 l p | l = {lamps} ) & p = {ab} | 0 | ; plan of 2 actions / (press a) / (press b)
 trace breadth 5 100 l p | l = {lamps} (control (always (forall (?x) (on ?x) (goal (on ?x)))))) & p = (problem p (init (lamp a) (lamp b)) (goal (on b))) | 0 | ; kept 0 / ; label (always (forall (?x) (on ?x) (goal (on ?x)))) / ; pruned 0 (press a) / ; kept 1 0 (press b) / ; label (always (forall (?x) (on ?x) (goal (on ?x)))) / ; plan of 1 actions / (press b)
 explain l p q | l = {lamps} (control (always (implies (on a) (next (on b)))))) & p = {ab} & q = (press a) (press b) | 0 | ; state 0: (always (or (not (on a)) (next (on b)))) / (press a) / ; state 1: (and (on b) (always (or (not (on a)) (next (on b))))) / (press b) / ; state 2: (and (on b) (always (or (not (on a)) (next (on b))))) / ; end
+prove-none 1 100 l p | l = {lamps} ) & p = {ab} | 0 | (none-within 1) / (pair 0 (press a)) / (pair 0 (press b))
+check-none l p q | l = {lamps} ) & p = {ab} & q = (none-within 1) (pair 0 (press a)) (pair 0 (press b)) | 0 | ; proved none within 1
 ";
 
 /// More bytes than any output of the rows has.
