@@ -4,11 +4,11 @@ use tl_syntax::{Bound, Junction, Vars};
 
 /// A quantifier, without the formula below it.
 #[derive(Clone, Copy)]
-pub(crate) struct Binder<'a> {
+pub struct Binder<'a> {
     /// All instances, or one.
-    pub(crate) junction: Junction,
+    pub junction: Junction,
     /// Its variables.
-    pub(crate) vars: &'a Vars,
+    pub vars: &'a Vars,
     /// The bound that gives them their values.
-    pub(crate) bound: &'a Bound,
+    pub bound: &'a Bound,
 }

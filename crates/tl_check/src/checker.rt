@@ -22,7 +22,7 @@ use tl_terms::Steps;
 use tl_world::{Task, World};
 
 /// The execution of a plan, over a count of steps and a frame of its own.
-fn execution_of<L: Ledger>(
+pub fn execution_of<L: Ledger>(
     alloc: Global,
     task: &Task,
     plan: &[Action],

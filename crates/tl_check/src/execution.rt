@@ -16,7 +16,7 @@ use tl_world::{Task, World};
 
 /// What comes of executing a plan.
 #[derive(Drop)]
-pub(crate) enum Execution {
+pub enum Execution {
     /// This action, counted from 1, is not executable in its turn.
     Stopped(u32),
     /// All actions execute, with these states.

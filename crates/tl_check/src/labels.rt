@@ -12,7 +12,7 @@ use tl_syntax::{Junction, NoMemory};
 
 /// The truth of a formula at each position from some one on to the last. At the last position its world is repeated for ever.
 #[derive(Drop)]
-pub(crate) struct Labels {
+pub struct Labels {
     truths: Vec<bool>,
 }
 
@@ -51,7 +51,7 @@ fn steps_to_next(most: usize, truth: bool, away: usize) -> usize
 
 impl Labels {
     /// No label. It takes no memory.
-    pub(crate) fn new(alloc: Global) -> Labels
+    pub fn new(alloc: Global) -> Labels
         ensures { result ≡ [] }
     {
         Labels {
@@ -60,7 +60,7 @@ impl Labels {
     }
 
     /// Adds the label of one more position at the end. A refused call leaves the labels as they were.
-    pub(crate) fn push(&mut self, truth: bool) -> Result<(), NoMemory>
+    pub fn push(&mut self, truth: bool) -> Result<(), NoMemory>
         ensures added { OnOk result (self.new ≡ self.old ++ truth ∷ []) }
         ensures unchanged { OnErr result (self.new ≡ self.old) }
     {
@@ -69,7 +69,7 @@ impl Labels {
     }
 
     /// The same label at so many positions. It fails for want of memory alone.
-    pub(crate) fn all(alloc: Global, count: usize, truth: bool) -> Result<Labels, NoMemory>
+    pub fn all(alloc: Global, count: usize, truth: bool) -> Result<Labels, NoMemory>
         ensures same { IfOk result (λ labels. labels ≡ replicate count truth) }
     {
         let truths = vec![in alloc; truth; count]?;
@@ -77,7 +77,7 @@ impl Labels {
     }
 
     /// The label at a position, counted from the first one here. It takes no memory.
-    pub(crate) fn at(&self, i: usize) -> bool
+    pub fn at(&self, i: usize) -> bool
         requires { i < length self.now }
         ensures { result ≡ slice_index_or self.now i false }
     {
@@ -97,7 +97,7 @@ impl Labels {
     }
 
     /// The labels of the negation. It takes no memory.
-    pub(crate) fn negate(&mut self)
+    pub fn negate(&mut self)
         ensures { self.new ≡ map not self.old }
     {
         let mut i = self.truths.len();
@@ -108,7 +108,7 @@ impl Labels {
     }
 
     /// The labels in the next state. It takes no memory.
-    pub(crate) fn shift(&mut self)
+    pub fn shift(&mut self)
         ensures { self.new ≡ next_labels self.old }
     {
         let mut i = self.truths.len();
@@ -148,7 +148,7 @@ impl Labels {
     }
 
     /// The labels of now or later for the second formula, where this one's hold until then. It takes no memory.
-    pub(crate) fn until(&mut self, second: &Labels)
+    pub fn until(&mut self, second: &Labels)
         requires { length self.old ≡ length second.now }
         ensures { self.new ≡ until_labels self.old second.now }
     {
@@ -185,7 +185,7 @@ impl Labels {
     }
 
     /// The labels of the word before the formula. It takes no memory.
-    pub(crate) fn later(&mut self, word: Later)
+    pub fn later(&mut self, word: Later)
         ensures { self.new ≡ later_labels word self.old }
     {
         match word {
@@ -197,7 +197,7 @@ impl Labels {
     }
 
     /// The labels of the conjunction or the disjunction of both. It takes no memory.
-    pub(crate) fn join(&mut self, other: &Labels, junction: Junction)
+    pub fn join(&mut self, other: &Labels, junction: Junction)
         requires { length self.old ≡ length other.now }
         ensures { self.new ≡ joined_labels junction self.old other.now }
     {
@@ -210,7 +210,7 @@ impl Labels {
     }
 
     /// Leaves the labels of so many positions. It takes no memory.
-    pub(crate) fn truncate(&mut self, count: usize)
+    pub fn truncate(&mut self, count: usize)
         ensures { self.new ≡ take count self.old }
     {
         self.truths.truncate(count);
@@ -241,13 +241,7 @@ impl Labels {
     }
 
     /// The labels together with those of the other list, which are for the positions from `at` on, at those of them where `there` is true. It takes no memory.
-    pub(crate) fn join_where(
-        &mut self,
-        there: &Labels,
-        other: &Labels,
-        at: usize,
-        junction: Junction,
-    )
+    pub fn join_where(&mut self, there: &Labels, other: &Labels, at: usize, junction: Junction)
         requires size { length self.old ≡ length there.now }
         requires within { at + length other.now ≤ length there.now }
         ensures size { length self.new ≡ length self.old }

@@ -2,7 +2,7 @@
 
 /// A temporal word over one formula, which asks for it at the same and at later positions.
 #[derive(Clone, Copy)]
-pub(crate) enum Later {
+pub enum Later {
     /// At all of them.
     Always,
     /// At one of them.

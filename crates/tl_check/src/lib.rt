@@ -43,6 +43,11 @@ mod temporal;
 mod tracks;
 mod verdict;
 
-pub use checker::check;
+pub use binder::Binder;
+pub use checker::{check, execution_of};
+pub use execution::Execution;
+pub use labels::Labels;
+pub use later::Later;
+pub use temporal::is_state;
 pub use tl_action::CheckFault;
 pub use verdict::Verdict;

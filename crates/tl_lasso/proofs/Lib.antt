@@ -1,0 +1,14 @@
+pub mod PassLabels
+pub mod RoundLaws
+pub mod LassoLaws
+pub mod LookedLaws
+pub mod QuantifierLaws
+pub mod Rulesets
+pub mod Placed
+pub mod LoopForms
+pub mod LoopOrder
+pub mod StateLaws
+pub mod WordLaws
+pub mod VerdictLaws
+pub mod InstanceLaws
+pub mod JudgeLaws

@@ -1,0 +1,11 @@
+pub mod Lassos
+pub mod Labelled
+pub mod Instances
+pub mod Gathered
+pub mod Verdicts
+pub mod Judged
+pub mod Laws
+pub mod LoopFiles
+pub mod MeaningOfLoops
+pub mod LoopTexts
+pub mod Examples

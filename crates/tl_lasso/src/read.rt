@@ -1,0 +1,169 @@
+// Plan files with a repeated part.
+ghost use Rattle.std.specs.Prelude.{◌≡◌, ◌+◌, ◌<◌, ◌≤◌, List, Some, length, option_map, IfErr, IfOk, MatchOption};
+ghost use Rattle.tl_sexpr.specs.Offsets.{AreAsRead};
+ghost use Rattle.tl_sexpr.specs.Tree.{tree_of, trees_of, no_form};
+ghost use Rattle.tl_syntax.specs.declared.action.Action.{Action};
+ghost use Rattle.tl_syntax.specs.Lists.{Each};
+ghost use Rattle.tl_forms.specs.Parts.{is_call};
+ghost use Rattle.tl_forms.specs.Reads.{Reads, IsLeastFault, trees_in};
+ghost use Rattle.tl_line.specs.MeaningOfActions.{action_meant};
+ghost use Rattle.tl_line.specs.NamedActions.{ActionIsNamed};
+ghost use Rattle.tl_lasso.specs.declared.plan.LoopPlan.{LoopPlan};
+ghost use Rattle.tl_lasso.specs.LoopFiles.{actions_breaks, front_of, last_of, loop_breaks, placed_breaks, repeat_breaks, repeated, repeated_in};
+ghost use Rattle.tl_lasso.specs.MeaningOfLoops.{actions_meant, loop_meant, repeat_meant};
+
+use crate::plan::LoopPlan;
+use std::alloc::Global;
+use tl_forms::parts::{call, is_word, offset, split_first};
+use tl_forms::{FormFault, Rule, breaks};
+use tl_line::action_of;
+use tl_sexpr::{Form, Forms};
+use tl_syntax::{Action, Actions, Problem};
+
+/// How many actions both parts of a plan may have together.
+const MOST_ACTIONS: usize = 100_000;
+
+/// Whether a form is a list that begins with a symbol.
+#[tactic(auto, using(crate::proofs::Rulesets::form_trees))]
+fn is_call(form: &Form) -> bool
+    ensures { result ≡ is_call (tree_of form.now) }
+{
+    match form {
+        Form::Sym(_, _) => false,
+        Form::Int(_, _) => false,
+        Form::List(forms, _) => call(forms.as_slice()).is_some(),
+    }
+}
+
+/// An action with so many actions before it.
+#[tactic(auto, using(crate::proofs::Placed::placed))]
+fn placed_action(
+    alloc: Global,
+    form: &Form,
+    problem: &Problem,
+    before: usize,
+) -> Result<Action, FormFault>
+    ensures read { Reads (λ (x : Action). x) result (placed_breaks problem.now.names problem.now.domain.operators before (tree_of form.now)) (action_meant problem.now.names problem.now.domain.operators (tree_of form.now)) }
+    ensures named { IfOk result (λ action. ActionIsNamed problem.now.names problem.now.domain.operators action) }
+    ensures few { IfOk result (λ _. before < 100000) }
+{
+    if before < MOST_ACTIONS {
+        return action_of(alloc, form, problem);
+    }
+    if is_call(form) {
+        return Err(breaks(Rule::Limit, offset(form)));
+    }
+    Err(breaks(Rule::Shape, offset(form)))
+}
+
+/// The actions of forms, with so many actions before them.
+#[tactic(auto, using(crate::proofs::Rulesets::composed, crate::proofs::Rulesets::each_more))]
+fn actions(
+    alloc: Global,
+    forms: &[Form],
+    problem: &Problem,
+    before: usize,
+) -> Result<Actions, FormFault>
+    requires { before ≤ 100000 }
+    ensures read { Reads (λ (xs : List Action). xs) result (actions_breaks problem.now.names problem.now.domain.operators before (trees_in forms.now)) (actions_meant problem.now.names problem.now.domain.operators (trees_in forms.now)) }
+    ensures few { IfOk result (λ plan. before + length plan ≤ 100000) }
+    ensures named { IfOk result (λ plan. Each (ActionIsNamed problem.now.names problem.now.domain.operators) plan) }
+{
+    let mut actions = Actions::new(alloc);
+    for form in forms {
+        let action = placed_action(alloc, form, problem, before + actions.len())?;
+        actions.push(action)?;
+    }
+    Ok(actions)
+}
+
+/// The forms after the word `repeat`, where there is one at least.
+#[tactic(auto, using(crate::proofs::LoopForms::repeated_elements))]
+fn repeated_in(forms: &[Form]) -> Option<&[Form]>
+    ensures { option_map (λ found. trees_in found.now) result ≡ repeated_in (trees_in forms.now) }
+{
+    match split_first(forms) {
+        Some((word, rest)) => {
+            if is_word("repeat", word) && !rest.is_empty() {
+                Some(rest)
+            } else {
+                None
+            }
+        }
+        None => None,
+    }
+}
+
+/// The forms of the actions of a repeated part; other forms are none.
+#[tactic(auto, using(crate::proofs::Rulesets::form_trees))]
+fn repeated(form: &Form) -> Option<&[Form]>
+    ensures { option_map (λ found. trees_in found.now) result ≡ repeated (tree_of form.now) }
+{
+    match form {
+        Form::Sym(_, _) => None,
+        Form::Int(_, _) => None,
+        Form::List(forms, _) => repeated_in(forms.as_slice()),
+    }
+}
+
+/// The last form and those before it, where there is one.
+fn split_last(forms: &[Form]) -> Option<(&[Form], &Form)>
+    ensures { MatchOption result (trees_in forms.now ≡ no_form)
+        (λ found. (front_of (trees_in forms.now) ≡ trees_in found.0.now) × (last_of (trees_in forms.now) ≡ Some (tree_of found.1.now))) }
+{
+    match forms {
+        [front @ .., last] => Some((front, last)),
+        [] => None,
+    }
+}
+
+/// The actions of the repeated part, with so many actions before them.
+fn cycle_of(
+    alloc: Global,
+    form: &Form,
+    problem: &Problem,
+    before: usize,
+) -> Result<Actions, FormFault>
+    requires { before ≤ 100000 }
+    ensures read { Reads (λ (xs : List Action). xs) result (repeat_breaks problem.now.names problem.now.domain.operators before (tree_of form.now)) (repeat_meant problem.now.names problem.now.domain.operators (tree_of form.now)) }
+    ensures few { IfOk result (λ plan. before + length plan ≤ 100000) }
+    ensures some { IfOk result (λ plan. 0 < length plan) }
+    ensures named { IfOk result (λ plan. Each (ActionIsNamed problem.now.names problem.now.domain.operators) plan) }
+{
+    let Some(forms) = repeated(form) else {
+        return Err(breaks(Rule::Shape, offset(form)));
+    };
+    actions(alloc, forms, problem, before)
+}
+
+/// The plan that forms stand for.
+fn loop_plan(alloc: Global, forms: &[Form], problem: &Problem) -> Result<LoopPlan, FormFault>
+    ensures read { Reads (λ (x : LoopPlan). x) result (loop_breaks problem.now.names problem.now.domain.operators (trees_in forms.now)) (loop_meant problem.now.names problem.now.domain.operators (trees_in forms.now)) }
+    ensures few { IfOk result (λ plan. length plan.stem + length plan.cycle ≤ 100000) }
+    ensures some { IfOk result (λ plan. 0 < length plan.cycle) }
+    ensures stem_named { IfOk result (λ plan. Each (ActionIsNamed problem.now.names problem.now.domain.operators) plan.stem) }
+    ensures cycle_named { IfOk result (λ plan. Each (ActionIsNamed problem.now.names problem.now.domain.operators) plan.cycle) }
+{
+    let Some((front, last)) = split_last(forms) else {
+        return Err(breaks(Rule::Shape, 0));
+    };
+    let stem = actions(alloc, front, problem, 0)?;
+    let cycle = cycle_of(alloc, last, problem, stem.len())?;
+    Ok(LoopPlan { stem, cycle })
+}
+
+/// The plan with a repeated part that the forms of a plan file stand for, or the first rule that one of them breaks.
+///
+/// The last form is `(repeat ACTION ..)` with one action at least, so an operator of the name `repeat` cannot be the last form; every form before it is an action. The 100,001st action of both parts together breaks `Rule::Limit`. The fault is the one with the least offset, and there the least rule; a file without any form breaks `Rule::Shape` at 0.
+/// Each action is of an operator of the problem, has as many arguments as that has parameters, and names only names of the problem.
+#[tactic(auto, using(crate::proofs::Rulesets::form_trees, crate::proofs::LoopOrder::least_fault))]
+pub fn loop_of(alloc: Global, forms: &Forms, problem: &Problem) -> Result<LoopPlan, FormFault>
+    ensures read { Reads (λ (x : LoopPlan). x) result (loop_breaks problem.now.names problem.now.domain.operators (trees_of forms.now)) (loop_meant problem.now.names problem.now.domain.operators (trees_of forms.now)) }
+    ensures least { AreAsRead (trees_of forms.now) → IfErr result (IsLeastFault (loop_breaks problem.now.names problem.now.domain.operators (trees_of forms.now))) }
+    ensures few { IfOk result (λ plan. length plan.stem + length plan.cycle ≤ 100000) }
+    ensures some { IfOk result (λ plan. 0 < length plan.cycle) }
+    ensures stem_named { IfOk result (λ plan. Each (ActionIsNamed problem.now.names problem.now.domain.operators) plan.stem) }
+    ensures cycle_named { IfOk result (λ plan. Each (ActionIsNamed problem.now.names problem.now.domain.operators) plan.cycle) }
+{
+    loop_plan(alloc, forms.as_slice(), problem)
+}
