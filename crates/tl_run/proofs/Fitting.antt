@@ -6,10 +6,10 @@ use Rattle.tl_sexpr.specs.Tree.{FormTrees}
 use Rattle.tl_run.specs.declared.turn.Input.{Input as Held}
 use Rattle.tl_run.specs.declared.turn.Input.TheVariants as held
 use Rattle.tl_run.specs.declared.words.Role.TheVariants as role
-use Rattle.tl_run.specs.Commands.{Command, check, search, trace, explain, prove_none, check_none, sample}
+use Rattle.tl_run.specs.Commands.{Command, check, search, trace, explain, prove_none, check_none, sample, cheapest, check_loop}
 use Rattle.tl_run.specs.Held.{IsHeld}
 use Rattle.tl_run.specs.declared.search.Search.{Search}
-use Rattle.tl_run.specs.Inputs.{Input, a_domain, a_problem, a_plan, a_proof, IsMeant}
+use Rattle.tl_run.specs.Inputs.{Input, a_domain, a_problem, a_plan, a_proof, IsMeant, some_costs, a_loop}
 use Rattle.tl_run.specs.Replies.{Fits}
 use Rattle.tl_run.specs.Sample.{sample_search}
 use Rattle.tl_run.specs.Turns.{HoldInput}
@@ -28,6 +28,8 @@ plan_fits d p q held.Nothing (a_plan problem plan) is h = absurd h
 plan_fits d p q (held.Domain names domain) (a_plan problem plan) is h = absurd h
 plan_fits d p q (held.Problem other) (a_plan problem plan) is h = absurd h
 plan_fits d p q (held.Proof other proof) (a_plan problem plan) is h = absurd h
+plan_fits d p q (held.Costs other costs) (a_plan problem plan) is h = absurd h
+plan_fits d p q (held.Loop other parts) (a_plan problem plan) is h = absurd h
 plan_fits d p q h x is k = absurd is
 
 abbrev IsProof : Input → Type 0
@@ -44,6 +46,8 @@ proof_fits d p q held.Nothing (a_proof problem proof) is h = absurd h
 proof_fits d p q (held.Domain names domain) (a_proof problem proof) is h = absurd h
 proof_fits d p q (held.Problem other) (a_proof problem proof) is h = absurd h
 proof_fits d p q (held.Plan other plan) (a_proof problem proof) is h = absurd h
+proof_fits d p q (held.Costs other costs) (a_proof problem proof) is h = absurd h
+proof_fits d p q (held.Loop other parts) (a_proof problem proof) is h = absurd h
 proof_fits d p q h x is k = absurd is
 
 explain_fits : (d p q : List ℕ) (h : Held) (x : Input) → IsPlan x → IsHeld h x → Fits (explain d p q) h
@@ -63,6 +67,8 @@ problem_fits s d p held.Nothing (a_problem problem) is h = absurd h
 problem_fits s d p (held.Domain names domain) (a_problem problem) is h = absurd h
 problem_fits s d p (held.Plan other plan) (a_problem problem) is h = absurd h
 problem_fits s d p (held.Proof other proof) (a_problem problem) is h = absurd h
+problem_fits s d p (held.Costs other costs) (a_problem problem) is h = absurd h
+problem_fits s d p (held.Loop other parts) (a_problem problem) is h = absurd h
 problem_fits s d p h x is k = absurd is
 
 search_fits : (files : Option Files) (s : Search) (d p : List ℕ) (h : Held) (x : Input) → HoldInput files (search s d p) x → IsHeld h x → Fits (search s d p) h
@@ -71,6 +77,58 @@ search_fits files s d p h x stand is =
     let stands = second.3 in
     let e = second.4 in
     problem_fits s d p h x (subst IsProblem e (problem_last stand.1 second.1 stands.forms stands.meant)) is
+
+abbrev AreCosts : Input → Type 0
+AreCosts (some_costs p costs) = Unit {0}
+AreCosts x = ⊥
+
+costs_last : (before after : Input) (forms : FormTrees) → IsMeant role.Costs before forms after → AreCosts after
+costs_last (a_problem p) (some_costs q costs) forms h = tt
+costs_last before after forms h = absurd h
+
+costs_fit : (b : ℕ) (d p k : List ℕ) (h : Held) (x : Input) → AreCosts x → IsHeld h x → Fits (cheapest b d p k) h
+costs_fit b d p k (held.Costs problem costs) x is h = refl
+costs_fit b d p k held.Nothing (some_costs problem costs) is h = absurd h
+costs_fit b d p k (held.Domain names domain) (some_costs problem costs) is h = absurd h
+costs_fit b d p k (held.Problem other) (some_costs problem costs) is h = absurd h
+costs_fit b d p k (held.Plan other plan) (some_costs problem costs) is h = absurd h
+costs_fit b d p k (held.Proof other proof) (some_costs problem costs) is h = absurd h
+costs_fit b d p k (held.Loop other parts) (some_costs problem costs) is h = absurd h
+costs_fit b d p k h x is e = absurd is
+
+cheapest_fits : (files : Option Files) (b : ℕ) (d p k : List ℕ) (h : Held) (x : Input) → HoldInput files (cheapest b d p k) x → IsHeld h x → Fits (cheapest b d p k) h
+cheapest_fits files b d p k h x stand is =
+    let second = stand.4 in
+    let third = second.4 in
+    let stands = third.3 in
+    let e = third.4 in
+    costs_fit b d p k h x (subst AreCosts e (costs_last second.1 third.1 stands.forms stands.meant)) is
+
+abbrev IsLoop : Input → Type 0
+IsLoop (a_loop p plan) = Unit {0}
+IsLoop x = ⊥
+
+loop_last : (before after : Input) (forms : FormTrees) → IsMeant role.Loop before forms after → IsLoop after
+loop_last (a_problem p) (a_loop q plan) forms h = tt
+loop_last before after forms h = absurd h
+
+loop_fits : (d p q : List ℕ) (h : Held) (x : Input) → IsLoop x → IsHeld h x → Fits (check_loop d p q) h
+loop_fits d p q (held.Loop problem plan) x is h = refl
+loop_fits d p q held.Nothing (a_loop problem plan) is h = absurd h
+loop_fits d p q (held.Domain names domain) (a_loop problem plan) is h = absurd h
+loop_fits d p q (held.Problem other) (a_loop problem plan) is h = absurd h
+loop_fits d p q (held.Plan other actions) (a_loop problem plan) is h = absurd h
+loop_fits d p q (held.Proof other proof) (a_loop problem plan) is h = absurd h
+loop_fits d p q (held.Costs other costs) (a_loop problem plan) is h = absurd h
+loop_fits d p q h x is e = absurd is
+
+check_loop_fits : (files : Option Files) (d p q : List ℕ) (h : Held) (x : Input) → HoldInput files (check_loop d p q) x → IsHeld h x → Fits (check_loop d p q) h
+check_loop_fits files d p q h x stand is =
+    let second = stand.4 in
+    let third = second.4 in
+    let stands = third.3 in
+    let e = third.4 in
+    loop_fits d p q h x (subst IsLoop e (loop_last second.1 third.1 stands.forms stands.meant)) is
 
 -- one line for each command
 pub fits : (files : Option Files) (c : Command) (h : Held) (x : Input) → HoldInput files c x → IsHeld h x → Fits c h
@@ -98,3 +156,5 @@ fits files (check_none d p q) h x stand is =
 fits files (sample balls) h x stand is =
     let stands = stand.2 in
     problem_fits (sample_search balls) [] [] h x (problem_last stand.0 x stands.forms stands.meant) is
+fits files (cheapest b d p k) h x stand is = cheapest_fits files b d p k h x stand is
+fits files (check_loop d p q) h x stand is = check_loop_fits files d p q h x stand is

@@ -2,6 +2,8 @@ pub mod SeenTwice
 pub mod SameOperators
 pub mod SameProofs
 pub mod SameLines
+pub mod SameCosts
+pub mod SameLoops
 pub mod SameLabels
 pub mod LeastBreaks
 pub mod OneProblem
@@ -19,6 +21,8 @@ pub mod SampleLaws
 pub mod NoneReports
 pub mod ProveNoneLaws
 pub mod CheckNoneLaws
+pub mod CheapestLaws
+pub mod CheckLoopLaws
 pub mod SamplePrefixes
 pub mod Promised
 pub mod Sent
@@ -29,6 +33,7 @@ pub mod Replied
 pub mod NamedPlans
 pub mod NamedEvents
 pub mod NamedProofs
+pub mod NamedCosts
 pub mod TrueTraces
 pub mod Numbers
 pub mod CommandWords

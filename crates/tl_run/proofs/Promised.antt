@@ -5,16 +5,22 @@ use Rattle.tl_cert.specs.declared.verdict.NoneVerdict.{NoneVerdict}
 use Rattle.tl_cert.specs.declared.verdict.NoneVerdict.TheVariants.{Proved, BadLink, Accepts, Open}
 use Rattle.tl_check.specs.declared.verdict.Verdict.{Verdict}
 use Rattle.tl_check.specs.declared.verdict.Verdict.TheVariants.{Valid, NotExecutable, GoalUnmet, Disobeys}
+use Rattle.tl_cost.specs.declared.outcome.CostOutcome.{CostOutcome}
+use Rattle.tl_cost.specs.declared.outcome.CostOutcome.TheVariants as costs
+use Rattle.tl_lasso.specs.declared.verdict.LoopVerdict.{LoopVerdict}
+use Rattle.tl_lasso.specs.declared.verdict.LoopVerdict.TheVariants as loop
 use Rattle.tl_outside.specs.Told.{Files}
 use Rattle.tl_search.specs.declared.outcome.Outcome.{Outcome}
 use Rattle.tl_search.specs.declared.outcome.Outcome.TheVariants as outcome
 use Rattle.tl_run.specs.declared.status.Status.{Status}
 use Rattle.tl_run.specs.declared.status.Status.TheVariants.{Refused}
 use Rattle.tl_run.specs.declared.stop.Broken.{Broken}
-use Rattle.tl_run.specs.Answers.{Answer, refusal, past_range, judged, searched, traced, IsRight, status_of, text_of, outcome_status, verdict_status, explained, certified, unproved, judged_proof, sampled}
+use Rattle.tl_run.specs.Answers.{Answer, refusal, past_range, judged, searched, traced, IsRight, status_of, text_of, outcome_status, verdict_status, explained, certified, unproved, judged_proof, sampled, costed, judged_loop}
+use Rattle.tl_run.specs.CheckLoop.{loop_status}
 use Rattle.tl_run.specs.CheckNone.{none_status}
-use Rattle.tl_run.specs.Commands.{Command, check, search, trace, explain, prove_none, check_none, sample}
-use Rattle.tl_run.specs.Inputs.{Input, a_problem, a_plan, a_proof}
+use Rattle.tl_run.specs.Commands.{Command, check, search, trace, explain, prove_none, check_none, sample, cheapest, check_loop}
+use Rattle.tl_run.specs.Inputs.{Input, a_problem, a_plan, a_proof, some_costs, a_loop}
+use Rattle.tl_run.specs.Cheapest.{cost_status}
 use Rattle.tl_run.specs.Laws.{Laws}
 use Rattle.tl_run.specs.Promises.{Allows, Headline, IsAnswer, IsCalm, IsCalmStatus, IsTextOf}
 use Rattle.tl_run.specs.ProveNone.{unproved_status}
@@ -22,7 +28,9 @@ use Rattle.tl_run.specs.Refusals.{refusal_text}
 use Rattle.tl_run.specs.Replies.{HasLines}
 use Rattle.tl_run.specs.Turns.{Begun, HoldInput, IsRefused}
 use Rattle.tl_run.proofs.Agreement.{Agrees}
+use Rattle.tl_run.proofs.CheapestLaws.{cheapest_agrees, cheapest_calm, cheapest_says}
 use Rattle.tl_run.proofs.CheckLaws.{check_agrees, check_calm, check_says}
+use Rattle.tl_run.proofs.CheckLoopLaws.{check_loop_agrees, check_loop_calm, check_loop_says}
 use Rattle.tl_run.proofs.CheckNoneLaws.{check_none_agrees, check_none_calm, check_none_says}
 use Rattle.tl_run.proofs.ExplainLaws.{explain_agrees, explain_calm, explain_says}
 use Rattle.tl_run.proofs.InTurn.{no_refusal, one_input, one_refusal}
@@ -56,6 +64,18 @@ proof_has_lines (BadLink k) = tt
 proof_has_lines (Accepts k) = tt
 proof_has_lines (Open k a) = tt
 
+cost_has_lines : (o : CostOutcome) → HasLines (cost_status o)
+cost_has_lines (costs.Plan plan cost) = tt
+cost_has_lines costs.NoPlan = tt
+cost_has_lines costs.Spent = tt
+
+loop_has_lines : (v : LoopVerdict) → HasLines (loop_status v)
+loop_has_lines loop.Valid = tt
+loop_has_lines (loop.NotExecutable n) = tt
+loop_has_lines loop.NotClosed = tt
+loop_has_lines loop.GoalUnmet = tt
+loop_has_lines loop.Disobeys = tt
+
 answer_has_lines : (a : Answer) → HasLines (status_of a)
 answer_has_lines (refusal number m) = tt
 answer_has_lines (past_range after note path) = tt
@@ -67,6 +87,8 @@ answer_has_lines (certified s proof) = tt
 answer_has_lines (unproved s o) = unproved_has_lines o
 answer_has_lines (judged_proof v) = proof_has_lines v
 answer_has_lines (sampled n kept o v) = tt
+answer_has_lines (costed b o) = cost_has_lines o
+answer_has_lines (judged_loop v) = loop_has_lines v
 
 -- the status of an answer comes with lines
 pub has_lines : (files : Option Files) (c : Command) (begun : Begun) (status : Status) (text : List ℕ) → IsAnswer files c begun status text → HasLines status
@@ -81,6 +103,8 @@ refused_says files (explain d p q) text = tt
 refused_says files (prove_none s d p) text = tt
 refused_says files (check_none d p q) text = tt
 refused_says files (sample m) text = tt
+refused_says files (cheapest b d p k) text = tt
+refused_says files (check_loop d p q) text = tt
 
 -- what it says of a right answer: one line for each command
 right_says : Laws → (files : Option Files) (c : Command) (x : Input) (a : Answer) (text : List ℕ) → HoldInput files c x → IsRight c x a → text ≡ text_of x a → Headline files c (status_of a) text
@@ -91,6 +115,8 @@ right_says laws files (explain d p q) x a text stand right line = explain_says f
 right_says laws files (prove_none s d p) x a text stand right line = prove_none_says laws files s d p x a text stand right line
 right_says laws files (check_none d p q) x a text stand right line = check_none_says laws files d p q x a text stand right line
 right_says laws files (sample m) x a text stand right line = sample_says laws files m x a text stand right line
+right_says laws files (cheapest b d p k) x a text stand right line = cheapest_says files b d p k x a text stand right line
+right_says laws files (check_loop d p q) x a text stand right line = check_loop_says files d p q x a text stand right line
 
 allowed_says : Laws → (files : Option Files) (c : Command) (x : Input) (a : Answer) (text : List ℕ) → Allows files c x a → text ≡ text_of x a → Headline files c (status_of a) text
 allowed_says laws files c x (refusal number m) text allowed line = refused_says files c text
@@ -103,6 +129,8 @@ allowed_says laws files c x (certified s proof) text allowed line = right_says l
 allowed_says laws files c x (unproved s o) text allowed line = right_says laws files c x (unproved s o) text allowed.0 allowed.1 line
 allowed_says laws files c x (judged_proof v) text allowed line = right_says laws files c x (judged_proof v) text allowed.0 allowed.1 line
 allowed_says laws files c x (sampled n kept o v) text allowed line = right_says laws files c x (sampled n kept o v) text allowed.0 allowed.1 line
+allowed_says laws files c x (costed b o) text allowed line = right_says laws files c x (costed b o) text allowed.0 allowed.1 line
+allowed_says laws files c x (judged_loop v) text allowed line = right_says laws files c x (judged_loop v) text allowed.0 allowed.1 line
 
 -- an answer that the files allow says what the headline says
 pub headline_of : Laws → (files : Option Files) (c : Command) (begun : Begun) (status : Status) (text : List ℕ) → IsAnswer files c begun status text → Headline files c status text
@@ -117,6 +145,8 @@ right_agrees laws (explain d p q) x y a b same h k = explain_agrees d p q x y a 
 right_agrees laws (prove_none s d p) x y a b same h k = prove_none_agrees laws s d p x y a b same h k
 right_agrees laws (check_none d p q) x y a b same h k = check_none_agrees laws.none_verdicts d p q x y a b same h k
 right_agrees laws (sample m) x y a b same h k = sample_agrees laws m x y a b same h k
+right_agrees laws (cheapest n d p q) x y a b same h k = cheapest_agrees n d p q x y a b same h k
+right_agrees laws (check_loop d p q) x y a b same h k = check_loop_agrees laws.loop_verdicts d p q x y a b same h k
 
 -- over told files, an answer that is right of what they stand for is no refusal
 abbrev Stands : Files → Command → Input → Answer → Type 0
@@ -140,6 +170,8 @@ splits files c x (certified s proof) h = inr h
 splits files c x (unproved s o) h = inr h
 splits files c x (judged_proof v) h = inr h
 splits files c x (sampled n kept o v) h = inr h
+splits files c x (costed b o) h = inr h
+splits files c x (judged_loop v) h = inr h
 
 split_agree : Laws → (files : Files) (c : Command) (x y : Input) (a b : Answer) → Splits files c x a → Splits files c y b → Agrees x a (status_of b) (text_of y b)
 split_agree laws files c x y a b (inl h) (inl k) =
@@ -168,6 +200,8 @@ calm_passes files (explain d p q) calm = (a_plan calm.problem calm.plan, calm.st
 calm_passes files (prove_none s d p) calm = (a_problem calm.problem, calm.stand)
 calm_passes files (check_none d p q) calm = (a_proof calm.problem calm.proof, calm.stand)
 calm_passes files (sample m) calm = (a_problem calm.problem, calm.stand)
+calm_passes files (cheapest b d p k) calm = (some_costs calm.problem calm.costs, calm.stand)
+calm_passes files (check_loop d p q) calm = (a_loop calm.problem calm.plan, calm.stand)
 
 -- right answers where nothing past range is looked at: one line for each command
 right_calm : Laws → (files : Files) (c : Command) (x : Input) (a : Answer) → IsCalm (Some files) c → Stands files c x a → IsCalmStatus (status_of a)
@@ -185,6 +219,10 @@ right_calm laws files (check_none d p q) x a calm h =
     check_none_calm d p q calm.problem calm.proof x a (one_input laws.problems files (check_none d p q) (a_proof calm.problem calm.proof) x calm.stand h.0) calm.calm h.1
 right_calm laws files (sample m) x a calm h =
     sample_calm laws m calm.problem x a (one_input laws.problems files (sample m) (a_problem calm.problem) x calm.stand h.0) calm.calm calm.checked h.1
+right_calm laws files (cheapest b d p k) x a calm h =
+    cheapest_calm b d p k calm.problem calm.costs x a (one_input laws.problems files (cheapest b d p k) (some_costs calm.problem calm.costs) x calm.stand h.0) calm.calm calm.few h.1
+right_calm laws files (check_loop d p q) x a calm h =
+    check_loop_calm d p q calm.problem calm.plan x a (one_input laws.problems files (check_loop d p q) (a_loop calm.problem calm.plan) x calm.stand h.0) calm.calm h.1
 
 split_calm : Laws → (files : Files) (c : Command) (x : Input) (a : Answer) → IsCalm (Some files) c → Splits files c x a → IsCalmStatus (status_of a)
 split_calm laws files c x a calm (inl h) =

@@ -11,7 +11,7 @@ use Rattle.tl_run.specs.declared.turn.Input.{Input as Held}
 use Rattle.tl_run.specs.declared.turn.Input.TheVariants as held
 use Rattle.tl_run.specs.declared.words.File.{File as HeldFile}
 use Rattle.tl_run.specs.declared.words.Role.{Role}
-use Rattle.tl_run.specs.Commands.{Command, check, search, trace, files_of, explain, prove_none, check_none, sample}
+use Rattle.tl_run.specs.Commands.{Command, check, search, trace, files_of, explain, prove_none, check_none, sample, cheapest, check_loop}
 use Rattle.tl_run.specs.Held.{AreInOrder, HoldsFile, IsHeld, KeepsBounds, last_role, role_before}
 use Rattle.tl_run.specs.Inputs.{Input, nothing, StandsFor, IsBroken}
 use Rattle.tl_run.specs.Stops.{IsSampleStop, IsStop, IsTurnStop, ReadsFiles}
@@ -117,6 +117,8 @@ in_order (explain d p q) = (refl, (refl, (refl, tt)))
 in_order (prove_none s d p) = (refl, (refl, tt))
 in_order (check_none d p q) = (refl, (refl, (refl, tt)))
 in_order (sample balls) = tt
+in_order (cheapest b d p k) = (refl, (refl, (refl, tt)))
+in_order (check_loop d p q) = (refl, (refl, (refl, tt)))
 
 -- what is known after i files of a command have passed
 pub record HasRead (files : Option Files) (c : Command) (i : ℕ) (h : Held) : Type 0 where

@@ -9,6 +9,10 @@ use Rattle.tl_action.specs.declared.check_fault.CheckFault.TheVariants as fault
 use Rattle.tl_check.specs.declared.verdict.Verdict.{Verdict}
 use Rattle.tl_eval.specs.Notes.{operation_of}
 use Rattle.tl_eval.specs.declared.range.RangeNote.{RangeNote}
+use Rattle.tl_lasso.specs.LoopTexts.{loop_text}
+use Rattle.tl_lasso.specs.Verdicts.{IsLoopVerdict, IsLoopCause}
+use Rattle.tl_lasso.specs.declared.plan.LoopPlan.{LoopPlan}
+use Rattle.tl_lasso.specs.declared.verdict.LoopVerdict.{LoopVerdict}
 use Rattle.tl_line.specs.NamedActions.{ActionIsNamed}
 use Rattle.tl_outside.specs.Told.{Files}
 use Rattle.tl_search.specs.declared.outcome.Outcome.{Outcome}
@@ -28,9 +32,11 @@ use Rattle.tl_run.specs.declared.status.Status.{Status}
 use Rattle.tl_run.specs.declared.status.Status.TheVariants.{Yes, Refused, Range}
 use Rattle.tl_run.specs.declared.stop.Broken.{Broken}
 use Rattle.tl_run.specs.declared.search.Search.{Search}
-use Rattle.tl_run.specs.Answers.{Answer, refusal, past_range, judged, searched, traced, IsRight, verdict_status, explained, certified, unproved, judged_proof, sampled}
-use Rattle.tl_run.specs.Commands.{Command, check, search, trace, explain, prove_none, check_none, sample}
-use Rattle.tl_run.specs.Inputs.{Input, nothing, a_problem, a_plan, a_proof}
+use Rattle.tl_run.specs.Answers.{Answer, refusal, past_range, judged, searched, traced, IsRight, verdict_status, explained, certified, unproved, judged_proof, sampled, costed, judged_loop}
+use Rattle.tl_run.specs.Commands.{Command, check, search, trace, explain, prove_none, check_none, sample, cheapest, check_loop}
+use Rattle.tl_run.specs.Inputs.{Input, nothing, a_problem, a_plan, a_proof, some_costs, a_loop}
+use Rattle.tl_run.specs.Cheapest.{CheapestEndsPastRange}
+use Rattle.tl_run.specs.CheckLoop.{loop_status}
 use Rattle.tl_run.specs.Plan.{IsOutcome, EndsPastRange}
 use Rattle.tl_run.specs.Promises.{Allows, IsAnswer, LeavesOff}
 use Rattle.tl_run.specs.Refusals.{refusal_text}
@@ -106,6 +112,19 @@ check_range_replied m problem plan after note text found cause t = record {
   text_is = t;
 }
 
+-- the reply where the search for a cheapest plan ends at an operation past range
+pub cheapest_range_replied : (b : ℕ) (d p k : List ℕ) (problem : Problem) (costs : List ℕ) (note : RangeNote) (path : List Action) (text : List ℕ) → CheapestEndsPastRange b (plain_problem problem) costs path note → text ≡ range_text problem.names problem.domain.operators note (length path) path → Replies (cheapest b d p k) (some_costs problem costs) (record { status = Range; text = text })
+cheapest_range_replied b d p k problem costs note path text cause t = record { answer = past_range (length path) note path; right = (cause, refl); status_is = refl; text_is = t }
+
+-- the reply with a verdict on a plan with a repeated part
+pub loop_verdict_replied : {E : Type 0} (d p q : List ℕ) (problem : Problem) (plan : LoopPlan) (v : LoopVerdict) (r : Result Reply E) → IsLoopVerdict (plain_problem problem) plan.stem plan.cycle v → IfOk r (λ reply. reply.status ≡ loop_status v) → IfOk r (λ reply. reply.text ≡ loop_text v) → IfOk r (Replies (check_loop d p q) (a_loop problem plan))
+loop_verdict_replied d p q problem plan v (Ok reply) right s t = record { answer = judged_loop v; right = right; status_is = s; text_is = t }
+loop_verdict_replied d p q problem plan v (Err e) right s t = tt
+
+-- the reply with an operation past range that the check of one looks at
+pub loop_range_replied : (d p q : List ℕ) (problem : Problem) (plan : LoopPlan) (after : ℕ) (note : RangeNote) (text : List ℕ) → IsLoopCause (plain_problem problem) plan.stem plan.cycle (fault.Range after note) → text ≡ range_text problem.names problem.domain.operators note after [] → Replies (check_loop d p q) (a_loop problem plan) (record { status = Range; text = text })
+loop_range_replied d p q problem plan after note text cause t = record { answer = past_range after note []; right = (cause, refl); status_is = refl; text_is = t }
+
 -- a refusal is not right of what files stand for: one line for each command
 never_right : (c : Command) (x : Input) (number : ℕ) (m : Broken) → IsRight c x (refusal number m) → ⊥
 never_right (check d p q) (a_plan problem plan) number m right = right
@@ -122,6 +141,10 @@ never_right (check_none d p q) (a_proof problem proof) number m right = right
 never_right (check_none d p q) x number m right = right
 never_right (sample n) (a_problem problem) number m right = right
 never_right (sample n) x number m right = right
+never_right (cheapest b d p k) (some_costs problem costs) number m right = right
+never_right (cheapest b d p k) x number m right = right
+never_right (check_loop d p q) (a_loop problem plan) number m right = right
+never_right (check_loop d p q) x number m right = right
 
 right_allowed : (files : Option Files) (c : Command) (x : Input) (a : Answer) → HoldInput files c x → IsRight c x a → Allows files c x a
 right_allowed files c x (refusal number m) stand right = absurd (never_right c x number m right)
@@ -134,6 +157,8 @@ right_allowed files c x (certified s proof) stand right = (stand, right)
 right_allowed files c x (unproved s o) stand right = (stand, right)
 right_allowed files c x (judged_proof v) stand right = (stand, right)
 right_allowed files c x (sampled n kept o v) stand right = (stand, right)
+right_allowed files c x (costed b o) stand right = (stand, right)
+right_allowed files c x (judged_loop v) stand right = (stand, right)
 
 right_leaves : (files : Option Files) (c : Command) (begun : Begun) (x : Input) (a : Answer) → IsRight c x a → LeavesOff files c begun a
 right_leaves files c begun x (refusal number m) right = absurd (never_right c x number m right)
@@ -146,6 +171,8 @@ right_leaves files c begun x (certified s proof) right = tt
 right_leaves files c begun x (unproved s o) right = tt
 right_leaves files c begun x (judged_proof v) right = tt
 right_leaves files c begun x (sampled n kept o v) right = tt
+right_leaves files c begun x (costed b o) right = tt
+right_leaves files c begun x (judged_loop v) right = tt
 
 -- a right reply over the input is an answer that the files allow
 pub reply_answers : (files : Option Files) (c : Command) (begun : Begun) (x : Input) (reply : Reply) → HoldInput files c x → Replies c x reply → IsAnswer files c begun reply.status reply.text

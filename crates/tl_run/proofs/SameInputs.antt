@@ -10,15 +10,21 @@ use Rattle.tl_domain.specs.LawsFiles.{FilesStandForOneProblem}
 use Rattle.tl_cert.specs.MeaningOfProofs.{proof_meant}
 use Rattle.tl_cert.specs.ProofFiles.{proof_breaks}
 use Rattle.tl_cert.specs.declared.proof.Proof.{Proof}
+use Rattle.tl_cost.specs.CostFiles.{costs_breaks, costs_meant}
+use Rattle.tl_lasso.specs.LoopFiles.{loop_breaks}
+use Rattle.tl_lasso.specs.MeaningOfLoops.{loop_meant}
+use Rattle.tl_lasso.specs.declared.plan.LoopPlan.{LoopPlan}
 use Rattle.tl_text.specs.Plans.{plan_breaks}
 use Rattle.tl_text.specs.MeaningOfPlans.{plan_meant}
 use Rattle.tl_run.specs.declared.words.Role.{Role}
 use Rattle.tl_run.specs.declared.words.Role.TheVariants as role
 use Rattle.tl_run.specs.Files.{SpellShortly}
-use Rattle.tl_run.specs.Inputs.{Input, nothing, a_domain, a_problem, a_plan, a_proof, breaks_of, IsMeant, StandsFor}
+use Rattle.tl_run.specs.Inputs.{Input, nothing, a_domain, a_problem, a_plan, a_proof, breaks_of, IsMeant, StandsFor, some_costs, a_loop}
 use Rattle.tl_run.proofs.OneProblem.{SameProblem, same_problem}
 use Rattle.tl_run.proofs.SameOperators.{same_plan_breaks, same_plan_meant}
 use Rattle.tl_run.proofs.SameProofs.{same_proof_breaks, same_proof_meant}
+use Rattle.tl_run.proofs.SameCosts.{same_costs_breaks, same_costs_meant}
+use Rattle.tl_run.proofs.SameLoops.{same_loop_breaks, same_loop_meant}
 
 -- the same was read
 abbrev pub SameInput : Input → Input → Type 0
@@ -27,6 +33,8 @@ SameInput (a_domain f) (a_domain g) = f ≡ g
 SameInput (a_problem p) (a_problem q) = SameProblem p q
 SameInput (a_plan p plan) (a_plan q other) = SameProblem p q × (plan ≡ other)
 SameInput (a_proof p proof) (a_proof q other) = SameProblem p q × (proof ≡ other)
+SameInput (some_costs p costs) (some_costs q others) = SameProblem p q × (costs ≡ others)
+SameInput (a_loop p plan) (a_loop q other) = SameProblem p q × (plan ≡ other)
 SameInput a b = ⊥
 
 same_problem_back : (p q : Problem) → SameProblem p q → SameProblem q p
@@ -45,6 +53,8 @@ same_back (a_domain f) (a_domain g) same = sym same
 same_back (a_problem p) (a_problem q) same = same_problem_back p q same
 same_back (a_plan p plan) (a_plan q other) same = (same_problem_back p q same.0, sym same.1)
 same_back (a_proof p proof) (a_proof q other) same = (same_problem_back p q same.0, sym same.1)
+same_back (some_costs p costs) (some_costs q others) same = (same_problem_back p q same.0, sym same.1)
+same_back (a_loop p plan) (a_loop q other) same = (same_problem_back p q same.0, sym same.1)
 same_back a b same = absurd same
 
 -- the forms of a file are one
@@ -58,23 +68,47 @@ one_breaks role.Domain (a_domain f) (a_domain g) fs gs same e = refl
 one_breaks role.Domain (a_problem p) (a_problem q) fs gs same e = refl
 one_breaks role.Domain (a_plan p plan) (a_plan q other) fs gs same e = refl
 one_breaks role.Domain (a_proof p proof) (a_proof q other) fs gs same e = refl
+one_breaks role.Domain (some_costs p costs) (some_costs q others) fs gs same e = refl
+one_breaks role.Domain (a_loop p plan) (a_loop q other) fs gs same e = refl
 one_breaks role.Problem nothing nothing fs gs same e = refl
 one_breaks role.Problem (a_domain f) (a_domain g) fs gs same e = λ i. problem_breaks (same i) (e i)
 one_breaks role.Problem (a_problem p) (a_problem q) fs gs same e = refl
 one_breaks role.Problem (a_plan p plan) (a_plan q other) fs gs same e = refl
 one_breaks role.Problem (a_proof p proof) (a_proof q other) fs gs same e = refl
+one_breaks role.Problem (some_costs p costs) (some_costs q others) fs gs same e = refl
+one_breaks role.Problem (a_loop p plan) (a_loop q other) fs gs same e = refl
 one_breaks role.Plan nothing nothing fs gs same e = refl
 one_breaks role.Plan (a_domain f) (a_domain g) fs gs same e = refl
 one_breaks role.Plan (a_problem p) (a_problem q) fs gs same e =
     same_plan_breaks p.names p.domain.operators q.domain.operators fs same.heads ∙ (λ i. plan_breaks (same.names i) q.domain.operators (e i))
 one_breaks role.Plan (a_plan p plan) (a_plan q other) fs gs same e = refl
 one_breaks role.Plan (a_proof p proof) (a_proof q other) fs gs same e = refl
+one_breaks role.Plan (some_costs p costs) (some_costs q others) fs gs same e = refl
+one_breaks role.Plan (a_loop p plan) (a_loop q other) fs gs same e = refl
 one_breaks role.Proof nothing nothing fs gs same e = refl
 one_breaks role.Proof (a_domain f) (a_domain g) fs gs same e = refl
 one_breaks role.Proof (a_problem p) (a_problem q) fs gs same e =
     same_proof_breaks p.names p.domain.operators q.domain.operators same.heads fs ∙ (λ i. proof_breaks (same.names i) q.domain.operators (e i))
 one_breaks role.Proof (a_plan p plan) (a_plan q other) fs gs same e = refl
 one_breaks role.Proof (a_proof p proof) (a_proof q other) fs gs same e = refl
+one_breaks role.Proof (some_costs p costs) (some_costs q others) fs gs same e = refl
+one_breaks role.Proof (a_loop p plan) (a_loop q other) fs gs same e = refl
+one_breaks role.Costs nothing nothing fs gs same e = refl
+one_breaks role.Costs (a_domain f) (a_domain g) fs gs same e = refl
+one_breaks role.Costs (a_problem p) (a_problem q) fs gs same e =
+    same_costs_breaks p.names p.domain.operators q.domain.operators same.heads fs ∙ (λ i. costs_breaks (same.names i) q.domain.operators (e i))
+one_breaks role.Costs (a_plan p plan) (a_plan q other) fs gs same e = refl
+one_breaks role.Costs (a_proof p proof) (a_proof q other) fs gs same e = refl
+one_breaks role.Costs (some_costs p costs) (some_costs q others) fs gs same e = refl
+one_breaks role.Costs (a_loop p plan) (a_loop q other) fs gs same e = refl
+one_breaks role.Loop nothing nothing fs gs same e = refl
+one_breaks role.Loop (a_domain f) (a_domain g) fs gs same e = refl
+one_breaks role.Loop (a_problem p) (a_problem q) fs gs same e =
+    same_loop_breaks p.names p.domain.operators q.domain.operators same.heads fs ∙ (λ i. loop_breaks (same.names i) q.domain.operators (e i))
+one_breaks role.Loop (a_plan p plan) (a_plan q other) fs gs same e = refl
+one_breaks role.Loop (a_proof p proof) (a_proof q other) fs gs same e = refl
+one_breaks role.Loop (some_costs p costs) (some_costs q others) fs gs same e = refl
+one_breaks role.Loop (a_loop p plan) (a_loop q other) fs gs same e = refl
 one_breaks r a b fs gs same e = absurd same
 
 domain_meant : (b y : Input) (f fs gs : FormTrees) → SameInput nothing b → fs ≡ gs → f ≡ fs → IsMeant role.Domain b gs y → SameInput (a_domain f) y
@@ -111,12 +145,36 @@ proof_is_meant (a_problem q) (a_proof q' other) p p' proof fs gs same e a h k = 
 proof_is_meant (a_problem q) y p p' proof fs gs same e a h k = absurd k
 proof_is_meant b y p p' proof fs gs same e a h k = absurd same
 
+costs_same : (p q p' q' : Problem) (costs others : List ℕ) (fs gs : FormTrees) → SameProblem p q → fs ≡ gs → p' ≡ p → costs ≡ costs_meant p.names p.domain.operators fs → q' ≡ q → others ≡ costs_meant q.names q.domain.operators gs → SameProblem p' q' × (costs ≡ others)
+costs_same p q p' q' costs others fs gs same e a h b k = (
+  subst (λ (u : Problem). SameProblem u q') (sym a) (subst (λ (u : Problem). SameProblem p u) (sym b) same),
+  h ∙ same_costs_meant p.names p.domain.operators q.domain.operators same.heads fs ∙ (λ i. costs_meant (same.names i) q.domain.operators (e i)) ∙ sym k,
+)
+
+costs_are_meant : (b y : Input) (p p' : Problem) (costs : List ℕ) (fs gs : FormTrees) → SameInput (a_problem p) b → fs ≡ gs → p' ≡ p → costs ≡ costs_meant p.names p.domain.operators fs → IsMeant role.Costs b gs y → SameInput (some_costs p' costs) y
+costs_are_meant (a_problem q) (some_costs q' others) p p' costs fs gs same e a h k = costs_same p q p' q' costs others fs gs same e a h k.0 k.1
+costs_are_meant (a_problem q) y p p' costs fs gs same e a h k = absurd k
+costs_are_meant b y p p' costs fs gs same e a h k = absurd same
+
+loop_same : (p q p' q' : Problem) (plan other : LoopPlan) (fs gs : FormTrees) → SameProblem p q → fs ≡ gs → p' ≡ p → plan ≡ loop_meant p.names p.domain.operators fs → q' ≡ q → other ≡ loop_meant q.names q.domain.operators gs → SameProblem p' q' × (plan ≡ other)
+loop_same p q p' q' plan other fs gs same e a h b k = (
+  subst (λ (u : Problem). SameProblem u q') (sym a) (subst (λ (u : Problem). SameProblem p u) (sym b) same),
+  h ∙ same_loop_meant p.names p.domain.operators q.domain.operators same.heads fs ∙ (λ i. loop_meant (same.names i) q.domain.operators (e i)) ∙ sym k,
+)
+
+loop_is_meant : (b y : Input) (p p' : Problem) (plan : LoopPlan) (fs gs : FormTrees) → SameInput (a_problem p) b → fs ≡ gs → p' ≡ p → plan ≡ loop_meant p.names p.domain.operators fs → IsMeant role.Loop b gs y → SameInput (a_loop p' plan) y
+loop_is_meant (a_problem q) (a_loop q' other) p p' plan fs gs same e a h k = loop_same p q p' q' plan other fs gs same e a h k.0 k.1
+loop_is_meant (a_problem q) y p p' plan fs gs same e a h k = absurd k
+loop_is_meant b y p p' plan fs gs same e a h k = absurd same
+
 -- the same is meant
 one_meant : FilesStandForOneProblem → (r : Role) (a b x y : Input) (fs gs : FormTrees) → SameInput a b → fs ≡ gs → IsMeant r a fs x → IsMeant r b gs y → SameInput x y
 one_meant law role.Domain nothing b (a_domain f) y fs gs same e h k = domain_meant b y f fs gs same e h k
 one_meant law role.Problem (a_domain f) b (a_problem p) y fs gs same e h k = problem_meant law b y f fs gs p same e h k
 one_meant law role.Plan (a_problem p) b (a_plan p' plan) y fs gs same e h k = plan_is_meant b y p p' plan fs gs same e h.0 h.1 k
 one_meant law role.Proof (a_problem p) b (a_proof p' proof) y fs gs same e h k = proof_is_meant b y p p' proof fs gs same e h.0 h.1 k
+one_meant law role.Costs (a_problem p) b (some_costs p' costs) y fs gs same e h k = costs_are_meant b y p p' costs fs gs same e h.0 h.1 k
+one_meant law role.Loop (a_problem p) b (a_loop p' plan) y fs gs same e h k = loop_is_meant b y p p' plan fs gs same e h.0 h.1 k
 one_meant law r a b x y fs gs same e h k = absurd h
 
 -- bytes stand for one thing, after the same

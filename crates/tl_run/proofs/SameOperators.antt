@@ -46,7 +46,7 @@ module _ (names : List (List ℕ)) (os us : List Operator) (alike : map head_of 
   same_place : (n : ℕ) → position (λ (o : Operator). o.name == n) os ≡ position (λ (o : Operator). o.name == n) us
   same_place n = head_at n os ∙ ap (position (λ (h : Head). h.0 == n)) alike ∙ sym (head_at n us)
 
-  same_operator : (text : List ℕ) → operator_at names os text ≡ operator_at names us text
+  pub same_operator : (text : List ℕ) → operator_at names os text ≡ operator_at names us text
   same_operator text = λ i. option_and_then (λ n. same_place n i) (number_of names text)
 
   same_takes : (op n : ℕ) → has_parameters os op n ≡ has_parameters us op n

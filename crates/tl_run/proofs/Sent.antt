@@ -6,7 +6,7 @@ use Rattle.tl_outside.specs.Causes.{Rose}
 use Rattle.tl_outside.specs.Told.{Files}
 use Rattle.tl_run.specs.declared.status.Status.{Status}
 use Rattle.tl_run.specs.declared.status.Status.TheVariants.{Yes, No, Spent, Refused, Range, ReadFault, WriteFault, NoMemory, Usage}
-use Rattle.tl_run.specs.Answers.{Answer, refusal, past_range, judged, searched, traced, explained, certified, unproved, judged_proof, sampled}
+use Rattle.tl_run.specs.Answers.{Answer, refusal, past_range, judged, searched, traced, explained, certified, unproved, judged_proof, sampled, costed, judged_loop}
 use Rattle.tl_run.specs.Commands.{Command}
 use Rattle.tl_run.specs.Inputs.{Input}
 use Rattle.tl_run.specs.Promises.{Gives, IsCalmStatus, Writes, Yields}
@@ -46,6 +46,8 @@ yields_outside (certified s proof) = (tt, tt, tt)
 yields_outside (unproved s o) = (tt, tt, tt)
 yields_outside (judged_proof v) = (tt, tt, tt)
 yields_outside (sampled n kept o v) = (tt, tt, tt)
+yields_outside (costed b o) = (tt, tt, tt)
+yields_outside (judged_loop v) = (tt, tt, tt)
 
 agrees_gives : (old new : Option (List ℕ)) (x : Input) (a : Answer) (status : Status) (text : List ℕ) → Agrees x a status text → new ≡ append_known old text → Gives old new x a status
 agrees_gives old new x a status text (inl agrees) e = inl (agrees.0, (text, agrees.1, e))

@@ -83,6 +83,8 @@ nothing_before P (held.Domain names d) x e is p = absurd (let k : ⊥ = cc in k)
 nothing_before P (held.Problem q) x e is p = absurd (let k : ⊥ = cc in k)
 nothing_before P (held.Plan q plan) x e is p = absurd (let k : ⊥ = cc in k)
 nothing_before P (held.Proof q proof) x e is p = absurd (let k : ⊥ = cc in k)
+nothing_before P (held.Costs q costs) x e is p = absurd (let k : ⊥ = cc in k)
+nothing_before P (held.Loop q plan) x e is p = absurd (let k : ⊥ = cc in k)
 
 -- a fault of reading is a stop at the file
 pub read_stop : {T : Type 0} (files : Option Files) (r : Role) (name : List ℕ) (x : Input) (number : ℕ) (whole : Option (List ℕ)) (before now : ℕ) (told : Fault) → (IsErrOf {T = T} (Err told) reading.Failed → Lacks files name ⊎ Rose before now) → (IsErrOf {T = T} (Err told) reading.TooLong → IsLonger files name 4194304) → (IsErrOf {T = T} (Err told) reading.TooLong → whole ≡ told_file files name) → IsTurnStop files r name x number whole before now (stop_of_reading number told)

@@ -14,6 +14,11 @@ use Rattle.tl_check.specs.Verdicts.{IsVerdict, IsCause}
 use Rattle.tl_action.specs.declared.check_fault.CheckFault.TheVariants as fault
 use Rattle.tl_check.specs.declared.verdict.Verdict.{Verdict}
 use Rattle.tl_check.specs.declared.verdict.Verdict.TheVariants.{Valid, NotExecutable, GoalUnmet, Disobeys}
+use Rattle.tl_cost.specs.CostTexts.{cost_text}
+use Rattle.tl_cost.specs.declared.outcome.CostOutcome.{CostOutcome}
+use Rattle.tl_lasso.specs.LoopTexts.{loop_text}
+use Rattle.tl_lasso.specs.Verdicts.{IsLoopVerdict, IsLoopCause}
+use Rattle.tl_lasso.specs.declared.verdict.LoopVerdict.{LoopVerdict}
 use Rattle.tl_search.specs.KeptPairs.{KeptPair}
 use Rattle.tl_search.specs.declared.event.Event.{Event}
 use Rattle.tl_search.specs.declared.outcome.Outcome.{Outcome}
@@ -28,16 +33,18 @@ use Rattle.tl_run.specs.declared.search.Search.{Search}
 use Rattle.tl_run.specs.declared.status.Status.{Status}
 use Rattle.tl_run.specs.declared.status.Status.TheVariants.{Yes, No, Spent, Refused, Range}
 use Rattle.tl_run.specs.declared.stop.Broken.{Broken}
+use Rattle.tl_run.specs.CheckLoop.{loop_status}
 use Rattle.tl_run.specs.CheckNone.{none_status}
-use Rattle.tl_run.specs.Commands.{Command, check, search, trace, explain, prove_none, check_none, sample}
-use Rattle.tl_run.specs.Inputs.{Input, nothing, a_domain, a_problem, a_plan, a_proof}
+use Rattle.tl_run.specs.Commands.{Command, check, search, trace, explain, prove_none, check_none, sample, cheapest, check_loop}
+use Rattle.tl_run.specs.Inputs.{Input, nothing, a_domain, a_problem, a_plan, a_proof, some_costs, a_loop}
+use Rattle.tl_run.specs.Cheapest.{IsCostOutcome, CheapestEndsPastRange, cost_status}
 use Rattle.tl_run.specs.Plan.{IsOutcome, EndsPastRange}
 use Rattle.tl_run.specs.ProveNone.{IsCertificate, LeavesNoProof, unproved_status}
 use Rattle.tl_run.specs.Refusals.{refusal_text}
 use Rattle.tl_run.specs.Trace.{IsTrace}
 use Rattle.tl_run.specs.Sample.{IsSummary, SampleEndsPastRange, sample_text}
 
--- the file of this number is refused by this rule; an operation is past range after so many actions, which are those of the path where one is shown; the verdict on a plan; the outcome of a search, or this with the search nodes that it kept and its events; the residuals along a plan, which its files determine; the proof that a search leaves, or the outcome of one that leaves none; the verdict on a proof; or, of the sample of so many balls, how many search nodes were kept, the outcome of its search and the verdict on its plan
+-- the file of this number is refused by this rule; an operation is past range after so many actions, which are those of the path where one is shown; the verdict on a plan; the outcome of a search, or this with the search nodes that it kept and its events; the residuals along a plan, which its files determine; the proof that a search leaves, or the outcome of one that leaves none; the verdict on a proof; of the sample of so many balls, how many search nodes were kept, the outcome of its search and the verdict on its plan; the outcome of a search for a cheapest plan that keeps at most so many search nodes; or the verdict on a plan with a repeated part
 pub data Answer : Type 0 where
   refusal : ℕ → Broken → Answer
   past_range : ℕ → RangeNote → List Action → Answer
@@ -49,6 +56,8 @@ pub data Answer : Type 0 where
   unproved : Search → Outcome → Answer
   judged_proof : NoneVerdict → Answer
   sampled : ℕ → ℕ → Outcome → Option Verdict → Answer
+  costed : ℕ → CostOutcome → Answer
+  judged_loop : LoopVerdict → Answer
 
 -- over what its files stand for, the answer is right for the command: one line for each command and answer
 abbrev pub IsRight : Command → Input → Answer → Type 0
@@ -67,6 +76,10 @@ IsRight (check_none d p q) (a_proof problem proof) (judged_proof v) = IsNoneVerd
 IsRight (check_none d p q) (a_proof problem proof) (past_range after note path) = IsNoneCause (plain_problem problem) proof.bound proof.links path (operation_of note) × (after ≡ length path)
 IsRight (sample m) (a_problem problem) (sampled n kept o v) = (n ≡ m) × IsSummary m (plain_problem problem) kept o v
 IsRight (sample m) (a_problem problem) (past_range after note path) = SampleEndsPastRange m (plain_problem problem) after note path
+IsRight (cheapest b d p k) (some_costs problem costs) (costed n o) = (n ≡ b) × IsCostOutcome b (plain_problem problem) costs o
+IsRight (cheapest b d p k) (some_costs problem costs) (past_range after note path) = CheapestEndsPastRange b (plain_problem problem) costs path note × (after ≡ length path)
+IsRight (check_loop d p q) (a_loop problem plan) (judged_loop v) = IsLoopVerdict (plain_problem problem) plan.stem plan.cycle v
+IsRight (check_loop d p q) (a_loop problem plan) (past_range after note path) = IsLoopCause (plain_problem problem) plan.stem plan.cycle (fault.Range after note) × (path ≡ [])
 IsRight command input answer = ⊥
 
 -- the status with a verdict
@@ -95,6 +108,8 @@ status_of (certified s proof) = Yes
 status_of (unproved s o) = unproved_status o
 status_of (judged_proof v) = none_status v
 status_of (sampled n kept o v) = Yes
+status_of (costed b o) = cost_status o
+status_of (judged_loop v) = loop_status v
 
 -- the names that actions are written with
 abbrev pub names_in : Input → List (List ℕ)
@@ -103,6 +118,8 @@ names_in (a_domain forms) = []
 names_in (a_problem p) = p.names
 names_in (a_plan p plan) = p.names
 names_in (a_proof p proof) = p.names
+names_in (some_costs p costs) = p.names
+names_in (a_loop p plan) = p.names
 
 -- the operators of these actions
 abbrev pub operators_in : Input → List Operator
@@ -111,6 +128,8 @@ operators_in (a_domain forms) = []
 operators_in (a_problem p) = p.domain.operators
 operators_in (a_plan p plan) = p.domain.operators
 operators_in (a_proof p proof) = p.domain.operators
+operators_in (some_costs p costs) = p.domain.operators
+operators_in (a_loop p plan) = p.domain.operators
 
 -- the lines of events, over the problem that the files stand for
 abbrev pub events_text : Input → List KeptPair → List Event → List ℕ
@@ -119,6 +138,8 @@ events_text (a_domain forms) kept events = []
 events_text (a_problem p) kept events = trace_text p.names p.domain kept events
 events_text (a_plan p plan) kept events = trace_text p.names p.domain kept events
 events_text (a_proof p proof) kept events = trace_text p.names p.domain kept events
+events_text (some_costs p costs) kept events = trace_text p.names p.domain kept events
+events_text (a_loop p plan) kept events = trace_text p.names p.domain kept events
 
 -- the lines that explain the plan of the files
 abbrev pub explanation_in : Input → List ℕ
@@ -127,6 +148,8 @@ explanation_in (a_domain forms) = []
 explanation_in (a_problem p) = []
 explanation_in (a_plan p plan) = explain_text p plan
 explanation_in (a_proof p proof) = []
+explanation_in (some_costs p costs) = []
+explanation_in (a_loop p plan) = []
 
 -- the bound of the proof of the files
 abbrev pub bound_in : Input → Option ℕ
@@ -135,6 +158,8 @@ bound_in (a_domain forms) = None
 bound_in (a_problem p) = None
 bound_in (a_plan p plan) = None
 bound_in (a_proof p proof) = proof.bound
+bound_in (some_costs p costs) = None
+bound_in (a_loop p plan) = None
 
 -- the lines of an answer
 abbrev pub text_of : Input → Answer → List ℕ
@@ -148,3 +173,5 @@ text_of input (certified s proof) = proof_text (names_in input) (operators_in in
 text_of input (unproved s o) = outcome_text (names_in input) (operators_in input) s.within s.nodes o
 text_of input (judged_proof v) = none_text (names_in input) (operators_in input) (bound_in input) v
 text_of input (sampled n kept o v) = sample_text n kept o v
+text_of input (costed b o) = cost_text (names_in input) (operators_in input) b o
+text_of input (judged_loop v) = loop_text v

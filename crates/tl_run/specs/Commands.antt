@@ -8,7 +8,7 @@ use Rattle.tl_run.specs.declared.words.Role.TheVariants as role
 use Rattle.tl_run.specs.declared.search.Mode.TheVariants.{Breadth}
 use Rattle.tl_run.specs.Searches.{breadth_in, number_in, search_in, IsWithinLimits}
 
--- a command, with the names of its files: `check`, `plan` and `trace` with their search, `explain`, `prove-none` with its search, and `check-none`; and `sample` with its number of balls
+-- a command, with the names of its files: `check`, `plan` and `trace` with their search, `explain`, `prove-none` with its search, and `check-none`; `sample` with its number of balls; `cheapest`, again with files, and with the most search nodes that it keeps; and `check-loop`, whose plan has a repeated part
 pub data Command : Type 0 where
   check : List ℕ → List ℕ → List ℕ → Command
   search : Search → List ℕ → List ℕ → Command
@@ -17,6 +17,8 @@ pub data Command : Type 0 where
   prove_none : Search → List ℕ → List ℕ → Command
   check_none : List ℕ → List ℕ → List ℕ → Command
   sample : ℕ → Command
+  cheapest : ℕ → List ℕ → List ℕ → List ℕ → Command
+  check_loop : List ℕ → List ℕ → List ℕ → Command
 
 -- the files of a command, in the order in which they are read, each with what it is read as; a sample has none
 abbrev pub files_of : Command → List (Role × List ℕ)
@@ -27,6 +29,8 @@ files_of (explain domain problem plan) = (role.Domain, domain) ∷ ((role.Proble
 files_of (prove_none s domain problem) = (role.Domain, domain) ∷ ((role.Problem, problem) ∷ [])
 files_of (check_none domain problem proof) = (role.Domain, domain) ∷ ((role.Problem, problem) ∷ ((role.Proof, proof) ∷ []))
 files_of (sample balls) = []
+files_of (cheapest nodes domain problem costs) = (role.Domain, domain) ∷ ((role.Problem, problem) ∷ ((role.Costs, costs) ∷ []))
+files_of (check_loop domain problem plan) = (role.Domain, domain) ∷ ((role.Problem, problem) ∷ ((role.Loop, plan) ∷ []))
 
 -- the command on a sample that a word names
 abbrev pub sample_command : List ℕ → List ℕ → Option Command
@@ -37,7 +41,8 @@ abbrev pub plan_command : List ℕ → List ℕ → List ℕ → List ℕ → Op
 plan_command word domain problem plan =
     if bytes_eq word (codes "check") then Some (check domain problem plan)
     else (if bytes_eq word (codes "explain") then Some (explain domain problem plan)
-    else (if bytes_eq word (codes "check-none") then Some (check_none domain problem plan) else None))
+    else (if bytes_eq word (codes "check-none") then Some (check_none domain problem plan)
+    else (if bytes_eq word (codes "check-loop") then Some (check_loop domain problem plan) else None)))
 
 -- the command with a search that a word names
 abbrev pub search_command : List ℕ → List ℕ → List ℕ → Search → Option Command
@@ -49,12 +54,21 @@ search_command word domain problem s =
 abbrev pub none_command : List ℕ → List ℕ → List ℕ → Search → Option Command
 none_command word domain problem s = if bytes_eq word (codes "prove-none") then Some (prove_none s domain problem) else None
 
+-- the command on a costs file
+abbrev pub cheapest_command : List ℕ → List ℕ → List ℕ → List ℕ → Option Command
+cheapest_command nodes domain problem costs = option_map (λ (b : ℕ). cheapest b domain problem costs) (number_in 1 100000 nodes)
+
+-- the command of five words: on a costs file, or with a search breadth-first
+abbrev pub five_words_command : List ℕ → List ℕ → List ℕ → List ℕ → List ℕ → Option Command
+five_words_command word first second third fourth =
+    if bytes_eq word (codes "cheapest") then cheapest_command first second third fourth
+    else option_and_then (none_command word third fourth) (breadth_in first second)
+
 -- the command that the words after the program's name write
 abbrev pub command_in : List (List ℕ) → Option Command
 command_in (word ∷ (balls ∷ [])) = sample_command word balls
 command_in (word ∷ (domain ∷ (problem ∷ (plan ∷ [])))) = plan_command word domain problem plan
-command_in (word ∷ (within ∷ (nodes ∷ (domain ∷ (problem ∷ []))))) =
-    option_and_then (none_command word domain problem) (breadth_in within nodes)
+command_in (word ∷ (first ∷ (second ∷ (third ∷ (fourth ∷ []))))) = five_words_command word first second third fourth
 command_in (word ∷ (mode ∷ (within ∷ (nodes ∷ (domain ∷ (problem ∷ [])))))) =
     option_and_then (search_command word domain problem) (search_in mode within nodes)
 command_in words = None
@@ -68,3 +82,5 @@ KeepsLimits (explain domain problem plan) = ⊤
 KeepsLimits (prove_none s domain problem) = (s.mode ≡ Breadth) × IsWithinLimits s
 KeepsLimits (check_none domain problem proof) = ⊤
 KeepsLimits (sample balls) = (1 ≤ balls) × (balls ≤ 100)
+KeepsLimits (cheapest nodes domain problem costs) = (1 ≤ nodes) × (nodes ≤ 100000)
+KeepsLimits (check_loop domain problem plan) = ⊤

@@ -11,6 +11,10 @@ use Rattle.tl_domain.specs.Files.{AreFilesOf, problem_breaks}
 use Rattle.tl_cert.specs.MeaningOfProofs.{proof_meant}
 use Rattle.tl_cert.specs.ProofFiles.{proof_breaks}
 use Rattle.tl_cert.specs.declared.proof.Proof.{Proof}
+use Rattle.tl_cost.specs.CostFiles.{costs_breaks, costs_meant}
+use Rattle.tl_lasso.specs.LoopFiles.{loop_breaks}
+use Rattle.tl_lasso.specs.MeaningOfLoops.{loop_meant}
+use Rattle.tl_lasso.specs.declared.plan.LoopPlan.{LoopPlan}
 use Rattle.tl_text.specs.Plans.{plan_breaks}
 use Rattle.tl_text.specs.MeaningOfPlans.{plan_meant}
 use Rattle.tl_run.specs.declared.words.Role.{Role}
@@ -19,13 +23,15 @@ use Rattle.tl_run.specs.declared.stop.Broken.{Broken}
 use Rattle.tl_run.specs.declared.stop.Broken.TheVariants as broken
 use Rattle.tl_run.specs.Files.{SpellShortly}
 
--- what the files that were read so far stand for: the forms of a domain file, a problem, a problem with a plan, or one with a proof
+-- what the files that were read so far stand for: the forms of a domain file, a problem, a problem with a plan, with a proof, with the cost of each operator, or with a plan that has a repeated part
 pub data Input : Type 0 where
   nothing : Input
   a_domain : FormTrees → Input
   a_problem : Problem → Input
   a_plan : Problem → List Action → Input
   a_proof : Problem → Proof → Input
+  some_costs : Problem → List ℕ → Input
+  a_loop : Problem → LoopPlan → Input
 
 -- the rules that the forms of a file of this role break, after what was read before: one line for each role
 abbrev pub breaks_of : Role → Input → FormTrees → List Break
@@ -33,6 +39,8 @@ breaks_of role.Domain nothing forms = domain_file_breaks forms
 breaks_of role.Problem (a_domain first) forms = problem_breaks first forms
 breaks_of role.Plan (a_problem p) forms = plan_breaks p.names p.domain.operators forms
 breaks_of role.Proof (a_problem p) forms = proof_breaks p.names p.domain.operators forms
+breaks_of role.Costs (a_problem p) forms = costs_breaks p.names p.domain.operators forms
+breaks_of role.Loop (a_problem p) forms = loop_breaks p.names p.domain.operators forms
 breaks_of r before forms = []
 
 -- the forms of a file of this role, which break no rule, stand for this together with what was read before: one line for each role
@@ -41,6 +49,8 @@ IsMeant role.Domain nothing forms (a_domain first) = first ≡ forms
 IsMeant role.Problem (a_domain first) forms (a_problem p) = AreFilesOf first forms p
 IsMeant role.Plan (a_problem p) forms (a_plan q plan) = (q ≡ p) × (plan ≡ plan_meant p.names p.domain.operators forms)
 IsMeant role.Proof (a_problem p) forms (a_proof q proof) = (q ≡ p) × (proof ≡ proof_meant p.names p.domain.operators forms)
+IsMeant role.Costs (a_problem p) forms (some_costs q costs) = (q ≡ p) × (costs ≡ costs_meant p.names p.domain.operators forms)
+IsMeant role.Loop (a_problem p) forms (a_loop q plan) = (q ≡ p) × (plan ≡ loop_meant p.names p.domain.operators forms)
 IsMeant r before forms after = ⊥
 
 -- after what was read before, a file of this role with these bytes breaks no rule, and all stand for this together

@@ -2,11 +2,12 @@
 use Rattle.tl_cert.specs.Laws.{CoveredHasNone, OneNoneVerdict}
 use Rattle.tl_check.specs.LawsVerdict.{OneVerdict}
 use Rattle.tl_domain.specs.LawsFiles.{FilesStandForOneProblem}
+use Rattle.tl_lasso.specs.Laws.{OneLoopVerdict}
 use Rattle.tl_search.specs.LawsOutcomes.{AnswersExcludeEachOther, FewPairsAreNotSpent}
 use Rattle.tl_search.specs.LawsRange.{CalmHasNoCause}
 use Rattle.tl_terms.specs.LawsOrders.{PlanOrderIsTotal}
 
--- one verdict is right of a plan, and of a proof, which leaves no plan where it covers the search space; two files stand for one problem, plans are totally ordered, and what a search answers excludes what else it could answer
+-- one verdict is right of a plan, of one with a repeated part, and of a proof, which leaves no plan where it covers the search space; two files stand for one problem, plans are totally ordered, and what a search answers excludes what else it could answer
 pub record Laws : Type 0 where
   pub verdicts : OneVerdict
   pub problems : FilesStandForOneProblem
@@ -16,3 +17,4 @@ pub record Laws : Type 0 where
   pub calm : CalmHasNoCause
   pub covered : CoveredHasNone
   pub none_verdicts : OneNoneVerdict
+  pub loop_verdicts : OneLoopVerdict

@@ -15,6 +15,8 @@ pub mod Explain
 pub mod ProveNone
 pub mod CheckNone
 pub mod Sample
+pub mod Cheapest
+pub mod CheckLoop
 pub mod Searched
 pub mod Promises
 pub mod Held

@@ -3,6 +3,8 @@ use Rattle.std.specs.Prelude.{◌≡◌, ◌⊎◌, ℕ, List, Option, ⊤}
 use Rattle.std.specs.Io.KnownBytes.{append_known}
 use Rattle.tl_cert.specs.declared.proof.Proof.{Proof}
 use Rattle.tl_check.specs.declared.verdict.Verdict.{Verdict}
+use Rattle.tl_cost.specs.declared.outcome.CostOutcome.{CostOutcome}
+use Rattle.tl_cost.specs.declared.outcome.CostOutcome.TheVariants as costs
 use Rattle.tl_outside.specs.Told.{Files, GrowsByPart}
 use Rattle.tl_search.specs.KeptPairs.{KeptPair}
 use Rattle.tl_search.specs.declared.event.Event.{Event}
@@ -11,10 +13,12 @@ use Rattle.tl_search.specs.declared.outcome.Outcome.TheVariants as outcome
 use Rattle.tl_run.specs.declared.status.Status.{Status}
 use Rattle.tl_run.specs.declared.status.Status.TheVariants.{Yes, No, Spent, Range, ReadFault, WriteFault, NoMemory, Usage}
 use Rattle.tl_text.specs.Outcomes.{spent_text}
-use Rattle.tl_run.specs.Answers.{Answer, refusal, past_range, judged, searched, traced, IsRight, status_of, text_of, explained, certified, unproved, judged_proof, sampled, outcome_status}
+use Rattle.tl_run.specs.Answers.{Answer, refusal, past_range, judged, searched, traced, IsRight, status_of, text_of, explained, certified, unproved, judged_proof, sampled, outcome_status, costed, judged_loop}
 use Rattle.tl_run.specs.Check.{SaysAccepted, HasCalmPlan}
+use Rattle.tl_run.specs.CheckLoop.{SaysAcceptedForEver, HasCalmLoop}
 use Rattle.tl_run.specs.CheckNone.{SaysProved, HasCalmProof}
-use Rattle.tl_run.specs.Commands.{Command, check, search, trace, explain, prove_none, check_none, sample}
+use Rattle.tl_run.specs.Commands.{Command, check, search, trace, explain, prove_none, check_none, sample, cheapest, check_loop}
+use Rattle.tl_run.specs.Cheapest.{AreAlike, HasCalmCosts, IsCostOutcomeOver, PrintsCheapestPlan, SaysNoPlanAtAll}
 use Rattle.tl_run.specs.Explain.{ExplainsPlan, HasCalmStates}
 use Rattle.tl_run.specs.Inputs.{Input}
 use Rattle.tl_run.specs.Plan.{PrintsPlan, SaysNoPlan, HasCalmSearch}
@@ -58,6 +62,14 @@ OutcomeYields outcome.Spent Yes = ⊤
 OutcomeYields outcome.Spent No = ⊤
 OutcomeYields o status = ⊥
 
+-- the statuses that may come in place of the outcome of a search for a cheapest plan: past range and spent, each by its cause; to have met too many search nodes excludes no other answer
+abbrev pub CostYields : CostOutcome → Status → Type 0
+CostYields o Range = ⊤
+CostYields o Spent = ⊤
+CostYields costs.Spent Yes = ⊤
+CostYields costs.Spent No = ⊤
+CostYields o status = ⊥
+
 -- the statuses that may come in place of a right answer, each by a cause of its own
 abbrev pub Yields : Answer → Status → Type 0
 Yields answer ReadFault = ⊤
@@ -72,6 +84,8 @@ Yields (certified s proof) Spent = ⊤
 Yields (unproved s o) status = OutcomeYields o status
 Yields (judged_proof v) Range = ⊤
 Yields (sampled n kept o v) Range = ⊤
+Yields (costed b o) status = CostYields o status
+Yields (judged_loop v) Range = ⊤
 Yields (past_range after note path) Range = ⊤
 Yields (past_range after note path) Spent = ⊤
 Yields (past_range after note path) Yes = ⊤
@@ -87,20 +101,21 @@ pub record SummarizesAlike (input : Input) (balls : ℕ) (o : Outcome) (text : L
   pub alike : (ended ≡ o) ⊎ OutcomeYields o (outcome_status ended)
   pub lines : text ≡ sample_text balls kept ended verdict
 
--- the lines are those of the answer; a trace may tell of other events that are right of its search and its outcome, a proof may be another one with the same bound that covers the search space, and a sample of another number of kept search nodes
+-- the lines are those of the answer; a trace may tell of other events that are right of its search and its outcome, a proof may be another one with the same bound that covers the search space, and a sample of another number of kept search nodes; of several cheapest plans with the same number of actions any one may be shown
 abbrev pub IsTextOf : Input → Answer → List ℕ → Type 0
 IsTextOf input (traced s kept events o) text =
     (others : List KeptPair) × (told : List Event) × IsTraceOver input s others told o × (text ≡ text_of input (traced s others told o))
 IsTextOf input (certified s proof) text =
     (other : Proof) × IsCertificateOver input s other × (other.bound ≡ proof.bound) × (text ≡ text_of input (certified s other))
 IsTextOf input (sampled n kept o v) text = SummarizesAlike input n o text
+IsTextOf input (costed b o) text = (ended : CostOutcome) × IsCostOutcomeOver input b ended × AreAlike o ended × (text ≡ text_of input (costed b ended))
 IsTextOf input answer text = text ≡ text_of input answer
 
 -- the right answer is written with its status, unless another comes in its place
 abbrev pub Gives : Option (List ℕ) → Option (List ℕ) → Input → Answer → Status → Type 0
 Gives old new input answer status = ((status ≡ status_of answer) × ((text : List ℕ) × IsTextOf input answer text × (new ≡ append_known old text))) ⊎ Yields answer status
 
--- what a reader of the lines may rely on: `; valid` says that the plan is accepted; a printed plan is accepted and short enough, and breadth-first no accepted plan is shorter; `; none` says that no plan is accepted, and `; none within N` that none of at most N actions is; each branch that a trace reports as pruned begins no run that satisfies the control formula; the lines that explain a plan show the residual after each of its states, and which action is the first without a step; a printed proof covers the search space, and `; proved none` says that the proof of the files does, so that no plan is accepted, or none within the proof's bound; and the lines of a sample say so too, and no sample ends with another status than Yes
+-- what a reader of the lines may rely on: `; valid` says that the plan is accepted; a printed plan is accepted and short enough, and breadth-first no accepted plan is shorter; `; none` says that no plan is accepted, and `; none within N` that none of at most N actions is; each branch that a trace reports as pruned begins no run that satisfies the control formula; the lines that explain a plan show the residual after each of its states, and which action is the first without a step; a printed proof covers the search space, and `; proved none` says that the proof of the files does, so that no plan is accepted, or none within the proof's bound; the lines of a sample say so too, and no sample ends with another status than Yes; a plan that is printed as a cheapest one is accepted and costs what is printed, no accepted plan costs less, and none of this cost has fewer actions, and `; none` says there too that no plan is accepted; and `; valid for ever` says that the plan is accepted for ever
 abbrev pub Headline : Option Files → Command → Status → List ℕ → Type 0
 Headline files (check d p q) Yes text = SaysAccepted files (check d p q) text
 Headline files (search s d p) Yes text = PrintsPlan files (search s d p) s text
@@ -115,6 +130,9 @@ Headline files (check_none d p q) Yes text = SaysProved files (check_none d p q)
 Headline files (sample balls) Yes text = SaysSummary balls text
 Headline files (sample balls) No text = ⊥
 Headline files (sample balls) Spent text = ⊥
+Headline files (cheapest b d p k) Yes text = PrintsCheapestPlan files (cheapest b d p k) text
+Headline files (cheapest b d p k) No text = SaysNoPlanAtAll files (cheapest b d p k) text
+Headline files (check_loop d p q) Yes text = SaysAcceptedForEver files (check_loop d p q) text
 Headline files c status text = ⊤
 
 -- nothing past range is looked at, and a search has room for the search nodes that it meets
@@ -126,6 +144,8 @@ IsCalm files (explain d p q) = HasCalmStates files (explain d p q)
 IsCalm files (prove_none s d p) = HasCalmSearch files (prove_none s d p) s
 IsCalm files (check_none d p q) = HasCalmProof files (check_none d p q)
 IsCalm files (sample balls) = HasCalmSample balls
+IsCalm files (cheapest b d p k) = HasCalmCosts files (cheapest b d p k) b
+IsCalm files (check_loop d p q) = HasCalmLoop files (check_loop d p q)
 
 -- an answer of the command itself, or one by a cause outside it
 abbrev pub IsCalmStatus : Status → Type 0

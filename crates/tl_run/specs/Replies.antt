@@ -9,7 +9,7 @@ use Rattle.tl_run.specs.declared.turn.Input.{Input as Held}
 use Rattle.tl_run.specs.declared.words.Role.TheVariants as role
 use Rattle.tl_run.specs.Held.{last_role}
 use Rattle.tl_run.specs.Answers.{Answer, IsRight, status_of, text_of}
-use Rattle.tl_run.specs.Commands.{Command, check, search, trace, explain, prove_none, check_none, sample}
+use Rattle.tl_run.specs.Commands.{Command, check, search, trace, explain, prove_none, check_none, sample, cheapest, check_loop}
 use Rattle.tl_run.specs.Inputs.{Input}
 
 -- the status and the lines of a right answer
@@ -28,6 +28,8 @@ Fits (explain d p q) held = last_role held ≡ Some role.Plan
 Fits (prove_none s d p) held = last_role held ≡ Some role.Problem
 Fits (check_none d p q) held = last_role held ≡ Some role.Proof
 Fits (sample balls) held = last_role held ≡ Some role.Problem
+Fits (cheapest b d p k) held = last_role held ≡ Some role.Costs
+Fits (check_loop d p q) held = last_role held ≡ Some role.Loop
 
 -- a status that comes with lines
 abbrev pub HasLines : Status → Type 0

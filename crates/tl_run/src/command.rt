@@ -37,13 +37,15 @@ pub fn run<S: Store, K: Sink>(alloc: Global, words: &[String], store: &mut S, ou
     ensures untouched { result ≡ Status.Usage → (store.new ≡ store.old) × (out.new ≡ out.old) }
 
     // A file is begun only in its turn, after those before it have passed.
-    ensures begun { (c : Command) → command_in (map string_bytes words.now) ≡ Some c → BegunInTurn (S.files store.old) c (S.begun store.new - S.begun store.old) }
+    ensures begun { (c : Command) → command_in (map string_bytes words.now) ≡ Some c
+        → BegunInTurn (S.files store.old) c (S.begun store.new - S.begun store.old) }
     ensures read_fault { (c : Command) → command_in (map string_bytes words.now) ≡ Some c → result ≡ Status.ReadFault
         → LacksFile (S.files store.old) c ⊎ Rose (S.faults store.old) (S.faults store.new) }
     ensures write_fault { result ≡ Status.WriteFault → Rose (K.faults out.old) (K.faults out.new) }
 
     // A plan is accepted where the answer is `; valid`. A printed plan is accepted and has at most N actions, and breadth-first no accepted plan is shorter; after `; none` no plan is accepted, and after `; none within N` none of at most N actions.
     // The lines of `explain` show the residual in each state of the plan, and which action is the first without a step.
+    // A plan that `cheapest` prints is accepted and costs what is printed, no accepted plan costs less, and none of this cost has fewer actions. A plan with a repeated part is accepted for ever where the answer is `; valid for ever`.
     ensures headline { (c : Command) → command_in (map string_bytes words.now) ≡ Some c
         → Writes (Headline (S.files store.old) c) (K.bytes out.old) (K.bytes out.new) result }
 

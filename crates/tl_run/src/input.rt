@@ -17,7 +17,8 @@ use tl_outside::Store;
 /// What the files of the command stand for. Each is begun after those before it have passed.
 fn read_files<S: Store>(alloc: Global, store: &mut S, command: Command<'_>) -> Result<Input, Stop>
     requires { ReadsFiles (command_meant command) }
-    ensures held { IfOk result (λ held. (x : inputs.Input) × HoldInput (S.files store.old) (command_meant command.entry) x × IsHeld held x) }
+    ensures held { IfOk result (λ held. (x : inputs.Input)
+        × HoldInput (S.files store.old) (command_meant command.entry) x × IsHeld held x) }
     ensures keeps { IfOk result KeepsBounds }
     ensures stop { IfErr result (IsStop (S.files store.old) (command_meant command.entry)
         (record { whole = S.whole store.new; count = S.begun store.new - S.begun store.old }) (S.faults store.old) (S.faults store.new)) }
@@ -40,7 +41,8 @@ pub(crate) fn read_input<S: Store>(
     command: Command<'_>,
 ) -> Result<Input, Stop>
     requires { KeepsLimits (command_meant command) }
-    ensures held { IfOk result (λ held. (x : inputs.Input) × HoldInput (S.files store.old) (command_meant command.entry) x × IsHeld held x) }
+    ensures held { IfOk result (λ held. (x : inputs.Input)
+        × HoldInput (S.files store.old) (command_meant command.entry) x × IsHeld held x) }
     ensures keeps { IfOk result KeepsBounds }
     ensures stop { IfErr result (IsStop (S.files store.old) (command_meant command.entry)
         (record { whole = S.whole store.new; count = S.begun store.new - S.begun store.old }) (S.faults store.old) (S.faults store.new)) }

@@ -11,7 +11,9 @@ ghost use Rattle.tl_run.specs.Stops.{IsBareStatus};
 ghost use Rattle.tl_run.specs.Turns.{BegunInTurn};
 ghost use Rattle.tl_run.specs.Words.{command_meant};
 
-use crate::commands::{check, check_none, explain, plan, prove_none, sample, trace};
+use crate::commands::{
+    cheapest, check, check_loop, check_none, explain, plan, prove_none, sample, trace,
+};
 use crate::input::read_input;
 use crate::status::Status;
 use crate::stop::{Broken, Stop};
@@ -65,6 +67,14 @@ fn reply_over(alloc: Global, command: Command<'_>, input: Input) -> Result<Reply
             check_none::reply(alloc, problem, &proof)
         }
         Command::Sample { balls } => sample::reply(alloc, input.into_problem(), balls),
+        Command::Cheapest { nodes, .. } => {
+            let (problem, costs) = input.into_costs();
+            cheapest::reply(alloc, problem, &costs, nodes)
+        }
+        Command::CheckLoop { .. } => {
+            let (problem, plan) = input.into_loop();
+            check_loop::reply(alloc, problem, &plan)
+        }
     }
 }
 

@@ -8,10 +8,12 @@ ghost use Rattle.tl_syntax.specs.Lists.{Each};
 ghost use Rattle.tl_line.specs.NamedActions.{ActionIsNamed};
 ghost use Rattle.tl_cert.specs.MeaningOfProofs.{proof_meant};
 ghost use Rattle.tl_cert.specs.ProofTexts.{LinksAreNamed};
+ghost use Rattle.tl_cost.specs.CostFiles.{costs_meant};
+ghost use Rattle.tl_lasso.specs.MeaningOfLoops.{loop_meant};
 ghost use Rattle.tl_text.specs.MeaningOfPlans.{plan_meant};
 ghost use Rattle.tl_run.specs.declared.words.Role.TheVariants as role;
 ghost use Rattle.tl_domain.specs.Files.{IsDomainOf};
-ghost use Rattle.tl_run.specs.Held.{HoldsFile, HoldsForms, IsHeld, KeepsBounds, last_role, role_before};
+ghost use Rattle.tl_run.specs.Held.{HoldsFile, HoldsForms, IsHeld, KeepsBounds, KeepsParts, last_role, role_before};
 ghost use Rattle.tl_run.specs.Inputs.{nothing, a_domain, a_problem, breaks_of, IsBroken, StandsFor};
 ghost use Rattle.tl_run.specs.Inputs as inputs;
 ghost use Rattle.tl_run.specs.Stops.{IsFileStop, IsFormsStop, IsTurnStop};
@@ -21,7 +23,9 @@ use crate::words::{File, Role};
 use std::alloc::Global;
 use std::mem;
 use tl_cert::{Proof, proof_of};
+use tl_cost::{Costs, costs_of};
 use tl_domain::{domain_of, problem_of};
+use tl_lasso::{LoopPlan, loop_of};
 use tl_outside::{Store, read_whole};
 use tl_sexpr::{Forms, offsets_rise, read_forms};
 use tl_syntax::{Actions, Bytes, Domain, Names, Problem};
@@ -39,17 +43,38 @@ pub(crate) enum Input {
     Plan(Problem, Actions),
     /// A problem with a proof that it has no plan.
     Proof(Problem, Proof),
+    /// A problem with the cost of each operator.
+    Costs(Problem, Costs),
+    /// A problem with a plan that has a repeated part.
+    Loop(Problem, LoopPlan),
 }
 
-// Written out, so that what drops an input calls this.
+// Written out, so that what drops an input calls this; each value goes by a call of its own, which keeps the model of this function small.
 impl Drop for Input {
     fn drop(self) {
         match self {
             Input::Nothing => {}
-            Input::Domain(_names, _domain) => {}
-            Input::Problem(_problem) => {}
-            Input::Plan(_problem, _actions) => {}
-            Input::Proof(_problem, _proof) => {}
+            Input::Domain(names, domain) => {
+                drop(domain);
+                drop(names);
+            }
+            Input::Problem(problem) => drop(problem),
+            Input::Plan(problem, actions) => {
+                drop(problem);
+                drop(actions);
+            }
+            Input::Proof(problem, proof) => {
+                drop(problem);
+                drop(proof);
+            }
+            Input::Costs(problem, costs) => {
+                drop(problem);
+                drop(costs);
+            }
+            Input::Loop(problem, plan) => {
+                drop(problem);
+                drop(plan);
+            }
         }
     }
 }
@@ -95,6 +120,28 @@ impl Input {
     {
         match self {
             Input::Proof(problem, proof) => (problem, proof),
+            _ => unreachable!(),
+        }
+    }
+
+    /// The costs that were read last, and the problem before them.
+    pub(crate) fn into_costs(self) -> (Problem, Costs)
+        requires { last_role self ≡ Some role.Costs }
+        ensures { self ≡ Input.Costs result.0 result.1 }
+    {
+        match self {
+            Input::Costs(problem, costs) => (problem, costs),
+            _ => unreachable!(),
+        }
+    }
+
+    /// The plan with a repeated part that was read last, and the problem before it.
+    pub(crate) fn into_loop(self) -> (Problem, LoopPlan)
+        requires { last_role self ≡ Some role.Loop }
+        ensures { self ≡ Input.Loop result.0 result.1 }
+    {
+        match self {
+            Input::Loop(problem, plan) => (problem, plan),
             _ => unreachable!(),
         }
     }
@@ -146,10 +193,12 @@ fn problem_in(
     requires few { symbols_in_all (trees_of forms.now) ≤ 4194304 }
     requires names { length names ≤ 4194304 }
     requires keeps { DomainKeeps (length names) domain }
-    ensures held { (first : FormTrees) → IsDomainOf first names domain → IfOk result (HoldsForms role.Problem (a_domain first) (trees_of forms.now)) }
+    ensures held { (first : FormTrees) → IsDomainOf first names domain
+        → IfOk result (HoldsForms role.Problem (a_domain first) (trees_of forms.now)) }
     ensures keeps { IfOk result KeepsBounds }
     ensures last { IfOk result (λ held. last_role held ≡ Some role.Problem) }
-    ensures stop { (first : FormTrees) → IsDomainOf first names domain → IfErr result (IsFormsStop number (breaks_of role.Problem (a_domain first) (trees_of forms.now))) }
+    ensures stop { (first : FormTrees) → IsDomainOf first names domain
+        → IfErr result (IsFormsStop number (breaks_of role.Problem (a_domain first) (trees_of forms.now))) }
 {
     match problem_of(alloc, forms, domain, names) {
         Ok(problem) => Ok(Input::Problem(problem)),
@@ -221,6 +270,67 @@ fn proof_in(alloc: Global, number: u8, forms: &Forms, problem: Problem) -> Resul
     }
 }
 
+/// The cost of each operator that the forms of a file give, after files that stand for this problem.
+fn prices_in(alloc: Global, number: u8, forms: &Forms, problem: &Problem) -> Result<Costs, Stop>
+    requires { AreAsRead (trees_of forms.now) }
+    ensures lawful { OnOk result (breaks_of role.Costs (a_problem problem.now) (trees_of forms.now) ≡ []) }
+    ensures meant { IfOk result (λ costs. costs ≡ costs_meant problem.now.names problem.now.domain.operators (trees_of forms.now)) }
+    ensures stop { IfErr result (IsFormsStop number (breaks_of role.Costs (a_problem problem.now) (trees_of forms.now))) }
+{
+    match costs_of(alloc, forms, problem) {
+        Ok(costs) => Ok(costs),
+        Err(fault) => Err(Stop::of_forms(number, fault)),
+    }
+}
+
+/// The costs of the forms of a file, after files that stand for this problem.
+fn costs_in(alloc: Global, number: u8, forms: &Forms, problem: Problem) -> Result<Input, Stop>
+    requires { AreAsRead (trees_of forms.now) }
+    ensures held { IfOk result (HoldsForms role.Costs (a_problem problem) (trees_of forms.now)) }
+    ensures keeps { IfOk result KeepsBounds }
+    ensures last { IfOk result (λ held. last_role held ≡ Some role.Costs) }
+    ensures stop { IfErr result (IsFormsStop number (breaks_of role.Costs (a_problem problem) (trees_of forms.now))) }
+{
+    match prices_in(alloc, number, forms, &problem) {
+        Ok(costs) => Ok(Input::Costs(problem, costs)),
+        Err(stop) => {
+            drop(problem);
+            Err(stop)
+        }
+    }
+}
+
+/// Both parts of the plan of the forms of a file, after files that stand for this problem.
+fn parts_in(alloc: Global, number: u8, forms: &Forms, problem: &Problem) -> Result<LoopPlan, Stop>
+    requires { AreAsRead (trees_of forms.now) }
+    ensures lawful { OnOk result (breaks_of role.Loop (a_problem problem.now) (trees_of forms.now) ≡ []) }
+    ensures meant { IfOk result (λ plan. plan ≡ loop_meant problem.now.names problem.now.domain.operators (trees_of forms.now)) }
+    ensures keeps { IfOk result (KeepsParts problem.now.names problem.now.domain.operators) }
+    ensures stop { IfErr result (IsFormsStop number (breaks_of role.Loop (a_problem problem.now) (trees_of forms.now))) }
+{
+    match loop_of(alloc, forms, problem) {
+        Ok(plan) => Ok(plan),
+        Err(fault) => Err(Stop::of_forms(number, fault)),
+    }
+}
+
+/// The plan with a repeated part of the forms of a file, after files that stand for this problem.
+fn loop_in(alloc: Global, number: u8, forms: &Forms, problem: Problem) -> Result<Input, Stop>
+    requires { AreAsRead (trees_of forms.now) }
+    ensures held { IfOk result (HoldsForms role.Loop (a_problem problem) (trees_of forms.now)) }
+    ensures keeps { IfOk result KeepsBounds }
+    ensures last { IfOk result (λ held. last_role held ≡ Some role.Loop) }
+    ensures stop { IfErr result (IsFormsStop number (breaks_of role.Loop (a_problem problem) (trees_of forms.now))) }
+{
+    match parts_in(alloc, number, forms, &problem) {
+        Ok(plan) => Ok(Input::Loop(problem, plan)),
+        Err(stop) => {
+            drop(problem);
+            Err(stop)
+        }
+    }
+}
+
 /// What the forms of a file of this role stand for, together with what was read before.
 fn forms_in(
     alloc: Global,
@@ -236,7 +346,8 @@ fn forms_in(
     ensures held { (x : inputs.Input) → IsHeld before x → IfOk result (HoldsForms role x (trees_of forms.now)) }
     ensures keeps { IfOk result KeepsBounds }
     ensures last { IfOk result (λ held. last_role held ≡ Some role) }
-    ensures stop { (x : inputs.Input) → IsHeld before x → IfErr result (IsFormsStop number (breaks_of role x (trees_of forms.now))) }
+    ensures stop { (x : inputs.Input) → IsHeld before x
+        → IfErr result (IsFormsStop number (breaks_of role x (trees_of forms.now))) }
 {
     match role {
         Role::Domain => domain_in(alloc, number, forms),
@@ -246,6 +357,8 @@ fn forms_in(
         }
         Role::Plan => plan_in(alloc, number, forms, before.into_problem()),
         Role::Proof => proof_in(alloc, number, forms, before.into_problem()),
+        Role::Costs => costs_in(alloc, number, forms, before.into_problem()),
+        Role::Loop => loop_in(alloc, number, forms, before.into_problem()),
     }
 }
 
@@ -261,10 +374,12 @@ fn add_forms(
     requires few { symbols_in_all (trees_of forms.now) ≤ 4194304 }
     requires keeps { KeepsBounds input.old }
     requires in_order { role_before role ≡ last_role input.old }
-    ensures held { (x : inputs.Input) → IsHeld input.old x → OnOk result (HoldsForms role x (trees_of forms.now) input.new) }
+    ensures held { (x : inputs.Input) → IsHeld input.old x
+        → OnOk result (HoldsForms role x (trees_of forms.now) input.new) }
     ensures keeps { OnOk result (KeepsBounds input.new) }
     ensures last { OnOk result (last_role input.new ≡ Some role) }
-    ensures stop { (x : inputs.Input) → IsHeld input.old x → IfErr result (IsFormsStop number (breaks_of role x (trees_of forms.now))) }
+    ensures stop { (x : inputs.Input) → IsHeld input.old x
+        → IfErr result (IsFormsStop number (breaks_of role x (trees_of forms.now))) }
 {
     let before = mem::replace(input, Input::Nothing);
     *input = forms_in(alloc, number, role, forms, before)?;
@@ -282,10 +397,12 @@ pub(crate) fn add_bytes(
     requires short { length bytes.now ≤ 4194304 }
     requires keeps { KeepsBounds input.old }
     requires in_order { role_before role ≡ last_role input.old }
-    ensures held { (x : inputs.Input) → IsHeld input.old x → OnOk result ((y : inputs.Input) × StandsFor role x bytes.now y × IsHeld input.new y) }
+    ensures held { (x : inputs.Input) → IsHeld input.old x
+        → OnOk result ((y : inputs.Input) × StandsFor role x bytes.now y × IsHeld input.new y) }
     ensures keeps { OnOk result (KeepsBounds input.new) }
     ensures last { OnOk result (last_role input.new ≡ Some role) }
-    ensures stop { (x : inputs.Input) → IsHeld input.old x → IfErr result (IsFileStop number (IsBroken role x bytes.now)) }
+    ensures stop { (x : inputs.Input) → IsHeld input.old x
+        → IfErr result (IsFileStop number (IsBroken role x bytes.now)) }
 {
     let forms = forms_of(alloc, number, bytes)?;
     add_forms(alloc, number, role, &forms, input)
@@ -301,10 +418,13 @@ pub(crate) fn read_next<S: Store>(
 ) -> Result<(), Stop>
     requires keeps { KeepsBounds input.old }
     requires in_order { role_before file.now.role ≡ last_role input.old }
-    ensures held { (x : inputs.Input) → IsHeld input.old x → OnOk result (HoldsFile (S.files store.old) file.now.role file.now.name.now x input.new) }
+    ensures held { (x : inputs.Input) → IsHeld input.old x
+        → OnOk result (HoldsFile (S.files store.old) file.now.role file.now.name.now x input.new) }
     ensures keeps { OnOk result (KeepsBounds input.new) }
     ensures last { OnOk result (last_role input.new ≡ Some file.now.role) }
-    ensures stop { (x : inputs.Input) → IsHeld input.old x → IfErr result (IsTurnStop (S.files store.old) file.now.role file.now.name.now x number (S.whole store.new) (S.faults store.old) (S.faults store.new)) }
+    ensures stop { (x : inputs.Input) → IsHeld input.old x
+        → IfErr result (IsTurnStop (S.files store.old) file.now.role file.now.name.now x number (S.whole store.new)
+        (S.faults store.old) (S.faults store.new)) }
     ensures files { S.files store.new ≡ S.files store.old }
     ensures begun { S.begun store.new ≤ S.begun store.old + 1 }
     ensures later { S.faults store.old ≤ S.faults store.new }

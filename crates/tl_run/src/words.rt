@@ -2,7 +2,7 @@
 ghost use Rattle.std.specs.Prelude.{◌≡◌, ◌≤◌, [], ◌∷◌, length, map, IfOk, IfSome};
 ghost use Rattle.std.specs.Option.{option_map};
 ghost use Rattle.std.specs.String.{string_bytes};
-ghost use Rattle.tl_run.specs.Commands.{command_in, files_of, none_command, plan_command, sample_command, search_command, KeepsLimits};
+ghost use Rattle.tl_run.specs.Commands.{cheapest_command, command_in, files_of, five_words_command, none_command, plan_command, sample_command, search_command, KeepsLimits};
 ghost use Rattle.tl_run.specs.declared.words.Role.TheVariants as role;
 ghost use Rattle.tl_run.specs.Searches.{IsWithinLimits};
 ghost use Rattle.tl_run.specs.Words.{command_meant, file_meant};
@@ -21,6 +21,10 @@ pub(crate) enum Role {
     Plan,
     /// A proof that there is no plan, after a problem.
     Proof,
+    /// The costs of operators, after a problem.
+    Costs,
+    /// A plan with a repeated part, after a problem.
+    Loop,
 }
 
 /// A file of a command.
@@ -94,6 +98,26 @@ pub(crate) enum Command<'a> {
         /// The number of balls, from 1 to 100.
         balls: u32,
     },
+    /// A search for a plan of the least cost.
+    Cheapest {
+        /// The most search nodes that it keeps, from 1 to 100,000.
+        nodes: u32,
+        /// The name of the domain file.
+        domain: &'a str,
+        /// The name of the problem file.
+        problem: &'a str,
+        /// The name of the costs file.
+        costs: &'a str,
+    },
+    /// The verdict on a plan with a repeated part.
+    CheckLoop {
+        /// The name of the domain file.
+        domain: &'a str,
+        /// The name of the problem file.
+        problem: &'a str,
+        /// The name of the plan file.
+        plan: &'a str,
+    },
 }
 
 impl<'a> Command<'a> {
@@ -134,6 +158,17 @@ impl<'a> Command<'a> {
                 proof,
             } => files_with(alloc, domain, problem, Role::Proof.file(proof)),
             Command::Sample { .. } => Ok(Vec::new(alloc)),
+            Command::Cheapest {
+                domain,
+                problem,
+                costs,
+                ..
+            } => files_with(alloc, domain, problem, Role::Costs.file(costs)),
+            Command::CheckLoop {
+                domain,
+                problem,
+                plan,
+            } => files_with(alloc, domain, problem, Role::Loop.file(plan)),
         }
     }
 }
@@ -154,7 +189,8 @@ fn files_with<'a>(
     problem: &'a str,
     last: File<'a>,
 ) -> Result<Vec<File<'a>>, AllocError>
-    ensures { IfOk result (λ files. map file_meant files.items ≡ (role.Domain, domain.now) ∷ ((role.Problem, problem.now) ∷ (file_meant last.entry ∷ []))) }
+    ensures { IfOk result (λ files. map file_meant files.items
+        ≡ (role.Domain, domain.now) ∷ ((role.Problem, problem.now) ∷ (file_meant last.entry ∷ []))) }
 {
     let files = vec![in alloc;
         Role::Domain.file(domain),
@@ -202,6 +238,11 @@ fn plan_command<'a>(
             domain,
             problem,
             proof: plan,
+        }),
+        "check-loop" => Some(Command::CheckLoop {
+            domain,
+            problem,
+            plan,
         }),
         _ => None,
     }
@@ -255,6 +296,44 @@ fn none_command<'a>(
     }
 }
 
+/// The command on a costs file. It takes no memory.
+fn cheapest_command<'a>(
+    nodes: &str,
+    domain: &'a str,
+    problem: &'a str,
+    costs: &'a str,
+) -> Option<Command<'a>>
+    ensures command { option_map command_meant result ≡ cheapest_command nodes.now domain.now problem.now costs.now }
+    ensures limits { IfSome result (λ command. KeepsLimits (command_meant command)) }
+{
+    Some(Command::Cheapest {
+        nodes: number_of(nodes, 1, 100_000)?,
+        domain,
+        problem,
+        costs,
+    })
+}
+
+/// The command of five words: on a costs file, or with a search breadth-first. It takes no memory.
+fn five_words_command<'a>(
+    word: &str,
+    first: &str,
+    second: &'a str,
+    third: &'a str,
+    fourth: &'a str,
+) -> Option<Command<'a>>
+    ensures command { option_map command_meant result ≡ five_words_command word.now first.now second.now third.now fourth.now }
+    ensures limits { IfSome result (λ command. KeepsLimits (command_meant command)) }
+{
+    match word {
+        "cheapest" => cheapest_command(first, second, third, fourth),
+        _ => {
+            let search = breadth_of(first, second)?;
+            none_command(word, search, third, fourth)
+        }
+    }
+}
+
 /// The command that the words write. It takes no memory.
 pub(crate) fn command_of(words: &[String]) -> Option<Command<'_>>
     ensures command { option_map command_meant result ≡ command_in (map string_bytes words.now) }
@@ -268,10 +347,13 @@ pub(crate) fn command_of(words: &[String]) -> Option<Command<'_>>
             problem.as_str(),
             plan.as_str(),
         ),
-        [word, within, nodes, domain, problem] => {
-            let search = breadth_of(within.as_str(), nodes.as_str())?;
-            none_command(word.as_str(), search, domain.as_str(), problem.as_str())
-        }
+        [word, first, second, third, fourth] => five_words_command(
+            word.as_str(),
+            first.as_str(),
+            second.as_str(),
+            third.as_str(),
+            fourth.as_str(),
+        ),
         [word, mode, within, nodes, domain, problem] => {
             let search = search_of(mode.as_str(), within.as_str(), nodes.as_str())?;
             search_command(word.as_str(), search, domain.as_str(), problem.as_str())

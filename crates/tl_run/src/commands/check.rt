@@ -53,7 +53,8 @@ pub(crate) fn fault_reply(
 ) -> Result<Reply, NoMemory>
     requires { IsCause (plain_problem problem.now) plan.now fault }
     ensures check { (d p q : List ℕ) → IfOk result (Replies (check d p q) (a_plan problem.now plan.now)) }
-    ensures sample { (m : ℕ) → IsOutcome (sample_search m) (plain_problem problem.now) (outcome.Plan plan.now) → IfOk result (Replies (sample m) (a_problem problem.now)) }
+    ensures sample { (m : ℕ) → IsOutcome (sample_search m) (plain_problem problem.now) (outcome.Plan plan.now)
+        → IfOk result (Replies (sample m) (a_problem problem.now)) }
 {
     match fault {
         CheckFault::Range { after, note } => {

@@ -10,4 +10,5 @@ returns c = record {
   calm = c.calm_has_no_cause.ensures;
   covered = c.covered_has_none.ensures;
   none_verdicts = c.one_none_verdict.ensures;
+  loop_verdicts = c.one_loop_verdict.ensures;
 }

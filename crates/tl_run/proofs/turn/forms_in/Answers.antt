@@ -52,3 +52,23 @@ pub returns-in-Proof-clause-stop : goal.returns-in-Proof-clause-stop
 returns-in-Proof-clause-stop c = λ x is.
     rw c.in-Proof.is (problem_held (λ (y : Input). IfErr c.proof_in.result (IsFormsStop c.args.number (breaks_of role.Proof y (trees_of c.args.forms.now)))) c.into_problem-in-Proof.result x
     (subst (λ (h : Held). IsHeld h x) c.into_problem-in-Proof.ensures is) c.proof_in.ensures.stop)
+
+pub returns-in-Costs-clause-held : goal.returns-in-Costs-clause-held
+returns-in-Costs-clause-held c = λ x is.
+    rw c.in-Costs.is (problem_held (λ (y : Input). IfOk c.costs_in.result (HoldsForms role.Costs y (trees_of c.args.forms.now))) c.into_problem-in-Costs.result x
+    (subst (λ (h : Held). IsHeld h x) c.into_problem-in-Costs.ensures is) c.costs_in.ensures.held)
+
+pub returns-in-Costs-clause-stop : goal.returns-in-Costs-clause-stop
+returns-in-Costs-clause-stop c = λ x is.
+    rw c.in-Costs.is (problem_held (λ (y : Input). IfErr c.costs_in.result (IsFormsStop c.args.number (breaks_of role.Costs y (trees_of c.args.forms.now)))) c.into_problem-in-Costs.result x
+    (subst (λ (h : Held). IsHeld h x) c.into_problem-in-Costs.ensures is) c.costs_in.ensures.stop)
+
+pub returns-in-Loop-clause-held : goal.returns-in-Loop-clause-held
+returns-in-Loop-clause-held c = λ x is.
+    rw c.in-Loop.is (problem_held (λ (y : Input). IfOk c.loop_in.result (HoldsForms role.Loop y (trees_of c.args.forms.now))) c.into_problem-in-Loop.result x
+    (subst (λ (h : Held). IsHeld h x) c.into_problem-in-Loop.ensures is) c.loop_in.ensures.held)
+
+pub returns-in-Loop-clause-stop : goal.returns-in-Loop-clause-stop
+returns-in-Loop-clause-stop c = λ x is.
+    rw c.in-Loop.is (problem_held (λ (y : Input). IfErr c.loop_in.result (IsFormsStop c.args.number (breaks_of role.Loop y (trees_of c.args.forms.now)))) c.into_problem-in-Loop.result x
+    (subst (λ (h : Held). IsHeld h x) c.into_problem-in-Loop.ensures is) c.loop_in.ensures.stop)

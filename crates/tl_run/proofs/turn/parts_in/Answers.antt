@@ -1,0 +1,10 @@
+use Rattle.tl_run.proofs.Standing.{forms_stop}
+use Rattle.tl_run.proofs.turn.parts_in.Goals as goal
+
+pub returns-in-Err-clause-stop : goal.returns-in-Err-clause-stop
+returns-in-Err-clause-stop c = rw c.of_forms.ensures (forms_stop c.args.number _ c.in-Err.fault (c.in-Err.ensures.least c.requires))
+
+pub returns-in-Ok-clause-keeps : goal.returns-in-Ok-clause-keeps
+returns-in-Ok-clause-keeps c =
+    let read = c.in-Ok.ensures in
+    record { some = read.some; few = read.few; stem = read.stem_named; cycle = read.cycle_named }
