@@ -11,7 +11,7 @@ PREFIX ?= /usr/local
 BUILD = cd crates/tl_main && rt run -- sample 6
 
 # What the program is made of: all but the worked cases, the must-fail edits and what was built.
-SOURCES := crates.txt $(shell find crates \( -name out -o -name must-fail -o -name tl_cases \) -prune \
+SOURCES := crates.txt $(shell find crates \( -name out -o -name must-fail -o -name 'tl_*_cases' -o -name tl_tables \) -prune \
     -o \( -name '*.rt' -o -name '*.antt' \) -print)
 
 .PHONY: all test examples install clean

@@ -1,2 +1,0 @@
-pub mod FirstOperator
-pub mod GrownSpaces

@@ -1,0 +1,2 @@
+pub mod GrownSpaces
+pub mod PlanOperators

@@ -1,0 +1,29 @@
+//! Tables of worked cases: what the columns and the braces of a row stand for, and the tasks and texts that rows are compared by.
+//!
+//! A table is one text with a row on each line. A helper goes over the lines, and a failed assertion prints the row.
+//!
+//! - Columns are separated by ` | `. A column that is `-` is empty, and so are the columns that a row leaves out.
+//! - A line that begins with `# ` is a comment, and an empty line is skipped.
+//! - Braces stand for a text: `{max}` for the text of that name in `named_texts`, and `{3 (not }` for a text so many times.
+//!
+//! So a new case of a kind that is there is a new line of its table, in the file of its subject. Its expected column is worked out by hand, from the definitions, and never copied from what the program answers.
+//!
+//! The tables stand in four crates of tests, by what they are about, so that a change proves no more of them than it concerns: `tl_file_cases`, `tl_world_cases`, `tl_space_cases` and `tl_run_cases`. What a row means stands above its table.
+//!
+//! - `rows`: columns, and what braces stand for. `named_texts`: the texts that have names. `forms`: the forms of a text. `tasks`: the domain, the problem and the task of texts. `answers`: values, worlds, notes, actions and faults as texts.
+#![tactic(auto)]
+
+mod answers;
+mod forms;
+mod named_texts;
+mod rows;
+mod tasks;
+
+pub use answers::{
+    actions_text, fault_text, note_text, put_action, put_facts, put_name, put_places, put_tuple,
+    put_value, put_values, world_text,
+};
+pub use forms::forms_of;
+pub use named_texts::shared;
+pub use rows::{column, filled, is_row};
+pub use tasks::{domain_in, filled_domain, problem_answer, task_of};
