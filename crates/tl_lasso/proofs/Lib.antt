@@ -4,7 +4,6 @@ pub mod LassoLaws
 pub mod LookedLaws
 pub mod QuantifierLaws
 pub mod Rulesets
-pub mod Placed
 pub mod LoopForms
 pub mod LoopOrder
 pub mod StateLaws

@@ -7,8 +7,10 @@ use Rattle.tl_forms.specs.declared.rule.FormFault.{FormFault}
 use Rattle.tl_forms.specs.Parts.{count, is_word}
 use Rattle.tl_forms.specs.Reads.{trees_in}
 use Rattle.tl_forms.specs.Rules.{Break}
-use Rattle.tl_lasso.specs.LoopFiles.{actions_breaks, front_of, last_of, loop_breaks_by, loop_breaks, repeat_breaks, repeated_in}
-use Rattle.tl_lasso.specs.MeaningOfLoops.{actions_meant, loop_meant_by, loop_meant, repeat_meant}
+use Rattle.tl_line.specs.ActionLists.{actions_breaks}
+use Rattle.tl_line.specs.MeaningOfActions.{actions_meant}
+use Rattle.tl_lasso.specs.LoopFiles.{front_of, last_of, loop_breaks_by, loop_breaks, repeat_breaks, repeated_in}
+use Rattle.tl_lasso.specs.MeaningOfLoops.{loop_meant_by, loop_meant, repeat_meant}
 use Rattle.tl_lasso.specs.declared.plan.LoopPlan.{LoopPlan}
 use Rattle.tl_syntax.specs.declared.action.Action.{Action}
 use Rattle.tl_syntax.specs.declared.operator.Operator.{Operator}

@@ -1,48 +1,22 @@
 -- The order of what the forms of a plan file with a repeated part break.
-use Rattle.std.proofs.Common.{◌≡◌, ◌≤◌, ◌<◌, ℕ, ◌+◌, ◌*◌, List, [], ◌∷◌, ◌++◌, Bool, true, false, arith, Option, Some, None, refl, subst, sym, inl, inr}
-use Rattle.std.specs.Prelude.{nat_lt, not, codes, if◌then◌else◌, Result, Ok, Err, IfErr}
-use Rattle.std.proofs.lemmas.Bool.{cases_Bool}
+use Rattle.std.proofs.Common.{◌≡◌, ◌≤◌, ◌<◌, ℕ, ◌+◌, ◌*◌, List, Bool, true, false, arith, Option, Some, None, refl, subst, sym}
+use Rattle.std.specs.Prelude.{codes, if◌then◌else◌, Result, Ok, Err, IfErr}
 use Rattle.tl_sexpr.specs.Tree.{FormTree, FormTrees, symbol, integer, list, no_form, more_forms}
 use Rattle.tl_sexpr.specs.Offsets.{RisesFrom, RiseFrom, AreAsRead}
 use Rattle.tl_syntax.specs.declared.operator.Operator.{Operator}
-use Rattle.tl_forms.specs.declared.rule.Rule.TheVariants.{Shape, Limit}
-use Rattle.tl_forms.specs.Parts.{offset_of, count, is_call, is_word}
-use Rattle.tl_forms.specs.Rules.{Break}
+use Rattle.tl_forms.specs.declared.rule.Rule.TheVariants.{Shape}
+use Rattle.tl_forms.specs.Parts.{offset_of, count, is_word}
 use Rattle.tl_forms.specs.declared.rule.FormFault.{FormFault}
 use Rattle.tl_forms.specs.declared.rule.FormFault.TheVariants.{Breaks, NoMemory}
 use Rattle.tl_forms.specs.Reads.{Reads, IsLeastFault}
 use Rattle.tl_forms.proofs.Offsets.{form-within}
-use Rattle.tl_forms.proofs.Order.{first-least, IsInOrder, from, up_to, both, none, one, tested}
-use Rattle.tl_line.specs.Actions.{action_breaks}
-use Rattle.tl_line.proofs.ActionOrder.{action-shape, call-order}
-use Rattle.tl_lasso.specs.LoopFiles.{limit_breaks, placed_breaks, actions_breaks, repeated_in, repeat_breaks_at, repeat_breaks, front_of, last_of, loop_breaks_by, loop_breaks}
+use Rattle.tl_forms.proofs.Order.{first-least, IsInOrder, from, up_to, both, one}
+use Rattle.tl_line.proofs.ListOrder.{actions-order}
+use Rattle.tl_lasso.specs.LoopFiles.{repeated_in, repeat_breaks_at, repeat_breaks, front_of, last_of, loop_breaks_by, loop_breaks}
 use Rattle.tl_lasso.specs.MeaningOfLoops.{loop_meant}
 use Rattle.tl_lasso.specs.declared.plan.LoopPlan.{LoopPlan}
 
 module _ (names : List (List ℕ)) (operators : List Operator) where
-  placed-order : (before : ℕ) (f : FormTree) (low next : ℕ) → RisesFrom low f next → IsInOrder (64 * low) (placed_breaks names operators before f) (64 * next)
-  placed-order before f low next h =
-      let within = form-within f low next h in
-      let at = offset_of f in
-      let breaks = action_breaks names operators f in
-      let limit = limit_breaks before at in
-      let P : Bool → Type 0 = λ b. IsInOrder (64 * low) (if b then limit ++ breaks else breaks ++ limit) (64 * next) in
-      elim (cases_Bool (is_call f)) [
-        | inl is ↦ subst P (sym is) (both (64 * low) (64 * at + 30) (64 * next) limit breaks
-            (tested (not (nat_lt before 100000)) Limit at (64 * low) (64 * at + 30) (omega (arith, within.0)) (omega arith))
-            (call-order names operators f low next is h))
-        | inr is ↦
-            let Q : List Break → Type 0 = λ bs. IsInOrder (64 * low) (bs ++ limit) (64 * next) in
-            subst P (sym is) (subst Q (sym (action-shape names operators f is)) (both (64 * low) (64 * at + 10) (64 * next) ((Shape, at) ∷ []) limit
-            (one Shape at (64 * low) (64 * at + 10) (omega (arith, within.0)) (omega arith))
-            (tested (not (nat_lt before 100000)) Limit at (64 * at + 10) (64 * next) (omega arith) (omega (arith, within.1)))))
-      ]
-
-  actions-order : (before : ℕ) (fs : FormTrees) (low next : ℕ) → RiseFrom low fs next → IsInOrder (64 * low) (actions_breaks names operators before fs) (64 * next)
-  actions-order before no_form low next h = none (64 * low) (64 * next) (omega arith)
-  actions-order before (more_forms f fs) low next h =
-      both (64 * low) (64 * h.0) (64 * next) _ _ (placed-order before f low h.0 h.1) (actions-order (before + 1) fs h.0 next h.2)
-
   -- ---- the repeated part
 
   -- the forms after the word stand in the list
@@ -55,7 +29,7 @@ module _ (names : List (List ℕ)) (operators : List Operator) where
       first = form-within word (at + 1) h.0 h.1
 
       by : (b : Bool) → IsInOrder (64 * low) (repeat_breaks_at names operators before at (if b then Some (more_forms f fs) else None)) (64 * next)
-      by true = from (64 * low) (64 * h.0) (64 * next) _ (omega (arith, first.0, first.1)) (actions-order before (more_forms f fs) h.0 next h.2)
+      by true = from (64 * low) (64 * h.0) (64 * next) _ (omega (arith, first.0, first.1)) (actions-order names operators before (more_forms f fs) h.0 next h.2)
       by false = one Shape at (64 * low) (64 * next) (omega arith) (omega arith)
 
   repeat-order : (before : ℕ) (f : FormTree) (low next : ℕ) → RisesFrom low f next → IsInOrder (64 * low) (repeat_breaks names operators before f) (64 * next)
@@ -87,7 +61,7 @@ module _ (names : List (List ℕ)) (operators : List Operator) where
       let k = ends f fs 0 next h in
       let front = front_of (more_forms f fs) in
       subst (λ (o : Option FormTree). IsInOrder 0 (loop_breaks_by names operators front o) (64 * next)) (sym k.is)
-      (both 0 (64 * k.middle) (64 * next) _ _ (actions-order 0 front 0 k.middle k.front) (up_to (64 * k.middle) (64 * k.top) (64 * next) _ (omega (arith, k.high)) (repeat-order (count front) k.last k.middle k.top k.back)))
+      (both 0 (64 * k.middle) (64 * next) _ _ (actions-order names operators 0 front 0 k.middle k.front) (up_to (64 * k.middle) (64 * k.top) (64 * next) _ (omega (arith, k.high)) (repeat-order (count front) k.last k.middle k.top k.back)))
 
   -- the first break of a plan file with a repeated part is the least one
   pub least-fault : (fs : FormTrees) (r : Result LoopPlan FormFault) → Reads (λ (x : LoopPlan). x) r (loop_breaks names operators fs) (loop_meant names operators fs) → AreAsRead fs → IfErr r (IsLeastFault (loop_breaks names operators fs))

@@ -1,16 +1,11 @@
 -- The plans with a repeated part that forms stand for. Where a form breaks a rule, what is said of it here does not matter.
-use Rattle.std.specs.Prelude.{ℕ, List, [], ◌∷◌, Option, Some, None}
-use Rattle.tl_sexpr.specs.Tree.{FormTree, FormTrees, no_form, more_forms}
+use Rattle.std.specs.Prelude.{ℕ, List, [], Option, Some, None}
+use Rattle.tl_sexpr.specs.Tree.{FormTree, FormTrees}
 use Rattle.tl_syntax.specs.declared.action.Action.{Action}
 use Rattle.tl_syntax.specs.declared.operator.Operator.{Operator}
-use Rattle.tl_line.specs.MeaningOfActions.{action_meant}
+use Rattle.tl_line.specs.MeaningOfActions.{actions_meant}
 use Rattle.tl_lasso.specs.LoopFiles.{front_of, last_of, repeated}
 use Rattle.tl_lasso.specs.declared.plan.LoopPlan.{LoopPlan}
-
--- one action for each form, in their order
-abbrev pub actions_meant : List (List ℕ) → List Operator → FormTrees → List Action
-actions_meant names operators no_form = []
-actions_meant names operators (more_forms f fs) = action_meant names operators f ∷ actions_meant names operators fs
 
 -- the actions of the forms, where there are some
 abbrev pub repeated_meant : List (List ℕ) → List Operator → Option FormTrees → List Action

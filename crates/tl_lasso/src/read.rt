@@ -4,78 +4,19 @@ ghost use Rattle.tl_sexpr.specs.Offsets.{AreAsRead};
 ghost use Rattle.tl_sexpr.specs.Tree.{tree_of, trees_of, no_form};
 ghost use Rattle.tl_syntax.specs.declared.action.Action.{Action};
 ghost use Rattle.tl_syntax.specs.Lists.{Each};
-ghost use Rattle.tl_forms.specs.Parts.{is_call};
 ghost use Rattle.tl_forms.specs.Reads.{Reads, IsLeastFault, trees_in};
-ghost use Rattle.tl_line.specs.MeaningOfActions.{action_meant};
 ghost use Rattle.tl_line.specs.NamedActions.{ActionIsNamed};
 ghost use Rattle.tl_lasso.specs.declared.plan.LoopPlan.{LoopPlan};
-ghost use Rattle.tl_lasso.specs.LoopFiles.{actions_breaks, front_of, last_of, loop_breaks, placed_breaks, repeat_breaks, repeated, repeated_in};
-ghost use Rattle.tl_lasso.specs.MeaningOfLoops.{actions_meant, loop_meant, repeat_meant};
+ghost use Rattle.tl_lasso.specs.LoopFiles.{front_of, last_of, loop_breaks, repeat_breaks, repeated, repeated_in};
+ghost use Rattle.tl_lasso.specs.MeaningOfLoops.{loop_meant, repeat_meant};
 
 use crate::plan::LoopPlan;
 use std::alloc::Global;
-use tl_forms::parts::{call, is_word, offset, split_first};
+use tl_forms::parts::{is_word, offset, split_first};
 use tl_forms::{FormFault, Rule, breaks};
-use tl_line::action_of;
+use tl_line::actions_of;
 use tl_sexpr::{Form, Forms};
-use tl_syntax::{Action, Actions, Problem};
-
-/// How many actions both parts of a plan may have together.
-const MOST_ACTIONS: usize = 100_000;
-
-/// Whether a form is a list that begins with a symbol.
-#[tactic(auto, using(crate::proofs::Rulesets::form_trees))]
-fn is_call(form: &Form) -> bool
-    ensures { result ≡ is_call (tree_of form.now) }
-{
-    match form {
-        Form::Sym(_, _) => false,
-        Form::Int(_, _) => false,
-        Form::List(forms, _) => call(forms.as_slice()).is_some(),
-    }
-}
-
-/// An action with so many actions before it.
-#[tactic(auto, using(crate::proofs::Placed::placed))]
-fn placed_action(
-    alloc: Global,
-    form: &Form,
-    problem: &Problem,
-    before: usize,
-) -> Result<Action, FormFault>
-    ensures read { Reads (λ (x : Action). x) result (placed_breaks problem.now.names problem.now.domain.operators before (tree_of form.now)) (action_meant problem.now.names problem.now.domain.operators (tree_of form.now)) }
-    ensures named { IfOk result (λ action. ActionIsNamed problem.now.names problem.now.domain.operators action) }
-    ensures few { IfOk result (λ _. before < 100000) }
-{
-    if before < MOST_ACTIONS {
-        return action_of(alloc, form, problem);
-    }
-    if is_call(form) {
-        return Err(breaks(Rule::Limit, offset(form)));
-    }
-    Err(breaks(Rule::Shape, offset(form)))
-}
-
-/// The actions of forms, with so many actions before them.
-#[tactic(auto, using(crate::proofs::Rulesets::composed, crate::proofs::Rulesets::each_more))]
-fn actions(
-    alloc: Global,
-    forms: &[Form],
-    problem: &Problem,
-    before: usize,
-) -> Result<Actions, FormFault>
-    requires { before ≤ 100000 }
-    ensures read { Reads (λ (xs : List Action). xs) result (actions_breaks problem.now.names problem.now.domain.operators before (trees_in forms.now)) (actions_meant problem.now.names problem.now.domain.operators (trees_in forms.now)) }
-    ensures few { IfOk result (λ plan. before + length plan ≤ 100000) }
-    ensures named { IfOk result (λ plan. Each (ActionIsNamed problem.now.names problem.now.domain.operators) plan) }
-{
-    let mut actions = Actions::new(alloc);
-    for form in forms {
-        let action = placed_action(alloc, form, problem, before + actions.len())?;
-        actions.push(action)?;
-    }
-    Ok(actions)
-}
+use tl_syntax::{Actions, Problem};
 
 /// The forms after the word `repeat`, where there is one at least.
 #[tactic(auto, using(crate::proofs::LoopForms::repeated_elements))]
@@ -133,7 +74,7 @@ fn cycle_of(
     let Some(forms) = repeated(form) else {
         return Err(breaks(Rule::Shape, offset(form)));
     };
-    actions(alloc, forms, problem, before)
+    actions_of(alloc, forms, problem, before)
 }
 
 /// The plan that forms stand for.
@@ -147,7 +88,7 @@ fn loop_plan(alloc: Global, forms: &[Form], problem: &Problem) -> Result<LoopPla
     let Some((front, last)) = split_last(forms) else {
         return Err(breaks(Rule::Shape, 0));
     };
-    let stem = actions(alloc, front, problem, 0)?;
+    let stem = actions_of(alloc, front, problem, 0)?;
     let cycle = cycle_of(alloc, last, problem, stem.len())?;
     Ok(LoopPlan { stem, cycle })
 }

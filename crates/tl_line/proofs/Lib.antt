@@ -2,6 +2,8 @@ pub mod Rulesets
 pub mod Growth
 pub mod ActionNames
 pub mod ActionOrder
+pub mod ListOrder
+pub mod Placed
 pub mod Pieces
 pub mod Tokens
 pub mod WrittenForms

@@ -1,4 +1,5 @@
 pub mod Actions
+pub mod ActionLists
 pub mod MeaningOfActions
 pub mod NamedActions
 pub mod ActionTexts

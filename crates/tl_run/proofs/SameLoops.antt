@@ -1,34 +1,21 @@
 -- What a plan file with a repeated part breaks and means depends on the names and the numbers of parameters of the operators alone.
-use Rattle.std.proofs.Common.{◌≡◌, ℕ, ◌+◌, List, ◌∷◌, ◌++◌, map, Option, Some, None, refl}
-use Rattle.std.specs.Prelude.{if◌then◌else◌}
-use Rattle.tl_sexpr.specs.Tree.{FormTree, FormTrees, no_form, more_forms}
+use Rattle.std.proofs.Common.{◌≡◌, ℕ, List, ◌++◌, map, Option, Some, None, refl}
+use Rattle.tl_sexpr.specs.Tree.{FormTree, FormTrees}
 use Rattle.tl_syntax.specs.declared.operator.Operator.{Operator}
-use Rattle.tl_forms.specs.Parts.{count, is_call, offset_of}
-use Rattle.tl_lasso.specs.LoopFiles.{actions_breaks, front_of, last_of, limit_breaks, loop_breaks, loop_breaks_by, placed_breaks, repeat_breaks_at, repeated}
-use Rattle.tl_lasso.specs.MeaningOfLoops.{actions_meant, loop_meant, loop_meant_by, repeated_meant}
-use Rattle.tl_run.proofs.SameOperators.{head_of, same_action, same_meaning}
+use Rattle.tl_forms.specs.Parts.{count, offset_of}
+use Rattle.tl_lasso.specs.LoopFiles.{front_of, last_of, loop_breaks, loop_breaks_by, repeat_breaks_at, repeated}
+use Rattle.tl_lasso.specs.MeaningOfLoops.{loop_meant, loop_meant_by, repeated_meant}
+use Rattle.tl_run.proofs.SameOperators.{head_of, same_actions, same_actions_meant}
 
 module _ (names : List (List ℕ)) (os us : List Operator) (alike : map head_of os ≡ map head_of us) where
-  same_placed : (before : ℕ) (f : FormTree) → placed_breaks names os before f ≡ placed_breaks names us before f
-  same_placed before f =
-      let action = same_action names os us alike f in
-      λ i. if is_call f then limit_breaks before (offset_of f) ++ action i else action i ++ limit_breaks before (offset_of f)
-
-  same_actions : (before : ℕ) (fs : FormTrees) → actions_breaks names os before fs ≡ actions_breaks names us before fs
-  same_actions before no_form = refl
-  same_actions before (more_forms f fs) =
-      let first = same_placed before f in
-      let others = same_actions (before + 1) fs in
-      λ i. first i ++ others i
-
   same_repeat_at : (before at : ℕ) (found : Option FormTrees) → repeat_breaks_at names os before at found ≡ repeat_breaks_at names us before at found
   same_repeat_at before at None = refl
-  same_repeat_at before at (Some fs) = same_actions before fs
+  same_repeat_at before at (Some fs) = same_actions names os us alike before fs
 
   same_breaks_by : (front : FormTrees) (last : Option FormTree) → loop_breaks_by names os front last ≡ loop_breaks_by names us front last
   same_breaks_by front None = refl
   same_breaks_by front (Some f) =
-      let first = same_actions 0 front in
+      let first = same_actions names os us alike 0 front in
       let part = same_repeat_at (count front) (offset_of f) (repeated f) in
       λ i. first i ++ part i
 
@@ -36,21 +23,14 @@ module _ (names : List (List ℕ)) (os us : List Operator) (alike : map head_of 
   pub same_loop_breaks : (fs : FormTrees) → loop_breaks names os fs ≡ loop_breaks names us fs
   same_loop_breaks fs = same_breaks_by (front_of fs) (last_of fs)
 
-  same_actions_meant : (fs : FormTrees) → actions_meant names os fs ≡ actions_meant names us fs
-  same_actions_meant no_form = refl
-  same_actions_meant (more_forms f fs) =
-      let first = same_meaning names os us alike f in
-      let others = same_actions_meant fs in
-      λ i. first i ∷ others i
-
   same_repeated_meant : (found : Option FormTrees) → repeated_meant names os found ≡ repeated_meant names us found
   same_repeated_meant None = refl
-  same_repeated_meant (Some fs) = same_actions_meant fs
+  same_repeated_meant (Some fs) = same_actions_meant names os us alike fs
 
   same_meant_by : (front : FormTrees) (last : Option FormTree) → loop_meant_by names os front last ≡ loop_meant_by names us front last
   same_meant_by front None = refl
   same_meant_by front (Some f) =
-      let stem = same_actions_meant front in
+      let stem = same_actions_meant names os us alike front in
       let cycle = same_repeated_meant (repeated f) in
       λ i. record { stem = stem i; cycle = cycle i }
 

@@ -13,8 +13,9 @@ use Rattle.tl_forms.specs.Rules.{breaks_if}
 use Rattle.tl_forms.specs.Parts.{offset_of, is_call, count}
 use Rattle.tl_line.specs.Actions.{operator_at, has_parameters, operator_breaks_at, values_breaks, action_breaks}
 use Rattle.tl_forms.specs.Values.{values_meant}
-use Rattle.tl_line.specs.MeaningOfActions.{action_meant}
-use Rattle.tl_text.specs.Plans.{limit_breaks, placed_breaks, actions_breaks, plan_breaks}
+use Rattle.tl_line.specs.MeaningOfActions.{action_meant, actions_meant}
+use Rattle.tl_line.specs.ActionLists.{limit_breaks, placed_breaks, actions_breaks}
+use Rattle.tl_text.specs.Plans.{plan_breaks}
 use Rattle.tl_text.specs.MeaningOfPlans.{plan_meant}
 
 -- the name of an operator, and how many parameters it has
@@ -75,7 +76,7 @@ module _ (names : List (List ℕ)) (os us : List Operator) (alike : map head_of 
       let action = same_action f in
       λ i. if is_call f then limit_breaks before (offset_of f) ++ action i else action i ++ limit_breaks before (offset_of f)
 
-  same_actions : (before : ℕ) (fs : FormTrees) → actions_breaks names os before fs ≡ actions_breaks names us before fs
+  pub same_actions : (before : ℕ) (fs : FormTrees) → actions_breaks names os before fs ≡ actions_breaks names us before fs
   same_actions before no_form = refl
   same_actions before (more_forms f fs) =
       let first = same_placed before f in
@@ -93,11 +94,11 @@ module _ (names : List (List ℕ)) (os us : List Operator) (alike : map head_of 
   same_meaning (list (more_forms (integer z n) rest) at) = refl
   same_meaning (list (more_forms (list fs n) rest) at) = refl
 
-  same_plan : (fs : FormTrees) → plan_meant names os fs ≡ plan_meant names us fs
-  same_plan no_form = refl
-  same_plan (more_forms f fs) =
+  pub same_actions_meant : (fs : FormTrees) → actions_meant names os fs ≡ actions_meant names us fs
+  same_actions_meant no_form = refl
+  same_actions_meant (more_forms f fs) =
       let first = same_meaning f in
-      let others = same_plan fs in
+      let others = same_actions_meant fs in
       λ i. first i ∷ others i
 
 -- the same rules are broken
@@ -106,4 +107,4 @@ same_plan_breaks names os us fs alike = same_actions names os us alike 0 fs
 
 -- and the same plan is meant
 pub same_plan_meant : (names : List (List ℕ)) (os us : List Operator) (fs : FormTrees) → map head_of os ≡ map head_of us → plan_meant names os fs ≡ plan_meant names us fs
-same_plan_meant names os us fs alike = same_plan names os us alike fs
+same_plan_meant names os us fs alike = same_actions_meant names os us alike fs

@@ -121,6 +121,8 @@ check-none l p q | l = {lamps} {0}) & p = (problem p (init {1}) (goal {2})) & q 
 (control (always (not (on b)))) | {three} | (on b) | (none-within 3) (pair 0 (press a)) (pair 1 (press c)) (pair 0 (press c)) | 0 | ; proved none within 3
 # comments, and a bound with zeros before it
 (control (always (not (on b)))) | {two} | (on b) | ; by hand{lf}(none-within 007){lf}; the other lamp{lf}(pair 0 (press a)) | 0 | ; proved none within 7
+# as many bytes as there may be
+(control (always false)) | {two} | - | (none){4194298  } | 0 | ; proved none
 ";
 
 #[test]

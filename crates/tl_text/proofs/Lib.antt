@@ -1,5 +1,4 @@
 pub mod Rulesets
-pub mod Placed
 pub mod PlanOrder
 pub mod LinesReadBack
 pub mod AfterLine

@@ -13,7 +13,7 @@ use Rattle.tl_line.specs.WritableActions.{IsWritable}
 use Rattle.tl_line.proofs.Pieces.{Has, has-all, has-front, has-back, has-first, HasNoComment, clean-both, clean-none, clean-more}
 use Rattle.tl_line.proofs.WrittenForms.{action_form, apart}
 use Rattle.tl_line.proofs.ReadBack.{form-item, form-breaks, form-meant, clean-text}
-use Rattle.tl_text.specs.Plans.{actions_breaks}
+use Rattle.tl_line.specs.ActionLists.{actions_breaks}
 use Rattle.tl_text.specs.MeaningOfPlans.{plan_meant}
 use Rattle.tl_text.specs.Ranges.{action_lines}
 use Rattle.tl_text.specs.LawsReadBack.{AreReadAs}

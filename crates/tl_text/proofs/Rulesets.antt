@@ -1,12 +1,10 @@
--- The rules of plain forms, of breaks one after the other and of bytes that grow, for this crate's functions.
-use Rattle.std.proofs.Common.{ℕ, ◌<◌, List, [], ◌∷◌, ◌++◌, length, map, arith}
+-- The rules of plain forms and of bytes that grow, for this crate's functions.
+use Rattle.std.proofs.Common.{ℕ, ◌<◌, List, length, map, arith}
 use Rattle.std.proofs.lemmas.Option.{slice_get_within}
 use Rattle.std.proofs.lemmas.List.{length-map}
 use Rattle.tl_sexpr.proofs.TreeOf.{tree-Sym, tree-Int, tree-List, trees-Forms}
 use Rattle.tl_syntax.specs.declared.action.Action.{Action}
 use Rattle.tl_syntax.specs.declared.operator.Operator.{Operator}
-use Rattle.tl_syntax.specs.Lists.{Each}
-use Rattle.tl_forms.proofs.Composed.{first-front, first-back, none-both, count-trees}
 use Rattle.tl_line.specs.NamedActions.{ActionIsNamed}
 use Rattle.tl_line.proofs.Growth.{begins-same, begins-grown, begins-on}
 
@@ -16,13 +14,6 @@ operator-there names operators a h =
     let within = slice_get_within (map (λ o. length o.params) operators) a.op (length a.args) h.takes in
     omega (arith, length-map {A = Operator} operators (λ o. length o.params))
 
--- one more at the end
-pub each_more : {A : Type 0} (P : A → Type 0) (xs : List A) (x : A) → Each P xs → P x → Each P (xs ++ x ∷ [])
-each_more P [] x h i = (i, tt)
-each_more P (y ∷ xs) x h i = (h.0, each_more P xs x h.1 i)
-
 pub ruleset form_trees = (tree-Sym, tree-Int, tree-List, trees-Forms)
-
-pub ruleset composed = (first-front, first-back, none-both, count-trees)
 
 pub ruleset growth = (begins-same, begins-grown, begins-on, operator-there)

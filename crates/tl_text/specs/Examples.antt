@@ -7,7 +7,8 @@ use Rattle.tl_syntax.specs.declared.value.Op.TheVariants.{Plus, Minus}
 use Rattle.tl_forms.specs.declared.rule.Rule.TheVariants.{Shape, Limit, NoOperator}
 use Rattle.tl_forms.specs.Rules.{first_break}
 use Rattle.tl_line.specs.Actions.{action_breaks}
-use Rattle.tl_text.specs.Plans.{limit_breaks, placed_breaks, plan_breaks}
+use Rattle.tl_line.specs.ActionLists.{limit_breaks, placed_breaks}
+use Rattle.tl_text.specs.Plans.{plan_breaks}
 use Rattle.tl_text.specs.Refusals.{refused_text}
 use Rattle.tl_text.specs.Ranges.{operation_line, after_line}
 

@@ -1,73 +1,19 @@
 // Plan files.
-ghost use Rattle.std.specs.Prelude.{◌≡◌, ◌<◌, ◌≤◌, List, length, IfErr, IfOk};
+ghost use Rattle.std.specs.Prelude.{◌≤◌, List, length, IfErr, IfOk};
 ghost use Rattle.tl_sexpr.specs.Offsets.{AreAsRead};
-ghost use Rattle.tl_sexpr.specs.Tree.{tree_of, trees_of};
+ghost use Rattle.tl_sexpr.specs.Tree.{trees_of};
 ghost use Rattle.tl_syntax.specs.declared.action.Action.{Action};
 ghost use Rattle.tl_syntax.specs.Lists.{Each};
-ghost use Rattle.tl_forms.specs.Parts.{is_call};
-ghost use Rattle.tl_forms.specs.Reads.{Reads, IsLeastFault, trees_in};
-ghost use Rattle.tl_line.specs.MeaningOfActions.{action_meant};
+ghost use Rattle.tl_forms.specs.Reads.{Reads, IsLeastFault};
 ghost use Rattle.tl_line.specs.NamedActions.{ActionIsNamed};
-ghost use Rattle.tl_text.specs.Plans.{placed_breaks, plan_breaks};
+ghost use Rattle.tl_text.specs.Plans.{plan_breaks};
 ghost use Rattle.tl_text.specs.MeaningOfPlans.{plan_meant};
 
 use std::alloc::Global;
-use tl_forms::parts::{call, offset};
-use tl_forms::{FormFault, Rule, breaks};
-use tl_line::action_of;
-use tl_sexpr::{Form, Forms};
-use tl_syntax::{Action, Actions, Problem};
-
-/// How many actions a plan file may have.
-const MOST_ACTIONS: usize = 100_000;
-
-/// Whether a form is a list that begins with a symbol.
-#[tactic(auto, using(crate::proofs::Rulesets::form_trees))]
-fn is_call(form: &Form) -> bool
-    ensures { result ≡ is_call (tree_of form.now) }
-{
-    match form {
-        Form::Sym(_, _) => false,
-        Form::Int(_, _) => false,
-        Form::List(forms, _) => call(forms.as_slice()).is_some(),
-    }
-}
-
-/// An action with so many actions before it.
-#[tactic(auto, using(crate::proofs::Placed::placed))]
-fn placed_action(
-    alloc: Global,
-    form: &Form,
-    problem: &Problem,
-    before: usize,
-) -> Result<Action, FormFault>
-    ensures read { Reads (λ (x : Action). x) result (placed_breaks problem.now.names problem.now.domain.operators before (tree_of form.now)) (action_meant problem.now.names problem.now.domain.operators (tree_of form.now)) }
-    ensures named { IfOk result (λ action. ActionIsNamed problem.now.names problem.now.domain.operators action) }
-    ensures few { IfOk result (λ _. before < 100000) }
-{
-    if before < MOST_ACTIONS {
-        return action_of(alloc, form, problem);
-    }
-    if is_call(form) {
-        return Err(breaks(Rule::Limit, offset(form)));
-    }
-    Err(breaks(Rule::Shape, offset(form)))
-}
-
-/// The actions of forms.
-#[tactic(auto, using(crate::proofs::Rulesets::composed, crate::proofs::Rulesets::each_more))]
-fn actions(alloc: Global, forms: &[Form], problem: &Problem) -> Result<Actions, FormFault>
-    ensures read { Reads (λ (xs : List Action). xs) result (plan_breaks problem.now.names problem.now.domain.operators (trees_in forms.now)) (plan_meant problem.now.names problem.now.domain.operators (trees_in forms.now)) }
-    ensures few { IfOk result (λ plan. length plan ≤ 100000) }
-    ensures named { IfOk result (λ plan. Each (ActionIsNamed problem.now.names problem.now.domain.operators) plan) }
-{
-    let mut actions = Actions::new(alloc);
-    for form in forms {
-        let action = placed_action(alloc, form, problem, actions.len())?;
-        actions.push(action)?;
-    }
-    Ok(actions)
-}
+use tl_forms::FormFault;
+use tl_line::actions_of;
+use tl_sexpr::Forms;
+use tl_syntax::{Actions, Problem};
 
 /// The plan that the forms of a plan file stand for, or the first rule that one of them breaks.
 ///
@@ -80,5 +26,5 @@ pub fn plan_of(alloc: Global, forms: &Forms, problem: &Problem) -> Result<Action
     ensures few { IfOk result (λ plan. length plan ≤ 100000) }
     ensures named { IfOk result (λ plan. Each (ActionIsNamed problem.now.names problem.now.domain.operators) plan) }
 {
-    actions(alloc, forms.as_slice(), problem)
+    actions_of(alloc, forms.as_slice(), problem, 0)
 }

@@ -1,6 +1,6 @@
 use Rattle.std.proofs.Common.{◌*◌}
 use Rattle.tl_forms.proofs.Order.{first-least}
-use Rattle.tl_text.proofs.PlanOrder.{actions-order}
+use Rattle.tl_line.proofs.ListOrder.{actions-order}
 use Rattle.tl_text.proofs.laws.first_break_is_least.Goals as goal
 
 pub returns : goal.returns

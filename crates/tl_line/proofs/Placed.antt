@@ -11,7 +11,7 @@ use Rattle.tl_forms.specs.Reads.{IsFirst}
 use Rattle.tl_forms.specs.Rules.{Break}
 use Rattle.tl_line.specs.Actions.{action_breaks}
 use Rattle.tl_line.proofs.ActionOrder.{action-shape}
-use Rattle.tl_text.specs.Plans.{placed_breaks}
+use Rattle.tl_line.specs.ActionLists.{placed_breaks}
 
 either-way : (call : Bool) (bs : List Break) → (if call then [] ++ bs else bs ++ []) ≡ bs
 either-way true bs = refl

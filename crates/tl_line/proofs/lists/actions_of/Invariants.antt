@@ -2,9 +2,9 @@ use Rattle.std.proofs.Common.{◌≡◌, ◌≤◌, ◌++◌, ◌+◌, length, d
 use Rattle.tl_syntax.specs.Lists.{Each}
 use Rattle.tl_forms.specs.Reads.{trees_in}
 use Rattle.tl_line.specs.NamedActions.{ActionIsNamed}
-use Rattle.tl_lasso.specs.LoopFiles.{actions_breaks}
-use Rattle.tl_lasso.specs.MeaningOfLoops.{actions_meant}
-use Rattle.tl_lasso.proofs.read.actions.Given as goal
+use Rattle.tl_line.specs.ActionLists.{actions_breaks}
+use Rattle.tl_line.specs.MeaningOfActions.{actions_meant}
+use Rattle.tl_line.proofs.lists.actions_of.Given as goal
 
 -- the actions so far, and after them those that are left
 abbrev pub invariant-loop-form : goal.invariant-loop-form

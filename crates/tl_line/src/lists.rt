@@ -1,0 +1,76 @@
+// The actions of forms, one after the other.
+ghost use Rattle.std.specs.Prelude.{◌≡◌, ◌+◌, ◌<◌, ◌≤◌, List, length, IfOk};
+ghost use Rattle.tl_sexpr.specs.Tree.{tree_of};
+ghost use Rattle.tl_syntax.specs.declared.action.Action.{Action};
+ghost use Rattle.tl_syntax.specs.Lists.{Each};
+ghost use Rattle.tl_forms.specs.Parts.{is_call};
+ghost use Rattle.tl_forms.specs.Reads.{Reads, trees_in};
+ghost use Rattle.tl_line.specs.ActionLists.{actions_breaks, placed_breaks};
+ghost use Rattle.tl_line.specs.MeaningOfActions.{action_meant, actions_meant};
+ghost use Rattle.tl_line.specs.NamedActions.{ActionIsNamed};
+
+use crate::read::action_of;
+use std::alloc::Global;
+use tl_forms::parts::{call, offset};
+use tl_forms::{FormFault, Rule, breaks};
+use tl_sexpr::Form;
+use tl_syntax::{Action, Actions, Problem};
+
+/// How many actions a plan may have.
+const MOST_ACTIONS: usize = 100_000;
+
+/// Whether a form is a list that begins with a symbol.
+#[tactic(auto, using(crate::proofs::Rulesets::form_trees))]
+fn is_call(form: &Form) -> bool
+    ensures { result ≡ is_call (tree_of form.now) }
+{
+    match form {
+        Form::Sym(_, _) => false,
+        Form::Int(_, _) => false,
+        Form::List(forms, _) => call(forms.as_slice()).is_some(),
+    }
+}
+
+/// An action with so many actions before it.
+#[tactic(auto, using(crate::proofs::Placed::placed))]
+fn placed_action(
+    alloc: Global,
+    form: &Form,
+    problem: &Problem,
+    before: usize,
+) -> Result<Action, FormFault>
+    ensures read { Reads (λ (x : Action). x) result (placed_breaks problem.now.names problem.now.domain.operators before (tree_of form.now)) (action_meant problem.now.names problem.now.domain.operators (tree_of form.now)) }
+    ensures named { IfOk result (λ action. ActionIsNamed problem.now.names problem.now.domain.operators action) }
+    ensures few { IfOk result (λ _. before < 100000) }
+{
+    if before < MOST_ACTIONS {
+        return action_of(alloc, form, problem);
+    }
+    if is_call(form) {
+        return Err(breaks(Rule::Limit, offset(form)));
+    }
+    Err(breaks(Rule::Shape, offset(form)))
+}
+
+/// The actions of forms, with so many actions before them, or the first rule that one of the forms breaks.
+///
+/// Every form is an action, and the 100,001st of the plan breaks `Rule::Limit`. Each action is of an operator of the problem, has as many arguments as that has parameters, and names only names of the problem. It takes the time of the forms, times that of finding an operator among at most 256.
+#[tactic(auto, using(crate::proofs::Rulesets::composed, crate::proofs::Rulesets::each_more))]
+pub fn actions_of(
+    alloc: Global,
+    forms: &[Form],
+    problem: &Problem,
+    before: usize,
+) -> Result<Actions, FormFault>
+    requires { before ≤ 100000 }
+    ensures read { Reads (λ (xs : List Action). xs) result (actions_breaks problem.now.names problem.now.domain.operators before (trees_in forms.now)) (actions_meant problem.now.names problem.now.domain.operators (trees_in forms.now)) }
+    ensures few { IfOk result (λ plan. before + length plan ≤ 100000) }
+    ensures named { IfOk result (λ plan. Each (ActionIsNamed problem.now.names problem.now.domain.operators) plan) }
+{
+    let mut actions = Actions::new(alloc);
+    for form in forms {
+        let action = placed_action(alloc, form, problem, before + actions.len())?;
+        actions.push(action)?;
+    }
+    Ok(actions)
+}
