@@ -2,7 +2,7 @@
 use Rattle.std.proofs.Common.{◌≡◌, ℕ, Bool, true, false, Some, None, refl, sym, ap, ◌∙◌}
 use Rattle.std.specs.Prelude.{ℤ, ◌&&◌, ◌==◌, if◌then◌else◌, codes}
 use Rattle.tl_sexpr.specs.Tree.{FormTree, FormTrees, symbol, integer, list, no_form, more_forms}
-use Rattle.tl_forms.specs.Parts.{count, is_call, is_word}
+use Rattle.tl_rules.specs.Parts.{count, is_call, is_word}
 use Rattle.tl_cert.specs.ProofFiles.{bounded_head, head_in, link_of_three, link_in}
 
 -- neither one element nor two are no head

@@ -4,14 +4,14 @@ use Rattle.std.specs.Prelude.{ℤ, nat_lt, not, Result, Ok, Err, IfErr}
 use Rattle.tl_sexpr.specs.Tree.{FormTree, FormTrees, symbol, integer, list, no_form, more_forms}
 use Rattle.tl_sexpr.specs.Offsets.{RisesFrom, RiseFrom, AreAsRead}
 use Rattle.tl_syntax.specs.declared.operator.Operator.{Operator}
-use Rattle.tl_forms.specs.declared.rule.Rule.TheVariants.{Shape, Limit, NoPair}
-use Rattle.tl_forms.specs.Parts.{offset_of, is_call, is_within}
-use Rattle.tl_forms.specs.Rules.{breaks_if}
-use Rattle.tl_forms.specs.declared.rule.FormFault.{FormFault}
-use Rattle.tl_forms.specs.declared.rule.FormFault.TheVariants.{Breaks, NoMemory}
-use Rattle.tl_forms.specs.Reads.{Reads, IsLeastFault}
-use Rattle.tl_forms.proofs.Offsets.{form-within}
-use Rattle.tl_forms.proofs.Order.{first-least, IsInOrder, from, up_to, both, none, one, tested}
+use Rattle.tl_rules.specs.declared.rule.Rule.TheVariants.{Shape, Limit, NoPair}
+use Rattle.tl_rules.specs.Parts.{offset_of, is_call, is_within}
+use Rattle.tl_rules.specs.Rules.{breaks_if}
+use Rattle.tl_rules.specs.declared.rule.FormFault.{FormFault}
+use Rattle.tl_rules.specs.declared.rule.FormFault.TheVariants.{Breaks, NoMemory}
+use Rattle.tl_rules.specs.Reads.{Reads, IsLeastFault}
+use Rattle.tl_rules.proofs.Offsets.{form-within}
+use Rattle.tl_rules.proofs.Order.{first-least, IsInOrder, from, up_to, both, none, one, tested}
 use Rattle.tl_line.specs.Actions.{action_breaks}
 use Rattle.tl_line.proofs.ActionOrder.{call-order}
 use Rattle.tl_cert.specs.ProofFiles.{head_in, bound_breaks, head_breaks_at, head_breaks, link_in, limit_breaks, link_breaks_at, link_breaks, links_breaks, proof_breaks}

@@ -15,7 +15,7 @@ use Rattle.tl_syntax.specs.declared.action.Action.{Action}
 use Rattle.tl_syntax.specs.declared.operator.Operator.{Operator}
 use Rattle.tl_syntax.specs.Settled.{Differ}
 use Rattle.tl_syntax.specs.Texts.{AreDistinct}
-use Rattle.tl_forms.specs.Parts.{is_within}
+use Rattle.tl_rules.specs.Parts.{is_within}
 use Rattle.tl_line.specs.ActionTexts.{action_text, name_text, operator_text}
 use Rattle.tl_line.specs.WritableActions.{IsSymbolText, IsWritable}
 use Rattle.tl_line.proofs.Pieces.{Has, has-all, has-front, has-back, has-first, has-range, HasNoComment, clean-both, clean-none, clean-more, stands}

@@ -6,7 +6,7 @@ use Rattle.tl_sexpr.proofs.TreeOf.{tree-Sym, tree-Int, tree-List, trees-Forms}
 use Rattle.tl_syntax.specs.declared.action.Action.{Action}
 use Rattle.tl_syntax.specs.declared.operator.Operator.{Operator}
 use Rattle.tl_syntax.specs.Lists.{Each}
-use Rattle.tl_forms.proofs.Composed.{first-front, first-back, none-both, count-trees}
+use Rattle.tl_rules.proofs.Composed.{first-front, first-back, none-both, count-trees}
 use Rattle.tl_line.specs.NamedActions.{ActionIsNamed}
 use Rattle.tl_line.proofs.Growth.{begins-same, begins-grown, begins-on}
 

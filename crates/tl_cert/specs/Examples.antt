@@ -6,8 +6,8 @@ use Rattle.tl_sexpr.specs.Tree.{FormTree, symbol, integer, list, no_form, more_f
 use Rattle.tl_syntax.specs.declared.operator.Operator.{Operator}
 use Rattle.tl_syntax.specs.TotalOrders.{key_total}
 use Rattle.tl_syntax.specs.Trees.{falsum}
-use Rattle.tl_forms.specs.declared.rule.Rule.TheVariants.{Shape, Limit, NoPair}
-use Rattle.tl_forms.specs.Rules.{first_break}
+use Rattle.tl_rules.specs.declared.rule.Rule.TheVariants.{Shape, Limit, NoPair}
+use Rattle.tl_rules.specs.Rules.{first_break}
 use Rattle.tl_terms.specs.Acceptance.{states_from}
 use Rattle.tl_terms.specs.Examples.{nothing, has_fact-world}
 use Rattle.tl_terms.specs.Pairs.{residual, Pair, pair_of}

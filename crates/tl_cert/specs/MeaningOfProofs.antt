@@ -2,7 +2,7 @@
 use Rattle.std.specs.Prelude.{ℕ, ℤ, List, [], ◌∷◌, Option, Some, None}
 use Rattle.tl_sexpr.specs.Tree.{FormTree, FormTrees, no_form, more_forms}
 use Rattle.tl_syntax.specs.declared.operator.Operator.{Operator}
-use Rattle.tl_forms.specs.Parts.{natural}
+use Rattle.tl_rules.specs.Parts.{natural}
 use Rattle.tl_line.specs.MeaningOfActions.{action_meant}
 use Rattle.tl_cert.specs.ProofFiles.{head_parts, link_parts}
 use Rattle.tl_cert.specs.declared.proof.Link.{Link}

@@ -6,9 +6,9 @@
 use Rattle.std.specs.Prelude.{ℕ, ℤ, ◌+◌, List, [], ◌∷◌, ◌++◌, ◌&&◌, not, nat_lt, if◌then◌else◌, codes, Option, Some, None}
 use Rattle.tl_sexpr.specs.Tree.{FormTree, FormTrees, integer, list, no_form, more_forms}
 use Rattle.tl_syntax.specs.declared.operator.Operator.{Operator}
-use Rattle.tl_forms.specs.declared.rule.Rule.TheVariants.{Shape, Limit, NoPair}
-use Rattle.tl_forms.specs.Parts.{offset_of, is_call, is_within, is_word}
-use Rattle.tl_forms.specs.Rules.{Break, breaks_if}
+use Rattle.tl_rules.specs.declared.rule.Rule.TheVariants.{Shape, Limit, NoPair}
+use Rattle.tl_rules.specs.Parts.{offset_of, is_call, is_within, is_word}
+use Rattle.tl_rules.specs.Rules.{Break, breaks_if}
 use Rattle.tl_line.specs.Actions.{action_breaks}
 
 -- ---- the head

@@ -2,9 +2,9 @@
 ghost use Rattle.std.specs.Prelude.{◌≡◌, ◌<◌, ◌≤◌, ℕ, List, Option, length, not, option_map, IfErr, IfOk};
 ghost use Rattle.tl_sexpr.specs.Offsets.{AreAsRead};
 ghost use Rattle.tl_sexpr.specs.Tree.{tree_of, trees_of};
-ghost use Rattle.tl_forms.specs.Parts.{is_call, is_within, natural};
-ghost use Rattle.tl_forms.specs.Reads.{Reads, IsLeastFault, trees_in};
-ghost use Rattle.tl_forms.specs.Rules.{breaks_if};
+ghost use Rattle.tl_rules.specs.Parts.{is_call, is_within, natural};
+ghost use Rattle.tl_rules.specs.Reads.{Reads, IsLeastFault, trees_in};
+ghost use Rattle.tl_rules.specs.Rules.{breaks_if};
 ghost use Rattle.tl_line.specs.NamedActions.{ActionIsNamed};
 ghost use Rattle.tl_cert.specs.declared.proof.Link.{Link};
 ghost use Rattle.tl_cert.specs.declared.proof.Proof.{Proof};
@@ -14,9 +14,9 @@ ghost use Rattle.tl_cert.specs.ProofTexts.{LinksAreNamed};
 
 use crate::proof::{Link, Links, Proof};
 use std::alloc::Global;
-use tl_forms::parts::{call, is_word, offset, one, split_first, three, two};
-use tl_forms::{FormFault, Rule, breaks};
 use tl_line::action_of;
+use tl_rules::parts::{call, is_word, offset, one, split_first, three, two};
+use tl_rules::{FormFault, Rule, breaks};
 use tl_sexpr::{Form, Forms};
 use tl_syntax::Problem;
 

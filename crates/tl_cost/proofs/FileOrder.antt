@@ -5,13 +5,13 @@ use Rattle.std.proofs.lemmas.List.{length-map, length-replicate, length-set}
 use Rattle.tl_sexpr.specs.Tree.{FormTrees, no_form, more_forms}
 use Rattle.tl_sexpr.specs.Offsets.{RiseFrom, AreAsRead}
 use Rattle.tl_syntax.specs.declared.operator.Operator.{Operator}
-use Rattle.tl_forms.specs.declared.rule.Rule.TheVariants.{Shape, Twice, Limit, NoOperator}
-use Rattle.tl_forms.specs.Parts.{offset_of, is_within}
-use Rattle.tl_forms.specs.declared.rule.FormFault.{FormFault}
-use Rattle.tl_forms.specs.declared.rule.FormFault.TheVariants.{Breaks, NoMemory}
-use Rattle.tl_forms.specs.Reads.{Reads, IsLeastFault}
-use Rattle.tl_forms.proofs.Offsets.{form-within}
-use Rattle.tl_forms.proofs.Order.{first-least, IsInOrder, both, none, one, tested}
+use Rattle.tl_rules.specs.declared.rule.Rule.TheVariants.{Shape, Twice, Limit, NoOperator}
+use Rattle.tl_rules.specs.Parts.{offset_of, is_within}
+use Rattle.tl_rules.specs.declared.rule.FormFault.{FormFault}
+use Rattle.tl_rules.specs.declared.rule.FormFault.TheVariants.{Breaks, NoMemory}
+use Rattle.tl_rules.specs.Reads.{Reads, IsLeastFault}
+use Rattle.tl_rules.proofs.Offsets.{form-within}
+use Rattle.tl_rules.proofs.Order.{first-least, IsInOrder, both, none, one, tested}
 use Rattle.tl_line.specs.Actions.{operator_at}
 use Rattle.tl_cost.specs.CostFiles.{cost_breaks, costs_breaks, costs_meant, entries_breaks, entry_meant, entry_of_form, given_after, is_given, none_given, parts_breaks, with_entry}
 

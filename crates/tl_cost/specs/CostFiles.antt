@@ -3,9 +3,9 @@ use Rattle.std.specs.Prelude.{ℕ, ℤ, List, [], ◌∷◌, ◌++◌, Bool, fal
 use Rattle.std.specs.List.{slice_index_or, slice_set}
 use Rattle.tl_sexpr.specs.Tree.{FormTree, FormTrees, symbol, integer, list, no_form, more_forms}
 use Rattle.tl_syntax.specs.declared.operator.Operator.{Operator}
-use Rattle.tl_forms.specs.declared.rule.Rule.TheVariants.{Shape, Twice, Limit, NoOperator}
-use Rattle.tl_forms.specs.Parts.{offset_of, is_within, natural, text_of}
-use Rattle.tl_forms.specs.Rules.{Break, breaks_if}
+use Rattle.tl_rules.specs.declared.rule.Rule.TheVariants.{Shape, Twice, Limit, NoOperator}
+use Rattle.tl_rules.specs.Parts.{offset_of, is_within, natural, text_of}
+use Rattle.tl_rules.specs.Rules.{Break, breaks_if}
 use Rattle.tl_line.specs.Actions.{operator_at}
 
 -- the integer of a form, where it is one

@@ -3,14 +3,14 @@ ghost use Rattle.std.specs.Prelude.{◌≡◌, ◌==◌, ◌<◌, ℕ, List, Opt
 ghost use Rattle.std.specs.List.{position};
 ghost use Rattle.tl_sexpr.specs.Offsets.{AreAsRead};
 ghost use Rattle.tl_sexpr.specs.Tree.{tree_of, trees_of};
-ghost use Rattle.tl_forms.specs.Reads.{IsLeastFault, Reads, trees_in};
+ghost use Rattle.tl_rules.specs.Reads.{IsLeastFault, Reads, trees_in};
 ghost use Rattle.tl_line.specs.Actions.{operator_at};
 ghost use Rattle.tl_cost.specs.CostFiles.{cost_breaks, cost_meant, costs_breaks, costs_meant, entry_breaks, entry_meant, entry_of_form, entry_of_two, given_after, integer_of, is_given, none_given};
 
 use crate::costs::Costs;
 use std::alloc::{AllocError, Global};
-use tl_forms::parts::{offset, symbol_text, two};
-use tl_forms::{FormFault, Rule, breaks};
+use tl_rules::parts::{offset, symbol_text, two};
+use tl_rules::{FormFault, Rule, breaks};
 use tl_sexpr::{Form, Forms};
 use tl_syntax::{Names, Operator, Problem};
 

@@ -6,8 +6,8 @@ use Rattle.tl_syntax.specs.Effects.{no_effect}
 use Rattle.tl_syntax.specs.TreeOfEffect.{tree_of_effect, tree_of_effects, effects_of_list}
 use Rattle.tl_syntax.specs.declared.effect.Effects.{Effects}
 use Rattle.tl_syntax.proofs.EffectTrees.{trees-Effects}
-use Rattle.tl_forms.specs.declared.rule.Rule.TheVariants.{Shape}
-use Rattle.tl_forms.specs.Parts.{count}
+use Rattle.tl_rules.specs.declared.rule.Rule.TheVariants.{Shape}
+use Rattle.tl_rules.specs.Parts.{count}
 use Rattle.tl_formulas.specs.declared.signature.Signature.{Signature}
 use Rattle.tl_formulas.specs.Signatures.{Scope}
 use Rattle.tl_formulas.specs.Effects.{effect_breaks, effects_breaks}

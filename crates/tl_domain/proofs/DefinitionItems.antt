@@ -4,8 +4,8 @@ use Rattle.std.proofs.lemmas.List.{append-nil, map-append}
 use Rattle.tl_sexpr.specs.Tree.{FormTree, FormTrees, no_form, more_forms}
 use Rattle.tl_syntax.specs.declared.definition.Definition.{Definition}
 use Rattle.tl_syntax.specs.declared.domain.Domain.{Domain}
-use Rattle.tl_forms.specs.Parts.{count, rest_of, texts_of}
-use Rattle.tl_forms.proofs.Composed.{none-both}
+use Rattle.tl_rules.specs.Parts.{count, rest_of, texts_of}
+use Rattle.tl_rules.proofs.Composed.{none-both}
 use Rattle.tl_formulas.specs.Formulas.{formula_breaks}
 use Rattle.tl_formulas.specs.Signatures.{Table, is_taken}
 use Rattle.tl_formulas.specs.declared.roles.FormulaRole.TheVariants as role

@@ -4,11 +4,11 @@ use Rattle.std.specs.Prelude.{IfOk}
 use Rattle.tl_sexpr.specs.Tree.{FormTrees}
 use Rattle.tl_syntax.specs.declared.domain.Domain.{Domain}
 use Rattle.tl_syntax.specs.Kept.{DomainKeeps}
-use Rattle.tl_forms.specs.Named.{HaveNames}
-use Rattle.tl_forms.specs.Reads.{Reads}
-use Rattle.tl_forms.specs.Symbols.{names_with_all}
-use Rattle.tl_forms.specs.declared.rule.FormFault.{FormFault}
-use Rattle.tl_forms.proofs.NamesHave.{forms-have}
+use Rattle.tl_rules.specs.Named.{HaveNames}
+use Rattle.tl_rules.specs.Reads.{Reads}
+use Rattle.tl_rules.specs.Symbols.{names_with_all}
+use Rattle.tl_rules.specs.declared.rule.FormFault.{FormFault}
+use Rattle.tl_rules.proofs.NamesHave.{forms-have}
 use Rattle.tl_domain.specs.DomainFiles.{domain_file_breaks}
 use Rattle.tl_domain.specs.DomainTrees.{domain_tree}
 use Rattle.tl_domain.specs.MeaningOfItems.{domain_file_meant}

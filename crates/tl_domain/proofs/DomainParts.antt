@@ -3,11 +3,11 @@ use Rattle.std.proofs.Common.{◌≡◌, ℕ, List, false, Some, None, refl}
 use Rattle.std.proofs.Math.Bool.{and-false}
 use Rattle.std.specs.Prelude.{◌&&◌, not, codes}
 use Rattle.tl_sexpr.specs.Tree.{FormTree, FormTrees, symbol, integer, list, more_forms}
-use Rattle.tl_forms.specs.Parts.{is_variable, is_word, text_of}
-use Rattle.tl_forms.specs.Reads.{IsFirst}
-use Rattle.tl_forms.specs.Symbols.{number_in}
-use Rattle.tl_forms.specs.declared.rule.FormFault.TheVariants.{Breaks}
-use Rattle.tl_forms.specs.declared.rule.Rule.TheVariants.{Shape}
+use Rattle.tl_rules.specs.Parts.{is_variable, is_word, text_of}
+use Rattle.tl_rules.specs.Reads.{IsFirst}
+use Rattle.tl_rules.specs.Symbols.{number_in}
+use Rattle.tl_rules.specs.declared.rule.FormFault.TheVariants.{Breaks}
+use Rattle.tl_rules.specs.declared.rule.Rule.TheVariants.{Shape}
 use Rattle.tl_domain.specs.DomainFiles.{has_domain_shape, domain_form_breaks}
 use Rattle.tl_domain.specs.Items.{nothing_known}
 use Rattle.tl_domain.specs.MeaningOfItems.{with_items, empty_domain, domain_meant}

@@ -5,22 +5,22 @@ use Rattle.std.specs.List.{list_any}
 use Rattle.std.specs.Str.{bytes_eq}
 use Rattle.tl_sexpr.specs.Tree.{FormTree, FormTrees, symbol, integer, list, no_form, more_forms}
 use Rattle.tl_formulas.specs.declared.roles.FormulaRole.TheVariants as role
-use Rattle.tl_forms.specs.declared.rule.Rule.TheVariants.{Shape, Twice, NotInBound, Limit}
+use Rattle.tl_rules.specs.declared.rule.Rule.TheVariants.{Shape, Twice, NotInBound, Limit}
 use Rattle.tl_formulas.specs.declared.signature.Signature.{Signature}
 use Rattle.tl_domain.specs.declared.words.ItemWord.{ItemWord}
 use Rattle.tl_domain.specs.declared.words.ItemWord.TheVariants as item
-use Rattle.tl_forms.specs.Rules.{Break, first_break, IsLeastBreak}
+use Rattle.tl_rules.specs.Rules.{Break, first_break, IsLeastBreak}
 use Rattle.tl_domain.specs.Words.{item_word}
-use Rattle.tl_forms.specs.Parts.{offset_of, is_within, natural, rest_of}
+use Rattle.tl_rules.specs.Parts.{offset_of, is_within, natural, rest_of}
 use Rattle.tl_formulas.specs.Signatures.{Scope, slot_of, is_taken}
 use Rattle.tl_domain.specs.Operators.{has_head_shape, has_more, parameters_breaks, head_name_breaks, head_parts_breaks, head_list_breaks, head_breaks, parameters_of, is_clause, leading, after_leading, bounds_clause, pre_clause, effects_clause, occurs_in_bounds, pre_breaks, bounds_clause_breaks, pre_clause_breaks, effects_clause_breaks, clauses_breaks, operator_breaks}
 use Rattle.tl_domain.specs.declared.known.Known.{Known}
 use Rattle.tl_domain.specs.Items.{nothing_known, has_item_shape, is_second_control, is_full, arity_breaks, declaration_breaks, levels_breaks, with_head, item_list_breaks, item_parts_breaks, item_breaks, known_after, items_breaks}
 use Rattle.tl_domain.specs.DomainFiles.{has_domain_shape, domain_items_breaks, domain_form_breaks, domain_file_breaks}
 use Rattle.tl_sexpr.specs.Offsets.{RisesFrom, RiseFrom, AreAsRead}
-use Rattle.tl_forms.proofs.Order.{IsInOrder, from, up_to, both, none, one, tested, first-least}
-use Rattle.tl_forms.proofs.Offsets.{form-within, forms-within, rest-rises}
-use Rattle.tl_forms.proofs.OneForm.{second_form-order}
+use Rattle.tl_rules.proofs.Order.{IsInOrder, from, up_to, both, none, one, tested, first-least}
+use Rattle.tl_rules.proofs.Offsets.{form-within, forms-within, rest-rises}
+use Rattle.tl_rules.proofs.OneForm.{second_form-order}
 use Rattle.tl_formulas.proofs.FormOrder.{bounds-order}
 use Rattle.tl_formulas.proofs.FormulaOrder.{formula-order, effects-order}
 

@@ -5,12 +5,12 @@ use Rattle.tl_sexpr.specs.Tree.{FormTrees}
 use Rattle.tl_syntax.specs.declared.domain.Domain.{Domain}
 use Rattle.tl_syntax.specs.declared.problem.Problem.{Problem}
 use Rattle.tl_syntax.specs.Kept.{DomainKeeps}
-use Rattle.tl_forms.specs.declared.rule.FormFault.{FormFault}
-use Rattle.tl_forms.specs.Named.{HaveNames}
-use Rattle.tl_forms.specs.Reads.{Reads, IsFirst, IsLeastFault}
-use Rattle.tl_forms.specs.Rules.{Break}
-use Rattle.tl_forms.specs.Symbols.{names_with_all}
-use Rattle.tl_forms.proofs.NamesHave.{forms-have}
+use Rattle.tl_rules.specs.declared.rule.FormFault.{FormFault}
+use Rattle.tl_rules.specs.Named.{HaveNames}
+use Rattle.tl_rules.specs.Reads.{Reads, IsFirst, IsLeastFault}
+use Rattle.tl_rules.specs.Rules.{Break}
+use Rattle.tl_rules.specs.Symbols.{names_with_all}
+use Rattle.tl_rules.proofs.NamesHave.{forms-have}
 use Rattle.tl_problem.specs.LawsDeclarations.{DeclareAlike}
 use Rattle.tl_problem.specs.ProblemFiles.{problem_file_meant}
 use Rattle.tl_problem.specs.Problems.{IsProblemOf, breaks_of}

@@ -2,10 +2,10 @@
 use Rattle.std.proofs.Common.{◌≡◌, ℕ, List, [], ◌∷◌, ◌++◌, Bool, false, refl, Some, None}
 use Rattle.std.specs.Prelude.{◌&&◌, not, is_some}
 use Rattle.tl_sexpr.specs.Tree.{FormTree, FormTrees, symbol, integer, list, no_form, more_forms}
-use Rattle.tl_forms.specs.declared.rule.Rule.TheVariants.{Twice, NotInBound}
-use Rattle.tl_forms.specs.Rules.{breaks_if}
-use Rattle.tl_forms.specs.Parts.{is_variable}
-use Rattle.tl_forms.specs.Parts.{offset_of, text_of, are_variables, elements_of, rest_of}
+use Rattle.tl_rules.specs.declared.rule.Rule.TheVariants.{Twice, NotInBound}
+use Rattle.tl_rules.specs.Rules.{breaks_if}
+use Rattle.tl_rules.specs.Parts.{is_variable}
+use Rattle.tl_rules.specs.Parts.{offset_of, text_of, are_variables, elements_of, rest_of}
 use Rattle.tl_formulas.specs.Signatures.{Scope, slot_of}
 use Rattle.tl_domain.specs.Operators.{has_head_shape, parameters_breaks, name_in_head}
 use Rattle.tl_formulas.proofs.VariableLists.{first-symbol, later-variables}

@@ -3,12 +3,12 @@ use Rattle.std.proofs.Common.{◌≡◌, ◌≤◌, ◌++◌, ℕ, List, [], ◌
 use Rattle.std.proofs.lemmas.Bool.{true≢false}
 use Rattle.std.specs.Prelude.{Option, not}
 use Rattle.tl_sexpr.specs.Tree.{FormTrees, symbol, integer, list, no_form, more_forms}
-use Rattle.tl_forms.specs.Parts.{call_of}
-use Rattle.tl_forms.specs.Reads.{Reads}
-use Rattle.tl_forms.specs.Rules.{Break, breaks_if}
-use Rattle.tl_forms.specs.declared.rule.FormFault.{FormFault}
-use Rattle.tl_forms.specs.declared.rule.Rule.{Rule}
-use Rattle.tl_forms.specs.declared.rule.Rule.TheVariants.{Shape, Twice, Limit}
+use Rattle.tl_rules.specs.Parts.{call_of}
+use Rattle.tl_rules.specs.Reads.{Reads}
+use Rattle.tl_rules.specs.Rules.{Break, breaks_if}
+use Rattle.tl_rules.specs.declared.rule.FormFault.{FormFault}
+use Rattle.tl_rules.specs.declared.rule.Rule.{Rule}
+use Rattle.tl_rules.specs.declared.rule.Rule.TheVariants.{Shape, Twice, Limit}
 use Rattle.tl_formulas.specs.declared.signature.Signature.{Signature}
 use Rattle.tl_domain.specs.DomainTrees.{DomainTree}
 use Rattle.tl_domain.specs.Items.{has_item_shape, is_second_control, is_full, item_list_breaks, item_parts_breaks, item_breaks, known_with, known_after}

@@ -2,14 +2,14 @@
 use Rattle.std.proofs.Common.{◌≡◌, ◌==◌, ◌++◌, ℕ, List, [], false, true, refl, sym, Some, None}
 use Rattle.std.proofs.lemmas.Bool.{true≢false}
 use Rattle.tl_sexpr.specs.Tree.{FormTree, FormTrees, symbol, integer, list, no_form, more_forms}
-use Rattle.tl_forms.specs.Parts.{count, text_of, is_integer, offset_of}
-use Rattle.tl_forms.specs.Reads.{IsFirst}
-use Rattle.tl_forms.specs.Rules.{breaks_if}
-use Rattle.tl_forms.specs.declared.rule.FormFault.{FormFault}
-use Rattle.tl_forms.specs.declared.rule.Rule.TheVariants.{Twice}
+use Rattle.tl_rules.specs.Parts.{count, text_of, is_integer, offset_of}
+use Rattle.tl_rules.specs.Reads.{IsFirst}
+use Rattle.tl_rules.specs.Rules.{breaks_if}
+use Rattle.tl_rules.specs.declared.rule.FormFault.{FormFault}
+use Rattle.tl_rules.specs.declared.rule.Rule.TheVariants.{Twice}
 use Rattle.tl_formulas.specs.Signatures.{is_taken}
 use Rattle.tl_formulas.specs.declared.signature.Signature.{Signature}
-use Rattle.tl_forms.proofs.Composed.{first-front, first-back}
+use Rattle.tl_rules.proofs.Composed.{first-front, first-back}
 use Rattle.tl_domain.specs.Items.{has_declaration_shape, has_define_shape, has_defined_shape, arity_breaks, declaration_breaks, declaration_of, natural_of}
 
 -- a declaration has two elements after its first

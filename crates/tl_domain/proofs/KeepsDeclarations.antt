@@ -10,11 +10,11 @@ use Rattle.std.proofs.lemmas.Slice.Eq.{bytes_eq-Decides}
 use Rattle.tl_sexpr.specs.Tree.{FormTrees, symbol, integer, list, no_form, more_forms}
 use Rattle.tl_syntax.specs.Kept.{DeclarationKeeps}
 use Rattle.tl_syntax.specs.Lists.{Each}
-use Rattle.tl_forms.specs.declared.rule.Rule.TheVariants.{Shape, Twice, Limit}
-use Rattle.tl_forms.specs.Named.{HaveNames}
-use Rattle.tl_forms.specs.Parts.{is_variable, is_name, natural, is_within}
-use Rattle.tl_forms.specs.Rules.{breaks_if}
-use Rattle.tl_forms.proofs.NamesHave.{number-below}
+use Rattle.tl_rules.specs.declared.rule.Rule.TheVariants.{Shape, Twice, Limit}
+use Rattle.tl_rules.specs.Named.{HaveNames}
+use Rattle.tl_rules.specs.Parts.{is_variable, is_name, natural, is_within}
+use Rattle.tl_rules.specs.Rules.{breaks_if}
+use Rattle.tl_rules.proofs.NamesHave.{number-below}
 use Rattle.tl_formulas.specs.declared.signature.Signature.{Signature}
 use Rattle.tl_formulas.specs.Signatures.{Table, place_of, is_in, is_taken}
 use Rattle.tl_formulas.proofs.KeepsLists.{none-parts, test-fails, test-passes}

@@ -17,20 +17,20 @@ use Rattle.tl_syntax.specs.Signature as domain
 use Rattle.tl_syntax.specs.Signature.{signature_of}
 use Rattle.tl_syntax.proofs.ListLaws.{Each-over}
 use Rattle.tl_syntax.proofs.Places.{image_at}
-use Rattle.tl_forms.specs.declared.rule.Rule.TheVariants.{Shape}
-use Rattle.tl_forms.specs.Named.{HasNames, HaveNames}
-use Rattle.tl_forms.specs.Parts.{is_word, elements_of}
-use Rattle.tl_forms.specs.Symbols.{number_in, names_with_all}
+use Rattle.tl_rules.specs.declared.rule.Rule.TheVariants.{Shape}
+use Rattle.tl_rules.specs.Named.{HasNames, HaveNames}
+use Rattle.tl_rules.specs.Parts.{is_word, elements_of}
+use Rattle.tl_rules.specs.Symbols.{number_in, names_with_all}
 use Rattle.tl_syntax.specs.TreeOfFormula.{tree_of_formula}
-use Rattle.tl_forms.specs.Rules.{breaks_if}
-use Rattle.tl_forms.proofs.NamesHave.{number-below, forms-grow, forms-have, forms-keep}
+use Rattle.tl_rules.specs.Rules.{breaks_if}
+use Rattle.tl_rules.proofs.NamesHave.{number-below, forms-grow, forms-have, forms-keep}
 use Rattle.tl_formulas.proofs.KeepsLists.{none-parts, test-passes, Each-implies, Each-both}
 use Rattle.tl_formulas.proofs.KeepsCalls.{arities, seen}
 use Rattle.tl_formulas.proofs.KeepsFormulas.{FormulaKeeps, constant-keeps}
 use Rattle.tl_domain.specs.declared.known.Known.{Known}
 use Rattle.tl_domain.specs.declared.words.ItemWord.{ItemWord}
 use Rattle.tl_domain.specs.DomainFiles.{has_domain_shape, domain_items_breaks, domain_form_breaks, domain_file_breaks}
-use Rattle.tl_forms.specs.OneForm.{second_form_breaks}
+use Rattle.tl_rules.specs.OneForm.{second_form_breaks}
 use Rattle.tl_domain.specs.DomainTrees.{DefinitionTree, DomainTree, definition_tree, operator_tree, domain_tree}
 use Rattle.tl_domain.specs.Items.{nothing_known, item_breaks, signature_after, known_with, known_after, items_breaks}
 use Rattle.tl_domain.specs.LawsKeeps.{DomainIsKept, NamesAreThere}

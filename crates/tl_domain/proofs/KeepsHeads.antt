@@ -11,11 +11,11 @@ use Rattle.tl_syntax.specs.FreeVariables.{is_slot_in, slots_of, InScope}
 use Rattle.tl_syntax.specs.Kept.{ParametersKeep}
 use Rattle.tl_syntax.specs.Lists.{Each}
 use Rattle.tl_syntax.proofs.ListLaws.{Each-over}
-use Rattle.tl_forms.specs.declared.rule.Rule.TheVariants.{Shape, Twice, NotInBound, Limit}
-use Rattle.tl_forms.specs.Named.{HasNames, HaveNames}
-use Rattle.tl_forms.specs.Parts.{is_variable, count, is_list, is_name, are_variables, texts_of, rest_of}
-use Rattle.tl_forms.specs.Rules.{breaks_if}
-use Rattle.tl_forms.specs.Symbols.{number_in}
+use Rattle.tl_rules.specs.declared.rule.Rule.TheVariants.{Shape, Twice, NotInBound, Limit}
+use Rattle.tl_rules.specs.Named.{HasNames, HaveNames}
+use Rattle.tl_rules.specs.Parts.{is_variable, count, is_list, is_name, are_variables, texts_of, rest_of}
+use Rattle.tl_rules.specs.Rules.{breaks_if}
+use Rattle.tl_rules.specs.Symbols.{number_in}
 use Rattle.tl_formulas.specs.declared.signature.Signature.{Signature}
 use Rattle.tl_formulas.specs.Signatures.{Scope, slot_of}
 use Rattle.tl_formulas.specs.MeaningOfFormulas.{variables_from}

@@ -9,10 +9,10 @@ use Rattle.tl_syntax.specs.Lists.{Each}
 use Rattle.tl_syntax.specs.Fits.{Fits}
 use Rattle.tl_syntax.specs.Signature.{with_definitions_below}
 use Rattle.tl_syntax.specs.Trees.{FormulaTree}
-use Rattle.tl_forms.specs.declared.rule.Rule.TheVariants.{Limit}
-use Rattle.tl_forms.specs.Named.{HasNames}
-use Rattle.tl_forms.specs.Parts.{count, is_list, natural, is_within, rest_of}
-use Rattle.tl_forms.proofs.NamesHave.{number-below}
+use Rattle.tl_rules.specs.declared.rule.Rule.TheVariants.{Limit}
+use Rattle.tl_rules.specs.Named.{HasNames}
+use Rattle.tl_rules.specs.Parts.{count, is_list, natural, is_within, rest_of}
+use Rattle.tl_rules.proofs.NamesHave.{number-below}
 use Rattle.tl_formulas.specs.declared.roles.FormulaRole.TheVariants as role
 use Rattle.tl_formulas.specs.declared.signature.Signature.{Signature}
 use Rattle.tl_formulas.specs.Signatures.{Table, is_taken}

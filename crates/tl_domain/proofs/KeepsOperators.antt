@@ -17,9 +17,9 @@ use Rattle.tl_syntax.specs.Named.{BoundIsNamed, IsNamed, EffectsAreNamed}
 use Rattle.tl_syntax.specs.Signature as domain
 use Rattle.tl_syntax.specs.StateFormulas.{IsState, EffectsAreState}
 use Rattle.tl_syntax.specs.Trees.{FormulaTree}
-use Rattle.tl_forms.specs.Named.{HasNames, HaveNames}
-use Rattle.tl_forms.specs.Parts.{offset_of, is_list, rest_of, occurs_in, occurs_in_any}
-use Rattle.tl_forms.proofs.NamesHave.{number-below}
+use Rattle.tl_rules.specs.Named.{HasNames, HaveNames}
+use Rattle.tl_rules.specs.Parts.{offset_of, is_list, rest_of, occurs_in, occurs_in_any}
+use Rattle.tl_rules.proofs.NamesHave.{number-below}
 use Rattle.tl_formulas.specs.declared.roles.FormulaRole.TheVariants as role
 use Rattle.tl_formulas.specs.declared.signature.Signature.{Signature}
 use Rattle.tl_formulas.specs.Signatures.{Scope}

@@ -10,10 +10,10 @@ use Rattle.std.proofs.lemmas.Option.{same_Some, none-some}
 use Rattle.tl_sexpr.specs.Tree.{FormTrees}
 use Rattle.tl_syntax.specs.Lists.{Among}
 use Rattle.tl_syntax.specs.Settled.{IsInOrder}
-use Rattle.tl_forms.specs.Named.{HaveSymbol}
-use Rattle.tl_forms.specs.Symbols.{names_with_all}
-use Rattle.tl_forms.proofs.NamesHave.{forms-have, forms-grow}
-use Rattle.tl_forms.proofs.SymbolsJoin.{among-any, any-among, symbols-join, symbols-named}
+use Rattle.tl_rules.specs.Named.{HaveSymbol}
+use Rattle.tl_rules.specs.Symbols.{names_with_all}
+use Rattle.tl_rules.proofs.NamesHave.{forms-have, forms-grow}
+use Rattle.tl_rules.proofs.SymbolsJoin.{among-any, any-among, symbols-join, symbols-named}
 use Rattle.tl_domain.specs.Files.{names_of, AreNamesOf}
 
 -- the first text is below the second

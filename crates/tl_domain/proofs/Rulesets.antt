@@ -1,7 +1,7 @@
 -- The rules of plain forms and formulas, and of breaks one after the other, for this crate's functions.
 use Rattle.tl_sexpr.proofs.TreeOf.{tree-Sym, tree-Int, tree-List, trees-Forms}
 use Rattle.tl_syntax.proofs.FormulaTrees.{tree-True}
-use Rattle.tl_forms.proofs.Composed.{first-front, first-back, none-both, count-trees}
+use Rattle.tl_rules.proofs.Composed.{first-front, first-back, none-both, count-trees}
 
 pub ruleset form_trees = (tree-Sym, tree-Int, tree-List, trees-Forms)
 

@@ -8,12 +8,12 @@ use Rattle.std.proofs.lemmas.Bool.{true≢false, and_parts}
 use Rattle.tl_sexpr.specs.Tree.{FormTree, FormTrees, symbol, integer, list, no_form, more_forms}
 use Rattle.tl_syntax.specs.Texts.{number_of}
 use Rattle.tl_syntax.proofs.Texts.{list_any-from_no_number}
-use Rattle.tl_forms.specs.declared.rule.Rule.TheVariants.{Shape}
-use Rattle.tl_forms.specs.Named.{HasNames, HaveNames}
-use Rattle.tl_forms.specs.Parts.{is_word, elements_of}
-use Rattle.tl_forms.specs.Rules.{breaks_if}
-use Rattle.tl_forms.specs.Symbols.{names_with_all, number_in}
-use Rattle.tl_forms.proofs.NamesHave.{forms-number}
+use Rattle.tl_rules.specs.declared.rule.Rule.TheVariants.{Shape}
+use Rattle.tl_rules.specs.Named.{HasNames, HaveNames}
+use Rattle.tl_rules.specs.Parts.{is_word, elements_of}
+use Rattle.tl_rules.specs.Rules.{breaks_if}
+use Rattle.tl_rules.specs.Symbols.{names_with_all, number_in}
+use Rattle.tl_rules.proofs.NamesHave.{forms-number}
 use Rattle.tl_formulas.proofs.KeepsLists.{none-parts, test-passes}
 use Rattle.tl_formulas.proofs.RenamedTerms.{Agrees}
 use Rattle.tl_renumber.specs.Numbers as settled
@@ -23,7 +23,7 @@ use Rattle.tl_renumber.specs.RenumberedDomain.{renumbered_domain}
 use Rattle.tl_renumber.proofs.SettledNumbers.{texts-stay}
 use Rattle.tl_domain.specs.declared.known.Known.{Known}
 use Rattle.tl_domain.specs.DomainFiles.{has_domain_shape, domain_items_breaks, domain_form_breaks, domain_file_breaks}
-use Rattle.tl_forms.specs.OneForm.{second_form_breaks}
+use Rattle.tl_rules.specs.OneForm.{second_form_breaks}
 use Rattle.tl_domain.specs.DomainTrees.{DomainTree}
 use Rattle.tl_domain.specs.Items.{nothing_known, item_breaks, known_after, items_breaks}
 use Rattle.tl_domain.specs.LawsSettled.{SettledFileMeans}

@@ -11,9 +11,9 @@ use Rattle.tl_syntax.specs.declared.declared.Declared.{Declared}
 use Rattle.tl_syntax.specs.declared.variable.Var.{Var}
 use Rattle.tl_syntax.specs.Effects.{EffectTrees}
 use Rattle.tl_syntax.specs.Trees.{FormulaTree}
-use Rattle.tl_forms.specs.Named.{HasNames, HaveNames}
-use Rattle.tl_forms.specs.Parts.{is_list, is_integer, is_name, natural, rest_of}
-use Rattle.tl_forms.specs.Symbols.{number_in}
+use Rattle.tl_rules.specs.Named.{HasNames, HaveNames}
+use Rattle.tl_rules.specs.Parts.{is_list, is_integer, is_name, natural, rest_of}
+use Rattle.tl_rules.specs.Symbols.{number_in}
 use Rattle.tl_formulas.specs.declared.roles.FormulaRole.TheVariants as role
 use Rattle.tl_formulas.specs.declared.signature.Signature.{Signature}
 use Rattle.tl_formulas.specs.Signatures.{Scope, is_taken}

@@ -1,8 +1,8 @@
 -- Worked examples of files and of the first rule that each breaks. Above each stands the text of the file.
 use Rattle.std.specs.Prelude.{◌≡◌, ℕ, pos, List, [], ◌∷◌, Option, Some, None, refl, codes}
 use Rattle.tl_sexpr.specs.Tree.{FormTree, symbol, integer, list, trees_of_list}
-use Rattle.tl_forms.specs.declared.rule.Rule.TheVariants.{Shape, Unknown, Twice, Arity, Unbound, Shadow, NotInBound, Temporal, GoalArg, Limit}
-use Rattle.tl_forms.specs.Rules.{Break, first_break}
+use Rattle.tl_rules.specs.declared.rule.Rule.TheVariants.{Shape, Unknown, Twice, Arity, Unbound, Shadow, NotInBound, Temporal, GoalArg, Limit}
+use Rattle.tl_rules.specs.Rules.{Break, first_break}
 use Rattle.tl_formulas.specs.Terms.{term_breaks}
 use Rattle.tl_formulas.specs.Goals.{goal_breaks}
 use Rattle.tl_formulas.specs.Bounds.{bound_breaks}
@@ -13,7 +13,7 @@ use Rattle.tl_syntax.specs.declared.variable.Arg.TheVariants as arg
 use Rattle.tl_syntax.specs.declared.bound.Bound.TheVariants as bound
 use Rattle.tl_syntax.specs.Trees.{variable, no_term, more_terms, verum, atom, negation}
 use Rattle.tl_syntax.specs.Effects.{add, no_effect, more_effects}
-use Rattle.tl_forms.specs.Symbols.{names_with_all}
+use Rattle.tl_rules.specs.Symbols.{names_with_all}
 use Rattle.tl_formulas.specs.MeaningOfTerms.{term_meant}
 use Rattle.tl_formulas.specs.MeaningOfBounds.{goal_meant, bound_meant}
 use Rattle.tl_formulas.specs.MeaningOfFormulas.{formula_meant}

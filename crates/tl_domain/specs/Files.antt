@@ -10,11 +10,11 @@ use Rattle.tl_syntax.specs.declared.formula.Formula.TheVariants.{True}
 use Rattle.tl_syntax.specs.declared.problem.Problem.{Problem}
 use Rattle.tl_syntax.specs.Lists.{Among}
 use Rattle.tl_syntax.specs.Settled.{IsInOrder}
-use Rattle.tl_forms.specs.declared.rule.FormFault.{FormFault}
-use Rattle.tl_forms.specs.Named.{HaveSymbol}
-use Rattle.tl_forms.specs.Reads.{IsFirst, IsLeastFault}
-use Rattle.tl_forms.specs.Rules.{Break}
-use Rattle.tl_forms.specs.Symbols.{names_with_all}
+use Rattle.tl_rules.specs.declared.rule.FormFault.{FormFault}
+use Rattle.tl_rules.specs.Named.{HaveSymbol}
+use Rattle.tl_rules.specs.Reads.{IsFirst, IsLeastFault}
+use Rattle.tl_rules.specs.Rules.{Break}
+use Rattle.tl_rules.specs.Symbols.{names_with_all}
 use Rattle.tl_problem.specs.ProblemFiles.{problem_file_breaks, problem_file_meant}
 use Rattle.tl_problem.specs.Sections.{sections_of}
 use Rattle.tl_domain.specs.DomainFiles.{domain_file_breaks}

@@ -4,12 +4,12 @@ use Rattle.tl_sexpr.specs.Tree.{FormTree, FormTrees, symbol, integer, list, no_f
 use Rattle.tl_domain.specs.declared.words.ItemWord.{ItemWord}
 use Rattle.tl_domain.specs.declared.words.ItemWord.TheVariants as item
 use Rattle.tl_formulas.specs.declared.roles.FormulaRole.TheVariants as role
-use Rattle.tl_forms.specs.declared.rule.Rule.TheVariants.{Shape, Twice, Limit}
+use Rattle.tl_rules.specs.declared.rule.Rule.TheVariants.{Shape, Twice, Limit}
 use Rattle.tl_formulas.specs.declared.signature.Signature.{Signature}
 use Rattle.tl_domain.specs.declared.known.Known.{Known}
-use Rattle.tl_forms.specs.Rules.{Break, breaks_if}
+use Rattle.tl_rules.specs.Rules.{Break, breaks_if}
 use Rattle.tl_domain.specs.Words.{item_word}
-use Rattle.tl_forms.specs.Parts.{count, is_list, is_integer, is_name, natural, is_within, rest_of}
+use Rattle.tl_rules.specs.Parts.{count, is_list, is_integer, is_name, natural, is_within, rest_of}
 use Rattle.tl_formulas.specs.Signatures.{is_taken}
 use Rattle.tl_formulas.specs.Formulas.{formula_breaks}
 use Rattle.tl_domain.specs.Operators.{head_breaks, head_name_breaks, parameters_of, name_in_head, are_clauses, operator_breaks}

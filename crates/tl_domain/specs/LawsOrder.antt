@@ -2,7 +2,7 @@
 use Rattle.std.specs.Prelude.{◌≡◌, Some}
 use Rattle.tl_sexpr.specs.Offsets.{AreAsRead}
 use Rattle.tl_sexpr.specs.Tree.{FormTrees}
-use Rattle.tl_forms.specs.Rules.{Break, first_break, IsLeastBreak}
+use Rattle.tl_rules.specs.Rules.{Break, first_break, IsLeastBreak}
 use Rattle.tl_domain.specs.DomainFiles.{domain_file_breaks}
 
 -- of the breaks of a domain file as it is read, the first in reading order has the least offset, and there the least rule

@@ -1,8 +1,8 @@
 -- What a lawful file stands for when its names are settled.
 use Rattle.std.specs.Prelude.{◌≡◌, ℕ, List, []}
 use Rattle.tl_sexpr.specs.Tree.{FormTrees}
-use Rattle.tl_forms.specs.Named.{HaveNames}
-use Rattle.tl_forms.specs.Symbols.{names_with_all}
+use Rattle.tl_rules.specs.Named.{HaveNames}
+use Rattle.tl_rules.specs.Symbols.{names_with_all}
 use Rattle.tl_renumber.specs.Numbers.{number_in, IsSettled}
 use Rattle.tl_renumber.specs.RenumberedDomain.{renumbered_domain}
 use Rattle.tl_domain.specs.DomainFiles.{domain_file_breaks}

@@ -9,9 +9,9 @@ use Rattle.tl_domain.specs.declared.words.ItemWord.{ItemWord}
 use Rattle.tl_domain.specs.declared.words.ItemWord.TheVariants as item
 use Rattle.tl_formulas.specs.declared.signature.Signature.{Signature}
 use Rattle.tl_domain.specs.Words.{item_word}
-use Rattle.tl_forms.specs.Parts.{rest_of, elements_of}
+use Rattle.tl_rules.specs.Parts.{rest_of, elements_of}
 use Rattle.tl_formulas.specs.Signatures.{Scope}
-use Rattle.tl_forms.specs.Symbols.{number_in}
+use Rattle.tl_rules.specs.Symbols.{number_in}
 use Rattle.tl_domain.specs.Operators.{parameters_of, name_in_head, bounds_clause, pre_clause, effects_clause}
 use Rattle.tl_domain.specs.Items.{nothing_known, declaration_of, natural_of, with_head, known_after}
 use Rattle.tl_domain.specs.declared.known.Known.{Known}

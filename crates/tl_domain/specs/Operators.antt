@@ -5,10 +5,10 @@ use Rattle.std.specs.Option.{option_map_or}
 use Rattle.std.specs.Str.{bytes_eq}
 use Rattle.tl_sexpr.specs.Tree.{FormTree, FormTrees, symbol, integer, list, no_form, more_forms}
 use Rattle.tl_formulas.specs.declared.roles.FormulaRole.TheVariants as role
-use Rattle.tl_forms.specs.declared.rule.Rule.TheVariants.{Shape, Twice, NotInBound, Limit}
+use Rattle.tl_rules.specs.declared.rule.Rule.TheVariants.{Shape, Twice, NotInBound, Limit}
 use Rattle.tl_formulas.specs.declared.signature.Signature.{Signature}
-use Rattle.tl_forms.specs.Rules.{Break, breaks_if}
-use Rattle.tl_forms.specs.Parts.{offset_of, count, is_name, are_variables, is_word, texts_of, elements_of, rest_of, occurs_in}
+use Rattle.tl_rules.specs.Rules.{Break, breaks_if}
+use Rattle.tl_rules.specs.Parts.{offset_of, count, is_name, are_variables, is_word, texts_of, elements_of, rest_of, occurs_in}
 use Rattle.tl_formulas.specs.Signatures.{Scope, slot_of}
 use Rattle.tl_formulas.specs.Bounds.{bounds_breaks}
 use Rattle.tl_formulas.specs.Formulas.{formula_breaks}

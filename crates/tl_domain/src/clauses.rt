@@ -2,11 +2,11 @@
 ghost use Rattle.std.specs.Prelude.{◌≡◌, option_map, MatchOption};
 ghost use Rattle.tl_sexpr.specs.Tree.{list, no_form, tree_of};
 ghost use Rattle.tl_domain.specs.Operators.{is_clause, leading, after_leading, bounds_clause, pre_clause, effects_clause, are_clauses, occurs_in_bounds};
-ghost use Rattle.tl_forms.specs.Parts.{rest_of};
-ghost use Rattle.tl_forms.specs.Reads.{trees_in};
+ghost use Rattle.tl_rules.specs.Parts.{rest_of};
+ghost use Rattle.tl_rules.specs.Reads.{trees_in};
 
-use tl_forms::parts::{is_word, split_first};
 use tl_formulas::variables::occurs;
+use tl_rules::parts::{is_word, split_first};
 use tl_sexpr::Form;
 
 /// Whether a form is a clause with this word.

@@ -1,10 +1,10 @@
 // Declarations and definitions.
 ghost use Rattle.std.specs.Prelude.{◌≡◌, ◌+◌, ◌≤◌, ℕ, List, true, length, IfOk};
 ghost use Rattle.tl_sexpr.specs.Tree.{FormTrees, tree_of};
-ghost use Rattle.tl_forms.specs.Parts.{is_integer, is_list, rest_of, texts_of};
-ghost use Rattle.tl_forms.specs.Reads.{Reads, Checks, trees_in};
-ghost use Rattle.tl_forms.specs.Rules.{breaks_if};
-ghost use Rattle.tl_forms.specs.declared.rule.Rule.TheVariants.{Twice};
+ghost use Rattle.tl_rules.specs.Parts.{is_integer, is_list, rest_of, texts_of};
+ghost use Rattle.tl_rules.specs.Reads.{Reads, Checks, trees_in};
+ghost use Rattle.tl_rules.specs.Rules.{breaks_if};
+ghost use Rattle.tl_rules.specs.declared.rule.Rule.TheVariants.{Twice};
 ghost use Rattle.tl_formulas.specs.Formulas.{formula_breaks};
 ghost use Rattle.tl_formulas.specs.Signatures.{is_taken};
 ghost use Rattle.tl_formulas.specs.declared.roles.FormulaRole.TheVariants as role;
@@ -16,9 +16,9 @@ ghost use Rattle.tl_domain.specs.declared.heads.Head.{Head};
 
 use crate::heads::{Head, check_distinct, read_head};
 use std::alloc::Global;
-use tl_forms::{FormFault, Rule, breaks, number_of};
 use tl_formulas::variables::{variables, with_variables};
 use tl_formulas::{FormulaRole, Scope, Signature, formula, is_reserved};
+use tl_rules::{FormFault, Rule, breaks, number_of};
 use tl_sexpr::Form;
 use tl_syntax::{Definition, Names};
 

@@ -1,9 +1,9 @@
 // The domain form, which is the one form of a file.
 ghost use Rattle.std.specs.Prelude.{◌≡◌};
 ghost use Rattle.tl_sexpr.specs.Tree.{list, tree_of};
-ghost use Rattle.tl_forms.specs.Parts.{elements_of};
-ghost use Rattle.tl_forms.specs.Reads.{Reads, Checks, trees_in};
-ghost use Rattle.tl_forms.specs.Symbols.{number_in};
+ghost use Rattle.tl_rules.specs.Parts.{elements_of};
+ghost use Rattle.tl_rules.specs.Reads.{Reads, Checks, trees_in};
+ghost use Rattle.tl_rules.specs.Symbols.{number_in};
 ghost use Rattle.tl_domain.specs.DomainFiles.{domain_form_breaks, domain_file_breaks};
 ghost use Rattle.tl_domain.specs.DomainTrees.{domain_tree};
 ghost use Rattle.tl_domain.specs.Items.{nothing_known, items_breaks};
@@ -11,8 +11,8 @@ ghost use Rattle.tl_domain.specs.MeaningOfItems.{with_items, empty_domain, domai
 
 use crate::items::items;
 use std::alloc::Global;
-use tl_forms::parts::{is_variable, is_word, split_first, symbol_text};
-use tl_forms::{FormFault, Rule, breaks, check_last, number_of};
+use tl_rules::parts::{is_variable, is_word, split_first, symbol_text};
+use tl_rules::{FormFault, Rule, breaks, check_last, number_of};
 use tl_sexpr::Form;
 use tl_syntax::{Declareds, Definitions, Domain, Formula, Names, Operators};
 

@@ -3,18 +3,18 @@ ghost use Rattle.std.specs.Prelude.{◌≡◌, ◌≤◌, ◌++◌, ℕ, List, [
 ghost use Rattle.tl_sexpr.specs.Tree.{list, more_forms, symbol, tree_of};
 ghost use Rattle.tl_domain.specs.declared.heads.Head.{Head};
 ghost use Rattle.tl_domain.specs.Operators.{head_list_breaks, parameters_breaks, occurs_in_bounds};
-ghost use Rattle.tl_forms.specs.Parts.{are_variables, elements_of, is_list};
-ghost use Rattle.tl_forms.specs.Rules.{breaks_if};
+ghost use Rattle.tl_rules.specs.Parts.{are_variables, elements_of, is_list};
+ghost use Rattle.tl_rules.specs.Rules.{breaks_if};
 ghost use Rattle.tl_formulas.specs.Signatures.{slot_of};
-ghost use Rattle.tl_forms.specs.declared.rule.Rule.TheVariants.{Twice, NotInBound};
-ghost use Rattle.tl_forms.specs.Reads.{Reads, Checks, trees_in};
+ghost use Rattle.tl_rules.specs.declared.rule.Rule.TheVariants.{Twice, NotInBound};
+ghost use Rattle.tl_rules.specs.Reads.{Reads, Checks, trees_in};
 
 use crate::clauses::occurs_in_bounds;
 use std::alloc::Global;
-use tl_forms::parts::{is_variable, offset, split_first, symbol_text};
-use tl_forms::{FormFault, Rule, breaks};
 use tl_formulas::Scope;
 use tl_formulas::variables::are_variables;
+use tl_rules::parts::{is_variable, offset, split_first, symbol_text};
+use tl_rules::{FormFault, Rule, breaks};
 use tl_sexpr::Form;
 
 /// The name of a head with its offset, and the variables.

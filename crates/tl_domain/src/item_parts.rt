@@ -1,8 +1,8 @@
 // Items by their first word: what the elements after it declare.
 ghost use Rattle.std.specs.Prelude.{◌≡◌, ℕ, List, ◌==◌, ◌<◌, ◌≤◌, [], true, length, OnOk};
 ghost use Rattle.tl_sexpr.specs.Tree.{tree_of};
-ghost use Rattle.tl_forms.specs.Parts.{count};
-ghost use Rattle.tl_forms.specs.Reads.{Reads, trees_in};
+ghost use Rattle.tl_rules.specs.Parts.{count};
+ghost use Rattle.tl_rules.specs.Reads.{Reads, trees_in};
 ghost use Rattle.tl_domain.specs.DomainTrees.{DomainTree, domain_tree};
 ghost use Rattle.tl_domain.specs.Items.{has_declaration_shape, has_define_shape, has_defined_shape, has_operator_shape, declaration_breaks, declaration_of, item_parts_breaks, known_with};
 ghost use Rattle.tl_domain.specs.MeaningOfItems.{with_item};
@@ -14,9 +14,9 @@ use crate::definitions::{arity, check_free, definition, definition_head, levels}
 use crate::known::Known;
 use crate::operators::{operator, operator_head};
 use std::alloc::Global;
-use tl_forms::parts::{offset, one, split_first, symbol_text, three, two};
-use tl_forms::{FormFault, number_of};
 use tl_formulas::{FormulaRole, Scope, Signature, formula};
+use tl_rules::parts::{offset, one, split_first, symbol_text, three, two};
+use tl_rules::{FormFault, number_of};
 use tl_sexpr::Form;
 use tl_syntax::{Declared, Domain, Names};
 

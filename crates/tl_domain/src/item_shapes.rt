@@ -1,13 +1,13 @@
 // The list of an item itself: its shape, and how many items of its kind there may be.
 ghost use Rattle.std.specs.Prelude.{◌≡◌};
-ghost use Rattle.tl_forms.specs.Reads.{Checks, trees_in};
+ghost use Rattle.tl_rules.specs.Reads.{Checks, trees_in};
 ghost use Rattle.tl_domain.specs.Items.{has_declaration_shape, has_define_shape, has_defined_shape, has_operator_shape, has_item_shape, is_second_control, is_full, item_list_breaks};
 
 use crate::clauses::are_clauses;
 use crate::known::Known;
 use crate::words::ItemWord;
-use tl_forms::parts::{is_integer, is_list, is_name, one, split_first, three, two};
-use tl_forms::{FormFault, Rule, breaks};
+use tl_rules::parts::{is_integer, is_list, is_name, one, split_first, three, two};
+use tl_rules::{FormFault, Rule, breaks};
 use tl_sexpr::Form;
 
 /// Whether the elements are a name and an integer.

@@ -1,7 +1,7 @@
 // Items in their order, of which each may use what those before it declare.
 ghost use Rattle.std.specs.Prelude.{◌≡◌, ◌≤◌, ◌++◌, true, false, OnOk};
 ghost use Rattle.tl_sexpr.specs.Tree.{list, tree_of};
-ghost use Rattle.tl_forms.specs.Reads.{Reads, trees_in};
+ghost use Rattle.tl_rules.specs.Reads.{Reads, trees_in};
 ghost use Rattle.tl_domain.specs.DomainTrees.{DomainTree, domain_tree};
 ghost use Rattle.tl_domain.specs.Items.{nothing_known, has_item_shape, is_full, item_list_breaks, item_parts_breaks, item_breaks, items_breaks, known_with, known_after};
 ghost use Rattle.tl_domain.specs.MeaningOfItems.{with_item, with_item_form, with_items};
@@ -12,8 +12,8 @@ use crate::item_shapes::check_item;
 use crate::known::Known;
 use crate::words::{ItemWord, item_word};
 use std::alloc::Global;
-use tl_forms::parts::call;
-use tl_forms::{FormFault, Rule, breaks};
+use tl_rules::parts::call;
+use tl_rules::{FormFault, Rule, breaks};
 use tl_sexpr::Form;
 use tl_syntax::{Domain, Names};
 

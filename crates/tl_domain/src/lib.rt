@@ -35,4 +35,4 @@ pub use laws::{
 };
 pub use problem::problem_of;
 pub use read::domain_of;
-pub use tl_forms::{FormFault, Rule};
+pub use tl_rules::{FormFault, Rule};

@@ -7,7 +7,7 @@ ghost use Rattle.tl_syntax.specs.Kept.{DomainKeeps};
 ghost use Rattle.tl_domain.specs.Files.{CompleteToProblem, IsFirstAfterDomain, IsLeastAfterDomain};
 
 use std::alloc::Global;
-use tl_forms::FormFault;
+use tl_rules::FormFault;
 use tl_sexpr::Forms;
 use tl_syntax::{Domain, Names, Problem};
 

@@ -4,8 +4,8 @@ ghost use Rattle.tl_sexpr.specs.Offsets.{AreAsRead};
 ghost use Rattle.tl_sexpr.specs.Spelling.{symbols_in_all};
 ghost use Rattle.tl_sexpr.specs.Tree.{trees_of};
 ghost use Rattle.tl_syntax.specs.Kept.{DomainKeeps};
-ghost use Rattle.tl_forms.specs.Reads.{Reads, IsLeastFault, trees_in};
-ghost use Rattle.tl_forms.specs.Symbols.{names_with_all, BeginsWith};
+ghost use Rattle.tl_rules.specs.Reads.{Reads, IsLeastFault, trees_in};
+ghost use Rattle.tl_rules.specs.Symbols.{names_with_all, BeginsWith};
 ghost use Rattle.tl_domain.specs.DomainFiles.{domain_file_breaks};
 ghost use Rattle.tl_domain.specs.DomainTrees.{domain_tree};
 ghost use Rattle.tl_domain.specs.Files.{IsDomainOf};
@@ -13,7 +13,7 @@ ghost use Rattle.tl_domain.specs.MeaningOfItems.{domain_file_meant};
 
 use crate::domain_file::domain_file;
 use std::alloc::Global;
-use tl_forms::{FormFault, add_forms};
+use tl_rules::{FormFault, add_forms};
 use tl_sexpr::{Form, Forms};
 use tl_syntax::{Domain, Names};
 
@@ -40,7 +40,7 @@ fn read_domain(alloc: Global, forms: &[Form], names: &mut Names) -> Result<Domai
 /// read from a file it is the rule with the least number at the broken form with the least offset.
 /// What the domain keeps is copied; no form is. The domain keeps what the domain of every problem keeps.
 /// Where there were no names before, `problem_of` takes the domain and the names on to the problem.
-#[tactic(auto, using(tl_forms::proofs::FormTrees::form_trees))]
+#[tactic(auto, using(tl_rules::proofs::FormTrees::form_trees))]
 pub fn domain_of(alloc: Global, forms: &Forms, names: &mut Names) -> Result<Domain, FormFault>
     requires room { length names.old + symbols_in_all (trees_of forms.now) < 2 ^ 32 }
     ensures read { Reads domain_tree result (domain_file_breaks (trees_of forms.now)) (domain_file_meant names.new (trees_of forms.now)) }

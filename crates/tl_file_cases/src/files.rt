@@ -5,7 +5,7 @@ use std::alloc::Global;
 use std::process::Abort;
 use std::test::Fail;
 use tl_domain::domain_of;
-use tl_forms::FormFault;
+use tl_rules::FormFault;
 use tl_syntax::Names;
 use tl_tables::{fault_text, forms_of, is_row, problem_answer};
 

@@ -2,13 +2,13 @@
 use Rattle.std.proofs.Common.{◌≡◌, ◌==◌, ℕ, [], ◌∷◌, false, refl}
 use Rattle.std.proofs.lemmas.Bool.{true≢false}
 use Rattle.tl_sexpr.specs.Tree.{FormTree, FormTrees, symbol, integer, list, no_form, more_forms}
-use Rattle.tl_forms.specs.declared.rule.Rule.TheVariants.{Shape}
+use Rattle.tl_rules.specs.declared.rule.Rule.TheVariants.{Shape}
 use Rattle.tl_formulas.specs.declared.signature.Signature.{Signature}
 use Rattle.tl_formulas.specs.Signatures.{Scope}
 use Rattle.tl_formulas.specs.Bounds.{equality_breaks, goal_bound_breaks}
 use Rattle.tl_formulas.specs.Formulas.{has_quantifier_shape, has_counted_shape}
 use Rattle.tl_formulas.specs.Effects.{has_target_shape, has_set_shape}
-use Rattle.tl_forms.specs.Parts.{count}
+use Rattle.tl_rules.specs.Parts.{count}
 
 pub equality_count : (g : Signature) (scope : Scope) (fs : FormTrees) (at : ℕ) → (count fs == 2) ≡ false → equality_breaks g scope fs at ≡ (Shape, at) ∷ []
 equality_count g scope no_form at other = refl

@@ -6,7 +6,7 @@ use Rattle.tl_syntax.specs.Effects.{each}
 use Rattle.tl_formulas.specs.declared.signature.Signature.{Signature}
 use Rattle.tl_formulas.specs.declared.words.EffectWord.TheVariants as effect
 use Rattle.tl_formulas.specs.Words.{effect_word}
-use Rattle.tl_forms.specs.Parts.{call_of, elements_of, texts_of}
+use Rattle.tl_rules.specs.Parts.{call_of, elements_of, texts_of}
 use Rattle.tl_formulas.specs.Signatures.{Scope}
 use Rattle.tl_formulas.specs.Bounds.{bound_breaks}
 use Rattle.tl_formulas.specs.Variables.{variables_breaks}

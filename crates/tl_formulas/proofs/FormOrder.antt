@@ -4,20 +4,20 @@ use Rattle.std.specs.Prelude.{Option, ◌==◌, ◌&&◌, not, is_some, codes}
 use Rattle.tl_sexpr.specs.Tree.{FormTree, FormTrees, symbol, integer, list, no_form, more_forms}
 use Rattle.tl_syntax.specs.declared.value.Op.{Op}
 use Rattle.tl_syntax.specs.declared.value.Cmp.TheVariants as cmp
-use Rattle.tl_forms.specs.declared.rule.Rule.TheVariants.{Shape, Unknown, Twice, Arity, Unbound, Shadow, NotInBound, GoalArg}
+use Rattle.tl_rules.specs.declared.rule.Rule.TheVariants.{Shape, Unknown, Twice, Arity, Unbound, Shadow, NotInBound, GoalArg}
 use Rattle.tl_formulas.specs.declared.signature.Signature.{Signature}
 use Rattle.tl_formulas.specs.declared.words.FormulaWord.{FormulaWord}
 use Rattle.tl_formulas.specs.declared.words.FormulaWord.TheVariants as word
 use Rattle.tl_formulas.specs.Words.{operation_of, formula_word}
-use Rattle.tl_forms.specs.Parts.{is_variable, offset_of, count, is_list, any_list, is_word, occurs_in, elements_of, rest_of}
+use Rattle.tl_rules.specs.Parts.{is_variable, offset_of, count, is_list, any_list, is_word, occurs_in, elements_of, rest_of}
 use Rattle.tl_formulas.specs.Signatures.{Table, Scope, place_of, has_arity, slot_of, call_breaks_at, call_breaks, unbound_breaks}
 use Rattle.tl_formulas.specs.Terms.{term_call_breaks, term_breaks, term_list_breaks, terms_breaks}
 use Rattle.tl_formulas.specs.Goals.{arguments_breaks, is_flat, is_miscounted_at, miscounted_breaks, other_goal_breaks, goal_breaks}
 use Rattle.tl_formulas.specs.Bounds.{flat_breaks, equality_breaks, goal_bound_breaks, bound_call_breaks, bound_breaks, bounds_breaks}
 use Rattle.tl_formulas.specs.Variables.{variable_breaks, variables_breaks}
 use Rattle.tl_sexpr.specs.Offsets.{RisesFrom, RiseFrom}
-use Rattle.tl_forms.proofs.Offsets.{form-within, forms-within, rest-rises}
-use Rattle.tl_forms.proofs.Order.{IsInOrder, from, up_to, both, none, one, tested, either}
+use Rattle.tl_rules.proofs.Offsets.{form-within, forms-within, rest-rises}
+use Rattle.tl_rules.proofs.Order.{IsInOrder, from, up_to, both, none, one, tested, either}
 
 pub call-order : (table : Table) (text : List ℕ) (n at low high : ℕ) → low ≤ 64 * at + 11 → 64 * at + 13 ≤ high → IsInOrder low (call_breaks table text n at) high
 call-order table text n at low high before after = called (place_of table text)

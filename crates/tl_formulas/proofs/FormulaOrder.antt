@@ -4,22 +4,22 @@ use Rattle.std.specs.Prelude.{Option, ◌&&◌, ◌||◌, not}
 use Rattle.tl_sexpr.specs.Tree.{FormTree, FormTrees, symbol, integer, list, no_form, more_forms}
 use Rattle.tl_formulas.specs.declared.roles.FormulaRole.{FormulaRole}
 use Rattle.tl_formulas.specs.declared.roles.FormulaRole.TheVariants as role
-use Rattle.tl_forms.specs.declared.rule.Rule.TheVariants.{Shape, Arity, Temporal, Limit}
+use Rattle.tl_rules.specs.declared.rule.Rule.TheVariants.{Shape, Arity, Temporal, Limit}
 use Rattle.tl_formulas.specs.declared.signature.Signature.{Signature}
 use Rattle.tl_formulas.specs.declared.words.FormulaWord.{FormulaWord}
 use Rattle.tl_formulas.specs.declared.words.FormulaWord.TheVariants as word
 use Rattle.tl_formulas.specs.declared.words.EffectWord.{EffectWord}
 use Rattle.tl_formulas.specs.declared.words.EffectWord.TheVariants as effect
 use Rattle.tl_formulas.specs.Words.{formula_word, effect_word}
-use Rattle.tl_forms.specs.Parts.{count, is_within}
+use Rattle.tl_rules.specs.Parts.{count, is_within}
 use Rattle.tl_formulas.specs.Signatures.{Table, Scope, place_of, has_arity}
 use Rattle.tl_formulas.specs.Variables.{with_variables}
 use Rattle.tl_formulas.specs.Formulas.{has_formula_shape, is_temporal, may_be_temporal, is_crowded_by, is_too_deep, is_constant, role_below, atom_breaks, name_breaks, steps_breaks, formula_list_breaks, goals_breaks, formula_breaks, formula_parts_breaks, formulas_breaks}
 use Rattle.tl_formulas.specs.Effects as changes
 use Rattle.tl_formulas.specs.Effects.{has_effect_shape, effect_list_breaks, target_breaks, effect_breaks, effect_parts_breaks, effects_breaks}
 use Rattle.tl_sexpr.specs.Offsets.{RisesFrom, RiseFrom}
-use Rattle.tl_forms.proofs.Order.{IsInOrder, from, up_to, both, none, one, tested}
-use Rattle.tl_forms.proofs.Offsets.{form-within, forms-within}
+use Rattle.tl_rules.proofs.Order.{IsInOrder, from, up_to, both, none, one, tested}
+use Rattle.tl_rules.proofs.Offsets.{form-within, forms-within}
 use Rattle.tl_formulas.proofs.FormOrder.{call-order, terms-order, goal-order, bound-order, variable_list-order}
 
 atom-order : (g : Signature) (text : List ℕ) (n at low high : ℕ) → low ≤ 64 * at + 11 → 64 * at + 13 ≤ high → IsInOrder low (atom_breaks g text n at) high

@@ -7,7 +7,7 @@ use Rattle.tl_syntax.specs.declared.value.Cmp.{Cmp}
 use Rattle.tl_formulas.specs.declared.roles.FormulaRole.{FormulaRole}
 use Rattle.tl_formulas.specs.declared.signature.Signature.{Signature}
 use Rattle.tl_formulas.specs.declared.words.FormulaWord.TheVariants as word
-use Rattle.tl_forms.specs.Parts.{count, call_of}
+use Rattle.tl_rules.specs.Parts.{count, call_of}
 use Rattle.tl_formulas.specs.Words.{formula_word}
 use Rattle.tl_formulas.specs.Signatures.{Scope}
 use Rattle.tl_formulas.specs.Terms.{term_breaks, terms_breaks}

@@ -5,10 +5,10 @@ use Rattle.tl_sexpr.specs.Tree.{FormTree, FormTrees, symbol, integer, list, no_f
 use Rattle.tl_syntax.specs.declared.bound.Bound.TheVariants as bound
 use Rattle.tl_syntax.specs.declared.value.Cmp.TheVariants as cmp
 use Rattle.tl_syntax.specs.Lists.{Each}
-use Rattle.tl_forms.specs.declared.rule.Rule.TheVariants.{Shape}
-use Rattle.tl_forms.specs.Named.{HasNames, HaveNames}
-use Rattle.tl_forms.specs.Parts.{count, is_list, any_list}
-use Rattle.tl_forms.specs.Rules.{breaks_if}
+use Rattle.tl_rules.specs.declared.rule.Rule.TheVariants.{Shape}
+use Rattle.tl_rules.specs.Named.{HasNames, HaveNames}
+use Rattle.tl_rules.specs.Parts.{count, is_list, any_list}
+use Rattle.tl_rules.specs.Rules.{breaks_if}
 use Rattle.tl_formulas.specs.declared.signature.Signature.{Signature}
 use Rattle.tl_formulas.specs.declared.words.FormulaWord.{FormulaWord}
 use Rattle.tl_formulas.specs.declared.words.FormulaWord.TheVariants as word

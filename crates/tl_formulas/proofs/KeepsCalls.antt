@@ -17,12 +17,12 @@ use Rattle.tl_syntax.specs.Lists.{Each}
 use Rattle.tl_syntax.specs.Named.{ArgIsNamed}
 use Rattle.tl_syntax.specs.Signature as domain
 use Rattle.tl_syntax.specs.Signature.{Takes}
-use Rattle.tl_forms.specs.declared.rule.Rule.TheVariants.{Arity, Unbound}
-use Rattle.tl_forms.specs.Named.{HasNames, HaveNames}
-use Rattle.tl_forms.specs.Parts.{is_variable, count}
-use Rattle.tl_forms.specs.Rules.{breaks_if}
-use Rattle.tl_forms.specs.Symbols.{number_in}
-use Rattle.tl_forms.proofs.NamesHave.{number-below}
+use Rattle.tl_rules.specs.declared.rule.Rule.TheVariants.{Arity, Unbound}
+use Rattle.tl_rules.specs.Named.{HasNames, HaveNames}
+use Rattle.tl_rules.specs.Parts.{is_variable, count}
+use Rattle.tl_rules.specs.Rules.{breaks_if}
+use Rattle.tl_rules.specs.Symbols.{number_in}
+use Rattle.tl_rules.proofs.NamesHave.{number-below}
 use Rattle.tl_formulas.specs.declared.signature.Signature.{Signature}
 use Rattle.tl_formulas.specs.Signatures.{Table, Scope, place_of, has_arity, is_in, slot_of, call_breaks_at, call_breaks, unbound_breaks}
 use Rattle.tl_formulas.specs.Goals.{arguments_breaks}

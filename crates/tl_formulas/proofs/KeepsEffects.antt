@@ -13,10 +13,10 @@ use Rattle.tl_syntax.specs.Signature as domain
 use Rattle.tl_syntax.specs.Signature.{Takes}
 use Rattle.tl_syntax.specs.StateFormulas.{IsState, EffectIsState, EffectsAreState}
 use Rattle.tl_syntax.specs.Trees.{TermTrees, FormulaTree, verum}
-use Rattle.tl_forms.specs.declared.rule.Rule.TheVariants.{Shape, Limit}
-use Rattle.tl_forms.specs.Named.{HasNames, HaveNames}
-use Rattle.tl_forms.specs.Parts.{count, is_call, elements_of, rest_of}
-use Rattle.tl_forms.specs.Rules.{breaks_if}
+use Rattle.tl_rules.specs.declared.rule.Rule.TheVariants.{Shape, Limit}
+use Rattle.tl_rules.specs.Named.{HasNames, HaveNames}
+use Rattle.tl_rules.specs.Parts.{count, is_call, elements_of, rest_of}
+use Rattle.tl_rules.specs.Rules.{breaks_if}
 use Rattle.tl_formulas.specs.declared.signature.Signature.{Signature}
 use Rattle.tl_formulas.specs.declared.roles.FormulaRole.TheVariants as role
 use Rattle.tl_formulas.specs.declared.words.EffectWord.{EffectWord}

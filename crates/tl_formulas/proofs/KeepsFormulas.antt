@@ -15,10 +15,10 @@ use Rattle.tl_syntax.specs.Named.{VariableIsNamed, BoundIsNamed, IsNamed, AreNam
 use Rattle.tl_syntax.specs.Signature as domain
 use Rattle.tl_syntax.specs.Signature.{Takes}
 use Rattle.tl_syntax.specs.Trees.{TermTrees, FormulaTree, FormulaTrees, verum, falsum, compare, for_all, for_some, within, during, no_formula, more_formulas}
-use Rattle.tl_forms.specs.declared.rule.Rule.TheVariants.{Shape, Temporal, Limit}
-use Rattle.tl_forms.specs.Named.{HasNames, HaveNames}
-use Rattle.tl_forms.specs.Parts.{count, is_variable_list, are_variables, elements_of, texts_of}
-use Rattle.tl_forms.specs.Rules.{breaks_if}
+use Rattle.tl_rules.specs.declared.rule.Rule.TheVariants.{Shape, Temporal, Limit}
+use Rattle.tl_rules.specs.Named.{HasNames, HaveNames}
+use Rattle.tl_rules.specs.Parts.{count, is_variable_list, are_variables, elements_of, texts_of}
+use Rattle.tl_rules.specs.Rules.{breaks_if}
 use Rattle.tl_formulas.specs.declared.signature.Signature.{Signature}
 use Rattle.tl_formulas.specs.declared.roles.FormulaRole.{FormulaRole}
 use Rattle.tl_formulas.specs.declared.words.FormulaWord.{FormulaWord}

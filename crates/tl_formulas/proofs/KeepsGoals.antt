@@ -11,10 +11,10 @@ use Rattle.tl_syntax.specs.Lists.{Each}
 use Rattle.tl_syntax.specs.Named.{BoundIsNamed}
 use Rattle.tl_syntax.specs.Signature as domain
 use Rattle.tl_syntax.specs.Signature.{Takes}
-use Rattle.tl_forms.specs.declared.rule.Rule.TheVariants.{Arity, GoalArg}
-use Rattle.tl_forms.specs.Named.{HasNames, HaveNames}
-use Rattle.tl_forms.specs.Parts.{offset_of, count, is_list, any_list, is_word, elements_of, rest_of}
-use Rattle.tl_forms.specs.Rules.{Break}
+use Rattle.tl_rules.specs.declared.rule.Rule.TheVariants.{Arity, GoalArg}
+use Rattle.tl_rules.specs.Named.{HasNames, HaveNames}
+use Rattle.tl_rules.specs.Parts.{offset_of, count, is_list, any_list, is_word, elements_of, rest_of}
+use Rattle.tl_rules.specs.Rules.{Break}
 use Rattle.tl_formulas.specs.declared.signature.Signature.{Signature}
 use Rattle.tl_formulas.specs.Signatures.{Table, Scope, place_of, has_arity, is_in, unbound_breaks}
 use Rattle.tl_formulas.specs.Goals.{arguments_breaks, is_flat, is_miscounted_at, miscounted_breaks, other_goal_breaks, goal_breaks}

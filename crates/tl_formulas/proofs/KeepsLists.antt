@@ -4,8 +4,8 @@ use Rattle.std.specs.Prelude.{◌||◌}
 use Rattle.std.proofs.lemmas.Bool.{true≢false, ne_eqb, cases_lt}
 use Rattle.tl_syntax.specs.Lists.{Each}
 use Rattle.tl_syntax.specs.FreeVariables.{is_slot_in, slots_without}
-use Rattle.tl_forms.specs.declared.rule.Rule.{Rule}
-use Rattle.tl_forms.specs.Rules.{breaks_if}
+use Rattle.tl_rules.specs.declared.rule.Rule.{Rule}
+use Rattle.tl_rules.specs.Rules.{breaks_if}
 
 -- where two lists together are empty, each is
 pub none-parts : {A : Type 0} (xs ys : List A) → xs ++ ys ≡ [] → (xs ≡ []) × (ys ≡ [])

@@ -13,9 +13,9 @@ use Rattle.tl_syntax.specs.declared.value.Cmp.TheVariants as cmp
 use Rattle.tl_syntax.specs.declared.bound.Bound.TheVariants as bound
 use Rattle.tl_syntax.specs.BoundVariables as slots
 use Rattle.tl_syntax.specs.BoundVariables.{stands_in}
-use Rattle.tl_forms.specs.declared.rule.Rule.TheVariants.{Shape}
-use Rattle.tl_forms.specs.Parts.{is_variable, offset_of, count, is_list, any_list, is_word, elements_of, rest_of, occurs_in, occurs_in_any}
-use Rattle.tl_forms.specs.Symbols.{number_in}
+use Rattle.tl_rules.specs.declared.rule.Rule.TheVariants.{Shape}
+use Rattle.tl_rules.specs.Parts.{is_variable, offset_of, count, is_list, any_list, is_word, elements_of, rest_of, occurs_in, occurs_in_any}
+use Rattle.tl_rules.specs.Symbols.{number_in}
 use Rattle.tl_formulas.specs.declared.signature.Signature.{Signature}
 use Rattle.tl_formulas.specs.declared.words.FormulaWord.{FormulaWord}
 use Rattle.tl_formulas.specs.declared.words.FormulaWord.TheVariants as word

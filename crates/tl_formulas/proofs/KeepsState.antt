@@ -7,9 +7,9 @@ use Rattle.tl_syntax.specs.declared.bound.Bound.{Bound}
 use Rattle.tl_syntax.specs.declared.bound.Bound.TheVariants as bound
 use Rattle.tl_syntax.specs.StateFormulas.{IsState, AreState}
 use Rattle.tl_syntax.specs.Trees.{TermTrees, FormulaTrees, verum, falsum, no_formula, more_formulas}
-use Rattle.tl_forms.specs.declared.rule.Rule.TheVariants.{Shape, Temporal}
-use Rattle.tl_forms.specs.Parts.{elements_of}
-use Rattle.tl_forms.specs.Rules.{breaks_if}
+use Rattle.tl_rules.specs.declared.rule.Rule.TheVariants.{Shape, Temporal}
+use Rattle.tl_rules.specs.Parts.{elements_of}
+use Rattle.tl_rules.specs.Rules.{breaks_if}
 use Rattle.tl_formulas.specs.declared.signature.Signature.{Signature}
 use Rattle.tl_formulas.specs.declared.roles.FormulaRole.{FormulaRole}
 use Rattle.tl_formulas.specs.declared.roles.FormulaRole.TheVariants as role

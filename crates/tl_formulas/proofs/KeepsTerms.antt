@@ -13,8 +13,8 @@ use Rattle.tl_syntax.specs.Named.{TermIsNamed, TermsAreNamed}
 use Rattle.tl_syntax.specs.Signature as domain
 use Rattle.tl_syntax.specs.Signature.{Takes}
 use Rattle.tl_syntax.specs.Trees.{TermTree, TermTrees, value, no_term, more_terms}
-use Rattle.tl_forms.specs.Named.{HasNames, HaveNames}
-use Rattle.tl_forms.specs.Parts.{count}
+use Rattle.tl_rules.specs.Named.{HasNames, HaveNames}
+use Rattle.tl_rules.specs.Parts.{count}
 use Rattle.tl_formulas.specs.declared.signature.Signature.{Signature}
 use Rattle.tl_formulas.specs.Words.{operation_of}
 use Rattle.tl_formulas.specs.Signatures.{Table, Scope, place_of}

@@ -14,12 +14,12 @@ use Rattle.tl_syntax.specs.Lists.{Each}
 use Rattle.tl_syntax.specs.Named.{VariableIsNamed}
 use Rattle.tl_syntax.proofs.ListLaws.{Each-over}
 use Rattle.tl_syntax.proofs.Texts.{list_any-from_no_number}
-use Rattle.tl_forms.specs.Symbols.{number_in}
-use Rattle.tl_forms.specs.declared.rule.Rule.TheVariants.{Twice, Shadow, NotInBound}
-use Rattle.tl_forms.specs.Named.{HaveNames}
-use Rattle.tl_forms.specs.Parts.{is_variable, count, texts_of, occurs_in, are_variables}
-use Rattle.tl_forms.specs.Rules.{breaks_if}
-use Rattle.tl_forms.proofs.NamesHave.{number-below}
+use Rattle.tl_rules.specs.Symbols.{number_in}
+use Rattle.tl_rules.specs.declared.rule.Rule.TheVariants.{Twice, Shadow, NotInBound}
+use Rattle.tl_rules.specs.Named.{HaveNames}
+use Rattle.tl_rules.specs.Parts.{is_variable, count, texts_of, occurs_in, are_variables}
+use Rattle.tl_rules.specs.Rules.{breaks_if}
+use Rattle.tl_rules.proofs.NamesHave.{number-below}
 use Rattle.tl_formulas.specs.declared.signature.Signature.{Signature}
 use Rattle.tl_formulas.specs.Signatures.{Scope, slot_of}
 use Rattle.tl_formulas.specs.Bounds.{bound_breaks}

@@ -12,9 +12,9 @@ use Rattle.tl_syntax.specs.declared.value.Value.TheVariants.{Int, Sym}
 use Rattle.tl_syntax.specs.declared.variable.Arg.{Arg}
 use Rattle.tl_syntax.specs.declared.variable.Arg.TheVariants as arg
 use Rattle.tl_syntax.specs.Trees.{TermTree, TermTrees, arith, no_term, more_terms}
-use Rattle.tl_forms.specs.Named.{HasNames, HaveNames}
-use Rattle.tl_forms.specs.Parts.{is_variable, elements_of, rest_of}
-use Rattle.tl_forms.specs.Symbols.{number_in}
+use Rattle.tl_rules.specs.Named.{HasNames, HaveNames}
+use Rattle.tl_rules.specs.Parts.{is_variable, elements_of, rest_of}
+use Rattle.tl_rules.specs.Symbols.{number_in}
 use Rattle.tl_formulas.specs.declared.signature.Signature.{Signature}
 use Rattle.tl_formulas.specs.declared.words.FormulaWord.{FormulaWord}
 use Rattle.tl_formulas.specs.declared.words.FormulaWord.TheVariants as word

@@ -3,7 +3,7 @@ use Rattle.std.proofs.Common.{◌≡◌, ◌≢◌, ℕ, List, [], ◌∷◌, �
 use Rattle.std.specs.Prelude.{◌&&◌}
 use Rattle.tl_sexpr.specs.Tree.{FormTree, FormTrees, symbol, integer, list, no_form, more_forms}
 use Rattle.tl_formulas.specs.Signatures.{Scope}
-use Rattle.tl_forms.specs.Parts.{text_of, texts_of, offset_of, count, are_variables, is_variable_list}
+use Rattle.tl_rules.specs.Parts.{text_of, texts_of, offset_of, count, are_variables, is_variable_list}
 use Rattle.tl_formulas.specs.Variables.{variable_breaks, variables_breaks}
 
 -- the breaks of a variable and of those after it

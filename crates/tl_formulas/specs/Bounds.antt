@@ -4,11 +4,11 @@ use Rattle.tl_sexpr.specs.Tree.{FormTree, FormTrees, symbol, integer, list, no_f
 use Rattle.tl_syntax.specs.declared.value.Cmp.TheVariants as cmp
 use Rattle.tl_formulas.specs.declared.words.FormulaWord.{FormulaWord}
 use Rattle.tl_formulas.specs.declared.words.FormulaWord.TheVariants as word
-use Rattle.tl_forms.specs.declared.rule.Rule.TheVariants.{Shape}
+use Rattle.tl_rules.specs.declared.rule.Rule.TheVariants.{Shape}
 use Rattle.tl_formulas.specs.declared.signature.Signature.{Signature}
-use Rattle.tl_forms.specs.Rules.{Break, breaks_if}
+use Rattle.tl_rules.specs.Rules.{Break, breaks_if}
 use Rattle.tl_formulas.specs.Words.{formula_word}
-use Rattle.tl_forms.specs.Parts.{count, is_list, any_list}
+use Rattle.tl_rules.specs.Parts.{count, is_list, any_list}
 use Rattle.tl_formulas.specs.Signatures.{Table, Scope, call_breaks, unbound_breaks}
 use Rattle.tl_formulas.specs.Goals.{arguments_breaks, goal_breaks}
 

@@ -4,11 +4,11 @@ use Rattle.tl_sexpr.specs.Tree.{FormTree, FormTrees, symbol, integer, list, no_f
 use Rattle.tl_formulas.specs.declared.words.EffectWord.{EffectWord}
 use Rattle.tl_formulas.specs.declared.words.EffectWord.TheVariants as effect
 use Rattle.tl_formulas.specs.declared.roles.FormulaRole.TheVariants as role
-use Rattle.tl_forms.specs.declared.rule.Rule.TheVariants.{Shape, Limit}
+use Rattle.tl_rules.specs.declared.rule.Rule.TheVariants.{Shape, Limit}
 use Rattle.tl_formulas.specs.declared.signature.Signature.{Signature}
-use Rattle.tl_forms.specs.Rules.{Break, breaks_if}
+use Rattle.tl_rules.specs.Rules.{Break, breaks_if}
 use Rattle.tl_formulas.specs.Words.{effect_word}
-use Rattle.tl_forms.specs.Parts.{count, is_call, is_variable_list, elements_of}
+use Rattle.tl_rules.specs.Parts.{count, is_call, is_variable_list, elements_of}
 use Rattle.tl_formulas.specs.Signatures.{Table, Scope, call_breaks}
 use Rattle.tl_formulas.specs.Terms.{terms_breaks}
 use Rattle.tl_formulas.specs.Bounds.{bound_breaks}

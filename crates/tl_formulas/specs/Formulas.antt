@@ -6,17 +6,17 @@ use Rattle.tl_formulas.specs.declared.words.FormulaWord.{FormulaWord}
 use Rattle.tl_formulas.specs.declared.words.FormulaWord.TheVariants as word
 use Rattle.tl_formulas.specs.declared.roles.FormulaRole.{FormulaRole}
 use Rattle.tl_formulas.specs.declared.roles.FormulaRole.TheVariants as role
-use Rattle.tl_forms.specs.declared.rule.Rule.TheVariants.{Shape, Temporal, Limit}
+use Rattle.tl_rules.specs.declared.rule.Rule.TheVariants.{Shape, Temporal, Limit}
 use Rattle.tl_formulas.specs.declared.signature.Signature.{Signature}
-use Rattle.tl_forms.specs.Rules.{Break, breaks_if}
+use Rattle.tl_rules.specs.Rules.{Break, breaks_if}
 use Rattle.tl_formulas.specs.Words.{formula_word}
-use Rattle.tl_forms.specs.Parts.{count, is_integer, is_variable_list, is_within, is_any_deeper}
+use Rattle.tl_rules.specs.Parts.{count, is_integer, is_variable_list, is_within, is_any_deeper}
 use Rattle.tl_formulas.specs.Signatures.{Scope, place_of, call_breaks, call_breaks_at}
 use Rattle.tl_formulas.specs.Terms.{terms_breaks}
 use Rattle.tl_formulas.specs.Goals.{goal_breaks}
 use Rattle.tl_formulas.specs.Bounds.{bound_breaks}
 use Rattle.tl_formulas.specs.Variables.{variables_breaks, with_variables, is_crowded}
-use Rattle.tl_forms.specs.Parts.{elements_of}
+use Rattle.tl_rules.specs.Parts.{elements_of}
 
 -- the elements are variables, a bound and a formula
 abbrev pub has_quantifier_shape : FormTrees → Bool

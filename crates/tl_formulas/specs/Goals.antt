@@ -1,10 +1,10 @@
 -- The argument of `goal`, in a formula or in a bound.
 use Rattle.std.specs.Prelude.{ℕ, List, [], ◌∷◌, ◌++◌, Bool, false, ◌&&◌, not, Option, Some, None, if◌then◌else◌, codes}
 use Rattle.tl_sexpr.specs.Tree.{FormTree, FormTrees, symbol, list, no_form, more_forms}
-use Rattle.tl_forms.specs.declared.rule.Rule.TheVariants.{Arity, GoalArg}
+use Rattle.tl_rules.specs.declared.rule.Rule.TheVariants.{Arity, GoalArg}
 use Rattle.tl_formulas.specs.declared.signature.Signature.{Signature}
-use Rattle.tl_forms.specs.Rules.{Break, breaks_if}
-use Rattle.tl_forms.specs.Parts.{offset_of, count, is_list, any_list, is_word, elements_of, rest_of}
+use Rattle.tl_rules.specs.Rules.{Break, breaks_if}
+use Rattle.tl_rules.specs.Parts.{offset_of, count, is_list, any_list, is_word, elements_of, rest_of}
 use Rattle.tl_formulas.specs.Signatures.{Table, Scope, place_of, has_arity, is_in, unbound_breaks}
 
 -- variables among these forms that are not in scope

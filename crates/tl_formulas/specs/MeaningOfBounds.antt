@@ -9,7 +9,7 @@ use Rattle.tl_formulas.specs.declared.words.FormulaWord.{FormulaWord}
 use Rattle.tl_formulas.specs.declared.words.FormulaWord.TheVariants as word
 use Rattle.tl_formulas.specs.declared.signature.Signature.{Signature}
 use Rattle.tl_formulas.specs.Words.{formula_word}
-use Rattle.tl_forms.specs.Parts.{elements_of, rest_of}
+use Rattle.tl_rules.specs.Parts.{elements_of, rest_of}
 use Rattle.tl_formulas.specs.Signatures.{Table, Scope, place_of}
 use Rattle.tl_formulas.specs.Goals.{is_flat}
 use Rattle.tl_formulas.specs.MeaningOfTerms.{argument_meant, arguments_meant}

@@ -7,7 +7,7 @@ use Rattle.tl_formulas.specs.declared.words.EffectWord.{EffectWord}
 use Rattle.tl_formulas.specs.declared.words.EffectWord.TheVariants as effect
 use Rattle.tl_formulas.specs.declared.signature.Signature.{Signature}
 use Rattle.tl_formulas.specs.Words.{effect_word}
-use Rattle.tl_forms.specs.Parts.{rest_of}
+use Rattle.tl_rules.specs.Parts.{rest_of}
 use Rattle.tl_formulas.specs.Signatures.{Table, Scope}
 use Rattle.tl_formulas.specs.Variables.{with_variables}
 use Rattle.tl_formulas.specs.MeaningOfTerms.{terms_meant, first_term}

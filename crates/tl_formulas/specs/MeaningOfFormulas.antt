@@ -10,10 +10,10 @@ use Rattle.tl_formulas.specs.declared.words.FormulaWord.{FormulaWord}
 use Rattle.tl_formulas.specs.declared.words.FormulaWord.TheVariants as word
 use Rattle.tl_formulas.specs.declared.signature.Signature.{Signature}
 use Rattle.tl_formulas.specs.Words.{formula_word}
-use Rattle.tl_forms.specs.Parts.{natural, elements_of, texts_of}
+use Rattle.tl_rules.specs.Parts.{natural, elements_of, texts_of}
 use Rattle.tl_formulas.specs.Signatures.{Scope, place_of}
 use Rattle.tl_formulas.specs.Variables.{with_variables}
-use Rattle.tl_forms.specs.Symbols.{number_in}
+use Rattle.tl_rules.specs.Symbols.{number_in}
 use Rattle.tl_formulas.specs.MeaningOfTerms.{terms_meant, first_term, second_term}
 use Rattle.tl_formulas.specs.MeaningOfBounds.{goal_meant, bound_meant}
 

@@ -7,10 +7,10 @@ use Rattle.tl_syntax.specs.declared.variable.Var.{Var}
 use Rattle.tl_syntax.specs.declared.variable.Arg.{Arg}
 use Rattle.tl_syntax.specs.declared.variable.Arg.TheVariants as arg
 use Rattle.tl_syntax.specs.Trees.{TermTree, TermTrees, variable, value, place, arith, no_term, more_terms}
-use Rattle.tl_forms.specs.Parts.{is_variable}
+use Rattle.tl_rules.specs.Parts.{is_variable}
 use Rattle.tl_formulas.specs.Words.{operation_of}
 use Rattle.tl_formulas.specs.Signatures.{Table, Scope, place_of, slot_of}
-use Rattle.tl_forms.specs.Symbols.{number_in}
+use Rattle.tl_rules.specs.Symbols.{number_in}
 
 -- a variable in scope
 abbrev pub variable_meant : List (List ℕ) → Scope → List ℕ → Var

@@ -7,10 +7,10 @@ use Rattle.std.specs.List.{position, list_any}
 use Rattle.std.specs.Option.{option_map_or}
 use Rattle.std.specs.Str.{bytes_eq}
 use Rattle.tl_sexpr.specs.Tree.{FormTree, symbol, integer, list}
-use Rattle.tl_forms.specs.declared.rule.Rule.TheVariants.{Unknown, Arity, Unbound}
-use Rattle.tl_forms.specs.Parts.{is_variable}
+use Rattle.tl_rules.specs.declared.rule.Rule.TheVariants.{Unknown, Arity, Unbound}
+use Rattle.tl_rules.specs.Parts.{is_variable}
 use Rattle.tl_formulas.specs.declared.signature.Signature.{Signature}
-use Rattle.tl_forms.specs.Rules.{Break, breaks_if}
+use Rattle.tl_rules.specs.Rules.{Break, breaks_if}
 use Rattle.tl_formulas.specs.Words.{reserved_words}
 
 abbrev pub Table : Type 0

@@ -2,10 +2,10 @@
 use Rattle.std.specs.Prelude.{ℕ, List, [], ◌∷◌, ◌++◌, ◌==◌, not, Option, Some, None}
 use Rattle.tl_sexpr.specs.Tree.{FormTree, FormTrees, symbol, integer, list, no_form, more_forms}
 use Rattle.tl_syntax.specs.declared.value.Op.{Op}
-use Rattle.tl_forms.specs.declared.rule.Rule.TheVariants.{Shape}
-use Rattle.tl_forms.specs.Rules.{Break, breaks_if}
+use Rattle.tl_rules.specs.declared.rule.Rule.TheVariants.{Shape}
+use Rattle.tl_rules.specs.Rules.{Break, breaks_if}
 use Rattle.tl_formulas.specs.Words.{operation_of}
-use Rattle.tl_forms.specs.Parts.{count}
+use Rattle.tl_rules.specs.Parts.{count}
 use Rattle.tl_formulas.specs.Signatures.{Table, Scope, call_breaks, unbound_breaks}
 
 -- what the list of a term breaks itself: an operation has two operands, and any other word is a function's name

@@ -1,9 +1,9 @@
 -- Variable lists of quantifiers and of `each`.
 use Rattle.std.specs.Prelude.{ℕ, ◌+◌, List, [], ◌∷◌, ◌++◌, Bool, not, nat_lt, is_some, length}
 use Rattle.tl_sexpr.specs.Tree.{FormTree, FormTrees, symbol, integer, list, no_form, more_forms}
-use Rattle.tl_forms.specs.declared.rule.Rule.TheVariants.{Twice, Shadow, NotInBound}
-use Rattle.tl_forms.specs.Rules.{Break, breaks_if}
-use Rattle.tl_forms.specs.Parts.{count, elements_of, texts_of, occurs_in}
+use Rattle.tl_rules.specs.declared.rule.Rule.TheVariants.{Twice, Shadow, NotInBound}
+use Rattle.tl_rules.specs.Rules.{Break, breaks_if}
+use Rattle.tl_rules.specs.Parts.{count, elements_of, texts_of, occurs_in}
 use Rattle.tl_formulas.specs.Signatures.{Scope, slot_of}
 
 -- what a variable breaks that stands after these variables of its list: it is one of them, is in scope, or stands nowhere in the bound

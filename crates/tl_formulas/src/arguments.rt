@@ -4,14 +4,14 @@ ghost use Rattle.tl_sexpr.specs.Tree.{symbol, tree_of};
 ghost use Rattle.tl_syntax.specs.declared.variable.Arg.{Arg};
 ghost use Rattle.tl_formulas.specs.Goals.{arguments_breaks};
 ghost use Rattle.tl_formulas.specs.MeaningOfTerms.{symbol_meant, argument_meant, arguments_meant};
-ghost use Rattle.tl_forms.specs.Parts.{is_list, any_list};
-ghost use Rattle.tl_forms.specs.Reads.{Reads, trees_in};
+ghost use Rattle.tl_rules.specs.Parts.{is_list, any_list};
+ghost use Rattle.tl_rules.specs.Reads.{Reads, trees_in};
 ghost use Rattle.tl_formulas.specs.Signatures.{unbound_breaks};
 
 use crate::scope::Scope;
 use std::alloc::Global;
-use tl_forms::parts::is_variable;
-use tl_forms::{FormFault, Rule, number_of};
+use tl_rules::parts::is_variable;
+use tl_rules::{FormFault, Rule, number_of};
 use tl_sexpr::Form;
 use tl_syntax::{Arg, Args, Names, Value, Var};
 

@@ -7,7 +7,7 @@ ghost use Rattle.tl_syntax.specs.declared.bound.Bound.TheVariants as bound;
 ghost use Rattle.tl_formulas.specs.Bounds.{flat_breaks, equality_breaks, goal_bound_breaks, bound_call_breaks, bound_breaks, bounds_breaks};
 ghost use Rattle.tl_formulas.specs.MeaningOfBounds.{equality_meant, goal_bound_meant, bound_call_meant, bound_meant, bounds_meant};
 ghost use Rattle.tl_formulas.specs.MeaningOfTerms.{arguments_meant};
-ghost use Rattle.tl_forms.specs.Reads.{Reads, trees_in};
+ghost use Rattle.tl_rules.specs.Reads.{Reads, trees_in};
 ghost use Rattle.tl_formulas.specs.Signatures.{place_of};
 ghost use Rattle.tl_formulas.specs.Words.{formula_word};
 
@@ -18,8 +18,8 @@ use crate::signature::{Signature, Table};
 use crate::terms::called;
 use crate::words::{FormulaWord, formula_word};
 use std::alloc::Global;
-use tl_forms::parts::{any_list, call, is_list, one, two};
-use tl_forms::{FormFault, Rule, breaks};
+use tl_rules::parts::{any_list, call, is_list, one, two};
+use tl_rules::{FormFault, Rule, breaks};
 use tl_sexpr::Form;
 use tl_syntax::{Args, Bound, Bounds, Cmp, Names};
 

@@ -2,16 +2,16 @@
 ghost use Rattle.std.specs.Prelude.{◌≡◌, true, false, OnOk};
 ghost use Rattle.tl_sexpr.specs.Tree.{list, tree_of};
 ghost use Rattle.tl_formulas.specs.Effects.{has_target_shape, has_set_shape, has_when_shape, has_each_shape, has_effect_shape, is_crowded_by, effect_list_breaks};
-ghost use Rattle.tl_forms.specs.Parts.{is_call};
-ghost use Rattle.tl_forms.specs.Reads.{Checks, trees_in};
+ghost use Rattle.tl_rules.specs.Parts.{is_call};
+ghost use Rattle.tl_rules.specs.Reads.{Checks, trees_in};
 ghost use Rattle.tl_formulas.specs.declared.words.EffectWord.TheVariants as effect;
 
 use crate::formula_checks::is_crowded;
 use crate::scope::Scope;
 use crate::variables::variable_list;
 use crate::words::EffectWord;
-use tl_forms::parts::{call, one, split_first, two};
-use tl_forms::{FormFault, Rule, breaks};
+use tl_rules::parts::{call, one, split_first, two};
+use tl_rules::{FormFault, Rule, breaks};
 use tl_sexpr::Form;
 
 /// Whether a form is a non-empty list that begins with a symbol.

@@ -6,16 +6,16 @@ ghost use Rattle.tl_syntax.specs.TreeOfTerm.{tree_of_terms};
 ghost use Rattle.tl_syntax.specs.declared.term.Terms.{Terms};
 ghost use Rattle.tl_formulas.specs.Effects.{has_target_shape, has_set_shape, target_breaks, effect_parts_breaks};
 ghost use Rattle.tl_formulas.specs.MeaningOfEffects.{effect_list_meant, target_meant};
-ghost use Rattle.tl_forms.specs.Parts.{is_call};
-ghost use Rattle.tl_forms.specs.Reads.{Reads, trees_in};
+ghost use Rattle.tl_rules.specs.Parts.{is_call};
+ghost use Rattle.tl_rules.specs.Reads.{Reads, trees_in};
 ghost use Rattle.tl_formulas.specs.declared.words.EffectWord.TheVariants as effect;
 
 use crate::scope::Scope;
 use crate::signature::{Signature, Table};
 use crate::terms::{called, term, terms};
 use std::alloc::Global;
-use tl_forms::FormFault;
-use tl_forms::parts::{call, one, two};
+use tl_rules::FormFault;
+use tl_rules::parts::{call, one, two};
 use tl_sexpr::Form;
 use tl_syntax::{Effect, Names, Terms};
 

@@ -9,8 +9,8 @@ ghost use Rattle.tl_formulas.specs.MeaningOfEffects.{effect_meant, effect_list_m
 ghost use Rattle.tl_formulas.specs.MeaningOfBounds.{bound_meant};
 ghost use Rattle.tl_formulas.specs.MeaningOfFormulas.{variables_from};
 ghost use Rattle.tl_formulas.specs.Variables.{variables_breaks};
-ghost use Rattle.tl_forms.specs.Parts.{are_variables, texts_of};
-ghost use Rattle.tl_forms.specs.Reads.{Reads, trees_in};
+ghost use Rattle.tl_rules.specs.Parts.{are_variables, texts_of};
+ghost use Rattle.tl_rules.specs.Reads.{Reads, trees_in};
 ghost use Rattle.tl_formulas.specs.Words.{effect_word};
 ghost use Rattle.tl_formulas.specs.declared.words.EffectWord.TheVariants as effect;
 
@@ -24,8 +24,8 @@ use crate::signature::Signature;
 use crate::variables::{check_variables, variable_list, variables, with_variables};
 use crate::words::{EffectWord, effect_word};
 use std::alloc::Global;
-use tl_forms::parts::{call, split_first};
-use tl_forms::{FormFault, Rule, breaks};
+use tl_rules::parts::{call, split_first};
+use tl_rules::{FormFault, Rule, breaks};
 use tl_sexpr::Form;
 use tl_syntax::{Effect, Effects, Names};
 

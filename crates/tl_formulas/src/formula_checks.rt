@@ -1,8 +1,8 @@
 // What a formula's list breaks itself.
 ghost use Rattle.std.specs.Prelude.{◌≡◌, [], false, true, OnOk};
 ghost use Rattle.tl_formulas.specs.Formulas.{has_quantifier_shape, has_counted_shape, has_formula_shape, is_temporal, may_be_temporal, role_below, is_too_deep, name_breaks, atom_breaks, is_crowded_by, formula_list_breaks};
-ghost use Rattle.tl_forms.specs.Parts.{is_deeper, is_any_deeper};
-ghost use Rattle.tl_forms.specs.Reads.{Checks, trees_in};
+ghost use Rattle.tl_rules.specs.Parts.{is_deeper, is_any_deeper};
+ghost use Rattle.tl_rules.specs.Reads.{Checks, trees_in};
 ghost use Rattle.tl_formulas.specs.Variables.{is_crowded};
 ghost use Rattle.tl_formulas.specs.declared.words.FormulaWord.TheVariants as word;
 ghost use Rattle.tl_sexpr.specs.Tree.{tree_of};
@@ -13,8 +13,8 @@ use crate::signature::Signature;
 use crate::terms::called;
 use crate::variables::variable_list;
 use crate::words::FormulaWord;
-use tl_forms::parts::{is_integer, list_len, three, two};
-use tl_forms::{FormFault, Rule, breaks};
+use tl_rules::parts::{is_integer, list_len, three, two};
+use tl_rules::{FormFault, Rule, breaks};
 use tl_sexpr::Form;
 
 /// Whether more lists than this number lie within one another in a form.

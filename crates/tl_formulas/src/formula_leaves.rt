@@ -6,11 +6,11 @@ ghost use Rattle.tl_formulas.specs.Formulas.{is_constant, name_breaks, goals_bre
 ghost use Rattle.tl_formulas.specs.MeaningOfBounds.{is_under_goal};
 ghost use Rattle.tl_formulas.specs.MeaningOfFormulas.{constant_meant, formula_of_goal, joined, is_single, is_double, is_many, formula_list_meant, atom_meant};
 ghost use Rattle.tl_formulas.specs.MeaningOfTerms.{terms_meant, first_term, second_term};
-ghost use Rattle.tl_forms.specs.Parts.{count};
-ghost use Rattle.tl_forms.specs.Reads.{Reads, trees_in};
-ghost use Rattle.tl_forms.specs.Rules.{breaks_if};
+ghost use Rattle.tl_rules.specs.Parts.{count};
+ghost use Rattle.tl_rules.specs.Reads.{Reads, trees_in};
+ghost use Rattle.tl_rules.specs.Rules.{breaks_if};
 ghost use Rattle.tl_formulas.specs.Terms.{terms_breaks};
-ghost use Rattle.tl_forms.specs.declared.rule.Rule.TheVariants.{Shape};
+ghost use Rattle.tl_rules.specs.declared.rule.Rule.TheVariants.{Shape};
 ghost use Rattle.tl_formulas.specs.declared.words.FormulaWord.TheVariants as word;
 
 use crate::goals::goal;
@@ -19,8 +19,8 @@ use crate::signature::Signature;
 use crate::terms::{term, terms};
 use crate::words::FormulaWord;
 use std::alloc::Global;
-use tl_forms::parts::{one, two};
-use tl_forms::{FormFault, Rule, breaks};
+use tl_rules::parts::{one, two};
+use tl_rules::{FormFault, Rule, breaks};
 use tl_sexpr::Form;
 use tl_syntax::{Bound, Cmp, Formula, Formulas, Names};
 

@@ -4,8 +4,8 @@ ghost use Rattle.tl_sexpr.specs.Tree.{list, tree_of};
 ghost use Rattle.tl_syntax.specs.TreeOfFormula.{tree_of_formula, tree_of_formulas};
 ghost use Rattle.tl_formulas.specs.Formulas.{has_formula_shape, name_breaks, is_crowded_by, role_below, formula_list_breaks, formula_breaks, formula_parts_breaks, formulas_breaks};
 ghost use Rattle.tl_formulas.specs.MeaningOfFormulas.{joined, is_single, is_double, is_many, formula_meant, formula_list_meant, formulas_meant};
-ghost use Rattle.tl_forms.specs.Parts.{count};
-ghost use Rattle.tl_forms.specs.Reads.{Reads, trees_in};
+ghost use Rattle.tl_rules.specs.Parts.{count};
+ghost use Rattle.tl_rules.specs.Reads.{Reads, trees_in};
 ghost use Rattle.tl_formulas.specs.Words.{formula_word};
 
 use crate::formula_checks::{check_formula_list, role_below};
@@ -16,8 +16,8 @@ use crate::scope::Scope;
 use crate::signature::Signature;
 use crate::words::{FormulaWord, formula_word};
 use std::alloc::Global;
-use tl_forms::parts::{call, one, two};
-use tl_forms::{FormFault, Rule, breaks};
+use tl_rules::parts::{call, one, two};
+use tl_rules::{FormFault, Rule, breaks};
 use tl_sexpr::Form;
 use tl_syntax::{Formula, Formulas, Names};
 

@@ -7,16 +7,16 @@ ghost use Rattle.tl_syntax.specs.declared.bound.Bound.{Bound};
 ghost use Rattle.tl_syntax.specs.declared.bound.Bound.TheVariants as bound;
 ghost use Rattle.tl_formulas.specs.MeaningOfBounds.{call_place, flat_meant, is_under_goal, other_goal_meant, goal_meant};
 ghost use Rattle.tl_formulas.specs.MeaningOfTerms.{argument_meant, arguments_meant};
-ghost use Rattle.tl_forms.specs.Parts.{rest_of, is_list};
-ghost use Rattle.tl_forms.specs.Reads.{Reads, Checks, trees_in};
+ghost use Rattle.tl_rules.specs.Parts.{rest_of, is_list};
+ghost use Rattle.tl_rules.specs.Reads.{Reads, Checks, trees_in};
 ghost use Rattle.tl_formulas.specs.Signatures.{unbound_breaks};
 
 use crate::arguments::{argument, arguments};
 use crate::scope::Scope;
 use crate::signature::{Signature, Table};
 use std::alloc::Global;
-use tl_forms::parts::{any_list, call, is_list, is_word};
-use tl_forms::{FormFault, Rule, breaks};
+use tl_rules::parts::{any_list, call, is_list, is_word};
+use tl_rules::{FormFault, Rule, breaks};
 use tl_sexpr::Form;
 use tl_syntax::{Args, Bound, Names};
 

@@ -6,7 +6,7 @@ ghost use Rattle.tl_syntax.specs.declared.variable.Var.{Var};
 ghost use Rattle.tl_syntax.specs.TreeOfFormula.{tree_of_formula};
 ghost use Rattle.tl_formulas.specs.Formulas.{has_quantifier_shape, has_counted_shape, is_crowded_by, formula_breaks, formula_parts_breaks};
 ghost use Rattle.tl_formulas.specs.MeaningOfFormulas.{formula_meant, formula_list_meant, quantifier_meant, counted_meant};
-ghost use Rattle.tl_forms.specs.Reads.{Reads, trees_in};
+ghost use Rattle.tl_rules.specs.Reads.{Reads, trees_in};
 ghost use Rattle.tl_formulas.specs.declared.words.FormulaWord.TheVariants as word;
 
 use crate::bounds::bound;
@@ -17,8 +17,8 @@ use crate::signature::Signature;
 use crate::steps::steps;
 use crate::variables::{check_variables, variable_list, variables, with_variables};
 use std::alloc::Global;
-use tl_forms::FormFault;
-use tl_forms::parts::{three, two};
+use tl_rules::FormFault;
+use tl_rules::parts::{three, two};
 use tl_sexpr::Form;
 use tl_syntax::{Bound, Formula, Names, Vars};
 

@@ -3,10 +3,10 @@ ghost use Rattle.std.specs.Prelude.{◌≡◌, ℕ, true};
 ghost use Rattle.tl_sexpr.specs.Tree.{tree_of};
 ghost use Rattle.tl_formulas.specs.Formulas.{steps_breaks};
 ghost use Rattle.tl_formulas.specs.MeaningOfFormulas.{steps_meant};
-ghost use Rattle.tl_forms.specs.Parts.{is_integer};
-ghost use Rattle.tl_forms.specs.Reads.{Reads};
+ghost use Rattle.tl_rules.specs.Parts.{is_integer};
+ghost use Rattle.tl_rules.specs.Reads.{Reads};
 
-use tl_forms::{FormFault, Rule, breaks};
+use tl_rules::{FormFault, Rule, breaks};
 use tl_sexpr::Form;
 
 /// The number of steps of `within` or `for`, from 0 to 100,000.

@@ -3,11 +3,11 @@ ghost use Rattle.std.specs.Prelude.{◌≡◌, ◌++◌, ◌==◌, not, Some, No
 ghost use Rattle.tl_sexpr.specs.Tree.{tree_of};
 ghost use Rattle.tl_syntax.specs.TreeOfTerm.{tree_of_term, tree_of_terms};
 ghost use Rattle.tl_formulas.specs.MeaningOfTerms.{call_meant, term_of_argument, term_meant, term_list_meant, terms_meant};
-ghost use Rattle.tl_forms.specs.Parts.{count};
-ghost use Rattle.tl_forms.specs.Rules.{breaks_if};
+ghost use Rattle.tl_rules.specs.Parts.{count};
+ghost use Rattle.tl_rules.specs.Rules.{breaks_if};
 ghost use Rattle.tl_formulas.specs.Words.{operation_of};
-ghost use Rattle.tl_forms.specs.declared.rule.Rule.TheVariants.{Shape};
-ghost use Rattle.tl_forms.specs.Reads.{Reads, trees_in};
+ghost use Rattle.tl_rules.specs.declared.rule.Rule.TheVariants.{Shape};
+ghost use Rattle.tl_rules.specs.Reads.{Reads, trees_in};
 ghost use Rattle.tl_formulas.specs.Signatures.{call_breaks, place_of};
 ghost use Rattle.tl_formulas.specs.Terms.{term_call_breaks, term_breaks, term_list_breaks, terms_breaks};
 
@@ -16,8 +16,8 @@ use crate::scope::Scope;
 use crate::signature::Table;
 use crate::words::operation;
 use std::alloc::Global;
-use tl_forms::parts::{call, two};
-use tl_forms::{FormFault, Rule};
+use tl_rules::parts::{call, two};
+use tl_rules::{FormFault, Rule};
 use tl_sexpr::Form;
 use tl_syntax::{Arg, Names, Op, Term, Terms, Value};
 

@@ -3,14 +3,14 @@ ghost use Rattle.std.specs.Prelude.{◌≡◌, List, ℕ, ◌+◌, ◌++◌, ◌
 ghost use Rattle.tl_sexpr.specs.Tree.{list, tree_of};
 ghost use Rattle.tl_syntax.specs.declared.variable.Var.{Var};
 ghost use Rattle.tl_formulas.specs.MeaningOfFormulas.{variables_from};
-ghost use Rattle.tl_forms.specs.Parts.{are_variables, is_variable_list, elements_of, texts_of, occurs_in, occurs_in_any};
-ghost use Rattle.tl_forms.specs.Reads.{Reads, Checks, trees_in};
+ghost use Rattle.tl_rules.specs.Parts.{are_variables, is_variable_list, elements_of, texts_of, occurs_in, occurs_in_any};
+ghost use Rattle.tl_rules.specs.Reads.{Reads, Checks, trees_in};
 ghost use Rattle.tl_formulas.specs.Variables.{variable_breaks, variables_breaks};
 
 use crate::scope::Scope;
 use std::alloc::Global;
-use tl_forms::parts::{is_variable, offset, symbol_text};
-use tl_forms::{FormFault, Rule, breaks, number_of};
+use tl_rules::parts::{is_variable, offset, symbol_text};
+use tl_rules::{FormFault, Rule, breaks, number_of};
 use tl_sexpr::Form;
 use tl_syntax::{Names, Var, Vars};
 

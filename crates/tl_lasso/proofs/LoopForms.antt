@@ -3,10 +3,10 @@ use Rattle.std.proofs.Common.{◌≡◌, ◌<◌, ◌-◌, ℕ, zero, suc, List,
 use Rattle.std.specs.Prelude.{codes, ◌==◌, if◌then◌else◌}
 use Rattle.tl_sexpr.specs.declared.form.Form.{Form}
 use Rattle.tl_sexpr.specs.Tree.{FormTree, FormTrees, no_form, more_forms, tree_of}
-use Rattle.tl_forms.specs.declared.rule.FormFault.{FormFault}
-use Rattle.tl_forms.specs.Parts.{count, is_word}
-use Rattle.tl_forms.specs.Reads.{trees_in}
-use Rattle.tl_forms.specs.Rules.{Break}
+use Rattle.tl_rules.specs.declared.rule.FormFault.{FormFault}
+use Rattle.tl_rules.specs.Parts.{count, is_word}
+use Rattle.tl_rules.specs.Reads.{trees_in}
+use Rattle.tl_rules.specs.Rules.{Break}
 use Rattle.tl_line.specs.ActionLists.{actions_breaks}
 use Rattle.tl_line.specs.MeaningOfActions.{actions_meant}
 use Rattle.tl_lasso.specs.LoopFiles.{front_of, last_of, loop_breaks_by, loop_breaks, repeat_breaks, repeated_in}

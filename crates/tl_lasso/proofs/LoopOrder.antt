@@ -4,13 +4,13 @@ use Rattle.std.specs.Prelude.{codes, if◌then◌else◌, Result, Ok, Err, IfErr
 use Rattle.tl_sexpr.specs.Tree.{FormTree, FormTrees, symbol, integer, list, no_form, more_forms}
 use Rattle.tl_sexpr.specs.Offsets.{RisesFrom, RiseFrom, AreAsRead}
 use Rattle.tl_syntax.specs.declared.operator.Operator.{Operator}
-use Rattle.tl_forms.specs.declared.rule.Rule.TheVariants.{Shape}
-use Rattle.tl_forms.specs.Parts.{offset_of, count, is_word}
-use Rattle.tl_forms.specs.declared.rule.FormFault.{FormFault}
-use Rattle.tl_forms.specs.declared.rule.FormFault.TheVariants.{Breaks, NoMemory}
-use Rattle.tl_forms.specs.Reads.{Reads, IsLeastFault}
-use Rattle.tl_forms.proofs.Offsets.{form-within}
-use Rattle.tl_forms.proofs.Order.{first-least, IsInOrder, from, up_to, both, one}
+use Rattle.tl_rules.specs.declared.rule.Rule.TheVariants.{Shape}
+use Rattle.tl_rules.specs.Parts.{offset_of, count, is_word}
+use Rattle.tl_rules.specs.declared.rule.FormFault.{FormFault}
+use Rattle.tl_rules.specs.declared.rule.FormFault.TheVariants.{Breaks, NoMemory}
+use Rattle.tl_rules.specs.Reads.{Reads, IsLeastFault}
+use Rattle.tl_rules.proofs.Offsets.{form-within}
+use Rattle.tl_rules.proofs.Order.{first-least, IsInOrder, from, up_to, both, one}
 use Rattle.tl_line.proofs.ListOrder.{actions-order}
 use Rattle.tl_lasso.specs.LoopFiles.{repeated_in, repeat_breaks_at, repeat_breaks, front_of, last_of, loop_breaks_by, loop_breaks}
 use Rattle.tl_lasso.specs.MeaningOfLoops.{loop_meant}

@@ -3,7 +3,7 @@ use Rattle.std.proofs.Common.{◌≡◌, ℕ, List, [], ◌∷◌, ◌++◌, dro
 use Rattle.std.specs.Prelude.{codes}
 use Rattle.tl_sexpr.specs.Tree.{FormTree, symbol, list, no_form, more_forms}
 use Rattle.tl_syntax.specs.declared.operator.Operator.{Operator}
-use Rattle.tl_forms.specs.declared.rule.Rule.TheVariants.{Shape}
+use Rattle.tl_rules.specs.declared.rule.Rule.TheVariants.{Shape}
 use Rattle.tl_check.specs.Passes.{next_labels, until_labels, within_labels}
 use Rattle.tl_terms.specs.Problem.{PlainProblem}
 use Rattle.tl_terms.specs.Run.{state_at}

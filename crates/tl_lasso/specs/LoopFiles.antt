@@ -5,9 +5,9 @@
 use Rattle.std.specs.Prelude.{ℕ, List, [], ◌∷◌, ◌++◌, if◌then◌else◌, codes, Option, Some, None}
 use Rattle.tl_sexpr.specs.Tree.{FormTree, FormTrees, list, no_form, more_forms}
 use Rattle.tl_syntax.specs.declared.operator.Operator.{Operator}
-use Rattle.tl_forms.specs.declared.rule.Rule.TheVariants.{Shape}
-use Rattle.tl_forms.specs.Parts.{offset_of, count, is_word}
-use Rattle.tl_forms.specs.Rules.{Break}
+use Rattle.tl_rules.specs.declared.rule.Rule.TheVariants.{Shape}
+use Rattle.tl_rules.specs.Parts.{offset_of, count, is_word}
+use Rattle.tl_rules.specs.Rules.{Break}
 use Rattle.tl_line.specs.ActionLists.{actions_breaks}
 
 -- ---- the repeated part

@@ -4,7 +4,7 @@ ghost use Rattle.tl_sexpr.specs.Offsets.{AreAsRead};
 ghost use Rattle.tl_sexpr.specs.Tree.{tree_of, trees_of, no_form};
 ghost use Rattle.tl_syntax.specs.declared.action.Action.{Action};
 ghost use Rattle.tl_syntax.specs.Lists.{Each};
-ghost use Rattle.tl_forms.specs.Reads.{Reads, IsLeastFault, trees_in};
+ghost use Rattle.tl_rules.specs.Reads.{Reads, IsLeastFault, trees_in};
 ghost use Rattle.tl_line.specs.NamedActions.{ActionIsNamed};
 ghost use Rattle.tl_lasso.specs.declared.plan.LoopPlan.{LoopPlan};
 ghost use Rattle.tl_lasso.specs.LoopFiles.{front_of, last_of, loop_breaks, repeat_breaks, repeated, repeated_in};
@@ -12,9 +12,9 @@ ghost use Rattle.tl_lasso.specs.MeaningOfLoops.{loop_meant, repeat_meant};
 
 use crate::plan::LoopPlan;
 use std::alloc::Global;
-use tl_forms::parts::{is_word, offset, split_first};
-use tl_forms::{FormFault, Rule, breaks};
 use tl_line::actions_of;
+use tl_rules::parts::{is_word, offset, split_first};
+use tl_rules::{FormFault, Rule, breaks};
 use tl_sexpr::{Form, Forms};
 use tl_syntax::{Actions, Problem};
 

@@ -12,11 +12,11 @@ use Rattle.tl_syntax.specs.Lists.{Each}
 use Rattle.tl_syntax.specs.Named.{ValueIsNamed}
 use Rattle.tl_syntax.specs.Signature.{Takes}
 use Rattle.tl_syntax.specs.Texts.{number_of}
-use Rattle.tl_forms.specs.declared.rule.Rule.TheVariants.{ArgumentCount, NotAValue}
-use Rattle.tl_forms.specs.Parts.{is_variable, count}
-use Rattle.tl_forms.specs.Rules.{Break, breaks_if}
+use Rattle.tl_rules.specs.declared.rule.Rule.TheVariants.{ArgumentCount, NotAValue}
+use Rattle.tl_rules.specs.Parts.{is_variable, count}
+use Rattle.tl_rules.specs.Rules.{Break, breaks_if}
 use Rattle.tl_line.specs.Actions.{operator_at, operator_breaks_at, value_breaks, values_breaks, action_breaks}
-use Rattle.tl_forms.specs.Values.{value_meant, values_meant}
+use Rattle.tl_rules.specs.Values.{value_meant, values_meant}
 use Rattle.tl_line.specs.MeaningOfActions.{action_meant}
 use Rattle.tl_line.specs.NamedActions.{ActionIsNamed}
 

@@ -7,14 +7,14 @@ use Rattle.tl_sexpr.specs.Offsets.{RisesFrom, RiseFrom}
 use Rattle.tl_syntax.specs.declared.action.Action.{Action}
 use Rattle.tl_syntax.specs.declared.operator.Operator.{Operator}
 use Rattle.tl_syntax.specs.Texts.{number_of}
-use Rattle.tl_forms.specs.declared.rule.Rule.TheVariants.{Shape, NoOperator, ArgumentCount, NotAValue}
-use Rattle.tl_forms.specs.Parts.{is_variable, offset_of, count, is_call}
-use Rattle.tl_forms.specs.Rules.{Break}
-use Rattle.tl_forms.specs.declared.rule.FormFault.{FormFault}
-use Rattle.tl_forms.specs.declared.rule.FormFault.TheVariants.{Breaks, NoMemory}
-use Rattle.tl_forms.specs.Reads.{Reads, IsLeastFault}
-use Rattle.tl_forms.proofs.Offsets.{form-within, forms-within}
-use Rattle.tl_forms.proofs.Order.{IsInOrder, from, both, none, one, tested, first-least}
+use Rattle.tl_rules.specs.declared.rule.Rule.TheVariants.{Shape, NoOperator, ArgumentCount, NotAValue}
+use Rattle.tl_rules.specs.Parts.{is_variable, offset_of, count, is_call}
+use Rattle.tl_rules.specs.Rules.{Break}
+use Rattle.tl_rules.specs.declared.rule.FormFault.{FormFault}
+use Rattle.tl_rules.specs.declared.rule.FormFault.TheVariants.{Breaks, NoMemory}
+use Rattle.tl_rules.specs.Reads.{Reads, IsLeastFault}
+use Rattle.tl_rules.proofs.Offsets.{form-within, forms-within}
+use Rattle.tl_rules.proofs.Order.{IsInOrder, from, both, none, one, tested, first-least}
 use Rattle.tl_line.specs.MeaningOfActions.{action_meant}
 use Rattle.tl_line.specs.Actions.{operator_at, has_parameters, operator_breaks_at, value_breaks, values_breaks, action_breaks}
 

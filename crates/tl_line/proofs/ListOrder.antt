@@ -5,11 +5,11 @@ use Rattle.std.proofs.lemmas.Bool.{cases_Bool}
 use Rattle.tl_sexpr.specs.Tree.{FormTree, FormTrees, no_form, more_forms}
 use Rattle.tl_sexpr.specs.Offsets.{RisesFrom, RiseFrom}
 use Rattle.tl_syntax.specs.declared.operator.Operator.{Operator}
-use Rattle.tl_forms.specs.declared.rule.Rule.TheVariants.{Shape, Limit}
-use Rattle.tl_forms.specs.Parts.{offset_of, is_call}
-use Rattle.tl_forms.specs.Rules.{Break}
-use Rattle.tl_forms.proofs.Offsets.{form-within}
-use Rattle.tl_forms.proofs.Order.{IsInOrder, both, none, one, tested}
+use Rattle.tl_rules.specs.declared.rule.Rule.TheVariants.{Shape, Limit}
+use Rattle.tl_rules.specs.Parts.{offset_of, is_call}
+use Rattle.tl_rules.specs.Rules.{Break}
+use Rattle.tl_rules.proofs.Offsets.{form-within}
+use Rattle.tl_rules.proofs.Order.{IsInOrder, both, none, one, tested}
 use Rattle.tl_line.specs.Actions.{action_breaks}
 use Rattle.tl_line.specs.ActionLists.{limit_breaks, placed_breaks, actions_breaks}
 use Rattle.tl_line.proofs.ActionOrder.{action-shape, call-order}

@@ -4,11 +4,11 @@ use Rattle.std.specs.Prelude.{nat_lt, if◌then◌else◌}
 use Rattle.std.proofs.lemmas.List.{append-nil}
 use Rattle.tl_sexpr.specs.Tree.{FormTree}
 use Rattle.tl_syntax.specs.declared.operator.Operator.{Operator}
-use Rattle.tl_forms.specs.declared.rule.Rule.TheVariants.{Shape, Limit}
-use Rattle.tl_forms.specs.declared.rule.FormFault.TheVariants.{Breaks}
-use Rattle.tl_forms.specs.Parts.{offset_of, is_call}
-use Rattle.tl_forms.specs.Reads.{IsFirst}
-use Rattle.tl_forms.specs.Rules.{Break}
+use Rattle.tl_rules.specs.declared.rule.Rule.TheVariants.{Shape, Limit}
+use Rattle.tl_rules.specs.declared.rule.FormFault.TheVariants.{Breaks}
+use Rattle.tl_rules.specs.Parts.{offset_of, is_call}
+use Rattle.tl_rules.specs.Reads.{IsFirst}
+use Rattle.tl_rules.specs.Rules.{Break}
 use Rattle.tl_line.specs.Actions.{action_breaks}
 use Rattle.tl_line.proofs.ActionOrder.{action-shape}
 use Rattle.tl_line.specs.ActionLists.{placed_breaks}

@@ -17,9 +17,9 @@ use Rattle.tl_syntax.specs.Lists.{Each}
 use Rattle.tl_syntax.specs.Settled.{Differ}
 use Rattle.tl_syntax.specs.Texts.{number_of, AreDistinct}
 use Rattle.tl_syntax.proofs.Texts.{number_of-at_place}
-use Rattle.tl_forms.specs.Parts.{count}
+use Rattle.tl_rules.specs.Parts.{count}
 use Rattle.tl_line.specs.Actions.{operator_at, has_parameters, value_breaks, values_breaks, action_breaks}
-use Rattle.tl_forms.specs.Values.{value_meant, values_meant}
+use Rattle.tl_rules.specs.Values.{value_meant, values_meant}
 use Rattle.tl_line.specs.MeaningOfActions.{action_meant}
 use Rattle.tl_line.specs.ActionTexts.{name_text, value_text, operator_text, action_text}
 use Rattle.tl_line.specs.WritableActions.{IsSymbolText, IsWritableName, IsWritableValue, IsWritable}

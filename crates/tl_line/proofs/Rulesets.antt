@@ -2,7 +2,7 @@
 use Rattle.std.proofs.Common.{List, [], ◌∷◌, ◌++◌}
 use Rattle.tl_sexpr.proofs.TreeOf.{tree-Sym, tree-Int, tree-List, trees-Forms}
 use Rattle.tl_syntax.specs.Lists.{Each}
-use Rattle.tl_forms.proofs.Composed.{first-front, first-back, none-both, count-trees}
+use Rattle.tl_rules.proofs.Composed.{first-front, first-back, none-both, count-trees}
 
 -- one more at the end
 pub each_more : {A : Type 0} (P : A → Type 0) (xs : List A) (x : A) → Each P xs → P x → Each P (xs ++ x ∷ [])

@@ -2,9 +2,9 @@
 use Rattle.std.specs.Prelude.{ℕ, ◌+◌, List, [], ◌++◌, not, nat_lt, if◌then◌else◌}
 use Rattle.tl_sexpr.specs.Tree.{FormTree, FormTrees, no_form, more_forms}
 use Rattle.tl_syntax.specs.declared.operator.Operator.{Operator}
-use Rattle.tl_forms.specs.declared.rule.Rule.TheVariants.{Limit}
-use Rattle.tl_forms.specs.Parts.{offset_of, is_call}
-use Rattle.tl_forms.specs.Rules.{Break, breaks_if}
+use Rattle.tl_rules.specs.declared.rule.Rule.TheVariants.{Limit}
+use Rattle.tl_rules.specs.Parts.{offset_of, is_call}
+use Rattle.tl_rules.specs.Rules.{Break, breaks_if}
 use Rattle.tl_line.specs.Actions.{action_breaks}
 
 -- what an action at this offset breaks with so many actions before it: a plan has at most 100000

@@ -9,9 +9,9 @@ use Rattle.std.specs.Option.{option_map_or}
 use Rattle.tl_sexpr.specs.Tree.{FormTree, FormTrees, symbol, integer, list, no_form, more_forms}
 use Rattle.tl_syntax.specs.declared.operator.Operator.{Operator}
 use Rattle.tl_syntax.specs.Texts.{number_of}
-use Rattle.tl_forms.specs.declared.rule.Rule.TheVariants.{Shape, NoOperator, ArgumentCount, NotAValue}
-use Rattle.tl_forms.specs.Parts.{is_variable, offset_of, count}
-use Rattle.tl_forms.specs.Rules.{Break, breaks_if}
+use Rattle.tl_rules.specs.declared.rule.Rule.TheVariants.{Shape, NoOperator, ArgumentCount, NotAValue}
+use Rattle.tl_rules.specs.Parts.{is_variable, offset_of, count}
+use Rattle.tl_rules.specs.Rules.{Break, breaks_if}
 
 -- the position of the operator whose name has this text
 abbrev pub operator_at : List (List ℕ) → List Operator → List ℕ → Option ℕ

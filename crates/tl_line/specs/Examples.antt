@@ -6,8 +6,8 @@ use Rattle.std.specs.Fmt.{digits}
 use Rattle.tl_sexpr.specs.Tree.{FormTree, symbol, integer, list, trees_of_list}
 use Rattle.tl_syntax.specs.declared.operator.Operator.{Operator}
 use Rattle.tl_syntax.specs.declared.value.Value.TheVariants.{Int, Sym}
-use Rattle.tl_forms.specs.declared.rule.Rule.TheVariants.{Shape, NoOperator, ArgumentCount, NotAValue}
-use Rattle.tl_forms.specs.Rules.{Break, first_break}
+use Rattle.tl_rules.specs.declared.rule.Rule.TheVariants.{Shape, NoOperator, ArgumentCount, NotAValue}
+use Rattle.tl_rules.specs.Rules.{Break, first_break}
 use Rattle.tl_line.specs.Actions.{action_breaks}
 use Rattle.tl_line.specs.MeaningOfActions.{action_meant}
 use Rattle.tl_line.specs.ActionTexts.{values_text}

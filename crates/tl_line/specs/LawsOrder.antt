@@ -3,7 +3,7 @@ use Rattle.std.specs.Prelude.{◌≡◌, ℕ, List, Some}
 use Rattle.tl_sexpr.specs.Offsets.{RisesFrom}
 use Rattle.tl_sexpr.specs.Tree.{FormTree}
 use Rattle.tl_syntax.specs.declared.operator.Operator.{Operator}
-use Rattle.tl_forms.specs.Rules.{Break, first_break, IsLeastBreak}
+use Rattle.tl_rules.specs.Rules.{Break, first_break, IsLeastBreak}
 use Rattle.tl_line.specs.Actions.{action_breaks}
 
 -- of the breaks of an action whose forms have rising offsets, the first in reading order has the least offset, and there the least rule

@@ -3,7 +3,7 @@ use Rattle.std.specs.Prelude.{ℕ, List, [], ◌∷◌, unwrap_or}
 use Rattle.tl_sexpr.specs.Tree.{FormTree, FormTrees, symbol, list, no_form, more_forms}
 use Rattle.tl_syntax.specs.declared.action.Action.{Action}
 use Rattle.tl_syntax.specs.declared.operator.Operator.{Operator}
-use Rattle.tl_forms.specs.Values.{values_meant}
+use Rattle.tl_rules.specs.Values.{values_meant}
 use Rattle.tl_line.specs.Actions.{operator_at}
 
 -- an action: its operator, and its arguments

@@ -8,7 +8,7 @@ use Rattle.tl_syntax.specs.declared.operator.Operator.{Operator}
 use Rattle.tl_syntax.specs.declared.value.Value.{Value}
 use Rattle.tl_syntax.specs.declared.value.Value.TheVariants.{Int, Sym}
 use Rattle.tl_syntax.specs.Lists.{Each}
-use Rattle.tl_forms.specs.Parts.{is_variable}
+use Rattle.tl_rules.specs.Parts.{is_variable}
 use Rattle.tl_line.specs.ActionTexts.{name_text}
 
 -- the text of a symbol: one or more bytes of tokens, and no integer

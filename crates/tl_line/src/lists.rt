@@ -3,16 +3,16 @@ ghost use Rattle.std.specs.Prelude.{◌≡◌, ◌+◌, ◌<◌, ◌≤◌, List
 ghost use Rattle.tl_sexpr.specs.Tree.{tree_of};
 ghost use Rattle.tl_syntax.specs.declared.action.Action.{Action};
 ghost use Rattle.tl_syntax.specs.Lists.{Each};
-ghost use Rattle.tl_forms.specs.Parts.{is_call};
-ghost use Rattle.tl_forms.specs.Reads.{Reads, trees_in};
+ghost use Rattle.tl_rules.specs.Parts.{is_call};
+ghost use Rattle.tl_rules.specs.Reads.{Reads, trees_in};
 ghost use Rattle.tl_line.specs.ActionLists.{actions_breaks, placed_breaks};
 ghost use Rattle.tl_line.specs.MeaningOfActions.{action_meant, actions_meant};
 ghost use Rattle.tl_line.specs.NamedActions.{ActionIsNamed};
 
 use crate::read::action_of;
 use std::alloc::Global;
-use tl_forms::parts::{call, offset};
-use tl_forms::{FormFault, Rule, breaks};
+use tl_rules::parts::{call, offset};
+use tl_rules::{FormFault, Rule, breaks};
 use tl_sexpr::Form;
 use tl_syntax::{Action, Actions, Problem};
 

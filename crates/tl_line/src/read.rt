@@ -4,15 +4,15 @@ ghost use Rattle.std.specs.List.{position};
 ghost use Rattle.tl_sexpr.specs.Tree.{list, tree_of};
 ghost use Rattle.tl_syntax.specs.declared.action.Action.{Action};
 ghost use Rattle.tl_sexpr.specs.Offsets.{RisesFrom};
-ghost use Rattle.tl_forms.specs.Reads.{Reads, IsLeastFault, trees_in};
+ghost use Rattle.tl_rules.specs.Reads.{Reads, IsLeastFault, trees_in};
 ghost use Rattle.tl_line.specs.Actions.{operator_at, operator_breaks, action_breaks};
 ghost use Rattle.tl_line.specs.MeaningOfActions.{action_meant};
 ghost use Rattle.tl_line.specs.NamedActions.{ActionIsNamed};
 
 use crate::values::arguments;
 use std::alloc::Global;
-use tl_forms::parts::call;
-use tl_forms::{FormFault, Rule, breaks};
+use tl_rules::parts::call;
+use tl_rules::{FormFault, Rule, breaks};
 use tl_sexpr::Form;
 use tl_syntax::{Action, Names, Operator, Problem};
 

@@ -3,14 +3,14 @@ ghost use Rattle.std.specs.Prelude.{◌≡◌, List};
 ghost use Rattle.tl_sexpr.specs.Tree.{symbol, tree_of};
 ghost use Rattle.tl_syntax.specs.declared.value.Value.{Value};
 ghost use Rattle.tl_syntax.specs.declared.value.Value.TheVariants as value;
-ghost use Rattle.tl_forms.specs.Reads.{Reads, trees_in};
-ghost use Rattle.tl_forms.specs.Symbols.{number_in};
+ghost use Rattle.tl_rules.specs.Reads.{Reads, trees_in};
+ghost use Rattle.tl_rules.specs.Symbols.{number_in};
 ghost use Rattle.tl_line.specs.Actions.{value_breaks, values_breaks};
-ghost use Rattle.tl_forms.specs.Values.{value_meant, values_meant};
+ghost use Rattle.tl_rules.specs.Values.{value_meant, values_meant};
 
 use std::alloc::Global;
-use tl_forms::parts::is_variable;
-use tl_forms::{FormFault, Rule, breaks};
+use tl_rules::parts::is_variable;
+use tl_rules::{FormFault, Rule, breaks};
 use tl_sexpr::Form;
 use tl_syntax::{Names, Value, Values};
 

@@ -3,8 +3,8 @@ use Rattle.std.proofs.Common.{◌≡◌, ℕ, List, [], ◌∷◌, false, true�
 use Rattle.std.specs.Prelude.{◌==◌}
 use Rattle.tl_sexpr.specs.Tree.{FormTree, FormTrees, symbol, integer, list, no_form, more_forms}
 use Rattle.tl_syntax.specs.declared.declared.Declared.{Declared}
-use Rattle.tl_forms.specs.declared.rule.Rule.TheVariants.{Shape}
-use Rattle.tl_forms.specs.Parts.{count}
+use Rattle.tl_rules.specs.declared.rule.Rule.TheVariants.{Shape}
+use Rattle.tl_rules.specs.Parts.{count}
 use Rattle.tl_problem.specs.ProblemFiles.{has_problem_shape}
 use Rattle.tl_problem.specs.Facts.{equality_breaks, negation_breaks}
 

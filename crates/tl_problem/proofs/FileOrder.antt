@@ -7,12 +7,12 @@ use Rattle.tl_sexpr.specs.Tree.{FormTree, FormTrees, symbol, integer, list, no_f
 use Rattle.tl_syntax.specs.declared.declared.Declared.{Declared}
 use Rattle.tl_syntax.specs.declared.domain.Domain.{Domain}
 use Rattle.tl_syntax.specs.DerivedTests.{fact_eq}
-use Rattle.tl_forms.specs.declared.rule.Rule.TheVariants.{Shape, Unknown, Arity, Limit, NotGround, TwoValues}
-use Rattle.tl_forms.specs.Rules.{Break, first_break, IsLeastBreak}
-use Rattle.tl_forms.specs.Parts.{is_variable, offset_of, count, rest_of}
-use Rattle.tl_forms.proofs.Offsets.{form-within, forms-within, rest-rises}
-use Rattle.tl_forms.proofs.OneForm.{second_form-order}
-use Rattle.tl_forms.proofs.Order.{IsInOrder, from, up_to, both, none, one, tested, either, first-least}
+use Rattle.tl_rules.specs.declared.rule.Rule.TheVariants.{Shape, Unknown, Arity, Limit, NotGround, TwoValues}
+use Rattle.tl_rules.specs.Rules.{Break, first_break, IsLeastBreak}
+use Rattle.tl_rules.specs.Parts.{is_variable, offset_of, count, rest_of}
+use Rattle.tl_rules.proofs.Offsets.{form-within, forms-within, rest-rises}
+use Rattle.tl_rules.proofs.OneForm.{second_form-order}
+use Rattle.tl_rules.proofs.Order.{IsInOrder, from, up_to, both, none, one, tested, either, first-least}
 use Rattle.tl_problem.specs.declared.elements.Section.{Section}
 use Rattle.tl_problem.specs.declared.elements.Section.TheVariants as section
 use Rattle.tl_problem.specs.declared.elements.ElementWord.{ElementWord}

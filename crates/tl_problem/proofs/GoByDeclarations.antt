@@ -6,9 +6,9 @@ use Rattle.tl_sexpr.specs.Tree.{FormTree, FormTrees, symbol, integer, list, no_f
 use Rattle.tl_syntax.specs.declared.declared.Declared.{Declared}
 use Rattle.tl_syntax.specs.declared.domain.Domain.{Domain}
 use Rattle.tl_syntax.specs.DerivedTests.{fact_eq}
-use Rattle.tl_forms.specs.declared.rule.Rule.TheVariants.{Shape, Limit, TwoValues}
-use Rattle.tl_forms.specs.Parts.{offset_of, count, rest_of}
-use Rattle.tl_forms.specs.Rules.{breaks_if}
+use Rattle.tl_rules.specs.declared.rule.Rule.TheVariants.{Shape, Limit, TwoValues}
+use Rattle.tl_rules.specs.Parts.{offset_of, count, rest_of}
+use Rattle.tl_rules.specs.Rules.{breaks_if}
 use Rattle.tl_problem.specs.declared.elements.Section.{Section}
 use Rattle.tl_problem.specs.declared.elements.Section.TheVariants as section
 use Rattle.tl_problem.specs.declared.elements.ElementWord.{ElementWord}
@@ -18,7 +18,7 @@ use Rattle.tl_problem.specs.Elements.{or_else, element_word, element_call_breaks
 use Rattle.tl_problem.specs.LawsDeclarations.{DeclareAlike, FilesGoByDeclarations}
 use Rattle.tl_problem.specs.Literals.{no_literal, has_other_value, and_fact, and_value, and_not}
 use Rattle.tl_problem.specs.Facts.{ground_breaks, fact_meant, equality_breaks, equality_meant, negation_breaks, negation_meant}
-use Rattle.tl_forms.specs.OneForm.{second_form_breaks}
+use Rattle.tl_rules.specs.OneForm.{second_form_breaks}
 use Rattle.tl_problem.specs.ProblemFiles.{has_problem_shape, section_breaks, sections_breaks, problem_form_breaks, problem_file_breaks, sections_meant, problem_form_meant, problem_file_meant}
 
 module _ (names : List (List ℕ)) (d e : Domain) (alike : DeclareAlike d e) where

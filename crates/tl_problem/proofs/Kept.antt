@@ -15,12 +15,12 @@ use Rattle.tl_syntax.specs.Kept.{FactKeeps, PlaceKeeps}
 use Rattle.tl_syntax.specs.Lists.{Each}
 use Rattle.tl_syntax.specs.Named.{ValueIsNamed}
 use Rattle.tl_syntax.specs.Signature.{Signature, signature_of, Takes}
-use Rattle.tl_forms.specs.declared.rule.Rule.{Rule}
-use Rattle.tl_forms.specs.declared.rule.Rule.TheVariants.{Shape, Arity, TwoValues}
-use Rattle.tl_forms.specs.Named.{HasNames, HaveNames}
-use Rattle.tl_forms.specs.Parts.{count, rest_of}
-use Rattle.tl_forms.specs.Rules.{Break, breaks_if}
-use Rattle.tl_forms.proofs.NamesHave.{number-below}
+use Rattle.tl_rules.specs.declared.rule.Rule.{Rule}
+use Rattle.tl_rules.specs.declared.rule.Rule.TheVariants.{Shape, Arity, TwoValues}
+use Rattle.tl_rules.specs.Named.{HasNames, HaveNames}
+use Rattle.tl_rules.specs.Parts.{count, rest_of}
+use Rattle.tl_rules.specs.Rules.{Break, breaks_if}
+use Rattle.tl_rules.proofs.NamesHave.{number-below}
 use Rattle.tl_problem.specs.declared.elements.Section.{Section}
 use Rattle.tl_problem.specs.declared.elements.Section.TheVariants as section
 use Rattle.tl_problem.specs.declared.elements.ElementWord.{ElementWord}
@@ -32,7 +32,7 @@ use Rattle.tl_problem.specs.Facts.{ground_breaks, fact_meant, equality_breaks, e
 use Rattle.tl_problem.specs.Keeps.{LiteralsKeep, SectionsKeep}
 use Rattle.tl_problem.specs.Literals.{no_literal, with_fact, with_value, value_at}
 use Rattle.tl_problem.specs.ProblemFiles.{has_problem_shape, section_breaks, section_meant, sections_breaks, sections_meant, problem_form_breaks, problem_form_meant, problem_file_breaks, problem_file_meant}
-use Rattle.tl_forms.specs.Values.{value_meant, values_meant}
+use Rattle.tl_rules.specs.Values.{value_meant, values_meant}
 use Rattle.tl_problem.proofs.Consistent.{agrees-with_value, consistent-with_fact, consistent-with_not}
 
 -- where two lists together are empty, each is

@@ -23,7 +23,7 @@ use Rattle.tl_syntax.specs.Texts.{with_text}
 use Rattle.tl_syntax.specs.TreeOfEffect.{tree_of_effects}
 use Rattle.tl_syntax.specs.TreeOfFormula.{tree_of_formula}
 use Rattle.tl_syntax.specs.Trees.{TermTree, TermTrees, variable, value, place, arith as operation, no_term, more_terms, FormulaTree, FormulaTrees, verum, falsum, atom, defined, compare, goal_fact, goal_place, goal_not, negation, conjunction, disjunction, for_all, for_some, next, always, eventually, until, within, during, no_formula, more_formulas}
-use Rattle.tl_forms.specs.Symbols.{names_with, names_with_all}
+use Rattle.tl_rules.specs.Symbols.{names_with, names_with_all}
 
 Each-more : {A : Type 0} (P Q : A → Type 0) → ((x : A) → P x → Q x) → (xs : List A) → Each P xs → Each Q xs
 Each-more P Q step [] h = tt

@@ -1,9 +1,9 @@
 -- Breaks that are looked for only where there are no others.
 use Rattle.std.proofs.Common.{◌≡◌, List, [], ◌∷◌, refl}
-use Rattle.tl_forms.specs.declared.rule.FormFault.{FormFault}
-use Rattle.tl_forms.specs.declared.rule.FormFault.TheVariants.{Breaks, NoMemory}
-use Rattle.tl_forms.specs.Rules.{Break}
-use Rattle.tl_forms.specs.Reads.{IsFirst}
+use Rattle.tl_rules.specs.declared.rule.FormFault.{FormFault}
+use Rattle.tl_rules.specs.declared.rule.FormFault.TheVariants.{Breaks, NoMemory}
+use Rattle.tl_rules.specs.Rules.{Break}
+use Rattle.tl_rules.specs.Reads.{IsFirst}
 use Rattle.tl_problem.specs.Elements.{or_else}
 
 -- the first of the breaks before is the first of all

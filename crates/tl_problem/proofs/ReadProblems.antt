@@ -5,10 +5,10 @@ use Rattle.tl_sexpr.specs.Tree.{FormTrees}
 use Rattle.tl_syntax.specs.declared.domain.Domain.{Domain}
 use Rattle.tl_syntax.specs.Kept.{DomainKeeps}
 use Rattle.tl_syntax.specs.Signature.{signature_of}
-use Rattle.tl_forms.specs.declared.rule.FormFault.{FormFault}
-use Rattle.tl_forms.specs.declared.rule.FormFault.TheVariants.{Breaks, NoMemory}
-use Rattle.tl_forms.specs.Reads.{IsFirst, IsLeastFault}
-use Rattle.tl_forms.proofs.NamesHave.{forms-have}
+use Rattle.tl_rules.specs.declared.rule.FormFault.{FormFault}
+use Rattle.tl_rules.specs.declared.rule.FormFault.TheVariants.{Breaks, NoMemory}
+use Rattle.tl_rules.specs.Reads.{IsFirst, IsLeastFault}
+use Rattle.tl_rules.proofs.NamesHave.{forms-have}
 use Rattle.tl_problem.specs.declared.sections.Sections.{Sections}
 use Rattle.tl_problem.specs.Keeps.{SectionsKeep}
 use Rattle.tl_problem.specs.Problems.{all_names, breaks_of, said_by}

@@ -21,12 +21,12 @@ use Rattle.tl_syntax.specs.Texts.{number_of}
 use Rattle.tl_syntax.proofs.ListLaws.{same_test}
 use Rattle.tl_syntax.proofs.Plain.{list-tells, value-tells, fact-tells}
 use Rattle.tl_syntax.proofs.Texts.{list_any-from_no_number}
-use Rattle.tl_forms.specs.declared.rule.Rule.TheVariants.{Arity}
-use Rattle.tl_forms.specs.Named.{HasNames, HaveNames}
-use Rattle.tl_forms.specs.Parts.{count}
-use Rattle.tl_forms.specs.Rules.{Break, breaks_if}
-use Rattle.tl_forms.specs.Symbols.{number_in}
-use Rattle.tl_forms.proofs.NamesHave.{number-below}
+use Rattle.tl_rules.specs.declared.rule.Rule.TheVariants.{Arity}
+use Rattle.tl_rules.specs.Named.{HasNames, HaveNames}
+use Rattle.tl_rules.specs.Parts.{count}
+use Rattle.tl_rules.specs.Rules.{Break, breaks_if}
+use Rattle.tl_rules.specs.Symbols.{number_in}
+use Rattle.tl_rules.proofs.NamesHave.{number-below}
 use Rattle.tl_renumber.specs.Numbers.{Renumbering, IsSettled}
 use Rattle.tl_renumber.specs.Numbers as table
 use Rattle.tl_renumber.specs.Renumbered.{renumbered_value, renumbered_values, renumbered_fact, renumbered_place}
@@ -35,7 +35,7 @@ use Rattle.tl_renumber.proofs.SettledNumbers.{numbers-differ, texts-stay}
 use Rattle.tl_problem.specs.Declarations.{position_of, has_arity, call_breaks_at}
 use Rattle.tl_problem.specs.Facts.{ground_breaks, position_meant, fact_meant, equality_breaks, equality_meant, negation_breaks, negation_meant}
 use Rattle.tl_problem.specs.Literals.{with_fact, same_place, value_at, with_value, has_other_value}
-use Rattle.tl_forms.specs.Values.{value_meant, values_meant}
+use Rattle.tl_rules.specs.Values.{value_meant, values_meant}
 use Rattle.tl_problem.specs.Values.{value_breaks, values_breaks}
 use Rattle.tl_problem.proofs.Consistent.{map-last}
 

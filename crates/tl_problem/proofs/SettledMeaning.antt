@@ -12,11 +12,11 @@ use Rattle.tl_syntax.specs.declared.problem.Problem.{Problem}
 use Rattle.tl_syntax.specs.DerivedTests.{fact_eq}
 use Rattle.tl_syntax.specs.Kept.{DeclarationKeeps, DomainKeeps}
 use Rattle.tl_syntax.specs.Lists.{Each}
-use Rattle.tl_forms.specs.declared.rule.Rule.TheVariants.{Shape, Limit, TwoValues}
-use Rattle.tl_forms.specs.Named.{HasNames, HaveNames}
-use Rattle.tl_forms.specs.Parts.{offset_of, count, rest_of}
-use Rattle.tl_forms.specs.Rules.{Break, breaks_if}
-use Rattle.tl_forms.proofs.NamesHave.{forms-have}
+use Rattle.tl_rules.specs.declared.rule.Rule.TheVariants.{Shape, Limit, TwoValues}
+use Rattle.tl_rules.specs.Named.{HasNames, HaveNames}
+use Rattle.tl_rules.specs.Parts.{offset_of, count, rest_of}
+use Rattle.tl_rules.specs.Rules.{Break, breaks_if}
+use Rattle.tl_rules.proofs.NamesHave.{forms-have}
 use Rattle.tl_renumber.specs.DomainTrees.{DomainTree}
 use Rattle.tl_renumber.specs.Numbers.{Renumbering, number_in, IsSettled}
 use Rattle.tl_renumber.specs.Renumbered.{renumbered_fact, renumbered_place}
@@ -30,7 +30,7 @@ use Rattle.tl_problem.specs.declared.literals.Literals.{Literals}
 use Rattle.tl_problem.specs.Elements.{or_else, element_word, element_call_breaks, with_element_call, element_breaks, with_element, elements_breaks, with_elements}
 use Rattle.tl_problem.specs.Facts.{fact_meant, equality_meant, negation_meant}
 use Rattle.tl_problem.specs.Literals.{no_literal, with_fact, with_value, has_other_value}
-use Rattle.tl_forms.specs.OneForm.{second_form_breaks}
+use Rattle.tl_rules.specs.OneForm.{second_form_breaks}
 use Rattle.tl_problem.specs.ProblemFiles.{has_problem_shape, section_breaks, section_meant, sections_breaks, sections_meant, problem_form_breaks, problem_form_meant, problem_file_breaks, problem_file_meant}
 use Rattle.tl_problem.specs.Problems.{IsProblemOf, all_names, breaks_of, said_by}
 use Rattle.tl_problem.specs.Sections.{sections_of}

@@ -3,9 +3,9 @@ use Rattle.std.specs.Prelude.{ℕ, List, [], ◌∷◌, Bool, false, ◌==◌, n
 use Rattle.std.specs.List.{position}
 use Rattle.std.specs.Option.{option_map_or}
 use Rattle.tl_syntax.specs.declared.declared.Declared.{Declared}
-use Rattle.tl_forms.specs.declared.rule.Rule.TheVariants.{Unknown, Arity}
-use Rattle.tl_forms.specs.Rules.{Break, breaks_if}
-use Rattle.tl_forms.specs.Symbols.{number_in}
+use Rattle.tl_rules.specs.declared.rule.Rule.TheVariants.{Unknown, Arity}
+use Rattle.tl_rules.specs.Rules.{Break, breaks_if}
+use Rattle.tl_rules.specs.Symbols.{number_in}
 
 -- the position of the declaration with this text as its name; no two texts have one number
 abbrev pub position_of : List (List ℕ) → List Declared → List ℕ → Option ℕ

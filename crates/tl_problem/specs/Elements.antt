@@ -8,8 +8,8 @@ use Rattle.std.specs.Str.{bytes_eq}
 use Rattle.tl_sexpr.specs.Tree.{FormTree, FormTrees, symbol, integer, list, no_form, more_forms}
 use Rattle.tl_syntax.specs.declared.domain.Domain.{Domain}
 use Rattle.tl_syntax.specs.DerivedTests.{fact_eq}
-use Rattle.tl_forms.specs.declared.rule.Rule.TheVariants.{Shape, TwoValues}
-use Rattle.tl_forms.specs.Rules.{Break, breaks_if}
+use Rattle.tl_rules.specs.declared.rule.Rule.TheVariants.{Shape, TwoValues}
+use Rattle.tl_rules.specs.Rules.{Break, breaks_if}
 use Rattle.tl_problem.specs.declared.elements.Section.{Section}
 use Rattle.tl_problem.specs.declared.elements.Section.TheVariants as section
 use Rattle.tl_problem.specs.declared.elements.ElementWord.{ElementWord}

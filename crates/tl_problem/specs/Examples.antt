@@ -4,9 +4,9 @@ use Rattle.tl_sexpr.specs.Tree.{FormTree, symbol, integer, list, trees_of_list}
 use Rattle.tl_syntax.specs.declared.domain.Domain.{Domain}
 use Rattle.tl_syntax.specs.declared.formula.Formula.TheVariants.{True}
 use Rattle.tl_syntax.specs.declared.value.Value.TheVariants.{Int, Sym}
-use Rattle.tl_forms.specs.declared.rule.Rule.TheVariants.{Shape, Unknown, Arity, NotGround, TwoValues}
-use Rattle.tl_forms.specs.Rules.{Break, first_break}
-use Rattle.tl_forms.specs.Symbols.{names_with_all}
+use Rattle.tl_rules.specs.declared.rule.Rule.TheVariants.{Shape, Unknown, Arity, NotGround, TwoValues}
+use Rattle.tl_rules.specs.Rules.{Break, first_break}
+use Rattle.tl_rules.specs.Symbols.{names_with_all}
 use Rattle.tl_problem.specs.declared.sections.Sections.{Sections}
 use Rattle.tl_problem.specs.ProblemFiles.{problem_file_breaks, problem_file_meant}
 

@@ -7,11 +7,11 @@ use Rattle.tl_syntax.specs.declared.declared.Declared.{Declared}
 use Rattle.tl_syntax.specs.declared.fact.Fact.{Fact}
 use Rattle.tl_syntax.specs.declared.place_value.PlaceValue.{PlaceValue}
 use Rattle.tl_syntax.specs.declared.value.Value.TheVariants.{Int}
-use Rattle.tl_forms.specs.declared.rule.Rule.TheVariants.{Shape}
-use Rattle.tl_forms.specs.Rules.{Break}
-use Rattle.tl_forms.specs.Parts.{count}
+use Rattle.tl_rules.specs.declared.rule.Rule.TheVariants.{Shape}
+use Rattle.tl_rules.specs.Rules.{Break}
+use Rattle.tl_rules.specs.Parts.{count}
 use Rattle.tl_problem.specs.Declarations.{position_of, call_breaks_at}
-use Rattle.tl_forms.specs.Values.{value_meant, values_meant}
+use Rattle.tl_rules.specs.Values.{value_meant, values_meant}
 use Rattle.tl_problem.specs.Values.{value_breaks, values_breaks}
 
 -- what `(n c*)` breaks, with its values, where it should name something that is declared

@@ -3,7 +3,7 @@ use Rattle.std.specs.Prelude.{◌≡◌, ℕ, List, [], length}
 use Rattle.tl_sexpr.specs.Tree.{FormTrees}
 use Rattle.tl_syntax.specs.declared.domain.Domain.{Domain}
 use Rattle.tl_syntax.specs.Signature.{signature_of}
-use Rattle.tl_forms.specs.Named.{HaveNames}
+use Rattle.tl_rules.specs.Named.{HaveNames}
 use Rattle.tl_problem.specs.Keeps.{SectionsKeep}
 use Rattle.tl_problem.specs.ProblemFiles.{problem_file_breaks, problem_file_meant}
 

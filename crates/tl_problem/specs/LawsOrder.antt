@@ -3,7 +3,7 @@ use Rattle.std.specs.Prelude.{◌≡◌, ℕ, List, Some}
 use Rattle.tl_sexpr.specs.Offsets.{AreAsRead}
 use Rattle.tl_sexpr.specs.Tree.{FormTrees}
 use Rattle.tl_syntax.specs.declared.domain.Domain.{Domain}
-use Rattle.tl_forms.specs.Rules.{Break, first_break, IsLeastBreak}
+use Rattle.tl_rules.specs.Rules.{Break, first_break, IsLeastBreak}
 use Rattle.tl_problem.specs.ProblemFiles.{problem_file_breaks}
 
 -- of the breaks of a problem file as it is read, the first in reading order has the least offset, and there the least rule

@@ -4,7 +4,7 @@ use Rattle.tl_sexpr.specs.Tree.{FormTrees}
 use Rattle.tl_syntax.specs.declared.domain.Domain.{Domain}
 use Rattle.tl_syntax.specs.declared.problem.Problem.{Problem}
 use Rattle.tl_syntax.specs.Kept.{DomainKeeps}
-use Rattle.tl_forms.specs.Named.{HaveNames}
+use Rattle.tl_rules.specs.Named.{HaveNames}
 use Rattle.tl_problem.specs.ProblemFiles.{problem_file_breaks, problem_file_meant}
 use Rattle.tl_problem.specs.Problems.{IsProblemOf, breaks_of}
 use Rattle.tl_problem.specs.Sections.{sections_of}

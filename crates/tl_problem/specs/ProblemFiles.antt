@@ -2,10 +2,10 @@
 use Rattle.std.specs.Prelude.{ℕ, List, [], ◌∷◌, ◌++◌, Bool, false, ◌&&◌, nat_lt, codes, if◌then◌else◌}
 use Rattle.tl_sexpr.specs.Tree.{FormTree, FormTrees, symbol, integer, list, no_form, more_forms}
 use Rattle.tl_syntax.specs.declared.domain.Domain.{Domain}
-use Rattle.tl_forms.specs.declared.rule.Rule.TheVariants.{Shape, Limit}
-use Rattle.tl_forms.specs.OneForm.{second_form_breaks}
-use Rattle.tl_forms.specs.Rules.{Break, breaks_if}
-use Rattle.tl_forms.specs.Parts.{offset_of, count, is_name, is_word, rest_of}
+use Rattle.tl_rules.specs.declared.rule.Rule.TheVariants.{Shape, Limit}
+use Rattle.tl_rules.specs.OneForm.{second_form_breaks}
+use Rattle.tl_rules.specs.Rules.{Break, breaks_if}
+use Rattle.tl_rules.specs.Parts.{offset_of, count, is_name, is_word, rest_of}
 use Rattle.tl_problem.specs.declared.elements.Section.{Section}
 use Rattle.tl_problem.specs.declared.elements.Section.TheVariants as section
 use Rattle.tl_problem.specs.declared.literals.Literals.{Literals}

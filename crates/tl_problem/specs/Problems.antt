@@ -3,8 +3,8 @@ use Rattle.std.specs.Prelude.{◌≡◌, ℕ, List, map}
 use Rattle.tl_sexpr.specs.Tree.{FormTrees}
 use Rattle.tl_syntax.specs.declared.domain.Domain.{Domain}
 use Rattle.tl_syntax.specs.declared.problem.Problem.{Problem}
-use Rattle.tl_forms.specs.Rules.{Break}
-use Rattle.tl_forms.specs.Symbols.{names_with_all}
+use Rattle.tl_rules.specs.Rules.{Break}
+use Rattle.tl_rules.specs.Symbols.{names_with_all}
 use Rattle.tl_problem.specs.declared.literals.Literals.{Literals}
 use Rattle.tl_problem.specs.declared.settled.Lists.{Lists}
 use Rattle.tl_problem.specs.declared.sections.Sections.{Sections}

@@ -1,9 +1,9 @@
 -- Ground values: the rules that forms break in the role of a value of a problem.
 use Rattle.std.specs.Prelude.{List, [], ◌∷◌, ◌++◌}
 use Rattle.tl_sexpr.specs.Tree.{FormTree, FormTrees, symbol, integer, list, no_form, more_forms}
-use Rattle.tl_forms.specs.declared.rule.Rule.TheVariants.{NotGround}
-use Rattle.tl_forms.specs.Rules.{Break, breaks_if}
-use Rattle.tl_forms.specs.Parts.{is_variable}
+use Rattle.tl_rules.specs.declared.rule.Rule.TheVariants.{NotGround}
+use Rattle.tl_rules.specs.Rules.{Break, breaks_if}
+use Rattle.tl_rules.specs.Parts.{is_variable}
 
 -- a variable and a list are no values
 abbrev pub value_breaks : FormTree → List Break

@@ -1,10 +1,10 @@
 // What the domain declares.
 ghost use Rattle.std.specs.Prelude.{◌≡◌, ◌==◌, ◌<◌, ℕ, IfSome, length, unwrap_or};
 ghost use Rattle.std.specs.List.{position};
-ghost use Rattle.tl_forms.specs.Reads.{Reads};
+ghost use Rattle.tl_rules.specs.Reads.{Reads};
 ghost use Rattle.tl_problem.specs.Declarations.{position_of, call_breaks_at};
 
-use tl_forms::{FormFault, Rule, breaks, number_of};
+use tl_rules::{FormFault, Rule, breaks, number_of};
 use tl_syntax::{Declared, Names};
 
 /// The position of the declaration with a name.

@@ -1,15 +1,15 @@
 // The elements of `init` and of `goal`.
 ghost use Rattle.std.specs.Prelude.{◌≡◌, []};
 ghost use Rattle.tl_sexpr.specs.Tree.{list, tree_of};
-ghost use Rattle.tl_forms.specs.Reads.{Reads, trees_in};
+ghost use Rattle.tl_rules.specs.Reads.{Reads, trees_in};
 ghost use Rattle.tl_problem.specs.declared.elements.ElementWord.TheVariants as word;
 ghost use Rattle.tl_problem.specs.Elements.{element_word, element_call_breaks, with_element_call, element_breaks, with_element, elements_breaks, with_elements};
 
 use crate::facts::{equality, fact, negation};
 use crate::literals::Literals;
 use std::alloc::Global;
-use tl_forms::parts::call;
-use tl_forms::{FormFault, Rule, breaks};
+use tl_rules::parts::call;
+use tl_rules::{FormFault, Rule, breaks};
 use tl_sexpr::Form;
 use tl_syntax::{Domain, Names};
 

@@ -4,15 +4,15 @@ ghost use Rattle.tl_sexpr.specs.Tree.{list, no_form, more_forms, tree_of};
 ghost use Rattle.tl_syntax.specs.declared.fact.Fact.{Fact};
 ghost use Rattle.tl_syntax.specs.declared.place_value.PlaceValue.{PlaceValue};
 ghost use Rattle.tl_syntax.specs.declared.value.Value.{Value};
-ghost use Rattle.tl_forms.specs.Reads.{Reads, trees_in};
+ghost use Rattle.tl_rules.specs.Reads.{Reads, trees_in};
 ghost use Rattle.tl_problem.specs.Facts.{ground_breaks, position_meant, fact_meant, equality_breaks, equality_meant, negation_breaks, negation_meant};
-ghost use Rattle.tl_forms.specs.Values.{values_meant};
+ghost use Rattle.tl_rules.specs.Values.{values_meant};
 
 use crate::declarations::called;
 use crate::values::{value, values};
 use std::alloc::Global;
-use tl_forms::parts::{call, one, two};
-use tl_forms::{FormFault, Rule, breaks};
+use tl_rules::parts::{call, one, two};
+use tl_rules::{FormFault, Rule, breaks};
 use tl_sexpr::Form;
 use tl_syntax::{Declared, Fact, Names, PlaceValue, Values};
 

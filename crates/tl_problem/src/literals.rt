@@ -1,16 +1,16 @@
 // What the elements of `init` or of `goal` say together.
 ghost use Rattle.std.specs.Prelude.{◌≡◌};
 ghost use Rattle.std.specs.List.{list_any};
-ghost use Rattle.tl_forms.specs.Reads.{Reads};
-ghost use Rattle.tl_forms.specs.Rules.{breaks_if};
-ghost use Rattle.tl_forms.specs.declared.rule.Rule.TheVariants.{TwoValues};
+ghost use Rattle.tl_rules.specs.Reads.{Reads};
+ghost use Rattle.tl_rules.specs.Rules.{breaks_if};
+ghost use Rattle.tl_rules.specs.declared.rule.Rule.TheVariants.{TwoValues};
 ghost use Rattle.tl_syntax.specs.DerivedTests.{fact_eq};
 ghost use Rattle.tl_problem.specs.Literals.{no_literal, has_other_value, and_fact, and_value, and_not};
 
 use crate::fact_set::FactSet;
 use crate::place_map::{Place, PlaceMap};
 use std::alloc::Global;
-use tl_forms::{FormFault, Rule, breaks};
+use tl_rules::{FormFault, Rule, breaks};
 use tl_syntax::{Fact, PlaceValue};
 
 /// What the elements of `init` or of `goal` say together.

@@ -4,14 +4,14 @@ ghost use Rattle.tl_sexpr.specs.Offsets.{AreAsRead};
 ghost use Rattle.tl_sexpr.specs.Spelling.{symbols_in_all};
 ghost use Rattle.tl_sexpr.specs.Tree.{trees_of};
 ghost use Rattle.tl_syntax.specs.Kept.{DomainKeeps};
-ghost use Rattle.tl_forms.specs.Reads.{IsFirst, IsLeastFault, Reads, trees_in};
+ghost use Rattle.tl_rules.specs.Reads.{IsFirst, IsLeastFault, Reads, trees_in};
 ghost use Rattle.tl_problem.specs.declared.sections.Sections.{Sections};
 ghost use Rattle.tl_problem.specs.Problems.{IsProblemOf, all_names, breaks_of, said_by};
 
 use crate::sections::{Sections, problem_file};
 use crate::settled::settled;
 use std::alloc::Global;
-use tl_forms::{FormFault, add_forms};
+use tl_rules::{FormFault, add_forms};
 use tl_sexpr::{Form, Forms};
 use tl_syntax::{Domain, Names, Problem};
 
@@ -59,7 +59,7 @@ fn read_problem(
 ///
 /// All symbols of the file join the names, which then are numbered by the order of their bytes; the domain and what the file says get these numbers.
 /// Where a form breaks a rule, the fault is the one with the least offset and there the least rule. A refused call drops the domain and the names.
-#[tactic(auto, using(tl_forms::proofs::FormTrees::form_trees))]
+#[tactic(auto, using(tl_rules::proofs::FormTrees::form_trees))]
 pub fn problem_of(
     alloc: Global,
     forms: &Forms,

@@ -1,8 +1,8 @@
 // The problem form and its two sections.
 ghost use Rattle.std.specs.Prelude.{◌≡◌, ◌==◌, ◌++◌, false, MatchOption};
 ghost use Rattle.tl_sexpr.specs.Tree.{list, no_form, more_forms, tree_of};
-ghost use Rattle.tl_forms.specs.Parts.{count, is_name, rest_of};
-ghost use Rattle.tl_forms.specs.Reads.{Reads, Checks, trees_in};
+ghost use Rattle.tl_rules.specs.Parts.{count, is_name, rest_of};
+ghost use Rattle.tl_rules.specs.Reads.{Reads, Checks, trees_in};
 ghost use Rattle.tl_problem.specs.declared.elements.Section.TheVariants as section;
 ghost use Rattle.tl_problem.specs.declared.literals.Literals.{Literals};
 ghost use Rattle.tl_problem.specs.declared.sections.Sections.{Sections};
@@ -11,8 +11,8 @@ ghost use Rattle.tl_problem.specs.ProblemFiles.{begins_with, section_breaks, sec
 use crate::elements::{Section, read_elements};
 use crate::literals::Literals;
 use std::alloc::Global;
-use tl_forms::parts::{is_variable, is_word, offset, split_first};
-use tl_forms::{FormFault, Rule, breaks, check_last};
+use tl_rules::parts::{is_variable, is_word, offset, split_first};
+use tl_rules::{FormFault, Rule, breaks, check_last};
 use tl_sexpr::Form;
 use tl_syntax::{Domain, Names};
 

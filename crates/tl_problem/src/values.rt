@@ -2,13 +2,13 @@
 ghost use Rattle.std.specs.Prelude.{◌≡◌, List};
 ghost use Rattle.tl_sexpr.specs.Tree.{tree_of};
 ghost use Rattle.tl_syntax.specs.declared.value.Value.{Value};
-ghost use Rattle.tl_forms.specs.Reads.{Reads, trees_in};
-ghost use Rattle.tl_forms.specs.Values.{value_meant, values_meant};
+ghost use Rattle.tl_rules.specs.Reads.{Reads, trees_in};
+ghost use Rattle.tl_rules.specs.Values.{value_meant, values_meant};
 ghost use Rattle.tl_problem.specs.Values.{value_breaks, values_breaks};
 
 use std::alloc::Global;
-use tl_forms::parts::is_variable;
-use tl_forms::{FormFault, Rule, breaks, number_of};
+use tl_rules::parts::is_variable;
+use tl_rules::{FormFault, Rule, breaks, number_of};
 use tl_sexpr::Form;
 use tl_syntax::{Names, Value, Values};
 

@@ -5,7 +5,7 @@ use Rattle.tl_sexpr.specs.Tree.{FormTrees}
 use Rattle.tl_sexpr.specs.declared.fault.TextFault.{TextFault}
 use Rattle.tl_sexpr.specs.declared.fault.TextFault.TheVariants as text
 use Rattle.tl_sexpr.proofs.OneFault.{one_fault, no_fault_if_spelled}
-use Rattle.tl_forms.specs.Rules.{Break, IsLeastBreak}
+use Rattle.tl_rules.specs.Rules.{Break, IsLeastBreak}
 use Rattle.tl_run.specs.declared.stop.Broken.{Broken}
 use Rattle.tl_run.specs.declared.stop.Broken.TheVariants.{BadByte, StrayClose, Unclosed, TooDeep, BigInteger, TooLong, Form}
 use Rattle.tl_run.specs.declared.stop.Stop.TheVariants.{Refused}

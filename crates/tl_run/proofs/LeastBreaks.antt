@@ -2,9 +2,9 @@
 use Rattle.std.proofs.Common.{◌≡◌, ℕ, inl, inr, List, [], ◌∷◌, refl, sym, ap, ◌∙◌, subst, arith}
 use Rattle.std.specs.Prelude.{◌==◌, if◌then◌else◌}
 use Rattle.tl_syntax.specs.Lists.{Each, Among}
-use Rattle.tl_forms.specs.declared.rule.Rule.{Rule}
-use Rattle.tl_forms.specs.declared.rule.Rule.TheVariants.{Shape, Unknown, Twice, Arity, Unbound, Shadow, NotInBound, Temporal, GoalArg, Limit, NotGround, TwoValues, NoOperator, ArgumentCount, NotAValue, NoPair}
-use Rattle.tl_forms.specs.Rules.{Break, rule_number, IsNoLater, IsLeastBreak}
+use Rattle.tl_rules.specs.declared.rule.Rule.{Rule}
+use Rattle.tl_rules.specs.declared.rule.Rule.TheVariants.{Shape, Unknown, Twice, Arity, Unbound, Shadow, NotInBound, Temporal, GoalArg, Limit, NotGround, TwoValues, NoOperator, ArgumentCount, NotAValue, NoPair}
+use Rattle.tl_rules.specs.Rules.{Break, rule_number, IsNoLater, IsLeastBreak}
 
 -- the rule of this number
 abbrev rule_of : ℕ → Rule

@@ -6,7 +6,7 @@ use Rattle.std.proofs.lemmas.List.{length-map}
 use Rattle.tl_sexpr.specs.Tree.{FormTree, FormTrees, no_form, more_forms}
 use Rattle.tl_syntax.specs.declared.action.Action.{Action}
 use Rattle.tl_syntax.specs.declared.operator.Operator.{Operator}
-use Rattle.tl_forms.specs.Parts.{offset_of}
+use Rattle.tl_rules.specs.Parts.{offset_of}
 use Rattle.tl_line.specs.ActionTexts.{values_text}
 use Rattle.tl_cost.specs.CostFiles.{cost_breaks, cost_meant, costs_breaks, costs_meant, entries_breaks, entry_breaks, entry_of_form, given_after, none_given, parts_breaks, parts_meant, with_entry}
 use Rattle.tl_cost.specs.CostTexts.{cheapest_line, cost_text, plan_lines}

@@ -2,7 +2,7 @@
 use Rattle.std.proofs.Common.{◌≡◌, ℕ, List, ◌++◌, map, Option, Some, None, refl}
 use Rattle.tl_sexpr.specs.Tree.{FormTree, FormTrees}
 use Rattle.tl_syntax.specs.declared.operator.Operator.{Operator}
-use Rattle.tl_forms.specs.Parts.{count, offset_of}
+use Rattle.tl_rules.specs.Parts.{count, offset_of}
 use Rattle.tl_lasso.specs.LoopFiles.{front_of, last_of, loop_breaks, loop_breaks_by, repeat_breaks_at, repeated}
 use Rattle.tl_lasso.specs.MeaningOfLoops.{loop_meant, loop_meant_by, repeated_meant}
 use Rattle.tl_run.proofs.SameOperators.{head_of, same_actions, same_actions_meant}

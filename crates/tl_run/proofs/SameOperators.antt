@@ -8,11 +8,11 @@ use Rattle.std.proofs.lemmas.Option.{slice_get-map}
 use Rattle.tl_sexpr.specs.Tree.{FormTree, FormTrees, symbol, integer, list, no_form, more_forms}
 use Rattle.tl_syntax.specs.declared.operator.Operator.{Operator}
 use Rattle.tl_syntax.specs.Texts.{number_of}
-use Rattle.tl_forms.specs.declared.rule.Rule.TheVariants.{ArgumentCount}
-use Rattle.tl_forms.specs.Rules.{breaks_if}
-use Rattle.tl_forms.specs.Parts.{offset_of, is_call, count}
+use Rattle.tl_rules.specs.declared.rule.Rule.TheVariants.{ArgumentCount}
+use Rattle.tl_rules.specs.Rules.{breaks_if}
+use Rattle.tl_rules.specs.Parts.{offset_of, is_call, count}
 use Rattle.tl_line.specs.Actions.{operator_at, has_parameters, operator_breaks_at, values_breaks, action_breaks}
-use Rattle.tl_forms.specs.Values.{values_meant}
+use Rattle.tl_rules.specs.Values.{values_meant}
 use Rattle.tl_line.specs.MeaningOfActions.{action_meant, actions_meant}
 use Rattle.tl_line.specs.ActionLists.{limit_breaks, placed_breaks, actions_breaks}
 use Rattle.tl_text.specs.Plans.{plan_breaks}

@@ -5,9 +5,9 @@ use Rattle.std.specs.Fmt.{decimal}
 use Rattle.tl_sexpr.specs.Tree.{FormTree, FormTrees, no_form, more_forms}
 use Rattle.tl_syntax.specs.declared.action.Action.{Action}
 use Rattle.tl_syntax.specs.declared.operator.Operator.{Operator}
-use Rattle.tl_forms.specs.declared.rule.Rule.TheVariants.{NoPair}
-use Rattle.tl_forms.specs.Rules.{breaks_if}
-use Rattle.tl_forms.specs.Parts.{offset_of, is_within, natural}
+use Rattle.tl_rules.specs.declared.rule.Rule.TheVariants.{NoPair}
+use Rattle.tl_rules.specs.Rules.{breaks_if}
+use Rattle.tl_rules.specs.Parts.{offset_of, is_within, natural}
 use Rattle.tl_line.specs.ActionTexts.{action_text, values_text}
 use Rattle.tl_cert.specs.MeaningOfProofs.{bound_meant, link_meant_by, links_meant, proof_meant}
 use Rattle.tl_cert.specs.ProofFiles.{head_breaks, limit_breaks, link_breaks_at, link_parts, links_breaks, proof_breaks}

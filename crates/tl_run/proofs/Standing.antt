@@ -9,11 +9,11 @@ use Rattle.tl_sexpr.specs.declared.fault.TextFault.{TextFault}
 use Rattle.tl_sexpr.specs.declared.fault.TextFault.TheVariants as text
 use Rattle.tl_syntax.specs.declared.domain.Domain.{Domain}
 use Rattle.tl_syntax.specs.declared.problem.Problem.{Problem}
-use Rattle.tl_forms.specs.declared.rule.FormFault.{FormFault}
-use Rattle.tl_forms.specs.declared.rule.FormFault.TheVariants as form
-use Rattle.tl_forms.specs.Reads.{IsLeastFault}
-use Rattle.tl_forms.specs.Rules.{Break}
-use Rattle.tl_forms.proofs.NamesWith.{length-names_with_all}
+use Rattle.tl_rules.specs.declared.rule.FormFault.{FormFault}
+use Rattle.tl_rules.specs.declared.rule.FormFault.TheVariants as form
+use Rattle.tl_rules.specs.Reads.{IsLeastFault}
+use Rattle.tl_rules.specs.Rules.{Break}
+use Rattle.tl_rules.proofs.NamesWith.{length-names_with_all}
 use Rattle.tl_domain.specs.Files.{IsDomainOf}
 use Rattle.tl_outside.specs.Causes.{Rose}
 use Rattle.tl_outside.specs.Told.{Files, IsContent, IsLonger, Lacks, told_file}

@@ -5,7 +5,7 @@ use Rattle.tl_sexpr.specs.Tree.{FormTrees}
 use Rattle.tl_sexpr.specs.declared.fault.TextFault.TheVariants as fault
 use Rattle.tl_syntax.specs.declared.action.Action.{Action}
 use Rattle.tl_syntax.specs.declared.problem.Problem.{Problem}
-use Rattle.tl_forms.specs.Rules.{Break, IsLeastBreak}
+use Rattle.tl_rules.specs.Rules.{Break, IsLeastBreak}
 use Rattle.tl_domain.specs.DomainFiles.{domain_file_breaks}
 use Rattle.tl_domain.specs.Files.{AreFilesOf, problem_breaks}
 use Rattle.tl_cert.specs.MeaningOfProofs.{proof_meant}

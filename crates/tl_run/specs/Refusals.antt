@@ -1,6 +1,6 @@
 -- Refused files.
 use Rattle.std.specs.Prelude.{ℕ, List}
-use Rattle.tl_forms.specs.Rules as forms
+use Rattle.tl_rules.specs.Rules as forms
 use Rattle.tl_text.specs.Refusals.{refused_text}
 use Rattle.tl_run.specs.declared.stop.Broken.{Broken}
 use Rattle.tl_run.specs.declared.stop.Broken.TheVariants.{BadByte, StrayClose, Unclosed, TooDeep, BigInteger, TooLong, Form}

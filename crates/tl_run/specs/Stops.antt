@@ -6,9 +6,9 @@ use Rattle.tl_outside.specs.declared.reading.ReadFault.{ReadFault as Fault}
 use Rattle.tl_outside.specs.declared.reading.ReadFault.TheVariants as reading
 use Rattle.tl_sexpr.specs.declared.fault.TextFault.{TextFault}
 use Rattle.tl_sexpr.specs.declared.fault.TextFault.TheVariants as text
-use Rattle.tl_forms.specs.declared.rule.FormFault.{FormFault}
-use Rattle.tl_forms.specs.declared.rule.FormFault.TheVariants as form
-use Rattle.tl_forms.specs.Rules.{Break, IsLeastBreak}
+use Rattle.tl_rules.specs.declared.rule.FormFault.{FormFault}
+use Rattle.tl_rules.specs.declared.rule.FormFault.TheVariants as form
+use Rattle.tl_rules.specs.Rules.{Break, IsLeastBreak}
 use Rattle.tl_run.specs.declared.status.Status.{Status}
 use Rattle.tl_run.specs.declared.status.Status.TheVariants as status
 use Rattle.tl_run.specs.declared.stop.Broken.{Broken}

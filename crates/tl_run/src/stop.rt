@@ -5,8 +5,8 @@ ghost use Rattle.tl_run.specs.Stops.{stop_of_forms, stop_of_reading, stop_of_tex
 ghost use Rattle.tl_run.specs.declared.stop.Stop.TheVariants as stop;
 
 use std::alloc::AllocError;
-use tl_forms::{FormFault, Rule};
 use tl_outside::ReadFault;
+use tl_rules::{FormFault, Rule};
 use tl_sexpr::TextFault;
 use tl_syntax::NoMemory;
 

@@ -9,7 +9,7 @@ use std::process::Abort;
 use std::sync::ledger::{Blank, Ledger};
 use std::test::Fail;
 use tl_cost::{CostOutcome, Costs, cheapest, cost_text, costs_of};
-use tl_forms::FormFault;
+use tl_rules::FormFault;
 use tl_search::SearchFault;
 use tl_space::{Space, Task};
 use tl_syntax::{Actions, Problem};

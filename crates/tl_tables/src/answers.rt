@@ -3,7 +3,7 @@
 use std::alloc::Global;
 use std::test::Fail;
 use tl_eval::RangeNote;
-use tl_forms::FormFault;
+use tl_rules::FormFault;
 use tl_syntax::{Action, Names, Op, Value};
 use tl_world::{Task, World};
 

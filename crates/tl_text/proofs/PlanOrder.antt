@@ -5,10 +5,10 @@ use Rattle.tl_sexpr.specs.Tree.{FormTrees}
 use Rattle.tl_sexpr.specs.Offsets.{AreAsRead}
 use Rattle.tl_syntax.specs.declared.action.Action.{Action}
 use Rattle.tl_syntax.specs.declared.operator.Operator.{Operator}
-use Rattle.tl_forms.specs.declared.rule.FormFault.{FormFault}
-use Rattle.tl_forms.specs.declared.rule.FormFault.TheVariants.{Breaks, NoMemory}
-use Rattle.tl_forms.specs.Reads.{Reads, IsLeastFault}
-use Rattle.tl_forms.proofs.Order.{first-least}
+use Rattle.tl_rules.specs.declared.rule.FormFault.{FormFault}
+use Rattle.tl_rules.specs.declared.rule.FormFault.TheVariants.{Breaks, NoMemory}
+use Rattle.tl_rules.specs.Reads.{Reads, IsLeastFault}
+use Rattle.tl_rules.proofs.Order.{first-least}
 use Rattle.tl_line.proofs.ListOrder.{actions-order}
 use Rattle.tl_text.specs.Plans.{plan_breaks}
 use Rattle.tl_text.specs.MeaningOfPlans.{plan_meant}

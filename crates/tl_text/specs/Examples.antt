@@ -4,8 +4,8 @@ use Rattle.std.specs.Fmt.{digits}
 use Rattle.tl_sexpr.specs.Tree.{symbol, integer, list, trees_of_list}
 use Rattle.tl_syntax.specs.declared.operator.Operator.{Operator}
 use Rattle.tl_syntax.specs.declared.value.Op.TheVariants.{Plus, Minus}
-use Rattle.tl_forms.specs.declared.rule.Rule.TheVariants.{Shape, Limit, NoOperator}
-use Rattle.tl_forms.specs.Rules.{first_break}
+use Rattle.tl_rules.specs.declared.rule.Rule.TheVariants.{Shape, Limit, NoOperator}
+use Rattle.tl_rules.specs.Rules.{first_break}
 use Rattle.tl_line.specs.Actions.{action_breaks}
 use Rattle.tl_line.specs.ActionLists.{limit_breaks, placed_breaks}
 use Rattle.tl_text.specs.Plans.{plan_breaks}

@@ -2,7 +2,7 @@
 use Rattle.std.specs.Prelude.{ℕ, List}
 use Rattle.tl_sexpr.specs.Tree.{FormTrees}
 use Rattle.tl_syntax.specs.declared.operator.Operator.{Operator}
-use Rattle.tl_forms.specs.Rules.{Break}
+use Rattle.tl_rules.specs.Rules.{Break}
 use Rattle.tl_line.specs.ActionLists.{actions_breaks}
 
 -- what the forms of a plan file break

@@ -4,14 +4,14 @@ ghost use Rattle.tl_sexpr.specs.Offsets.{AreAsRead};
 ghost use Rattle.tl_sexpr.specs.Tree.{trees_of};
 ghost use Rattle.tl_syntax.specs.declared.action.Action.{Action};
 ghost use Rattle.tl_syntax.specs.Lists.{Each};
-ghost use Rattle.tl_forms.specs.Reads.{Reads, IsLeastFault};
+ghost use Rattle.tl_rules.specs.Reads.{Reads, IsLeastFault};
 ghost use Rattle.tl_line.specs.NamedActions.{ActionIsNamed};
 ghost use Rattle.tl_text.specs.Plans.{plan_breaks};
 ghost use Rattle.tl_text.specs.MeaningOfPlans.{plan_meant};
 
 use std::alloc::Global;
-use tl_forms::FormFault;
 use tl_line::actions_of;
+use tl_rules::FormFault;
 use tl_sexpr::Forms;
 use tl_syntax::{Actions, Problem};
 

@@ -4,12 +4,12 @@ use Rattle.tl_sexpr.specs.Tree.{tree_of}
 use Rattle.tl_syntax.specs.Trees.{more_formulas}
 use Rattle.tl_syntax.specs.TreeOfFormula.{tree_of_formula}
 use Rattle.tl_formulas.specs.MeaningOfFormulas.{formula_meant, formulas_meant}
-use Rattle.tl_forms.specs.Parts.{sizes, call_of}
+use Rattle.tl_rules.specs.Parts.{sizes, call_of}
 use Rattle.tl_formulas.specs.Formulas.{formula_breaks, formulas_breaks}
-use Rattle.tl_forms.specs.Reads.{IsFirst, trees_in}
-use Rattle.tl_forms.proofs.Composed.{first-front}
+use Rattle.tl_rules.specs.Reads.{IsFirst, trees_in}
+use Rattle.tl_rules.proofs.Composed.{first-front}
 use Rattle.tl_formulas.proofs.FormulaParts.{called-breaks, called-meant}
-use Rattle.tl_forms.proofs.Loops.{trees-next, trees-end}
+use Rattle.tl_rules.proofs.Loops.{trees-next, trees-end}
 use Rattle.tl_formulas.proofs.FormulaTrees.{after_formulas, formulas-more, formulas-whole}
 use Rattle.tl_formulas.proofs.+formula.Goals as goal
 

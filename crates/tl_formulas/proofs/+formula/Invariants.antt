@@ -2,9 +2,9 @@ use Rattle.std.proofs.Common.{◌≡◌, ◌+◌, ◌*◌, ◌≤◌, map, drop}
 use Rattle.tl_sexpr.specs.Tree.{tree_of}
 use Rattle.tl_syntax.specs.TreeOfFormula.{tree_of_formula}
 use Rattle.tl_formulas.specs.MeaningOfFormulas.{formulas_meant}
-use Rattle.tl_forms.specs.Parts.{size, sizes}
+use Rattle.tl_rules.specs.Parts.{size, sizes}
 use Rattle.tl_formulas.specs.Formulas.{formulas_breaks}
-use Rattle.tl_forms.specs.Reads.{trees_in}
+use Rattle.tl_rules.specs.Reads.{trees_in}
 use Rattle.tl_formulas.proofs.FormulaTrees.{after_formulas}
 use Rattle.tl_formulas.proofs.+formula.Given as goal
 

@@ -1,5 +1,5 @@
 use Rattle.std.proofs.Common.{◌≡◌, ◌≤◌, ◌++◌, length, drop}
-use Rattle.tl_forms.specs.Reads.{trees_in}
+use Rattle.tl_rules.specs.Reads.{trees_in}
 use Rattle.tl_cert.specs.MeaningOfProofs.{links_meant}
 use Rattle.tl_cert.specs.ProofFiles.{links_breaks}
 use Rattle.tl_cert.specs.ProofTexts.{LinksAreNamed}

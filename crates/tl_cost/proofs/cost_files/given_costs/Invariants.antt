@@ -1,5 +1,5 @@
 use Rattle.std.proofs.Common.{◌≡◌, drop, length}
-use Rattle.tl_forms.specs.Reads.{trees_in}
+use Rattle.tl_rules.specs.Reads.{trees_in}
 use Rattle.tl_cost.specs.CostFiles.{costs_breaks, entries_breaks, given_after, none_given}
 use Rattle.tl_cost.proofs.cost_files.given_costs.Given as goal
 

@@ -1,7 +1,7 @@
 use Rattle.std.proofs.Common.{◌≡◌, ◌≤◌, [], length, drop, true}
 use Rattle.tl_domain.specs.Operators.{parameters_breaks}
-use Rattle.tl_forms.specs.Parts.{are_variables}
-use Rattle.tl_forms.specs.Reads.{trees_in}
+use Rattle.tl_rules.specs.Parts.{are_variables}
+use Rattle.tl_rules.specs.Reads.{trees_in}
 use Rattle.tl_domain.proofs.heads.check_distinct.Given as goal
 
 -- the variables that are left stand after those so far

@@ -1,6 +1,6 @@
 use Rattle.std.proofs.Common.{ap, sym}
-use Rattle.tl_forms.specs.Reads.{trees_in}
-use Rattle.tl_forms.proofs.Composed.{count-trees}
+use Rattle.tl_rules.specs.Reads.{trees_in}
+use Rattle.tl_rules.proofs.Composed.{count-trees}
 use Rattle.tl_sexpr.specs.Tree.{tree_of}
 use Rattle.tl_domain.proofs.DefinitionItems.{AreOf, head-known, defined-none, defined-gives}
 use Rattle.tl_domain.proofs.item_parts.defined.Goals as goal

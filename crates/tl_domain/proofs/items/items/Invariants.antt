@@ -1,5 +1,5 @@
 use Rattle.std.proofs.Common.{◌≡◌, ◌≤◌, drop}
-use Rattle.tl_forms.specs.Reads.{trees_in}
+use Rattle.tl_rules.specs.Reads.{trees_in}
 use Rattle.tl_domain.specs.DomainTrees.{domain_tree}
 use Rattle.tl_domain.specs.Items.{nothing_known, items_breaks}
 use Rattle.tl_domain.specs.MeaningOfItems.{with_items}

@@ -1,6 +1,6 @@
 use Rattle.std.proofs.Common.{◌≡◌, Some}
-use Rattle.tl_forms.specs.Parts.{call_of}
-use Rattle.tl_forms.specs.Reads.{trees_in}
+use Rattle.tl_rules.specs.Parts.{call_of}
+use Rattle.tl_rules.specs.Reads.{trees_in}
 use Rattle.tl_domain.specs.DomainTrees.{domain_tree}
 use Rattle.tl_domain.proofs.ItemOrder.{called-breaks, called-known, called-item}
 use Rattle.tl_domain.proofs.items.listed_item.Goals as goal

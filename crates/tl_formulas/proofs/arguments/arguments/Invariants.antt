@@ -1,8 +1,8 @@
 use Rattle.std.proofs.Common.{◌≡◌, ◌++◌, drop, false}
 use Rattle.tl_formulas.specs.Goals.{arguments_breaks}
 use Rattle.tl_formulas.specs.MeaningOfTerms.{arguments_meant}
-use Rattle.tl_forms.specs.Parts.{any_list}
-use Rattle.tl_forms.specs.Reads.{trees_in}
+use Rattle.tl_rules.specs.Parts.{any_list}
+use Rattle.tl_rules.specs.Reads.{trees_in}
 use Rattle.tl_formulas.proofs.arguments.arguments.Given as goal
 
 -- the arguments so far, and after them those that are left

@@ -1,7 +1,7 @@
 use Rattle.std.proofs.Common.{◌≡◌, ◌++◌, drop}
 use Rattle.tl_formulas.specs.Bounds.{bounds_breaks}
 use Rattle.tl_formulas.specs.MeaningOfBounds.{bounds_meant}
-use Rattle.tl_forms.specs.Reads.{trees_in}
+use Rattle.tl_rules.specs.Reads.{trees_in}
 use Rattle.tl_formulas.proofs.bounds.bounds.Given as goal
 
 -- the bounds so far, and after them those that are left

@@ -4,12 +4,12 @@ use Rattle.tl_sexpr.specs.Tree.{tree_of}
 use Rattle.tl_syntax.specs.Effects.{more_effects}
 use Rattle.tl_syntax.specs.TreeOfEffect.{tree_of_effect}
 use Rattle.tl_formulas.specs.MeaningOfEffects.{effect_meant, effects_meant}
-use Rattle.tl_forms.specs.Parts.{sizes, call_of}
+use Rattle.tl_rules.specs.Parts.{sizes, call_of}
 use Rattle.tl_formulas.specs.Effects.{effect_breaks, effects_breaks}
-use Rattle.tl_forms.specs.Reads.{IsFirst, trees_in}
-use Rattle.tl_forms.proofs.Composed.{first-front}
+use Rattle.tl_rules.specs.Reads.{IsFirst, trees_in}
+use Rattle.tl_rules.proofs.Composed.{first-front}
 use Rattle.tl_formulas.proofs.EffectParts.{called-breaks, called-meant, each-breaks, each-meant}
-use Rattle.tl_forms.proofs.Loops.{trees-next, trees-end}
+use Rattle.tl_rules.proofs.Loops.{trees-next, trees-end}
 use Rattle.tl_formulas.proofs.EffectTrees.{after_effects, effects-more, effects-whole}
 use Rattle.tl_formulas.proofs.effects.+effect.Goals as goal
 

@@ -2,9 +2,9 @@ use Rattle.std.proofs.Common.{◌≡◌, ◌+◌, ◌*◌, ◌≤◌, map, drop}
 use Rattle.tl_sexpr.specs.Tree.{tree_of}
 use Rattle.tl_syntax.specs.TreeOfEffect.{tree_of_effect}
 use Rattle.tl_formulas.specs.MeaningOfEffects.{effects_meant}
-use Rattle.tl_forms.specs.Parts.{size, sizes}
+use Rattle.tl_rules.specs.Parts.{size, sizes}
 use Rattle.tl_formulas.specs.Effects.{effects_breaks}
-use Rattle.tl_forms.specs.Reads.{trees_in}
+use Rattle.tl_rules.specs.Reads.{trees_in}
 use Rattle.tl_formulas.proofs.EffectTrees.{after_effects}
 use Rattle.tl_formulas.proofs.effects.+effect.Given as goal
 

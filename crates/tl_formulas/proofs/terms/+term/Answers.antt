@@ -3,10 +3,10 @@ use Rattle.tl_sexpr.specs.Tree.{tree_of}
 use Rattle.tl_syntax.specs.Trees.{more_terms}
 use Rattle.tl_syntax.specs.TreeOfTerm.{tree_of_term}
 use Rattle.tl_formulas.specs.MeaningOfTerms.{term_meant, terms_meant}
-use Rattle.tl_forms.specs.Parts.{sizes}
+use Rattle.tl_rules.specs.Parts.{sizes}
 use Rattle.tl_formulas.specs.Terms.{term_breaks, terms_breaks}
-use Rattle.tl_forms.specs.Reads.{trees_in}
-use Rattle.tl_forms.proofs.Loops.{trees-next, trees-end}
+use Rattle.tl_rules.specs.Reads.{trees_in}
+use Rattle.tl_rules.proofs.Loops.{trees-next, trees-end}
 use Rattle.tl_formulas.proofs.TermTrees.{after_terms, terms-more, terms-whole}
 use Rattle.tl_formulas.proofs.terms.+term.Goals as goal
 

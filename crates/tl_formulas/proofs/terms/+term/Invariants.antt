@@ -2,9 +2,9 @@ use Rattle.std.proofs.Common.{◌≡◌, ◌+◌, ◌*◌, ◌≤◌, map, drop}
 use Rattle.tl_sexpr.specs.Tree.{tree_of}
 use Rattle.tl_syntax.specs.TreeOfTerm.{tree_of_term}
 use Rattle.tl_formulas.specs.MeaningOfTerms.{terms_meant}
-use Rattle.tl_forms.specs.Parts.{size, sizes}
+use Rattle.tl_rules.specs.Parts.{size, sizes}
 use Rattle.tl_formulas.specs.Terms.{terms_breaks}
-use Rattle.tl_forms.specs.Reads.{trees_in}
+use Rattle.tl_rules.specs.Reads.{trees_in}
 use Rattle.tl_formulas.proofs.TermTrees.{after_terms}
 use Rattle.tl_formulas.proofs.terms.+term.Given as goal
 

@@ -1,7 +1,7 @@
 use Rattle.std.proofs.Common.{◌≡◌, ◌≤◌, drop}
 use Rattle.tl_sexpr.specs.Tree.{tree_of}
-use Rattle.tl_forms.specs.Parts.{occurs_in_any, size, sizes}
-use Rattle.tl_forms.specs.Reads.{trees_in}
+use Rattle.tl_rules.specs.Parts.{occurs_in_any, size, sizes}
+use Rattle.tl_rules.specs.Reads.{trees_in}
 use Rattle.tl_formulas.proofs.variables.+occurs.Given as goal
 
 abbrev pub decreases-occurs : goal.decreases-occurs

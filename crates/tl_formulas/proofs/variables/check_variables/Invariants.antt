@@ -1,7 +1,7 @@
 use Rattle.std.proofs.Common.{◌≡◌, ◌≤◌, [], length, drop, true}
 use Rattle.tl_sexpr.specs.Tree.{tree_of}
-use Rattle.tl_forms.specs.Parts.{are_variables}
-use Rattle.tl_forms.specs.Reads.{trees_in}
+use Rattle.tl_rules.specs.Parts.{are_variables}
+use Rattle.tl_rules.specs.Reads.{trees_in}
 use Rattle.tl_formulas.specs.Variables.{variables_breaks}
 use Rattle.tl_formulas.proofs.variables.check_variables.Given as goal
 

@@ -1,8 +1,8 @@
 use Rattle.std.proofs.Common.{◌≡◌, ◌≤◌, List, [], ◌∷◌, length, refl, ◌∙◌, arith}
 use Rattle.tl_sexpr.specs.declared.form.Form.{Form}
 use Rattle.tl_sexpr.specs.Tree.{list}
-use Rattle.tl_forms.specs.Parts.{are_variables, is_variable_list}
-use Rattle.tl_forms.specs.Reads.{trees_in}
+use Rattle.tl_rules.specs.Parts.{are_variables, is_variable_list}
+use Rattle.tl_rules.specs.Reads.{trees_in}
 use Rattle.tl_formulas.proofs.variables.is_variable_list.Goals as goal
 
 some : (forms : List Form) → 1 ≤ length forms → are_variables (trees_in forms) ≡ is_variable_list (list (trees_in forms) 0)

@@ -1,7 +1,7 @@
 use Rattle.std.proofs.Common.{◌≡◌, ◌+◌, ◌≤◌, ◌++◌, drop}
 use Rattle.tl_formulas.specs.MeaningOfFormulas.{variables_from}
-use Rattle.tl_forms.specs.Parts.{texts_of}
-use Rattle.tl_forms.specs.Reads.{trees_in}
+use Rattle.tl_rules.specs.Parts.{texts_of}
+use Rattle.tl_rules.specs.Reads.{trees_in}
 use Rattle.tl_formulas.proofs.variables.variables.Given as goal
 
 -- the variables so far, and those that are left

@@ -1,6 +1,6 @@
 use Rattle.std.proofs.Common.{List, sym, ◌∙◌, subst}
-use Rattle.tl_forms.specs.Reads.{Reads, IsFirst, trees_in}
-use Rattle.tl_forms.specs.Rules.{Break}
+use Rattle.tl_rules.specs.Reads.{Reads, IsFirst, trees_in}
+use Rattle.tl_rules.specs.Rules.{Break}
 use Rattle.tl_sexpr.specs.Tree.{tree_of}
 use Rattle.tl_lasso.specs.LoopFiles.{loop_breaks}
 use Rattle.tl_lasso.specs.MeaningOfLoops.{loop_meant}

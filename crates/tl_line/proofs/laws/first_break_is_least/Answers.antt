@@ -1,6 +1,6 @@
 use Rattle.std.proofs.Common.{◌*◌}
-use Rattle.tl_forms.specs.Parts.{offset_of}
-use Rattle.tl_forms.proofs.Order.{first-least}
+use Rattle.tl_rules.specs.Parts.{offset_of}
+use Rattle.tl_rules.proofs.Order.{first-least}
 use Rattle.tl_line.proofs.ActionOrder.{action-order}
 use Rattle.tl_line.proofs.laws.first_break_is_least.Goals as goal
 

@@ -1,6 +1,6 @@
 use Rattle.std.proofs.Common.{◌≡◌, ◌≤◌, ◌++◌, ◌+◌, length, drop}
 use Rattle.tl_syntax.specs.Lists.{Each}
-use Rattle.tl_forms.specs.Reads.{trees_in}
+use Rattle.tl_rules.specs.Reads.{trees_in}
 use Rattle.tl_line.specs.NamedActions.{ActionIsNamed}
 use Rattle.tl_line.specs.ActionLists.{actions_breaks}
 use Rattle.tl_line.specs.MeaningOfActions.{actions_meant}

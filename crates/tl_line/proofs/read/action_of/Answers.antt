@@ -5,8 +5,8 @@ use Rattle.std.proofs.Common.{List, ℕ}
 use Rattle.tl_syntax.specs.declared.action.Action.{Action}
 use Rattle.tl_syntax.specs.declared.operator.Operator.{Operator}
 use Rattle.tl_sexpr.specs.Tree.{tree_of}
-use Rattle.tl_forms.specs.declared.rule.FormFault.{FormFault}
-use Rattle.tl_forms.specs.Reads.{Reads}
+use Rattle.tl_rules.specs.declared.rule.FormFault.{FormFault}
+use Rattle.tl_rules.specs.Reads.{Reads}
 use Rattle.tl_line.specs.Actions.{action_breaks}
 use Rattle.tl_line.specs.MeaningOfActions.{action_meant}
 use Rattle.tl_line.specs.NamedActions.{ActionIsNamed}

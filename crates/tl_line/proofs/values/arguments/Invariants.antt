@@ -1,7 +1,7 @@
 use Rattle.std.proofs.Common.{◌≡◌, ◌++◌, drop}
-use Rattle.tl_forms.specs.Reads.{trees_in}
+use Rattle.tl_rules.specs.Reads.{trees_in}
 use Rattle.tl_line.specs.Actions.{values_breaks}
-use Rattle.tl_forms.specs.Values.{values_meant}
+use Rattle.tl_rules.specs.Values.{values_meant}
 use Rattle.tl_line.proofs.values.arguments.Given as goal
 
 -- the arguments so far, and after them those that are left

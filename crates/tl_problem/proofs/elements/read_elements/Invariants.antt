@@ -1,5 +1,5 @@
 use Rattle.std.proofs.Common.{◌≡◌, drop}
-use Rattle.tl_forms.specs.Reads.{trees_in}
+use Rattle.tl_rules.specs.Reads.{trees_in}
 use Rattle.tl_problem.specs.Elements.{elements_breaks, with_elements}
 use Rattle.tl_problem.proofs.elements.read_elements.Given as goal
 

@@ -1,4 +1,4 @@
-use Rattle.tl_forms.specs.Reads.{trees_in}
+use Rattle.tl_rules.specs.Reads.{trees_in}
 use Rattle.tl_problem.proofs.ReadProblems.{domain-read, said-read, least-read}
 use Rattle.tl_problem.proofs.problem.read_problem.Goals as goal
 

@@ -1,6 +1,6 @@
 use Rattle.std.proofs.Common.{◌≡◌, ◌++◌, drop}
-use Rattle.tl_forms.specs.Reads.{trees_in}
-use Rattle.tl_forms.specs.Values.{values_meant}
+use Rattle.tl_rules.specs.Reads.{trees_in}
+use Rattle.tl_rules.specs.Values.{values_meant}
 use Rattle.tl_problem.specs.Values.{values_breaks}
 use Rattle.tl_problem.proofs.values.values.Given as goal
 

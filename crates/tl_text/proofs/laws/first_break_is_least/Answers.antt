@@ -1,5 +1,5 @@
 use Rattle.std.proofs.Common.{◌*◌}
-use Rattle.tl_forms.proofs.Order.{first-least}
+use Rattle.tl_rules.proofs.Order.{first-least}
 use Rattle.tl_line.proofs.ListOrder.{actions-order}
 use Rattle.tl_text.proofs.laws.first_break_is_least.Goals as goal
 

@@ -4,9 +4,9 @@ use Rattle.std.specs.Prelude.{if◌then◌else◌}
 use Rattle.std.specs.Prelude.{leb}
 use Rattle.std.proofs.lemmas.Bool.{cases_Bool, leb-true, leb-false}
 use Rattle.tl_syntax.specs.Lists.{Each}
-use Rattle.tl_forms.specs.declared.rule.Rule.{Rule}
-use Rattle.tl_forms.specs.declared.rule.Rule.TheVariants.{Shape}
-use Rattle.tl_forms.specs.Rules.{Break, rule_number, breaks_if, first_break, IsNoLater, IsLeastBreak}
+use Rattle.tl_rules.specs.declared.rule.Rule.{Rule}
+use Rattle.tl_rules.specs.declared.rule.Rule.TheVariants.{Shape}
+use Rattle.tl_rules.specs.Rules.{Break, rule_number, breaks_if, first_break, IsNoLater, IsLeastBreak}
 
 -- the place of a break in the order, which is by offsets and then by the numbers of rules, all below 64
 abbrev pub key : Break → ℕ

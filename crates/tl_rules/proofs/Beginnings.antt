@@ -4,7 +4,7 @@ use Rattle.std.specs.List.{list_any}
 use Rattle.std.specs.Str.{bytes_eq}
 use Rattle.tl_sexpr.specs.Tree.{FormTree, FormTrees, symbol, integer, list, no_form, more_forms}
 use Rattle.tl_syntax.specs.Texts.{with_text}
-use Rattle.tl_forms.specs.Symbols.{names_with, names_with_all, BeginsWith}
+use Rattle.tl_rules.specs.Symbols.{names_with, names_with_all, BeginsWith}
 
 pub begins-same : (names old : List (List ℕ)) → names ≡ old → BeginsWith names old
 begins-same names old e = ([], e ∙ sym (append-nil old))

@@ -1,8 +1,8 @@
 // The parts of forms.
 ghost use Rattle.std.specs.Prelude.{◌≡◌, ◌<◌, ◌^◌, ◌+◌, ◌==◌, false, option_map, IfSome, MatchOption};
 ghost use Rattle.tl_sexpr.specs.Tree.{tree_of, no_form, more_forms};
-ghost use Rattle.tl_forms.specs.Parts.{is_variable, elements_of, is_integer, is_name, offset_of, is_list, any_list, count, is_word, size, sizes, text_of, call_of};
-ghost use Rattle.tl_forms.specs.Reads.{trees_in};
+ghost use Rattle.tl_rules.specs.Parts.{is_variable, elements_of, is_integer, is_name, offset_of, is_list, any_list, count, is_word, size, sizes, text_of, call_of};
+ghost use Rattle.tl_rules.specs.Reads.{trees_in};
 
 use tl_sexpr::Form;
 

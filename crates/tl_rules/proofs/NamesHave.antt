@@ -10,8 +10,8 @@ use Rattle.tl_sexpr.specs.Tree.{FormTree, FormTrees, symbol, integer, list, no_f
 use Rattle.tl_syntax.specs.Texts.{with_text, number_of}
 use Rattle.std.proofs.lemmas.Option.{none-some}
 use Rattle.tl_syntax.proofs.Texts.{list_any-from_number, list_any-from_no_number, number_of-push}
-use Rattle.tl_forms.specs.Symbols.{names_with, names_with_all, number_in}
-use Rattle.tl_forms.specs.Named.{HasNames, HaveNames}
+use Rattle.tl_rules.specs.Symbols.{names_with, names_with_all, number_in}
+use Rattle.tl_rules.specs.Named.{HasNames, HaveNames}
 
 -- each name of the first list is one of the second
 pub record Grow (old new : List (List ℕ)) : Type 0 where

@@ -2,7 +2,7 @@
 use Rattle.std.proofs.Common.{ℕ, ◌+◌, ◌<◌, ◌≤◌, arith}
 use Rattle.tl_sexpr.specs.Offsets.{RisesFrom, RiseFrom}
 use Rattle.tl_sexpr.specs.Tree.{FormTree, FormTrees, symbol, integer, list, no_form, more_forms}
-use Rattle.tl_forms.specs.Parts.{offset_of, rest_of}
+use Rattle.tl_rules.specs.Parts.{offset_of, rest_of}
 
 mutual
   -- a form begins at the first number or after it, and before the second

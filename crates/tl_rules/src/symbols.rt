@@ -2,8 +2,8 @@
 ghost use Rattle.std.specs.Prelude.{◌≡◌, ◌+◌, ◌<◌, ◌^◌, length, OnOk};
 ghost use Rattle.tl_sexpr.specs.Spelling.{symbols_in, symbols_in_all};
 ghost use Rattle.tl_sexpr.specs.Tree.{tree_of};
-ghost use Rattle.tl_forms.specs.Reads.{trees_in};
-ghost use Rattle.tl_forms.specs.Symbols.{names_with, names_with_all, number_in, BeginsWith};
+ghost use Rattle.tl_rules.specs.Reads.{trees_in};
+ghost use Rattle.tl_rules.specs.Symbols.{names_with, names_with_all, number_in, BeginsWith};
 
 use tl_sexpr::Form;
 use tl_syntax::{Names, NoMemory};

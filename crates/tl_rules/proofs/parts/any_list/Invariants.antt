@@ -1,7 +1,7 @@
 use Rattle.std.proofs.Common.{◌≡◌, drop}
-use Rattle.tl_forms.specs.Parts.{any_list}
-use Rattle.tl_forms.specs.Reads.{trees_in}
-use Rattle.tl_forms.proofs.parts.any_list.Given as goal
+use Rattle.tl_rules.specs.Parts.{any_list}
+use Rattle.tl_rules.specs.Reads.{trees_in}
+use Rattle.tl_rules.proofs.parts.any_list.Given as goal
 
 -- a list among all forms is one among those that are left
 abbrev pub invariant-loop-form : goal.invariant-loop-form

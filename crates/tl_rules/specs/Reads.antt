@@ -2,9 +2,9 @@
 use Rattle.std.specs.Prelude.{◌≡◌, List, [], Result, Ok, Err, Some, ⊤, map}
 use Rattle.tl_sexpr.specs.declared.form.Form.{Form}
 use Rattle.tl_sexpr.specs.Tree.{FormTrees, tree_of, trees_of_list}
-use Rattle.tl_forms.specs.declared.rule.FormFault.{FormFault}
-use Rattle.tl_forms.specs.declared.rule.FormFault.TheVariants.{Breaks, NoMemory}
-use Rattle.tl_forms.specs.Rules.{Break, first_break, IsLeastBreak}
+use Rattle.tl_rules.specs.declared.rule.FormFault.{FormFault}
+use Rattle.tl_rules.specs.declared.rule.FormFault.TheVariants.{Breaks, NoMemory}
+use Rattle.tl_rules.specs.Rules.{Break, first_break, IsLeastBreak}
 
 -- the fault is the first of these breaks; want of memory says nothing
 abbrev pub IsFirst : List Break → FormFault → Type 0

@@ -8,8 +8,8 @@ use Rattle.std.proofs.lemmas.Slice.Eq.{bytes_eq-Decides}
 use Rattle.tl_sexpr.specs.Tree.{FormTree, FormTrees, symbol, integer, list, no_form, more_forms}
 use Rattle.tl_syntax.specs.Lists.{Among}
 use Rattle.tl_syntax.specs.Texts.{with_text}
-use Rattle.tl_forms.specs.Symbols.{names_with, names_with_all}
-use Rattle.tl_forms.specs.Named.{HasNames, HaveNames, HasSymbol, HaveSymbol}
+use Rattle.tl_rules.specs.Symbols.{names_with, names_with_all}
+use Rattle.tl_rules.specs.Named.{HasNames, HaveNames, HasSymbol, HaveSymbol}
 
 -- the test of a text among names
 pub among-any : (text : List ℕ) (names : List (List ℕ)) → Among text names → list_any (bytes_eq text) names ≡ true

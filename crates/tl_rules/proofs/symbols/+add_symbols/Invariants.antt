@@ -1,10 +1,10 @@
 use Rattle.std.proofs.Common.{◌≡◌, ◌+◌, ◌<◌, ◌≤◌, ◌^◌, length, drop}
 use Rattle.tl_sexpr.specs.Spelling.{symbols_in_all}
 use Rattle.tl_sexpr.specs.Tree.{tree_of}
-use Rattle.tl_forms.specs.Parts.{size, sizes}
-use Rattle.tl_forms.specs.Reads.{trees_in}
-use Rattle.tl_forms.specs.Symbols.{names_with_all, BeginsWith}
-use Rattle.tl_forms.proofs.symbols.+add_symbols.Given as goal
+use Rattle.tl_rules.specs.Parts.{size, sizes}
+use Rattle.tl_rules.specs.Reads.{trees_in}
+use Rattle.tl_rules.specs.Symbols.{names_with_all, BeginsWith}
+use Rattle.tl_rules.proofs.symbols.+add_symbols.Given as goal
 
 abbrev pub decreases-add_form : goal.decreases-add_form
 decreases-add_form l = size (tree_of l.form.now)

@@ -1,7 +1,7 @@
 // Files of one form.
 ghost use Rattle.std.specs.Prelude.{IfErr};
-ghost use Rattle.tl_forms.specs.OneForm.{second_form_breaks};
-ghost use Rattle.tl_forms.specs.Reads.{Checks, IsBreak, trees_in};
+ghost use Rattle.tl_rules.specs.OneForm.{second_form_breaks};
+ghost use Rattle.tl_rules.specs.Reads.{Checks, IsBreak, trees_in};
 
 use crate::parts::{offset, split_first};
 use crate::rule::{FormFault, Rule, breaks};

@@ -5,8 +5,8 @@
 -- right. What is answered for a file is the break with the least offset, and there the least rule.
 use Rattle.std.specs.Prelude.{◌≡◌, ℕ, ◌<◌, ◌≤◌, ◌⊎◌, List, [], ◌∷◌, Bool, Option, Some, None, if◌then◌else◌}
 use Rattle.tl_syntax.specs.Lists.{Each, Among}
-use Rattle.tl_forms.specs.declared.rule.Rule.{Rule}
-use Rattle.tl_forms.specs.declared.rule.Rule.TheVariants.{Shape, Unknown, Twice, Arity, Unbound, Shadow, NotInBound, Temporal, GoalArg, Limit, NotGround, TwoValues, NoOperator, ArgumentCount, NotAValue, NoPair}
+use Rattle.tl_rules.specs.declared.rule.Rule.{Rule}
+use Rattle.tl_rules.specs.declared.rule.Rule.TheVariants.{Shape, Unknown, Twice, Arity, Unbound, Shadow, NotInBound, Temporal, GoalArg, Limit, NotGround, TwoValues, NoOperator, ArgumentCount, NotAValue, NoPair}
 
 -- the form at this offset breaks this rule
 abbrev pub Break : Type 0

@@ -1,13 +1,13 @@
 use Rattle.std.proofs.Common.{◌≡◌, ◌+◌, drop, sym, ap, ◌∙◌, arith}
 use Rattle.tl_sexpr.specs.Spelling.{symbols_in_all}
 use Rattle.tl_sexpr.specs.Tree.{tree_of}
-use Rattle.tl_forms.specs.Parts.{sizes}
-use Rattle.tl_forms.specs.Reads.{trees_in}
-use Rattle.tl_forms.specs.Symbols.{names_with, names_with_all}
-use Rattle.tl_forms.proofs.Loops.{trees-next}
-use Rattle.tl_forms.proofs.Beginnings.{begins-chain, forms-begin}
-use Rattle.tl_forms.proofs.NamesWith.{length-names_with}
-use Rattle.tl_forms.proofs.symbols.+add_symbols.Goals as goal
+use Rattle.tl_rules.specs.Parts.{sizes}
+use Rattle.tl_rules.specs.Reads.{trees_in}
+use Rattle.tl_rules.specs.Symbols.{names_with, names_with_all}
+use Rattle.tl_rules.proofs.Loops.{trees-next}
+use Rattle.tl_rules.proofs.Beginnings.{begins-chain, forms-begin}
+use Rattle.tl_rules.proofs.NamesWith.{length-names_with}
+use Rattle.tl_rules.proofs.symbols.+add_symbols.Goals as goal
 
 pub add_forms-loop-form-preserved : goal.add_forms-loop-form-preserved
 add_forms-loop-form-preserved t c =

@@ -1,11 +1,11 @@
 -- Breaks of parts one after the other.
 use Rattle.std.proofs.Common.{◌≡◌, List, [], ◌∷◌, ◌++◌, length, refl, arith}
 use Rattle.tl_sexpr.specs.declared.form.Form.{Form}
-use Rattle.tl_forms.specs.declared.rule.FormFault.{FormFault}
-use Rattle.tl_forms.specs.declared.rule.FormFault.TheVariants.{Breaks, NoMemory}
-use Rattle.tl_forms.specs.Rules.{Break}
-use Rattle.tl_forms.specs.Parts.{count}
-use Rattle.tl_forms.specs.Reads.{IsFirst, trees_in}
+use Rattle.tl_rules.specs.declared.rule.FormFault.{FormFault}
+use Rattle.tl_rules.specs.declared.rule.FormFault.TheVariants.{Breaks, NoMemory}
+use Rattle.tl_rules.specs.Rules.{Break}
+use Rattle.tl_rules.specs.Parts.{count}
+use Rattle.tl_rules.specs.Reads.{IsFirst, trees_in}
 
 -- the first of the breaks before is the first of all
 pub first-front : (xs ys : List Break) (e : FormFault) → IsFirst xs e → IsFirst (xs ++ ys) e

@@ -1,7 +1,7 @@
 // The rules of files, and the answer for a file that breaks one.
 ghost use Rattle.std.specs.Prelude.{◌≡◌};
-ghost use Rattle.tl_forms.specs.Rules.{rule_number};
-ghost use Rattle.tl_forms.specs.declared.rule.FormFault.TheVariants as fault;
+ghost use Rattle.tl_rules.specs.Rules.{rule_number};
+ghost use Rattle.tl_rules.specs.declared.rule.FormFault.TheVariants as fault;
 
 use std::alloc::{AllocError, AllocFailed};
 use tl_syntax::NoMemory;

@@ -5,7 +5,7 @@ use Rattle.std.specs.Str.{bytes_eq}
 use Rattle.tl_sexpr.specs.Tree.{FormTree, FormTrees, symbol, integer, list, no_form, more_forms}
 use Rattle.tl_sexpr.specs.Spelling.{symbols_in, symbols_in_all}
 use Rattle.tl_syntax.specs.Texts.{with_text}
-use Rattle.tl_forms.specs.Symbols.{names_with, names_with_all}
+use Rattle.tl_rules.specs.Symbols.{names_with, names_with_all}
 
 at_most_one_more : (names : List (List ℕ)) (text : List ℕ) → length (with_text names text) ≤ length names + 1
 at_most_one_more names text = one_more (list_any (bytes_eq text) names)

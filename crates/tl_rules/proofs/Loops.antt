@@ -3,7 +3,7 @@ use Rattle.std.proofs.Common.{◌≡◌, ℕ, ◌+◌, ◌<◌, ◌≤◌, List,
 use Rattle.std.proofs.lemmas.List.{drop_all}
 use Rattle.tl_sexpr.specs.declared.form.Form.{Form}
 use Rattle.tl_sexpr.specs.Tree.{no_form, more_forms, tree_of, trees_of_list}
-use Rattle.tl_forms.specs.Reads.{trees_in}
+use Rattle.tl_rules.specs.Reads.{trees_in}
 
 -- the next form and those after it
 pub trees-next : (forms : List Form) (i : ℕ) (x : Form) → i < length forms → x ≡ get_or forms i x → trees_in (drop i forms) ≡ more_forms (tree_of x) (trees_in (drop (i + 1) forms))
