@@ -1,2 +1,1 @@
 pub mod GrownSpaces
-pub mod PlanOperators

@@ -8,7 +8,7 @@
 //!
 //! So a new case of a kind that is there is a new line of its table, in the file of its subject. Its expected column is worked out by hand, from the definitions, and never copied from what the program answers.
 //!
-//! The tables stand in four crates of tests, by what they are about, so that a change proves no more of them than it concerns: `tl_file_cases`, `tl_world_cases`, `tl_space_cases` and `tl_run_cases`. What a row means stands above its table.
+//! The tables stand in crates of tests whose names end in `_cases`, by what they are about, so that a change proves no more of them than it concerns. What a row means stands above its table.
 //!
 //! - `rows`: columns, and what braces stand for. `named_texts`: the texts that have names. `forms`: the forms of a text. `tasks`: the domain, the problem and the task of texts. `answers`: values, worlds, notes, actions and faults as texts.
 #![tactic(auto)]

@@ -4,7 +4,7 @@ use Rattle.tl_nodes.specs.Numbers.{trees}
 use Rattle.tl_nodes.proofs.TreesOfNodes.{at-is}
 use Rattle.tl_progress.specs.Sentences.{IsSentence}
 use Rattle.tl_syntax.specs.Signature.{signature_of}
-use Rattle.tl_space_cases.proofs.progression.part_number.Goals as goal
+use Rattle.tl_formula_cases.proofs.progression.part_number.Goals as goal
 
 pub part_of-requires : goal.part_of-requires
 part_of-requires c = slice_get_within (trees c.of_tree.new.self) c.in_ok-whole.whole _ c.in_ok-whole.ensures.number

@@ -3,7 +3,7 @@ use Rattle.tl_nodes.specs.NodeTrees.{tree_at}
 use Rattle.tl_nodes.specs.Numbers.{trees}
 use Rattle.tl_progress.specs.Sentences.{IsSentence}
 use Rattle.tl_syntax.specs.Signature.{signature_of}
-use Rattle.tl_space_cases.proofs.progression.nested.Given as goal
+use Rattle.tl_formula_cases.proofs.progression.nested.Given as goal
 
 abbrev pub invariant-loop : goal.invariant-loop
 invariant-loop l = record {

@@ -6,7 +6,7 @@ use Rattle.tl_nodes.proofs.FormulaLayers.{fits-Always, fits-Not}
 use Rattle.tl_nodes.proofs.TreesOfNodes.{at-is, at-there}
 use Rattle.tl_syntax.specs.Named.{IsNamed}
 use Rattle.tl_syntax.specs.Trees.{negation}
-use Rattle.tl_space_cases.proofs.labels.not_always.Goals as goal
+use Rattle.tl_formula_cases.proofs.labels.not_always.Goals as goal
 
 pub intern-requires : goal.intern-requires
 intern-requires c = fits-Always (trees c.args.nodes.now) c.args.id _ (at-there (trees c.args.nodes.now) c.args.id c.requires)

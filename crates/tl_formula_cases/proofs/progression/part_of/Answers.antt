@@ -6,7 +6,7 @@ use Rattle.tl_progress.specs.Sentences.{IsSentence}
 use Rattle.tl_progress.proofs.Below.{part-lower}
 use Rattle.tl_syntax.specs.Lists.{Among}
 use Rattle.tl_syntax.specs.Signature.{Signature}
-use Rattle.tl_space_cases.proofs.progression.part_of.Goals as goal
+use Rattle.tl_formula_cases.proofs.progression.part_of.Goals as goal
 
 over : {E : Type 0} (P Q : ℕ → Type 0) → ((n : ℕ) → P n → Q n) → (r : Result ℕ E) → IfOk r P → IfOk r Q
 over P Q h (Ok n) k = h n k

@@ -1,7 +1,7 @@
 use Rattle.std.proofs.Common.{◌<◌, ℕ, length, sym, subst, arith}
 use Rattle.tl_progress.proofs.Below.{among-at}
 use Rattle.tl_syntax.specs.Lists.{Among}
-use Rattle.tl_space_cases.proofs.progression.one_of.Goals as goal
+use Rattle.tl_formula_cases.proofs.progression.one_of.Goals as goal
 
 pub returns : goal.returns
 returns c =

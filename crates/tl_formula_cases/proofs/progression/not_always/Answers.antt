@@ -9,7 +9,7 @@ use Rattle.tl_syntax.specs.Fits.{Fits}
 use Rattle.tl_syntax.specs.FreeVariables.{free_slots}
 use Rattle.tl_syntax.specs.Signature.{Signature}
 use Rattle.tl_syntax.specs.Trees.{FormulaTree, negation, always}
-use Rattle.tl_space_cases.proofs.progression.not_always.Goals as goal
+use Rattle.tl_formula_cases.proofs.progression.not_always.Goals as goal
 
 around : (g : Signature) (f : FormulaTree) → IsSentence g f → IsSentence g (negation (always f))
 unfolding Fits free_slots

@@ -2,7 +2,7 @@ use Rattle.std.proofs.Common.{◌<◌, length}
 use Rattle.tl_nodes.specs.NodeTrees.{tree_at}
 use Rattle.tl_nodes.specs.Numbers.{trees}
 use Rattle.tl_syntax.specs.Named.{IsNamed}
-use Rattle.tl_space_cases.proofs.labels.nested.Given as goal
+use Rattle.tl_formula_cases.proofs.labels.nested.Given as goal
 
 abbrev pub invariant-loop : goal.invariant-loop
 invariant-loop l = record {

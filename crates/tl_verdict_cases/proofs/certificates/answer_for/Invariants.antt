@@ -1,4 +1,4 @@
-use Rattle.tl_space_cases.proofs.certificates.answer_for.Given as goal
+use Rattle.tl_verdict_cases.proofs.certificates.answer_for.Given as goal
 
 -- the ledger is the blank's
 abbrev pub ghosts-verdict_over : goal.ghosts-verdict_over
