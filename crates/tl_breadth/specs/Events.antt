@@ -7,6 +7,7 @@ use Rattle.tl_terms.specs.Problem.{PlainProblem}
 use Rattle.tl_terms.specs.Orders.{action_cmp}
 use Rattle.tl_terms.specs.Step.{step}
 use Rattle.tl_breadth.specs.Searched.{IsTried}
+use Rattle.tl_breadth.specs.declared.levels.BreadthFirst.{BreadthFirst}
 use Rattle.tl_search.specs.KeptPairs.{KeptPair}
 use Rattle.tl_search.specs.ListedActions.{ListsActions}
 use Rattle.tl_search.specs.History.{IsHistory}
@@ -98,6 +99,10 @@ abbrev pub HasReported : PlainProblem → ℕ → Bool → ℕ → List KeptPair
 HasReported p n watch from kept events steps outcome.NoPlan = (done : ℕ) × (r : IsReported p n watch from kept done [] events steps) × AreAllArrivals p n kept r.arrived
 HasReported p n watch from kept events steps outcome.NoneWithin = (done : ℕ) × (r : IsReported p n watch from kept done [] events steps) × AreAllArrivals p n kept r.arrived
 HasReported p n watch from kept events steps o = IsReportedSomewhere p n watch from kept events steps
+
+-- where the arrivals and events before the first pair's turn are reported, so are those of the whole search
+abbrev pub ReportsRest : BreadthFirst → PlainProblem → List KeptPair → List KeptPair → List Event → List Event → ℕ → ℕ → Outcome → Type 0
+ReportsRest s p old new es later steps more o = (from : ℕ) → IsReported p s.within s.watch from old 0 [] es steps → HasReported p s.within s.watch from new later more o
 
 -- the plan is the path of the last of the kept pairs
 pub record IsLastPath (kept : List KeptPair) (plan : List Action) : Type 0 where

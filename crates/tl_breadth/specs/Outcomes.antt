@@ -9,6 +9,7 @@ use Rattle.tl_search.specs.Spent.{IsSpent, IsSpentBreadthFirst}
 use Rattle.tl_search.specs.RangeCauses.{IsRangeCause}
 use Rattle.tl_search.specs.KeptPairs.{KeptPair, pairs_of}
 use Rattle.tl_breadth.specs.BreadthFirst.{IsBreadthFirst, NoneAccepted}
+use Rattle.tl_breadth.specs.declared.levels.BreadthFirst.{BreadthFirst}
 use Rattle.tl_search.specs.ListedActions.{ListsActions}
 use Rattle.tl_search.specs.declared.outcome.Outcome.{Outcome}
 use Rattle.tl_search.specs.declared.outcome.Outcome.TheVariants as outcome
@@ -89,6 +90,26 @@ pub record IsAtLevel (p : PlainProblem) (n b : ℕ) (kept : List KeptPair) (done
   pub levels : HasLevels kept done end depth
   pub inside : end ≤ length kept
   pub here : done ≤ length kept
+
+-- an outcome that ends it, or the next pair has its turn
+abbrev pub LeavesNext : BreadthFirst → PlainProblem → List KeptPair → ℕ → Option Outcome → Type 0
+LeavesNext s p kept done = Leaves p s.within s.nodes kept (IsSearching p s.within s.nodes kept done [])
+
+-- an outcome that ends it, or the search stands at the first pair of the last level
+abbrev pub LeavesLevel : BreadthFirst → PlainProblem → List KeptPair → ℕ → ℕ → Option Outcome → Type 0
+LeavesLevel s p kept done depth = Leaves p s.within s.nodes kept (IsAtLevel p s.within s.nodes kept done (length kept) depth)
+
+-- an outcome that ends it, or the action of the pair is tried
+abbrev pub LeavesTried : BreadthFirst → PlainProblem → List KeptPair → List KeptPair → ℕ → Action → Option Outcome → Type 0
+LeavesTried s p old new at a = Leaves p s.within s.nodes new (IsTriedThen p s.within s.nodes old new at a)
+
+-- an outcome that ends it, or none of the first k pairs is accepted, and they are not too many
+abbrev pub LeavesUnaccepted : BreadthFirst → PlainProblem → List KeptPair → ℕ → Option Outcome → Type 0
+LeavesUnaccepted s p kept k = Leaves p s.within s.nodes kept (NoneAccepted p kept k × (k ≤ s.nodes))
+
+-- the list has grown by pairs whose paths have an action more than that of the pair of a number
+abbrev pub GrowsAfter : ℕ → List KeptPair → List KeptPair → Type 0
+GrowsAfter at old new = (pair : KeptPair) → slice_get old at ≡ Some pair → GrowsBy (length pair.path + 1) old new
 
 -- a part of the search ends it with a plan or spent alone
 abbrev pub EndsEarly : Option Outcome → Type 0

@@ -30,7 +30,8 @@ pub fn search<S: Pairs, L: Ledger>(
     ensures task { S.task space.new ≡ S.task space.old }
     ensures problem { S.problem space.new ≡ S.problem space.old }
     ensures outcome { IfOk result (IsBreadthFirstReport (S.problem space.old) within nodes (S.kept space.new)) }
-    ensures reported { IfOk result (ReportsArrivals (S.problem space.old) within watch steps.old (S.kept space.new) steps.new) }
+    ensures reported { IfOk result (ReportsArrivals (S.problem space.old) within watch steps.old
+        (S.kept space.new) steps.new) }
     ensures steps { IsTicked (S.problem space.old) within steps.old (S.kept space.new) steps.new }
     ensures first { IfOk result (BeginsRightly (S.problem space.old) watch) }
     ensures pruned { IfOk result (PrunesRightly (S.problem space.old) watch (S.kept space.new)) }

@@ -1,10 +1,8 @@
 // What a search does with the pair whose turn it is.
-ghost use Rattle.std.specs.Prelude.{◌≡◌, ◌≤◌, ◌+◌, List, [], length, slice_get, Some, IfOk, IfErr, OnOk, OnErr};
-ghost use Rattle.tl_search.specs.KeptPairs.{KeptPair};
+ghost use Rattle.std.specs.Prelude.{◌≡◌, ◌+◌, IfOk, IfErr, OnOk, OnErr};
 ghost use Rattle.tl_search.specs.NamedAnswers.{IsNamedIn, EndIsNamed, FaultIsNamed, EventsAreNamed};
-ghost use Rattle.tl_breadth.specs.BreadthFirst.{NoneAccepted};
 ghost use Rattle.tl_breadth.specs.Events.{TicksArrival, Ticks, ReportsArrival, ReportsTurn, EndsAtLast, EndsWithPathIfAny};
-ghost use Rattle.tl_breadth.specs.Outcomes.{IsBreadthFirstFault, IsSearching, AwaitsJudgement, HasTurn, IsTriedThen, GrowsBy, IsReady, Leaves, EndsEarly};
+ghost use Rattle.tl_breadth.specs.Outcomes.{IsBreadthFirstFault, AwaitsJudgement, HasTurn, IsReady, LeavesNext, LeavesTried, LeavesUnaccepted, GrowsAfter, EndsEarly};
 
 use crate::levels::BreadthFirst;
 use std::sync::ledger::Ledger;
@@ -24,10 +22,12 @@ impl BreadthFirst {
         requires events { EventsAreNamed (S.task space.old) events.old }
         ensures task { S.task space.new ≡ S.task space.old }
         ensures problem { S.problem space.new ≡ S.problem space.old }
-        ensures outcome { IfOk result (Leaves (S.problem space.old) self.now.within self.now.nodes (S.kept space.new) (IsSearching (S.problem space.old) self.now.within self.now.nodes (S.kept space.new) (at + 1) [])) }
-        ensures grows { OnOk result ((pair : KeptPair) → slice_get (S.kept space.old) at ≡ Some pair → GrowsBy (length pair.path + 1) (S.kept space.old) (S.kept space.new)) }
-        ensures reported { IfOk result (ReportsTurn (S.problem space.old) self.now.within self.now.watch (S.kept space.old) (S.kept space.new) at (at + 1) events.old events.new steps.old steps.new) }
-        ensures ticked { OnErr result (Ticks (S.problem space.old) self.now.within self.now.watch (S.kept space.old) (S.kept space.new) at events.old steps.old steps.new) }
+        ensures outcome { IfOk result (LeavesNext self.now (S.problem space.old) (S.kept space.new) (at + 1)) }
+        ensures grows { OnOk result (GrowsAfter at (S.kept space.old) (S.kept space.new)) }
+        ensures reported { IfOk result (ReportsTurn (S.problem space.old) self.now.within self.now.watch
+            (S.kept space.old) (S.kept space.new) at (at + 1) events.old events.new steps.old steps.new) }
+        ensures ticked { OnErr result (Ticks (S.problem space.old) self.now.within self.now.watch
+            (S.kept space.old) (S.kept space.new) at events.old steps.old steps.new) }
         ensures early { IfOk result EndsEarly }
         ensures ends { IfOk result (EndsWithPathIfAny self.now.watch (S.kept space.new) events.new) }
         ensures fault { IfErr result (IsBreadthFirstFault (S.problem space.old) self.now.within) }
@@ -67,10 +67,13 @@ impl BreadthFirst {
         requires events { EventsAreNamed (S.task space.old) events.old }
         ensures task { S.task space.new ≡ S.task space.old }
         ensures problem { S.problem space.new ≡ S.problem space.old }
-        ensures outcome { IfOk result (Leaves (S.problem space.old) self.now.within self.now.nodes (S.kept space.new) (IsTriedThen (S.problem space.old) self.now.within self.now.nodes (S.kept space.old) (S.kept space.new) at a.now)) }
-        ensures grows { OnOk result ((pair : KeptPair) → slice_get (S.kept space.old) at ≡ Some pair → GrowsBy (length pair.path + 1) (S.kept space.old) (S.kept space.new)) }
-        ensures reported { OnOk result (ReportsArrival (S.problem space.old) self.now.within self.now.watch (S.kept space.old) (S.kept space.new) at a.now events.old events.new steps.old steps.new) }
-        ensures ticked { OnErr result (TicksArrival (S.problem space.old) self.now.within self.now.watch (S.kept space.old) (S.kept space.new) at a.now events.old steps.old steps.new) }
+        ensures outcome { IfOk result (LeavesTried self.now (S.problem space.old) (S.kept space.old)
+            (S.kept space.new) at a.now) }
+        ensures grows { OnOk result (GrowsAfter at (S.kept space.old) (S.kept space.new)) }
+        ensures reported { OnOk result (ReportsArrival (S.problem space.old) self.now.within self.now.watch
+            (S.kept space.old) (S.kept space.new) at a.now events.old events.new steps.old steps.new) }
+        ensures ticked { OnErr result (TicksArrival (S.problem space.old) self.now.within self.now.watch
+            (S.kept space.old) (S.kept space.new) at a.now events.old steps.old steps.new) }
         ensures early { IfOk result EndsEarly }
         ensures ends { IfOk result (EndsWithPathIfAny self.now.watch (S.kept space.new) events.new) }
         ensures fault { IfErr result (IsBreadthFirstFault (S.problem space.old) self.now.within) }
@@ -111,7 +114,7 @@ impl BreadthFirst {
         ensures task { S.task space.new ≡ S.task space.old }
         ensures problem { S.problem space.new ≡ S.problem space.old }
         ensures kept { S.kept space.new ≡ S.kept space.old }
-        ensures outcome { IfOk result (Leaves (S.problem space.old) self.now.within self.now.nodes (S.kept space.old) (NoneAccepted (S.problem space.old) (S.kept space.old) (k + 1) × (k + 1 ≤ self.now.nodes))) }
+        ensures outcome { IfOk result (LeavesUnaccepted self.now (S.problem space.old) (S.kept space.old) (k + 1)) }
         ensures early { IfOk result EndsEarly }
         ensures last { IfOk result (EndsAtLast (S.kept space.old)) }
         ensures fault { IfErr result (IsBreadthFirstFault (S.problem space.old) self.now.within) }

@@ -1,6 +1,7 @@
 -- The text of a proof, which is how a proof file writes it, and the line of a verdict.
 use Rattle.std.specs.Prelude.{ℕ, List, ◌++◌, flat_map, codes, Option, Some, None}
 use Rattle.std.specs.Fmt.{decimal}
+use Rattle.tl_syntax.specs.declared.action.Action.{Action}
 use Rattle.tl_syntax.specs.declared.operator.Operator.{Operator}
 use Rattle.tl_syntax.specs.Lists.{Each}
 use Rattle.tl_line.specs.ActionTexts.{action_text}
@@ -36,12 +37,16 @@ abbrev pub proved_line : Option ℕ → List ℕ
 proved_line None = codes "; proved none\n"
 proved_line (Some n) = codes "; proved none within " ++ (decimal n ++ codes "\n")
 
+-- the line that says that the action leads out at the node of this number
+abbrev pub open_line : List (List ℕ) → List Operator → ℕ → Action → List ℕ
+open_line names operators k a = codes "; open " ++ (decimal k ++ (codes " " ++ (action_text names operators a ++ codes "\n")))
+
 -- the line of a verdict on a proof with this bound
 abbrev pub none_text : List (List ℕ) → List Operator → Option ℕ → NoneVerdict → List ℕ
 none_text names operators bound Proved = proved_line bound
 none_text names operators bound (BadLink k) = codes "; bad link " ++ (decimal k ++ codes "\n")
 none_text names operators bound (Accepts k) = codes "; accepts " ++ (decimal k ++ codes "\n")
-none_text names operators bound (Open k a) = codes "; open " ++ (decimal k ++ (codes " " ++ (action_text names operators a ++ codes "\n")))
+none_text names operators bound (Open k a) = open_line names operators k a
 
 -- the action of the verdict is of these operators and names only these names, where there is one
 abbrev pub HasNamedAction : List (List ℕ) → List Operator → NoneVerdict → Type 0

@@ -43,8 +43,10 @@ impl Checking {
         ensures task { S.task space.new ≡ S.task space.old }
         ensures problem { S.problem space.new ≡ S.problem space.old }
         ensures bound { self.new.bound ≡ self.old.bound }
-        ensures listed { IfOk result (ListsLink (S.problem space.old) self.old.bound (S.kept space.old) (S.kept space.new) link.now) }
-        ensures ready { IfOk result (λ good. good ≡ true → IsReady (S.task space.old) (S.problem space.old) (S.kept space.new) self.new) }
+        ensures listed { IfOk result (ListsLink (S.problem space.old) self.old.bound
+            (S.kept space.old) (S.kept space.new) link.now) }
+        ensures ready { IfOk result (λ good. good ≡ true →
+            IsReady (S.task space.old) (S.problem space.old) (S.kept space.new) self.new) }
         ensures fault { IfErr result (IsVisitFault (S.problem space.old) (S.kept space.old) link.now.from link.now.action) }
         ensures there { OnErr result (link.now.from < length (S.kept space.old)) }
         ensures named { IfErr result (FaultIsNamed (S.task space.old)) }
@@ -84,7 +86,8 @@ impl Checking {
         ensures problem { S.problem space.new ≡ S.problem space.old }
         ensures bound { self.new.bound ≡ self.old.bound }
         ensures listed { IfOk result (ListsLinks (S.problem space.old) self.old.bound links.now (S.kept space.new)) }
-        ensures ready { IfOk result (λ bad. bad ≡ None → IsReady (S.task space.old) (S.problem space.old) (S.kept space.new) self.new) }
+        ensures ready { IfOk result (λ bad. bad ≡ None →
+            IsReady (S.task space.old) (S.problem space.old) (S.kept space.new) self.new) }
         ensures fault { IfErr result (IsNoneFaultOf (S.problem space.old) self.old.bound links.now) }
         ensures named { IfErr result (FaultIsNamed (S.task space.old)) }
     {

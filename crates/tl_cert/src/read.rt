@@ -107,7 +107,8 @@ fn head(form: &Form) -> Result<Option<u32>, FormFault>
 /// The number of the pair of a link with these three elements, with its offset, and the form of its action; other elements are no link.
 #[tactic(auto, using(crate::proofs::Rulesets::form_trees))]
 fn three_parts<'a>(word: &Form, from: &Form, action: &'a Form) -> Option<(i64, u32, &'a Form)>
-    ensures { option_map (λ parts. (parts.0, parts.1, tree_of parts.2.now)) result ≡ link_of_three (tree_of word.now) (tree_of from.now) (tree_of action.entry.now) }
+    ensures { option_map (λ parts. (parts.0, parts.1, tree_of parts.2.now)) result
+        ≡ link_of_three (tree_of word.now) (tree_of from.now) (tree_of action.entry.now) }
 {
     match from {
         Form::Sym(_, _) => None,
@@ -147,7 +148,9 @@ fn link_parts(form: &Form) -> Option<(i64, u32, &Form)>
 
 /// The link of a form with so many links before it.
 fn link(alloc: Global, form: &Form, problem: &Problem, before: usize) -> Result<Link, FormFault>
-    ensures read { Reads (λ (x : Link). x) result (link_breaks problem.now.names problem.now.domain.operators before (tree_of form.now)) (link_meant problem.now.names problem.now.domain.operators (tree_of form.now)) }
+    ensures read { Reads (λ (x : Link). x) result
+        (link_breaks problem.now.names problem.now.domain.operators before (tree_of form.now))
+        (link_meant problem.now.names problem.now.domain.operators (tree_of form.now)) }
     ensures named { IfOk result (λ link. ActionIsNamed problem.now.names problem.now.domain.operators link.action) }
     ensures few { IfOk result (λ _. before < 100000) }
 {
@@ -165,7 +168,9 @@ fn link(alloc: Global, form: &Form, problem: &Problem, before: usize) -> Result<
 /// The links of forms.
 #[tactic(auto, using(crate::proofs::Rulesets::composed, crate::proofs::Rulesets::each_more))]
 fn links(alloc: Global, forms: &[Form], problem: &Problem) -> Result<Links, FormFault>
-    ensures read { Reads (λ (xs : List Link). xs) result (links_breaks problem.now.names problem.now.domain.operators 0 (trees_in forms.now)) (links_meant problem.now.names problem.now.domain.operators (trees_in forms.now)) }
+    ensures read { Reads (λ (xs : List Link). xs) result
+        (links_breaks problem.now.names problem.now.domain.operators 0 (trees_in forms.now))
+        (links_meant problem.now.names problem.now.domain.operators (trees_in forms.now)) }
     ensures few { IfOk result (λ links. length links ≤ 100000) }
     ensures named { IfOk result (LinksAreNamed problem.now.names problem.now.domain.operators) }
 {
@@ -179,7 +184,9 @@ fn links(alloc: Global, forms: &[Form], problem: &Problem) -> Result<Links, Form
 
 /// The proof that forms stand for.
 fn proof(alloc: Global, forms: &[Form], problem: &Problem) -> Result<Proof, FormFault>
-    ensures read { Reads (λ (x : Proof). x) result (proof_breaks problem.now.names problem.now.domain.operators (trees_in forms.now)) (proof_meant problem.now.names problem.now.domain.operators (trees_in forms.now)) }
+    ensures read { Reads (λ (x : Proof). x) result
+        (proof_breaks problem.now.names problem.now.domain.operators (trees_in forms.now))
+        (proof_meant problem.now.names problem.now.domain.operators (trees_in forms.now)) }
     ensures few { IfOk result (λ proof. length proof.links ≤ 100000) }
     ensures named { IfOk result (λ proof. LinksAreNamed problem.now.names problem.now.domain.operators proof.links) }
 {
@@ -197,8 +204,11 @@ fn proof(alloc: Global, forms: &[Form], problem: &Problem) -> Result<Proof, Form
 /// The action of each link is of an operator of the problem, has as many arguments as that has parameters, and names only names of the problem.
 #[tactic(auto, using(crate::proofs::Rulesets::form_trees, crate::proofs::ProofOrder::least_fault))]
 pub fn proof_of(alloc: Global, forms: &Forms, problem: &Problem) -> Result<Proof, FormFault>
-    ensures read { Reads (λ (x : Proof). x) result (proof_breaks problem.now.names problem.now.domain.operators (trees_of forms.now)) (proof_meant problem.now.names problem.now.domain.operators (trees_of forms.now)) }
-    ensures least { AreAsRead (trees_of forms.now) → IfErr result (IsLeastFault (proof_breaks problem.now.names problem.now.domain.operators (trees_of forms.now))) }
+    ensures read { Reads (λ (x : Proof). x) result
+        (proof_breaks problem.now.names problem.now.domain.operators (trees_of forms.now))
+        (proof_meant problem.now.names problem.now.domain.operators (trees_of forms.now)) }
+    ensures least { AreAsRead (trees_of forms.now) → IfErr result
+        (IsLeastFault (proof_breaks problem.now.names problem.now.domain.operators (trees_of forms.now))) }
     ensures few { IfOk result (λ proof. length proof.links ≤ 100000) }
     ensures named { IfOk result (λ proof. LinksAreNamed problem.now.names problem.now.domain.operators proof.links) }
 {

@@ -2,10 +2,9 @@
 ghost use Rattle.std.specs.Prelude.{◌≡◌, ◌++◌, codes, IfOk};
 ghost use Rattle.std.specs.Fmt.{decimal};
 ghost use Rattle.std.specs.String.{string_bytes};
-ghost use Rattle.tl_line.specs.ActionTexts.{action_text};
 ghost use Rattle.tl_line.specs.NamedActions.{ActionIsNamed};
 ghost use Rattle.tl_line.specs.Puts.{Puts};
-ghost use Rattle.tl_cert.specs.ProofTexts.{HasNamedAction, LinksAreNamed, head_line, link_line, none_text, proof_text, proved_line};
+ghost use Rattle.tl_cert.specs.ProofTexts.{HasNamedAction, LinksAreNamed, head_line, link_line, none_text, open_line, proof_text, proved_line};
 
 use crate::proof::{Link, Proof};
 use crate::verdict::NoneVerdict;
@@ -106,7 +105,7 @@ fn open_front(alloc: Global, number: u32) -> Result<String, AllocError>
 /// The line that says that the action leads out at the node of this number.
 fn open_line(alloc: Global, problem: &Problem, number: u32, a: &Action) -> Result<Bytes, NoMemory>
     requires { ActionIsNamed problem.now.names problem.now.domain.operators a.now }
-    ensures { IfOk result (λ line. line ≡ codes "; open " ++ (decimal number ++ (codes " " ++ (action_text problem.now.names problem.now.domain.operators a.now ++ codes "\n")))) }
+    ensures { IfOk result (λ line. line ≡ open_line problem.now.names problem.now.domain.operators number a.now) }
 {
     let front = open_front(alloc, number)?;
     let mut line = bytes_of(alloc, front.as_str())?;
@@ -124,7 +123,8 @@ pub fn none_text(
     verdict: &NoneVerdict,
 ) -> Result<Bytes, NoMemory>
     requires { HasNamedAction problem.now.names problem.now.domain.operators verdict.now }
-    ensures { IfOk result (λ text. text ≡ none_text problem.now.names problem.now.domain.operators proof.now.bound verdict.now) }
+    ensures { IfOk result (λ text. text ≡ none_text problem.now.names problem.now.domain.operators
+        proof.now.bound verdict.now) }
 {
     match verdict {
         NoneVerdict::Proved => proved_line(alloc, proof.bound),

@@ -64,3 +64,7 @@ Extends old new = (i : ℕ) (x : KeptPair) → slice_get old i ≡ Some x → sl
 -- settled pairs stay so
 abbrev pub StaySettled : Found → Found → Type 0
 StaySettled old new = (k : ℕ) → IsSettled old k → IsSettled new k
+
+-- where the steps so far are counted, so are those of the whole search
+abbrev pub TicksRest : PlainProblem → List KeptPair → List KeptPair → Found → ℕ → ℕ → Type 0
+TicksRest p old new found steps more = (from : ℕ) → IsCounted p from old found steps → IsTicked p from new more

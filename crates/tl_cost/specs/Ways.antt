@@ -33,6 +33,10 @@ is_listed list e = contains entry_cmp list.entries e
 abbrev pub listed_len : OpenList → ℕ
 listed_len list = length list.entries.keys
 
+-- so it is for the way to the pair of the number
+abbrev pub ForWay : Found → ℕ → (Way → Type 0) → Type 0
+ForWay found at P = (w : Way) → slice_get found.ways.items at ≡ Some w → P w
+
 -- the second list has this entry too
 pub record Adds (old new : Entry → Bool) (e : Entry) : Type 0 where
   pub is : new e ≡ true
@@ -101,3 +105,7 @@ pub record Improves (costs : List ℕ) (old new : Found) (w : Way) (at : ℕ) (a
 -- the pair of number k keeps its way, which comes no later than the new one, or has the new one, which does
 abbrev pub Meets : List ℕ → Found → Found → Way → ℕ → Action → ℕ → Way → Type 0
 Meets costs old new w at a k u = ((new ≡ old) × IsUpto u.cost u.length (w.cost + action_cost costs a) (w.length + 1)) ⊎ Improves costs old new w at a k u
+
+-- so it is for the ways to the pairs of the two numbers
+abbrev pub MeetsAgain : List ℕ → Found → Found → ℕ → Action → ℕ → Type 0
+MeetsAgain costs old new at a k = (w u : Way) → slice_get old.ways.items at ≡ Some w → slice_get old.ways.items k ≡ Some u → Meets costs old new w at a k u

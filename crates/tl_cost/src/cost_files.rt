@@ -118,7 +118,9 @@ fn entry(
     form: &Form,
 ) -> Result<(usize, u32), FormFault>
     requires { length given.now ≡ length operators.now }
-    ensures read { Reads (λ (x : ℕ × ℕ). x) result (entry_breaks names.now operators.now given.now (tree_of form.now)) (entry_meant names.now operators.now (tree_of form.now)) }
+    ensures read { Reads (λ (x : ℕ × ℕ). x) result
+        (entry_breaks names.now operators.now given.now (tree_of form.now))
+        (entry_meant names.now operators.now (tree_of form.now)) }
     ensures within { IfOk result (λ x. x.0 < length given.now) }
 {
     let Some((text, cost)) = entry_parts(form) else {
@@ -143,7 +145,8 @@ fn given_costs(
     operators: &[Operator],
     forms: &[Form],
 ) -> Result<Vec<Option<u32>>, FormFault>
-    ensures { Reads (λ (given : _). given.items) result (costs_breaks names.now operators.now (trees_in forms.now)) (given_after names.now operators.now (none_given operators.now) (trees_in forms.now)) }
+    ensures { Reads (λ (given : _). given.items) result (costs_breaks names.now operators.now (trees_in forms.now))
+        (given_after names.now operators.now (none_given operators.now) (trees_in forms.now)) }
 {
     let mut given = no_costs(alloc, operators)?;
     for form in forms {
@@ -171,7 +174,8 @@ fn costs_in(
     operators: &[Operator],
     forms: &[Form],
 ) -> Result<Costs, FormFault>
-    ensures { Reads (λ (costs : List ℕ). costs) result (costs_breaks names.now operators.now (trees_in forms.now)) (costs_meant names.now operators.now (trees_in forms.now)) }
+    ensures { Reads (λ (costs : List ℕ). costs) result (costs_breaks names.now operators.now (trees_in forms.now))
+        (costs_meant names.now operators.now (trees_in forms.now)) }
 {
     match given_costs(alloc, names, operators, forms) {
         Ok(given) => Ok(costs_from(alloc, given.as_slice())?),
@@ -185,8 +189,11 @@ fn costs_in(
 /// A form breaks `Rule::Shape` where it is no such list, `Rule::Twice` where a form before it names the same operator, `Rule::Limit` where C is outside that range, and `Rule::NoOperator` where the name is that of no operator. The fault is the one with the least offset, and there the least rule.
 #[tactic(auto, using(crate::proofs::Rulesets::form_trees, crate::proofs::FileOrder::of_files))]
 pub fn costs_of(alloc: Global, forms: &Forms, problem: &Problem) -> Result<Costs, FormFault>
-    ensures read { Reads (λ (costs : List ℕ). costs) result (costs_breaks problem.now.names problem.now.domain.operators (trees_of forms.now)) (costs_meant problem.now.names problem.now.domain.operators (trees_of forms.now)) }
-    ensures least { AreAsRead (trees_of forms.now) → IfErr result (IsLeastFault (costs_breaks problem.now.names problem.now.domain.operators (trees_of forms.now))) }
+    ensures read { Reads (λ (costs : List ℕ). costs) result
+        (costs_breaks problem.now.names problem.now.domain.operators (trees_of forms.now))
+        (costs_meant problem.now.names problem.now.domain.operators (trees_of forms.now)) }
+    ensures least { AreAsRead (trees_of forms.now) → IfErr result
+        (IsLeastFault (costs_breaks problem.now.names problem.now.domain.operators (trees_of forms.now))) }
     ensures one_each { IfOk result (λ costs. length costs ≡ length problem.now.domain.operators) }
 {
     costs_in(

@@ -1,13 +1,12 @@
 // What a search does with the pair whose turn it is.
-ghost use Rattle.std.specs.Prelude.{◌≡◌, ◌≤◌, ◌<◌, ◌+◌, List, [], ◌∷◌, ◌++◌, length, slice_get, Some, None, IfOk, IfErr, OnOk};
+ghost use Rattle.std.specs.Prelude.{◌≡◌, ◌≤◌, ◌<◌, ◌+◌, List, [], ◌∷◌, ◌++◌, length, Some, None, IfOk, IfErr, OnOk};
 ghost use Rattle.tl_syntax.specs.declared.action.Action.{Action};
 ghost use Rattle.tl_search.specs.Calls.{IsExecutableAt};
 ghost use Rattle.tl_search.specs.NamedAnswers.{IsNamedIn, FaultIsNamed};
 ghost use Rattle.tl_cost.specs.Ongoing.{HasAction, IsBetweenTurns, IsInTurn, IsTriedAt};
 ghost use Rattle.tl_cost.specs.Outcomes.{EndIsNamed, IsCheapestFault, IsUnaccepted, Leaves, Opens, OpensIfNone, SpentOr, TellsWay, TellsWayOn};
 ghost use Rattle.tl_cost.specs.Ticks.{Extends, StaySettled, TicksTurn};
-ghost use Rattle.tl_cost.specs.Ways.{AreLinked, Follows, GoesOn, HasRoom, IsMet, Meets};
-ghost use Rattle.tl_cost.specs.declared.ways.Way.{Way};
+ghost use Rattle.tl_cost.specs.Ways.{AreLinked, Follows, ForWay, GoesOn, HasRoom, IsMet, MeetsAgain};
 
 use crate::costs::{Costs, cost_of};
 use crate::outcome::CostOutcome;
@@ -38,12 +37,15 @@ impl UniformCost<'_> {
         at: usize,
         steps: &mut Steps<L>,
     ) -> Result<Option<CostOutcome>, SearchFault>
-        requires turn { IsInTurn (S.problem space.old) (S.task space.old) self.now.costs.now self.now.nodes (S.kept space.old) found.old at None }
+        requires turn { IsInTurn (S.problem space.old) (S.task space.old)
+            self.now.costs.now self.now.nodes (S.kept space.old) found.old at None }
         requires nodes { self.now.nodes ≤ 100000 }
         ensures task { S.task space.new ≡ S.task space.old }
         ensures problem { S.problem space.new ≡ S.problem space.old }
-        ensures outcome { IfOk result (Leaves (S.problem space.old) self.now.costs.now self.now.nodes (S.kept space.new)
-            (IsBetweenTurns (S.problem space.old) (S.task space.old) self.now.costs.now self.now.nodes (S.kept space.new) found.new)) }
+        ensures outcome { IfOk result (Leaves (S.problem space.old)
+            self.now.costs.now self.now.nodes (S.kept space.new)
+            (IsBetweenTurns (S.problem space.old) (S.task space.old)
+            self.now.costs.now self.now.nodes (S.kept space.new) found.new)) }
         ensures grows { Extends (S.kept space.old) (S.kept space.new) }
         ensures opens { IfOk result (OpensIfNone (S.kept space.old) (S.kept space.new) found.old found.new) }
         ensures stay { OnOk result (StaySettled found.old found.new) }
@@ -78,13 +80,16 @@ impl UniformCost<'_> {
         at: usize,
         steps: &mut Steps<L>,
     ) -> Result<bool, SearchFault>
-        requires turn { IsInTurn (S.problem space.old) (S.task space.old) self.now.costs.now self.now.nodes (S.kept space.old) found.old at None }
+        requires turn { IsInTurn (S.problem space.old) (S.task space.old)
+            self.now.costs.now self.now.nodes (S.kept space.old) found.old at None }
         requires unaccepted { IsUnaccepted (S.problem space.old) (S.kept space.old) at }
         requires nodes { self.now.nodes ≤ 100000 }
         ensures task { S.task space.new ≡ S.task space.old }
         ensures problem { S.problem space.new ≡ S.problem space.old }
-        ensures outcome { IfOk result (SpentOr (S.problem space.old) self.now.costs.now self.now.nodes (S.kept space.new)
-            (IsInTurn (S.problem space.old) (S.task space.old) self.now.costs.now self.now.nodes (S.kept space.new) found.new at (Some []))) }
+        ensures outcome { IfOk result (SpentOr (S.problem space.old)
+            self.now.costs.now self.now.nodes (S.kept space.new)
+            (IsInTurn (S.problem space.old) (S.task space.old)
+            self.now.costs.now self.now.nodes (S.kept space.new) found.new at (Some []))) }
         ensures grows { Extends (S.kept space.old) (S.kept space.new) }
         ensures opens { IfOk result (Opens (S.kept space.old) (S.kept space.new) found.old found.new) }
         ensures stay { OnOk result (StaySettled found.old found.new) }
@@ -115,14 +120,17 @@ impl UniformCost<'_> {
         a: &Action,
         steps: &mut Steps<L>,
     ) -> Result<bool, SearchFault>
-        requires turn { HasAction (S.problem space.old) (S.task space.old) self.now.costs.now self.now.nodes (S.kept space.old) found.old at a.now }
+        requires turn { HasAction (S.problem space.old) (S.task space.old)
+            self.now.costs.now self.now.nodes (S.kept space.old) found.old at a.now }
         requires executable { IsExecutableAt (S.problem space.old) (S.kept space.old) at a.now }
         requires named { IsNamedIn (S.task space.old) a.now }
         requires nodes { self.now.nodes ≤ 100000 }
         ensures task { S.task space.new ≡ S.task space.old }
         ensures problem { S.problem space.new ≡ S.problem space.old }
-        ensures outcome { IfOk result (SpentOr (S.problem space.old) self.now.costs.now self.now.nodes (S.kept space.new)
-            (IsTriedAt (S.problem space.old) (S.task space.old) self.now.costs.now self.now.nodes (S.kept space.old) (S.kept space.new) found.old found.new at a.now)) }
+        ensures outcome { IfOk result (SpentOr (S.problem space.old)
+            self.now.costs.now self.now.nodes (S.kept space.new)
+            (IsTriedAt (S.problem space.old) (S.task space.old) self.now.costs.now self.now.nodes
+            (S.kept space.old) (S.kept space.new) found.old found.new at a.now)) }
         ensures grows { Extends (S.kept space.old) (S.kept space.new) }
         ensures opens { IfOk result (Opens (S.kept space.old) (S.kept space.new) found.old found.new) }
         ensures stay { OnOk result (StaySettled found.old found.new) }
@@ -153,7 +161,7 @@ impl UniformCost<'_> {
     /// The way to a pair with one more action.
     fn way_after(&self, found: &Found, at: usize, a: &Action) -> Result<Way, NoMemory>
         requires { HasRoom found.now at }
-        ensures { IfOk result (λ way. (w : Way) → slice_get found.now.ways.items at ≡ Some w → GoesOn self.now.costs.now w at a.now way) }
+        ensures { IfOk result (λ way. ForWay found.now at (λ w. GoesOn self.now.costs.now w at a.now way)) }
     {
         let before = &found.ways[at];
         let action = a.copy(self.alloc)?;
@@ -167,8 +175,8 @@ impl UniformCost<'_> {
     /// A kept pair is met again by an action: its way is replaced where the cost, or at the same cost the length, falls.
     fn meet(&self, found: &mut Found, at: usize, a: &Action, k: usize) -> Result<(), NoMemory>
         requires room { HasRoom found.old at }
-        requires met { (w : Way) → slice_get found.old.ways.items at ≡ Some w → IsMet self.now.costs.now found.old w a.now k }
-        ensures { OnOk result ((w u : Way) → slice_get found.old.ways.items at ≡ Some w → slice_get found.old.ways.items k ≡ Some u → Meets self.now.costs.now found.old found.new w at a.now k u) }
+        requires met { ForWay found.old at (λ w. IsMet self.now.costs.now found.old w a.now k) }
+        ensures { OnOk result (MeetsAgain self.now.costs.now found.old found.new at a.now k) }
     {
         let before = &found.ways[at];
         let cost = before.cost + u64::from(cost_of(self.costs, a));
@@ -210,7 +218,8 @@ fn range_after(alloc: Global, found: &Found, at: usize, a: &Action, note: RangeN
 fn path_after(alloc: Global, found: &Found, at: usize, a: &Action) -> Result<Actions, NoMemory>
     requires at { at < length found.now.ways.items }
     requires linked { AreLinked found.now.ways.items }
-    ensures { IfOk result (λ path. (front : List Action) × Follows found.now.ways.items at front × (path ≡ front ++ a.now ∷ [])) }
+    ensures { IfOk result (λ path.
+        (front : List Action) × Follows found.now.ways.items at front × (path ≡ front ++ a.now ∷ [])) }
 {
     let mut path = found.path_to(alloc, at)?;
     let action = a.copy(alloc)?;

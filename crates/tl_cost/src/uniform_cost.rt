@@ -1,9 +1,9 @@
 // The search for a cheapest plan as its callers see it.
-ghost use Rattle.std.specs.Prelude.{◌≡◌, ◌≤◌, ℕ, [], length, IfOk, IfErr};
+ghost use Rattle.std.specs.Prelude.{◌≡◌, ◌≤◌, [], IfOk, IfErr};
 ghost use Rattle.tl_search.specs.NamedAnswers.{FaultIsNamed};
 ghost use Rattle.tl_cost.specs.Ongoing.{IsBetweenTurns};
 ghost use Rattle.tl_cost.specs.Outcomes.{AnswersWhereCalm, CostOutcomeIsNamed, IsCheapestFault, IsCheapestOutcome};
-ghost use Rattle.tl_cost.specs.Ticks.{IsCounted, IsTicked};
+ghost use Rattle.tl_cost.specs.Ticks.{IsTicked, TicksRest};
 
 use crate::costs::Costs;
 use crate::outcome::CostOutcome;
@@ -26,7 +26,8 @@ impl UniformCost<'_> {
         requires nodes { self.now.nodes ≤ 100000 }
         ensures task { S.task space.new ≡ S.task space.old }
         ensures problem { S.problem space.new ≡ S.problem space.old }
-        ensures outcome { IfOk result (IsCheapestOutcome (S.problem space.old) self.now.costs.now self.now.nodes (S.kept space.new)) }
+        ensures outcome { IfOk result (IsCheapestOutcome (S.problem space.old)
+            self.now.costs.now self.now.nodes (S.kept space.new)) }
         ensures steps { IsTicked (S.problem space.old) steps.old (S.kept space.new) steps.new }
         ensures fault { IfErr result (IsCheapestFault (S.problem space.old) self.now.costs.now self.now.nodes) }
         ensures plan_named { IfOk result (CostOutcomeIsNamed (S.task space.old)) }
@@ -56,12 +57,14 @@ impl UniformCost<'_> {
         found: &mut Found,
         steps: &mut Steps<L>,
     ) -> Result<CostOutcome, SearchFault>
-        requires between { IsBetweenTurns (S.problem space.old) (S.task space.old) self.now.costs.now self.now.nodes (S.kept space.old) found.old }
+        requires between { IsBetweenTurns (S.problem space.old) (S.task space.old)
+            self.now.costs.now self.now.nodes (S.kept space.old) found.old }
         requires nodes { self.now.nodes ≤ 100000 }
         ensures task { S.task space.new ≡ S.task space.old }
         ensures problem { S.problem space.new ≡ S.problem space.old }
-        ensures outcome { IfOk result (IsCheapestOutcome (S.problem space.old) self.now.costs.now self.now.nodes (S.kept space.new)) }
-        ensures steps { (from : ℕ) → IsCounted (S.problem space.old) from (S.kept space.old) found.old steps.old → IsTicked (S.problem space.old) from (S.kept space.new) steps.new }
+        ensures outcome { IfOk result (IsCheapestOutcome (S.problem space.old)
+            self.now.costs.now self.now.nodes (S.kept space.new)) }
+        ensures steps { TicksRest (S.problem space.old) (S.kept space.old) (S.kept space.new) found.old steps.old steps.new }
         ensures fault { IfErr result (IsCheapestFault (S.problem space.old) self.now.costs.now self.now.nodes) }
         ensures plan_named { IfOk result (CostOutcomeIsNamed (S.task space.old)) }
         ensures path_named { IfErr result (FaultIsNamed (S.task space.old)) }

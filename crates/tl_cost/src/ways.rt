@@ -1,8 +1,8 @@
 // The cheapest ways that were found so far, and which pairs are still to be settled.
-ghost use Rattle.std.specs.Prelude.{◌≡◌, ◌≢◌, ◌+◌, ◌<◌, ◌++◌, ◌∷◌, [], true, false, length, slice_get, Some, None, IfOk, OnOk};
+ghost use Rattle.std.specs.Prelude.{◌≡◌, ◌+◌, ◌<◌, ◌++◌, ◌∷◌, [], true, false, length, None, IfOk, OnOk};
 ghost use Rattle.std.specs.List.{slice_set};
 ghost use Rattle.tl_cost.specs.declared.open_list.Entry.{Entry};
-ghost use Rattle.tl_cost.specs.Ways.{entry_of, is_listed, listed_len, Adds, AreLinked, Follows, Moves, TellsOrder};
+ghost use Rattle.tl_cost.specs.Ways.{entry_of, is_listed, listed_len, Adds, AreLinked, Follows, ForWay, Moves, TellsOrder};
 
 use crate::open_list::{Entry, OpenList};
 use std::alloc::Global;
@@ -85,7 +85,8 @@ impl Found {
     pub(crate) fn add(&mut self, way: Way) -> Result<(), NoMemory>
         requires { is_listed self.old.open_list (entry_of way (length self.old.ways.items)) ≡ false }
         ensures ways { OnOk result (self.new.ways.items ≡ self.old.ways.items ++ way ∷ []) }
-        ensures adds { OnOk result (Adds (is_listed self.old.open_list) (is_listed self.new.open_list) (entry_of way (length self.old.ways.items))) }
+        ensures adds { OnOk result (Adds (is_listed self.old.open_list) (is_listed self.new.open_list)
+            (entry_of way (length self.old.ways.items))) }
         ensures len { OnOk result (listed_len self.new.open_list ≡ listed_len self.old.open_list + 1) }
     {
         self.open_list.add(way.entry(self.ways.len()))?;
@@ -96,10 +97,11 @@ impl Found {
     /// Replaces the way to an open pair.
     pub(crate) fn replace(&mut self, at: usize, way: Way) -> Result<(), NoMemory>
         requires at { at < length self.old.ways.items }
-        requires was { (w : Way) → slice_get self.old.ways.items at ≡ Some w → is_listed self.old.open_list (entry_of w at) ≡ true }
+        requires was { ForWay self.old at (λ w. is_listed self.old.open_list (entry_of w at) ≡ true) }
         requires fresh { is_listed self.old.open_list (entry_of way at) ≡ false }
         ensures ways { OnOk result (self.new.ways.items ≡ slice_set self.old.ways.items at way) }
-        ensures moves { OnOk result ((w : Way) → slice_get self.old.ways.items at ≡ Some w → Moves (is_listed self.old.open_list) (is_listed self.new.open_list) (entry_of w at) (entry_of way at)) }
+        ensures moves { OnOk result (ForWay self.old at (λ w.
+            Moves (is_listed self.old.open_list) (is_listed self.new.open_list) (entry_of w at) (entry_of way at))) }
         ensures len { OnOk result (listed_len self.new.open_list ≡ listed_len self.old.open_list) }
     {
         let old = self.ways[at].entry(at);

@@ -3,7 +3,11 @@ use Rattle.std.specs.Prelude.{◌≡◌, ◌<◌, ◌^◌, ℕ, List, [], ◌∷
 use Rattle.tl_syntax.specs.declared.action.Action.{Action}
 use Rattle.tl_syntax.specs.Lists.{Each}
 use Rattle.tl_eval.specs.declared.range.RangeNote.{RangeNote}
+use Rattle.tl_depth.specs.Levels.{stepped}
 use Rattle.tl_depth.specs.declared.level.Level.{Level}
+use Rattle.tl_depth.specs.declared.stack.DepthFirst.{DepthFirst}
+use Rattle.tl_search.specs.Events.{event_of, events_after}
+use Rattle.tl_search.specs.declared.arrival.Arrival.{Arrival}
 use Rattle.tl_search.specs.declared.fault.SearchFault.{SearchFault}
 use Rattle.tl_search.specs.declared.fault.SearchFault.TheVariants as fault
 use Rattle.tl_search.specs.declared.event.Event.{Event}
@@ -16,6 +20,22 @@ IsStepped levels = (front : List Level) × (c : Level) × (levels ≡ front ++ c
 -- there is a last level, and each level below it has an action that it is not done with
 abbrev pub IsLeft : List Level → Type 0
 IsLeft levels = (front : List Level) × (c : Level) × (levels ≡ front ++ c ∷ []) × Each (λ (h : Level). (h.tried < length h.actions) × (length h.actions < 2 ^ 64)) front
+
+-- the last level is done with its next action
+abbrev pub PassesTop : List Level → List Level → Type 0
+PassesTop old new = (front : List Level) (c : Level) → old ≡ front ++ c ∷ [] → new ≡ front ++ stepped c ∷ []
+
+-- the last level is gone
+abbrev pub LosesTop : List Level → List Level → Type 0
+LosesTop old new = (front : List Level) (c : Level) → old ≡ front ++ c ∷ [] → new ≡ front
+
+-- the last level is gone, and the one below it is done with its next action
+abbrev pub LeavesTop : List Level → List Level → Type 0
+LeavesTop old new = (front : List Level) (h c : Level) → old ≡ (front ++ h ∷ []) ++ c ∷ [] → new ≡ front ++ stepped h ∷ []
+
+-- where events are wanted, what came of the last level's next action is told
+abbrev pub TellsTop : DepthFirst → DepthFirst → Arrival → Type 0
+TellsTop old new r = (front : List Level) (c : Level) (a : Action) → old.stack.items ≡ front ++ c ∷ [] → slice_get c.actions c.tried ≡ Some a → new.events ≡ events_after old.watch old.events (event_of c.at a r)
 
 -- past range at that operation, after that path; or want of memory
 abbrev pub IsRangeAfter : List Action → RangeNote → SearchFault → Type 0

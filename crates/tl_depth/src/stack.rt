@@ -1,10 +1,8 @@
 // What a search has beside its space: the stack, and with how many remaining actions each pair was met.
-ghost use Rattle.std.specs.Prelude.{◌≡◌, List, [], ◌∷◌, ◌++◌, slice_get, Some, IfOk, OnOk};
-ghost use Rattle.tl_syntax.specs.declared.action.Action.{Action};
-ghost use Rattle.tl_depth.specs.Levels.{path_of, stepped};
-ghost use Rattle.tl_depth.specs.Stacks.{IsStepped, IsLeft, IsRangeAfter};
+ghost use Rattle.std.specs.Prelude.{◌≡◌, [], ◌∷◌, IfOk, OnOk};
+ghost use Rattle.tl_depth.specs.Levels.{path_of};
+ghost use Rattle.tl_depth.specs.Stacks.{IsStepped, IsLeft, IsRangeAfter, PassesTop, LosesTop, LeavesTop, TellsTop};
 ghost use Rattle.tl_depth.specs.Expansions.{GainsTop, LearnsTop};
-ghost use Rattle.tl_search.specs.Events.{event_of, events_after};
 
 mod arrivals;
 mod turns;
@@ -64,7 +62,7 @@ impl DepthFirst {
     /// The top level is done with its next action.
     pub fn pass(&mut self)
         requires { IsStepped self.old.stack.items }
-        ensures stack { (front : List Level) (c : Level) → self.old.stack.items ≡ front ++ c ∷ [] → self.new.stack.items ≡ front ++ stepped c ∷ [] }
+        ensures stack { PassesTop self.old.stack.items self.new.stack.items }
         ensures rest { self.new ≡ record self.old { stack = self.new.stack } }
     {
         let len = self.stack.as_slice().len();
@@ -75,7 +73,7 @@ impl DepthFirst {
     pub fn leave(&mut self)
         requires { IsLeft self.old.stack.items }
         ensures root { (c : Level) → self.old.stack.items ≡ c ∷ [] → self.new.stack.items ≡ [] }
-        ensures stack { (front : List Level) (h c : Level) → self.old.stack.items ≡ (front ++ h ∷ []) ++ c ∷ [] → self.new.stack.items ≡ front ++ stepped h ∷ [] }
+        ensures stack { LeavesTop self.old.stack.items self.new.stack.items }
         ensures remembered { GainsTop self.old.stack.items self.old.expansions self.new.expansions }
         ensures rest { self.new ≡ record self.old { stack = self.new.stack; expansions = self.new.expansions } }
     {
@@ -88,7 +86,7 @@ impl DepthFirst {
 
     /// The top level is taken off the stack, and its actions are remembered.
     fn remember_top(&mut self)
-        ensures stack { (front : List Level) (c : Level) → self.old.stack.items ≡ front ++ c ∷ [] → self.new.stack.items ≡ front }
+        ensures stack { LosesTop self.old.stack.items self.new.stack.items }
         ensures remembered { GainsTop self.old.stack.items self.old.expansions self.new.expansions }
         ensures rest { self.new ≡ record self.old { stack = self.new.stack; expansions = self.new.expansions } }
     {
@@ -111,7 +109,7 @@ impl DepthFirst {
     /// Reports what came of the top level's next action.
     pub fn report(&mut self, alloc: Global, arrival: Arrival) -> Result<(), NoMemory>
         requires { IsStepped self.old.stack.items }
-        ensures told { OnOk result ((front : List Level) (c : Level) (a : Action) → self.old.stack.items ≡ front ++ c ∷ [] → slice_get c.actions c.tried ≡ Some a → self.new.events ≡ events_after self.old.watch self.old.events (event_of c.at a arrival)) }
+        ensures told { OnOk result (TellsTop self.old self.new arrival) }
         ensures rest { self.new ≡ record self.old { events = self.new.events } }
     {
         let top = self.stack.as_slice().len() - 1;

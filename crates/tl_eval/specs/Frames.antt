@@ -13,6 +13,10 @@ slot_value (Some v) = v
 abbrev pub assignment_in : List (Option Value) → Assignment
 assignment_in frame = λ q. slot_value (slice_get frame q)
 
+-- the assignment of the current scope, whose frame of 32 slots stands first
+abbrev pub current_assignment : List (Option Value) → Assignment
+current_assignment frames = assignment_in (take 32 frames)
+
 -- the slots of the variables have these values or none, and the other slots what they have in e
 abbrev pub given_back : List Var → List (Option Value) → Assignment → Assignment
 given_back [] os e = e
@@ -27,3 +31,7 @@ AgreeElsewhere ss d e = (t : List Value) → bind ss t d ≡ bind ss t e
 pub record AreKept (ss : List Var) (frame values : List (Option Value)) : Type 0 where
   pub slots : length frame ≡ 32
   pub same : take (length ss) values ≡ map (λ s. assignment_in frame s.slot) ss
+
+-- where the values were kept of a frame with which the old one agrees elsewhere, the new frame is that one
+abbrev pub GivesBack : List Var → List (Option Value) → List (Option Value) → List (Option Value) → Type 0
+GivesBack ss values old new = (frame : List (Option Value)) → AreKept ss frame values → AgreeElsewhere ss (assignment_in old) (assignment_in frame) → new ≡ frame

@@ -1,6 +1,7 @@
 pub mod Frames
 pub mod Small
 pub mod Notes
+pub mod TermValues
 pub mod Operates
 pub mod Reading
 pub mod PatternOf

@@ -1,10 +1,16 @@
 -- What the definitions mean where a formula is read: outside of definitions, or in the body of one.
 use Rattle.std.specs.Prelude.{ℕ, ◌+◌, [], ◌∷◌, ◌++◌, fold, take, slice_get, sum_by, Option, Some, None}
-use Rattle.tl_terms.specs.Definitions.{Tests, true_at_level, with_definition, situation_under}
+use Rattle.tl_terms.specs.Definitions.{Tests, true_at_level, with_definition, situation_of, situation_under}
 use Rattle.tl_terms.specs.Looked.{Looks, LookedTable, looked_table, looked_at_level, looks_over}
 use Rattle.tl_terms.specs.Problem.{PlainDefinition, PlainProblem}
+use Rattle.tl_terms.specs.ProblemMeaning.{plain_problem}
 use Rattle.tl_terms.specs.Situation.{Situation}
 use Rattle.tl_terms.specs.World.{World}
+use Rattle.tl_world.specs.declared.task.Task.{Task}
+
+-- a world of the task, with all definitions
+abbrev pub situation_in : Task → World → Situation
+situation_in task w = situation_of (plain_problem task.problem) w
 
 -- the tests of the first n definitions
 abbrev pub tests_before : PlainProblem → World → ℕ → Tests

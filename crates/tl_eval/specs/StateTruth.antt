@@ -1,16 +1,22 @@
 -- What an evaluation of a formula answers where it is read, and what it needs.
-use Rattle.std.specs.Prelude.{◌≤◌, ◌+◌, ◌*◌, ℕ, List, Bool, Result}
+use Rattle.std.specs.Prelude.{◌≤◌, ◌+◌, ◌*◌, ℕ, List, Bool, Option, Result}
+use Rattle.tl_eval.specs.Frames.{assignment_in, current_assignment}
 use Rattle.tl_eval.specs.Notes.{Evaluates}
-use Rattle.tl_eval.specs.Reading.{situation_read, looked_read, rank}
+use Rattle.tl_eval.specs.Reading.{situation_in, situation_read, looked_read, rank}
 use Rattle.tl_eval.specs.declared.range.RangeNote.{RangeNote}
+use Rattle.tl_eval.specs.declared.reading.Reading.{Reading}
 use Rattle.tl_syntax.specs.Assignment.{Assignment}
+use Rattle.tl_syntax.specs.declared.value.Value.{Value}
 use Rattle.tl_syntax.specs.Fits.{Fits}
-use Rattle.tl_syntax.specs.Signature.{Signature, with_definitions_below}
+use Rattle.tl_syntax.specs.Signature.{Signature, signature_of, with_definitions_below, Takes}
 use Rattle.tl_syntax.specs.Trees.{FormulaTree}
-use Rattle.tl_terms.specs.Looked.{looked_in_state}
+use Rattle.tl_terms.specs.Looked.{looked_in_state, looks_of}
+use Rattle.tl_terms.specs.Operations.{Operation}
 use Rattle.tl_terms.specs.Problem.{PlainProblem}
+use Rattle.tl_terms.specs.ProblemMeaning.{plain_problem}
 use Rattle.tl_terms.specs.Truth.{state_true}
 use Rattle.tl_terms.specs.World.{World}
+use Rattle.tl_world.specs.declared.task.Task.{Task}
 
 -- the truth of the formula under the assignment, where it is read with the first n definitions and definition n at level k; or a note of an operation that is looked at
 abbrev pub IsTruth : PlainProblem → World → ℕ → ℕ → Assignment → FormulaTree → Result Bool RangeNote → Type 0
@@ -24,3 +30,32 @@ pub record FitsAt (g : Signature) (n : ℕ) (f : FormulaTree) : Type 0 where
 -- so many slots are enough: a frame of this scope, and one for each body that can be open below it
 abbrev pub HasRoom : PlainProblem → ℕ → ℕ → ℕ → Type 0
 HasRoom p n k slots = 32 * (rank p n k + 1) ≤ slots
+
+-- the formula's truth where it is read in a world of the task, under the first of the frames; or a note
+abbrev pub IsTruthIn : Task → World → Reading → List (Option Value) → FormulaTree → Result Bool RangeNote → Type 0
+IsTruthIn task w r frames f result = IsTruth (plain_problem task.problem) w r.number r.level (current_assignment frames) f result
+
+-- the truth of a definition of the values, where its atom is read in a world of the task; or a note
+abbrev pub IsDefinitionTruth : Task → World → Reading → ℕ → List Value → Result Bool RangeNote → Type 0
+IsDefinitionTruth task w r n values result =
+    Evaluates ((situation_read (plain_problem task.problem) w r.number r.level).table n values) (looked_read (plain_problem task.problem) w r.number r.level n values) result
+
+-- the formula fits where it is read in the task
+abbrev pub FitsIn : Task → Reading → FormulaTree → Type 0
+FitsIn task r f = FitsAt (signature_of task.problem.domain) r.number f
+
+-- definition n can be named where this is read in the task, and takes so many arguments
+abbrev pub TakesIn : Task → Reading → ℕ → ℕ → Type 0
+TakesIn task r n count = Takes (with_definitions_below (r.number + 1) (signature_of task.problem.domain)).definitions n count
+
+-- so many slots are enough where this is read in the task
+abbrev pub HasRoomIn : Task → Reading → ℕ → Type 0
+HasRoomIn task r slots = HasRoom (plain_problem task.problem) r.number r.level slots
+
+-- whether the formula is true in a world of the task, under the frame
+abbrev pub true_in_frame : Task → World → List (Option Value) → FormulaTree → Bool
+true_in_frame task w frame f = state_true (situation_in task w) (assignment_in frame) f
+
+-- the operations that are looked at for it
+abbrev pub looked_in_frame : Task → World → List (Option Value) → FormulaTree → List Operation
+looked_in_frame task w frame f = looked_in_state (looks_of (plain_problem task.problem) w) (situation_in task w) (assignment_in frame) f

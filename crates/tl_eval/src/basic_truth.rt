@@ -1,13 +1,12 @@
 // The truth of formulas that have no formula below them.
 ghost use Rattle.std.specs.Prelude.{◌≡◌, ◌≤◌, length};
 ghost use Rattle.tl_eval.specs.Frames.{assignment_in};
-ghost use Rattle.tl_eval.specs.Notes.{Evaluates};
 ghost use Rattle.tl_eval.specs.Small.{HasFewArguments, HaveFewArguments};
+ghost use Rattle.tl_eval.specs.TermValues.{gives_value, IsAtomTruth, IsComparison};
 ghost use Rattle.tl_syntax.specs.Fits.{term_count};
 ghost use Rattle.tl_syntax.specs.TreeOfTerm.{tree_of_term, tree_of_terms};
 ghost use Rattle.tl_terms.specs.Bounds.{arg_value, arg_values, fact_in, same_value};
-ghost use Rattle.tl_terms.specs.Looked.{followed_if, is_integer, leaves_open, looked_in_term, looked_in_terms};
-ghost use Rattle.tl_terms.specs.Terms.{place_value, term_value, term_values};
+ghost use Rattle.tl_terms.specs.Looked.{is_integer, leaves_open};
 ghost use Rattle.tl_terms.specs.Truth.{compared};
 
 use crate::RangeNote;
@@ -92,7 +91,7 @@ pub(crate) fn atom_true(
 ) -> Result<bool, RangeNote>
     requires small { HaveFewArguments (tree_of_terms args.now) }
     requires few { term_count (tree_of_terms args.now) ≤ 8 }
-    ensures { Evaluates (fact_in w.now pred (term_values w.now (assignment_in frame.now) (tree_of_terms args.now))) (looked_in_terms w.now (assignment_in frame.now) (tree_of_terms args.now)) result }
+    ensures { IsAtomTruth w.now frame.now pred (tree_of_terms args.now) result }
 {
     let mut row = Row::new();
     match put_values_of_terms(w, frame, args, &mut row) {
@@ -118,7 +117,7 @@ pub(crate) fn compare_true(
 ) -> Result<bool, RangeNote>
     requires left { HasFewArguments (tree_of_term left.now) }
     requires right { HasFewArguments (tree_of_term right.now) }
-    ensures { Evaluates (compared cmp (term_value w.now (assignment_in frame.now) (tree_of_term left.now)) (term_value w.now (assignment_in frame.now) (tree_of_term right.now))) (followed_if (leaves_open cmp (term_value w.now (assignment_in frame.now) (tree_of_term left.now))) (looked_in_term w.now (assignment_in frame.now) (tree_of_term left.now)) (looked_in_term w.now (assignment_in frame.now) (tree_of_term right.now))) result }
+    ensures { IsComparison w.now frame.now cmp (tree_of_term left.now) (tree_of_term right.now) result }
 {
     match value_of_term(w, frame, left) {
         Ok(first) => {
@@ -157,7 +156,7 @@ pub(crate) fn place_true(
     value: Arg,
 ) -> bool
     requires { length args.now ≤ 8 }
-    ensures { result ≡ same_value (place_value w.now fun (arg_values (assignment_in frame.now) args.now)) (arg_value (assignment_in frame.now) value) }
+    ensures { result ≡ gives_value w.now frame.now fun args.now value }
 {
     match values_of_args(frame, args) {
         Some(row) => are_same(w.value(fun, row.as_slice()), value_of_arg(frame, value)),

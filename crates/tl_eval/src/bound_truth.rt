@@ -1,11 +1,10 @@
 // The truth of bounds.
 ghost use Rattle.std.specs.Prelude.{◌≡◌};
 ghost use Rattle.tl_eval.specs.Frames.{assignment_in};
+ghost use Rattle.tl_eval.specs.Reading.{situation_in};
 ghost use Rattle.tl_syntax.specs.Fits.{BoundFits};
 ghost use Rattle.tl_syntax.specs.Signature.{signature_of};
 ghost use Rattle.tl_terms.specs.Bounds.{bound_true};
-ghost use Rattle.tl_terms.specs.Definitions.{situation_of};
-ghost use Rattle.tl_terms.specs.ProblemMeaning.{plain_problem};
 
 use crate::Env;
 use crate::basic_truth::{fact_true, place_true};
@@ -15,7 +14,7 @@ use tl_world::{Task, World};
 /// Whether the bound is true in the world under the values of the caller's frame; a bound with a variable that has no value there is false. It is one look-up by halves, and takes no memory.
 pub fn bound_holds(task: &Task, w: &World, env: &Env, b: &Bound) -> bool
     requires { BoundFits (signature_of task.now.problem.domain) b.now }
-    ensures { result ≡ bound_true (situation_of (plain_problem task.now.problem) w.now) (assignment_in env.now) b.now }
+    ensures { result ≡ bound_true (situation_in task.now w.now) (assignment_in env.now) b.now }
 {
     let frame = env.frame();
     match b {

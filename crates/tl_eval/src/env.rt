@@ -1,9 +1,8 @@
 // Values of variables, scope by scope.
-ghost use Rattle.std.specs.Prelude.{◌≡◌, ◌<◌, ◌≤◌, ◌==◌, ℕ, List, Option, cond, length, IfOk, Some, None, slice_set};
-ghost use Rattle.tl_eval.specs.Frames.{assignment_in, given_back, AgreeElsewhere, AreKept};
+ghost use Rattle.std.specs.Prelude.{◌≡◌, ◌<◌, ◌≤◌, ◌==◌, ℕ, cond, length, IfOk, Some, None, slice_set};
+ghost use Rattle.tl_eval.specs.Frames.{assignment_in, given_back, AgreeElsewhere, AreKept, GivesBack};
 ghost use Rattle.tl_syntax.specs.Assignment.{bind};
 ghost use Rattle.tl_syntax.specs.Lists.{Each};
-ghost use Rattle.tl_syntax.specs.declared.value.Value.{Value as OneValue};
 
 use crate::kept::{give_back, keep};
 use crate::memory::{Memory, TRIES};
@@ -97,7 +96,7 @@ impl Env {
         requires slots { Each (λ s. s.slot < 32) vars.now }
         requires few { length vars.now ≤ 9 }
         ensures values { assignment_in self.new ≡ given_back vars.now values.now (assignment_in self.old) }
-        ensures frame { (frame : List (Option OneValue)) → AreKept vars.now frame values.now → AgreeElsewhere vars.now (assignment_in self.old) (assignment_in frame) → self.new ≡ frame }
+        ensures frame { GivesBack vars.now values.now self.old self.new }
     {
         give_back(self.values.as_mut_slice(), vars, values);
     }

@@ -1,6 +1,6 @@
 // The values of a quantifier's own slots, kept while its tuples stand there.
 ghost use Rattle.std.specs.Prelude.{◌≡◌, ◌≤◌, ◌<◌, length, map, take};
-ghost use Rattle.tl_eval.specs.Frames.{assignment_in, given_back};
+ghost use Rattle.tl_eval.specs.Frames.{assignment_in, current_assignment, given_back};
 ghost use Rattle.tl_syntax.specs.Lists.{Each};
 
 use crate::env::SLOTS;
@@ -12,7 +12,7 @@ use tl_syntax::{Value, Var};
 pub(crate) fn keep(frames: &[Option<Value>], vars: &[Var], values: &mut [Option<Value>; 9])
     requires room { 32 ≤ length frames.now }
     requires few { length vars.now ≤ 9 }
-    ensures { take (length vars.now) values.new ≡ map (λ s. assignment_in (take 32 frames.now) s.slot) vars.now }
+    ensures { take (length vars.now) values.new ≡ map (λ s. current_assignment frames.now s.slot) vars.now }
 {
     let frame = current(frames);
     for (i, var) in vars.iter().enumerate() {
@@ -38,7 +38,7 @@ pub(crate) fn give_back(frames: &mut [Option<Value>], vars: &[Var], values: &[Op
     requires room { 32 ≤ length frames.old }
     requires slots { Each (λ s. s.slot < 32) vars.now }
     requires few { length vars.now ≤ 9 }
-    ensures { assignment_in (take 32 frames.new) ≡ given_back vars.now values.now (assignment_in (take 32 frames.old)) }
+    ensures { current_assignment frames.new ≡ given_back vars.now values.now (current_assignment frames.old) }
 {
     give_values(&mut frames[..SLOTS], vars, values);
 }

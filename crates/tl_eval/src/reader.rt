@@ -1,16 +1,11 @@
 // The tuples of a bound, one after another.
-ghost use Rattle.std.specs.Prelude.{◌≡◌, ◌≤◌, List, length, true, false, None, Some, IsSome};
+ghost use Rattle.std.specs.Prelude.{◌≡◌, ◌≤◌, length, true, false, None, Some, IsSome};
 ghost use Rattle.tl_eval.specs.Frames.{assignment_in};
-ghost use Rattle.tl_eval.specs.Reader.{Reads};
-ghost use Rattle.tl_syntax.specs.Assignment.{Assignment, bind};
+ghost use Rattle.tl_eval.specs.Reader.{Reads, GoesOn, ReadsAsBefore, HasAsMany};
+ghost use Rattle.tl_eval.specs.Reading.{situation_in};
 ghost use Rattle.tl_syntax.specs.BoundVariables.{DifferInSlot, OccurIn};
-ghost use Rattle.tl_syntax.specs.declared.variable.Var.{Var as OneVariable};
 ghost use Rattle.tl_syntax.specs.Fits.{BoundFits};
 ghost use Rattle.tl_syntax.specs.Signature.{signature_of};
-ghost use Rattle.tl_terms.specs.Bounds.{bound_true};
-ghost use Rattle.tl_terms.specs.Definitions.{situation_of};
-ghost use Rattle.tl_terms.specs.ProblemMeaning.{plain_problem};
-ghost use Rattle.tl_world.specs.Next.{IsNext};
 
 use crate::Env;
 use crate::pattern_of::pattern_of;
@@ -91,8 +86,8 @@ impl TupleReader {
     /// After the last tuple the reader is before the first again. It takes no memory.
     #[inline(never)]
     pub fn next(&mut self, task: &Task, w: &World, b: &Bound) -> bool
-        ensures next { (ss : List OneVariable) (e : Assignment) → Reads ss e b.now self.old → IsNext (length ss) (λ t. bound_true (situation_of (plain_problem task.now.problem) w.now) (bind ss t e) b.now) self.old.tuple self.new.tuple }
-        ensures reads { (ss : List OneVariable) (e : Assignment) → Reads ss e b.now self.old → Reads ss e b.now self.new }
+        ensures next { GoesOn (situation_in task.now w.now) b.now self.old self.new }
+        ensures reads { ReadsAsBefore b.now self.old self.new }
         ensures found { result ≡ true → IsSome self.new.tuple }
         ensures end { result ≡ false → self.new.tuple ≡ None }
     {
@@ -113,7 +108,7 @@ impl TupleReader {
     pub fn values(&self) -> &[Value]
         requires { IsSome self.now.tuple }
         ensures values { self.now.tuple ≡ Some result.now }
-        ensures count { (ss : List OneVariable) (e : Assignment) (b : _) → Reads ss e b self.now → length result.now ≡ length ss }
+        ensures count { HasAsMany self.now result.now }
     {
         self.tuple.counted_values()
     }

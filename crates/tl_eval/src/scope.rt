@@ -1,6 +1,6 @@
 // The frames of scopes, one after another in a slice: the current one stands first.
 ghost use Rattle.std.specs.Prelude.{◌≡◌, ◌≤◌, ◌<◌, length, take};
-ghost use Rattle.tl_eval.specs.Frames.{assignment_in};
+ghost use Rattle.tl_eval.specs.Frames.{assignment_in, current_assignment};
 ghost use Rattle.tl_syntax.specs.Assignment.{bind, no_values};
 ghost use Rattle.tl_syntax.specs.Lists.{Each};
 
@@ -25,7 +25,7 @@ pub(crate) fn open_scope(frames: &mut [Option<Value>], vars: &[Var], values: &[V
     requires room { 32 ≤ length frames.old }
     requires slots { Each (λ s. s.slot < 32) vars.now }
     requires same { length vars.now ≡ length values.now }
-    ensures { assignment_in (take 32 frames.new) ≡ bind vars.now values.now no_values }
+    ensures { current_assignment frames.new ≡ bind vars.now values.now no_values }
 {
     let frame = &mut frames[..SLOTS];
     frame.fill(None);
@@ -37,7 +37,7 @@ pub(crate) fn put_in_scope(frames: &mut [Option<Value>], vars: &[Var], values: &
     requires room { 32 ≤ length frames.old }
     requires slots { Each (λ s. s.slot < 32) vars.now }
     requires same { length vars.now ≡ length values.now }
-    ensures { assignment_in (take 32 frames.new) ≡ bind vars.now values.now (assignment_in (take 32 frames.old)) }
+    ensures { current_assignment frames.new ≡ bind vars.now values.now (current_assignment frames.old) }
 {
     put_values(&mut frames[..SLOTS], vars, values);
 }

@@ -1,21 +1,17 @@
 // The truth of state formulas.
-ghost use Rattle.std.specs.Prelude.{◌≡◌, ◌+◌, ◌≤◌, ◌<◌, length, take, IfOk, IfErr, []};
-ghost use Rattle.tl_eval.specs.Frames.{assignment_in, AgreeElsewhere};
-ghost use Rattle.tl_eval.specs.Notes.{Evaluates, AreInRange, Tells};
-ghost use Rattle.tl_eval.specs.Reading.{situation_read, looked_read};
+ghost use Rattle.std.specs.Prelude.{◌≡◌, ◌<◌, length, take, IfOk, IfErr, []};
+ghost use Rattle.tl_eval.specs.Frames.{current_assignment, AgreeElsewhere};
+ghost use Rattle.tl_eval.specs.Notes.{AreInRange, Tells};
 ghost use Rattle.tl_eval.specs.Remembered.{AreTruths};
-ghost use Rattle.tl_eval.specs.StateTruth.{IsTruth, FitsAt, HasRoom};
+ghost use Rattle.tl_eval.specs.StateTruth.{true_in_frame, looked_in_frame, IsTruthIn, IsDefinitionTruth, FitsIn, TakesIn, HasRoomIn};
 ghost use Rattle.tl_syntax.specs.Fits.{Fits};
 ghost use Rattle.tl_syntax.specs.Junctions.{joined, quantified};
-ghost use Rattle.tl_syntax.specs.Signature.{signature_of, with_definitions_below, Takes};
+ghost use Rattle.tl_syntax.specs.Signature.{signature_of, Takes};
 ghost use Rattle.tl_syntax.specs.StateFormulas.{IsState};
 ghost use Rattle.tl_syntax.specs.Trees.{defined};
 ghost use Rattle.tl_syntax.specs.TreeOfFormula.{tree_of_formula, tree_of_formulas};
 ghost use Rattle.tl_syntax.specs.TreeOfTerm.{tree_of_terms};
-ghost use Rattle.tl_terms.specs.Definitions.{situation_of};
-ghost use Rattle.tl_terms.specs.Looked.{looked_in_state, looks_of};
 ghost use Rattle.tl_terms.specs.ProblemMeaning.{plain_problem};
-ghost use Rattle.tl_terms.specs.Truth.{state_true};
 
 use crate::basic_truth::{atom_true, compare_true, fact_true, place_true};
 use crate::env::SLOTS;
@@ -39,10 +35,10 @@ fn truth_of(
     reading: Reading,
     f: &Formula,
 ) -> Result<bool, RangeNote>
-    requires fits { FitsAt (signature_of task.now.problem.domain) reading.number (tree_of_formula f.now) }
-    requires room { HasRoom (plain_problem task.now.problem) reading.number reading.level (length frames.old) }
+    requires fits { FitsIn task.now reading (tree_of_formula f.now) }
+    requires room { HasRoomIn task.now reading (length frames.old) }
     requires truths { AreTruths (plain_problem task.now.problem) w.now memory.old }
-    ensures truth { IsTruth (plain_problem task.now.problem) w.now reading.number reading.level (assignment_in (take 32 frames.old)) (tree_of_formula f.now) result }
+    ensures truth { IsTruthIn task.now w.now reading frames.old (tree_of_formula f.now) result }
     ensures frame { take 32 frames.new ≡ take 32 frames.old }
     ensures truths { AreTruths (plain_problem task.now.problem) w.now memory.new }
 {
@@ -122,10 +118,10 @@ fn parts_true(
     junction: Junction,
     parts: &Formulas,
 ) -> Result<bool, RangeNote>
-    requires fits { FitsAt (signature_of task.now.problem.domain) reading.number (joined junction (tree_of_formulas parts.now)) }
-    requires room { HasRoom (plain_problem task.now.problem) reading.number reading.level (length frames.old) }
+    requires fits { FitsIn task.now reading (joined junction (tree_of_formulas parts.now)) }
+    requires room { HasRoomIn task.now reading (length frames.old) }
     requires truths { AreTruths (plain_problem task.now.problem) w.now memory.old }
-    ensures truth { IsTruth (plain_problem task.now.problem) w.now reading.number reading.level (assignment_in (take 32 frames.old)) (joined junction (tree_of_formulas parts.now)) result }
+    ensures truth { IsTruthIn task.now w.now reading frames.old (joined junction (tree_of_formulas parts.now)) result }
     ensures frame { take 32 frames.new ≡ take 32 frames.old }
     ensures truths { AreTruths (plain_problem task.now.problem) w.now memory.new }
 {
@@ -155,10 +151,10 @@ fn defined_true(
     number: u32,
     args: &Terms,
 ) -> Result<bool, RangeNote>
-    requires fits { FitsAt (signature_of task.now.problem.domain) reading.number (defined number (tree_of_terms args.now)) }
-    requires room { HasRoom (plain_problem task.now.problem) reading.number reading.level (length frames.old) }
+    requires fits { FitsIn task.now reading (defined number (tree_of_terms args.now)) }
+    requires room { HasRoomIn task.now reading (length frames.old) }
     requires truths { AreTruths (plain_problem task.now.problem) w.now memory.old }
-    ensures truth { IsTruth (plain_problem task.now.problem) w.now reading.number reading.level (assignment_in (take 32 frames.old)) (defined number (tree_of_terms args.now)) result }
+    ensures truth { IsTruthIn task.now w.now reading frames.old (defined number (tree_of_terms args.now)) result }
     ensures frame { take 32 frames.new ≡ take 32 frames.old }
     ensures truths { AreTruths (plain_problem task.now.problem) w.now memory.new }
 {
@@ -187,10 +183,10 @@ fn body_true(
     number: u32,
     values: &[Value],
 ) -> Result<bool, RangeNote>
-    requires takes { Takes (with_definitions_below (reading.number + 1) (signature_of task.now.problem.domain)).definitions number (length values.now) }
-    requires room { HasRoom (plain_problem task.now.problem) reading.number reading.level (length frames.old) }
+    requires takes { TakesIn task.now reading number (length values.now) }
+    requires room { HasRoomIn task.now reading (length frames.old) }
     requires truths { AreTruths (plain_problem task.now.problem) w.now memory.old }
-    ensures truth { Evaluates ((situation_read (plain_problem task.now.problem) w.now reading.number reading.level).table number values.now) (looked_read (plain_problem task.now.problem) w.now reading.number reading.level number values.now) result }
+    ensures truth { IsDefinitionTruth task.now w.now reading number values.now result }
     ensures frame { take 32 frames.new ≡ take 32 frames.old }
     ensures truths { AreTruths (plain_problem task.now.problem) w.now memory.new }
 {
@@ -224,9 +220,9 @@ fn opened_true(
 ) -> Result<bool, RangeNote>
     requires takes { Takes (signature_of task.now.problem.domain).definitions reading.number (length values.now) }
     requires level { 0 < reading.level }
-    requires room { HasRoom (plain_problem task.now.problem) reading.number reading.level (length frames.old) }
+    requires room { HasRoomIn task.now reading (length frames.old) }
     requires truths { AreTruths (plain_problem task.now.problem) w.now memory.old }
-    ensures truth { Evaluates ((situation_read (plain_problem task.now.problem) w.now reading.number reading.level).table reading.number values.now) (looked_read (plain_problem task.now.problem) w.now reading.number reading.level reading.number values.now) result }
+    ensures truth { IsDefinitionTruth task.now w.now reading reading.number values.now result }
     ensures frame { take 32 frames.new ≡ take 32 frames.old }
     ensures truths { AreTruths (plain_problem task.now.problem) w.now memory.new }
 {
@@ -254,10 +250,11 @@ fn quantified_true(
     bound: &Bound,
     part: &Formula,
 ) -> Result<bool, RangeNote>
-    requires fits { FitsAt (signature_of task.now.problem.domain) reading.number (quantified junction vars.now bound.now (tree_of_formula part.now)) }
-    requires room { HasRoom (plain_problem task.now.problem) reading.number reading.level (length frames.old) }
+    requires fits { FitsIn task.now reading (quantified junction vars.now bound.now (tree_of_formula part.now)) }
+    requires room { HasRoomIn task.now reading (length frames.old) }
     requires truths { AreTruths (plain_problem task.now.problem) w.now memory.old }
-    ensures truth { IsTruth (plain_problem task.now.problem) w.now reading.number reading.level (assignment_in (take 32 frames.old)) (quantified junction vars.now bound.now (tree_of_formula part.now)) result }
+    ensures truth { IsTruthIn task.now w.now reading frames.old
+        (quantified junction vars.now bound.now (tree_of_formula part.now)) result }
     ensures frame { take 32 frames.new ≡ take 32 frames.old }
     ensures truths { AreTruths (plain_problem task.now.problem) w.now memory.new }
 {
@@ -283,11 +280,12 @@ fn tuples_true(
     bound: &Bound,
     part: &Formula,
 ) -> Result<bool, RangeNote>
-    requires fits { FitsAt (signature_of task.now.problem.domain) reading.number (quantified junction vars.now bound.now (tree_of_formula part.now)) }
-    requires room { HasRoom (plain_problem task.now.problem) reading.number reading.level (length frames.old) }
+    requires fits { FitsIn task.now reading (quantified junction vars.now bound.now (tree_of_formula part.now)) }
+    requires room { HasRoomIn task.now reading (length frames.old) }
     requires truths { AreTruths (plain_problem task.now.problem) w.now memory.old }
-    ensures truth { IsTruth (plain_problem task.now.problem) w.now reading.number reading.level (assignment_in (take 32 frames.old)) (quantified junction vars.now bound.now (tree_of_formula part.now)) result }
-    ensures others { AgreeElsewhere vars.now (assignment_in (take 32 frames.new)) (assignment_in (take 32 frames.old)) }
+    ensures truth { IsTruthIn task.now w.now reading frames.old
+        (quantified junction vars.now bound.now (tree_of_formula part.now)) result }
+    ensures others { AgreeElsewhere vars.now (current_assignment frames.new) (current_assignment frames.old) }
     ensures truths { AreTruths (plain_problem task.now.problem) w.now memory.new }
 {
     let stop = junction.deciding_truth();
@@ -313,9 +311,9 @@ fn tuples_true(
 pub fn state(task: &Task, w: &World, env: &mut Env, f: &Formula) -> Result<bool, RangeNote>
     requires fits { Fits (signature_of task.now.problem.domain) [] (tree_of_formula f.now) }
     requires state { IsState (tree_of_formula f.now) }
-    ensures value { IfOk result (λ b. b ≡ state_true (situation_of (plain_problem task.now.problem) w.now) (assignment_in env.old) (tree_of_formula f.now)) }
-    ensures in_range { IfOk result (λ b. AreInRange (looked_in_state (looks_of (plain_problem task.now.problem) w.now) (situation_of (plain_problem task.now.problem) w.now) (assignment_in env.old) (tree_of_formula f.now))) }
-    ensures note { IfErr result (λ n. Tells (looked_in_state (looks_of (plain_problem task.now.problem) w.now) (situation_of (plain_problem task.now.problem) w.now) (assignment_in env.old) (tree_of_formula f.now)) n) }
+    ensures value { IfOk result (λ b. b ≡ true_in_frame task.now w.now env.old (tree_of_formula f.now)) }
+    ensures in_range { IfOk result (λ b. AreInRange (looked_in_frame task.now w.now env.old (tree_of_formula f.now))) }
+    ensures note { IfErr result (λ n. Tells (looked_in_frame task.now w.now env.old (tree_of_formula f.now)) n) }
     ensures frame { env.new ≡ env.old }
 {
     let reading = Reading::whole(task);

@@ -1,13 +1,12 @@
 // The values of terms.
 ghost use Rattle.std.specs.Prelude.{◌≡◌, ◌≤◌, [], IfOk, IfErr};
 ghost use Rattle.tl_eval.specs.Frames.{assignment_in};
-ghost use Rattle.tl_eval.specs.Notes.{Evaluates, integer_found, row_found, AreInRange, Tells};
+ghost use Rattle.tl_eval.specs.Notes.{integer_found, row_found, AreInRange, Tells};
 ghost use Rattle.tl_eval.specs.Small.{HasFewArguments, HaveFewArguments};
+ghost use Rattle.tl_eval.specs.TermValues.{value_under, looked_under, IsValue, AreValues, IsPlaceValue};
 ghost use Rattle.tl_syntax.specs.Fits.{TermFits, term_count};
 ghost use Rattle.tl_syntax.specs.Signature.{signature_of};
 ghost use Rattle.tl_syntax.specs.TreeOfTerm.{tree_of_term, tree_of_terms};
-ghost use Rattle.tl_terms.specs.Looked.{looked_in_term, looked_in_terms};
-ghost use Rattle.tl_terms.specs.Terms.{place_value, term_value, term_values};
 
 use crate::range::operate;
 use crate::row::Row;
@@ -45,7 +44,7 @@ pub(crate) fn value_of_term(
     t: &Term,
 ) -> Result<Option<Value>, RangeNote>
     requires { HasFewArguments (tree_of_term t.now) }
-    ensures { Evaluates (term_value w.now (assignment_in frame.now) (tree_of_term t.now)) (looked_in_term w.now (assignment_in frame.now) (tree_of_term t.now)) result }
+    ensures { IsValue w.now frame.now (tree_of_term t.now) result }
 {
     match t {
         Term::Var(var) => Ok(value_in(frame, var.slot)),
@@ -74,7 +73,7 @@ fn value_of_place(
 ) -> Result<Option<Value>, RangeNote>
     requires small { HaveFewArguments (tree_of_terms args.now) }
     requires few { term_count (tree_of_terms args.now) ≤ 8 }
-    ensures { Evaluates (place_value w.now fun (term_values w.now (assignment_in frame.now) (tree_of_terms args.now))) (looked_in_terms w.now (assignment_in frame.now) (tree_of_terms args.now)) result }
+    ensures { IsPlaceValue w.now frame.now fun (tree_of_terms args.now) result }
 {
     let mut row = Row::new();
     match put_values_of_terms(w, frame, args, &mut row) {
@@ -100,7 +99,7 @@ pub(crate) fn put_values_of_terms(
     requires small { HaveFewArguments (tree_of_terms ts.now) }
     requires few { term_count (tree_of_terms ts.now) ≤ 8 }
     requires empty { row.old ≡ [] }
-    ensures { Evaluates (term_values w.now (assignment_in frame.now) (tree_of_terms ts.now)) (looked_in_terms w.now (assignment_in frame.now) (tree_of_terms ts.now)) (row_found row.new result) }
+    ensures { AreValues w.now frame.now (tree_of_terms ts.now) (row_found row.new result) }
 {
     for term in ts.as_slice().iter() {
         match value_of_term(w, frame, term) {
@@ -116,9 +115,9 @@ pub(crate) fn put_values_of_terms(
 /// It takes no memory.
 pub fn term(task: &Task, w: &World, env: &mut Env, t: &Term) -> Result<Option<Value>, RangeNote>
     requires fits { TermFits (signature_of task.now.problem.domain) (tree_of_term t.now) }
-    ensures value { IfOk result (λ v. v ≡ term_value w.now (assignment_in env.old) (tree_of_term t.now)) }
-    ensures in_range { IfOk result (λ v. AreInRange (looked_in_term w.now (assignment_in env.old) (tree_of_term t.now))) }
-    ensures note { IfErr result (λ n. Tells (looked_in_term w.now (assignment_in env.old) (tree_of_term t.now)) n) }
+    ensures value { IfOk result (λ v. v ≡ value_under w.now env.old (tree_of_term t.now)) }
+    ensures in_range { IfOk result (λ v. AreInRange (looked_under w.now env.old (tree_of_term t.now))) }
+    ensures note { IfErr result (λ n. Tells (looked_under w.now env.old (tree_of_term t.now)) n) }
     ensures frame { env.new ≡ env.old }
 {
     let _ = &task.problem;

@@ -1,17 +1,12 @@
 // The next tuple of a bound.
-ghost use Rattle.std.specs.Option.{option_map};
 ghost use Rattle.std.specs.Prelude.{◌≡◌, length, IfSome};
 ghost use Rattle.tl_eval.specs.Frames.{assignment_in};
 ghost use Rattle.tl_eval.specs.PatternOf.{world_read};
-ghost use Rattle.tl_syntax.specs.Assignment.{bind};
+ghost use Rattle.tl_eval.specs.Reader.{IsNextMatch};
+ghost use Rattle.tl_eval.specs.Reading.{situation_in};
 ghost use Rattle.tl_syntax.specs.BoundVariables.{DifferInSlot, OccurIn};
 ghost use Rattle.tl_syntax.specs.Fits.{BoundFits};
 ghost use Rattle.tl_syntax.specs.Signature.{signature_of};
-ghost use Rattle.tl_terms.specs.Bounds.{bound_true};
-ghost use Rattle.tl_terms.specs.Definitions.{situation_of};
-ghost use Rattle.tl_terms.specs.ProblemMeaning.{plain_problem};
-ghost use Rattle.tl_world.specs.Next.{IsNext};
-ghost use Rattle.tl_world.specs.Patterns.{tuple_of};
 
 use crate::Env;
 use crate::pattern_of::pattern_of;
@@ -20,7 +15,7 @@ use tl_world::{Match, Task, World};
 
 /// The world that a bound speaks of: the current one, that of the goal list, or that of its negated facts. It takes no memory.
 pub(crate) fn world_of_bound<'a>(task: &'a Task, w: &'a World, b: &Bound) -> &'a World
-    ensures { result.now ≡ world_read (situation_of (plain_problem task.now.problem) w.now) b.now }
+    ensures { result.now ≡ world_read (situation_in task.now w.now) b.now }
 {
     match b {
         Bound::Fact(_, _) => w,
@@ -44,7 +39,7 @@ pub(crate) fn next_tuple_in(
     requires occur { OccurIn vars.now b.now }
     requires fits { BoundFits (signature_of task.now.problem.domain) b.now }
     requires after { IfSome after (λ m. m.len ≡ length vars.now) }
-    ensures next { IsNext (length vars.now) (λ t. bound_true (situation_of (plain_problem task.now.problem) w.now) (bind vars.now t (assignment_in frame.now)) b.now) (option_map tuple_of after) (option_map tuple_of result) }
+    ensures next { IsNextMatch (situation_in task.now w.now) vars.now (assignment_in frame.now) b.now after result }
     ensures len { IfSome result (λ m. m.len ≡ length vars.now) }
 {
     let pattern = pattern_of(frame, vars, b)?;
@@ -67,7 +62,7 @@ pub fn next_tuple(
     requires occur { OccurIn vars.now b.now }
     requires fits { BoundFits (signature_of task.now.problem.domain) b.now }
     requires after { IfSome after (λ m. m.len ≡ length vars.now) }
-    ensures next { IsNext (length vars.now) (λ t. bound_true (situation_of (plain_problem task.now.problem) w.now) (bind vars.now t (assignment_in env.now)) b.now) (option_map tuple_of after) (option_map tuple_of result) }
+    ensures next { IsNextMatch (situation_in task.now w.now) vars.now (assignment_in env.now) b.now after result }
     ensures len { IfSome result (λ m. m.len ≡ length vars.now) }
 {
     next_tuple_in(task, w, env.frame(), vars.as_slice(), b, after)

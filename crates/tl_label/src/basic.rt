@@ -16,7 +16,8 @@ use tl_syntax::{Cmp, Formula, NoMemory, Problem, Term, Terms};
 /// Puts an atom of a declared predicate at the end.
 #[tactic(auto, using(crate::proofs::Parentheses::written), unfolding(crate::specs::Labels::formula_text))]
 fn put_atom(problem: &Problem, pred: u32, terms: &Terms, line: &mut Line) -> Result<(), NoMemory>
-    ensures { OnOk result (line.new ≡ after line.old (formula_text problem.now.names problem.now.domain (atom pred (tree_of_terms terms.now)))) }
+    ensures { OnOk result (line.new ≡ after line.old
+        (formula_text problem.now.names problem.now.domain (atom pred (tree_of_terms terms.now)))) }
 {
     line.put(b"(")?;
     line.put(predicate_name(problem, pred).as_bytes())?;
@@ -32,7 +33,8 @@ fn put_defined(
     terms: &Terms,
     line: &mut Line,
 ) -> Result<(), NoMemory>
-    ensures { OnOk result (line.new ≡ after line.old (formula_text problem.now.names problem.now.domain (defined number (tree_of_terms terms.now)))) }
+    ensures { OnOk result (line.new ≡ after line.old
+        (formula_text problem.now.names problem.now.domain (defined number (tree_of_terms terms.now)))) }
 {
     let definitions = problem.domain.definitions.as_slice();
     line.put(b"(")?;
@@ -50,7 +52,8 @@ fn put_comparison(
     right: &Term,
     line: &mut Line,
 ) -> Result<(), NoMemory>
-    ensures { OnOk result (line.new ≡ after line.old (formula_text problem.now.names problem.now.domain (compare cmp (tree_of_term left.now) (tree_of_term right.now)))) }
+    ensures { OnOk result (line.new ≡ after line.old
+        (formula_text problem.now.names problem.now.domain (compare cmp (tree_of_term left.now) (tree_of_term right.now)))) }
 {
     line.put(b"(")?;
     line.put(comparison_sign(cmp).as_bytes())?;
@@ -64,7 +67,8 @@ fn put_comparison(
 /// Puts a basic formula at the end.
 pub(crate) fn put_basic(problem: &Problem, f: &Formula, line: &mut Line) -> Result<(), NoMemory>
     requires { is_basic (tree_of_formula f.now) ≡ true }
-    ensures { OnOk result (line.new ≡ after line.old (formula_text problem.now.names problem.now.domain (tree_of_formula f.now))) }
+    ensures { OnOk result (line.new ≡ after line.old
+        (formula_text problem.now.names problem.now.domain (tree_of_formula f.now))) }
 {
     match f {
         Formula::Atom(pred, terms) => put_atom(problem, *pred, terms, line),

@@ -98,7 +98,8 @@ pub(crate) fn put_place(
     value: Arg,
     line: &mut Line,
 ) -> Result<(), NoMemory>
-    ensures { OnOk result (line.new ≡ after line.old (place_text problem.now.names problem.now.domain fun args.now value)) }
+    ensures { OnOk result (line.new ≡ after line.old
+        (place_text problem.now.names problem.now.domain fun args.now value)) }
 {
     line.put(b"(= (")?;
     line.put(function_name(problem, fun).as_bytes())?;
@@ -116,7 +117,8 @@ pub(crate) fn put_goal_fact(
     args: &Args,
     line: &mut Line,
 ) -> Result<(), NoMemory>
-    ensures { OnOk result (line.new ≡ after line.old (goal_text (fact_text problem.now.names problem.now.domain pred args.now))) }
+    ensures { OnOk result (line.new ≡ after line.old
+        (goal_text (fact_text problem.now.names problem.now.domain pred args.now))) }
 {
     line.put(b"(goal ")?;
     put_fact(problem, pred, args, line)?;
@@ -131,7 +133,8 @@ pub(crate) fn put_goal_not(
     args: &Args,
     line: &mut Line,
 ) -> Result<(), NoMemory>
-    ensures { OnOk result (line.new ≡ after line.old (goal_text (not_text (fact_text problem.now.names problem.now.domain pred args.now)))) }
+    ensures { OnOk result (line.new ≡ after line.old
+        (goal_text (not_text (fact_text problem.now.names problem.now.domain pred args.now)))) }
 {
     line.put(b"(goal (not ")?;
     put_fact(problem, pred, args, line)?;
@@ -147,7 +150,8 @@ pub(crate) fn put_goal_place(
     value: Arg,
     line: &mut Line,
 ) -> Result<(), NoMemory>
-    ensures { OnOk result (line.new ≡ after line.old (goal_text (place_text problem.now.names problem.now.domain fun args.now value))) }
+    ensures { OnOk result (line.new ≡ after line.old
+        (goal_text (place_text problem.now.names problem.now.domain fun args.now value))) }
 {
     line.put(b"(goal ")?;
     put_place(problem, fun, args, value, line)?;

@@ -33,7 +33,9 @@ fn put_quantifier(
     bound: &Bound,
     line: &mut Line,
 ) -> Result<(), NoMemory>
-    ensures { OnOk result (line.new ≡ after line.old (word.now ++ after_spaces (variables_text problem.now.names vars.now ∷ bound_text problem.now.names problem.now.domain bound.now ∷ []))) }
+    ensures { OnOk result (line.new ≡ after line.old (word.now ++ after_spaces
+        (variables_text problem.now.names vars.now
+        ∷ bound_text problem.now.names problem.now.domain bound.now ∷ []))) }
 {
     line.put(word)?;
     line.put(b" ")?;

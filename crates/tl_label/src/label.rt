@@ -22,7 +22,8 @@ pub fn label_text(
 ) -> Result<Bytes, NoMemory>
     requires id { id < length (trees nodes.now) }
     requires named { IsNamed (length problem.now.names) (tree_at (trees nodes.now) id) }
-    ensures { IfOk result (λ text. text ≡ label_text problem.now.names problem.now.domain (tree_at (trees nodes.now) id)) }
+    ensures { IfOk result (λ text.
+        text ≡ label_text problem.now.names problem.now.domain (tree_at (trees nodes.now) id)) }
 {
     let mut line = Line::new(alloc);
     let mut rests = Vec::new(alloc);

@@ -18,7 +18,8 @@ pub(crate) struct Rest {
 
 /// The formula that was begun last, where the text is not too long and one is left.
 pub(crate) fn next_rest(line: &Line, rests: &mut Vec<Rest>) -> Option<Rest>
-    ensures last { MatchOption result ((line.now ≡ None) ⊎ (rests.old.items ≡ [])) (λ rest. rests.old.items ≡ rests.new.items ++ rest ∷ []) }
+    ensures last { MatchOption result ((line.now ≡ None) ⊎ (rests.old.items ≡ []))
+        (λ rest. rests.old.items ≡ rests.new.items ++ rest ∷ []) }
     ensures room { IfSome result (λ _. 0 < room line.now) }
 {
     if line.is_long() {
@@ -37,7 +38,8 @@ pub(crate) fn begin(
 ) -> Result<(), NoMemory>
     requires id { id < length (trees nodes.now) }
     requires rests { AreThere nodes.now rests.old.items }
-    ensures text { OnOk result (with_all problem.now nodes.now line.new rests.new.items ≡ after line.old (text_at problem.now nodes.now id ++ left_text problem.now nodes.now rests.old.items)) }
+    ensures text { OnOk result (with_all problem.now nodes.now line.new rests.new.items ≡ after line.old
+        (text_at problem.now nodes.now id ++ left_text problem.now nodes.now rests.old.items)) }
     ensures rests { OnOk result (AreThere nodes.now rests.new.items) }
     ensures room { OnOk result (room line.new ≤ room line.old) }
 {
@@ -60,7 +62,8 @@ pub(crate) fn go_on(
     requires id { rest.id < length (trees nodes.now) }
     requires rests { AreThere nodes.now rests.old.items }
     requires room { 0 < room line.old }
-    ensures text { OnOk result (with_all problem.now nodes.now line.new rests.new.items ≡ after line.old (rest_text problem.now nodes.now rest ++ left_text problem.now nodes.now rests.old.items)) }
+    ensures text { OnOk result (with_all problem.now nodes.now line.new rests.new.items ≡ after line.old
+        (rest_text problem.now nodes.now rest ++ left_text problem.now nodes.now rests.old.items)) }
     ensures rests { OnOk result (AreThere nodes.now rests.new.items) }
     ensures room { OnOk result (room line.new < room line.old) }
 {

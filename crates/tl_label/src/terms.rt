@@ -13,7 +13,8 @@ use tl_syntax::{NoMemory, Problem, Term, Terms};
 /// Puts a term at the end. It goes as deep as the term is nested, which the reader of files bounds.
 #[cycle(put_term)]
 pub(crate) fn put_term(problem: &Problem, term: &Term, line: &mut Line) -> Result<(), NoMemory>
-    ensures { OnOk result (line.new ≡ after line.old (term_text problem.now.names problem.now.domain (tree_of_term term.now))) }
+    ensures { OnOk result (line.new ≡ after line.old
+        (term_text problem.now.names problem.now.domain (tree_of_term term.now))) }
 {
     match term {
         Term::Var(var) => put_name(&problem.names, var.name, line),
@@ -39,7 +40,8 @@ pub(crate) fn put_term(problem: &Problem, term: &Term, line: &mut Line) -> Resul
 /// Puts a space and a term at the end, for each term.
 #[cycle(put_term)]
 pub(crate) fn put_terms(problem: &Problem, terms: &Terms, line: &mut Line) -> Result<(), NoMemory>
-    ensures { OnOk result (line.new ≡ after line.old (after_spaces (term_texts problem.now.names problem.now.domain (tree_of_terms terms.now)))) }
+    ensures { OnOk result (line.new ≡ after line.old
+        (after_spaces (term_texts problem.now.names problem.now.domain (tree_of_terms terms.now)))) }
 {
     for term in terms.as_slice().iter() {
         line.put(b" ")?;

@@ -1,6 +1,7 @@
 pub mod Actions
 pub mod ActionLists
 pub mod MeaningOfActions
+pub mod ReadActions
 pub mod NamedActions
 pub mod ActionTexts
 pub mod Puts

@@ -1,13 +1,11 @@
 // The actions of forms, one after the other.
-ghost use Rattle.std.specs.Prelude.{◌≡◌, ◌+◌, ◌<◌, ◌≤◌, List, length, IfOk};
+ghost use Rattle.std.specs.Prelude.{◌≡◌, ◌+◌, ◌<◌, ◌≤◌, length, IfOk};
 ghost use Rattle.tl_sexpr.specs.Tree.{tree_of};
-ghost use Rattle.tl_syntax.specs.declared.action.Action.{Action};
 ghost use Rattle.tl_syntax.specs.Lists.{Each};
 ghost use Rattle.tl_rules.specs.Parts.{is_call};
-ghost use Rattle.tl_rules.specs.Reads.{Reads, trees_in};
-ghost use Rattle.tl_line.specs.ActionLists.{actions_breaks, placed_breaks};
-ghost use Rattle.tl_line.specs.MeaningOfActions.{action_meant, actions_meant};
+ghost use Rattle.tl_rules.specs.Reads.{trees_in};
 ghost use Rattle.tl_line.specs.NamedActions.{ActionIsNamed};
+ghost use Rattle.tl_line.specs.ReadActions.{ReadsPlacedAction, ReadsActions};
 
 use crate::read::action_of;
 use std::alloc::Global;
@@ -39,7 +37,7 @@ fn placed_action(
     problem: &Problem,
     before: usize,
 ) -> Result<Action, FormFault>
-    ensures read { Reads (λ (x : Action). x) result (placed_breaks problem.now.names problem.now.domain.operators before (tree_of form.now)) (action_meant problem.now.names problem.now.domain.operators (tree_of form.now)) }
+    ensures read { ReadsPlacedAction problem.now before (tree_of form.now) result }
     ensures named { IfOk result (λ action. ActionIsNamed problem.now.names problem.now.domain.operators action) }
     ensures few { IfOk result (λ _. before < 100000) }
 {
@@ -63,7 +61,7 @@ pub fn actions_of(
     before: usize,
 ) -> Result<Actions, FormFault>
     requires { before ≤ 100000 }
-    ensures read { Reads (λ (xs : List Action). xs) result (actions_breaks problem.now.names problem.now.domain.operators before (trees_in forms.now)) (actions_meant problem.now.names problem.now.domain.operators (trees_in forms.now)) }
+    ensures read { ReadsActions problem.now before (trees_in forms.now) result }
     ensures few { IfOk result (λ plan. before + length plan ≤ 100000) }
     ensures named { IfOk result (λ plan. Each (ActionIsNamed problem.now.names problem.now.domain.operators) plan) }
 {

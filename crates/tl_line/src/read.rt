@@ -2,12 +2,11 @@
 ghost use Rattle.std.specs.Prelude.{◌≡◌, ◌==◌, ◌<◌, ◌≤◌, ℕ, length, unwrap_or, IfOk, IfErr, IfSome};
 ghost use Rattle.std.specs.List.{position};
 ghost use Rattle.tl_sexpr.specs.Tree.{list, tree_of};
-ghost use Rattle.tl_syntax.specs.declared.action.Action.{Action};
 ghost use Rattle.tl_sexpr.specs.Offsets.{RisesFrom};
 ghost use Rattle.tl_rules.specs.Reads.{Reads, IsLeastFault, trees_in};
-ghost use Rattle.tl_line.specs.Actions.{operator_at, operator_breaks, action_breaks};
-ghost use Rattle.tl_line.specs.MeaningOfActions.{action_meant};
+ghost use Rattle.tl_line.specs.Actions.{operator_at, operator_breaks};
 ghost use Rattle.tl_line.specs.NamedActions.{ActionIsNamed};
+ghost use Rattle.tl_line.specs.ReadActions.{ReadsActionBy, ReadsAction, action_breaks_in};
 
 use crate::values::arguments;
 use std::alloc::Global;
@@ -44,7 +43,8 @@ fn operator(
     at: u32,
 ) -> Result<u32, FormFault>
     requires { length operators.now ≤ 256 }
-    ensures { Reads (λ (x : ℕ). x) result (operator_breaks names.now operators.now text.now arguments at) (unwrap_or (operator_at names.now operators.now text.now) 0) }
+    ensures { Reads (λ (x : ℕ). x) result (operator_breaks names.now operators.now text.now arguments at)
+        (unwrap_or (operator_at names.now operators.now text.now) 0) }
 {
     let Some(place) = operator_of(names, operators, text) else {
         return Err(breaks(Rule::NoOperator, at));
@@ -65,7 +65,7 @@ fn action_list(
     at: u32,
 ) -> Result<Action, FormFault>
     requires { length operators.now ≤ 256 }
-    ensures { Reads (λ (x : Action). x) result (action_breaks names.now operators.now (list (trees_in forms.now) at)) (action_meant names.now operators.now (list (trees_in forms.now) at)) }
+    ensures { ReadsActionBy names.now operators.now (list (trees_in forms.now) at) result }
 {
     let Some((text, rest)) = call(forms) else {
         return Err(breaks(Rule::Shape, at));
@@ -84,7 +84,7 @@ fn action(
     form: &Form,
 ) -> Result<Action, FormFault>
     requires { length operators.now ≤ 256 }
-    ensures { Reads (λ (x : Action). x) result (action_breaks names.now operators.now (tree_of form.now)) (action_meant names.now operators.now (tree_of form.now)) }
+    ensures { ReadsActionBy names.now operators.now (tree_of form.now) result }
 {
     match form {
         Form::Sym(_, at) => Err(breaks(Rule::Shape, *at)),
@@ -98,8 +98,8 @@ fn action(
 /// An operator is found by its text and then by its position among the domain's operators, of which there are at most 256.
 /// It breaks `Rule::Shape` where it is no list that begins with a symbol, `Rule::NoOperator` where that names no operator, `Rule::ArgumentCount` where the number of its arguments is not that of the operator's parameters, and `Rule::NotAValue` at an argument that is a list, a variable or a symbol of neither file. The fault is the one with the least offset, and there the least rule.
 pub fn action_of(alloc: Global, form: &Form, problem: &Problem) -> Result<Action, FormFault>
-    ensures read { Reads (λ (x : Action). x) result (action_breaks problem.now.names problem.now.domain.operators (tree_of form.now)) (action_meant problem.now.names problem.now.domain.operators (tree_of form.now)) }
-    ensures least { (low next : ℕ) → RisesFrom low (tree_of form.now) next → IfErr result (IsLeastFault (action_breaks problem.now.names problem.now.domain.operators (tree_of form.now))) }
+    ensures read { ReadsAction problem.now (tree_of form.now) result }
+    ensures least { (low next : ℕ) → RisesFrom low (tree_of form.now) next → IfErr result (IsLeastFault (action_breaks_in problem.now (tree_of form.now))) }
     ensures named { IfOk result (λ action. ActionIsNamed problem.now.names problem.now.domain.operators action) }
 {
     action(

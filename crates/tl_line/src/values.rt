@@ -1,12 +1,12 @@
 // The arguments of actions.
-ghost use Rattle.std.specs.Prelude.{◌≡◌, List};
+ghost use Rattle.std.specs.Prelude.{◌≡◌};
 ghost use Rattle.tl_sexpr.specs.Tree.{symbol, tree_of};
 ghost use Rattle.tl_syntax.specs.declared.value.Value.{Value};
 ghost use Rattle.tl_syntax.specs.declared.value.Value.TheVariants as value;
 ghost use Rattle.tl_rules.specs.Reads.{Reads, trees_in};
 ghost use Rattle.tl_rules.specs.Symbols.{number_in};
-ghost use Rattle.tl_line.specs.Actions.{value_breaks, values_breaks};
-ghost use Rattle.tl_rules.specs.Values.{value_meant, values_meant};
+ghost use Rattle.tl_line.specs.Actions.{value_breaks};
+ghost use Rattle.tl_line.specs.ReadActions.{ReadsValue, ReadsValues};
 
 use std::alloc::Global;
 use tl_rules::parts::is_variable;
@@ -16,7 +16,8 @@ use tl_syntax::{Names, Value, Values};
 
 /// A symbol as an argument.
 fn symbol_value(names: &Names, text: &str, at: u32) -> Result<Value, FormFault>
-    ensures { Reads (λ (x : Value). x) result (value_breaks names.now (symbol text.now at)) (value.Sym (number_in names.now text.now)) }
+    ensures { Reads (λ (x : Value). x) result (value_breaks names.now (symbol text.now at))
+        (value.Sym (number_in names.now text.now)) }
 {
     if is_variable(text) {
         return Err(breaks(Rule::NotAValue, at));
@@ -30,7 +31,7 @@ fn symbol_value(names: &Names, text: &str, at: u32) -> Result<Value, FormFault>
 /// An argument.
 #[tactic(auto, using(crate::proofs::Rulesets::form_trees))]
 fn argument(names: &Names, form: &Form) -> Result<Value, FormFault>
-    ensures { Reads (λ (x : Value). x) result (value_breaks names.now (tree_of form.now)) (value_meant names.now (tree_of form.now)) }
+    ensures { ReadsValue names.now (tree_of form.now) result }
 {
     match form {
         Form::Sym(text, at) => symbol_value(names, text.as_str(), *at),
@@ -42,7 +43,7 @@ fn argument(names: &Names, form: &Form) -> Result<Value, FormFault>
 /// The arguments of an action.
 #[tactic(auto, using(crate::proofs::Rulesets::composed))]
 pub(crate) fn arguments(alloc: Global, names: &Names, forms: &[Form]) -> Result<Values, FormFault>
-    ensures { Reads (λ (xs : List Value). xs) result (values_breaks names.now (trees_in forms.now)) (values_meant names.now (trees_in forms.now)) }
+    ensures { ReadsValues names.now (trees_in forms.now) result }
 {
     let mut args = Values::new(alloc);
     for form in forms {

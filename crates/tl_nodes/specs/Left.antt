@@ -1,13 +1,15 @@
 -- What is left of the parts of a join.
-use Rattle.std.specs.Prelude.{◌≡◌, ℕ, List, [], true, length, filter, not, nat_eq}
+use Rattle.std.specs.Prelude.{◌≡◌, ℕ, List, [], true, length, filter, not, nat_eq, Result, IfOk}
 use Rattle.std.specs.List.{flat_map}
 use Rattle.indexmap.specs.IndexSet.{insert_all}
 use Rattle.tl_syntax.specs.declared.junction.Junction.{Junction}
 use Rattle.tl_syntax.specs.Trees.{FormulaTree}
 use Rattle.tl_terms.specs.Simplification.{without_repeats}
+use Rattle.tl_nodes.specs.declared.nodes.Nodes.{Nodes}
 use Rattle.tl_nodes.specs.Fits.{all_below}
-use Rattle.tl_nodes.specs.Joins.{parts_of, dropped}
+use Rattle.tl_nodes.specs.Joins.{parts_of, dropped, simplified_join}
 use Rattle.tl_nodes.specs.NodeTrees.{trees_at}
+use Rattle.tl_nodes.specs.Numbers.{trees, Denotes}
 
 -- the numbers without the constant that is dropped, each once
 abbrev pub left_of : Junction → List ℕ → List ℕ
@@ -26,3 +28,11 @@ pub record IsLeft (ts : List FormulaTree) (junction : Junction) (parts ids : Lis
   pub below : all_below (length ts) flat ≡ true
   pub same : without_repeats (trees_at ts flat) ≡ without_repeats (flat_map (parts_of junction) (trees_at ts parts))
   pub left : ids ≡ left_of junction flat
+
+-- of whatever parts the numbers are left, a number that is given denotes the join of these
+abbrev pub JoinsLeft : {E : Type 0} → Nodes → Nodes → Junction → List ℕ → Result ℕ E → Type 0
+JoinsLeft old new junction ids result = (parts : List ℕ) → IsLeft (trees old) junction parts ids → IfOk result (λ i. Denotes new i (simplified_join junction (trees_at (trees old) parts)))
+
+-- where a number denotes the join of such parts already, no tree is added
+abbrev pub StaysIfJoined : Nodes → Nodes → Junction → List ℕ → Type 0
+StaysIfJoined old new junction ids = (parts : List ℕ) (i : ℕ) → IsLeft (trees old) junction parts ids → Denotes old i (simplified_join junction (trees_at (trees old) parts)) → trees new ≡ trees old

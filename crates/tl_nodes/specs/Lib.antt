@@ -5,6 +5,7 @@ pub mod Temporal
 pub mod Joins
 pub mod Left
 pub mod Numbers
+pub mod Opened
 pub mod Examples
 pub mod Filled
 pub mod FilledOnce

@@ -1,5 +1,5 @@
 -- What is kept of worlds between calls of progression.
-use Rattle.std.specs.Prelude.{◌≡◌, ◌&&◌, ℕ, Bool, false, List, map, Option, nat_eq}
+use Rattle.std.specs.Prelude.{◌≡◌, ◌&&◌, ℕ, Bool, false, cond, List, map, Option, Some, nat_eq}
 use Rattle.indexmap.specs.IndexMap.{get}
 use Rattle.tl_nodes.specs.Joins.{simplified_join}
 use Rattle.tl_nodes.specs.NodeTrees.{tree_at, trees_at}
@@ -21,6 +21,14 @@ same_incoming a b = nat_eq a.world b.world && nat_eq a.formula b.formula
 -- the number of what has to hold next that is kept for a world and a formula, by their numbers
 unfoldable pub found_in : Residuals → ℕ → ℕ → Option ℕ
 found_in r n k = get same_incoming r.table (record { world = n; formula = k })
+
+-- the number is kept for the formula in its world, and what is kept there for other formulas is as before
+abbrev pub KeepsNumber : Residuals → Residuals → Incoming → ℕ → Type 0
+KeepsNumber old new incoming number = (k : ℕ) → found_in new incoming.world k ≡ cond (nat_eq incoming.formula k) (Some number) (found_in old incoming.world k)
+
+-- what is kept for the world is as before
+abbrev pub StaysThere : ℕ → Residuals → Residuals → Type 0
+StaysThere n old new = (k : ℕ) → found_in new n k ≡ found_in old n k
 
 -- what is kept for all other worlds is as before
 abbrev pub StaysElsewhere : ℕ → Residuals → Residuals → Type 0

@@ -7,3 +7,5 @@ pub mod KeptResiduals
 pub mod FrameValues
 pub mod Quantifiers
 pub mod Steps
+pub mod Remaining
+pub mod Calls

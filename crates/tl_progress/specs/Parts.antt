@@ -1,8 +1,11 @@
 -- The parts of a node that are worked through before it, and what is below a number.
-use Rattle.std.specs.Prelude.{◌≤◌, ◌⊎◌, ℕ, List, [], ◌∷◌, Bool, cond, ◌≡◌}
+use Rattle.std.specs.Prelude.{◌≤◌, ◌⊎◌, ℕ, List, [], ◌∷◌, ◌++◌, Bool, cond, ◌≡◌}
 use Rattle.tl_nodes.specs.declared.node.Node.{Node}
 use Rattle.tl_nodes.specs.declared.node.Node.TheVariants as node
-use Rattle.tl_nodes.specs.NodeTrees.{tree_at}
+use Rattle.tl_nodes.specs.declared.nodes.Nodes.{Nodes}
+use Rattle.tl_nodes.specs.Joins.{simplified_join}
+use Rattle.tl_nodes.specs.NodeTrees.{tree_at, trees_at}
+use Rattle.tl_nodes.specs.Numbers.{trees}
 use Rattle.tl_syntax.specs.declared.junction.Junction.{Junction}
 use Rattle.tl_syntax.specs.Assignment.{Assignment}
 use Rattle.tl_syntax.specs.Fits.{Fits}
@@ -57,3 +60,7 @@ join_parts f = []
 -- the formula is the conjunction or the disjunction of its parts
 abbrev pub IsJoin : Junction → FormulaTree → Type 0
 IsJoin junction f = f ≡ joined junction (formulas_of_list (join_parts f))
+
+-- the part is gathered: whatever parts follow, the join of the new ones is that of the old ones and the part
+abbrev pub Gathers : Nodes → Junction → List ℕ → ℕ → List ℕ → Type 0
+Gathers nodes junction old part new = (rest : List FormulaTree) → simplified_join junction (trees_at (trees nodes) new ++ rest) ≡ simplified_join junction (trees_at (trees nodes) old ++ tree_at (trees nodes) part ∷ rest)

@@ -1,8 +1,10 @@
 -- Quantifiers that stand in nodes, and steps from one instance to the next.
 use Rattle.std.specs.Prelude.{◌≡◌, List, [], length, Bool, true, false, Option, None, Some}
-use Rattle.tl_eval.specs.Frames.{assignment_in, AgreeElsewhere}
+use Rattle.tl_eval.specs.Frames.{assignment_in, AgreeElsewhere, AreKept}
 use Rattle.tl_eval.specs.Reader.{Reader, Reads}
+use Rattle.tl_nodes.specs.declared.nodes.Nodes.{Nodes}
 use Rattle.tl_nodes.specs.NodeTrees.{tree_at}
+use Rattle.tl_nodes.specs.Numbers.{trees}
 use Rattle.tl_progress.specs.declared.quantifier.Quantifier.{Quantifier}
 use Rattle.tl_syntax.specs.declared.bound.Bound.{Bound}
 use Rattle.tl_syntax.specs.declared.bound.Bound.TheVariants as bound
@@ -12,7 +14,11 @@ use Rattle.tl_syntax.specs.Assignment.{Assignment, bind}
 use Rattle.tl_syntax.specs.Junctions.{quantified}
 use Rattle.tl_syntax.specs.Trees.{FormulaTree, for_all, for_some}
 use Rattle.tl_terms.specs.Bounds.{bound_true}
+use Rattle.tl_terms.specs.Definitions.{situation_of}
+use Rattle.tl_terms.specs.ProblemMeaning.{plain_problem}
 use Rattle.tl_terms.specs.Situation.{Situation}
+use Rattle.tl_terms.specs.World.{World}
+use Rattle.tl_world.specs.declared.task.Task.{Task}
 use Rattle.tl_world.specs.Next.{IsNext}
 
 -- the variables of a quantified formula; another formula has none
@@ -42,6 +48,17 @@ node_vars ts q = vars_in (tree_at ts q.at)
 abbrev pub node_bound : List FormulaTree → Quantifier → Bound
 node_bound ts q = bound_in (tree_at ts q.at)
 
+-- the same, of a table of nodes
+abbrev pub vars_at : Nodes → Quantifier → List Var
+vars_at nodes q = node_vars (trees nodes) q
+
+abbrev pub bound_at : Nodes → Quantifier → Bound
+bound_at nodes q = node_bound (trees nodes) q
+
+-- it reads the tuples of the quantifier's bound under the values of the frame
+abbrev pub ReadsAt : Nodes → Quantifier → List (Option Value) → Reader → Type 0
+ReadsAt nodes q frame r = Reads (node_vars (trees nodes) q) (assignment_in frame) (node_bound (trees nodes) q) r
+
 -- it reads the tuples of the bound under some assignment
 abbrev pub IsReader : List Var → Bound → Reader → Type 0
 IsReader ss b r = (e : Assignment) × Reads ss e b r
@@ -53,3 +70,15 @@ pub record HasStepped (s : Situation) (ss : List Var) (b : Bound) (before after 
   pub put : found ≡ true → (t : List Value) × (after.tuple ≡ Some t) × (assignment_in new ≡ bind ss t (assignment_in old))
   pub done : found ≡ false → after.tuple ≡ None
   pub elsewhere : AgreeElsewhere ss (assignment_in new) (assignment_in old)
+
+-- so it is in the task's world
+abbrev pub HasSteppedIn : Task → World → List Var → Bound → Reader → Reader → List (Option Value) → List (Option Value) → Bool → Type 0
+HasSteppedIn task w ss b before after old new found = HasStepped (situation_of (plain_problem task.problem) w) ss b before after old new found
+
+-- so it is for the quantifier of a node
+abbrev pub HasSteppedAt : Task → World → Nodes → Quantifier → Reader → Reader → List (Option Value) → List (Option Value) → Bool → Type 0
+HasSteppedAt task w nodes q before after old new found = HasStepped (situation_of (plain_problem task.problem) w) (node_vars (trees nodes) q) (node_bound (trees nodes) q) before after old new found
+
+-- of whatever frame the variables' values were kept, where the old frame agrees with it elsewhere, it is the new one
+abbrev pub GivesBack : List Var → List (Option Value) → List (Option Value) → List (Option Value) → Type 0
+GivesBack ss kept old new = (frame : List (Option Value)) → AreKept ss frame kept → AgreeElsewhere ss (assignment_in old) (assignment_in frame) → new ≡ frame

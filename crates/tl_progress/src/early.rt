@@ -1,15 +1,10 @@
 // What decides a conjunction or a disjunction before its parts are worked out.
 ghost use Rattle.std.specs.Prelude.{◌≡◌, ◌<◌, length, IfOk, IfErr, IfSome, nat_eq};
 ghost use Rattle.indexmap.specs.IndexMap.{get};
-ghost use Rattle.tl_eval.specs.Frames.{assignment_in};
-ghost use Rattle.tl_nodes.specs.NodeTrees.{tree_at};
-ghost use Rattle.tl_nodes.specs.Numbers.{trees, Denotes};
-ghost use Rattle.tl_progress.specs.Answers.{IsCausedBy, looked_for_residual, residual};
-ghost use Rattle.tl_progress.specs.Known.{AreTruths};
+ghost use Rattle.tl_nodes.specs.Numbers.{trees, Denotes, tree_in};
+ghost use Rattle.tl_progress.specs.Answers.{IsCausedBy};
+ghost use Rattle.tl_progress.specs.Calls.{FitsIn, AreTruthsIn, residual_at, looked_for_residual_at};
 ghost use Rattle.tl_progress.specs.Parts.{IsJoin};
-ghost use Rattle.tl_progress.specs.Sentences.{FitsSomewhere};
-ghost use Rattle.tl_syntax.specs.Signature.{signature_of};
-ghost use Rattle.tl_terms.specs.ProblemMeaning.{plain_problem};
 
 use crate::ProgressFault;
 use crate::joins::decides;
@@ -33,11 +28,11 @@ fn early_join(
     junction: Junction,
 ) -> Result<Option<usize>, ProgressFault>
     requires at { at < length (trees nodes.now) }
-    requires join { IsJoin junction (tree_at (trees nodes.now) at) }
-    requires fits { FitsSomewhere (signature_of task.now.problem.domain) (tree_at (trees nodes.now) at) }
-    requires known { AreTruths (plain_problem task.now.problem) w.now (trees nodes.now) (get nat_eq known.now) }
-    ensures number { IfOk result (λ o. IfSome o (λ i. Denotes nodes.now i (residual (plain_problem task.now.problem) w.now (assignment_in env.old) (tree_at (trees nodes.now) at)))) }
-    ensures cause { IfErr result (IsCausedBy (looked_for_residual (plain_problem task.now.problem) w.now (assignment_in env.old) (tree_at (trees nodes.now) at))) }
+    requires join { IsJoin junction (tree_in nodes.now at) }
+    requires fits { FitsIn task.now (tree_in nodes.now at) }
+    requires known { AreTruthsIn task.now w.now nodes.now (get nat_eq known.now) }
+    ensures number { IfOk result (λ o. IfSome o (λ i. Denotes nodes.now i (residual_at task.now w.now env.old nodes.now at))) }
+    ensures cause { IfErr result (IsCausedBy (looked_for_residual_at task.now w.now env.old nodes.now at)) }
     ensures frame { env.new ≡ env.old }
 {
     for i in 0..part_count(nodes, at) {
@@ -67,10 +62,10 @@ pub(crate) fn early_residual(
     at: usize,
 ) -> Result<Option<usize>, ProgressFault>
     requires at { at < length (trees nodes.now) }
-    requires fits { FitsSomewhere (signature_of task.now.problem.domain) (tree_at (trees nodes.now) at) }
-    requires known { AreTruths (plain_problem task.now.problem) w.now (trees nodes.now) (get nat_eq known.now) }
-    ensures number { IfOk result (λ o. IfSome o (λ i. Denotes nodes.now i (residual (plain_problem task.now.problem) w.now (assignment_in env.old) (tree_at (trees nodes.now) at)))) }
-    ensures cause { IfErr result (IsCausedBy (looked_for_residual (plain_problem task.now.problem) w.now (assignment_in env.old) (tree_at (trees nodes.now) at))) }
+    requires fits { FitsIn task.now (tree_in nodes.now at) }
+    requires known { AreTruthsIn task.now w.now nodes.now (get nat_eq known.now) }
+    ensures number { IfOk result (λ o. IfSome o (λ i. Denotes nodes.now i (residual_at task.now w.now env.old nodes.now at))) }
+    ensures cause { IfErr result (IsCausedBy (looked_for_residual_at task.now w.now env.old nodes.now at)) }
     ensures frame { env.new ≡ env.old }
 {
     match nodes.get(at) {

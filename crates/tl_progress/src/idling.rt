@@ -1,16 +1,8 @@
 // The idling check.
-ghost use Rattle.std.specs.Prelude.{◌≡◌, ◌↔◌, ◌<◌, length, IsTrue, IfOk, IfErr, nat_eq};
-ghost use Rattle.indexmap.specs.IndexMap.{get};
-ghost use Rattle.tl_eval.specs.Frames.{assignment_in};
-ghost use Rattle.tl_nodes.specs.NodeTrees.{tree_at};
-ghost use Rattle.tl_nodes.specs.Numbers.{trees};
-ghost use Rattle.tl_progress.specs.Answers.{IsCausedBy, looked_idly, idly_true};
-ghost use Rattle.tl_progress.specs.Known.{AreTruths};
-ghost use Rattle.tl_progress.specs.Sentences.{IsSentence};
-ghost use Rattle.tl_syntax.specs.Signature.{signature_of};
-ghost use Rattle.tl_terms.specs.Looked.{looked_by_idling};
-ghost use Rattle.tl_terms.specs.ProblemMeaning.{plain_problem};
-ghost use Rattle.tl_terms.specs.Run.{Satisfies, idle_run};
+ghost use Rattle.std.specs.Prelude.{◌≡◌, ◌↔◌, ◌<◌, length, IsTrue, IfOk, IfErr};
+ghost use Rattle.tl_nodes.specs.Numbers.{trees, tree_in};
+ghost use Rattle.tl_progress.specs.Answers.{IsCausedBy};
+ghost use Rattle.tl_progress.specs.Calls.{IsSentenceIn, idly_true_at, looked_idly_at, HoldsIdly, looked_by_idling_at};
 
 use crate::ProgressFault;
 use crate::frames::empty_frame;
@@ -32,9 +24,9 @@ pub(crate) fn sentence_truth(
     id: usize,
 ) -> Result<bool, ProgressFault>
     requires id { id < length (trees nodes.now) }
-    requires sentence { IsSentence (signature_of task.now.problem.domain) (tree_at (trees nodes.now) id) }
-    ensures truth { IfOk result (λ b. b ≡ idly_true (plain_problem task.now.problem) w.now (assignment_in env.old) (tree_at (trees nodes.now) id)) }
-    ensures cause { IfErr result (IsCausedBy (looked_idly (plain_problem task.now.problem) w.now (assignment_in env.old) (tree_at (trees nodes.now) id))) }
+    requires sentence { IsSentenceIn task.now (tree_in nodes.now id) }
+    ensures truth { IfOk result (λ b. b ≡ idly_true_at task.now w.now env.old nodes.now id) }
+    ensures cause { IfErr result (IsCausedBy (looked_idly_at task.now w.now env.old nodes.now id)) }
     ensures frame { env.new ≡ env.old }
 {
     let mut order = reached(alloc, nodes, id, true)?;
@@ -63,9 +55,9 @@ pub fn idle(
     id: usize,
 ) -> Result<bool, ProgressFault>
     requires id { id < length (trees nodes.now) }
-    requires sentence { IsSentence (signature_of task.now.problem.domain) (tree_at (trees nodes.now) id) }
-    ensures truth { IfOk result (λ b. IsTrue b ↔ Satisfies (plain_problem task.now.problem) (idle_run w.now) 0 (tree_at (trees nodes.now) id)) }
-    ensures cause { IfErr result (IsCausedBy (looked_by_idling (plain_problem task.now.problem) w.now (tree_at (trees nodes.now) id))) }
+    requires sentence { IsSentenceIn task.now (tree_in nodes.now id) }
+    ensures truth { IfOk result (λ b. IsTrue b ↔ HoldsIdly task.now w.now (tree_in nodes.now id)) }
+    ensures cause { IfErr result (IsCausedBy (looked_by_idling_at task.now w.now nodes.now id)) }
     ensures frame { env.new ≡ env.old }
 {
     let frame = env.saved();

@@ -1,20 +1,13 @@
 // What has to hold next for a conjunction or a disjunction without free variables, from its parts with temporal words: the others are read first, and most residuals that prune a search are decided by one of them.
-ghost use Rattle.std.specs.Prelude.{◌≡◌, ◌<◌, map, length, IfOk, IfErr, IfSome, IfNone, false};
-ghost use Rattle.tl_eval.specs.Frames.{assignment_in};
-ghost use Rattle.tl_nodes.specs.Joins.{simplified_join};
-ghost use Rattle.tl_nodes.specs.NodeTrees.{tree_at, trees_at};
+ghost use Rattle.std.specs.Prelude.{◌≡◌, ◌<◌, length, IfOk, IfErr, IfSome, IfNone, false};
 ghost use Rattle.tl_nodes.specs.Numbering.{Keeps};
-ghost use Rattle.tl_nodes.specs.Numbers.{trees, Denotes};
-ghost use Rattle.tl_progress.specs.Answers.{IsCausedBy, looked_for_residual, residual};
-ghost use Rattle.tl_progress.specs.KeptResiduals.{AreOpen, StaysElsewhere, found_in};
-ghost use Rattle.tl_progress.specs.Known.{AreResiduals};
+ghost use Rattle.tl_nodes.specs.Numbers.{trees, Denotes, tree_in};
+ghost use Rattle.tl_progress.specs.Answers.{IsCausedBy};
+ghost use Rattle.tl_progress.specs.Calls.{IsSentenceIn, AreResidualsIn, residual_at, looked_for_residual_at, join_of_residuals, IsDecided, AreOpenIn};
+ghost use Rattle.tl_progress.specs.KeptResiduals.{StaysElsewhere, found_in};
 ghost use Rattle.tl_progress.specs.Parts.{IsBelow, IsJoin};
-ghost use Rattle.tl_progress.specs.Sentences.{IsSentence};
-ghost use Rattle.tl_syntax.specs.Junctions.{deciding_truth};
 ghost use Rattle.tl_syntax.specs.Lists.{Each};
-ghost use Rattle.tl_syntax.specs.Signature.{signature_of};
 ghost use Rattle.tl_syntax.specs.StateFormulas.{IsState};
-ghost use Rattle.tl_terms.specs.ProblemMeaning.{plain_problem};
 ghost use Rattle.tl_terms.specs.Progression.{constant};
 
 use crate::ProgressFault;
@@ -53,10 +46,10 @@ fn state_part(
     part: usize,
 ) -> Result<bool, ProgressFault>
     requires part { part < length (trees nodes.now) }
-    requires sentence { IsSentence (signature_of task.now.problem.domain) (tree_at (trees nodes.now) part) }
-    requires state { IsState (tree_at (trees nodes.now) part) }
-    ensures truth { IfOk result (λ b. residual (plain_problem task.now.problem) w.now (assignment_in env.old) (tree_at (trees nodes.now) part) ≡ constant b) }
-    ensures cause { IfErr result (IsCausedBy (looked_for_residual (plain_problem task.now.problem) w.now (assignment_in env.old) (tree_at (trees nodes.now) part))) }
+    requires sentence { IsSentenceIn task.now (tree_in nodes.now part) }
+    requires state { IsState (tree_in nodes.now part) }
+    ensures truth { IfOk result (λ b. residual_at task.now w.now env.old nodes.now part ≡ constant b) }
+    ensures cause { IfErr result (IsCausedBy (looked_for_residual_at task.now w.now env.old nodes.now part)) }
     ensures frame { env.new ≡ env.old }
 {
     if is_shallow(nodes, part) {
@@ -76,11 +69,11 @@ fn open_parts(
     joined: Joined,
 ) -> Result<Option<Vec<usize>>, ProgressFault>
     requires at { joined.at < length (trees nodes.now) }
-    requires join { IsJoin joined.junction (tree_at (trees nodes.now) joined.at) }
-    requires sentence { IsSentence (signature_of task.now.problem.domain) (tree_at (trees nodes.now) joined.at) }
-    ensures decided { IfOk result (λ o. IfNone o (residual (plain_problem task.now.problem) w.now (assignment_in env.old) (tree_at (trees nodes.now) joined.at) ≡ constant (deciding_truth joined.junction))) }
-    ensures parts { IfOk result (λ o. IfSome o (λ v. AreOpen (plain_problem task.now.problem) w.now (assignment_in env.old) (trees nodes.now) joined.at joined.junction v.items)) }
-    ensures cause { IfErr result (IsCausedBy (looked_for_residual (plain_problem task.now.problem) w.now (assignment_in env.old) (tree_at (trees nodes.now) joined.at))) }
+    requires join { IsJoin joined.junction (tree_in nodes.now joined.at) }
+    requires sentence { IsSentenceIn task.now (tree_in nodes.now joined.at) }
+    ensures decided { IfOk result (λ o. IfNone o (IsDecided task.now w.now env.old nodes.now joined)) }
+    ensures parts { IfOk result (λ o. IfSome o (λ v. AreOpenIn task.now w.now env.old nodes.now joined v.items)) }
+    ensures cause { IfErr result (IsCausedBy (looked_for_residual_at task.now w.now env.old nodes.now joined.at)) }
     ensures frame { env.new ≡ env.old }
 {
     let stop = joined.junction.deciding_truth();
@@ -113,13 +106,13 @@ fn residual_anew(
     incoming: Incoming,
 ) -> Result<usize, ProgressFault>
     requires at { incoming.formula < length (trees nodes.old) }
-    requires sentence { IsSentence (signature_of task.now.problem.domain) (tree_at (trees nodes.old) incoming.formula) }
-    requires found { AreResiduals (plain_problem task.now.problem) w.now (trees nodes.old) (found_in residuals.old incoming.world) }
+    requires sentence { IsSentenceIn task.now (tree_in nodes.old incoming.formula) }
+    requires found { AreResidualsIn task.now w.now nodes.old (found_in residuals.old incoming.world) }
     ensures kept { Keeps (trees nodes.old) (trees nodes.new) }
-    ensures number { IfOk result (λ i. Denotes nodes.new i (residual (plain_problem task.now.problem) w.now (assignment_in env.old) (tree_at (trees nodes.old) incoming.formula))) }
-    ensures found { AreResiduals (plain_problem task.now.problem) w.now (trees nodes.new) (found_in residuals.new incoming.world) }
+    ensures number { IfOk result (λ i. Denotes nodes.new i (residual_at task.now w.now env.old nodes.old incoming.formula)) }
+    ensures found { AreResidualsIn task.now w.now nodes.new (found_in residuals.new incoming.world) }
     ensures elsewhere { StaysElsewhere incoming.world residuals.old residuals.new }
-    ensures cause { IfErr result (IsCausedBy (looked_for_residual (plain_problem task.now.problem) w.now (assignment_in env.old) (tree_at (trees nodes.old) incoming.formula))) }
+    ensures cause { IfErr result (IsCausedBy (looked_for_residual_at task.now w.now env.old nodes.old incoming.formula)) }
     ensures frame { env.new ≡ env.old }
 {
     match temporal_residual(residuals.alloc, nodes, task, w, env, incoming.formula) {
@@ -141,13 +134,13 @@ pub(crate) fn kept_residual(
     incoming: Incoming,
 ) -> Result<usize, ProgressFault>
     requires at { incoming.formula < length (trees nodes.old) }
-    requires sentence { IsSentence (signature_of task.now.problem.domain) (tree_at (trees nodes.old) incoming.formula) }
-    requires found { AreResiduals (plain_problem task.now.problem) w.now (trees nodes.old) (found_in residuals.old incoming.world) }
+    requires sentence { IsSentenceIn task.now (tree_in nodes.old incoming.formula) }
+    requires found { AreResidualsIn task.now w.now nodes.old (found_in residuals.old incoming.world) }
     ensures kept { Keeps (trees nodes.old) (trees nodes.new) }
-    ensures number { IfOk result (λ i. Denotes nodes.new i (residual (plain_problem task.now.problem) w.now (assignment_in env.old) (tree_at (trees nodes.old) incoming.formula))) }
-    ensures found { AreResiduals (plain_problem task.now.problem) w.now (trees nodes.new) (found_in residuals.new incoming.world) }
+    ensures number { IfOk result (λ i. Denotes nodes.new i (residual_at task.now w.now env.old nodes.old incoming.formula)) }
+    ensures found { AreResidualsIn task.now w.now nodes.new (found_in residuals.new incoming.world) }
     ensures elsewhere { StaysElsewhere incoming.world residuals.old residuals.new }
-    ensures cause { IfErr result (IsCausedBy (looked_for_residual (plain_problem task.now.problem) w.now (assignment_in env.old) (tree_at (trees nodes.old) incoming.formula))) }
+    ensures cause { IfErr result (IsCausedBy (looked_for_residual_at task.now w.now env.old nodes.old incoming.formula)) }
     ensures frame { env.new ≡ env.old }
 {
     match residuals.find(incoming) {
@@ -167,14 +160,14 @@ fn parts_residual(
     parts: &[usize],
 ) -> Result<usize, ProgressFault>
     requires at { joined.at < length (trees nodes.old) }
-    requires sentence { IsSentence (signature_of task.now.problem.domain) (tree_at (trees nodes.old) joined.at) }
+    requires sentence { IsSentenceIn task.now (tree_in nodes.old joined.at) }
     requires below { Each (IsBelow false (trees nodes.old) joined.at) parts.now }
-    requires found { AreResiduals (plain_problem task.now.problem) w.now (trees nodes.old) (found_in residuals.old joined.world) }
+    requires found { AreResidualsIn task.now w.now nodes.old (found_in residuals.old joined.world) }
     ensures kept { Keeps (trees nodes.old) (trees nodes.new) }
-    ensures number { IfOk result (λ i. Denotes nodes.new i (simplified_join joined.junction (map (residual (plain_problem task.now.problem) w.now (assignment_in env.old)) (trees_at (trees nodes.old) parts.now)))) }
-    ensures found { AreResiduals (plain_problem task.now.problem) w.now (trees nodes.new) (found_in residuals.new joined.world) }
+    ensures number { IfOk result (λ i. Denotes nodes.new i (join_of_residuals task.now w.now env.old nodes.old joined parts.now)) }
+    ensures found { AreResidualsIn task.now w.now nodes.new (found_in residuals.new joined.world) }
     ensures elsewhere { StaysElsewhere joined.world residuals.old residuals.new }
-    ensures cause { IfErr result (IsCausedBy (looked_for_residual (plain_problem task.now.problem) w.now (assignment_in env.old) (tree_at (trees nodes.old) joined.at))) }
+    ensures cause { IfErr result (IsCausedBy (looked_for_residual_at task.now w.now env.old nodes.old joined.at)) }
     ensures frame { env.new ≡ env.old }
 {
     let mut answers = Vec::new(residuals.alloc);
@@ -207,14 +200,14 @@ pub(crate) fn joined_residual(
     joined: Joined,
 ) -> Result<usize, ProgressFault>
     requires at { joined.at < length (trees nodes.old) }
-    requires join { IsJoin joined.junction (tree_at (trees nodes.old) joined.at) }
-    requires sentence { IsSentence (signature_of task.now.problem.domain) (tree_at (trees nodes.old) joined.at) }
-    requires found { AreResiduals (plain_problem task.now.problem) w.now (trees nodes.old) (found_in residuals.old joined.world) }
+    requires join { IsJoin joined.junction (tree_in nodes.old joined.at) }
+    requires sentence { IsSentenceIn task.now (tree_in nodes.old joined.at) }
+    requires found { AreResidualsIn task.now w.now nodes.old (found_in residuals.old joined.world) }
     ensures kept { Keeps (trees nodes.old) (trees nodes.new) }
-    ensures number { IfOk result (λ i. Denotes nodes.new i (residual (plain_problem task.now.problem) w.now (assignment_in env.old) (tree_at (trees nodes.old) joined.at))) }
-    ensures found { AreResiduals (plain_problem task.now.problem) w.now (trees nodes.new) (found_in residuals.new joined.world) }
+    ensures number { IfOk result (λ i. Denotes nodes.new i (residual_at task.now w.now env.old nodes.old joined.at)) }
+    ensures found { AreResidualsIn task.now w.now nodes.new (found_in residuals.new joined.world) }
     ensures elsewhere { StaysElsewhere joined.world residuals.old residuals.new }
-    ensures cause { IfErr result (IsCausedBy (looked_for_residual (plain_problem task.now.problem) w.now (assignment_in env.old) (tree_at (trees nodes.old) joined.at))) }
+    ensures cause { IfErr result (IsCausedBy (looked_for_residual_at task.now w.now env.old nodes.old joined.at)) }
     ensures frame { env.new ≡ env.old }
 {
     match open_parts(residuals.alloc, nodes, task, w, env, joined) {

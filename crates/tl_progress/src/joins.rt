@@ -1,12 +1,11 @@
 // Joins of numbers.
-ghost use Rattle.std.specs.Prelude.{◌≡◌, ◌<◌, ◌++◌, ◌∷◌, List, true, length, IsTrue, IfOk, OnOk};
+ghost use Rattle.std.specs.Prelude.{◌≡◌, ◌<◌, true, length, IsTrue, IfOk, OnOk};
 ghost use Rattle.tl_nodes.specs.Fits.{all_below};
 ghost use Rattle.tl_nodes.specs.Joins.{simplified_join};
-ghost use Rattle.tl_nodes.specs.NodeTrees.{tree_at, trees_at};
 ghost use Rattle.tl_nodes.specs.Numbering.{Keeps};
-ghost use Rattle.tl_nodes.specs.Numbers.{trees, Denotes};
+ghost use Rattle.tl_nodes.specs.Numbers.{trees, Denotes, tree_in, trees_in};
+ghost use Rattle.tl_progress.specs.Parts.{Gathers};
 ghost use Rattle.tl_syntax.specs.Junctions.{deciding_truth};
-ghost use Rattle.tl_syntax.specs.Trees.{FormulaTree};
 ghost use Rattle.tl_terms.specs.Progression.{constant};
 
 use tl_nodes::{Node, Nodes};
@@ -24,7 +23,7 @@ pub(crate) fn constant_number(nodes: &Nodes, truth: bool) -> usize
 /// Whether the number's tree is the constant. It takes no memory.
 pub(crate) fn is_constant(nodes: &Nodes, id: usize, truth: bool) -> bool
     requires { id < length (trees nodes.now) }
-    ensures { IsTrue result → tree_at (trees nodes.now) id ≡ constant truth }
+    ensures { IsTrue result → tree_in nodes.now id ≡ constant truth }
 {
     match nodes.get(id) {
         Node::True => truth,
@@ -36,7 +35,7 @@ pub(crate) fn is_constant(nodes: &Nodes, id: usize, truth: bool) -> bool
 /// Whether the number's tree is the constant that decides a join. It takes no memory.
 pub(crate) fn decides(nodes: &Nodes, id: usize, junction: Junction) -> bool
     requires { id < length (trees nodes.now) }
-    ensures { IsTrue result → tree_at (trees nodes.now) id ≡ constant (deciding_truth junction) }
+    ensures { IsTrue result → tree_in nodes.now id ≡ constant (deciding_truth junction) }
 {
     is_constant(nodes, id, junction.deciding_truth())
 }
@@ -51,7 +50,7 @@ pub(crate) fn gather(
     requires parts { all_below (length (trees nodes.now)) parts.old.items ≡ true }
     requires part { part < length (trees nodes.now) }
     ensures below { OnOk result (all_below (length (trees nodes.now)) parts.new.items ≡ true) }
-    ensures same { OnOk result ((rest : List FormulaTree) → simplified_join junction (trees_at (trees nodes.now) parts.new.items ++ rest) ≡ simplified_join junction (trees_at (trees nodes.now) parts.old.items ++ tree_at (trees nodes.now) part ∷ rest)) }
+    ensures same { OnOk result (Gathers nodes.now junction parts.old.items part parts.new.items) }
 {
     if is_constant(nodes, part, !junction.deciding_truth()) {
         return Ok(());
@@ -68,7 +67,7 @@ pub(crate) fn join(
 ) -> Result<usize, NoMemory>
     requires { all_below (length (trees nodes.old)) parts.now ≡ true }
     ensures kept { Keeps (trees nodes.old) (trees nodes.new) }
-    ensures number { IfOk result (λ i. Denotes nodes.new i (simplified_join junction (trees_at (trees nodes.old) parts.now))) }
+    ensures number { IfOk result (λ i. Denotes nodes.new i (simplified_join junction (trees_in nodes.old parts.now))) }
 {
     match junction {
         Junction::All => nodes.and(parts),

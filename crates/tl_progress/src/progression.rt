@@ -1,23 +1,11 @@
 // Progression.
-ghost use Rattle.std.specs.Prelude.{◌≡◌, ◌↔◌, ◌<◌, ℕ, suc, length, IfOk, IfErr, OnOk};
-ghost use Rattle.tl_eval.specs.Frames.{assignment_in};
-ghost use Rattle.tl_nodes.specs.NodeTrees.{tree_at};
+ghost use Rattle.std.specs.Prelude.{◌≡◌, ◌<◌, length, IfOk, IfErr, OnOk};
 ghost use Rattle.tl_nodes.specs.Numbering.{Keeps};
-ghost use Rattle.tl_nodes.specs.Numbers.{trees, Denotes};
-ghost use Rattle.tl_progress.specs.Answers.{IsCausedBy, looked_for_residual, residual};
+ghost use Rattle.tl_nodes.specs.Numbers.{trees, Denotes, tree_in};
+ghost use Rattle.tl_progress.specs.Answers.{IsCausedBy};
+ghost use Rattle.tl_progress.specs.Calls.{IsSentenceIn, AreResidualsIn, IsRightIn, residual_at, looked_for_residual_at, progressed_at, looked_by_progressing_at, IsProgression, StaysNamed};
 ghost use Rattle.tl_progress.specs.KeptResiduals.{StaysElsewhere, found_in};
-ghost use Rattle.tl_progress.specs.Known.{AreResiduals, IsRight};
-ghost use Rattle.tl_progress.specs.Sentences.{IsSentence};
-ghost use Rattle.tl_syntax.specs.Assignment.{no_values};
-ghost use Rattle.tl_syntax.specs.Named.{IsNamed};
-ghost use Rattle.tl_syntax.specs.Signature.{signature_of};
 ghost use Rattle.tl_syntax.specs.StateFormulas.{IsState};
-ghost use Rattle.tl_terms.specs.Definitions.{situation_of};
-ghost use Rattle.tl_terms.specs.Looked.{looked_by_progressing};
-ghost use Rattle.tl_terms.specs.NamedWorlds.{WorldIsNamed};
-ghost use Rattle.tl_terms.specs.ProblemMeaning.{plain_problem};
-ghost use Rattle.tl_terms.specs.Progression.{progressed};
-ghost use Rattle.tl_terms.specs.Run.{Run, Satisfies, state_at};
 
 use crate::ProgressFault;
 use crate::early::early_residual;
@@ -47,11 +35,11 @@ fn learn(
     at: usize,
 ) -> Result<(), ProgressFault>
     requires at { at < length (trees nodes.old) }
-    requires sentence { IsSentence (signature_of task.now.problem.domain) (tree_at (trees nodes.old) at) }
-    requires known { IsRight (plain_problem task.now.problem) w.now (trees nodes.old) known.old }
+    requires sentence { IsSentenceIn task.now (tree_in nodes.old at) }
+    requires known { IsRightIn task.now w.now nodes.old known.old }
     ensures kept { Keeps (trees nodes.old) (trees nodes.new) }
-    ensures known { OnOk result (IsRight (plain_problem task.now.problem) w.now (trees nodes.new) known.new) }
-    ensures cause { IfErr result (IsCausedBy (looked_for_residual (plain_problem task.now.problem) w.now (assignment_in env.old) (tree_at (trees nodes.old) at))) }
+    ensures known { OnOk result (IsRightIn task.now w.now nodes.new known.new) }
+    ensures cause { IfErr result (IsCausedBy (looked_for_residual_at task.now w.now env.old nodes.old at)) }
     ensures frame { env.new ≡ env.old }
 {
     if nodes.temporal(at) {
@@ -83,10 +71,10 @@ fn ordered_residual(
     id: usize,
 ) -> Result<usize, ProgressFault>
     requires id { id < length (trees nodes.old) }
-    requires sentence { IsSentence (signature_of task.now.problem.domain) (tree_at (trees nodes.old) id) }
+    requires sentence { IsSentenceIn task.now (tree_in nodes.old id) }
     ensures kept { Keeps (trees nodes.old) (trees nodes.new) }
-    ensures number { IfOk result (λ i. Denotes nodes.new i (residual (plain_problem task.now.problem) w.now (assignment_in env.old) (tree_at (trees nodes.old) id))) }
-    ensures cause { IfErr result (IsCausedBy (looked_for_residual (plain_problem task.now.problem) w.now (assignment_in env.old) (tree_at (trees nodes.old) id))) }
+    ensures number { IfOk result (λ i. Denotes nodes.new i (residual_at task.now w.now env.old nodes.old id)) }
+    ensures cause { IfErr result (IsCausedBy (looked_for_residual_at task.now w.now env.old nodes.old id)) }
     ensures frame { env.new ≡ env.old }
 {
     let mut order = reached(alloc, nodes, id, false)?;
@@ -110,10 +98,10 @@ pub(crate) fn temporal_residual(
     id: usize,
 ) -> Result<usize, ProgressFault>
     requires id { id < length (trees nodes.old) }
-    requires sentence { IsSentence (signature_of task.now.problem.domain) (tree_at (trees nodes.old) id) }
+    requires sentence { IsSentenceIn task.now (tree_in nodes.old id) }
     ensures kept { Keeps (trees nodes.old) (trees nodes.new) }
-    ensures number { IfOk result (λ i. Denotes nodes.new i (residual (plain_problem task.now.problem) w.now (assignment_in env.old) (tree_at (trees nodes.old) id))) }
-    ensures cause { IfErr result (IsCausedBy (looked_for_residual (plain_problem task.now.problem) w.now (assignment_in env.old) (tree_at (trees nodes.old) id))) }
+    ensures number { IfOk result (λ i. Denotes nodes.new i (residual_at task.now w.now env.old nodes.old id)) }
+    ensures cause { IfErr result (IsCausedBy (looked_for_residual_at task.now w.now env.old nodes.old id)) }
     ensures frame { env.new ≡ env.old }
 {
     let nothing = Known::new(alloc);
@@ -134,13 +122,13 @@ fn found_residual(
     incoming: Incoming,
 ) -> Result<usize, ProgressFault>
     requires at { incoming.formula < length (trees nodes.old) }
-    requires sentence { IsSentence (signature_of task.now.problem.domain) (tree_at (trees nodes.old) incoming.formula) }
-    requires found { AreResiduals (plain_problem task.now.problem) w.now (trees nodes.old) (found_in residuals.old incoming.world) }
+    requires sentence { IsSentenceIn task.now (tree_in nodes.old incoming.formula) }
+    requires found { AreResidualsIn task.now w.now nodes.old (found_in residuals.old incoming.world) }
     ensures kept { Keeps (trees nodes.old) (trees nodes.new) }
-    ensures number { IfOk result (λ i. Denotes nodes.new i (residual (plain_problem task.now.problem) w.now (assignment_in env.old) (tree_at (trees nodes.old) incoming.formula))) }
-    ensures found { AreResiduals (plain_problem task.now.problem) w.now (trees nodes.new) (found_in residuals.new incoming.world) }
+    ensures number { IfOk result (λ i. Denotes nodes.new i (residual_at task.now w.now env.old nodes.old incoming.formula)) }
+    ensures found { AreResidualsIn task.now w.now nodes.new (found_in residuals.new incoming.world) }
     ensures elsewhere { StaysElsewhere incoming.world residuals.old residuals.new }
-    ensures cause { IfErr result (IsCausedBy (looked_for_residual (plain_problem task.now.problem) w.now (assignment_in env.old) (tree_at (trees nodes.old) incoming.formula))) }
+    ensures cause { IfErr result (IsCausedBy (looked_for_residual_at task.now w.now env.old nodes.old incoming.formula)) }
     ensures frame { env.new ≡ env.old }
 {
     match nodes.get(incoming.formula) {
@@ -174,15 +162,15 @@ fn sentence_residual(
     incoming: Incoming,
 ) -> Result<usize, ProgressFault>
     requires at { incoming.formula < length (trees nodes.old) }
-    requires sentence { IsSentence (signature_of task.now.problem.domain) (tree_at (trees nodes.old) incoming.formula) }
-    requires found { AreResiduals (plain_problem task.now.problem) w.now (trees nodes.old) (found_in residuals.old incoming.world) }
+    requires sentence { IsSentenceIn task.now (tree_in nodes.old incoming.formula) }
+    requires found { AreResidualsIn task.now w.now nodes.old (found_in residuals.old incoming.world) }
     ensures kept { Keeps (trees nodes.old) (trees nodes.new) }
-    ensures number { IfOk result (λ i. Denotes nodes.new i (residual (plain_problem task.now.problem) w.now (assignment_in env.old) (tree_at (trees nodes.old) incoming.formula))) }
-    ensures found { AreResiduals (plain_problem task.now.problem) w.now (trees nodes.new) (found_in residuals.new incoming.world) }
+    ensures number { IfOk result (λ i. Denotes nodes.new i (residual_at task.now w.now env.old nodes.old incoming.formula)) }
+    ensures found { AreResidualsIn task.now w.now nodes.new (found_in residuals.new incoming.world) }
     ensures elsewhere { StaysElsewhere incoming.world residuals.old residuals.new }
-    ensures same { IsState (tree_at (trees nodes.old) incoming.formula) → trees nodes.new ≡ trees nodes.old }
-    ensures constant { IsState (tree_at (trees nodes.old) incoming.formula) → IfOk result (λ i. i < 2) }
-    ensures cause { IfErr result (IsCausedBy (looked_for_residual (plain_problem task.now.problem) w.now (assignment_in env.old) (tree_at (trees nodes.old) incoming.formula))) }
+    ensures same { IsState (tree_in nodes.old incoming.formula) → trees nodes.new ≡ trees nodes.old }
+    ensures constant { IsState (tree_in nodes.old incoming.formula) → IfOk result (λ i. i < 2) }
+    ensures cause { IfErr result (IsCausedBy (looked_for_residual_at task.now w.now env.old nodes.old incoming.formula)) }
     ensures frame { env.new ≡ env.old }
 {
     if nodes.temporal(incoming.formula) {
@@ -209,18 +197,18 @@ pub fn progress_kept(
     incoming: Incoming,
 ) -> Result<usize, ProgressFault>
     requires at { incoming.formula < length (trees nodes.old) }
-    requires sentence { IsSentence (signature_of task.now.problem.domain) (tree_at (trees nodes.old) incoming.formula) }
-    requires found { AreResiduals (plain_problem task.now.problem) w.now (trees nodes.old) (found_in residuals.old incoming.world) }
-    ensures number { IfOk result (λ n. Denotes nodes.new n (progressed (situation_of (plain_problem task.now.problem) w.now) no_values (tree_at (trees nodes.old) incoming.formula))) }
-    ensures lemma { IfOk result (λ n. (r : Run) (k : ℕ) → state_at r k ≡ w.now → Satisfies (plain_problem task.now.problem) r k (tree_at (trees nodes.old) incoming.formula) ↔ Satisfies (plain_problem task.now.problem) r (suc k) (tree_at (trees nodes.new) n)) }
-    ensures sentence { IfOk result (λ n. IsSentence (signature_of task.now.problem.domain) (tree_at (trees nodes.new) n)) }
-    ensures named { IfOk result (λ n. WorldIsNamed (length task.now.problem.names) w.now → IsNamed (length task.now.problem.names) (tree_at (trees nodes.old) incoming.formula) → IsNamed (length task.now.problem.names) (tree_at (trees nodes.new) n)) }
+    requires sentence { IsSentenceIn task.now (tree_in nodes.old incoming.formula) }
+    requires found { AreResidualsIn task.now w.now nodes.old (found_in residuals.old incoming.world) }
+    ensures number { IfOk result (λ n. Denotes nodes.new n (progressed_at task.now w.now nodes.old incoming.formula)) }
+    ensures lemma { IfOk result (λ n. IsProgression task.now w.now nodes.old incoming.formula nodes.new n) }
+    ensures sentence { IfOk result (λ n. IsSentenceIn task.now (tree_in nodes.new n)) }
+    ensures named { IfOk result (λ n. StaysNamed task.now w.now nodes.old incoming.formula nodes.new n) }
     ensures kept { Keeps (trees nodes.old) (trees nodes.new) }
-    ensures found { AreResiduals (plain_problem task.now.problem) w.now (trees nodes.new) (found_in residuals.new incoming.world) }
+    ensures found { AreResidualsIn task.now w.now nodes.new (found_in residuals.new incoming.world) }
     ensures elsewhere { StaysElsewhere incoming.world residuals.old residuals.new }
-    ensures same { IsState (tree_at (trees nodes.old) incoming.formula) → trees nodes.new ≡ trees nodes.old }
-    ensures constant { IsState (tree_at (trees nodes.old) incoming.formula) → IfOk result (λ n. n < 2) }
-    ensures cause { IfErr result (IsCausedBy (looked_by_progressing (plain_problem task.now.problem) w.now (tree_at (trees nodes.old) incoming.formula))) }
+    ensures same { IsState (tree_in nodes.old incoming.formula) → trees nodes.new ≡ trees nodes.old }
+    ensures constant { IsState (tree_in nodes.old incoming.formula) → IfOk result (λ n. n < 2) }
+    ensures cause { IfErr result (IsCausedBy (looked_by_progressing_at task.now w.now nodes.old incoming.formula)) }
     ensures frame { env.new ≡ env.old }
 {
     let frame = env.saved();
@@ -241,15 +229,15 @@ pub fn progress(
     id: usize,
 ) -> Result<usize, ProgressFault>
     requires id { id < length (trees nodes.old) }
-    requires sentence { IsSentence (signature_of task.now.problem.domain) (tree_at (trees nodes.old) id) }
-    ensures number { IfOk result (λ n. Denotes nodes.new n (progressed (situation_of (plain_problem task.now.problem) w.now) no_values (tree_at (trees nodes.old) id))) }
-    ensures lemma { IfOk result (λ n. (r : Run) (k : ℕ) → state_at r k ≡ w.now → Satisfies (plain_problem task.now.problem) r k (tree_at (trees nodes.old) id) ↔ Satisfies (plain_problem task.now.problem) r (suc k) (tree_at (trees nodes.new) n)) }
-    ensures sentence { IfOk result (λ n. IsSentence (signature_of task.now.problem.domain) (tree_at (trees nodes.new) n)) }
-    ensures named { IfOk result (λ n. WorldIsNamed (length task.now.problem.names) w.now → IsNamed (length task.now.problem.names) (tree_at (trees nodes.old) id) → IsNamed (length task.now.problem.names) (tree_at (trees nodes.new) n)) }
+    requires sentence { IsSentenceIn task.now (tree_in nodes.old id) }
+    ensures number { IfOk result (λ n. Denotes nodes.new n (progressed_at task.now w.now nodes.old id)) }
+    ensures lemma { IfOk result (λ n. IsProgression task.now w.now nodes.old id nodes.new n) }
+    ensures sentence { IfOk result (λ n. IsSentenceIn task.now (tree_in nodes.new n)) }
+    ensures named { IfOk result (λ n. StaysNamed task.now w.now nodes.old id nodes.new n) }
     ensures kept { Keeps (trees nodes.old) (trees nodes.new) }
-    ensures same { IsState (tree_at (trees nodes.old) id) → trees nodes.new ≡ trees nodes.old }
-    ensures constant { IsState (tree_at (trees nodes.old) id) → IfOk result (λ n. n < 2) }
-    ensures cause { IfErr result (IsCausedBy (looked_by_progressing (plain_problem task.now.problem) w.now (tree_at (trees nodes.old) id))) }
+    ensures same { IsState (tree_in nodes.old id) → trees nodes.new ≡ trees nodes.old }
+    ensures constant { IsState (tree_in nodes.old id) → IfOk result (λ n. n < 2) }
+    ensures cause { IfErr result (IsCausedBy (looked_by_progressing_at task.now w.now nodes.old id)) }
     ensures frame { env.new ≡ env.old }
 {
     let mut nothing = Residuals::new(alloc);

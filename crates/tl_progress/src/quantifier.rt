@@ -1,16 +1,10 @@
 // A quantifier that stands in a node, and its instances, one after another.
-ghost use Rattle.std.specs.Prelude.{◌≡◌, ◌<◌, ◌≤◌, List, Option, length, None};
-ghost use Rattle.tl_eval.specs.Frames.{assignment_in, AgreeElsewhere, AreKept};
-ghost use Rattle.tl_eval.specs.Reader.{Reads};
-ghost use Rattle.tl_nodes.specs.NodeTrees.{tree_at};
-ghost use Rattle.tl_nodes.specs.Numbers.{trees};
-ghost use Rattle.tl_progress.specs.Quantifiers.{HasStepped, IsReader, Stands, node_bound, node_vars};
-ghost use Rattle.tl_progress.specs.Sentences.{FitsSomewhere};
-ghost use Rattle.tl_syntax.specs.declared.value.Value.{Value as OneValue};
+ghost use Rattle.std.specs.Prelude.{◌≡◌, ◌<◌, ◌≤◌, length, None};
+ghost use Rattle.tl_eval.specs.Frames.{AreKept};
+ghost use Rattle.tl_nodes.specs.Numbers.{trees, tree_in};
+ghost use Rattle.tl_progress.specs.Calls.{FitsIn};
+ghost use Rattle.tl_progress.specs.Quantifiers.{IsReader, Stands, vars_at, bound_at, ReadsAt, HasSteppedIn, HasSteppedAt, GivesBack};
 ghost use Rattle.tl_syntax.specs.Lists.{Each};
-ghost use Rattle.tl_syntax.specs.Signature.{signature_of};
-ghost use Rattle.tl_terms.specs.Definitions.{situation_of};
-ghost use Rattle.tl_terms.specs.ProblemMeaning.{plain_problem};
 
 use tl_eval::{Env, TupleReader};
 use tl_nodes::{Node, Nodes};
@@ -28,7 +22,7 @@ pub(crate) fn put_instance(
 ) -> bool
     requires slots { Each (λ s. s.slot < 32) vars.now }
     requires reads { IsReader vars.now bound.now tuples.old }
-    ensures { HasStepped (situation_of (plain_problem task.now.problem) w.now) vars.now bound.now tuples.old tuples.new env.old env.new result }
+    ensures { HasSteppedIn task.now w.now vars.now bound.now tuples.old tuples.new env.old env.new result }
 {
     if !tuples.next(task, w, bound) {
         return false;
@@ -53,10 +47,10 @@ impl Quantifier {
     pub fn open(self, nodes: &Nodes, task: &Task, env: &Env) -> TupleReader
         requires at { self.at < length (trees nodes.now) }
         requires stands { Stands (trees nodes.now) self }
-        requires fits { FitsSomewhere (signature_of task.now.problem.domain) (tree_at (trees nodes.now) self.at) }
-        ensures reads { Reads (node_vars (trees nodes.now) self) (assignment_in env.now) (node_bound (trees nodes.now) self) result }
+        requires fits { FitsIn task.now (tree_in nodes.now self.at) }
+        ensures reads { ReadsAt nodes.now self env.now result }
         ensures before { result.tuple ≡ None }
-        ensures few { length (node_vars (trees nodes.now) self) ≤ 9 }
+        ensures few { length (vars_at nodes.now self) ≤ 9 }
     {
         match nodes.get(self.at) {
             Node::ForAll(vars, bound, _) => TupleReader::open(task, env, vars, bound),
@@ -69,8 +63,8 @@ impl Quantifier {
     pub fn kept(self, nodes: &Nodes, env: &Env) -> [Option<Value>; 9]
         requires at { self.at < length (trees nodes.now) }
         requires stands { Stands (trees nodes.now) self }
-        requires few { length (node_vars (trees nodes.now) self) ≤ 9 }
-        ensures { AreKept (node_vars (trees nodes.now) self) env.now result }
+        requires few { length (vars_at nodes.now self) ≤ 9 }
+        ensures { AreKept (vars_at nodes.now self) env.now result }
     {
         match nodes.get(self.at) {
             Node::ForAll(vars, _, _) => env.kept(vars.as_slice()),
@@ -90,9 +84,9 @@ impl Quantifier {
     ) -> bool
         requires at { self.at < length (trees nodes.now) }
         requires stands { Stands (trees nodes.now) self }
-        requires slots { Each (λ s. s.slot < 32) (node_vars (trees nodes.now) self) }
-        requires reads { IsReader (node_vars (trees nodes.now) self) (node_bound (trees nodes.now) self) tuples.old }
-        ensures { HasStepped (situation_of (plain_problem task.now.problem) w.now) (node_vars (trees nodes.now) self) (node_bound (trees nodes.now) self) tuples.old tuples.new env.old env.new result }
+        requires slots { Each (λ s. s.slot < 32) (vars_at nodes.now self) }
+        requires reads { IsReader (vars_at nodes.now self) (bound_at nodes.now self) tuples.old }
+        ensures { HasSteppedAt task.now w.now nodes.now self tuples.old tuples.new env.old env.new result }
     {
         match nodes.get(self.at) {
             Node::ForAll(vars, bound, _) => put_instance(task, w, env, vars, bound, tuples),
@@ -105,9 +99,9 @@ impl Quantifier {
     pub fn give_back(self, nodes: &Nodes, env: &mut Env, outer: &[Option<Value>; 9])
         requires at { self.at < length (trees nodes.now) }
         requires stands { Stands (trees nodes.now) self }
-        requires slots { Each (λ s. s.slot < 32) (node_vars (trees nodes.now) self) }
-        requires few { length (node_vars (trees nodes.now) self) ≤ 9 }
-        ensures { (frame : List (Option OneValue)) → AreKept (node_vars (trees nodes.now) self) frame outer.now → AgreeElsewhere (node_vars (trees nodes.now) self) (assignment_in env.old) (assignment_in frame) → env.new ≡ frame }
+        requires slots { Each (λ s. s.slot < 32) (vars_at nodes.now self) }
+        requires few { length (vars_at nodes.now self) ≤ 9 }
+        ensures { GivesBack (vars_at nodes.now self) outer.now env.old env.new }
     {
         match nodes.get(self.at) {
             Node::ForAll(vars, _, _) => env.give_back(vars.as_slice(), outer),

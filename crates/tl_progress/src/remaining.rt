@@ -1,14 +1,9 @@
 // What remains of a formula for the positions that follow.
-ghost use Rattle.std.specs.Prelude.{◌≡◌, ◌<◌, ◌∷◌, [], length, IfOk};
-ghost use Rattle.tl_eval.specs.Frames.{assignment_in};
-ghost use Rattle.tl_nodes.specs.Joins.{simplified_join};
-ghost use Rattle.tl_nodes.specs.NodeTrees.{tree_at};
+ghost use Rattle.std.specs.Prelude.{◌≡◌, ◌<◌, length, IfOk};
 ghost use Rattle.tl_nodes.specs.Numbering.{Keeps};
-ghost use Rattle.tl_nodes.specs.Numbers.{trees, Denotes};
-ghost use Rattle.tl_progress.specs.Steps.{step_node, steps_left};
-ghost use Rattle.tl_syntax.specs.Bindings.{assignment_of};
-ghost use Rattle.tl_syntax.specs.declared.junction.Junction.TheVariants.{All, Any};
-ghost use Rattle.tl_syntax.specs.Substitution.{substituted};
+ghost use Rattle.tl_nodes.specs.Numbers.{trees, Denotes, filled_at};
+ghost use Rattle.tl_progress.specs.Remaining.{remaining_at, with_remaining, until_remaining, steps_left_at};
+ghost use Rattle.tl_progress.specs.Steps.{step_node};
 
 use crate::frames::frame_bindings;
 use crate::joins::{decides, join};
@@ -27,7 +22,7 @@ fn put_in_anew(
 ) -> Result<usize, NoMemory>
     requires { at < length (trees nodes.old) }
     ensures kept { Keeps (trees nodes.old) (trees nodes.new) }
-    ensures number { IfOk result (λ i. Denotes nodes.new i (substituted (assignment_of bindings.now) (tree_at (trees nodes.old) at))) }
+    ensures number { IfOk result (λ i. Denotes nodes.new i (filled_at nodes.old bindings.now at)) }
 {
     let number = put_in(alloc, nodes, bindings, at)?;
     nodes.keep_filled(at, bindings, number);
@@ -43,7 +38,7 @@ pub(crate) fn remaining(
 ) -> Result<usize, NoMemory>
     requires { at < length (trees nodes.old) }
     ensures kept { Keeps (trees nodes.old) (trees nodes.new) }
-    ensures number { IfOk result (λ i. Denotes nodes.new i (substituted (assignment_in env.now) (tree_at (trees nodes.old) at))) }
+    ensures number { IfOk result (λ i. Denotes nodes.new i (remaining_at nodes.old env.now at)) }
 {
     let bindings = frame_bindings(alloc, env)?;
     if bindings.is_empty() {
@@ -68,7 +63,7 @@ pub(crate) fn with_remaining(
     requires part { part < length (trees nodes.old) }
     requires at { at < length (trees nodes.old) }
     ensures kept { Keeps (trees nodes.old) (trees nodes.new) }
-    ensures number { IfOk result (λ i. Denotes nodes.new i (simplified_join junction (tree_at (trees nodes.old) part ∷ substituted (assignment_in env.now) (tree_at (trees nodes.old) at) ∷ []))) }
+    ensures number { IfOk result (λ i. Denotes nodes.new i (with_remaining nodes.old env.now junction part at)) }
 {
     if decides(nodes, part, junction) {
         return Ok(part);
@@ -90,7 +85,7 @@ pub(crate) fn until_remaining(
     requires first { first < length (trees nodes.old) }
     requires at { at < length (trees nodes.old) }
     ensures kept { Keeps (trees nodes.old) (trees nodes.new) }
-    ensures number { IfOk result (λ i. Denotes nodes.new i (simplified_join Any (tree_at (trees nodes.old) second ∷ simplified_join All (tree_at (trees nodes.old) first ∷ substituted (assignment_in env.now) (tree_at (trees nodes.old) at) ∷ []) ∷ []))) }
+    ensures number { IfOk result (λ i. Denotes nodes.new i (until_remaining nodes.old env.now second first at)) }
 {
     let both = with_remaining(alloc, nodes, env, first, at, Junction::All)?;
     join(nodes, &[second, both], Junction::Any)
@@ -119,7 +114,7 @@ pub(crate) fn with_fewer_steps(
     requires answer { answer < length (trees nodes.old) }
     requires part { part < length (trees nodes.old) }
     ensures kept { Keeps (trees nodes.old) (trees nodes.new) }
-    ensures number { IfOk result (λ i. Denotes nodes.new i (steps_left junction (assignment_in env.now) steps (tree_at (trees nodes.old) answer) (tree_at (trees nodes.old) part))) }
+    ensures number { IfOk result (λ i. Denotes nodes.new i (steps_left_at nodes.old env.now junction steps answer part)) }
 {
     if steps == 0 {
         return Ok(answer);

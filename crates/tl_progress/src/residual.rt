@@ -2,18 +2,13 @@
 ghost use Rattle.std.specs.Prelude.{◌≡◌, ◌<◌, length, None, IfOk, IfErr, nat_eq};
 ghost use Rattle.indexmap.specs.IndexMap.{get};
 ghost use Rattle.tl_eval.specs.Frames.{assignment_in, AgreeElsewhere};
-ghost use Rattle.tl_eval.specs.Reader.{Reads};
-ghost use Rattle.tl_nodes.specs.NodeTrees.{tree_at};
 ghost use Rattle.tl_nodes.specs.Numbering.{Keeps};
-ghost use Rattle.tl_nodes.specs.Numbers.{trees, Denotes};
-ghost use Rattle.tl_progress.specs.Answers.{IsCausedBy, looked_for_residual, residual};
-ghost use Rattle.tl_progress.specs.Known.{AreTruths, IsRight};
+ghost use Rattle.tl_nodes.specs.Numbers.{trees, Denotes, tree_in};
+ghost use Rattle.tl_progress.specs.Answers.{IsCausedBy};
+ghost use Rattle.tl_progress.specs.Calls.{FitsIn, AreTruthsIn, IsRightIn, residual_at, looked_for_residual_at};
 ghost use Rattle.tl_progress.specs.Parts.{IsJoin};
-ghost use Rattle.tl_progress.specs.Quantifiers.{Stands, node_bound, node_vars};
-ghost use Rattle.tl_progress.specs.Sentences.{FitsSomewhere};
-ghost use Rattle.tl_syntax.specs.Signature.{signature_of};
+ghost use Rattle.tl_progress.specs.Quantifiers.{Stands, vars_at, ReadsAt};
 ghost use Rattle.tl_syntax.specs.StateFormulas.{IsState};
-ghost use Rattle.tl_terms.specs.ProblemMeaning.{plain_problem};
 
 use crate::ProgressFault;
 use crate::joins::{constant_number, decides, gather, join};
@@ -39,12 +34,12 @@ pub(crate) fn state_residual(
     at: usize,
 ) -> Result<usize, ProgressFault>
     requires at { at < length (trees nodes.now) }
-    requires fits { FitsSomewhere (signature_of task.now.problem.domain) (tree_at (trees nodes.now) at) }
-    requires state { IsState (tree_at (trees nodes.now) at) }
-    requires known { AreTruths (plain_problem task.now.problem) w.now (trees nodes.now) (get nat_eq known.now) }
-    ensures number { IfOk result (λ i. Denotes nodes.now i (residual (plain_problem task.now.problem) w.now (assignment_in env.old) (tree_at (trees nodes.now) at))) }
+    requires fits { FitsIn task.now (tree_in nodes.now at) }
+    requires state { IsState (tree_in nodes.now at) }
+    requires known { AreTruthsIn task.now w.now nodes.now (get nat_eq known.now) }
+    ensures number { IfOk result (λ i. Denotes nodes.now i (residual_at task.now w.now env.old nodes.now at)) }
     ensures constant { IfOk result (λ i. i < 2) }
-    ensures cause { IfErr result (IsCausedBy (looked_for_residual (plain_problem task.now.problem) w.now (assignment_in env.old) (tree_at (trees nodes.now) at))) }
+    ensures cause { IfErr result (IsCausedBy (looked_for_residual_at task.now w.now env.old nodes.now at)) }
     ensures frame { env.new ≡ env.old }
 {
     match truth_of(nodes, task, w, env, known, at) {
@@ -65,11 +60,11 @@ pub(crate) fn residual_of(
     at: usize,
 ) -> Result<usize, ProgressFault>
     requires at { at < length (trees nodes.old) }
-    requires fits { FitsSomewhere (signature_of task.now.problem.domain) (tree_at (trees nodes.old) at) }
-    requires known { IsRight (plain_problem task.now.problem) w.now (trees nodes.old) known.now }
+    requires fits { FitsIn task.now (tree_in nodes.old at) }
+    requires known { IsRightIn task.now w.now nodes.old known.now }
     ensures kept { Keeps (trees nodes.old) (trees nodes.new) }
-    ensures number { IfOk result (λ i. Denotes nodes.new i (residual (plain_problem task.now.problem) w.now (assignment_in env.old) (tree_at (trees nodes.old) at))) }
-    ensures cause { IfErr result (IsCausedBy (looked_for_residual (plain_problem task.now.problem) w.now (assignment_in env.old) (tree_at (trees nodes.old) at))) }
+    ensures number { IfOk result (λ i. Denotes nodes.new i (residual_at task.now w.now env.old nodes.old at)) }
+    ensures cause { IfErr result (IsCausedBy (looked_for_residual_at task.now w.now env.old nodes.old at)) }
     ensures frame { env.new ≡ env.old }
 {
     if !nodes.temporal(at) {
@@ -96,11 +91,11 @@ fn layer_residual(
     at: usize,
 ) -> Result<usize, ProgressFault>
     requires at { at < length (trees nodes.old) }
-    requires fits { FitsSomewhere (signature_of task.now.problem.domain) (tree_at (trees nodes.old) at) }
-    requires known { IsRight (plain_problem task.now.problem) w.now (trees nodes.old) known.now }
+    requires fits { FitsIn task.now (tree_in nodes.old at) }
+    requires known { IsRightIn task.now w.now nodes.old known.now }
     ensures kept { Keeps (trees nodes.old) (trees nodes.new) }
-    ensures number { IfOk result (λ i. Denotes nodes.new i (residual (plain_problem task.now.problem) w.now (assignment_in env.old) (tree_at (trees nodes.old) at))) }
-    ensures cause { IfErr result (IsCausedBy (looked_for_residual (plain_problem task.now.problem) w.now (assignment_in env.old) (tree_at (trees nodes.old) at))) }
+    ensures number { IfOk result (λ i. Denotes nodes.new i (residual_at task.now w.now env.old nodes.old at)) }
+    ensures cause { IfErr result (IsCausedBy (looked_for_residual_at task.now w.now env.old nodes.old at)) }
     ensures frame { env.new ≡ env.old }
 {
     match nodes.get(at) {
@@ -189,12 +184,12 @@ fn join_residual(
     junction: Junction,
 ) -> Result<usize, ProgressFault>
     requires at { at < length (trees nodes.old) }
-    requires join { IsJoin junction (tree_at (trees nodes.old) at) }
-    requires fits { FitsSomewhere (signature_of task.now.problem.domain) (tree_at (trees nodes.old) at) }
-    requires known { IsRight (plain_problem task.now.problem) w.now (trees nodes.old) known.now }
+    requires join { IsJoin junction (tree_in nodes.old at) }
+    requires fits { FitsIn task.now (tree_in nodes.old at) }
+    requires known { IsRightIn task.now w.now nodes.old known.now }
     ensures kept { Keeps (trees nodes.old) (trees nodes.new) }
-    ensures number { IfOk result (λ i. Denotes nodes.new i (residual (plain_problem task.now.problem) w.now (assignment_in env.old) (tree_at (trees nodes.old) at))) }
-    ensures cause { IfErr result (IsCausedBy (looked_for_residual (plain_problem task.now.problem) w.now (assignment_in env.old) (tree_at (trees nodes.old) at))) }
+    ensures number { IfOk result (λ i. Denotes nodes.new i (residual_at task.now w.now env.old nodes.old at)) }
+    ensures cause { IfErr result (IsCausedBy (looked_for_residual_at task.now w.now env.old nodes.old at)) }
     ensures frame { env.new ≡ env.old }
 {
     let mut answers = Vec::new(alloc);
@@ -227,10 +222,10 @@ fn quantifier_residual(
     requires at { quantifier.at < length (trees nodes.old) }
     requires part { quantifier.part < length (trees nodes.old) }
     requires stands { Stands (trees nodes.old) quantifier }
-    requires fits { FitsSomewhere (signature_of task.now.problem.domain) (tree_at (trees nodes.old) quantifier.at) }
+    requires fits { FitsIn task.now (tree_in nodes.old quantifier.at) }
     ensures kept { Keeps (trees nodes.old) (trees nodes.new) }
-    ensures number { IfOk result (λ i. Denotes nodes.new i (residual (plain_problem task.now.problem) w.now (assignment_in env.old) (tree_at (trees nodes.old) quantifier.at))) }
-    ensures cause { IfErr result (IsCausedBy (looked_for_residual (plain_problem task.now.problem) w.now (assignment_in env.old) (tree_at (trees nodes.old) quantifier.at))) }
+    ensures number { IfOk result (λ i. Denotes nodes.new i (residual_at task.now w.now env.old nodes.old quantifier.at)) }
+    ensures cause { IfErr result (IsCausedBy (looked_for_residual_at task.now w.now env.old nodes.old quantifier.at)) }
     ensures frame { env.new ≡ env.old }
 {
     let mut tuples = quantifier.open(nodes, task, env);
@@ -256,14 +251,14 @@ fn instances_residual(
     requires at { quantifier.at < length (trees nodes.old) }
     requires part { quantifier.part < length (trees nodes.old) }
     requires stands { Stands (trees nodes.old) quantifier }
-    requires fits { FitsSomewhere (signature_of task.now.problem.domain) (tree_at (trees nodes.old) quantifier.at) }
-    requires known { IsRight (plain_problem task.now.problem) w.now (trees nodes.old) known.now }
-    requires reads { Reads (node_vars (trees nodes.old) quantifier) (assignment_in env.old) (node_bound (trees nodes.old) quantifier) tuples.old }
+    requires fits { FitsIn task.now (tree_in nodes.old quantifier.at) }
+    requires known { IsRightIn task.now w.now nodes.old known.now }
+    requires reads { ReadsAt nodes.old quantifier env.old tuples.old }
     requires before { tuples.old.tuple ≡ None }
     ensures kept { Keeps (trees nodes.old) (trees nodes.new) }
-    ensures number { IfOk result (λ i. Denotes nodes.new i (residual (plain_problem task.now.problem) w.now (assignment_in env.old) (tree_at (trees nodes.old) quantifier.at))) }
-    ensures cause { IfErr result (IsCausedBy (looked_for_residual (plain_problem task.now.problem) w.now (assignment_in env.old) (tree_at (trees nodes.old) quantifier.at))) }
-    ensures others { AgreeElsewhere (node_vars (trees nodes.old) quantifier) (assignment_in env.new) (assignment_in env.old) }
+    ensures number { IfOk result (λ i. Denotes nodes.new i (residual_at task.now w.now env.old nodes.old quantifier.at)) }
+    ensures cause { IfErr result (IsCausedBy (looked_for_residual_at task.now w.now env.old nodes.old quantifier.at)) }
+    ensures others { AgreeElsewhere (vars_at nodes.old quantifier) (assignment_in env.new) (assignment_in env.old) }
 {
     let mut answers = Vec::new(alloc);
     'tuples: while quantifier.put_next(nodes, task, w, env, tuples) {

@@ -1,6 +1,6 @@
 // What is kept of worlds between calls of progression.
-ghost use Rattle.std.specs.Prelude.{◌≡◌, ℕ, cond, nat_eq, Some, None, OnOk, OnErr};
-ghost use Rattle.tl_progress.specs.KeptResiduals.{found_in, StaysElsewhere};
+ghost use Rattle.std.specs.Prelude.{◌≡◌, ℕ, None, OnOk, OnErr};
+ghost use Rattle.tl_progress.specs.KeptResiduals.{found_in, StaysElsewhere, KeepsNumber, StaysThere};
 
 use indexmap::IndexMap;
 use std::alloc::Global;
@@ -47,8 +47,8 @@ impl Residuals {
 
     /// Keeps a number.
     pub(crate) fn keep(&mut self, incoming: Incoming, number: usize) -> Result<(), NoMemory>
-        ensures kept { OnOk result ((k : ℕ) → found_in self.new incoming.world k ≡ cond (nat_eq incoming.formula k) (Some number) (found_in self.old incoming.world k)) }
-        ensures refused { OnErr result ((k : ℕ) → found_in self.new incoming.world k ≡ found_in self.old incoming.world k) }
+        ensures kept { OnOk result (KeepsNumber self.old self.new incoming number) }
+        ensures refused { OnErr result (StaysThere incoming.world self.old self.new) }
         ensures elsewhere { StaysElsewhere incoming.world self.old self.new }
     {
         match self.table.insert(incoming, number) {

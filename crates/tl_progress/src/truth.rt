@@ -4,20 +4,11 @@ ghost use Rattle.indexmap.specs.IndexMap.{get};
 ghost use Rattle.tl_eval.specs.Frames.{assignment_in, AgreeElsewhere};
 ghost use Rattle.tl_eval.specs.Reader.{Reads};
 ghost use Rattle.tl_nodes.specs.Fits.{all_below};
-ghost use Rattle.tl_nodes.specs.Joins.{join_node};
-ghost use Rattle.tl_nodes.specs.NodeTrees.{tree_at, tree_of_node};
-ghost use Rattle.tl_nodes.specs.Numbers.{trees};
-ghost use Rattle.tl_progress.specs.Answers.{IsCausedBy, looked_idly, idly_true};
-ghost use Rattle.tl_progress.specs.Known.{AreTruths};
-ghost use Rattle.tl_progress.specs.Sentences.{FitsSomewhere};
+ghost use Rattle.tl_nodes.specs.Numbers.{trees, tree_in};
+ghost use Rattle.tl_progress.specs.Answers.{IsCausedBy};
+ghost use Rattle.tl_progress.specs.Calls.{FitsIn, AreTruthsIn, state_true_in, looked_in_world, idly_true_at, looked_idly_at, join_at, idly_true_join, looked_idly_join, quantified_at, idly_true_over, looked_idly_over};
 ghost use Rattle.tl_syntax.specs.Basic.{is_basic};
-ghost use Rattle.tl_syntax.specs.Junctions.{quantified};
-ghost use Rattle.tl_syntax.specs.Signature.{signature_of};
 ghost use Rattle.tl_syntax.specs.TreeOfFormula.{tree_of_formula};
-ghost use Rattle.tl_terms.specs.Definitions.{situation_of};
-ghost use Rattle.tl_terms.specs.Looked.{looked_in_state, looks_of};
-ghost use Rattle.tl_terms.specs.ProblemMeaning.{plain_problem};
-ghost use Rattle.tl_terms.specs.Truth.{state_true};
 
 use crate::ProgressFault;
 use crate::quantifier::put_instance;
@@ -29,10 +20,10 @@ use tl_world::{Task, World};
 
 // The truth of a basic formula.
 fn basic_truth(task: &Task, w: &World, env: &mut Env, f: &Formula) -> Result<bool, ProgressFault>
-    requires fits { FitsSomewhere (signature_of task.now.problem.domain) (tree_of_formula f.now) }
+    requires fits { FitsIn task.now (tree_of_formula f.now) }
     requires basic { is_basic (tree_of_formula f.now) ≡ true }
-    ensures truth { IfOk result (λ b. b ≡ state_true (situation_of (plain_problem task.now.problem) w.now) (assignment_in env.old) (tree_of_formula f.now)) }
-    ensures cause { IfErr result (IsCausedBy (looked_in_state (looks_of (plain_problem task.now.problem) w.now) (situation_of (plain_problem task.now.problem) w.now) (assignment_in env.old) (tree_of_formula f.now))) }
+    ensures truth { IfOk result (λ b. b ≡ state_true_in task.now w.now env.old (tree_of_formula f.now)) }
+    ensures cause { IfErr result (IsCausedBy (looked_in_world task.now w.now env.old (tree_of_formula f.now))) }
     ensures frame { env.new ≡ env.old }
 {
     match state(task, w, env, f) {
@@ -52,10 +43,10 @@ pub(crate) fn truth_of(
     at: usize,
 ) -> Result<bool, ProgressFault>
     requires at { at < length (trees nodes.now) }
-    requires fits { FitsSomewhere (signature_of task.now.problem.domain) (tree_at (trees nodes.now) at) }
-    requires known { AreTruths (plain_problem task.now.problem) w.now (trees nodes.now) (get nat_eq known.now) }
-    ensures truth { IfOk result (λ b. b ≡ idly_true (plain_problem task.now.problem) w.now (assignment_in env.old) (tree_at (trees nodes.now) at)) }
-    ensures cause { IfErr result (IsCausedBy (looked_idly (plain_problem task.now.problem) w.now (assignment_in env.old) (tree_at (trees nodes.now) at))) }
+    requires fits { FitsIn task.now (tree_in nodes.now at) }
+    requires known { AreTruthsIn task.now w.now nodes.now (get nat_eq known.now) }
+    ensures truth { IfOk result (λ b. b ≡ idly_true_at task.now w.now env.old nodes.now at) }
+    ensures cause { IfErr result (IsCausedBy (looked_idly_at task.now w.now env.old nodes.now at)) }
     ensures frame { env.new ≡ env.old }
 {
     if known.is_empty() {
@@ -78,10 +69,10 @@ fn layer_truth(
     at: usize,
 ) -> Result<bool, ProgressFault>
     requires at { at < length (trees nodes.now) }
-    requires fits { FitsSomewhere (signature_of task.now.problem.domain) (tree_at (trees nodes.now) at) }
-    requires known { AreTruths (plain_problem task.now.problem) w.now (trees nodes.now) (get nat_eq known.now) }
-    ensures truth { IfOk result (λ b. b ≡ idly_true (plain_problem task.now.problem) w.now (assignment_in env.old) (tree_at (trees nodes.now) at)) }
-    ensures cause { IfErr result (IsCausedBy (looked_idly (plain_problem task.now.problem) w.now (assignment_in env.old) (tree_at (trees nodes.now) at))) }
+    requires fits { FitsIn task.now (tree_in nodes.now at) }
+    requires known { AreTruthsIn task.now w.now nodes.now (get nat_eq known.now) }
+    ensures truth { IfOk result (λ b. b ≡ idly_true_at task.now w.now env.old nodes.now at) }
+    ensures cause { IfErr result (IsCausedBy (looked_idly_at task.now w.now env.old nodes.now at)) }
     ensures frame { env.new ≡ env.old }
 {
     match nodes.get(at) {
@@ -143,10 +134,10 @@ fn join_truth(
 ) -> Result<bool, ProgressFault>
     requires at { at < length (trees nodes.now) }
     requires below { all_below at parts.now ≡ true }
-    requires fits { FitsSomewhere (signature_of task.now.problem.domain) (tree_of_node (trees nodes.now) (join_node junction parts.now)) }
-    requires known { AreTruths (plain_problem task.now.problem) w.now (trees nodes.now) (get nat_eq known.now) }
-    ensures truth { IfOk result (λ b. b ≡ idly_true (plain_problem task.now.problem) w.now (assignment_in env.old) (tree_of_node (trees nodes.now) (join_node junction parts.now))) }
-    ensures cause { IfErr result (IsCausedBy (looked_idly (plain_problem task.now.problem) w.now (assignment_in env.old) (tree_of_node (trees nodes.now) (join_node junction parts.now)))) }
+    requires fits { FitsIn task.now (join_at nodes.now junction parts.now) }
+    requires known { AreTruthsIn task.now w.now nodes.now (get nat_eq known.now) }
+    ensures truth { IfOk result (λ b. b ≡ idly_true_join task.now w.now env.old nodes.now junction parts.now) }
+    ensures cause { IfErr result (IsCausedBy (looked_idly_join task.now w.now env.old nodes.now junction parts.now)) }
     ensures frame { env.new ≡ env.old }
 {
     let stop = junction.deciding_truth();
@@ -177,10 +168,10 @@ fn quantifier_truth(
     junction: Junction,
 ) -> Result<bool, ProgressFault>
     requires part { part < length (trees nodes.now) }
-    requires fits { FitsSomewhere (signature_of task.now.problem.domain) (quantified junction vars.now bound.now (tree_at (trees nodes.now) part)) }
-    requires known { AreTruths (plain_problem task.now.problem) w.now (trees nodes.now) (get nat_eq known.now) }
-    ensures truth { IfOk result (λ b. b ≡ idly_true (plain_problem task.now.problem) w.now (assignment_in env.old) (quantified junction vars.now bound.now (tree_at (trees nodes.now) part))) }
-    ensures cause { IfErr result (IsCausedBy (looked_idly (plain_problem task.now.problem) w.now (assignment_in env.old) (quantified junction vars.now bound.now (tree_at (trees nodes.now) part)))) }
+    requires fits { FitsIn task.now (quantified_at nodes.now junction vars.now bound.now part) }
+    requires known { AreTruthsIn task.now w.now nodes.now (get nat_eq known.now) }
+    ensures truth { IfOk result (λ b. b ≡ idly_true_over task.now w.now env.old nodes.now junction vars.now bound.now part) }
+    ensures cause { IfErr result (IsCausedBy (looked_idly_over task.now w.now env.old nodes.now junction vars.now bound.now part)) }
     ensures frame { env.new ≡ env.old }
 {
     let mut tuples = TupleReader::open(task, env, vars, bound);
@@ -216,12 +207,12 @@ fn instances_truth(
     tuples: &mut TupleReader,
 ) -> Result<bool, ProgressFault>
     requires part { part < length (trees nodes.now) }
-    requires fits { FitsSomewhere (signature_of task.now.problem.domain) (quantified junction vars.now bound.now (tree_at (trees nodes.now) part)) }
-    requires known { AreTruths (plain_problem task.now.problem) w.now (trees nodes.now) (get nat_eq known.now) }
+    requires fits { FitsIn task.now (quantified_at nodes.now junction vars.now bound.now part) }
+    requires known { AreTruthsIn task.now w.now nodes.now (get nat_eq known.now) }
     requires reads { Reads vars.now (assignment_in env.old) bound.now tuples.old }
     requires before { tuples.old.tuple ≡ None }
-    ensures truth { IfOk result (λ b. b ≡ idly_true (plain_problem task.now.problem) w.now (assignment_in env.old) (quantified junction vars.now bound.now (tree_at (trees nodes.now) part))) }
-    ensures cause { IfErr result (IsCausedBy (looked_idly (plain_problem task.now.problem) w.now (assignment_in env.old) (quantified junction vars.now bound.now (tree_at (trees nodes.now) part)))) }
+    ensures truth { IfOk result (λ b. b ≡ idly_true_over task.now w.now env.old nodes.now junction vars.now bound.now part) }
+    ensures cause { IfErr result (IsCausedBy (looked_idly_over task.now w.now env.old nodes.now junction vars.now bound.now part)) }
     ensures others { AgreeElsewhere vars.now (assignment_in env.new) (assignment_in env.old) }
 {
     let stop = junction.deciding_truth();

@@ -1,5 +1,5 @@
 -- The lines of what a search reports.
-use Rattle.std.specs.Prelude.{ℕ, ◌<◌, List, [], ◌++◌, flat_map, slice_get, option_map, unwrap_or, codes}
+use Rattle.std.specs.Prelude.{ℕ, ◌<◌, List, [], ◌++◌, length, flat_map, slice_get, option_map, unwrap_or, codes}
 use Rattle.std.specs.Fmt.{decimal}
 use Rattle.tl_syntax.specs.declared.action.Action.{Action}
 use Rattle.tl_syntax.specs.declared.domain.Domain.{Domain}
@@ -10,6 +10,8 @@ use Rattle.tl_label.specs.Labels.{label_text}
 use Rattle.tl_search.specs.KeptPairs.{KeptPair}
 use Rattle.tl_search.specs.declared.event.Event.{Event}
 use Rattle.tl_search.specs.declared.event.Event.TheVariants as event
+use Rattle.tl_space.specs.declared.space.Space.{Space}
+use Rattle.tl_space.specs.Spaces.{task_of, kept_of}
 
 -- the line of the label of the residual of the pair of a number
 abbrev pub label_line : List (List ℕ) → Domain → List KeptPair → ℕ → List ℕ
@@ -42,3 +44,23 @@ EventIsWritable names domain n (event.Pruned j a) = (j < n) × ActionIsNamed nam
 -- each event is
 abbrev pub AreWritable : List (List ℕ) → Domain → ℕ → List Event → Type 0
 AreWritable names domain n events = Each (EventIsWritable names domain n) events
+
+-- the line of the label of a pair that the space has kept
+abbrev pub label_line_in : Space → ℕ → List ℕ
+label_line_in s k = label_line (task_of s).problem.names (task_of s).problem.domain (kept_of s) k
+
+-- the lines of an event of a search through the space
+abbrev pub event_text_in : Space → Event → List ℕ
+event_text_in s e = event_text (task_of s).problem.names (task_of s).problem.domain (kept_of s) e
+
+-- the lines of all events
+abbrev pub trace_text_in : Space → List Event → List ℕ
+trace_text_in s events = trace_text (task_of s).problem.names (task_of s).problem.domain (kept_of s) events
+
+-- the event is of the problem of the space and of the pairs that it has kept
+abbrev pub IsWritableIn : Space → Event → Type 0
+IsWritableIn s e = EventIsWritable (task_of s).problem.names (task_of s).problem.domain (length (kept_of s)) e
+
+-- each event is
+abbrev pub AreWritableIn : Space → List Event → Type 0
+AreWritableIn s events = AreWritable (task_of s).problem.names (task_of s).problem.domain (length (kept_of s)) events

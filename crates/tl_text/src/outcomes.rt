@@ -54,7 +54,8 @@ pub fn outcome_text(
     nodes: u32,
 ) -> Result<Bytes, NoMemory>
     requires { HasNamedPlan problem.now.names problem.now.domain.operators outcome.now }
-    ensures { IfOk result (λ text. text ≡ outcome_text problem.now.names problem.now.domain.operators within nodes outcome.now) }
+    ensures { IfOk result (λ text. text ≡ outcome_text problem.now.names problem.now.domain.operators
+        within nodes outcome.now) }
 {
     match outcome {
         Outcome::Plan(plan) => plan_text(alloc, problem, plan.as_slice()),

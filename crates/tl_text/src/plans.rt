@@ -21,8 +21,11 @@ use tl_syntax::{Actions, Problem};
 /// Each action is of an operator of the problem, has as many arguments as that has parameters, and names only names of the problem.
 #[tactic(auto, using(crate::proofs::Rulesets::form_trees, crate::proofs::PlanOrder::least_fault))]
 pub fn plan_of(alloc: Global, forms: &Forms, problem: &Problem) -> Result<Actions, FormFault>
-    ensures read { Reads (λ (xs : List Action). xs) result (plan_breaks problem.now.names problem.now.domain.operators (trees_of forms.now)) (plan_meant problem.now.names problem.now.domain.operators (trees_of forms.now)) }
-    ensures least { AreAsRead (trees_of forms.now) → IfErr result (IsLeastFault (plan_breaks problem.now.names problem.now.domain.operators (trees_of forms.now))) }
+    ensures read { Reads (λ (xs : List Action). xs) result
+        (plan_breaks problem.now.names problem.now.domain.operators (trees_of forms.now))
+        (plan_meant problem.now.names problem.now.domain.operators (trees_of forms.now)) }
+    ensures least { AreAsRead (trees_of forms.now) → IfErr result
+        (IsLeastFault (plan_breaks problem.now.names problem.now.domain.operators (trees_of forms.now))) }
     ensures few { IfOk result (λ plan. length plan ≤ 100000) }
     ensures named { IfOk result (λ plan. Each (ActionIsNamed problem.now.names problem.now.domain.operators) plan) }
 {

@@ -49,7 +49,8 @@ pub fn range_text(
     path: &[Action],
 ) -> Result<Bytes, NoMemory>
     requires { Each (ActionIsNamed problem.now.names problem.now.domain.operators) path.now }
-    ensures { IfOk result (λ text. text ≡ range_text problem.now.names problem.now.domain.operators note.now after path.now) }
+    ensures { IfOk result (λ text. text ≡ range_text problem.now.names problem.now.domain.operators
+        note.now after path.now) }
 {
     let first = operation(alloc, note)?;
     let mut text = bytes_of(alloc, first.as_str())?;

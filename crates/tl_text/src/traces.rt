@@ -3,8 +3,8 @@ ghost use Rattle.std.specs.Prelude.{◌≡◌, ◌<◌, ◌++◌, length, codes,
 ghost use Rattle.std.specs.Fmt.{decimal};
 ghost use Rattle.std.specs.String.{string_bytes};
 ghost use Rattle.tl_line.specs.NamedActions.{ActionIsNamed};
-ghost use Rattle.tl_space.specs.Spaces.{task_of, kept_of};
-ghost use Rattle.tl_text.specs.Traces.{label_line, action_end, event_text, EventIsWritable, AreWritable, trace_text};
+ghost use Rattle.tl_space.specs.Spaces.{kept_of};
+ghost use Rattle.tl_text.specs.Traces.{label_line_in, action_end, event_text_in, IsWritableIn, AreWritableIn, trace_text_in};
 
 use std::alloc::{AllocError, Global};
 use tl_label::label_text;
@@ -24,7 +24,7 @@ fn put_label(label: &[u8], out: &mut Bytes) -> Result<(), AllocError>
 /// Puts the line of the label of a pair's residual at the end.
 fn put_label_of(alloc: Global, space: &Space, at: usize, out: &mut Bytes) -> Result<(), NoMemory>
     requires { at < length (kept_of space.now) }
-    ensures { OnOk result (out.new ≡ out.old ++ label_line (task_of space.now).problem.names (task_of space.now).problem.domain (kept_of space.now) at) }
+    ensures { OnOk result (out.new ≡ out.old ++ label_line_in space.now at) }
 {
     let problem = &space.task().problem;
     let label = label_text(alloc, problem, space.nodes(), space.label(at))?;
@@ -76,8 +76,8 @@ fn put_met(problem: &Problem, met: &str, action: &Action, out: &mut Bytes) -> Re
 
 /// Puts the lines of an event at the end.
 fn put_event(alloc: Global, space: &Space, event: &Event, out: &mut Bytes) -> Result<(), NoMemory>
-    requires { EventIsWritable (task_of space.now).problem.names (task_of space.now).problem.domain (length (kept_of space.now)) event.now }
-    ensures { OnOk result (out.new ≡ out.old ++ event_text (task_of space.now).problem.names (task_of space.now).problem.domain (kept_of space.now) event.now) }
+    requires { IsWritableIn space.now event.now }
+    ensures { OnOk result (out.new ≡ out.old ++ event_text_in space.now event.now) }
 {
     let problem = &space.task().problem;
     match event {
@@ -108,8 +108,8 @@ fn put_event(alloc: Global, space: &Space, event: &Event, out: &mut Bytes) -> Re
 /// The lines of the events of a search, in their order, before the lines of what it answers: a pair that is kept is followed by a line with the label of its residual.
 /// The actions of the events have to be those of the problem of the space, with its names, and the numbers of pairs those of pairs that are kept. It fails for want of memory alone.
 pub fn trace_text(alloc: Global, space: &Space, events: &[Event]) -> Result<Bytes, NoMemory>
-    requires { AreWritable (task_of space.now).problem.names (task_of space.now).problem.domain (length (kept_of space.now)) events.now }
-    ensures { IfOk result (λ text. text ≡ trace_text (task_of space.now).problem.names (task_of space.now).problem.domain (kept_of space.now) events.now) }
+    requires { AreWritableIn space.now events.now }
+    ensures { IfOk result (λ text. text ≡ trace_text_in space.now events.now) }
 {
     let mut text = Bytes::new(alloc);
     for event in events {

@@ -35,10 +35,12 @@ impl DepthFirst {
         ensures kept { S.kept space.new ≡ S.kept space.old }
         ensures events { self.new.events ≡ self.old.events }
         ensures ends { IfOk result (EndsBy self.old.watch (S.kept space.old) self.old.events arrival) }
-        ensures turned { IfOk result (TurnsBy (S.problem space.old) nodes (S.kept space.old) self.old self.new arrival left) }
+        ensures turned { IfOk result (TurnsBy (S.problem space.old) nodes (S.kept space.old)
+            self.old self.new arrival left) }
         ensures fault { IfErr result (IsDepthFirstFault (S.problem space.old) self.old.within) }
         ensures named { OnOk result (SearchIsNamed (S.task space.old) self.new) }
-        ensures remembered { OnOk result (Remembers (S.problem space.old) (S.task space.old) (S.kept space.old) self.new.expansions) }
+        ensures remembered { OnOk result (Remembers (S.problem space.old) (S.task space.old)
+            (S.kept space.old) self.new.expansions) }
         ensures plan_named { IfOk result (EndIsNamed (S.task space.old)) }
         ensures path_named { IfErr result (FaultIsNamed (S.task space.old)) }
     {
@@ -90,10 +92,12 @@ impl DepthFirst {
         ensures problem { S.problem space.new ≡ S.problem space.old }
         ensures kept { S.kept space.new ≡ S.kept space.old }
         ensures events { self.new.events ≡ self.old.events }
-        ensures turned { OnOk result (TurnsBy (S.problem space.old) nodes (S.kept space.old) self.old self.new (arrival.Seen k) left None) }
+        ensures turned { OnOk result (TurnsBy (S.problem space.old) nodes (S.kept space.old)
+            self.old self.new (arrival.Seen k) left None) }
         ensures fault { IfErr result (IsDepthFirstFault (S.problem space.old) self.old.within) }
         ensures named { OnOk result (SearchIsNamed (S.task space.old) self.new) }
-        ensures remembered { OnOk result (Remembers (S.problem space.old) (S.task space.old) (S.kept space.old) self.new.expansions) }
+        ensures remembered { OnOk result (Remembers (S.problem space.old) (S.task space.old)
+            (S.kept space.old) self.new.expansions) }
         ensures path_named { IfErr result (FaultIsNamed (S.task space.old)) }
     {
         if left <= self.most.as_slice()[k] {
@@ -125,10 +129,12 @@ impl DepthFirst {
         ensures problem { S.problem space.new ≡ S.problem space.old }
         ensures kept { S.kept space.new ≡ S.kept space.old }
         ensures events { self.new.events ≡ self.old.events }
-        ensures turned { OnOk result (TurnsBy (S.problem space.old) nodes (S.kept space.old) self.old self.new (arrival.Fresh k) left None) }
+        ensures turned { OnOk result (TurnsBy (S.problem space.old) nodes (S.kept space.old)
+            self.old self.new (arrival.Fresh k) left None) }
         ensures fault { IfErr result (IsDepthFirstFault (S.problem space.old) self.old.within) }
         ensures named { OnOk result (SearchIsNamed (S.task space.old) self.new) }
-        ensures remembered { OnOk result (Remembers (S.problem space.old) (S.task space.old) (S.kept space.old) self.new.expansions) }
+        ensures remembered { OnOk result (Remembers (S.problem space.old) (S.task space.old)
+            (S.kept space.old) self.new.expansions) }
         ensures path_named { IfErr result (FaultIsNamed (S.task space.old)) }
     {
         if self.most.push(left).is_err() {
@@ -192,11 +198,14 @@ impl DepthFirst {
         ensures task { S.task space.new ≡ S.task space.old }
         ensures problem { S.problem space.new ≡ S.problem space.old }
         ensures kept { S.kept space.new ≡ S.kept space.old }
-        ensures entered { OnOk result (IsEntered (S.problem space.old) (pairs_of (S.kept space.old)) at left self.old.stack.items self.new.stack.items) }
+        ensures entered { OnOk result (IsEntered (S.problem space.old) (pairs_of (S.kept space.old))
+            at left self.old.stack.items self.new.stack.items) }
         ensures rest { self.new ≡ record self.old { stack = self.new.stack; expansions = self.new.expansions } }
-        ensures fault { IfErr result (IsEntryFault (S.problem space.old) (pairs_of (S.kept space.old)) at (path_of self.old.stack.items)) }
+        ensures fault { IfErr result (IsEntryFault (S.problem space.old) (pairs_of (S.kept space.old))
+            at (path_of self.old.stack.items)) }
         ensures named { OnOk result (SearchIsNamed (S.task space.old) self.new) }
-        ensures remembered { OnOk result (Remembers (S.problem space.old) (S.task space.old) (S.kept space.old) self.new.expansions) }
+        ensures remembered { OnOk result (Remembers (S.problem space.old) (S.task space.old)
+            (S.kept space.old) self.new.expansions) }
         ensures path_named { IfErr result (FaultIsNamed (S.task space.old)) }
     {
         let actions = self.actions_of(alloc, space, at)?;
@@ -228,8 +237,10 @@ impl DepthFirst {
         ensures kept { S.kept space.new ≡ S.kept space.old }
         ensures listed { IfOk result (IsListed (S.problem space.old) (S.task space.old) (S.kept space.old) at) }
         ensures rest { self.new ≡ record self.old { expansions = self.new.expansions } }
-        ensures fault { IfErr result (IsEntryFault (S.problem space.old) (pairs_of (S.kept space.old)) at (path_of self.old.stack.items)) }
-        ensures remembered { OnOk result (Remembers (S.problem space.old) (S.task space.old) (S.kept space.old) self.new.expansions) }
+        ensures fault { IfErr result (IsEntryFault (S.problem space.old) (pairs_of (S.kept space.old))
+            at (path_of self.old.stack.items)) }
+        ensures remembered { OnOk result (Remembers (S.problem space.old) (S.task space.old)
+            (S.kept space.old) self.new.expansions) }
         ensures path_named { IfErr result (FaultIsNamed (S.task space.old)) }
     {
         if let Some(actions) = self.remembered_actions(alloc, at)? {

@@ -32,13 +32,17 @@ impl DepthFirst {
         requires remembered { Remembers (S.problem space.old) (S.task space.old) (S.kept space.old) self.old.expansions }
         ensures task { S.task space.new ≡ S.task space.old }
         ensures problem { S.problem space.new ≡ S.problem space.old }
-        ensures turned { IfOk result (Turns (S.problem space.old) nodes (S.kept space.old) (S.kept space.new) self.old self.new steps.old steps.new) }
-        ensures calls { CallsStayFew (S.problem space.old) nodes (S.kept space.old) (S.kept space.new) self.old steps.old steps.new }
-        ensures history { OnOk result (KeepsHistory (S.problem space.old) (S.kept space.old) (S.kept space.new) self.old self.new) }
+        ensures turned { IfOk result (Turns (S.problem space.old) nodes (S.kept space.old) (S.kept space.new)
+            self.old self.new steps.old steps.new) }
+        ensures calls { CallsStayFew (S.problem space.old) nodes (S.kept space.old) (S.kept space.new)
+            self.old steps.old steps.new }
+        ensures history { OnOk result (KeepsHistory (S.problem space.old) (S.kept space.old)
+            (S.kept space.new) self.old self.new) }
         ensures ends { IfOk result (EndsIfAny self.old.watch (S.kept space.new) self.new.events) }
         ensures fault { IfErr result (IsDepthFirstFault (S.problem space.old) self.old.within) }
         ensures named { OnOk result (SearchIsNamed (S.task space.old) self.new) }
-        ensures remembered { OnOk result (Remembers (S.problem space.old) (S.task space.old) (S.kept space.new) self.new.expansions) }
+        ensures remembered { OnOk result (Remembers (S.problem space.old) (S.task space.old)
+            (S.kept space.new) self.new.expansions) }
         ensures plan_named { IfOk result (EndIsNamed (S.task space.old)) }
         ensures path_named { IfErr result (FaultIsNamed (S.task space.old)) }
     {
@@ -68,15 +72,18 @@ impl DepthFirst {
         requires remembered { Remembers (S.problem space.old) (S.task space.old) (S.kept space.old) self.old.expansions }
         ensures task { S.task space.new ≡ S.task space.old }
         ensures problem { S.problem space.new ≡ S.problem space.old }
-        ensures arrived { IfOk result (TriesTop (S.problem space.old) nodes (S.kept space.old) (S.kept space.new) self.old self.new left) }
+        ensures arrived { IfOk result (TriesTop (S.problem space.old) nodes (S.kept space.old) (S.kept space.new)
+            self.old self.new left) }
         ensures calls { OneCallStaysFew (S.problem space.old) nodes (S.kept space.old) (S.kept space.new) self.old }
-        ensures history { OnOk result (KeepsHistory (S.problem space.old) (S.kept space.old) (S.kept space.new) self.old self.new) }
+        ensures history { OnOk result (KeepsHistory (S.problem space.old) (S.kept space.old)
+            (S.kept space.new) self.old self.new) }
         ensures ends { IfOk result (KeepsLast self.old.watch (S.kept space.new) self.new.events) }
         ensures rest { self.new ≡ record self.old { events = self.new.events; expansions = self.new.expansions } }
         ensures ticks { steps.new ≡ steps.old + 1 }
         ensures fault { IfErr result (IsDepthFirstFault (S.problem space.old) self.old.within) }
         ensures named { OnOk result (SearchIsNamed (S.task space.old) self.new) }
-        ensures remembered { OnOk result (Remembers (S.problem space.old) (S.task space.old) (S.kept space.new) self.new.expansions) }
+        ensures remembered { OnOk result (Remembers (S.problem space.old) (S.task space.old)
+            (S.kept space.new) self.new.expansions) }
         ensures path_named { IfErr result (FaultIsNamed (S.task space.old)) }
     {
         let top = self.stack.as_slice().len() - 1;
@@ -105,9 +112,11 @@ impl DepthFirst {
         requires named { SearchIsNamed (S.task space.old) self.old }
         ensures task { S.task space.new ≡ S.task space.old }
         ensures problem { S.problem space.new ≡ S.problem space.old }
-        ensures arrived { IfOk result (TriesTop (S.problem space.old) nodes (S.kept space.old) (S.kept space.new) self.old self.new left) }
+        ensures arrived { IfOk result (TriesTop (S.problem space.old) nodes (S.kept space.old) (S.kept space.new)
+            self.old self.new left) }
         ensures calls { OneCallStaysFew (S.problem space.old) nodes (S.kept space.old) (S.kept space.new) self.old }
-        ensures history { OnOk result (KeepsHistory (S.problem space.old) (S.kept space.old) (S.kept space.new) self.old self.new) }
+        ensures history { OnOk result (KeepsHistory (S.problem space.old) (S.kept space.old)
+            (S.kept space.new) self.old self.new) }
         ensures ends { IfOk result (KeepsLast self.old.watch (S.kept space.new) self.new.events) }
         ensures rest { self.new ≡ record self.old { events = self.new.events } }
         ensures ticks { steps.new ≡ steps.old + 1 }

@@ -47,9 +47,11 @@ impl DepthFirst {
         requires events { self.old.events ≡ [] }
         ensures task { S.task space.new ≡ S.task space.old }
         ensures problem { S.problem space.new ≡ S.problem space.old }
-        ensures outcome { IfOk result (IsDepthFirstOutcome (S.problem space.old) self.old.within nodes (pairs_of (S.kept space.new))) }
+        ensures outcome { IfOk result (IsDepthFirstOutcome (S.problem space.old) self.old.within nodes
+            (pairs_of (S.kept space.new))) }
         ensures calls { AreFewSteps (S.problem space.old) self.old.within (S.kept space.new) steps.old steps.new }
-        ensures told { IfOk result (IsToldOutcome (S.problem space.old) self.old.within self.old.watch (pairs_of (S.kept space.new)) self.new.events) }
+        ensures told { IfOk result (IsToldOutcome (S.problem space.old) self.old.within self.old.watch
+            (pairs_of (S.kept space.new)) self.new.events) }
         ensures history { OnOk result (IsHistory (S.problem space.old) self.old.watch (S.kept space.new) self.new.events) }
         ensures ends { IfOk result (Ends self.old.watch (S.kept space.new) self.new.events) }
         ensures fault { IfErr result (IsDepthFirstFault (S.problem space.old) self.old.within) }
@@ -88,7 +90,8 @@ impl DepthFirst {
         ensures ends { IfOk result (EndsIfAny self.old.watch (S.kept space.new) self.new.events) }
         ensures fault { IfErr result (IsDepthFirstFault (S.problem space.old) self.old.within) }
         ensures named { OnOk result (SearchIsNamed (S.task space.old) self.new) }
-        ensures remembered { OnOk result (Remembers (S.problem space.old) (S.task space.old) (S.kept space.new) self.new.expansions) }
+        ensures remembered { OnOk result (Remembers (S.problem space.old) (S.task space.old)
+            (S.kept space.new) self.new.expansions) }
         ensures plan_named { IfOk result (EndIsNamed (S.task space.old)) }
         ensures path_named { IfErr result (FaultIsNamed (S.task space.old)) }
     {
@@ -139,10 +142,12 @@ impl DepthFirst {
         ensures problem { S.problem space.new ≡ S.problem space.old }
         ensures kept { S.kept space.new ≡ S.kept space.old }
         ensures events { self.new.events ≡ self.old.events }
-        ensures begun { OnOk result (Begun (S.problem space.old) nodes (pairs_of (S.kept space.new)) self.old self.new None) }
+        ensures begun { OnOk result (Begun (S.problem space.old) nodes (pairs_of (S.kept space.new))
+            self.old self.new None) }
         ensures fault { IfErr result (IsDepthFirstFault (S.problem space.old) self.old.within) }
         ensures named { OnOk result (SearchIsNamed (S.task space.old) self.new) }
-        ensures remembered { OnOk result (Remembers (S.problem space.old) (S.task space.old) (S.kept space.new) self.new.expansions) }
+        ensures remembered { OnOk result (Remembers (S.problem space.old) (S.task space.old)
+            (S.kept space.new) self.new.expansions) }
         ensures path_named { IfErr result (FaultIsNamed (S.task space.old)) }
     {
         let left = self.within;
@@ -160,10 +165,12 @@ impl DepthFirst {
     fn none<S: Pairs>(&self, space: &S, nodes: usize) -> Outcome
         requires ongoing { GoesOn (S.problem space.now) nodes (S.kept space.now) self.now }
         requires none { self.now.stack.items ≡ [] }
-        ensures outcome { IsDepthFirstOutcome (S.problem space.now) self.now.within nodes (pairs_of (S.kept space.now)) result }
+        ensures outcome { IsDepthFirstOutcome (S.problem space.now) self.now.within nodes
+            (pairs_of (S.kept space.now)) result }
         ensures ends { EndsUnkept result }
         ensures named { EndsUnnamed result }
-        ensures told { IsToldOutcome (S.problem space.now) self.now.within self.now.watch (pairs_of (S.kept space.now)) self.now.events result }
+        ensures told { IsToldOutcome (S.problem space.now) self.now.within self.now.watch
+            (pairs_of (S.kept space.now)) self.now.events result }
     {
         if is_cut(self.most.as_slice()) {
             return Outcome::NoneWithin;

@@ -1,11 +1,9 @@
 // The parts of joins, opened at any depth.
-ghost use Rattle.std.specs.Prelude.{◌≡◌, ◌<◌, ◌∷◌, ◌++◌, [], true, length, reverse, IfOk, IfSome, MatchOption, OnOk};
-ghost use Rattle.std.specs.List.{flat_map, sum_by};
+ghost use Rattle.std.specs.Prelude.{◌≡◌, ◌<◌, ◌++◌, true, length, reverse, IfOk, IfSome, MatchOption, OnOk};
 ghost use Rattle.tl_nodes.specs.Fits.{all_below};
-ghost use Rattle.tl_nodes.specs.Joins.{parts_of, breadth};
-ghost use Rattle.tl_nodes.specs.NodeTrees.{tree_at, trees_at};
-ghost use Rattle.tl_nodes.specs.Numbers.{trees};
-ghost use Rattle.tl_terms.specs.Simplification.{without_repeats};
+ghost use Rattle.tl_nodes.specs.Joins.{breadth};
+ghost use Rattle.tl_nodes.specs.Numbers.{trees, tree_in};
+ghost use Rattle.tl_nodes.specs.Opened.{IsSingle, OpensTo, AreOpened, breadths_in};
 
 use super::Nodes;
 use crate::Node;
@@ -17,9 +15,9 @@ impl Nodes {
     // The parts of a number that is itself a join of the same kind.
     pub(crate) fn nested(&self, id: usize, junction: Junction) -> Option<&Ids>
         requires { id < length (trees self.now) }
-        ensures parts { MatchOption result (parts_of junction (tree_at (trees self.now) id) ≡ tree_at (trees self.now) id ∷ []) (λ ids. parts_of junction (tree_at (trees self.now) id) ≡ flat_map (parts_of junction) (trees_at (trees self.now) ids.now)) }
+        ensures parts { MatchOption result (IsSingle self.now junction id) (λ ids. OpensTo self.now junction id ids.now) }
         ensures below { IfSome result (λ ids. all_below id ids.now ≡ true) }
-        ensures smaller { IfSome result (λ ids. sum_by (λ i. breadth (tree_at (trees self.now) i)) ids.now < breadth (tree_at (trees self.now) id)) }
+        ensures smaller { IfSome result (λ ids. breadths_in self.now ids.now < breadth (tree_in self.now id)) }
     {
         match self.get(id) {
             Node::And(ids) => match junction {
@@ -43,7 +41,7 @@ impl Nodes {
     ) -> Result<Vec<usize>, NoMemory>
         requires { all_below (length (trees self.now)) parts.now ≡ true }
         ensures below { IfOk result (λ v. all_below (length (trees self.now)) v.items ≡ true) }
-        ensures flat { IfOk result (λ v. without_repeats (trees_at (trees self.now) v.items) ≡ without_repeats (flat_map (parts_of junction) (trees_at (trees self.now) parts.now))) }
+        ensures flat { IfOk result (λ v. AreOpened self.now junction parts.now v.items) }
     {
         let mut todo = Vec::new(self.alloc);
         push_turned(self.alloc, &mut todo, parts)?;

@@ -1,9 +1,9 @@
 // One number for one layer.
-ghost use Rattle.std.specs.Prelude.{◌≡◌, ℕ, true, length, IfOk, OnErr};
+ghost use Rattle.std.specs.Prelude.{◌≡◌, true, length, IfOk, OnErr};
 ghost use Rattle.tl_nodes.specs.Fits.{fits};
 ghost use Rattle.tl_nodes.specs.NodeTrees.{tree_of_node};
 ghost use Rattle.tl_nodes.specs.Numbering.{Keeps};
-ghost use Rattle.tl_nodes.specs.Numbers.{trees, Denotes};
+ghost use Rattle.tl_nodes.specs.Numbers.{trees, Denotes, StaysIfKnown};
 
 use super::Nodes;
 use super::flags::temporal_of;
@@ -16,7 +16,7 @@ impl Nodes {
     pub fn intern(&mut self, node: Node) -> Result<usize, NoMemory>
         requires { fits (length (trees self.old)) node ≡ true }
         ensures number { IfOk result (λ i. Denotes self.new i (tree_of_node (trees self.old) node)) }
-        ensures known { (i : ℕ) → Denotes self.old i (tree_of_node (trees self.old) node) → trees self.new ≡ trees self.old }
+        ensures known { StaysIfKnown self.old self.new (tree_of_node (trees self.old) node) }
         ensures kept { Keeps (trees self.old) (trees self.new) }
         ensures refused { OnErr result (trees self.new ≡ trees self.old) }
     {

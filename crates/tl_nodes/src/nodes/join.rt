@@ -1,11 +1,10 @@
 // Conjunction and disjunction that simplify.
-ghost use Rattle.std.specs.Prelude.{◌≡◌, ℕ, List, true, length, IfOk, OnErr};
+ghost use Rattle.std.specs.Prelude.{◌≡◌, true, length, IfOk, OnErr};
 ghost use Rattle.tl_nodes.specs.Fits.{all_below};
 ghost use Rattle.tl_nodes.specs.Joins.{simplified_join, dropped, decides, join_node};
-ghost use Rattle.tl_nodes.specs.Left.{IsLeft};
-ghost use Rattle.tl_nodes.specs.NodeTrees.{trees_at};
+ghost use Rattle.tl_nodes.specs.Left.{JoinsLeft, StaysIfJoined};
 ghost use Rattle.tl_nodes.specs.Numbering.{Keeps};
-ghost use Rattle.tl_nodes.specs.Numbers.{trees, Denotes};
+ghost use Rattle.tl_nodes.specs.Numbers.{trees, Denotes, trees_in, StaysIfKnown};
 ghost use Rattle.tl_terms.specs.Simplification.{simplified_and, simplified_or};
 
 use super::Nodes;
@@ -18,8 +17,8 @@ impl Nodes {
     /// of equal parts the first stays, no part gives true, and one part stands alone.
     pub fn and(&mut self, parts: &[usize]) -> Result<usize, NoMemory>
         requires { all_below (length (trees self.old)) parts.now ≡ true }
-        ensures number { IfOk result (λ i. Denotes self.new i (simplified_and (trees_at (trees self.old) parts.now))) }
-        ensures known { (i : ℕ) → Denotes self.old i (simplified_and (trees_at (trees self.old) parts.now)) → trees self.new ≡ trees self.old }
+        ensures number { IfOk result (λ i. Denotes self.new i (simplified_and (trees_in self.old parts.now))) }
+        ensures known { StaysIfKnown self.old self.new (simplified_and (trees_in self.old parts.now)) }
         ensures kept { Keeps (trees self.old) (trees self.new) }
         ensures refused { OnErr result (trees self.new ≡ trees self.old) }
     {
@@ -29,8 +28,8 @@ impl Nodes {
     /// The number of the parts' disjunction: as `and` with the constants exchanged.
     pub fn or(&mut self, parts: &[usize]) -> Result<usize, NoMemory>
         requires { all_below (length (trees self.old)) parts.now ≡ true }
-        ensures number { IfOk result (λ i. Denotes self.new i (simplified_or (trees_at (trees self.old) parts.now))) }
-        ensures known { (i : ℕ) → Denotes self.old i (simplified_or (trees_at (trees self.old) parts.now)) → trees self.new ≡ trees self.old }
+        ensures number { IfOk result (λ i. Denotes self.new i (simplified_or (trees_in self.old parts.now))) }
+        ensures known { StaysIfKnown self.old self.new (simplified_or (trees_in self.old parts.now)) }
         ensures kept { Keeps (trees self.old) (trees self.new) }
         ensures refused { OnErr result (trees self.new ≡ trees self.old) }
     {
@@ -39,8 +38,8 @@ impl Nodes {
 
     fn join(&mut self, parts: &[usize], junction: Junction) -> Result<usize, NoMemory>
         requires { all_below (length (trees self.old)) parts.now ≡ true }
-        ensures number { IfOk result (λ i. Denotes self.new i (simplified_join junction (trees_at (trees self.old) parts.now))) }
-        ensures known { (i : ℕ) → Denotes self.old i (simplified_join junction (trees_at (trees self.old) parts.now)) → trees self.new ≡ trees self.old }
+        ensures number { IfOk result (λ i. Denotes self.new i (simplified_join junction (trees_in self.old parts.now))) }
+        ensures known { StaysIfKnown self.old self.new (simplified_join junction (trees_in self.old parts.now)) }
         ensures kept { Keeps (trees self.old) (trees self.new) }
         ensures refused { OnErr result (trees self.new ≡ trees self.old) }
     {
@@ -56,8 +55,8 @@ impl Nodes {
     // The number of the join of the parts of which these numbers are left.
     fn join_left(&mut self, left: &[usize], junction: Junction) -> Result<usize, NoMemory>
         requires { all_below (length (trees self.old)) left.now ≡ true }
-        ensures number { (parts : List ℕ) → IsLeft (trees self.old) junction parts left.now → IfOk result (λ i. Denotes self.new i (simplified_join junction (trees_at (trees self.old) parts))) }
-        ensures known { (parts : List ℕ) (i : ℕ) → IsLeft (trees self.old) junction parts left.now → Denotes self.old i (simplified_join junction (trees_at (trees self.old) parts)) → trees self.new ≡ trees self.old }
+        ensures number { JoinsLeft self.old self.new junction left.now result }
+        ensures known { StaysIfJoined self.old self.new junction left.now }
         ensures kept { Keeps (trees self.old) (trees self.new) }
         ensures refused { OnErr result (trees self.new ≡ trees self.old) }
     {

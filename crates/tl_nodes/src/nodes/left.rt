@@ -38,7 +38,8 @@ impl Nodes {
     // Keeps the parts of a join. False: one of them is a join of the same kind, or they are too many.
     fn keep_all(&self, few: &mut Few, ids: &[usize], junction: Junction) -> bool
         requires { all_below (length (trees self.now)) ids.now ≡ true }
-        ensures { IsTrue result → (parts : List ℕ) → IsOpened (trees self.now) junction parts few.old → IsOpened (trees self.now) junction (parts ++ ids.now) few.new }
+        ensures { IsTrue result → (parts : List ℕ) → IsOpened (trees self.now) junction parts few.old
+            → IsOpened (trees self.now) junction (parts ++ ids.now) few.new }
     {
         if ids.len() > FEW {
             return false;
@@ -54,7 +55,8 @@ impl Nodes {
     // Keeps a part. False: it is a join of the same kind, or there is no room.
     fn keep(&self, few: &mut Few, id: usize, junction: Junction) -> bool
         requires { id < length (trees self.now) }
-        ensures { IsTrue result → (parts : List ℕ) → IsOpened (trees self.now) junction parts few.old → IsOpened (trees self.now) junction (parts ++ id ∷ []) few.new }
+        ensures { IsTrue result → (parts : List ℕ) → IsOpened (trees self.now) junction parts few.old
+            → IsOpened (trees self.now) junction (parts ++ id ∷ []) few.new }
     {
         match self.nested(id, junction) {
             Some(_) => false,
