@@ -3,7 +3,8 @@ use Rattle.std.proofs.Common.{◌≡◌, ◌↔◌, ◌⊎◌, ◌<◌, ◌≤�
 use Rattle.tl_action.specs.declared.fault.ActFault.{ActFault}
 use Rattle.tl_action.specs.declared.fault.ActFault.TheVariants as fault
 use Rattle.tl_action.specs.declared.join.JoinOrder.{JoinOrder}
-use Rattle.tl_action.specs.Join.{stands_in_one, is_new, Known, HasNoCompletion, IsCompletion, IsJoinOrder, IsFound, IsPassed, IsRowFault, Joins}
+use Rattle.tl_action.specs.Join.{arranged, stands_in_one, is_new, new_from, Known, HasNoCompletion, IsCompletion, IsFound, IsJoinOrder, IsPassed, IsRowFault, Joins}
+use Rattle.tl_action.proofs.Arranged.{keeps-with}
 use Rattle.tl_action.proofs.Completions.{known-before, known-kept, completion-past, completion-none}
 use Rattle.tl_action.proofs.NewVariables.{level-is}
 use Rattle.tl_action.proofs.Operators.{counted-differ, counted-slots}
@@ -57,11 +58,11 @@ new-occur seen b (s ∷ ss) = (elim (is_new seen b s) as (λ x. is_new seen b s 
   | false ↦ λ q. new-occur seen b ss
 ]) refl
 
-pub node-at : (g : Signature) (n : ℕ) (o : Operator) (order : JoinOrder) (j : ℕ) (b : Bound) (vars : List Var) → AreFew g.predicates → AreFew g.functions → OperatorKeeps g n o → IsJoinOrder o order → j < length o.bounds → b ≡ get_or o.bounds j b → vars ≡ get_or order.levels.items j vars → Node g o j b vars
-node-at g n o order j b vars fp ff keeps h k q r =
+level-node : (g : Signature) (n : ℕ) (o : Operator) (levels : List (List Var)) (j : ℕ) (b : Bound) (vars : List Var) → AreFew g.predicates → AreFew g.functions → OperatorKeeps g n o → levels ≡ new_from o.params [] o.bounds → j < length o.bounds → b ≡ get_or o.bounds j b → vars ≡ get_or levels j vars → Node g o j b vars
+level-node g n o levels j b vars fp ff keeps h k q r =
     let new = filter (is_new (take j o.bounds) b) o.params in
     let is : vars ≡ new =
-    r ∙ (ap (λ (ls : List (List Var)). get_or ls j vars) h.levels
+    r ∙ (ap (λ (ls : List (List Var)). get_or ls j vars) h
     ∙ (level-is o.params [] o.bounds j b vars k ∙ ap (λ (x : Bound). filter (is_new (take j o.bounds) x) o.params) (sym q))) in
     let differ = subst DifferInSlot (sym is) (kept-differ (is_new (take j o.bounds) b) o.params (counted-differ o.params keeps.params.counted)) in
     let occur = subst (λ (ss : List Var). OccurIn ss b) (sym is) (new-occur (take j o.bounds) b o.params) in
@@ -75,6 +76,11 @@ node-at g n o order j b vars fp ff keeps h k q r =
       few = few-variables vars b differ occur (bound-few g fp ff b fits);
       frame = subst (Each (λ (s : Var). s.slot < 32)) (sym is) (kept-each (λ (s : Var). s.slot < 32) (is_new (take j o.bounds) b) o.params (counted-slots o.params keeps.params.counted keeps.params.few));
     }
+
+-- a bound in the join order of an operator
+pub node-at : (g : Signature) (n : ℕ) (o : Operator) (order : JoinOrder) (j : ℕ) (b : Bound) (vars : List Var) → AreFew g.predicates → AreFew g.functions → OperatorKeeps g n o → IsJoinOrder o order
+    → j < length (arranged o order).bounds → b ≡ get_or (arranged o order).bounds j b → vars ≡ get_or order.levels.items j vars → Node g (arranged o order) j b vars
+node-at g n o order j b vars fp ff keeps h k q r = level-node g n (arranged o order) order.levels.items j b vars fp ff (keeps-with g n o (arranged o order).bounds h.same keeps) h.levels k q r
 
 module _ (g : Signature) (p : PlainProblem) (w : World) (o : Operator) (j : ℕ) (b : Bound) (vars : List Var) (k : j < length o.bounds) (q : b ≡ get_or o.bounds j b) (node : Node g o j b vars) where
   abbrev pub seen : List Bound

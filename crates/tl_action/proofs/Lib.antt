@@ -13,6 +13,7 @@ pub mod AppliedOperators
 pub mod NewVariables
 pub mod Completions
 pub mod Rows
+pub mod Arranged
 pub mod JoinNodes
 pub mod JoinReads
 pub mod SureEffects

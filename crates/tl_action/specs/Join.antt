@@ -1,5 +1,6 @@
 -- The rows of values that an operator's bounds allow, bound by bound.
-use Rattle.std.specs.Prelude.{◌≡◌, ◌↔◌, ◌⊎◌, ◌≤◌, ◌&&◌, ℕ, List, [], ◌∷◌, ◌++◌, drop, filter, length, take, Bool, true, not, Result, Ok, Err}
+use Rattle.std.specs.Prelude.{◌≡◌, ◌↔◌, ◌⊎◌, ◌≤◌, ◌&&◌, ℕ, List, [], ◌∷◌, ◌++◌, drop, filter, length, take, Bool, true, not, Option, Some, None, Result, Ok, Err}
+use Rattle.std.specs.Global.{Vec}
 use Rattle.std.specs.List.{list_any}
 use Rattle.tl_action.specs.declared.fault.ActFault.{ActFault}
 use Rattle.tl_action.specs.declared.fault.ActFault.TheVariants as fault
@@ -41,9 +42,27 @@ abbrev pub variables : List Var → TermTrees
 variables [] = no_term
 variables (s ∷ ss) = more_terms (variable s) (variables ss)
 
--- the join order of an operator: the new parameters of each of its bounds, all parameters as terms, and whether no effect can fail
+-- the bounds in another order, where one is given
+abbrev pub bounds_in : List Bound → Option (Vec Bound) → List Bound
+bounds_in bs None = bs
+bounds_in bs (Some moved) = moved.items
+
+-- the same bounds, whatever their order
+abbrev pub HaveSame : List Bound → List Bound → Type 0
+HaveSame bs cs = (b : Bound) → Among b cs ↔ Among b bs
+
+-- the operator with other bounds
+abbrev pub with_bounds : Operator → List Bound → Operator
+with_bounds o bs = record { name = o.name; params = o.params; bounds = bs; pre = o.pre; effects = o.effects }
+
+-- the operator with its bounds in the order in which they are joined
+abbrev pub arranged : Operator → JoinOrder → Operator
+arranged o order = with_bounds o (bounds_in o.bounds order.moved)
+
+-- the join order of an operator: its bounds in some order, the new parameters of each of them, all parameters as terms, and whether no effect can fail
 pub record IsJoinOrder (o : Operator) (order : JoinOrder) : Type 0 where
-  pub levels : order.levels.items ≡ new_from o.params [] o.bounds
+  pub same : HaveSame o.bounds (arranged o order).bounds
+  pub levels : order.levels.items ≡ new_from o.params [] (arranged o order).bounds
   pub terms : tree_of_terms order.terms ≡ variables o.params
   pub sure : order.sure ≡ are_sure (tree_of_effects o.effects)
 
@@ -90,3 +109,11 @@ IsRowFault p w o seen rest e fault.NoMemory = Unit {0}
 abbrev pub Joins : PlainProblem → World → PlainOperator → List Bound → List Bound → Assignment → List (List Value) → List (List Value) → Result (Unit {0}) ActFault → Type 0
 Joins p w o seen rest e before after (Ok done) = (t : List Value) → Among t after ↔ (Among t before ⊎ IsFound p w o seen rest e t)
 Joins p w o seen rest e before after (Err x) = IsRowFault p w o seen rest e x
+
+-- and so from the j-th bound of the operator on
+abbrev pub JoinsFrom : PlainProblem → World → Operator → ℕ → Assignment → List (List Value) → List (List Value) → Result (Unit {0}) ActFault → Type 0
+JoinsFrom p w o j e before after r = Joins p w (plain_operator o) (take j o.bounds) (drop j o.bounds) e before after r
+
+-- and so after all of its bounds: the one row that may be found has the values of the frame
+abbrev pub JoinsRow : PlainProblem → World → Operator → Assignment → List (List Value) → List (List Value) → Result (Unit {0}) ActFault → Type 0
+JoinsRow p w o e before after r = Joins p w (plain_operator o) o.bounds [] e before after r

@@ -39,7 +39,7 @@ fn rows_of(
     ensures rows { IfOk result (λ rows. AreRowsOf (plain_problem task.now.problem) w.now (plain_operator operator.now) (assignment_in env.old) rows.items) }
     ensures cause { IfErr result (IsRowFault (plain_problem task.now.problem) w.now (plain_operator operator.now) [] operator.now.bounds (assignment_in env.old)) }
 {
-    let order = JoinOrder::of(alloc, operator)?;
+    let order = JoinOrder::of(alloc, task, w, operator)?;
     let mut rows = Vec::new(alloc);
     match join(alloc, task, w, env, operator, &order, 0, &mut rows) {
         Ok(()) => Ok(in_order(rows)),
@@ -59,7 +59,7 @@ fn push_rows(op: u32, rows: Vec<Values>, found: &mut Actions) -> Result<(), NoMe
 
 /// All actions that are executable in the world, each once, in action order: by operator in the domain's order, and then by the arguments from left to right in value order.
 ///
-/// Each operator's bounds are joined in their order: see `join` for what that costs. Its rows come out in action order where the parameters first stand in the bounds in their own order, and are sorted once.
+/// Each operator's bounds are joined in their order, or with one of few rows before the others: see `join` and `first_bound` for what that costs. Its rows come out in action order where the parameters first stand in the joined bounds in their own order, and are sorted once.
 /// A range fault tells an operation that one of the actions looks at. The frame is left with values of its own, as by `apply`.
 pub fn actions(alloc: Global, task: &Task, w: &World, env: &mut Env) -> Result<Actions, ActFault>
     ensures actions { IfOk result (AreActions (plain_problem task.now.problem) w.now) }

@@ -1,27 +1,30 @@
 // The rows of values with which an operator can be applied, by a join of its bounds.
-ghost use Rattle.std.specs.Prelude.{◌≡◌, ◌<◌, ◌≤◌, [], drop, length, take, IfNone, IfOk, IfSome};
+ghost use Rattle.std.specs.Prelude.{◌≡◌, ◌<◌, ◌≤◌, length, take, IfNone, IfOk, IfSome};
 ghost use Rattle.tl_action.specs.Agreement.{Agree};
-ghost use Rattle.tl_action.specs.Join.{new_from, variables, HasNoCompletion, IsJoinOrder, IsPassed, Joins, Known};
+ghost use Rattle.tl_action.specs.Join.{arranged, HasNoCompletion, IsJoinOrder, IsPassed, JoinsFrom, JoinsRow, Known};
 ghost use Rattle.tl_eval.specs.Frames.{assignment_in};
 ghost use Rattle.tl_syntax.specs.FreeVariables.{slots_of};
 ghost use Rattle.tl_syntax.specs.Kept.{OperatorKeeps};
 ghost use Rattle.tl_syntax.specs.Signature.{signature_of};
-ghost use Rattle.tl_terms.specs.ProblemMeaning.{plain_operator, plain_problem};
+ghost use Rattle.tl_terms.specs.ProblemMeaning.{plain_problem};
 
 use crate::ActFault;
+use crate::first_bound::{bounds_in, first_bound, moved_bounds};
 use crate::levels::{levels_of, terms_of};
 use crate::prepared::is_prepared;
 use crate::sure::are_sure;
 use crate::values::values_of;
 use std::alloc::Global;
 use tl_eval::{Env, TupleReader, bound_holds};
-use tl_syntax::{NoMemory, Operator, Terms, Values, Vars};
+use tl_syntax::{Bound, NoMemory, Operator, Terms, Values, Vars};
 use tl_world::{Task, World};
 
-/// The join order of an operator: which parameters each of its bounds, in their order, gives values, and what is left to test once all have theirs. It is worked out once, before the bounds are joined.
+/// The join order of an operator: its bounds in the order in which they are joined, which parameters each of them gives values, and what is left to test once all have theirs. It is worked out once for a world, before the bounds are joined.
 #[derive(Drop)]
 pub(crate) struct JoinOrder {
-    /// For each bound the parameters that stand in it and in none before it.
+    /// The bounds, where they are joined in another order than the operator's.
+    moved: Option<Vec<Bound>>,
+    /// For each bound, in this order, the parameters that stand in it and in none before it.
     levels: Vec<Vars>,
     /// The parameters as terms.
     terms: Terms,
@@ -30,19 +33,35 @@ pub(crate) struct JoinOrder {
 }
 
 impl JoinOrder {
-    /// The join order of an operator. It fails for want of memory alone.
-    pub(crate) fn of(alloc: Global, operator: &Operator) -> Result<JoinOrder, NoMemory>
+    /// The join order of an operator in a world: its bounds in their order, or with that of `first_bound` before the others. It fails for want of memory alone.
+    pub(crate) fn of(
+        alloc: Global,
+        task: &Task,
+        w: &World,
+        operator: &Operator,
+    ) -> Result<JoinOrder, NoMemory>
         ensures { IfOk result (IsJoinOrder operator.now) }
     {
         let params = operator.params.as_slice();
-        let levels = levels_of(alloc, params, operator.bounds.as_slice())?;
+        let bounds = operator.bounds.as_slice();
+        let moved = moved_bounds(alloc, bounds, first_bound(task, w, operator))?;
+        let levels = levels_of(alloc, params, bounds_in(bounds, &moved))?;
         let terms = terms_of(alloc, params)?;
         let sure = are_sure(&operator.effects);
         Ok(JoinOrder {
+            moved,
             levels,
             terms,
             sure,
         })
+    }
+
+    /// The bounds of the operator in the order in which they are joined.
+    #[inline]
+    fn bounds<'a>(&'a self, operator: &'a Operator) -> &'a [Bound]
+        ensures { result.now ≡ (arranged operator.now self.now).bounds }
+    {
+        bounds_in(operator.bounds.as_slice(), &self.moved)
     }
 }
 
@@ -58,7 +77,7 @@ fn find_row(
 ) -> Result<(), ActFault>
     requires keeps { OperatorKeeps (signature_of task.now.problem.domain) (length task.now.problem.names) operator.now }
     requires order { IsJoinOrder operator.now order.now }
-    ensures rows { Joins (plain_problem task.now.problem) w.now (plain_operator operator.now) operator.now.bounds [] (assignment_in env.old) rows.old.items rows.new.items result }
+    ensures rows { JoinsRow (plain_problem task.now.problem) w.now (arranged operator.now order.now) (assignment_in env.old) rows.old.items rows.new.items result }
     ensures frame { Agree (slots_of operator.now.params) (assignment_in env.new) (assignment_in env.old) }
 {
     match values_of(alloc, task, w, env, &order.terms) {
@@ -87,11 +106,11 @@ fn next_level(
 ) -> Option<usize>
     requires keeps { OperatorKeeps (signature_of task.now.problem.domain) (length task.now.problem.names) operator.now }
     requires order { IsJoinOrder operator.now order.now }
-    requires within { j ≤ length operator.now.bounds }
-    ensures passed { IfSome result (IsPassed (plain_problem task.now.problem) w.now operator.now (assignment_in env.now) j) }
-    ensures none { IfNone result (HasNoCompletion (plain_problem task.now.problem) w.now operator.now (assignment_in env.now) j) }
+    requires within { j ≤ length (arranged operator.now order.now).bounds }
+    ensures passed { IfSome result (IsPassed (plain_problem task.now.problem) w.now (arranged operator.now order.now) (assignment_in env.now) j) }
+    ensures none { IfNone result (HasNoCompletion (plain_problem task.now.problem) w.now (arranged operator.now order.now) (assignment_in env.now) j) }
 {
-    let bounds = operator.bounds.as_slice();
+    let bounds = order.bounds(operator);
     let levels = order.levels.as_slice();
     let mut k = j;
     while k < bounds.len() && levels[k].is_empty() {
@@ -118,11 +137,11 @@ fn join_level(
 ) -> Result<(), ActFault>
     requires keeps { OperatorKeeps (signature_of task.now.problem.domain) (length task.now.problem.names) operator.now }
     requires order { IsJoinOrder operator.now order.now }
-    requires within { j < length operator.now.bounds }
-    ensures rows { Joins (plain_problem task.now.problem) w.now (plain_operator operator.now) (take j operator.now.bounds) (drop j operator.now.bounds) (assignment_in env.old) rows.old.items rows.new.items result }
-    ensures frame { Known (take j operator.now.bounds) operator.now.params (assignment_in env.new) (assignment_in env.old) }
+    requires within { j < length (arranged operator.now order.now).bounds }
+    ensures rows { JoinsFrom (plain_problem task.now.problem) w.now (arranged operator.now order.now) j (assignment_in env.old) rows.old.items rows.new.items result }
+    ensures frame { Known (take j (arranged operator.now order.now).bounds) operator.now.params (assignment_in env.new) (assignment_in env.old) }
 {
-    let bounds = operator.bounds.as_slice();
+    let bounds = order.bounds(operator);
     let levels = order.levels.as_slice();
     let vars = &levels[j];
     let bound = &bounds[j];
@@ -156,13 +175,13 @@ pub(crate) fn join(
 ) -> Result<(), ActFault>
     requires keeps { OperatorKeeps (signature_of task.now.problem.domain) (length task.now.problem.names) operator.now }
     requires order { IsJoinOrder operator.now order.now }
-    requires within { j ≤ length operator.now.bounds }
-    ensures rows { Joins (plain_problem task.now.problem) w.now (plain_operator operator.now) (take j operator.now.bounds) (drop j operator.now.bounds) (assignment_in env.old) rows.old.items rows.new.items result }
-    ensures frame { Known (take j operator.now.bounds) operator.now.params (assignment_in env.new) (assignment_in env.old) }
+    requires within { j ≤ length (arranged operator.now order.now).bounds }
+    ensures rows { JoinsFrom (plain_problem task.now.problem) w.now (arranged operator.now order.now) j (assignment_in env.old) rows.old.items rows.new.items result }
+    ensures frame { Known (take j (arranged operator.now order.now).bounds) operator.now.params (assignment_in env.new) (assignment_in env.old) }
 {
     match next_level(task, w, env, operator, order, j) {
         Some(k) => {
-            if k < operator.bounds.len() {
+            if k < order.bounds(operator).len() {
                 join_level(alloc, task, w, env, operator, order, k, rows)
             } else {
                 find_row(alloc, task, w, env, operator, order, rows)

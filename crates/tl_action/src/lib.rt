@@ -10,6 +10,7 @@
 //! - `clash`: whether places that are set agree with each other.
 //! - `collect`: the changes that effects make.
 //! - `join`: the rows of values with which an operator can be applied.
+//! - `first_bound`: which bound of an operator is joined first.
 //! - `levels`: the parts of a join order.
 //! - `prepared`: what an operator whose bounds are true changes.
 //! - `sure`: effects that cannot fail.
@@ -24,6 +25,7 @@ mod check_fault;
 mod clash;
 mod collect;
 mod fault;
+mod first_bound;
 mod join;
 pub mod laws;
 mod levels;

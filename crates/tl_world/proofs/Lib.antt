@@ -36,5 +36,6 @@ pub mod GoalTests
 pub mod Finite
 pub mod Numbering
 pub mod Moving
+pub mod Exchanged
 pub mod Beside
 pub mod Falling

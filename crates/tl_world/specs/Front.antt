@@ -7,6 +7,7 @@ use Rattle.tl_syntax.specs.Lists.{Each}
 use Rattle.tl_world.specs.declared.pattern.Match.{Match}
 use Rattle.tl_world.specs.declared.pattern.Part.{Part}
 use Rattle.tl_world.specs.declared.pattern.Part.TheVariants.{Fixed, Free}
+use Rattle.tl_world.specs.Fits.{fits_at, BeginsAs}
 use Rattle.tl_world.specs.Plain.{row_cmp}
 
 -- the value of a part: a fixed one, or that of one of the first variables, of which n came before
@@ -18,6 +19,10 @@ known_value n known (Free m) = cond (nat_le m n) (slice_get known m) None
 abbrev pub seen_after : ℕ → Part → ℕ
 seen_after n (Fixed v) = n
 seen_after n (Free m) = cond (m == n) (n + 1) n
+
+-- a tuple that begins with the first n of the old values and makes the part v begins with the new ones as far as they are known after the part
+abbrev pub BeginsOn : Part → Value → ℕ → List Value → List Value → Type 0
+BeginsOn p v n old new = (t : List Value) → BeginsAs n old t → fits_at p v t ≡ true → BeginsAs (seen_after n p) new t
 
 -- how many of the first variables came before what follows the parts
 abbrev pub seen_in : ℕ → List Part → ℕ

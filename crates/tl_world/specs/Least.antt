@@ -50,3 +50,7 @@ HasLater ps begun a rows i = (t : List Value) → length t ≡ length a → fits
 abbrev pub match_in_place : Bool → Match → Option Match
 match_in_place true m = Some m
 match_in_place false m = None
+
+-- the least tuple after the one in place that makes the parts one of the rows is put in place
+abbrev pub PutsNext : ℕ → List Part → List (List Value) → Bool → Match → Bool → Match → Type 0
+PutsNext k ps rows b old c new = IsLeast k (λ t. fits_some ps rows t && above (match_in_place b old) k t) (match_in_place c new)

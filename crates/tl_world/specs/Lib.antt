@@ -14,4 +14,5 @@ pub mod Front
 pub mod NumberedLists
 pub mod WorldNumbers
 pub mod Moves
+pub mod Second
 pub mod Falling

@@ -1,5 +1,5 @@
 -- Rows of which one is taken out and one is put in, and sets of facts that differ in some facts alone.
-use Rattle.std.specs.Prelude.{◌≡◌, ◌+◌, ◌≤◌, ◌⊎◌, ℕ, List, false, cond, length, Err}
+use Rattle.std.specs.Prelude.{◌≡◌, ◌+◌, ◌≤◌, ◌⊎◌, ℕ, List, false, cond, length, map, Err}
 use Rattle.std.proofs.Common.{leb}
 use Rattle.std.specs.FinSet as set
 use Rattle.std.specs.List.{insert, remove, list_any}
@@ -9,6 +9,7 @@ use Rattle.tl_syntax.specs.declared.fact.Fact.{Fact}
 use Rattle.tl_syntax.specs.declared.value.Value.{Value}
 use Rattle.tl_syntax.specs.Keys.{Key, key_cmp, fact_key}
 use Rattle.tl_syntax.specs.Lists.{Among}
+use Rattle.tl_terms.specs.Step.{with_all, without_all}
 use Rattle.tl_world.specs.Plain.{row_cmp}
 
 -- the place of what stood at `cut`, after one more at `at`
@@ -32,3 +33,7 @@ IsTakenOut rows cut n facts after = (after ≡ remove rows cut) ⊎ IsMoved rows
 -- the same facts, but for those of a list
 abbrev pub AreSameBeside : List Fact → set.FinSet key_cmp → set.FinSet key_cmp → Type 0
 AreSameBeside facts s t = (q : Key) → list_any (λ f. eq_by_cmp key_cmp q (fact_key f)) facts ≡ false → set.contains s q ≡ set.contains t q
+
+-- the facts without some and then with others
+abbrev pub changed_facts : set.FinSet key_cmp → List Fact → List Fact → set.FinSet key_cmp
+changed_facts s dels adds = with_all (without_all s (map fact_key dels)) (map fact_key adds)

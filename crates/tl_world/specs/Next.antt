@@ -1,13 +1,15 @@
 -- The next tuple that passes a test, and the chain of all of them.
-use Rattle.std.specs.Prelude.{◌≡◌, ◌↔◌, ℕ, List, [], ◌∷◌, Bool, true, false, Option, Some, None, length}
+use Rattle.std.specs.Prelude.{◌≡◌, ◌↔◌, ℕ, List, [], ◌∷◌, Bool, true, false, ◌&&◌, Option, Some, None, length}
 use Rattle.std.specs.declared.cmp.Ordering.TheVariants.{Less}
 use Rattle.std.specs.Ordering.{is_gt}
 use Rattle.tl_syntax.specs.declared.value.Value.{Value}
 use Rattle.tl_syntax.specs.Lists.{Among, Rises}
 use Rattle.tl_terms.specs.World.{World}
+use Rattle.tl_world.specs.declared.pattern.Match.{Match}
 use Rattle.tl_world.specs.declared.pattern.Pattern.{Pattern}
+use Rattle.tl_world.specs.Least.{IsLeast, above, match_in_place}
 use Rattle.tl_world.specs.Plain.{row_cmp}
-use Rattle.tl_world.specs.Patterns.{makes_true, IsLawful}
+use Rattle.tl_world.specs.Patterns.{makes_true, is_true_of, filled, parts_of, IsLawful}
 
 -- t comes after the tuple, where one is given, in lexicographic value order
 abbrev pub IsAfter : Option (List Value) → List Value → Type 0
@@ -22,6 +24,11 @@ IsLater k test after t = (length t ≡ k) × (test t ≡ true) × IsAfter after 
 abbrev pub IsNext : ℕ → (List Value → Bool) → Option (List Value) → Option (List Value) → Type 0
 IsNext k test after None = (t : List Value) → ¬ IsLater k test after t
 IsNext k test after (Some m) = IsLater k test after m × ((t : List Value) → IsLater k test after t → is_gt (row_cmp m t) ≡ false)
+
+-- the least tuple after the one in place that makes the pattern a fact of the world, or a place with its value, is put in place
+abbrev pub PutsNextOf : World → Bool → Pattern → Bool → Match → Bool → Match → Type 0
+PutsNextOf w place p b old c new =
+    IsLeast p.free (λ t. is_true_of w place p.name (filled (parts_of p) t) && above (match_in_place b old) p.free t) (match_in_place c new)
 
 -- each is the next one after the one before it, and none comes after the last
 abbrev pub IsChain : ℕ → (List Value → Bool) → Option (List Value) → List (List Value) → Type 0

@@ -1,6 +1,8 @@
 -- The fields of a world as plain tables.
 use Rattle.std.specs.Prelude.{ℕ, List, [], ◌∷◌, ◌++◌, map}
+use Rattle.std.specs.FinSet as set
 use Rattle.tl_syntax.specs.declared.value.Value.{Value}
+use Rattle.tl_syntax.specs.Keys.{key_cmp}
 use Rattle.tl_world.specs.declared.named.Named.{Named}
 use Rattle.tl_world.specs.declared.table.PlaceRow.{PlaceRow}
 pub use Rattle.tl_world.specs.Plain.{row_cmp, PlainRows, PlainTables, keyed, entries_of, AreRows, EachInOrder, InOrder, set_of, map_of}
@@ -32,6 +34,10 @@ fact_tables = map fact_table
 -- the places of a world, function by function
 abbrev pub place_tables : List (Named (List PlaceRow)) → PlainTables Value
 place_tables = map place_table
+
+-- the facts of a world as a set
+abbrev pub facts_of : List (Named (List (List Value))) → set.FinSet key_cmp
+facts_of ts = set_of (fact_tables ts)
 
 -- a table by its number and its rows
 abbrev pub plain_of : {R : Type 0} → Named R → ℕ × R

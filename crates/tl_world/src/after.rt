@@ -6,8 +6,9 @@ ghost use Rattle.tl_world.specs.Front.{front, front_cmp, is_passed, seen_after, 
 ghost use Rattle.tl_world.specs.Least.{HasLater};
 ghost use Rattle.tl_world.specs.Tables.{row_cmp};
 
+use crate::Part;
 use crate::front::{are_in_turn, order_of_front};
-use crate::{Part, Rows};
+use crate::runs::Runs;
 use std::cmp::Ordering;
 use tl_syntax::Value;
 
@@ -23,7 +24,7 @@ fn is_passed(ties: bool, order: Ordering) -> bool
 }
 
 /// Whether the last row before the place is passed over, or there is none.
-fn passes_before(rows: &Rows, lead: &[Part], known: &[Value], ties: bool, at: usize) -> bool
+fn passes_before(rows: &Runs, lead: &[Part], known: &[Value], ties: bool, at: usize) -> bool
     requires order { Rises row_cmp rows.now }
     requires bound { at ≤ length rows.now }
     ensures { result ≡ true → Each (λ r. is_passed ties (front_cmp (front 0 lead.now known.now) r) ≡ true) (take at rows.now) }
@@ -32,7 +33,7 @@ fn passes_before(rows: &Rows, lead: &[Part], known: &[Value], ties: bool, at: us
 }
 
 /// Whether the row at the place is not passed over, or there is none.
-fn keeps_from(rows: &Rows, lead: &[Part], known: &[Value], ties: bool, at: usize) -> bool
+fn keeps_from(rows: &Runs, lead: &[Part], known: &[Value], ties: bool, at: usize) -> bool
     requires order { Rises row_cmp rows.now }
     requires bound { at ≤ length rows.now }
     ensures { result ≡ true → Each (λ r. is_passed ties (front_cmp (front 0 lead.now known.now) r) ≡ false) (drop at rows.now) }
@@ -41,7 +42,7 @@ fn keeps_from(rows: &Rows, lead: &[Part], known: &[Value], ties: bool, at: usize
 }
 
 /// How many rows come before the first whose leading values are at least the known ones of the parts, or with `ties` exceed them, found by halves.
-pub(crate) fn rows_before(rows: &Rows, lead: &[Part], known: &[Value], ties: bool) -> usize
+pub(crate) fn rows_before(rows: &Runs, lead: &[Part], known: &[Value], ties: bool) -> usize
     requires { Rises row_cmp rows.now }
     ensures { IsFirstKept ties (front 0 lead.now known.now) rows.now result }
 {
@@ -59,7 +60,7 @@ pub(crate) fn rows_before(rows: &Rows, lead: &[Part], known: &[Value], ties: boo
 }
 
 /// How many rows come before the first whose leading values are at least the fixed ones of the parts. They are counted by halves where `near` is another number.
-fn rows_before_near(rows: &Rows, lead: &[Part], near: usize) -> usize
+fn rows_before_near(rows: &Runs, lead: &[Part], near: usize) -> usize
     requires { Rises row_cmp rows.now }
     ensures { IsFirstKept false (front 0 lead.now []) rows.now result }
 {
@@ -128,7 +129,7 @@ pub(crate) fn fits_in_turn(parts: &[Part], row: &[Value], tuple: &[Value]) -> Op
 }
 
 /// Whether the row before the place is the parts with the tuple's values put in, and the variables first stand in the order of their numbers.
-fn is_after_row(rows: &Rows, parts: &[Part], tuple: &[Value], at: usize) -> bool
+fn is_after_row(rows: &Runs, parts: &[Part], tuple: &[Value], at: usize) -> bool
     ensures bound { result ≡ true → at ≤ length rows.now }
     ensures some { result ≡ true → 1 ≤ at }
     ensures row { result ≡ true → fits_all parts.now (slice_index_or rows.now (at - 1) []) tuple.now ≡ true }
@@ -144,7 +145,7 @@ fn is_after_row(rows: &Rows, parts: &[Part], tuple: &[Value], at: usize) -> bool
 ///
 /// They are counted by halves where `near` is another number.
 pub(crate) fn rows_up_to(
-    rows: &Rows,
+    rows: &Runs,
     parts: &[Part],
     begun: bool,
     tuple: &[Value],
@@ -169,7 +170,7 @@ pub(crate) fn rows_up_to(
 
 /// How many rows come before those with the tuples after that in place, counted by halves, or before all tuples where none is.
 fn rows_up_to_by_halves(
-    rows: &Rows,
+    rows: &Runs,
     parts: &[Part],
     begun: bool,
     tuple: &[Value],

@@ -6,10 +6,11 @@ ghost use Rattle.std.specs.Prelude.{◌≡◌, ◌<◌, ◌≤◌, Bool, false, 
 ghost use Rattle.tl_syntax.specs.declared.fact.Fact.{Fact as PlainFact};
 ghost use Rattle.tl_syntax.specs.Keys.{fact_key};
 ghost use Rattle.tl_terms.specs.Step.{with_all, without_all};
-ghost use Rattle.tl_world.specs.Moves.{IsMoved, IsTakenOut, AreSameBeside};
-ghost use Rattle.tl_world.specs.Tables.{InOrder, fact_tables, set_of};
+ghost use Rattle.tl_world.specs.Moves.{IsMoved, IsTakenOut, AreSameBeside, changed_facts};
+ghost use Rattle.tl_world.specs.Tables.{InOrder, fact_tables, facts_of};
 
 use crate::Rows;
+use crate::kept::keep_second_orders;
 use crate::named::{Named, find_table};
 use crate::runs::find_row;
 use std::alloc::Global;
@@ -65,7 +66,7 @@ fn without(
 ) -> Result<(), NoMemory>
     requires { InOrder (fact_tables tables.old.items) }
     ensures order { OnOk result (InOrder (fact_tables tables.new.items)) }
-    ensures facts { OnOk result (AreSameBeside adds.now (set_of (fact_tables tables.new.items)) (set.remove (set_of (fact_tables tables.old.items)) (pred, args.now))) }
+    ensures facts { OnOk result (AreSameBeside adds.now (facts_of tables.new.items) (set.remove (facts_of tables.old.items) (pred, args.now))) }
 {
     match find_table(tables.as_slice(), pred) {
         Err(_) => Ok(()),
@@ -101,7 +102,7 @@ fn without_each(
 ) -> Result<(), NoMemory>
     requires { InOrder (fact_tables tables.old.items) }
     ensures order { OnOk result (InOrder (fact_tables tables.new.items)) }
-    ensures facts { OnOk result (AreSameBeside adds.now (set_of (fact_tables tables.new.items)) (without_all (set_of (fact_tables tables.old.items)) (map fact_key dels.now))) }
+    ensures facts { OnOk result (AreSameBeside adds.now (facts_of tables.new.items) (without_all (facts_of tables.old.items) (map fact_key dels.now))) }
 {
     let mut i = dels.len();
     while i > 0 {
@@ -132,7 +133,7 @@ fn with_fact(
 ) -> Result<(), NoMemory>
     requires { InOrder (fact_tables tables.old.items) }
     ensures order { OnOk result (InOrder (fact_tables tables.new.items)) }
-    ensures facts { OnOk result (set_of (fact_tables tables.new.items) ≡ set.insert (set_of (fact_tables tables.old.items)) (pred, args.now)) }
+    ensures facts { OnOk result (facts_of tables.new.items ≡ set.insert (facts_of tables.old.items) (pred, args.now)) }
 {
     match find_table(tables.as_slice(), pred) {
         Err(i) => {
@@ -169,7 +170,7 @@ fn with_fact(
 fn with_each(alloc: Global, tables: &mut Vec<Named<Rows>>, adds: &[Fact]) -> Result<(), NoMemory>
     requires { InOrder (fact_tables tables.old.items) }
     ensures order { OnOk result (InOrder (fact_tables tables.new.items)) }
-    ensures facts { OnOk result (set_of (fact_tables tables.new.items) ≡ with_all (set_of (fact_tables tables.old.items)) (map fact_key adds.now)) }
+    ensures facts { OnOk result (facts_of tables.new.items ≡ with_all (facts_of tables.old.items) (map fact_key adds.now)) }
 {
     let mut j = adds.len();
     while j > 0 {
@@ -196,7 +197,7 @@ fn falling(alloc: Global, facts: &[Fact]) -> Result<Vec<Fact>, NoMemory>
 fn with_facts(alloc: Global, tables: &mut Vec<Named<Rows>>, adds: &[Fact]) -> Result<(), NoMemory>
     requires { InOrder (fact_tables tables.old.items) }
     ensures order { OnOk result (InOrder (fact_tables tables.new.items)) }
-    ensures facts { OnOk result (set_of (fact_tables tables.new.items) ≡ with_all (set_of (fact_tables tables.old.items)) (map fact_key adds.now)) }
+    ensures facts { OnOk result (facts_of tables.new.items ≡ with_all (facts_of tables.old.items) (map fact_key adds.now)) }
 {
     if adds.len() < 8 {
         with_each(alloc, tables, adds)
@@ -224,8 +225,9 @@ pub(crate) fn change_facts(
 ) -> Result<(), NoMemory>
     requires { InOrder (fact_tables tables.old.items) }
     ensures order { OnOk result (InOrder (fact_tables tables.new.items)) }
-    ensures facts { OnOk result (set_of (fact_tables tables.new.items) ≡ with_all (without_all (set_of (fact_tables tables.old.items)) (map fact_key dels.now)) (map fact_key adds.now)) }
+    ensures facts { OnOk result (facts_of tables.new.items ≡ changed_facts (facts_of tables.old.items) dels.now adds.now) }
 {
     without_each(alloc, tables, dels, few(adds))?;
-    with_facts(alloc, tables, adds)
+    with_facts(alloc, tables, adds)?;
+    keep_second_orders(alloc, tables)
 }

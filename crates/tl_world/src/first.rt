@@ -3,12 +3,13 @@ ghost use Rattle.std.specs.Prelude.{◌≡◌, ◌<◌, ◌≤◌, ℕ, List, le
 ghost use Rattle.std.specs.Option.{is_some};
 ghost use Rattle.tl_syntax.specs.Lists.{Rises};
 ghost use Rattle.tl_world.specs.Fits.{fits_at, fits_all, occurs, BeginsAs};
-ghost use Rattle.tl_world.specs.Front.{seen_after, seen_in, is_in_turn, are_in_turn};
+ghost use Rattle.tl_world.specs.Front.{BeginsOn, seen_after, seen_in, is_in_turn, are_in_turn};
 ghost use Rattle.tl_world.specs.Least.{IsLeast, fits_some, found_in};
 ghost use Rattle.tl_world.specs.Tables.{row_cmp};
 
+use crate::Part;
 use crate::front::order_of_front;
-use crate::{Part, Rows};
+use crate::runs::Runs;
 use tl_syntax::Value;
 
 /// How many first variables have values after the part, where a tuple that begins with the first `seen` values can make it the value `v`. A new variable gets its value.
@@ -18,7 +19,7 @@ pub(crate) fn put_value(part: Part, v: Value, seen: usize, values: &mut [Value; 
     ensures seen { IfSome result (λ next. next ≡ seen_after seen part) }
     ensures kept { BeginsAs seen values.new values.old }
     ensures fits { IfSome result (λ _. (t : List Value) → BeginsAs (seen_after seen part) values.new t → fits_at part v t ≡ true) }
-    ensures known { IfSome result (λ _. (t : List Value) → BeginsAs seen values.old t → fits_at part v t ≡ true → BeginsAs (seen_after seen part) values.new t) }
+    ensures known { IfSome result (λ _. BeginsOn part v seen values.old values.new) }
     ensures none { IfNone result ((t : List Value) → BeginsAs seen values.old t → fits_at part v t ≡ false) }
 {
     match part {
@@ -72,7 +73,7 @@ pub(crate) fn put_values(
 ///
 /// Rows are looked at up to the first whose leading values exceed the fixed leading parts.
 pub(crate) fn put_first(
-    rows: &Rows,
+    rows: &Runs,
     parts: &[Part],
     free: u32,
     from: usize,

@@ -56,7 +56,7 @@ fn part_of_ends(ends: &[usize], from: usize, to: usize) -> &[usize]
     &ends[from..to]
 }
 
-/// More ends, moved so that `last` becomes `after`. After a failure the first ends are those of before.
+/// More ends, moved so that `last` becomes `after`, or in one copy where that is the same. After a failure the first ends are those of before.
 fn push_moved(
     ends: &mut Vec<usize>,
     more: &[usize],
@@ -67,6 +67,10 @@ fn push_moved(
     ensures all { OnOk result (ends.new.items ≡ ends.old.items ++ map (λ e. after - (last - e)) more.now) }
     ensures first { take (length ends.old.items) ends.new.items ≡ ends.old.items }
 {
+    if after == last {
+        ends.extend_from_slice(more)?;
+        return Ok(());
+    }
     ends.reserve(more.len())?;
     for e in more {
         ends.push(after - (last - e))?;

@@ -2,11 +2,13 @@
 //!
 //! - `flat`: rows in one list.
 //! - `shared`, `runs`, `moves`: rows in runs, which tables share, and edits of them.
+//! - `second`, `second_made`: rows by their second value, and how they are made.
 //! - `rows`: the facts of one predicate, with a code that is kept.
 //! - `table`: the places of one function with their values, with a code that is kept.
 //! - `row_search`: the place of a row in one list, found by halves.
 //! - `named`: a table with the number of its predicate or function, shared between worlds.
 //! - `facts`, `places`: the tables of facts and of places, and edits of them.
+//! - `kept`: which tables keep their rows by the second value too.
 //! - `world`: the world itself, with its look-ups, its matches and its changes.
 //! - `worlds`: worlds by numbers.
 //! - `task`: a problem with its initial world and its goal as worlds, and the goal test.
@@ -14,14 +16,17 @@
 //! - `laws`: what is proved of the equality of worlds and of the matches of a pattern.
 //! - `matches`: the tuples that make a pattern true in a world, one after another.
 //! - `row_match`, `front`, `after`, `first`, `first_place`, `next`: the tuple of one row, the leading values of a row, the rows up to a tuple, the first row and the first place that a pattern fits, and the least tuple of a table.
+//! - `by_second`: the least tuple of a table by the second values of its rows.
 #![tactic(auto)]
 
 mod after;
+mod by_second;
 mod facts;
 mod first;
 mod first_place;
 mod flat;
 mod front;
+mod kept;
 pub mod laws;
 mod matches;
 mod moves;
@@ -33,6 +38,8 @@ mod row_match;
 mod row_search;
 mod rows;
 mod runs;
+mod second;
+mod second_made;
 mod shared;
 mod table;
 mod task;

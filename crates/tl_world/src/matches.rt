@@ -1,11 +1,11 @@
 // The tuples that make a pattern true in a world, one after another.
 ghost use Rattle.std.specs.Option.{option_map};
-ghost use Rattle.std.specs.Prelude.{◌≡◌, ◌&&◌, true, false, IfSome};
-ghost use Rattle.tl_world.specs.Least.{IsLeast, above, match_in_place};
-ghost use Rattle.tl_world.specs.Next.{IsNext};
-ghost use Rattle.tl_world.specs.Patterns.{IsLawful, makes_true, is_true_of, filled, parts_of, tuple_of, tuple_in_place};
+ghost use Rattle.std.specs.Prelude.{◌≡◌, true, false, IfSome};
+ghost use Rattle.tl_world.specs.Next.{IsNext, PutsNextOf};
+ghost use Rattle.tl_world.specs.Patterns.{IsLawful, makes_true, tuple_of, tuple_in_place};
 
-use crate::next::{put_next, put_next_in_places};
+use crate::by_second::put_next_in_table;
+use crate::next::put_next_in_places;
 use crate::{Match, Pattern, World};
 use tl_syntax::Value;
 
@@ -54,6 +54,7 @@ impl World {
     ///
     /// It looks at one table. Where the variables first stand in the order of their numbers, the rows are looked at from the guess on, or, where this is wrong, from a place that is found by halves, up to the first that the pattern fits.
     /// Where they do not, all rows with the same fixed leading values are looked at, up to the first whose leading values exceed those of the best tuple so far.
+    /// Where the first part is free and the second fixed, and the table has more than 128 rows, the rows with that second value are found in the same way among those by their second value.
     pub fn put_next_match(
         &self,
         pattern: &Pattern,
@@ -82,12 +83,12 @@ impl World {
         near: &mut usize,
     ) -> bool
         requires pattern { IsLawful pattern.now }
-        ensures { IsLeast pattern.now.free (λ t. is_true_of self.now false pattern.now.name (filled (parts_of pattern.now) t) && above (match_in_place begun tuple.old) pattern.now.free t) (match_in_place result tuple.new) }
+        ensures { PutsNextOf self.now false pattern.now begun tuple.old result tuple.new }
     {
         match self.rows(pattern.name) {
             Some(rows) => {
                 let parts = &pattern.parts[..pattern.len as usize];
-                put_next(rows, parts, pattern.free, begun, tuple, near)
+                put_next_in_table(rows, parts, pattern.free, begun, tuple, near)
             }
             None => false,
         }
@@ -103,7 +104,7 @@ impl World {
     ) -> bool
         requires pattern { IsLawful pattern.now }
         requires place { pattern.now.place ≡ true }
-        ensures { IsLeast pattern.now.free (λ t. is_true_of self.now true pattern.now.name (filled (parts_of pattern.now) t) && above (match_in_place begun tuple.old) pattern.now.free t) (match_in_place result tuple.new) }
+        ensures { PutsNextOf self.now true pattern.now begun tuple.old result tuple.new }
     {
         match self.places(pattern.name) {
             Some(rows) => {

@@ -4,7 +4,7 @@ ghost use Rattle.std.specs.Prelude.{◌≡◌, ◌<◌, ◌≤◌, ◌&&◌, ◌
 ghost use Rattle.tl_syntax.specs.Lists.{Rises};
 ghost use Rattle.tl_world.specs.Fits.{occurs};
 ghost use Rattle.tl_world.specs.Front.{front, front_cmp, known_of};
-ghost use Rattle.tl_world.specs.Least.{IsLeast, above, lower, lesser, fits_some, match_in_place};
+ghost use Rattle.tl_world.specs.Least.{IsLeast, PutsNext, above, lower, lesser, fits_some, match_in_place};
 ghost use Rattle.tl_world.specs.Tables.{row_cmp, whole_row};
 
 use crate::after::{rows_before, rows_up_to};
@@ -12,7 +12,8 @@ use crate::first::put_first;
 use crate::first_place::{places_before, places_up_to, put_first_place};
 use crate::front::{order_of_front, values_of};
 use crate::row_match::{match_place, match_row};
-use crate::{Match, Part, PlaceRow, Rows};
+use crate::runs::Runs;
+use crate::{Match, Part, PlaceRow};
 use tl_syntax::Value;
 
 #[tactic(auto, using(crate::proofs::Order::orders))]
@@ -101,7 +102,7 @@ fn put_match(found: &Option<Match>, tuple: &mut Match) -> bool
 ///
 /// Where the variables first stand in the order of their numbers, it is that of the first row after those up to the tuple in place that the parts fit.
 pub(crate) fn put_next(
-    rows: &Rows,
+    rows: &Runs,
     parts: &[Part],
     free: u32,
     begun: bool,
@@ -113,7 +114,7 @@ pub(crate) fn put_next(
     requires slots { (n : ℕ) → occurs n parts.now ≡ true → n < free }
     requires short { length parts.now ≤ 9 }
     requires order { Rises row_cmp rows.now }
-    ensures { IsLeast free (λ t. fits_some parts.now rows.now t && above (match_in_place begun tuple.old) free t) (match_in_place result tuple.new) }
+    ensures { PutsNext free parts.now rows.now begun tuple.old result tuple.new }
 {
     let n = free as usize;
     match rows_up_to(rows, parts, begun, &tuple.values[..n], *near) {
@@ -130,12 +131,12 @@ pub(crate) fn put_next(
 }
 
 /// Puts the least tuple after that in place that makes the parts one of the rows in place, whatever the order of the variables.
-fn put_least(rows: &Rows, parts: &[Part], free: u32, begun: bool, tuple: &mut Match) -> bool
+fn put_least(rows: &Runs, parts: &[Part], free: u32, begun: bool, tuple: &mut Match) -> bool
     requires few { free ≤ 9 }
     requires each { (n : ℕ) → n < free → occurs n parts.now ≡ true }
     requires short { length parts.now ≤ 9 }
     requires order { Rises row_cmp rows.now }
-    ensures { IsLeast free (λ t. fits_some parts.now rows.now t && above (match_in_place begun tuple.old) free t) (match_in_place result tuple.new) }
+    ensures { PutsNext free parts.now rows.now begun tuple.old result tuple.new }
 {
     put_match(
         &least_in_rows(rows, parts, free, &match_in_place(begun, tuple)),
@@ -147,7 +148,7 @@ fn put_least(rows: &Rows, parts: &[Part], free: u32, begun: bool, tuple: &mut Ma
 ///
 /// The first row is found by halves, by the leading parts that are fixed or have their values from `after`.
 /// Rows are looked at up to the first whose leading parts exceed the fixed ones, or those of the best match so far.
-fn least_in_rows(rows: &Rows, parts: &[Part], free: u32, after: &Option<Match>) -> Option<Match>
+fn least_in_rows(rows: &Runs, parts: &[Part], free: u32, after: &Option<Match>) -> Option<Match>
     requires few { free ≤ 9 }
     requires each { (n : ℕ) → n < free → occurs n parts.now ≡ true }
     requires short { length parts.now ≤ 9 }
@@ -184,7 +185,7 @@ pub(crate) fn put_next_in_places(
     requires short { length parts.now ≤ 9 }
     requires some { 1 ≤ length parts.now }
     requires order { Rises row_cmp (map (λ r. r.args) rows.now) }
-    ensures { IsLeast free (λ t. fits_some parts.now (map whole_row rows.now) t && above (match_in_place begun tuple.old) free t) (match_in_place result tuple.new) }
+    ensures { PutsNext free parts.now (map whole_row rows.now) begun tuple.old result tuple.new }
 {
     let n = free as usize;
     match places_up_to(rows, parts, begun, &tuple.values[..n], *near) {
@@ -214,7 +215,7 @@ fn put_least_place(
     requires short { length parts.now ≤ 9 }
     requires some { 1 ≤ length parts.now }
     requires order { Rises row_cmp (map (λ r. r.args) rows.now) }
-    ensures { IsLeast free (λ t. fits_some parts.now (map whole_row rows.now) t && above (match_in_place begun tuple.old) free t) (match_in_place result tuple.new) }
+    ensures { PutsNext free parts.now (map whole_row rows.now) begun tuple.old result tuple.new }
 {
     let found = put_match(
         &next_in_places(rows, parts, free, &match_in_place(begun, tuple)),

@@ -2,13 +2,15 @@
 ghost use Rattle.std.specs.Hash as fed;
 ghost use Rattle.std.specs.Hash.{same_Alike};
 ghost use Rattle.std.specs.List.{insert, remove};
-ghost use Rattle.std.specs.Prelude.{◌≡◌, ◌<◌, ◌≤◌, ◌==◌, [], ◌∷◌, length, slice_index_or, IfOk};
+ghost use Rattle.std.specs.Prelude.{◌≡◌, ◌<◌, ◌≤◌, ◌==◌, [], ◌∷◌, length, slice_index_or, IfOk, IfSome};
 ghost use Rattle.tl_world.specs.Codes.{row_code, rows_code, values_eq};
 ghost use Rattle.tl_world.specs.Moves.{place_after};
 ghost use Rattle.tl_world.specs.RowTests.{rows_eq, rows-tell};
 ghost use Rattle.tl_world.specs.Same.{tells-partial, tells-equivalence};
+ghost use Rattle.tl_world.specs.Second.{IsSecond};
 
 use crate::runs::Runs;
+use crate::second::Second;
 use std::alloc::Global;
 use std::hash::{FoldHasher, Hash, Hasher};
 use std::marker::Model;
@@ -16,23 +18,28 @@ use tl_syntax::{NoMemory, Value};
 
 /// The argument lists of one predicate's facts. Contracts see it as the list of its rows.
 ///
-/// The rows stand in runs, which tables share.
+/// The rows stand in runs, which tables share. A large table of rows with two values or more keeps them by their second value too.
 #[derive(Drop)]
 pub struct Rows {
     runs: Runs,
+    second: Second,
     code: u64,
 }
+
+/// How many rows a table has at least that is given a second order.
+const LARGE: usize = 129;
 
 impl Model for Rows {
     ghost use Rattle.std.specs.Prelude.{List, ◌≡◌};
     ghost use Rattle.tl_syntax.specs.declared.value.Value.{Value as PlainValue};
     ghost use Rattle.tl_world.specs.Codes.{rows_code};
+    ghost use Rattle.tl_world.specs.Second.{IsKept};
 
     ghost Value = { List (List PlainValue) };
 
     ghost view = { λ r. r.runs };
 
-    ghost invariant = { λ r. r.code ≡ rows_code r.runs };
+    ghost invariant = { λ r. (r.code ≡ rows_code r.runs) × IsKept r.runs r.second };
 }
 
 /// The code of a row.
@@ -75,12 +82,38 @@ impl Rows {
         &self.runs
     }
 
+    /// The rows with their first two values exchanged, in order, where the table keeps them so too.
+    #[inline]
+    pub(crate) fn second(&self) -> Option<&Runs>
+        ensures { IfSome result (λ second. IsSecond self.now second.now) }
+    {
+        self.second.rows()
+    }
+
+    /// Whether the table is large enough for a second order and has none.
+    pub(crate) fn wants_second(&self) -> bool {
+        self.runs.len() >= LARGE && self.runs.row(0).len() > 1 && self.second.rows().is_none()
+    }
+
+    /// The same rows, with their second order.
+    pub(crate) fn with_second(self, alloc: Global) -> Result<Rows, NoMemory>
+        ensures { IfOk result (λ r. r ≡ self) }
+    {
+        let second = Second::of_rows(alloc, &self.runs)?;
+        Ok(Rows {
+            runs: self.runs,
+            second,
+            code: self.code,
+        })
+    }
+
     /// The table of one row.
     pub(crate) fn of_one(alloc: Global, row: &[Value]) -> Result<Rows, NoMemory>
         ensures { IfOk result (λ r. r ≡ row.now ∷ []) }
     {
         Ok(Rows {
             runs: Runs::of_one(alloc, row)?,
+            second: Second::none(),
             code: code_of_row(row),
         })
     }
@@ -92,6 +125,7 @@ impl Rows {
     {
         Ok(Rows {
             runs: self.runs.with(alloc, k, row)?,
+            second: self.second.with(alloc, row)?,
             code: self.code.wrapping_add(code_of_row(row)),
         })
     }
@@ -101,8 +135,10 @@ impl Rows {
         requires { k ≤ length self }
         ensures { IfOk result (λ r. r ≡ insert self k row.now) }
     {
+        let second = self.second.with(alloc, row)?;
         Ok(Rows {
             runs: self.runs.put(alloc, k, row)?,
+            second,
             code: self.code.wrapping_add(code_of_row(row)),
         })
     }
@@ -114,6 +150,7 @@ impl Rows {
     {
         Ok(Rows {
             runs: self.runs.without(alloc, k)?,
+            second: self.second.without(alloc, self.runs.row(k))?,
             code: self.code.wrapping_sub(code_of_row(self.runs.row(k))),
         })
     }
@@ -133,6 +170,7 @@ impl Rows {
         let more = self.code.wrapping_add(code_of_row(row));
         Ok(Rows {
             runs: self.runs.moved(alloc, cut, at, row)?,
+            second: self.second.moved(alloc, self.runs.row(cut), row)?,
             code: more.wrapping_sub(code_of_row(self.runs.row(cut))),
         })
     }

@@ -10,7 +10,7 @@ ghost use Rattle.tl_world.specs.Tables.{row_cmp};
 
 use crate::flat::Flat;
 use crate::row_search::{begins_after, find_in};
-use crate::shared::{MOST, Shared};
+use crate::shared::{FEWEST, MOST, Shared};
 use std::alloc::Global;
 use std::marker::Model;
 use std::mem;
@@ -52,6 +52,16 @@ impl Runs {
         Ok(Runs {
             shared: Shared::with_room(alloc, 0)?,
             last,
+        })
+    }
+
+    /// No rows.
+    pub(crate) fn new(alloc: Global) -> Result<Runs, NoMemory>
+        ensures { IfOk result (λ r. r ≡ []) }
+    {
+        Ok(Runs {
+            shared: Shared::with_room(alloc, 0)?,
+            last: Flat::with_room(alloc, 0, 0)?,
         })
     }
 
@@ -132,7 +142,7 @@ impl Runs {
     }
 
     /// Makes the last rows a run, so that new last rows begin.
-    fn close(&mut self, alloc: Global) -> Result<(), NoMemory>
+    pub(crate) fn close(&mut self, alloc: Global) -> Result<(), NoMemory>
         ensures { OnOk result (self.new ≡ self.old) }
     {
         let none = Flat::with_room(alloc, 0, 0)?;
@@ -185,7 +195,7 @@ impl Runs {
     /// Whether the run goes in by sharing: one with few rows is copied, and so is one that fits in with the last rows.
     fn takes_run(&self, rows: &Flat) -> bool {
         let count = self.last.len();
-        rows.len() >= MOST / 4 && (count == 0 || count + rows.len() > MOST)
+        rows.len() >= FEWEST && (count == 0 || count + rows.len() > MOST)
     }
 
     /// Some rows of the other from place `k` on, at the end, but none from the place `to` on. It gives the place after them. `guess` is a guess for the run of the other.
@@ -216,6 +226,49 @@ impl Runs {
         Ok(next)
     }
 
+    /// Whole runs of the other from place `k` on at the end, where there are no last rows before them. It gives the place after them. `guess` is a guess for the run of the other.
+    fn push_whole(
+        &mut self,
+        other: &Runs,
+        k: usize,
+        to: usize,
+        guess: &mut usize,
+    ) -> Result<usize, NoMemory>
+        requires { k < to }
+        ensures { IfOk result (λ n. (k ≤ n) × (n ≤ to) × (self.new ≡ self.old ++ between other.now k n)) }
+    {
+        let count = self.last.len();
+        if count > 0 {
+            return Ok(k);
+        }
+        let full = other.shared.len();
+        if k >= full {
+            return Ok(k);
+        }
+        self.shared.push_runs(&other.shared, k, to, guess)
+    }
+
+    /// Some rows of the other from place `k` on, at the end, but none from the place `to` on, whole runs first. It gives the place after them. `guess` is a guess for the run of the other.
+    fn push_more(
+        &mut self,
+        alloc: Global,
+        other: &Runs,
+        k: usize,
+        to: usize,
+        guess: &mut usize,
+    ) -> Result<usize, NoMemory>
+        requires some { k < to }
+        requires bound { to ≤ length other.now }
+        ensures { IfOk result (λ n. (k < n) × (n ≤ to) × (self.new ≡ self.old ++ between other.now k n)) }
+    {
+        let next = self.push_whole(other, k, to, guess)?;
+        if next >= to {
+            return Ok(next);
+        }
+        let after = self.push_some(alloc, other, next, to, guess)?;
+        Ok(after)
+    }
+
     /// The rows `from..to` of the other at the end.
     pub(crate) fn push_rows(
         &mut self,
@@ -231,7 +284,7 @@ impl Runs {
         let mut k = from;
         let mut guess = 0;
         while k < to {
-            k = self.push_some(alloc, other, k, to, &mut guess)?;
+            k = self.push_more(alloc, other, k, to, &mut guess)?;
         }
         if self.last.len() > MOST {
             return self.close(alloc);

@@ -1,7 +1,7 @@
 // Runs of rows that tables share.
-ghost use Rattle.std.specs.Prelude.{◌≡◌, ◌≢◌, ◌<◌, ◌≤◌, ◌+◌, ◌^◌, [], ◌++◌, length, slice_index_or, IfOk, OnOk};
+ghost use Rattle.std.specs.Prelude.{◌≡◌, ◌≢◌, ◌<◌, ◌≤◌, ◌+◌, ◌^◌, [], ◌++◌, length, slice_index_or, true, IfOk, OnOk};
 ghost use Rattle.std.specs.declared.cmp.Ordering.TheVariants.{Greater};
-ghost use Rattle.tl_world.specs.Runs.{joined, run_place, AreCounted, IsPart, IsPartFor};
+ghost use Rattle.tl_world.specs.Runs.{between, joined, run_place, AreCounted, IsPart, IsPartFor};
 ghost use Rattle.tl_world.specs.Tables.{row_cmp};
 
 use crate::flat::Flat;
@@ -13,6 +13,9 @@ use tl_syntax::{NoMemory, Value};
 
 /// How many rows a run has at most, and so how many a table has that is not cut into runs.
 pub(crate) const MOST: usize = 64;
+
+/// How many rows a run has at least that is shared. One with fewer is copied, and so joined to the next.
+pub(crate) const FEWEST: usize = 16;
 
 /// One more than the greatest place that is counted.
 const COUNTED: usize = 9223372036854775808;
@@ -111,6 +114,14 @@ fn find_run_for(runs: &[Run], args: &[Value]) -> usize
     low
 }
 
+/// Whether the run ends at the place or before and has rows enough to be shared.
+#[inline]
+fn is_whole(run: &Run, to: usize) -> bool
+    ensures { result ≡ true → run.now.end ≤ to }
+{
+    run.end <= to && run.rows.len() >= FEWEST
+}
+
 impl Shared {
     /// No runs, with room for as many as are given.
     pub(crate) fn with_room(alloc: Global, runs: usize) -> Result<Shared, NoMemory>
@@ -175,6 +186,37 @@ impl Shared {
         }
         self.runs.push(Run { rows, end })?;
         Ok(())
+    }
+
+    /// Runs of the other at the end, which are shared: those from place `k` on, up to the first that has few rows or goes past the place `to`, and none where no run begins at `k`. It gives the place after them. `guess` is a guess for the run of the other.
+    pub(crate) fn push_runs(
+        &mut self,
+        other: &Shared,
+        k: usize,
+        to: usize,
+        guess: &mut usize,
+    ) -> Result<usize, NoMemory>
+        requires some { k < to }
+        requires bound { k < length other.now }
+        ensures range { IfOk result (λ n. (k ≤ n) × (n ≤ to) × (n ≤ length other.now)) }
+        ensures rows { IfOk result (λ n. self.new ≡ self.old ++ between other.now k n) }
+    {
+        let runs = other.runs.as_slice();
+        let mut i = find_run(runs, k, *guess);
+        if begin(runs, i) != k {
+            return Ok(k);
+        }
+        while i < runs.len() {
+            if !is_whole(&runs[i], to) {
+                *guess = i;
+                return Ok(begin(runs, i));
+            }
+            let rows = runs[i].rows.clone()?;
+            self.push(rows)?;
+            i += 1;
+        }
+        *guess = i;
+        Ok(begin(runs, i))
     }
 
     /// Rows at the end, as one run or, where they are many, as two.

@@ -1,8 +1,9 @@
 use Rattle.std.proofs.Common.{◌≡◌, List, [], length, Option, Some, None, true, false, true≢false, sym, ap, ◌∙◌, subst}
 use Rattle.tl_action.specs.Agreement.{Agree}
 use Rattle.tl_action.specs.Answers.{IsCausedBy}
-use Rattle.tl_action.specs.Join.{variables, IsFound}
+use Rattle.tl_action.specs.Join.{arranged, variables, IsFound}
 use Rattle.tl_action.specs.Prepared.{HaveValues, is_prepared, looked_prepared}
+use Rattle.tl_action.proofs.Arranged.{keeps-with}
 use Rattle.tl_action.proofs.EffectParts.{agree-self}
 use Rattle.tl_action.proofs.Operators.{counted-differ, counted-slots}
 use Rattle.tl_action.proofs.Rows.{variables-fit, no-fault, row-found, found-row, row-fault, one-row, no-row}
@@ -35,34 +36,34 @@ is_prepared-requires-clause-values c =
 pub returns-in_ok-push-in-Ok-true-clause-rows : goal.returns-in_ok-push-in-Ok-true-clause-rows
 returns-in_ok-push-in-Ok-true-clause-rows c =
     let row : term_values c.args.w.now (assignment_in c.args.env.now) (variables c.args.operator.now.params) ≡ Some c.in-Ok-Some.row = ap (term_values c.args.w.now (assignment_in c.args.env.now)) (sym c.requires.order.terms) ∙ (sym c.in-Ok-Some.ensures.values ∙ c.in-Ok-Some.field-0-is) in
-    let ready : is_prepared (plain_problem c.args.task.now.problem) c.args.w.now (assignment_in c.args.env.now) (plain_operator c.args.operator.now) ≡ true =
-    ap (λ env. is_prepared (plain_problem c.args.task.now.problem) c.args.w.now (assignment_in env) (plain_operator c.args.operator.now)) (sym c.values_of.ensures.frame) ∙ sym (sym c.in-Ok-true.field-0-test ∙ c.in-Ok-true.ensures.answer) in
-    one-row (IsFound (plain_problem c.args.task.now.problem) c.args.w.now (plain_operator c.args.operator.now) c.args.operator.now.bounds [] (assignment_in c.args.env.now)) c.args.rows.now.items c.push.new.self.items c.in-Ok-Some.row c.in_ok-push-in-Ok-true.ensures.items (row-found (signature_of c.args.task.now.problem.domain) (length c.args.task.now.problem.names) (plain_problem c.args.task.now.problem) c.args.w.now c.args.operator.now c.requires.keeps (counted-differ c.args.operator.now.params c.requires.keeps.params.counted) (assignment_in c.args.env.now) c.in-Ok-Some.row row ready)
-    (λ t h. same-row (term_values c.args.w.now (assignment_in c.args.env.now) (variables c.args.operator.now.params)) t c.in-Ok-Some.row (found-row (signature_of c.args.task.now.problem.domain) (length c.args.task.now.problem.names) (plain_problem c.args.task.now.problem) c.args.w.now c.args.operator.now c.requires.keeps (counted-differ c.args.operator.now.params c.requires.keeps.params.counted) (assignment_in c.args.env.now) t h).0 row)
+    let ready : is_prepared (plain_problem c.args.task.now.problem) c.args.w.now (assignment_in c.args.env.now) (plain_operator (arranged c.args.operator.now c.args.order.now)) ≡ true =
+    ap (λ env. is_prepared (plain_problem c.args.task.now.problem) c.args.w.now (assignment_in env) (plain_operator (arranged c.args.operator.now c.args.order.now))) (sym c.values_of.ensures.frame) ∙ sym (sym c.in-Ok-true.field-0-test ∙ c.in-Ok-true.ensures.answer) in
+    one-row (IsFound (plain_problem c.args.task.now.problem) c.args.w.now (plain_operator (arranged c.args.operator.now c.args.order.now)) (arranged c.args.operator.now c.args.order.now).bounds [] (assignment_in c.args.env.now)) c.args.rows.now.items c.push.new.self.items c.in-Ok-Some.row c.in_ok-push-in-Ok-true.ensures.items (row-found (signature_of c.args.task.now.problem.domain) (length c.args.task.now.problem.names) (plain_problem c.args.task.now.problem) c.args.w.now (arranged c.args.operator.now c.args.order.now) (keeps-with (signature_of c.args.task.now.problem.domain) (length c.args.task.now.problem.names) c.args.operator.now (arranged c.args.operator.now c.args.order.now).bounds c.requires.order.same c.requires.keeps) (counted-differ c.args.operator.now.params c.requires.keeps.params.counted) (assignment_in c.args.env.now) c.in-Ok-Some.row row ready)
+    (λ t h. same-row (term_values c.args.w.now (assignment_in c.args.env.now) (variables c.args.operator.now.params)) t c.in-Ok-Some.row (found-row (signature_of c.args.task.now.problem.domain) (length c.args.task.now.problem.names) (plain_problem c.args.task.now.problem) c.args.w.now (arranged c.args.operator.now c.args.order.now) (keeps-with (signature_of c.args.task.now.problem.domain) (length c.args.task.now.problem.names) c.args.operator.now (arranged c.args.operator.now c.args.order.now).bounds c.requires.order.same c.requires.keeps) (counted-differ c.args.operator.now.params c.requires.keeps.params.counted) (assignment_in c.args.env.now) t h).0 row)
 
 pub returns-in-Ok-false-clause-rows : goal.returns-in-Ok-false-clause-rows
 returns-in-Ok-false-clause-rows c =
-    let blocked : is_prepared (plain_problem c.args.task.now.problem) c.args.w.now (assignment_in c.args.env.now) (plain_operator c.args.operator.now) ≡ false =
-    ap (λ env. is_prepared (plain_problem c.args.task.now.problem) c.args.w.now (assignment_in env) (plain_operator c.args.operator.now)) (sym c.values_of.ensures.frame) ∙ sym (sym c.in-Ok-false.field-0-test ∙ c.in-Ok-false.ensures.answer) in
-    no-row (IsFound (plain_problem c.args.task.now.problem) c.args.w.now (plain_operator c.args.operator.now) c.args.operator.now.bounds [] (assignment_in c.args.env.now)) c.args.rows.now.items (λ t h. true≢false (sym (found-row (signature_of c.args.task.now.problem.domain) (length c.args.task.now.problem.names) (plain_problem c.args.task.now.problem) c.args.w.now c.args.operator.now c.requires.keeps (counted-differ c.args.operator.now.params c.requires.keeps.params.counted) (assignment_in c.args.env.now) t h).1 ∙ blocked))
+    let blocked : is_prepared (plain_problem c.args.task.now.problem) c.args.w.now (assignment_in c.args.env.now) (plain_operator (arranged c.args.operator.now c.args.order.now)) ≡ false =
+    ap (λ env. is_prepared (plain_problem c.args.task.now.problem) c.args.w.now (assignment_in env) (plain_operator (arranged c.args.operator.now c.args.order.now))) (sym c.values_of.ensures.frame) ∙ sym (sym c.in-Ok-false.field-0-test ∙ c.in-Ok-false.ensures.answer) in
+    no-row (IsFound (plain_problem c.args.task.now.problem) c.args.w.now (plain_operator (arranged c.args.operator.now c.args.order.now)) (arranged c.args.operator.now c.args.order.now).bounds [] (assignment_in c.args.env.now)) c.args.rows.now.items (λ t h. true≢false (sym (found-row (signature_of c.args.task.now.problem.domain) (length c.args.task.now.problem.names) (plain_problem c.args.task.now.problem) c.args.w.now (arranged c.args.operator.now c.args.order.now) (keeps-with (signature_of c.args.task.now.problem.domain) (length c.args.task.now.problem.names) c.args.operator.now (arranged c.args.operator.now c.args.order.now).bounds c.requires.order.same c.requires.keeps) (counted-differ c.args.operator.now.params c.requires.keeps.params.counted) (assignment_in c.args.env.now) t h).1 ∙ blocked))
 
 pub returns-in-Err-is_prepared-clause-rows : goal.returns-in-Err-is_prepared-clause-rows
 returns-in-Err-is_prepared-clause-rows c =
     let row : term_values c.args.w.now (assignment_in c.args.env.now) (variables c.args.operator.now.params) ≡ Some c.in-Ok-Some.row = ap (term_values c.args.w.now (assignment_in c.args.env.now)) (sym c.requires.order.terms) ∙ (sym c.in-Ok-Some.ensures.values ∙ c.in-Ok-Some.field-0-is) in
-    row-fault (signature_of c.args.task.now.problem.domain) (length c.args.task.now.problem.names) (plain_problem c.args.task.now.problem) c.args.w.now c.args.operator.now c.requires.keeps (counted-differ c.args.operator.now.params c.requires.keeps.params.counted) (assignment_in c.args.env.now) c.in-Ok-Some.row c.in-Err-is_prepared.fault row
-    (subst (λ env. IsCausedBy (looked_prepared (plain_problem c.args.task.now.problem) c.args.w.now (assignment_in env) (plain_operator c.args.operator.now)) c.in-Err-is_prepared.fault) c.values_of.ensures.frame c.in-Err-is_prepared.ensures.answer)
+    row-fault (signature_of c.args.task.now.problem.domain) (length c.args.task.now.problem.names) (plain_problem c.args.task.now.problem) c.args.w.now (arranged c.args.operator.now c.args.order.now) (keeps-with (signature_of c.args.task.now.problem.domain) (length c.args.task.now.problem.names) c.args.operator.now (arranged c.args.operator.now c.args.order.now).bounds c.requires.order.same c.requires.keeps) (counted-differ c.args.operator.now.params c.requires.keeps.params.counted) (assignment_in c.args.env.now) c.in-Ok-Some.row c.in-Err-is_prepared.fault row
+    (subst (λ env. IsCausedBy (looked_prepared (plain_problem c.args.task.now.problem) c.args.w.now (assignment_in env) (plain_operator (arranged c.args.operator.now c.args.order.now))) c.in-Err-is_prepared.fault) c.values_of.ensures.frame c.in-Err-is_prepared.ensures.answer)
 
 pub returns-in-Ok-None-clause-rows : goal.returns-in-Ok-None-clause-rows
 returns-in-Ok-None-clause-rows c =
     let none : term_values c.args.w.now (assignment_in c.args.env.now) (variables c.args.operator.now.params) ≡ None = ap (term_values c.args.w.now (assignment_in c.args.env.now)) (sym c.requires.order.terms) ∙ (sym c.in-Ok-None.ensures.values ∙ c.in-Ok-None.field-0-is) in
-    no-row (IsFound (plain_problem c.args.task.now.problem) c.args.w.now (plain_operator c.args.operator.now) c.args.operator.now.bounds [] (assignment_in c.args.env.now)) c.args.rows.now.items (λ t h. not-some (term_values c.args.w.now (assignment_in c.args.env.now) (variables c.args.operator.now.params)) t none (found-row (signature_of c.args.task.now.problem.domain) (length c.args.task.now.problem.names) (plain_problem c.args.task.now.problem) c.args.w.now c.args.operator.now c.requires.keeps (counted-differ c.args.operator.now.params c.requires.keeps.params.counted) (assignment_in c.args.env.now) t h).0)
+    no-row (IsFound (plain_problem c.args.task.now.problem) c.args.w.now (plain_operator (arranged c.args.operator.now c.args.order.now)) (arranged c.args.operator.now c.args.order.now).bounds [] (assignment_in c.args.env.now)) c.args.rows.now.items (λ t h. not-some (term_values c.args.w.now (assignment_in c.args.env.now) (variables c.args.operator.now.params)) t none (found-row (signature_of c.args.task.now.problem.domain) (length c.args.task.now.problem.names) (plain_problem c.args.task.now.problem) c.args.w.now (arranged c.args.operator.now c.args.order.now) (keeps-with (signature_of c.args.task.now.problem.domain) (length c.args.task.now.problem.names) c.args.operator.now (arranged c.args.operator.now c.args.order.now).bounds c.requires.order.same c.requires.keeps) (counted-differ c.args.operator.now.params c.requires.keeps.params.counted) (assignment_in c.args.env.now) t h).0)
 
 pub returns-in-Ok-None-clause-frame : goal.returns-in-Ok-None-clause-frame
 returns-in-Ok-None-clause-frame c = subst (λ env. Agree (slots_of c.args.operator.now.params) (assignment_in env) (assignment_in c.args.env.now)) (sym c.values_of.ensures.frame) (agree-self (slots_of c.args.operator.now.params) (assignment_in c.args.env.now))
 
 pub returns-in-Err-clause-rows : goal.returns-in-Err-clause-rows
 returns-in-Err-clause-rows c =
-    no-fault c.args.w.now (assignment_in c.args.env.now) (tree_of_terms c.args.order.now.terms) c.args.operator.now.params (plain_problem c.args.task.now.problem) (plain_operator c.args.operator.now) c.args.operator.now.bounds [] (assignment_in c.args.env.now) c.in-Err.fault c.requires.order.terms c.in-Err.ensures.values
+    no-fault c.args.w.now (assignment_in c.args.env.now) (tree_of_terms c.args.order.now.terms) c.args.operator.now.params (plain_problem c.args.task.now.problem) (plain_operator (arranged c.args.operator.now c.args.order.now)) (arranged c.args.operator.now c.args.order.now).bounds [] (assignment_in c.args.env.now) c.in-Err.fault c.requires.order.terms c.in-Err.ensures.values
 
 pub returns-in-Err-clause-frame : goal.returns-in-Err-clause-frame
 returns-in-Err-clause-frame c = subst (λ env. Agree (slots_of c.args.operator.now.params) (assignment_in env) (assignment_in c.args.env.now)) (sym c.values_of.ensures.frame) (agree-self (slots_of c.args.operator.now.params) (assignment_in c.args.env.now))

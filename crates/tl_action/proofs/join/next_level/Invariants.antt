@@ -1,5 +1,5 @@
 use Rattle.std.proofs.Common.{◌-◌, length}
-use Rattle.tl_action.specs.Join.{IsPassed}
+use Rattle.tl_action.specs.Join.{arranged, IsPassed}
 use Rattle.tl_eval.specs.Frames.{assignment_in}
 use Rattle.tl_terms.specs.ProblemMeaning.{plain_problem}
 use Rattle.tl_action.proofs.join.next_level.Given as goal
@@ -9,5 +9,5 @@ decreases-loop-k l = length l.bounds - l.k
 
 abbrev pub invariant-loop-k : goal.invariant-loop-k
 invariant-loop-k l = record {
-  passed : IsPassed (plain_problem l.task.problem) l.w l.operator (assignment_in l.env) l.j l.k;
+  passed : IsPassed (plain_problem l.task.problem) l.w (arranged l.operator l.order) (assignment_in l.env) l.j l.k;
 }

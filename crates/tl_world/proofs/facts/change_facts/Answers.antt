@@ -1,4 +1,4 @@
-use Rattle.std.proofs.Common.{◌≡◌, map, subst}
+use Rattle.std.proofs.Common.{map, ap, ◌∙◌, Ok, Err}
 use Rattle.std.specs.Prelude.{OnOk}
 use Rattle.std.specs.Ordering.{eq_by_cmp}
 use Rattle.tl_syntax.specs.Keys.{key_cmp, fact_key}
@@ -6,10 +6,16 @@ use Rattle.tl_terms.specs.Step.{without_all}
 use Rattle.tl_world.specs.Moves.{AreSameBeside}
 use Rattle.tl_world.specs.Tables.{fact_tables, set_of}
 use Rattle.tl_world.proofs.Beside.{with-beside}
+use Rattle.std.specs.declared.result.Result.{Result}
 use Rattle.tl_world.proofs.facts.change_facts.Goals as goal
+
+-- what follows where a call went well
+on-ok : {A E P Q : Type 0} (r : Result A E) → (P → Q) → OnOk r P → OnOk r Q
+on-ok (Ok x) f h = f h
+on-ok (Err e) f h = h
 
 pub returns-clause-facts : goal.returns-clause-facts
 returns-clause-facts c =
     let beside : AreSameBeside c.args.adds.now (set_of (fact_tables c.without_each.new.tables.items)) (without_all (set_of (fact_tables c.args.tables.now.items)) (map fact_key c.args.dels.now)) =
     λ q e. c.in_ok-without_each.ensures.facts q (c.few.ensures (λ f. eq_by_cmp key_cmp q (fact_key f)) e) in
-    subst (λ s. OnOk c.with_facts.result (set_of (fact_tables c.with_facts.new.tables.items) ≡ s)) (with-beside c.args.adds.now _ _ beside) c.with_facts.ensures.facts
+    on-ok c.keep_second_orders.result (λ same. ap set_of same ∙ (c.in_ok-with_facts.ensures.facts ∙ with-beside c.args.adds.now _ _ beside)) c.keep_second_orders.ensures

@@ -1,0 +1,115 @@
+// Which bound of an operator is joined first.
+ghost use Rattle.std.specs.Prelude.{◌≡◌, IfOk};
+ghost use Rattle.tl_action.specs.Join.{bounds_in, HaveSame};
+
+use crate::levels::stands_in;
+use std::alloc::Global;
+use tl_syntax::{Bound, NoMemory, Operator, Var};
+use tl_world::{Task, World};
+
+/// How many rows a table has at most for which its bound may come first.
+const FEW: usize = 4;
+
+/// How many rows the table of the first bound has at most where it stays first, whatever the others have.
+const SMALL: usize = 128;
+
+/// How many facts of the predicate there are. It takes no memory.
+fn count_facts(w: &World, pred: u32) -> usize {
+    match w.rows(pred) {
+        Some(rows) => rows.len(),
+        None => 0,
+    }
+}
+
+/// How many places of the function have values. It takes no memory.
+fn count_places(w: &World, fun: u32) -> usize {
+    match w.places(fun) {
+        Some(rows) => rows.len(),
+        None => 0,
+    }
+}
+
+/// How many rows the table has that the bound reads. It takes no memory.
+fn count_rows(task: &Task, w: &World, b: &Bound) -> usize {
+    match b {
+        Bound::Fact(pred, _) => count_facts(w, *pred),
+        Bound::Place(fun, _, _) => count_places(w, *fun),
+        Bound::GoalFact(pred, _) => count_facts(&task.goal, *pred),
+        Bound::GoalPlace(fun, _, _) => count_places(&task.goal, *fun),
+        Bound::GoalNot(pred, _) => count_facts(&task.avoid, *pred),
+    }
+}
+
+/// Whether one of the variables stands in both bounds. It takes no memory.
+fn have_common(vars: &[Var], a: &Bound, b: &Bound) -> bool {
+    vars.iter()
+        .any(|var| stands_in(var, a) && stands_in(var, b))
+}
+
+/// The place of the bound with the fewest rows, among those with at most 4 that have a parameter in common with the first bound or have no row; 0 where there is none such. It takes no memory.
+fn smallest_bound(task: &Task, w: &World, operator: &Operator) -> usize {
+    let params = operator.params.as_slice();
+    let bounds = operator.bounds.as_slice();
+    let mut smallest = 0;
+    let mut least = FEW + 1;
+    for (k, b) in bounds.iter().enumerate() {
+        let count = count_rows(task, w, b);
+        if count < least && (count == 0 || have_common(params, &bounds[0], b)) {
+            smallest = k;
+            least = count;
+        }
+    }
+    smallest
+}
+
+/// The place of the bound that is joined first: 0, unless the table of the first bound has more than 128 rows in the world, and else that of `smallest_bound`. It takes no memory.
+///
+/// The first bound is then read once for each of a few rows, with their values known (the smallest relation first, Selinger et al. 1979).
+/// Any place would do: the rows that are found in the end are the same.
+pub(crate) fn first_bound(task: &Task, w: &World, operator: &Operator) -> usize {
+    let bounds = operator.bounds.as_slice();
+    if bounds.len() < 2 || count_rows(task, w, &bounds[0]) <= SMALL {
+        return 0;
+    }
+    smallest_bound(task, w, operator)
+}
+
+/// A copy of the bounds. It fails for want of memory alone.
+fn copy_bounds(alloc: Global, bounds: &[Bound]) -> Result<Vec<Bound>, NoMemory>
+    ensures { IfOk result (λ copy. copy.items ≡ bounds.now) }
+{
+    let mut out = Vec::with_capacity(alloc, bounds.len())?;
+    for b in bounds {
+        let copy = b.copy(alloc)?;
+        out.push(copy)?;
+    }
+    Ok(out)
+}
+
+/// The bounds with the `k`-th before the others; None where it is the first or there is none such. It fails for want of memory alone.
+pub(crate) fn moved_bounds(
+    alloc: Global,
+    bounds: &[Bound],
+    k: usize,
+) -> Result<Option<Vec<Bound>>, NoMemory>
+    ensures { IfOk result (λ moved. HaveSame bounds.now (bounds_in bounds.now moved)) }
+{
+    if k == 0 || bounds.len() <= k {
+        return Ok(None);
+    }
+    let mut moved = copy_bounds(alloc, bounds)?;
+    let first = moved.remove(k);
+    moved.insert(0, first)?;
+    Ok(Some(moved))
+}
+
+/// The bounds in another order, where one is given.
+#[inline]
+pub(crate) fn bounds_in<'a>(bounds: &'a [Bound], moved: &'a Option<Vec<Bound>>) -> &'a [Bound]
+    ensures { result.now ≡ bounds_in bounds.now moved.now }
+{
+    match moved {
+        Some(other) => other.as_slice(),
+        None => bounds,
+    }
+}

@@ -1,0 +1,57 @@
+// The least tuple above another one in a table, by the second order of the table where the pattern asks for it.
+ghost use Rattle.std.specs.Prelude.{◌≡◌, ◌<◌, ◌≤◌, ℕ, length, take, true};
+ghost use Rattle.tl_syntax.specs.Lists.{Rises};
+ghost use Rattle.tl_world.specs.Fits.{occurs};
+ghost use Rattle.tl_world.specs.Least.{PutsNext};
+ghost use Rattle.tl_world.specs.Second.{exchanged};
+ghost use Rattle.tl_world.specs.Tables.{row_cmp};
+
+use crate::next::put_next;
+use crate::{Match, Part, Rows};
+
+/// Whether the first part is free and the second fixed.
+#[inline]
+fn is_by_second(parts: &[Part]) -> bool {
+    parts.len() > 1 && matches!(parts[0], Part::Free(_)) && matches!(parts[1], Part::Fixed(_))
+}
+
+/// The parts with the first two exchanged, and others after them.
+fn exchanged_parts(parts: &[Part]) -> [Part; 9]
+    requires { length parts.now ≤ 9 }
+    ensures { take (length parts.now) result ≡ exchanged parts.now }
+{
+    let mut out = [Part::Free(0); 9];
+    out[..parts.len()].copy_from_slice(parts);
+    if parts.len() > 1 {
+        out[0] = parts[1];
+        out[1] = parts[0];
+    }
+    out
+}
+
+/// Puts the least tuple after that in place that makes the parts one of the rows in place. False where there is none.
+///
+/// Where the first part is free and the second fixed, and the table keeps its second order, the rows with that second value stand together there.
+pub(crate) fn put_next_in_table(
+    rows: &Rows,
+    parts: &[Part],
+    free: u32,
+    begun: bool,
+    tuple: &mut Match,
+    near: &mut usize,
+) -> bool
+    requires few { free ≤ 9 }
+    requires each { (n : ℕ) → n < free → occurs n parts.now ≡ true }
+    requires slots { (n : ℕ) → occurs n parts.now ≡ true → n < free }
+    requires short { length parts.now ≤ 9 }
+    requires order { Rises row_cmp rows.now }
+    ensures { PutsNext free parts.now rows.now begun tuple.old result tuple.new }
+{
+    if is_by_second(parts) {
+        if let Some(second) = rows.second() {
+            let other = exchanged_parts(parts);
+            return put_next(second, &other[..parts.len()], free, begun, tuple, near);
+        }
+    }
+    put_next(rows.runs(), parts, free, begun, tuple, near)
+}
