@@ -1,4 +1,3 @@
-pub mod PassLaws
 pub mod AheadLaws
 pub mod LookedLaws
 pub mod TemporalLaws
@@ -15,9 +14,15 @@ pub mod ExecutionLaws
 pub mod JudgeLaws
 pub mod NoValue
 pub mod SpanLaws
+pub mod RunLaws
+pub mod CutLaws
+pub mod WaitLaws
+pub mod EndLaws
+pub mod PickedLaws
 pub mod LineLaws
 pub mod TrackLaws
 pub mod DifferenceLaws
 pub mod HistoryLaws
 pub mod AtomLaws
 pub mod GuidedLaws
+pub mod SteadyLaws

@@ -1,5 +1,5 @@
 -- When a fact holds, by its changes.
-use Rattle.std.proofs.Common.{◌≡◌, ◌≤◌, ◌<◌, ◌+◌, ◌-◌, ℕ, zero, suc, List, [], ◌∷◌, ◌++◌, drop, length, get_or, cond, nat_le, Bool, true, false, refl, sym, ap, ◌∙◌, arith, drop-cons, add-one, append_assoc}
+use Rattle.std.proofs.Common.{◌≡◌, ◌≤◌, ◌<◌, ◌+◌, ◌-◌, ℕ, zero, suc, List, [], ◌∷◌, ◌++◌, drop, length, get_or, replicate, cond, nat_le, Bool, true, false, refl, sym, ap, ap₂, ◌∙◌, arith, drop-cons, add-one, append_assoc, append-nil}
 use Rattle.std.proofs.lemmas.Bool.{le-leb, lt-leb}
 use Rattle.tl_check.proofs.SpanLaws.{test_from-more}
 use Rattle.tl_check.specs.Differences.{AreBefore}
@@ -68,3 +68,24 @@ labels-on t whole labels new i to b h q added so =
     ap (λ (cs : List Bool). cs ++ test_from t (i + 1) (to - (i + 1))) added
     ∙ (append_assoc labels (b ∷ []) (test_from t (i + 1) (to - (i + 1)))
     ∙ (ap (λ (cs : List Bool). labels ++ cs) (ap (λ (x : Bool). x ∷ test_from t (i + 1) (to - (i + 1))) q ∙ sym (test_from-more t i to h)) ∙ so))
+
+test-run : (t : ℕ → Bool) (i c m n : ℕ) (b : Bool) → c ≡ m + n → ((k : ℕ) → i ≤ k → k < i + m → t k ≡ b) → test_from t i c ≡ replicate m b ++ test_from t (i + m) n
+test-run t i c zero n b e h = ap₂ (test_from t) (let p : i ≡ i + 0 = omega arith in p) (let p : c ≡ n = omega (arith, e) in p)
+test-run t i zero (suc m) n b e h = absurd (omega (arith, e))
+test-run t i (suc c) (suc m) n b e h =
+    ap₂ (λ (x : Bool) (xs : List Bool). x ∷ xs) (h i (omega arith) (omega arith))
+    (test-run t (suc i) c m n b (omega (arith, e)) (λ k l p. h k (omega arith) (omega arith)) ∙ ap (λ (j : ℕ). replicate m b ++ test_from t j n) (let p : suc i + m ≡ i + suc m = omega arith in p))
+
+-- the labels up to the next place, which are all the same
+pub labels-up_to : (t : ℕ → Bool) (labels new whole : List Bool) (at next to : ℕ) (b : Bool) → at ≤ next → next ≤ to → ((k : ℕ) → at ≤ k → k < next → t k ≡ b)
+    → new ≡ labels ++ replicate (next - at) b → labels ++ test_from t at (to - at) ≡ whole → new ++ test_from t next (to - next) ≡ whole
+labels-up_to t labels new whole at next to b h l same added so =
+    ap (λ (cs : List Bool). cs ++ test_from t next (to - next)) added
+    ∙ (append_assoc labels (replicate (next - at) b) (test_from t next (to - next))
+    ∙ (ap (λ (cs : List Bool). labels ++ cs) (sym (test-run t at (to - at) (next - at) (to - next) b (omega arith) (λ k p q. same k p (omega arith)) ∙ ap (λ (j : ℕ). replicate (next - at) b ++ test_from t j (to - next)) (let e : at + (next - at) ≡ next = omega arith in e))) ∙ so))
+
+-- all labels are there
+pub labels-to_end : (t : ℕ → Bool) (labels new whole : List Bool) (at to : ℕ) (b : Bool) → at ≤ to → ((k : ℕ) → at ≤ k → k < to → t k ≡ b)
+    → new ≡ labels ++ replicate (to - at) b → labels ++ test_from t at (to - at) ≡ whole → new ≡ whole
+labels-to_end t labels new whole at to b h same added so =
+    sym (append-nil new) ∙ (ap (λ (n : ℕ). new ++ test_from t to n) (let e : 0 ≡ to - to = omega arith in e) ∙ labels-up_to t labels new whole at to to b h (omega arith) same added so)

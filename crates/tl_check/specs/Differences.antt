@@ -1,6 +1,7 @@
 -- Where the facts of a predicate differ between one state and the next.
-use Rattle.std.specs.Prelude.{◌≡◌, ◌↔◌, ◌+◌, ◌<◌, ℕ, List, true, false, Option, Some, None}
+use Rattle.std.specs.Prelude.{◌≡◌, ◌↔◌, ◌+◌, ◌<◌, ℕ, List, [], true, false, Option, Some, None, unwrap_or}
 use Rattle.tl_check.specs.Lines.{truth_from}
+use Rattle.tl_check.specs.Tracks.{Lines, line_in, AddsChange}
 use Rattle.tl_check.specs.declared.differences.First.{First}
 use Rattle.tl_check.specs.declared.differences.First.TheVariants.{Both, Earlier, Later, Neither}
 use Rattle.tl_check.specs.declared.line.Change.{Change}
@@ -29,3 +30,11 @@ pub record TellsNext (q at : ℕ) (rows : List (List Value)) (w : World) (old ne
   pub earlier : (a : List Value) (j : ℕ) → j < at → truth_from false (new (fact_with q a)) j ≡ truth_from false (old (fact_with q a)) j
   pub bounded : (a : List Value) → AreBefore at (old (fact_with q a)) → AreBefore (at + 1) (new (fact_with q a))
   pub told : (a : List Value) → AreBefore at (old (fact_with q a)) → (Among a rows ↔ (truth_from false (old (fact_with q a)) at ≡ true)) → truth_from false (new (fact_with q a)) at ≡ has_fact w (q, a)
+
+-- what the fact with this row is in the world is added to its changes
+abbrev pub AddsRow : ℕ → List Value → World → ℕ → Lines → Lines → Type 0
+AddsRow q a w at old new = AddsChange (fact_with q a) (record { at = at; truth = has_fact w (q, a) }) old new
+
+-- so it is told of all facts of the predicate, where the rows before are those given, or none
+abbrev pub TellsState : ℕ → Option (List (List Value)) → World → ℕ → Lines → Lines → Type 0
+TellsState q rows w at old new = TellsNext q at (unwrap_or rows []) w (line_in old) (line_in new)

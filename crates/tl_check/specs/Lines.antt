@@ -1,6 +1,7 @@
 -- When a fact holds along some worlds, told by its changes.
-use Rattle.std.specs.Prelude.{ℕ, zero, suc, List, [], ◌∷◌, Bool, cond, nat_le}
+use Rattle.std.specs.Prelude.{◌-◌, ℕ, zero, suc, List, [], ◌∷◌, Bool, cond, nat_le}
 use Rattle.tl_check.specs.declared.line.Change.{Change}
+use Rattle.tl_check.specs.declared.span.Span.{Span}
 
 -- the truth at a position: that of the last change up to it, and b before the first one
 abbrev pub truth_from : Bool → List Change → ℕ → Bool
@@ -11,3 +12,7 @@ truth_from b (c ∷ cs) i = cond (nat_le c.at i) (truth_from c.truth cs i) b
 abbrev pub test_from : (ℕ → Bool) → ℕ → ℕ → List Bool
 test_from t i zero = []
 test_from t i (suc n) = t i ∷ test_from t (suc i) n
+
+-- the test at each position of the span
+abbrev pub test_in : (ℕ → Bool) → Span → List Bool
+test_in t span = test_from t span.from (span.to - span.from)

@@ -1,5 +1,5 @@
 -- Labels of positions, from those of a part.
-use Rattle.std.specs.Prelude.{ℕ, zero, suc, ◌+◌, List, [], ◌∷◌, Bool, true, false, ◌&&◌, ◌||◌, cond, nat_le}
+use Rattle.std.specs.Prelude.{ℕ, zero, suc, List, [], ◌∷◌, Bool, true, false, ◌&&◌, ◌||◌}
 use Rattle.tl_syntax.specs.declared.junction.Junction.{Junction}
 use Rattle.tl_syntax.specs.declared.junction.Junction.TheVariants.{All, Any}
 
@@ -44,11 +44,6 @@ one_within (suc n) (b ∷ bs) = b || one_within n bs
 abbrev pub within_labels : ℕ → List Bool → List Bool
 within_labels n [] = []
 within_labels n (b ∷ bs) = one_within n (b ∷ bs) ∷ within_labels n bs
-
--- how many steps a true label is away, where it is so many steps away from the next position; n + 1 stands for all numbers above n
-abbrev pub steps_past : ℕ → Bool → ℕ → ℕ
-steps_past n true away = 0
-steps_past n false away = cond (nat_le away n) (away + 1) away
 
 -- the truth of the two together
 abbrev pub joins : Junction → Bool → Bool → Bool

@@ -26,3 +26,7 @@ pub record IsHull (bs : List Bool) (span hull : Span) : Type 0 where
 -- the label together with the one of the other list, where that has one and `there` is true
 abbrev pub joined_where : Junction → List Bool → List Bool → ℕ → ℕ → Bool → Bool
 joined_where j there other at k b = cond ((nat_le at k && nat_lt k (at + length other)) && slice_index_or there k false) (joins j b (slice_index_or other (k - at) false)) b
+
+-- each label is joined in this way
+abbrev pub JoinsWhere : Junction → List Bool → List Bool → ℕ → List Bool → List Bool → Type 0
+JoinsWhere j there other at old new = (k : ℕ) → k < length old → slice_index_or new k false ≡ joined_where j there other at k (slice_index_or old k false)

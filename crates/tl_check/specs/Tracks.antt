@@ -1,5 +1,5 @@
 -- The changes of facts, as they are found.
-use Rattle.std.specs.Prelude.{List, [], Option, Some, None, IsSome}
+use Rattle.std.specs.Prelude.{◌≡◌, List, [], ◌∷◌, ◌++◌, cond, Option, Some, None, IsSome}
 use Rattle.std.specs.HashMap.{HashMap, get}
 use Rattle.std.specs.Global.{Vec}
 use Rattle.std.specs.declared.hash.FoldHasher.{FoldHasher}
@@ -26,3 +26,11 @@ line_in lines g = changes_in (get fact_eq lines g)
 -- every fact that has changes was seen
 abbrev pub IsCovered : Tracks → Type 0
 IsCovered t = (g : Fact) → IsSome (get fact_eq t.lines g) → Among g t.seen.items
+
+-- the changes of the fact are taken out, and those of the others stay
+abbrev pub TakesLine : Fact → Lines → Lines → Type 0
+TakesLine fact old new = (g : Fact) → get fact_eq new g ≡ cond (fact_eq fact g) None (get fact_eq old g)
+
+-- the change is added after the other ones of the fact
+abbrev pub AddsChange : Fact → Change → Lines → Lines → Type 0
+AddsChange fact change old new = (g : Fact) → line_in new g ≡ cond (fact_eq fact g) (line_in old g ++ change ∷ []) (line_in old g)

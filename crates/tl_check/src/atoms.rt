@@ -1,17 +1,13 @@
 // The labels of atoms and of bounds, by when their facts hold.
-ghost use Rattle.std.specs.Prelude.{◌≡◌, ◌≤◌, length, Some, IfOk, IfSome};
-ghost use Rattle.tl_check.specs.Ahead.{true_ahead};
-ghost use Rattle.tl_check.specs.Facts.{IsAlong, IsOverGoal, Guides, fact_ahead, bound_ahead};
-ghost use Rattle.tl_check.specs.Spans.{IsWithin, marks_in};
+ghost use Rattle.std.specs.Prelude.{◌≡◌, length, IfOk, IfSome};
+ghost use Rattle.tl_check.specs.AlongStates.{GuidesAlong, fact_along, atom_along, bound_along};
+ghost use Rattle.tl_check.specs.Facts.{IsAlong, IsOverGoal};
+ghost use Rattle.tl_check.specs.FixedTerms.{HasFixedValue, HaveFixedValues};
+ghost use Rattle.tl_check.specs.Spans.{IsWithin};
 ghost use Rattle.tl_eval.specs.Frames.{assignment_in};
 ghost use Rattle.tl_syntax.specs.Fits.{BoundFits};
 ghost use Rattle.tl_syntax.specs.Signature.{signature_of};
-ghost use Rattle.tl_syntax.specs.Trees.{atom};
-ghost use Rattle.tl_syntax.specs.TreeOfTerm.{tree_of_term, tree_of_terms};
 ghost use Rattle.tl_terms.specs.Bounds.{arg_value, arg_values};
-ghost use Rattle.tl_terms.specs.ProblemMeaning.{plain_problem};
-ghost use Rattle.tl_terms.specs.Terms.{term_value, term_values};
-ghost use Rattle.tl_terms.specs.World.{World as PlainWorld};
 
 use crate::along::Along;
 use crate::labels::Labels;
@@ -36,8 +32,8 @@ fn value_of_arg(env: &Env, arg: Arg) -> Option<Value>
 }
 
 /// The value of a term that is a variable with a value, or a value. It takes no memory.
-fn plain_value(env: &Env, term: &Term) -> Option<Value>
-    ensures { IfSome result (λ v. (w : PlainWorld) → term_value w (assignment_in env.now) (tree_of_term term.now) ≡ Some v) }
+pub(crate) fn plain_value(env: &Env, term: &Term) -> Option<Value>
+    ensures { IfSome result (HasFixedValue env.now term.now) }
 {
     match term {
         Term::Var(var) => value_of_arg(env, Arg::Var(*var)),
@@ -63,7 +59,7 @@ fn row_of_args(alloc: Global, env: &Env, args: &[Arg]) -> Result<Option<Values>,
 
 /// The values of terms, where each is a variable with a value, or a value. It fails for want of memory alone.
 fn row_of_terms(alloc: Global, env: &Env, terms: &Terms) -> Result<Option<Values>, NoMemory>
-    ensures { IfOk result (λ row. IfSome row (λ vs. (w : PlainWorld) → term_values w (assignment_in env.now) (tree_of_terms terms.now) ≡ Some vs)) }
+    ensures { IfOk result (λ row. IfSome row (HaveFixedValues env.now terms.now)) }
 {
     let mut row = Values::new(alloc);
     for term in terms.as_slice().iter() {
@@ -84,7 +80,7 @@ fn fact_labels(
 ) -> Result<Option<Labels>, NoMemory>
     requires along { IsAlong along.now }
     requires span { IsWithin span (length along.now.worlds.now) }
-    ensures { IfOk result (λ found. IfSome found (λ labels. labels ≡ marks_in (fact_ahead (pred, row)) along.now.worlds.now span)) }
+    ensures { IfOk result (λ found. IfSome found (λ labels. labels ≡ fact_along along.now span (pred, row))) }
 {
     match along.history(pred) {
         Some(history) => {
@@ -106,7 +102,7 @@ pub(crate) fn atom_labels(
 ) -> Result<Option<Labels>, NoMemory>
     requires along { IsAlong along.now }
     requires span { IsWithin span (length along.now.worlds.now) }
-    ensures { IfOk result (λ found. IfSome found (λ labels. labels ≡ marks_in (true_ahead (plain_problem along.now.task.now.problem) (assignment_in env.now) (atom pred (tree_of_terms terms.now))) along.now.worlds.now span)) }
+    ensures { IfOk result (λ found. IfSome found (λ labels. labels ≡ atom_along along.now span env.now pred terms.now)) }
 {
     match row_of_terms(along.alloc, env, terms)? {
         Some(row) => fact_labels(pred, row, along, span),
@@ -118,7 +114,7 @@ pub(crate) fn atom_labels(
 fn bound_read(bound: &Bound, along: &Along, span: Span, env: &Env) -> Result<Labels, NoMemory>
     requires span { IsWithin span (length along.now.worlds.now) }
     requires fits { BoundFits (signature_of along.now.task.now.problem.domain) bound.now }
-    ensures { IfOk result (λ labels. labels ≡ marks_in (bound_ahead (plain_problem along.now.task.now.problem) (assignment_in env.now) bound.now) along.now.worlds.now span) }
+    ensures { IfOk result (λ labels. labels ≡ bound_along along.now span env.now bound.now) }
 {
     let worlds = along.worlds;
     let mut labels = Labels::new(along.alloc);
@@ -138,7 +134,7 @@ fn goal_bound_labels(
     requires span { IsWithin span (length along.now.worlds.now) }
     requires fits { BoundFits (signature_of along.now.task.now.problem.domain) bound.now }
     requires goal { IsOverGoal bound.now }
-    ensures { IfOk result (λ labels. labels ≡ marks_in (bound_ahead (plain_problem along.now.task.now.problem) (assignment_in env.now) bound.now) along.now.worlds.now span) }
+    ensures { IfOk result (λ labels. labels ≡ bound_along along.now span env.now bound.now) }
 {
     let truth = bound_holds(along.task, &along.task.first, env, bound);
     let labels = Labels::all(along.alloc, span.to - span.from, truth)?;
@@ -158,7 +154,7 @@ fn fact_bound_labels(
     requires span { IsWithin span (length along.now.worlds.now) }
     requires fits { BoundFits (signature_of along.now.task.now.problem.domain) bound.now }
     requires bound { bound.now ≡ Bound.Fact pred args.now }
-    ensures { IfOk result (λ labels. labels ≡ marks_in (bound_ahead (plain_problem along.now.task.now.problem) (assignment_in env.now) bound.now) along.now.worlds.now span) }
+    ensures { IfOk result (λ labels. labels ≡ bound_along along.now span env.now bound.now) }
 {
     if let Some(row) = row_of_args(along.alloc, env, args.as_slice())? {
         if let Some(labels) = fact_labels(pred, row, along, span)? {
@@ -178,7 +174,7 @@ pub(crate) fn bound_labels(
     requires along { IsAlong along.now }
     requires span { IsWithin span (length along.now.worlds.now) }
     requires fits { BoundFits (signature_of along.now.task.now.problem.domain) bound.now }
-    ensures { IfOk result (λ labels. labels ≡ marks_in (bound_ahead (plain_problem along.now.task.now.problem) (assignment_in env.now) bound.now) along.now.worlds.now span) }
+    ensures { IfOk result (λ labels. labels ≡ bound_along along.now span env.now bound.now) }
 {
     match bound {
         Bound::Fact(pred, args) => fact_bound_labels(bound, *pred, args, along, span, env),
@@ -192,7 +188,7 @@ pub(crate) fn bound_labels(
 /// A world in which every tuple makes the bound true that makes it true in one of the states, where one is known. It takes no memory.
 pub(crate) fn guide_of<'a>(bound: &Bound, along: &'a Along) -> Option<&'a World>
     requires { IsAlong along.now }
-    ensures { IfSome result (λ w. Guides (plain_problem along.now.task.now.problem) along.now.worlds.now bound.now w.now) }
+    ensures { IfSome result (λ w. GuidesAlong along.now bound.now w.now) }
 {
     match bound {
         Bound::Fact(pred, _) => match along.history(*pred) {

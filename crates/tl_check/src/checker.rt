@@ -1,10 +1,11 @@
 // The check of a plan.
-ghost use Rattle.std.specs.Prelude.{◌≡◌, ◌↔◌, ◌<◌, ◌≤◌, ◌^◌, List, length, Some, IfOk, IfErr};
+ghost use Rattle.std.specs.Prelude.{◌≡◌, ◌↔◌, ◌<◌, ◌≤◌, ◌^◌, length, IfOk, IfErr};
 ghost use Rattle.tl_action.specs.Actions.{HasOperator};
 ghost use Rattle.tl_check.specs.Executions.{IsExecution};
+ghost use Rattle.tl_check.specs.Judged.{IsVerdictByStates, IsCauseByStates};
 ghost use Rattle.tl_check.specs.Verdicts.{IsVerdict, IsCause};
 ghost use Rattle.tl_syntax.specs.Lists.{Each};
-ghost use Rattle.tl_terms.specs.Acceptance.{IsAccepted, states};
+ghost use Rattle.tl_terms.specs.Acceptance.{IsAccepted};
 ghost use Rattle.tl_terms.specs.ProblemMeaning.{plain_problem};
 
 use crate::along::Along;
@@ -44,8 +45,8 @@ pub fn execution_of<L: Ledger>(
 fn judged(alloc: Global, task: &Task, worlds: &[World]) -> Result<Verdict, CheckFault>
     requires some { 0 < length worlds.now }
     requires few { length worlds.now ≤ 2 ^ 32 }
-    ensures verdict { (plan : List _) → states (plain_problem task.now.problem) plan ≡ Some worlds.now → IfOk result (IsVerdict (plain_problem task.now.problem) plan) }
-    ensures cause { (plan : List _) → states (plain_problem task.now.problem) plan ≡ Some worlds.now → IfErr result (IsCause (plain_problem task.now.problem) plan) }
+    ensures verdict { IsVerdictByStates task.now worlds.now result }
+    ensures cause { IsCauseByStates task.now worlds.now result }
 {
     if !task.met(&worlds[worlds.len() - 1]) {
         return Ok(Verdict::GoalUnmet);
@@ -69,10 +70,10 @@ fn judged(alloc: Global, task: &Task, worlds: &[World]) -> Result<Verdict, Check
 
 /// The verdict on a plan: `Valid` exactly where it is accepted, and each other verdict exactly where it is right.
 ///
-/// The plan is executed first. Then each subformula of the control formula is labelled with its truth at the states where it is asked for, from the last one backwards, and no formula is progressed.
+/// The plan is executed first. Then each subformula of the control formula is labelled with its truth at the states where it is asked for, as runs of states with the same truth, and no formula is progressed.
 /// It fails for want of memory, or where an operation is past range that an action looks at in its turn, or the control formula along the states.
 ///
-/// When the facts of the control formula's predicates hold is found by one pass over their rows in each state. After that an instance of a quantifier takes the time of the states from the first to the last at which its tuple makes the bound true, and temporal words below it that of the states to the last one; the labels of one instance are kept at a time. Worlds share the tables that stay as they were.
+/// When the facts of the control formula's predicates hold is found by one pass over their rows in each state. After that an instance of a quantifier over facts takes the time of the changes of its labels and of those of the instances so far; functions, arithmetic and definitions in it are read in each state from the first to the last at which its tuple makes the bound true, and below temporal words up to the last one. The labels of one instance are kept at a time. Worlds share the tables that stay as they were.
 pub fn check(alloc: Global, task: &Task, plan: &[Action]) -> Result<Verdict, CheckFault>
     requires operators { Each (HasOperator (plain_problem task.now.problem)) plan.now }
     requires short { length plan.now < 2 ^ 32 }

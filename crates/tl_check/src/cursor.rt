@@ -1,20 +1,14 @@
 // Where the reading of a quantifier stands at one position.
 ghost use Rattle.std.specs.Option.{option_map};
-ghost use Rattle.std.specs.Prelude.{◌≡◌, ◌↔◌, ◌≤◌, ◌<◌, ◌∷◌, List, true, length, Some, IfSome};
-ghost use Rattle.tl_check.specs.Ahead.{true_ahead};
-ghost use Rattle.tl_check.specs.Cursors.{IsAt, left_at, with_part};
-ghost use Rattle.tl_eval.specs.Frames.{assignment_in};
-ghost use Rattle.tl_syntax.specs.Assignment.{bind};
+ghost use Rattle.std.specs.Prelude.{◌≡◌, ◌↔◌, ◌≤◌, true, length, Some, IfSome};
+ghost use Rattle.tl_check.specs.Reading.{StandsIn, MovesIn, LeavesNoMore, LeavesFewer};
 ghost use Rattle.tl_syntax.specs.BoundVariables.{DifferInSlot, OccurIn};
 ghost use Rattle.tl_syntax.specs.Fits.{BoundFits};
 ghost use Rattle.tl_syntax.specs.Signature.{signature_of};
-ghost use Rattle.tl_syntax.specs.Trees.{FormulaTree};
-ghost use Rattle.tl_terms.specs.ProblemMeaning.{plain_problem};
-ghost use Rattle.tl_terms.specs.World.{World as PlainWorld};
 ghost use Rattle.tl_world.specs.Patterns.{tuple_of};
 
 use crate::binder::Binder;
-use crate::labels::join;
+use crate::cuts::join;
 use tl_eval::{Env, next_tuple};
 use tl_syntax::Value;
 use tl_world::{Match, Task, World};
@@ -52,7 +46,7 @@ pub(crate) fn begun(task: &Task, w: &World, env: &Env, binder: &Binder) -> Curso
     requires differ { DifferInSlot binder.now.vars.now }
     requires occur { OccurIn binder.now.vars.now binder.now.bound.now }
     requires fits { BoundFits (signature_of task.now.problem.domain) binder.now.bound.now }
-    ensures { (f : FormulaTree) (ws : List PlainWorld) → IsAt (plain_problem task.now.problem) (assignment_in env.now) (with_part binder.now f) (w.now ∷ ws) result }
+    ensures { StandsIn task.now env.now binder.now w.now result }
 {
     Cursor {
         truth: !binder.junction.deciding_truth(),
@@ -77,9 +71,9 @@ pub(crate) fn moved(
     requires count { IfSome cursor.next (λ m. m.len ≡ length binder.now.vars.now) }
     requires tuple { tuple.now.len ≡ length binder.now.vars.now }
     ensures count { IfSome result.next (λ m. m.len ≡ length binder.now.vars.now) }
-    ensures at { (f : FormulaTree) (ws : List PlainWorld) → label ≡ true_ahead (plain_problem task.now.problem) (bind binder.now.vars.now (tuple_of tuple.now) (assignment_in env.now)) f (w.now ∷ ws) → IsAt (plain_problem task.now.problem) (assignment_in env.now) (with_part binder.now f) (w.now ∷ ws) cursor → IsAt (plain_problem task.now.problem) (assignment_in env.now) (with_part binder.now f) (w.now ∷ ws) result }
-    ensures no_more { (ws : List PlainWorld) → length (left_at (plain_problem task.now.problem) (assignment_in env.now) binder.now.vars.now binder.now.bound.now (w.now ∷ ws) result) ≤ length (left_at (plain_problem task.now.problem) (assignment_in env.now) binder.now.vars.now binder.now.bound.now (w.now ∷ ws) cursor) }
-    ensures fewer { (ws : List PlainWorld) → option_map tuple_of cursor.next ≡ Some (tuple_of tuple.now) → length (left_at (plain_problem task.now.problem) (assignment_in env.now) binder.now.vars.now binder.now.bound.now (w.now ∷ ws) result) < length (left_at (plain_problem task.now.problem) (assignment_in env.now) binder.now.vars.now binder.now.bound.now (w.now ∷ ws) cursor) }
+    ensures at { MovesIn task.now env.now binder.now tuple.now label w.now cursor result }
+    ensures no_more { LeavesNoMore task.now env.now binder.now w.now cursor result }
+    ensures fewer { LeavesFewer task.now env.now binder.now tuple.now w.now cursor result }
 {
     if is_next(&cursor.next, tuple) {
         Cursor {

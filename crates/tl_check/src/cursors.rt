@@ -1,23 +1,17 @@
 // The cursors of a quantifier at some positions in a row.
-ghost use Rattle.std.specs.Option.{option_map};
-ghost use Rattle.std.specs.Prelude.{◌≡◌, ◌≤◌, ◌<◌, ◌+◌, ◌⊎◌, List, None, Some, IfOk, IfSome, IfNone, drop, map, length, slice_get};
-ghost use Rattle.tl_check.specs.Ahead.{marks, true_ahead};
-ghost use Rattle.tl_check.specs.Cursors.{AreAt, work_left, with_part};
+ghost use Rattle.std.specs.Prelude.{◌≡◌, ◌≤◌, ◌<◌, ◌+◌, None, IfOk, IfSome, IfNone, map, length};
 ghost use Rattle.tl_check.specs.Found.{IsFound, HaveCounts};
-ghost use Rattle.tl_eval.specs.Frames.{assignment_in};
-ghost use Rattle.tl_syntax.specs.Assignment.{bind};
+ghost use Rattle.tl_check.specs.Reading.{StandAlong, MoveAlong, left_along};
 ghost use Rattle.tl_syntax.specs.BoundVariables.{DifferInSlot, OccurIn};
 ghost use Rattle.tl_syntax.specs.Fits.{BoundFits};
 ghost use Rattle.tl_syntax.specs.Lists.{Each};
 ghost use Rattle.tl_syntax.specs.Signature.{signature_of};
-ghost use Rattle.tl_syntax.specs.Trees.{FormulaTree};
-ghost use Rattle.tl_terms.specs.ProblemMeaning.{plain_problem};
-ghost use Rattle.tl_world.specs.Patterns.{tuple_of};
 
 use crate::binder::Binder;
 use crate::cursor::{Cursor, begun, moved};
 use crate::found::{Found, lesser};
 use crate::labels::Labels;
+use crate::rest::{first_label, rest_after};
 use std::alloc::Global;
 use tl_eval::Env;
 use tl_syntax::NoMemory;
@@ -34,7 +28,7 @@ pub(crate) fn cursors_at(
     requires differ { DifferInSlot binder.now.vars.now }
     requires occur { OccurIn binder.now.vars.now binder.now.bound.now }
     requires fits { BoundFits (signature_of task.now.problem.domain) binder.now.bound.now }
-    ensures at { IfOk result (λ cs. (f : FormulaTree) → AreAt (plain_problem task.now.problem) (assignment_in env.now) (with_part binder.now f) cs.items worlds.now) }
+    ensures at { IfOk result (λ cs. StandAlong task.now env.now binder.now worlds.now cs.items) }
 {
     let mut cursors = Vec::new(alloc);
     for i in 0..worlds.len() {
@@ -75,11 +69,14 @@ pub(crate) fn advance(
     requires counts { HaveCounts (length binder.now.vars.now) cursors.old }
     requires found { IsFound cursors.old found.now }
     requires labels { length labels.now + found.now.at ≡ length worlds.now }
-    ensures at { (f : FormulaTree) → labels.now ≡ marks (true_ahead (plain_problem task.now.problem) (bind binder.now.vars.now (tuple_of found.now.tuple) (assignment_in env.now)) f) (drop found.now.at worlds.now) → AreAt (plain_problem task.now.problem) (assignment_in env.now) (with_part binder.now f) cursors.old worlds.now → AreAt (plain_problem task.now.problem) (assignment_in env.now) (with_part binder.now f) cursors.new worlds.now }
-    ensures fewer { work_left (plain_problem task.now.problem) (assignment_in env.now) binder.now.vars.now binder.now.bound.now cursors.new worlds.now < work_left (plain_problem task.now.problem) (assignment_in env.now) binder.now.vars.now binder.now.bound.now cursors.old worlds.now }
+    ensures at { MoveAlong task.now env.now binder.now found.now labels.now worlds.now cursors.old cursors.new }
+    ensures fewer { left_along task.now env.now binder.now worlds.now cursors.new
+        < left_along task.now env.now binder.now worlds.now cursors.old }
 {
+    let mut rest = labels.rest();
     for i in found.at..cursors.len() {
-        let label = labels.at(i - found.at);
+        let label = first_label(&rest);
+        rest = rest_after(&rest, 1);
         cursors[i] = moved(
             task,
             &worlds[i],

@@ -1,11 +1,8 @@
 // Where the facts of a predicate differ between one state and the next.
 ghost use Rattle.std.specs.Option.{option_copied};
-ghost use Rattle.std.specs.Prelude.{◌≡◌, ◌++◌, ◌∷◌, [], cond, slice_get, unwrap_or, ◌+◌, ◌<◌, ◌^◌, IfOk, IfSome, OnOk};
-ghost use Rattle.tl_check.specs.Differences.{IsFirst, TellsNext, fact_with};
-ghost use Rattle.tl_check.specs.Tracks.{line_in, IsCovered};
-ghost use Rattle.tl_syntax.specs.DerivedTests.{fact_eq};
-ghost use Rattle.tl_syntax.specs.declared.fact.Fact.{Fact as PlainFact};
-ghost use Rattle.tl_terms.specs.World.{has_fact};
+ghost use Rattle.std.specs.Prelude.{◌≡◌, [], slice_get, unwrap_or, ◌+◌, ◌<◌, ◌^◌, IfOk, IfSome, OnOk};
+ghost use Rattle.tl_check.specs.Differences.{IsFirst, AddsRow, TellsState, fact_with};
+ghost use Rattle.tl_check.specs.Tracks.{IsCovered};
 ghost use Rattle.tl_world.specs.Plain.{row_cmp};
 
 use crate::line::Change;
@@ -88,7 +85,7 @@ impl Tracks {
         at: usize,
     ) -> Result<(), NoMemory>
         requires { IsCovered self.old }
-        ensures noted { OnOk result ((g : PlainFact) → line_in self.new.lines g ≡ cond (fact_eq (fact_with pred row.now) g) (line_in self.old.lines g ++ record { at = at; truth = has_fact w.now (pred, row.now) } ∷ []) (line_in self.old.lines g)) }
+        ensures noted { OnOk result (AddsRow pred row.now w.now at self.old.lines self.new.lines) }
         ensures covered { OnOk result (IsCovered self.new) }
     {
         let fact = fact_of(alloc, pred, row)?;
@@ -108,7 +105,7 @@ impl Tracks {
         at: usize,
     ) -> Result<(), NoMemory>
         requires { IsCovered self.old }
-        ensures told { OnOk result (TellsNext pred at (unwrap_or (option_copied earlier.entry) []) w.now (line_in self.old.lines) (line_in self.new.lines)) }
+        ensures told { OnOk result (TellsState pred (option_copied earlier.entry) w.now at self.old.lines self.new.lines) }
         ensures covered { OnOk result (IsCovered self.new) }
     {
         let later = w.rows(pred);

@@ -1,17 +1,13 @@
 // The labels of formulas.
-ghost use Rattle.std.specs.Prelude.{◌≡◌, ◌<◌, ◌≤◌, ◌-◌, ◌+◌, ℕ, [], length, false, slice_index_or, OnOk, IfOk};
-ghost use Rattle.tl_check.specs.Facts.{IsAlong, Guides};
-ghost use Rattle.tl_check.specs.Labelled.{AreLabels};
-ghost use Rattle.tl_check.specs.Instances.{JoinsInstance};
+ghost use Rattle.std.specs.Prelude.{◌≡◌, ◌+◌, length, OnOk};
+ghost use Rattle.tl_check.specs.AlongStates.{FitsAlong, AreLabelsAlong, JoinsAlong, GuidesAlong};
+ghost use Rattle.tl_check.specs.Facts.{IsAlong};
 ghost use Rattle.tl_check.specs.Later.{later_tree};
+ghost use Rattle.tl_check.specs.PartTrees.{until_tree, quantifier_of, quantified_tree};
 ghost use Rattle.tl_check.specs.Spans.{IsWithin};
-ghost use Rattle.tl_eval.specs.Frames.{assignment_in};
-ghost use Rattle.tl_syntax.specs.Fits.{Fits};
-ghost use Rattle.tl_syntax.specs.Junctions.{joined, quantified};
-ghost use Rattle.tl_syntax.specs.Signature.{signature_of};
+ghost use Rattle.tl_syntax.specs.Junctions.{joined};
 ghost use Rattle.tl_syntax.specs.TreeOfFormula.{tree_of_formula, tree_of_formulas};
-ghost use Rattle.tl_syntax.specs.Trees.{negation, next, until};
-ghost use Rattle.tl_terms.specs.ProblemMeaning.{plain_problem};
+ghost use Rattle.tl_syntax.specs.Trees.{negation, next};
 
 use crate::CheckFault;
 use crate::along::Along;
@@ -41,8 +37,8 @@ pub(crate) fn labels_of(
     requires along { IsAlong along.now }
     requires span { IsWithin span (length along.now.worlds.now) }
     requires frame { length env.old ≡ 32 }
-    requires fits { Fits (signature_of along.now.task.now.problem.domain) [] (tree_of_formula f.now) }
-    ensures labels { AreLabels (plain_problem along.now.task.now.problem) along.now.worlds.now span (assignment_in env.old) (tree_of_formula f.now) result }
+    requires fits { FitsAlong along.now (tree_of_formula f.now) }
+    ensures labels { AreLabelsAlong along.now span env.old (tree_of_formula f.now) result }
     ensures frame { OnOk result (env.new ≡ env.old) }
 {
     if !is_plain(f) && is_state(f) {
@@ -103,8 +99,8 @@ fn negated_labels(
     requires along { IsAlong along.now }
     requires span { IsWithin span (length along.now.worlds.now) }
     requires frame { length env.old ≡ 32 }
-    requires fits { Fits (signature_of along.now.task.now.problem.domain) [] (negation (tree_of_formula part.now)) }
-    ensures labels { AreLabels (plain_problem along.now.task.now.problem) along.now.worlds.now span (assignment_in env.old) (negation (tree_of_formula part.now)) result }
+    requires fits { FitsAlong along.now (negation (tree_of_formula part.now)) }
+    ensures labels { AreLabelsAlong along.now span env.old (negation (tree_of_formula part.now)) result }
     ensures frame { OnOk result (env.new ≡ env.old) }
 {
     let mut found = labels_of(part, along, span, env)?;
@@ -123,8 +119,8 @@ fn next_labels(
     requires along { IsAlong along.now }
     requires span { IsWithin span (length along.now.worlds.now) }
     requires frame { length env.old ≡ 32 }
-    requires fits { Fits (signature_of along.now.task.now.problem.domain) [] (next (tree_of_formula part.now)) }
-    ensures labels { AreLabels (plain_problem along.now.task.now.problem) along.now.worlds.now span (assignment_in env.old) (next (tree_of_formula part.now)) result }
+    requires fits { FitsAlong along.now (next (tree_of_formula part.now)) }
+    ensures labels { AreLabelsAlong along.now span env.old (next (tree_of_formula part.now)) result }
     ensures frame { OnOk result (env.new ≡ env.old) }
 {
     if span.to < along.worlds.len() {
@@ -135,7 +131,7 @@ fn next_labels(
         return labels_of(part, along, later, env);
     }
     let mut found = labels_of(part, along, span, env)?;
-    found.shift();
+    found.shift()?;
     Ok(found)
 }
 
@@ -151,8 +147,8 @@ fn later_labels(
     requires along { IsAlong along.now }
     requires span { IsWithin span (length along.now.worlds.now) }
     requires frame { length env.old ≡ 32 }
-    requires fits { Fits (signature_of along.now.task.now.problem.domain) [] (later_tree word (tree_of_formula part.now)) }
-    ensures labels { AreLabels (plain_problem along.now.task.now.problem) along.now.worlds.now span (assignment_in env.old) (later_tree word (tree_of_formula part.now)) result }
+    requires fits { FitsAlong along.now (later_tree word (tree_of_formula part.now)) }
+    ensures labels { AreLabelsAlong along.now span env.old (later_tree word (tree_of_formula part.now)) result }
     ensures frame { OnOk result (env.new ≡ env.old) }
 {
     let rest = Span {
@@ -160,7 +156,7 @@ fn later_labels(
         to: along.worlds.len(),
     };
     let mut found = labels_of(part, along, rest, env)?;
-    found.later(word);
+    found.later(word)?;
     found.truncate(span.to - span.from);
     Ok(found)
 }
@@ -177,8 +173,8 @@ fn until_labels(
     requires along { IsAlong along.now }
     requires span { IsWithin span (length along.now.worlds.now) }
     requires frame { length env.old ≡ 32 }
-    requires fits { Fits (signature_of along.now.task.now.problem.domain) [] (until (tree_of_formula first.now) (tree_of_formula second.now)) }
-    ensures labels { AreLabels (plain_problem along.now.task.now.problem) along.now.worlds.now span (assignment_in env.old) (until (tree_of_formula first.now) (tree_of_formula second.now)) result }
+    requires fits { FitsAlong along.now (until_tree first.now second.now) }
+    ensures labels { AreLabelsAlong along.now span env.old (until_tree first.now second.now) result }
     ensures frame { OnOk result (env.new ≡ env.old) }
 {
     let rest = Span {
@@ -187,7 +183,7 @@ fn until_labels(
     };
     let mut found = labels_of(first, along, rest, env)?;
     let other = labels_of(second, along, rest, env)?;
-    found.until(&other);
+    found.until(&other)?;
     found.truncate(span.to - span.from);
     Ok(found)
 }
@@ -204,14 +200,14 @@ fn parts_labels(
     requires along { IsAlong along.now }
     requires span { IsWithin span (length along.now.worlds.now) }
     requires frame { length env.old ≡ 32 }
-    requires fits { Fits (signature_of along.now.task.now.problem.domain) [] (joined junction (tree_of_formulas parts.now)) }
-    ensures labels { AreLabels (plain_problem along.now.task.now.problem) along.now.worlds.now span (assignment_in env.old) (joined junction (tree_of_formulas parts.now)) result }
+    requires fits { FitsAlong along.now (joined junction (tree_of_formulas parts.now)) }
+    ensures labels { AreLabelsAlong along.now span env.old (joined junction (tree_of_formulas parts.now)) result }
     ensures frame { OnOk result (env.new ≡ env.old) }
 {
     let mut all = Labels::all(along.alloc, span.to - span.from, !junction.deciding_truth())?;
     for part in parts.as_slice().iter() {
         let found = labels_of(part, along, span, env)?;
-        all.join(&found, junction);
+        all.join(&found, junction)?;
     }
     Ok(all)
 }
@@ -228,8 +224,8 @@ fn quantified_labels(
     requires along { IsAlong along.now }
     requires span { IsWithin span (length along.now.worlds.now) }
     requires frame { length env.old ≡ 32 }
-    requires fits { Fits (signature_of along.now.task.now.problem.domain) [] (quantified binder.now.junction binder.now.vars.now binder.now.bound.now (tree_of_formula part.now)) }
-    ensures labels { AreLabels (plain_problem along.now.task.now.problem) along.now.worlds.now span (assignment_in env.old) (quantified binder.now.junction binder.now.vars.now binder.now.bound.now (tree_of_formula part.now)) result }
+    requires fits { FitsAlong along.now (quantified_tree binder.now part.now) }
+    ensures labels { AreLabelsAlong along.now span env.old (quantified_tree binder.now part.now) result }
     ensures frame { OnOk result (env.new ≡ env.old) }
 {
     match guide_of(binder.bound, along) {
@@ -251,9 +247,9 @@ fn guided_labels(
     requires along { IsAlong along.now }
     requires span { IsWithin span (length along.now.worlds.now) }
     requires frame { length env.old ≡ 32 }
-    requires fits { Fits (signature_of along.now.task.now.problem.domain) [] (quantified binder.now.junction binder.now.vars.now binder.now.bound.now (tree_of_formula part.now)) }
-    requires guide { Guides (plain_problem along.now.task.now.problem) along.now.worlds.now binder.now.bound.now guide.now }
-    ensures labels { AreLabels (plain_problem along.now.task.now.problem) along.now.worlds.now span (assignment_in env.old) (quantified binder.now.junction binder.now.vars.now binder.now.bound.now (tree_of_formula part.now)) result }
+    requires fits { FitsAlong along.now (quantified_tree binder.now part.now) }
+    requires guide { GuidesAlong along.now binder.now.bound.now guide.now }
+    ensures labels { AreLabelsAlong along.now span env.old (quantified_tree binder.now part.now) result }
     ensures frame { OnOk result (env.new ≡ env.old) }
 {
     let outer = env.kept(binder.vars.as_slice());
@@ -284,9 +280,9 @@ fn join_instance(
     requires along { IsAlong along.now }
     requires span { IsWithin span (length along.now.worlds.now) }
     requires frame { length env.old ≡ 32 }
-    requires fits { Fits (signature_of along.now.task.now.problem.domain) [] (quantified binder.now.junction binder.now.vars.now binder.now.bound.now (tree_of_formula part.now)) }
+    requires fits { FitsAlong along.now (quantified_tree binder.now part.now) }
     requires size { span.from + length all.old ≡ span.to }
-    ensures joined { JoinsInstance (plain_problem along.now.task.now.problem) along.now.worlds.now span (assignment_in env.old) (record { junction = binder.now.junction; vars = binder.now.vars.now; bound = binder.now.bound.now; part = tree_of_formula part.now }) all.old all.new result }
+    ensures joined { JoinsAlong along.now span env.old (quantifier_of binder.now part.now) all.old all.new result }
     ensures frame { OnOk result (env.new ≡ env.old) }
 {
     let there = bound_labels(binder.bound, along, span, env)?;
@@ -294,7 +290,7 @@ fn join_instance(
         None => Ok(()),
         Some(hull) => {
             let found = labels_of(part, along, hull, env)?;
-            all.join_where(&there, &found, hull.from - span.from, binder.junction);
+            all.join_where(&there, &found, hull.from - span.from, binder.junction)?;
             Ok(())
         }
     }
@@ -315,8 +311,8 @@ fn stepped_labels(
     requires along { IsAlong along.now }
     requires span { IsWithin span (length along.now.worlds.now) }
     requires frame { length env.old ≡ 32 }
-    requires fits { Fits (signature_of along.now.task.now.problem.domain) [] (quantified binder.now.junction binder.now.vars.now binder.now.bound.now (tree_of_formula part.now)) }
-    ensures labels { AreLabels (plain_problem along.now.task.now.problem) along.now.worlds.now span (assignment_in env.old) (quantified binder.now.junction binder.now.vars.now binder.now.bound.now (tree_of_formula part.now)) result }
+    requires fits { FitsAlong along.now (quantified_tree binder.now part.now) }
+    ensures labels { AreLabelsAlong along.now span env.old (quantified_tree binder.now part.now) result }
     ensures frame { OnOk result (env.new ≡ env.old) }
 {
     let mut inner = env.copy(along.alloc)?;

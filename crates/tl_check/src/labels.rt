@@ -1,52 +1,37 @@
 // The truth of a formula at each of some positions in a row.
-ghost use Rattle.std.specs.Prelude.{◌≡◌, ◌<◌, ◌≤◌, ◌+◌, ◌-◌, ◌^◌, ℕ, map, not, length, replicate, take, IfOk, IfSome, IfNone, OnOk, OnErr, slice_index_or, false, true, [], ◌∷◌, ◌++◌};
-ghost use Rattle.tl_check.specs.Passes.{next_labels, always_labels, eventually_labels, until_labels, steps_past, within_labels, last_or, joins, joined_labels};
+ghost use Rattle.std.specs.Prelude.{◌≡◌, ◌<◌, ◌≤◌, ◌+◌, ℕ, map, not, length, replicate, take, drop, IfOk, IfSome, IfNone, OnOk, OnErr, slice_index_or, false, [], ◌∷◌, ◌++◌};
+ghost use Rattle.tl_check.specs.Passes.{next_labels, until_labels, within_labels, joined_labels};
 ghost use Rattle.tl_check.specs.Later.{later_labels};
-ghost use Rattle.tl_check.specs.Spans.{IsHull, joined_where};
+ghost use Rattle.tl_check.specs.Rests.{rest_labels};
+ghost use Rattle.tl_check.specs.Spans.{IsHull, JoinsWhere};
 
+use crate::cuts::{cuts_of, joined};
+use crate::ends::{before_true, up_to_true};
 use crate::later::Later;
+use crate::picked::picked;
+use crate::rest::{Rest, rest_of};
+use crate::run::Run;
 use crate::span::Span;
+use crate::{passes, runs, waiting};
 use std::alloc::Global;
 use std::marker::Model;
 use tl_syntax::{Junction, NoMemory};
 
 /// The truth of a formula at each position from some one on to the last. At the last position its world is repeated for ever.
+///
+/// They are kept as runs of equal labels: what goes over them takes the time of their changes, and not that of the positions.
 #[derive(Drop)]
 pub struct Labels {
-    truths: Vec<bool>,
+    runs: Vec<Run>,
 }
 
 impl Model for Labels {
     ghost use Rattle.std.specs.Prelude.{List, Bool};
+    ghost use Rattle.tl_check.specs.Runs.{spread};
 
     ghost Value = { List Bool };
 
-    ghost view = { λ labels. labels.truths.items };
-}
-
-/// The truth of the two together. It takes no memory.
-pub(crate) fn join(left: bool, right: bool, junction: Junction) -> bool
-    ensures { result ≡ joins junction left right }
-{
-    match junction {
-        Junction::All => left && right,
-        Junction::Any => left || right,
-    }
-}
-
-/// How many steps a true label is away from a position with this label, where it is `away` steps away from the next one; `most` + 1 stands for all numbers above `most`.
-/// It takes no memory.
-fn steps_to_next(most: usize, truth: bool, away: usize) -> usize
-    requires { most < 2 ^ 32 }
-    ensures { result ≡ steps_past most truth away }
-{
-    if truth {
-        0
-    } else if away <= most {
-        away + 1
-    } else {
-        away
-    }
+    ghost view = { λ labels. spread labels.runs.items };
 }
 
 impl Labels {
@@ -55,7 +40,7 @@ impl Labels {
         ensures { result ≡ [] }
     {
         Labels {
-            truths: Vec::new(alloc),
+            runs: Vec::new(alloc),
         }
     }
 
@@ -64,156 +49,129 @@ impl Labels {
         ensures added { OnOk result (self.new ≡ self.old ++ truth ∷ []) }
         ensures unchanged { OnErr result (self.new ≡ self.old) }
     {
-        self.truths.push(truth)?;
-        Ok(())
+        runs::add(&mut self.runs, truth, 1)
+    }
+
+    /// Adds the same label for so many more positions at the end. A refused call leaves the labels as they were.
+    pub fn add(&mut self, truth: bool, count: usize) -> Result<(), NoMemory>
+        ensures added { OnOk result (self.new ≡ self.old ++ replicate count truth) }
+        ensures unchanged { OnErr result (self.new ≡ self.old) }
+    {
+        runs::add(&mut self.runs, truth, count)
     }
 
     /// The same label at so many positions. It fails for want of memory alone.
     pub fn all(alloc: Global, count: usize, truth: bool) -> Result<Labels, NoMemory>
         ensures same { IfOk result (λ labels. labels ≡ replicate count truth) }
     {
-        let truths = vec![in alloc; truth; count]?;
-        Ok(Labels { truths })
+        let mut labels = Labels::new(alloc);
+        labels.add(truth, count)?;
+        Ok(labels)
     }
 
-    /// The label at a position, counted from the first one here. It takes no memory.
+    /// The label at a position, counted from the first one here. It takes no memory, and the time of the changes before that position.
     pub fn at(&self, i: usize) -> bool
         requires { i < length self.now }
         ensures { result ≡ slice_index_or self.now i false }
     {
-        self.truths[i]
+        runs::at(self.runs.as_slice(), i)
     }
 
-    /// The label at the last position, or false where there is no position. It takes no memory.
-    fn last(&self) -> bool
-        ensures { result ≡ last_or false self.now }
+    /// Adds the labels from a position on once more at the end. It fails for want of memory alone.
+    pub fn repeat_from(&mut self, at: usize) -> Result<(), NoMemory>
+        ensures repeated { OnOk result (self.new ≡ self.old ++ drop at self.old) }
     {
-        let count = self.truths.len();
-        if count == 0 {
-            false
-        } else {
-            self.truths[count - 1]
-        }
+        let alloc = *self.runs.allocator();
+        let later = runs::runs_from(alloc, self.runs.as_slice(), at)?;
+        runs::add_all(&mut self.runs, later.as_slice())
+    }
+
+    /// The labels, to be read one after another. It takes no memory.
+    pub(crate) fn rest(&self) -> Rest
+        ensures { rest_labels result ≡ self.now }
+    {
+        rest_of(self.runs.as_slice())
     }
 
     /// The labels of the negation. It takes no memory.
     pub fn negate(&mut self)
         ensures { self.new ≡ map not self.old }
     {
-        let mut i = self.truths.len();
-        while i > 0 {
-            i -= 1;
-            self.truths[i] = !self.truths[i];
-        }
+        passes::negate(self.runs.as_mut_slice());
     }
 
-    /// The labels in the next state. It takes no memory.
-    pub fn shift(&mut self)
-        ensures { self.new ≡ next_labels self.old }
+    /// The labels in the next state. A refused call leaves the labels as they were.
+    pub fn shift(&mut self) -> Result<(), NoMemory>
+        ensures shifted { OnOk result (self.new ≡ next_labels self.old) }
+        ensures unchanged { OnErr result (self.new ≡ self.old) }
     {
-        let mut i = self.truths.len();
-        let mut later = self.last();
-        while i > 0 {
-            i -= 1;
-            let here = self.truths[i];
-            self.truths[i] = later;
-            later = here;
-        }
+        let truth = runs::last(self.runs.as_slice());
+        runs::add(&mut self.runs, truth, 1)?;
+        runs::leave_first(&mut self.runs);
+        Ok(())
     }
 
-    /// The labels from now on. It takes no memory.
-    fn always(&mut self)
-        ensures { self.new ≡ always_labels self.old }
-    {
-        let mut later = true;
-        let mut i = self.truths.len();
-        while i > 0 {
-            i -= 1;
-            later = self.truths[i] && later;
-            self.truths[i] = later;
-        }
-    }
-
-    /// The labels of now or later. It takes no memory.
-    fn eventually(&mut self)
-        ensures { self.new ≡ eventually_labels self.old }
-    {
-        let mut later = false;
-        let mut i = self.truths.len();
-        while i > 0 {
-            i -= 1;
-            later = self.truths[i] || later;
-            self.truths[i] = later;
-        }
-    }
-
-    /// The labels of now or later for the second formula, where this one's hold until then. It takes no memory.
-    pub fn until(&mut self, second: &Labels)
+    /// The labels of now or later for the second formula, where this one's hold until then. A refused call leaves the labels as they were; it is refused too where the number of positions does not fit a `usize`.
+    pub fn until(&mut self, second: &Labels) -> Result<(), NoMemory>
         requires { length self.old ≡ length second.now }
-        ensures { self.new ≡ until_labels self.old second.now }
+        ensures until { OnOk result (self.new ≡ until_labels self.old second.now) }
+        ensures unchanged { OnErr result (self.new ≡ self.old) }
     {
-        let mut later = false;
-        let mut i = self.truths.len();
-        while i > 0 {
-            i -= 1;
-            later = second.truths[i] || (self.truths[i] && later);
-            self.truths[i] = later;
-        }
+        let alloc = *self.runs.allocator();
+        let cuts = cuts_of(alloc, self.runs.as_slice(), second.runs.as_slice())?;
+        self.runs = waiting::until(alloc, cuts.as_slice())?;
+        Ok(())
     }
 
-    /// The labels of now or within so many steps: they go by the number of steps to the next position where the label is true. It takes no memory.
-    fn within(&mut self, steps: u32)
-        ensures { self.new ≡ within_labels steps self.old }
+    /// The labels of now or within so many steps. A refused call leaves the labels as they were.
+    fn within(&mut self, steps: u32) -> Result<(), NoMemory>
+        ensures within { OnOk result (self.new ≡ within_labels steps self.old) }
     {
-        let most = steps as usize;
-        let mut away = most + 1;
-        let mut i = self.truths.len();
-        while i > 0 {
-            i -= 1;
-            away = steps_to_next(most, self.truths[i], away);
-            self.truths[i] = away <= most;
-        }
+        let alloc = *self.runs.allocator();
+        self.runs = waiting::within(alloc, self.runs.as_slice(), steps)?;
+        Ok(())
     }
 
-    /// The labels of now and throughout so many steps: they go by the number of steps to the next position where the label is false. It takes no memory.
-    fn during(&mut self, steps: u32)
-        ensures { self.new ≡ map not (within_labels steps (map not self.old)) }
+    /// The labels of now and throughout so many steps. It fails for want of memory alone.
+    fn during(&mut self, steps: u32) -> Result<(), NoMemory>
+        ensures during { OnOk result (self.new ≡ map not (within_labels steps (map not self.old))) }
     {
         self.negate();
-        self.within(steps);
+        self.within(steps)?;
         self.negate();
+        Ok(())
     }
 
-    /// The labels of the word before the formula. It takes no memory.
-    pub fn later(&mut self, word: Later)
-        ensures { self.new ≡ later_labels word self.old }
+    /// The labels of the word before the formula. It fails for want of memory alone.
+    pub fn later(&mut self, word: Later) -> Result<(), NoMemory>
+        ensures later { OnOk result (self.new ≡ later_labels word self.old) }
     {
         match word {
-            Later::Always => self.always(),
-            Later::Eventually => self.eventually(),
-            Later::Within(steps) => self.within(steps),
-            Later::During(steps) => self.during(steps),
+            Later::Always => passes::always(self.runs.as_mut_slice()),
+            Later::Eventually => passes::eventually(self.runs.as_mut_slice()),
+            Later::Within(steps) => self.within(steps)?,
+            Later::During(steps) => self.during(steps)?,
         }
+        Ok(())
     }
 
-    /// The labels of the conjunction or the disjunction of both. It takes no memory.
-    pub fn join(&mut self, other: &Labels, junction: Junction)
+    /// The labels of the conjunction or the disjunction of both. A refused call leaves the labels as they were.
+    pub fn join(&mut self, other: &Labels, junction: Junction) -> Result<(), NoMemory>
         requires { length self.old ≡ length other.now }
-        ensures { self.new ≡ joined_labels junction self.old other.now }
+        ensures joined { OnOk result (self.new ≡ joined_labels junction self.old other.now) }
+        ensures unchanged { OnErr result (self.new ≡ self.old) }
     {
-        let mut i = self.truths.len();
-        while i > 0 {
-            i -= 1;
-            let both = join(self.truths[i], other.truths[i], junction);
-            self.truths[i] = both;
-        }
+        let alloc = *self.runs.allocator();
+        let cuts = cuts_of(alloc, self.runs.as_slice(), other.runs.as_slice())?;
+        self.runs = joined(alloc, cuts.as_slice(), junction)?;
+        Ok(())
     }
 
     /// Leaves the labels of so many positions. It takes no memory.
     pub fn truncate(&mut self, count: usize)
         ensures { self.new ≡ take count self.old }
     {
-        self.truths.truncate(count);
+        runs::truncate(&mut self.runs, count);
     }
 
     /// The least span with all positions where the label is true, if there is one, where the labels are those of this span. It takes no memory.
@@ -222,38 +180,43 @@ impl Labels {
         ensures none { IfNone result ((k : ℕ) → slice_index_or self.now k false ≡ false) }
         ensures hull { IfSome result (IsHull self.now span) }
     {
-        let mut first = 0;
-        while first < self.truths.len() && !self.truths[first] {
-            first += 1;
-        }
-        let mut end = self.truths.len();
-        while first < end && !self.truths[end - 1] {
-            end -= 1;
-        }
-        if first < end {
-            Some(Span {
-                from: span.from + first,
-                to: span.from + end,
-            })
-        } else {
-            None
+        match before_true(self.runs.as_slice()) {
+            None => None,
+            Some(first) => {
+                let end = up_to_true(self.runs.as_slice());
+                Some(Span {
+                    from: span.from + first,
+                    to: span.from + end,
+                })
+            }
         }
     }
 
-    /// The labels together with those of the other list, which are for the positions from `at` on, at those of them where `there` is true. It takes no memory.
-    pub fn join_where(&mut self, there: &Labels, other: &Labels, at: usize, junction: Junction)
+    /// The labels together with those of the other list, which are for the positions from `at` on, at those of them where `there` is true. A refused call leaves the labels as they were; it is refused too where the number of positions does not fit a `usize`.
+    pub fn join_where(
+        &mut self,
+        there: &Labels,
+        other: &Labels,
+        at: usize,
+        junction: Junction,
+    ) -> Result<(), NoMemory>
         requires size { length self.old ≡ length there.now }
         requires within { at + length other.now ≤ length there.now }
-        ensures size { length self.new ≡ length self.old }
-        ensures joined { (k : ℕ) → k < length self.old → slice_index_or self.new k false ≡ joined_where junction there.now other.now at k (slice_index_or self.old k false) }
+        ensures size { OnOk result (length self.new ≡ length self.old) }
+        ensures joined { OnOk result (JoinsWhere junction there.now other.now at self.old self.new) }
+        ensures unchanged { OnErr result (self.new ≡ self.old) }
     {
-        let mut i = other.truths.len();
-        while i > 0 {
-            i -= 1;
-            if there.truths[at + i] {
-                let both = join(self.truths[at + i], other.truths[i], junction);
-                self.truths[at + i] = both;
-            }
-        }
+        let alloc = *self.runs.allocator();
+        let elsewhere = !junction.deciding_truth();
+        let labels = picked(
+            alloc,
+            there.runs.as_slice(),
+            other.runs.as_slice(),
+            at,
+            elsewhere,
+        )?;
+        let cuts = cuts_of(alloc, self.runs.as_slice(), labels.as_slice())?;
+        self.runs = joined(alloc, cuts.as_slice(), junction)?;
+        Ok(())
     }
 }

@@ -12,8 +12,14 @@
 //! - `formula_labels`: the labels of formulas, from those of their parts.
 //! - `atoms`: the labels of atoms and bounds.
 //! - `state_labels`: the labels of formulas that are read in each state.
+//! - `steady`: formulas that read no state.
 //! - `temporal`, `plain`: whether a formula has temporal words, and whether it speaks of facts alone.
-//! - `labels`, `later`: the truth of a formula at each of some positions, from the last one backwards.
+//! - `labels`, `later`: the truth of a formula at each of some positions.
+//! - `run`, `runs`, `rest`: labels as runs of equal ones, and what is left of them as they are read.
+//! - `passes`, `waiting`: what words that ask for later positions make of them.
+//! - `cuts`: two lists of labels, cut at each other's ends of runs.
+//! - `picked`: labels that count at some positions alone.
+//! - `ends`: where a label is true for the first time, and for the last time.
 //! - `binder`: quantifiers.
 //! - `cursor`, `cursors`: where the reading of a quantifier stands, at one position and at some in a row.
 //! - `found`: the next instance of a quantifier.
@@ -26,7 +32,9 @@ mod binder;
 mod checker;
 mod cursor;
 mod cursors;
+mod cuts;
 mod differences;
+mod ends;
 mod execution;
 mod formula_labels;
 mod found;
@@ -35,13 +43,20 @@ mod labels;
 mod later;
 pub mod laws;
 mod line;
+mod passes;
+mod picked;
 mod plain;
 mod predicates;
+mod rest;
+mod run;
+mod runs;
 mod span;
 mod state_labels;
+mod steady;
 mod temporal;
 mod tracks;
 mod verdict;
+mod waiting;
 
 pub use binder::Binder;
 pub use checker::{check, execution_of};

@@ -1,6 +1,6 @@
 // When a fact holds along some states.
-ghost use Rattle.std.specs.Prelude.{◌≡◌, ◌≤◌, ◌-◌, ℕ, false, drop, length, IfOk};
-ghost use Rattle.tl_check.specs.Lines.{truth_from, test_from};
+ghost use Rattle.std.specs.Prelude.{◌≡◌, ◌≤◌, ◌<◌, ℕ, IfOk, false};
+ghost use Rattle.tl_check.specs.Lines.{truth_from, test_in};
 
 use crate::labels::Labels;
 use crate::span::Span;
@@ -16,43 +16,37 @@ pub(crate) struct Change {
     pub(crate) truth: bool,
 }
 
-/// How far the changes of a fact were followed.
-#[derive(Clone, Copy)]
-struct Followed {
-    /// How many changes were passed.
-    count: usize,
-    /// Whether the fact holds after them.
-    truth: bool,
-}
-
-/// Follows the changes up to a position. It takes no memory.
-fn followed_to(line: &[Change], at: Followed, i: usize) -> Followed
-    requires { at.count ≤ length line.now }
-    ensures count { result.count ≤ length line.now }
-    ensures here { truth_from at.truth (drop at.count line.now) i ≡ result.truth }
-    ensures later { (k : ℕ) → i ≤ k → truth_from result.truth (drop result.count line.now) k ≡ truth_from at.truth (drop at.count line.now) k }
+/// The position of a change, brought between two others. It takes no memory.
+fn brought_between(position: usize, from: usize, to: usize) -> usize
+    requires { from ≤ to }
+    ensures from { from ≤ result }
+    ensures to { result ≤ to }
+    ensures before { (k : ℕ) → from ≤ k → k < result → k < position }
+    ensures after { (k : ℕ) → result ≤ k → k < to → position ≤ k }
 {
-    let mut count = at.count;
-    let mut truth = at.truth;
-    while count < line.len() && line[count].at <= i {
-        truth = line[count].truth;
-        count += 1;
+    if position <= from {
+        from
+    } else if position <= to {
+        position
+    } else {
+        to
     }
-    Followed { count, truth }
 }
 
-/// Whether the fact with these changes holds, at each position of the span. It fails for want of memory alone.
+/// Whether the fact with these changes holds, at each position of the span. It fails for want of memory alone, and takes the time of the changes.
 pub(crate) fn line_labels(alloc: Global, line: &[Change], span: Span) -> Result<Labels, NoMemory>
-    ensures { IfOk result (λ labels. labels ≡ test_from (truth_from false line.now) span.from (span.to - span.from)) }
+    requires { span.from ≤ span.to }
+    ensures { IfOk result (λ labels. labels ≡ test_in (truth_from false line.now) span) }
 {
     let mut labels = Labels::new(alloc);
-    let mut at = Followed {
-        count: 0,
-        truth: false,
-    };
-    for i in span.from..span.to {
-        at = followed_to(line, at, i);
-        labels.push(at.truth)?;
+    let mut at = span.from;
+    let mut truth = false;
+    for change in line.iter() {
+        let next = brought_between(change.at, at, span.to);
+        labels.add(truth, next - at)?;
+        at = next;
+        truth = change.truth;
     }
+    labels.add(truth, span.to - at)?;
     Ok(labels)
 }

@@ -1,8 +1,6 @@
 // The changes of facts, as they are found.
-ghost use Rattle.std.specs.Prelude.{◌≡◌, [], ◌∷◌, ◌++◌, cond, IfOk, OnOk};
-ghost use Rattle.std.specs.HashMap.{get};
-ghost use Rattle.tl_check.specs.Tracks.{line_in, IsCovered};
-ghost use Rattle.tl_syntax.specs.DerivedTests.{fact_eq};
+ghost use Rattle.std.specs.Prelude.{◌≡◌, [], IfOk, OnOk};
+ghost use Rattle.tl_check.specs.Tracks.{line_in, IsCovered, TakesLine, AddsChange};
 ghost use Rattle.tl_syntax.specs.Lists.{Among};
 ghost use Rattle.tl_syntax.specs.declared.fact.Fact.{Fact as PlainFact};
 
@@ -36,7 +34,7 @@ impl Tracks {
     fn take_line(&mut self, alloc: Global, fact: &Fact) -> Result<Vec<Change>, NoMemory>
         requires { IsCovered self.old }
         ensures line { IfOk result (λ line. line.items ≡ line_in self.old.lines fact.now) }
-        ensures lines { OnOk result ((g : PlainFact) → get fact_eq self.new.lines g ≡ cond (fact_eq fact.now g) None (get fact_eq self.old.lines g)) }
+        ensures lines { OnOk result (TakesLine fact.now self.old.lines self.new.lines) }
         ensures seen { OnOk result (Among fact.now self.new.seen.items) }
         ensures stay { OnOk result ((g : PlainFact) → Among g self.old.seen.items → Among g self.new.seen.items) }
     {
@@ -53,7 +51,7 @@ impl Tracks {
     /// Adds a change of the fact after its other ones. It fails for want of memory alone.
     pub(crate) fn note(&mut self, alloc: Global, fact: Fact, change: Change) -> Result<(), NoMemory>
         requires { IsCovered self.old }
-        ensures noted { OnOk result ((g : PlainFact) → line_in self.new.lines g ≡ cond (fact_eq fact g) (line_in self.old.lines g ++ change ∷ []) (line_in self.old.lines g)) }
+        ensures noted { OnOk result (AddsChange fact change self.old.lines self.new.lines) }
         ensures covered { OnOk result (IsCovered self.new) }
     {
         let mut line = self.take_line(alloc, &fact)?;

@@ -1,5 +1,5 @@
 -- Labels that are added position by position.
-use Rattle.std.proofs.Common.{◌≡◌, ◌≤◌, ◌<◌, ◌+◌, ◌-◌, ◌↔◌, ℕ, zero, suc, List, [], ◌∷◌, ◌++◌, drop, length, get_or, Bool, true, false, true≢false, refl, sym, ap, ◌∙◌, subst, arith, drop-cons, add-one, append_assoc, append-nil, length-append, length-drop}
+use Rattle.std.proofs.Common.{◌≡◌, ◌≤◌, ◌<◌, ◌+◌, ◌-◌, ◌↔◌, ℕ, List, [], ◌∷◌, ◌++◌, length, get_or, Bool, true, false, true≢false, refl, sym, ap, ◌∙◌, subst, arith, length-append}
 use Rattle.std.specs.Prelude.{slice_get}
 use Rattle.std.proofs.lemmas.List.{get_or_append_left, get_or-append_right}
 use Rattle.std.proofs.lemmas.Option.{slice_get_read}
@@ -29,31 +29,6 @@ use Rattle.tl_terms.specs.Problem.{PlainProblem}
 use Rattle.tl_terms.specs.Run.{Situations, Holds}
 use Rattle.tl_terms.specs.Truth.{state_true}
 use Rattle.tl_terms.specs.World.{World}
-
--- ---- labels that go round the loop once more
-
--- how many labels there are so far
-pub round-size : (bs labels : List Bool) (from i : ℕ) → from ≤ i → i ≤ length bs → labels ++ drop i bs ≡ bs ++ drop from bs → length labels ≡ length bs + (i - from)
-round-size bs labels from i l h so = omega (arith, ap length so, length-append labels (drop i bs), length-append bs (drop from bs), length-drop i bs, length-drop from bs)
-
--- one more label
-pub round-on : (bs labels new : List Bool) (from i : ℕ) (b : Bool) → from ≤ i → i < length bs → labels ++ drop i bs ≡ bs ++ drop from bs → b ≡ get_or labels i false → new ≡ labels ++ b ∷ [] → new ++ drop (i + 1) bs ≡ bs ++ drop from bs
-round-on bs labels new from i b l h so q added =
-    let here : b ≡ get_or bs i false = q
-    ∙ (sym (get_or_append_left labels (drop i bs) false i (omega (arith, round-size bs labels from i l (omega arith) so)))
-    ∙ (ap (λ (xs : List Bool). get_or xs i false) so ∙ get_or_append_left bs (drop from bs) false i h)) in
-    ap (λ (xs : List Bool). xs ++ drop (i + 1) bs) added
-    ∙ (append_assoc labels (b ∷ []) (drop (i + 1) bs)
-    ∙ (ap (λ (xs : List Bool). labels ++ xs) (ap (λ (k : ℕ). b ∷ drop k bs) (add-one i) ∙ (ap (λ (c : Bool). c ∷ drop (suc i) bs) here ∙ sym (drop-cons bs i false h))) ∙ so))
-
-pub round-end : (bs labels : List Bool) (from i : ℕ) → length bs ≤ i → labels ++ drop i bs ≡ bs ++ drop from bs → labels ≡ bs ++ drop from bs
-round-end bs labels from i h so = sym (append-nil labels) ∙ (ap (λ (xs : List Bool). labels ++ xs) (sym (past bs i h)) ∙ so)
-  where
-    past : (xs : List Bool) (k : ℕ) → length xs ≤ k → drop k xs ≡ []
-    past [] zero l = refl
-    past [] (suc k) l = refl
-    past (x ∷ xs) zero l = absurd (omega arith)
-    past (x ∷ xs) (suc k) l = past xs k (omega arith)
 
 -- ---- labels of positions one after another
 

@@ -2,10 +2,12 @@ pub mod Lassos
 pub mod Labelled
 pub mod Instances
 pub mod Gathered
+pub mod AlongLasso
 pub mod Verdicts
 pub mod Judged
 pub mod Laws
 pub mod LoopFiles
 pub mod MeaningOfLoops
+pub mod ReadLoops
 pub mod LoopTexts
 pub mod Examples

@@ -105,7 +105,8 @@ pub fn check_loop(
     requires stem { Each (HasOperator (plain_problem task.now.problem)) stem.now }
     requires cycle { Each (HasOperator (plain_problem task.now.problem)) cycle.now }
     ensures verdict { IfOk result (IsLoopVerdict (plain_problem task.now.problem) stem.now cycle.now) }
-    ensures valid { IfOk result (λ v. (v ≡ verdict.Valid) ↔ IsAcceptedForEver (plain_problem task.now.problem) stem.now cycle.now) }
+    ensures valid { IfOk result (λ v. (v ≡ verdict.Valid)
+        ↔ IsAcceptedForEver (plain_problem task.now.problem) stem.now cycle.now) }
     ensures cause { IfErr result (IsLoopCause (plain_problem task.now.problem) stem.now cycle.now) }
 {
     let plan = both_parts(alloc, stem, cycle)?;

@@ -1,18 +1,12 @@
 // The labels of formulas along a run with a loop.
-ghost use Rattle.std.specs.Prelude.{◌≡◌, ◌<◌, [], length, OnOk};
-ghost use Rattle.tl_check.specs.Cursors.{with_part};
+ghost use Rattle.std.specs.Prelude.{◌≡◌, ◌<◌, length, OnOk};
 ghost use Rattle.tl_check.specs.Later.{later_tree};
-ghost use Rattle.tl_eval.specs.Frames.{assignment_in};
-ghost use Rattle.tl_lasso.specs.Gathered.{GathersNext, JoinsIfNew, JoinsInstance};
-ghost use Rattle.tl_lasso.specs.Instances.{Gathers};
-ghost use Rattle.tl_lasso.specs.Labelled.{AreLabels};
-ghost use Rattle.tl_lasso.specs.Lassos.{IsLasso, situations_round};
-ghost use Rattle.tl_syntax.specs.Fits.{Fits};
-ghost use Rattle.tl_syntax.specs.Junctions.{joined, quantified};
-ghost use Rattle.tl_syntax.specs.Signature.{signature_of};
+ghost use Rattle.tl_check.specs.PartTrees.{until_tree, quantifier_of, quantified_tree};
+ghost use Rattle.tl_lasso.specs.AlongLasso.{FitsAlong, AreLabelsAlong, GathersAlong, GathersNextAlong, JoinsAlong, JoinsNewAlong};
+ghost use Rattle.tl_lasso.specs.Lassos.{IsLasso};
+ghost use Rattle.tl_syntax.specs.Junctions.{joined};
 ghost use Rattle.tl_syntax.specs.TreeOfFormula.{tree_of_formula, tree_of_formulas};
-ghost use Rattle.tl_syntax.specs.Trees.{negation, next, until};
-ghost use Rattle.tl_terms.specs.ProblemMeaning.{plain_problem};
+ghost use Rattle.tl_syntax.specs.Trees.{negation, next};
 
 use crate::lasso::Lasso;
 use crate::round::go_round;
@@ -29,8 +23,8 @@ use tl_syntax::{Formula, Formulas, Junction};
 pub(crate) fn labels_of(f: &Formula, lasso: &Lasso, env: &mut Env) -> Result<Labels, CheckFault>
     requires lasso { IsLasso lasso.now }
     requires frame { length env.old ≡ 32 }
-    requires fits { Fits (signature_of lasso.now.task.now.problem.domain) [] (tree_of_formula f.now) }
-    ensures labels { AreLabels (plain_problem lasso.now.task.now.problem) lasso.now.stem lasso.now.worlds.now (assignment_in env.old) (tree_of_formula f.now) result }
+    requires fits { FitsAlong lasso.now (tree_of_formula f.now) }
+    ensures labels { AreLabelsAlong lasso.now env.old (tree_of_formula f.now) result }
     ensures frame { OnOk result (env.new ≡ env.old) }
 {
     if is_state(f) {
@@ -78,8 +72,8 @@ pub(crate) fn labels_of(f: &Formula, lasso: &Lasso, env: &mut Env) -> Result<Lab
 fn negated_labels(part: &Formula, lasso: &Lasso, env: &mut Env) -> Result<Labels, CheckFault>
     requires lasso { IsLasso lasso.now }
     requires frame { length env.old ≡ 32 }
-    requires fits { Fits (signature_of lasso.now.task.now.problem.domain) [] (negation (tree_of_formula part.now)) }
-    ensures labels { AreLabels (plain_problem lasso.now.task.now.problem) lasso.now.stem lasso.now.worlds.now (assignment_in env.old) (negation (tree_of_formula part.now)) result }
+    requires fits { FitsAlong lasso.now (negation (tree_of_formula part.now)) }
+    ensures labels { AreLabelsAlong lasso.now env.old (negation (tree_of_formula part.now)) result }
     ensures frame { OnOk result (env.new ≡ env.old) }
 {
     let mut found = labels_of(part, lasso, env)?;
@@ -92,13 +86,13 @@ fn negated_labels(part: &Formula, lasso: &Lasso, env: &mut Env) -> Result<Labels
 fn next_labels(part: &Formula, lasso: &Lasso, env: &mut Env) -> Result<Labels, CheckFault>
     requires lasso { IsLasso lasso.now }
     requires frame { length env.old ≡ 32 }
-    requires fits { Fits (signature_of lasso.now.task.now.problem.domain) [] (next (tree_of_formula part.now)) }
-    ensures labels { AreLabels (plain_problem lasso.now.task.now.problem) lasso.now.stem lasso.now.worlds.now (assignment_in env.old) (next (tree_of_formula part.now)) result }
+    requires fits { FitsAlong lasso.now (next (tree_of_formula part.now)) }
+    ensures labels { AreLabelsAlong lasso.now env.old (next (tree_of_formula part.now)) result }
     ensures frame { OnOk result (env.new ≡ env.old) }
 {
     let mut found = labels_of(part, lasso, env)?;
     go_round(&mut found, lasso)?;
-    found.shift();
+    found.shift()?;
     found.truncate(lasso.worlds.len());
     Ok(found)
 }
@@ -113,13 +107,13 @@ fn later_labels(
 ) -> Result<Labels, CheckFault>
     requires lasso { IsLasso lasso.now }
     requires frame { length env.old ≡ 32 }
-    requires fits { Fits (signature_of lasso.now.task.now.problem.domain) [] (later_tree word (tree_of_formula part.now)) }
-    ensures labels { AreLabels (plain_problem lasso.now.task.now.problem) lasso.now.stem lasso.now.worlds.now (assignment_in env.old) (later_tree word (tree_of_formula part.now)) result }
+    requires fits { FitsAlong lasso.now (later_tree word (tree_of_formula part.now)) }
+    ensures labels { AreLabelsAlong lasso.now env.old (later_tree word (tree_of_formula part.now)) result }
     ensures frame { OnOk result (env.new ≡ env.old) }
 {
     let mut found = labels_of(part, lasso, env)?;
     go_round(&mut found, lasso)?;
-    found.later(word);
+    found.later(word)?;
     found.truncate(lasso.worlds.len());
     Ok(found)
 }
@@ -134,15 +128,15 @@ fn until_labels(
 ) -> Result<Labels, CheckFault>
     requires lasso { IsLasso lasso.now }
     requires frame { length env.old ≡ 32 }
-    requires fits { Fits (signature_of lasso.now.task.now.problem.domain) [] (until (tree_of_formula first.now) (tree_of_formula second.now)) }
-    ensures labels { AreLabels (plain_problem lasso.now.task.now.problem) lasso.now.stem lasso.now.worlds.now (assignment_in env.old) (until (tree_of_formula first.now) (tree_of_formula second.now)) result }
+    requires fits { FitsAlong lasso.now (until_tree first.now second.now) }
+    ensures labels { AreLabelsAlong lasso.now env.old (until_tree first.now second.now) result }
     ensures frame { OnOk result (env.new ≡ env.old) }
 {
     let mut found = labels_of(first, lasso, env)?;
     let mut other = labels_of(second, lasso, env)?;
     go_round(&mut found, lasso)?;
     go_round(&mut other, lasso)?;
-    found.until(&other);
+    found.until(&other)?;
     found.truncate(lasso.worlds.len());
     Ok(found)
 }
@@ -157,14 +151,14 @@ fn parts_labels(
 ) -> Result<Labels, CheckFault>
     requires lasso { IsLasso lasso.now }
     requires frame { length env.old ≡ 32 }
-    requires fits { Fits (signature_of lasso.now.task.now.problem.domain) [] (joined junction (tree_of_formulas parts.now)) }
-    ensures labels { AreLabels (plain_problem lasso.now.task.now.problem) lasso.now.stem lasso.now.worlds.now (assignment_in env.old) (joined junction (tree_of_formulas parts.now)) result }
+    requires fits { FitsAlong lasso.now (joined junction (tree_of_formulas parts.now)) }
+    ensures labels { AreLabelsAlong lasso.now env.old (joined junction (tree_of_formulas parts.now)) result }
     ensures frame { OnOk result (env.new ≡ env.old) }
 {
     let mut all = Labels::all(lasso.alloc, lasso.worlds.len(), !junction.deciding_truth())?;
     for part in parts.as_slice().iter() {
         let found = labels_of(part, lasso, env)?;
-        all.join(&found, junction);
+        all.join(&found, junction)?;
     }
     Ok(all)
 }
@@ -179,8 +173,8 @@ fn quantified_labels(
 ) -> Result<Labels, CheckFault>
     requires lasso { IsLasso lasso.now }
     requires frame { length env.old ≡ 32 }
-    requires fits { Fits (signature_of lasso.now.task.now.problem.domain) [] (quantified binder.now.junction binder.now.vars.now binder.now.bound.now (tree_of_formula part.now)) }
-    ensures labels { AreLabels (plain_problem lasso.now.task.now.problem) lasso.now.stem lasso.now.worlds.now (assignment_in env.old) (quantified binder.now.junction binder.now.vars.now binder.now.bound.now (tree_of_formula part.now)) result }
+    requires fits { FitsAlong lasso.now (quantified_tree binder.now part.now) }
+    ensures labels { AreLabelsAlong lasso.now env.old (quantified_tree binder.now part.now) result }
     ensures frame { OnOk result (env.new ≡ env.old) }
 {
     let mut all = Labels::all(
@@ -207,9 +201,9 @@ fn join_new_instances(
     requires lasso { IsLasso lasso.now }
     requires within { i < length lasso.now.worlds.now }
     requires frame { length env.old ≡ 32 }
-    requires fits { Fits (signature_of lasso.now.task.now.problem.domain) [] (quantified binder.now.junction binder.now.vars.now binder.now.bound.now (tree_of_formula part.now)) }
-    requires so_far { Gathers (situations_round (plain_problem lasso.now.task.now.problem) lasso.now.stem lasso.now.worlds.now) (length lasso.now.worlds.now) (assignment_in env.old) (with_part binder.now (tree_of_formula part.now)) i all.old }
-    ensures gathered { GathersNext (plain_problem lasso.now.task.now.problem) lasso.now.stem lasso.now.worlds.now (assignment_in env.old) (with_part binder.now (tree_of_formula part.now)) i all.new result }
+    requires fits { FitsAlong lasso.now (quantified_tree binder.now part.now) }
+    requires so_far { GathersAlong lasso.now env.old (quantifier_of binder.now part.now) i all.old }
+    ensures gathered { GathersNextAlong lasso.now env.old (quantifier_of binder.now part.now) i all.new result }
     ensures frame { OnOk result (env.new ≡ env.old) }
 {
     let world = &lasso.worlds[i];
@@ -236,9 +230,9 @@ fn join_if_new(
     requires lasso { IsLasso lasso.now }
     requires within { i < length lasso.now.worlds.now }
     requires frame { length env.old ≡ 32 }
-    requires fits { Fits (signature_of lasso.now.task.now.problem.domain) [] (quantified binder.now.junction binder.now.vars.now binder.now.bound.now (tree_of_formula part.now)) }
+    requires fits { FitsAlong lasso.now (quantified_tree binder.now part.now) }
     requires size { length all.old ≡ length lasso.now.worlds.now }
-    ensures joined { JoinsIfNew (plain_problem lasso.now.task.now.problem) lasso.now.stem lasso.now.worlds.now (assignment_in env.old) (with_part binder.now (tree_of_formula part.now)) i all.old all.new result }
+    ensures joined { JoinsNewAlong lasso.now env.old (quantifier_of binder.now part.now) i all.old all.new result }
     ensures frame { OnOk result (env.new ≡ env.old) }
 {
     if was_true(binder.bound, lasso, i, env) {
@@ -258,13 +252,13 @@ fn join_instance(
 ) -> Result<(), CheckFault>
     requires lasso { IsLasso lasso.now }
     requires frame { length env.old ≡ 32 }
-    requires fits { Fits (signature_of lasso.now.task.now.problem.domain) [] (quantified binder.now.junction binder.now.vars.now binder.now.bound.now (tree_of_formula part.now)) }
+    requires fits { FitsAlong lasso.now (quantified_tree binder.now part.now) }
     requires size { length all.old ≡ length lasso.now.worlds.now }
-    ensures joined { JoinsInstance (plain_problem lasso.now.task.now.problem) lasso.now.stem lasso.now.worlds.now (assignment_in env.old) (with_part binder.now (tree_of_formula part.now)) all.old all.new result }
+    ensures joined { JoinsAlong lasso.now env.old (quantifier_of binder.now part.now) all.old all.new result }
     ensures frame { OnOk result (env.new ≡ env.old) }
 {
     let there = bound_labels(binder.bound, lasso, env)?;
     let found = labels_of(part, lasso, env)?;
-    all.join_where(&there, &found, 0, binder.junction);
+    all.join_where(&there, &found, 0, binder.junction)?;
     Ok(())
 }

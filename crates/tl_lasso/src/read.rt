@@ -1,14 +1,11 @@
 // Plan files with a repeated part.
-ghost use Rattle.std.specs.Prelude.{◌≡◌, ◌+◌, ◌<◌, ◌≤◌, List, Some, length, option_map, IfErr, IfOk, MatchOption};
+ghost use Rattle.std.specs.Prelude.{◌≡◌, ◌+◌, ◌<◌, ◌≤◌, Some, length, option_map, IfErr, IfOk, MatchOption};
 ghost use Rattle.tl_sexpr.specs.Offsets.{AreAsRead};
 ghost use Rattle.tl_sexpr.specs.Tree.{tree_of, trees_of, no_form};
-ghost use Rattle.tl_syntax.specs.declared.action.Action.{Action};
 ghost use Rattle.tl_syntax.specs.Lists.{Each};
-ghost use Rattle.tl_rules.specs.Reads.{Reads, IsLeastFault, trees_in};
-ghost use Rattle.tl_line.specs.NamedActions.{ActionIsNamed};
-ghost use Rattle.tl_lasso.specs.declared.plan.LoopPlan.{LoopPlan};
-ghost use Rattle.tl_lasso.specs.LoopFiles.{front_of, last_of, loop_breaks, repeat_breaks, repeated, repeated_in};
-ghost use Rattle.tl_lasso.specs.MeaningOfLoops.{loop_meant, repeat_meant};
+ghost use Rattle.tl_rules.specs.Reads.{IsLeastFault, trees_in};
+ghost use Rattle.tl_lasso.specs.LoopFiles.{front_of, last_of, repeated, repeated_in};
+ghost use Rattle.tl_lasso.specs.ReadLoops.{IsNamedIn, ReadsLoop, ReadsRepeated, breaks_in};
 
 use crate::plan::LoopPlan;
 use std::alloc::Global;
@@ -66,10 +63,10 @@ fn cycle_of(
     before: usize,
 ) -> Result<Actions, FormFault>
     requires { before ≤ 100000 }
-    ensures read { Reads (λ (xs : List Action). xs) result (repeat_breaks problem.now.names problem.now.domain.operators before (tree_of form.now)) (repeat_meant problem.now.names problem.now.domain.operators (tree_of form.now)) }
+    ensures read { ReadsRepeated problem.now before (tree_of form.now) result }
     ensures few { IfOk result (λ plan. before + length plan ≤ 100000) }
     ensures some { IfOk result (λ plan. 0 < length plan) }
-    ensures named { IfOk result (λ plan. Each (ActionIsNamed problem.now.names problem.now.domain.operators) plan) }
+    ensures named { IfOk result (λ plan. Each (IsNamedIn problem.now) plan) }
 {
     let Some(forms) = repeated(form) else {
         return Err(breaks(Rule::Shape, offset(form)));
@@ -79,11 +76,11 @@ fn cycle_of(
 
 /// The plan that forms stand for.
 fn loop_plan(alloc: Global, forms: &[Form], problem: &Problem) -> Result<LoopPlan, FormFault>
-    ensures read { Reads (λ (x : LoopPlan). x) result (loop_breaks problem.now.names problem.now.domain.operators (trees_in forms.now)) (loop_meant problem.now.names problem.now.domain.operators (trees_in forms.now)) }
+    ensures read { ReadsLoop problem.now (trees_in forms.now) result }
     ensures few { IfOk result (λ plan. length plan.stem + length plan.cycle ≤ 100000) }
     ensures some { IfOk result (λ plan. 0 < length plan.cycle) }
-    ensures stem_named { IfOk result (λ plan. Each (ActionIsNamed problem.now.names problem.now.domain.operators) plan.stem) }
-    ensures cycle_named { IfOk result (λ plan. Each (ActionIsNamed problem.now.names problem.now.domain.operators) plan.cycle) }
+    ensures stem_named { IfOk result (λ plan. Each (IsNamedIn problem.now) plan.stem) }
+    ensures cycle_named { IfOk result (λ plan. Each (IsNamedIn problem.now) plan.cycle) }
 {
     let Some((front, last)) = split_last(forms) else {
         return Err(breaks(Rule::Shape, 0));
@@ -99,12 +96,12 @@ fn loop_plan(alloc: Global, forms: &[Form], problem: &Problem) -> Result<LoopPla
 /// Each action is of an operator of the problem, has as many arguments as that has parameters, and names only names of the problem.
 #[tactic(auto, using(crate::proofs::Rulesets::form_trees, crate::proofs::LoopOrder::least_fault))]
 pub fn loop_of(alloc: Global, forms: &Forms, problem: &Problem) -> Result<LoopPlan, FormFault>
-    ensures read { Reads (λ (x : LoopPlan). x) result (loop_breaks problem.now.names problem.now.domain.operators (trees_of forms.now)) (loop_meant problem.now.names problem.now.domain.operators (trees_of forms.now)) }
-    ensures least { AreAsRead (trees_of forms.now) → IfErr result (IsLeastFault (loop_breaks problem.now.names problem.now.domain.operators (trees_of forms.now))) }
+    ensures read { ReadsLoop problem.now (trees_of forms.now) result }
+    ensures least { AreAsRead (trees_of forms.now) → IfErr result (IsLeastFault (breaks_in problem.now (trees_of forms.now))) }
     ensures few { IfOk result (λ plan. length plan.stem + length plan.cycle ≤ 100000) }
     ensures some { IfOk result (λ plan. 0 < length plan.cycle) }
-    ensures stem_named { IfOk result (λ plan. Each (ActionIsNamed problem.now.names problem.now.domain.operators) plan.stem) }
-    ensures cycle_named { IfOk result (λ plan. Each (ActionIsNamed problem.now.names problem.now.domain.operators) plan.cycle) }
+    ensures stem_named { IfOk result (λ plan. Each (IsNamedIn problem.now) plan.stem) }
+    ensures cycle_named { IfOk result (λ plan. Each (IsNamedIn problem.now) plan.cycle) }
 {
     loop_plan(alloc, forms.as_slice(), problem)
 }

@@ -12,9 +12,5 @@ pub(crate) fn go_round(labels: &mut Labels, lasso: &Lasso) -> Result<(), NoMemor
     requires size { length labels.old ≡ length lasso.now.worlds.now }
     ensures { OnOk result (labels.new ≡ labels.old ++ drop lasso.now.stem labels.old) }
 {
-    for i in lasso.stem..lasso.worlds.len() {
-        let truth = labels.at(i);
-        labels.push(truth)?;
-    }
-    Ok(())
+    labels.repeat_from(lasso.stem)
 }

@@ -212,7 +212,7 @@ next_labels-returns-then-span-along-clause-labels t c =
 
 pub next_labels-returns-clause-labels : goal.next_labels-returns-clause-labels
 next_labels-returns-clause-labels t c =
-    next-last (plain_problem c.args.along.now.task.now.problem) c.args.along.now.worlds.now c.args.span c.requires.span (assignment_in c.args.env.now) (tree_of_formula c.args.part.now) (omega (arith, c.if-span-along.false, c.requires.span.within)) c.in_ok-found.found c.shift.new.self c.in_ok-found.ensures.labels c.shift.ensures
+    next-last (plain_problem c.args.along.now.task.now.problem) c.args.along.now.worlds.now c.args.span c.requires.span (assignment_in c.args.env.now) (tree_of_formula c.args.part.now) (omega (arith, c.if-span-along.false, c.requires.span.within)) c.in_ok-found.found c.shift.new.self c.in_ok-found.ensures.labels c.in_ok-shift.ensures.shifted
 
 pub next_labels-returns-in_err-found-clause-labels : goal.next_labels-returns-in_err-found-clause-labels
 next_labels-returns-in_err-found-clause-labels t c =
@@ -224,7 +224,7 @@ later_labels-labels_of-requires t c =
 
 pub later_labels-returns-clause-labels : goal.later_labels-returns-clause-labels
 later_labels-returns-clause-labels t c =
-    later-made (plain_problem c.args.along.now.task.now.problem) c.args.along.now.worlds.now c.args.span c.requires.span (assignment_in c.args.env.now) (tree_of_formula c.args.part.now) c.args.word c.in_ok-found.found c.later.new.self c.truncate.new.self c.in_ok-found.ensures.labels c.later.ensures c.truncate.ensures
+    later-made (plain_problem c.args.along.now.task.now.problem) c.args.along.now.worlds.now c.args.span c.requires.span (assignment_in c.args.env.now) (tree_of_formula c.args.part.now) c.args.word c.in_ok-found.found c.later.new.self c.truncate.new.self c.in_ok-found.ensures.labels c.in_ok-later.ensures.later c.truncate.ensures
 
 pub later_labels-returns-in_err-found-clause-labels : goal.later_labels-returns-in_err-found-clause-labels
 later_labels-returns-in_err-found-clause-labels t c =
@@ -246,7 +246,7 @@ until_labels-until-requires t c =
 
 pub until_labels-returns-clause-labels : goal.until_labels-returns-clause-labels
 until_labels-returns-clause-labels t c =
-    until-made (plain_problem c.args.along.now.task.now.problem) c.args.along.now.worlds.now c.args.span c.requires.span (assignment_in c.args.env.now) (tree_of_formula c.args.first.now) (assignment_in c.labels_of.new.env) (tree_of_formula c.args.second.now) c.in_ok-found.found c.in_ok-other.other c.until.new.self c.truncate.new.self (ap assignment_in c.in_ok-found.ensures.frame) c.in_ok-found.ensures.labels c.in_ok-other.ensures.labels c.until.ensures c.truncate.ensures
+    until-made (plain_problem c.args.along.now.task.now.problem) c.args.along.now.worlds.now c.args.span c.requires.span (assignment_in c.args.env.now) (tree_of_formula c.args.first.now) (assignment_in c.labels_of.new.env) (tree_of_formula c.args.second.now) c.in_ok-found.found c.in_ok-other.other c.until.new.self c.truncate.new.self (ap assignment_in c.in_ok-found.ensures.frame) c.in_ok-found.ensures.labels c.in_ok-other.ensures.labels c.in_ok-until.ensures.until c.truncate.ensures
 
 pub until_labels-returns-in_err-found-clause-labels : goal.until_labels-returns-in_err-found-clause-labels
 until_labels-returns-in_err-found-clause-labels t c =
@@ -277,7 +277,7 @@ parts_labels-loop-part-preserved t c =
     record {
       frame = c.in_ok-found.ensures.frame ∙ c.loop-part.invariant.frame;
       so_far = parts-on (plain_problem c.args.along.now.task.now.problem) (assignment_in c.args.env.now) c.args.along.now.worlds.now c.args.span c.requires.span c.args.junction c.as_slice-part-items.result.now c.loop-part.all c.in_ok-found.found c.join.new.self c.loop-part.part-index c.part-item.result c.loop-part-test.true c.part-item.is c.loop-part.invariant.so_far
-          (c.in_ok-found.ensures.labels ∙ ap (λ (x : Assignment). marks_in (true_ahead (plain_problem c.args.along.now.task.now.problem) x (tree_of_formula c.part-item.result)) c.args.along.now.worlds.now c.args.span) (ap assignment_in c.loop-part.invariant.frame)) c.join.ensures;
+          (c.in_ok-found.ensures.labels ∙ ap (λ (x : Assignment). marks_in (true_ahead (plain_problem c.args.along.now.task.now.problem) x (tree_of_formula c.part-item.result)) c.args.along.now.worlds.now c.args.span) (ap assignment_in c.loop-part.invariant.frame)) c.in_ok-join.ensures.joined;
     }
 
 pub parts_labels-returns-clause-labels : goal.parts_labels-returns-clause-labels
@@ -423,7 +423,7 @@ join_instance-returns-in-None-clause-joined t c =
 
 pub join_instance-returns-clause-joined : goal.join_instance-returns-clause-joined
 join_instance-returns-clause-joined t c =
-    instance-joined (plain_problem c.args.along.now.task.now.problem) c.args.along.now.worlds.now c.args.span (assignment_in c.args.env.now) (with_part c.args.binder.now (tree_of_formula c.args.part.now)) c.requires.span c.in_ok-there.there c.in_ok-there.ensures c.in-Some.hull c.in-Some.ensures.hull c.args.all.now c.join_where.new.self c.in_ok-found-in-Some.found tt (omega (arith, c.requires.size)) c.in_ok-found-in-Some.ensures.labels c.join_where.ensures.size c.join_where.ensures.joined
+    instance-joined (plain_problem c.args.along.now.task.now.problem) c.args.along.now.worlds.now c.args.span (assignment_in c.args.env.now) (with_part c.args.binder.now (tree_of_formula c.args.part.now)) c.requires.span c.in_ok-there.there c.in_ok-there.ensures c.in-Some.hull c.in-Some.ensures.hull c.args.all.now c.join_where.new.self c.in_ok-found-in-Some.found tt (omega (arith, c.requires.size)) c.in_ok-found-in-Some.ensures.labels c.in_ok-join_where-in-Some.ensures.size c.in_ok-join_where-in-Some.ensures.joined
 
 pub join_instance-returns-in_err-found-in-Some-clause-joined : goal.join_instance-returns-in_err-found-in-Some-clause-joined
 join_instance-returns-in_err-found-in-Some-clause-joined t c =

@@ -191,7 +191,7 @@ next_labels-labels_of-requires t c =
 
 pub next_labels-returns-clause-labels : goal.next_labels-returns-clause-labels
 next_labels-returns-clause-labels t c =
-    next-made (plain_problem c.args.lasso.now.task.now.problem) c.args.lasso.now.stem c.args.lasso.now.worlds.now c.requires.lasso.loops (assignment_in c.args.env.now) (tree_of_formula c.args.part.now) c.in_ok-found.found c.go_round.new.labels c.in_ok-found.ensures.labels c.in_ok-go_round.ensures c.shift.new.self c.truncate.new.self c.shift.ensures c.truncate.ensures
+    next-made (plain_problem c.args.lasso.now.task.now.problem) c.args.lasso.now.stem c.args.lasso.now.worlds.now c.requires.lasso.loops (assignment_in c.args.env.now) (tree_of_formula c.args.part.now) c.in_ok-found.found c.go_round.new.labels c.in_ok-found.ensures.labels c.in_ok-go_round.ensures c.shift.new.self c.truncate.new.self c.in_ok-shift.ensures.shifted c.truncate.ensures
 
 pub next_labels-returns-in_err-found-clause-labels : goal.next_labels-returns-in_err-found-clause-labels
 next_labels-returns-in_err-found-clause-labels t c =
@@ -204,7 +204,7 @@ later_labels-labels_of-requires t c =
 
 pub later_labels-returns-clause-labels : goal.later_labels-returns-clause-labels
 later_labels-returns-clause-labels t c =
-    later-made (plain_problem c.args.lasso.now.task.now.problem) c.args.lasso.now.stem c.args.lasso.now.worlds.now c.requires.lasso.loops (assignment_in c.args.env.now) (tree_of_formula c.args.part.now) c.in_ok-found.found c.go_round.new.labels c.in_ok-found.ensures.labels c.in_ok-go_round.ensures c.args.word c.later.new.self c.truncate.new.self c.later.ensures c.truncate.ensures
+    later-made (plain_problem c.args.lasso.now.task.now.problem) c.args.lasso.now.stem c.args.lasso.now.worlds.now c.requires.lasso.loops (assignment_in c.args.env.now) (tree_of_formula c.args.part.now) c.in_ok-found.found c.go_round.new.labels c.in_ok-found.ensures.labels c.in_ok-go_round.ensures c.args.word c.later.new.self c.truncate.new.self c.in_ok-later.ensures.later c.truncate.ensures
 
 pub later_labels-returns-in_err-found-clause-labels : goal.later_labels-returns-in_err-found-clause-labels
 later_labels-returns-in_err-found-clause-labels t c =
@@ -227,7 +227,7 @@ until_labels-until-requires t c =
 
 pub until_labels-returns-clause-labels : goal.until_labels-returns-clause-labels
 until_labels-returns-clause-labels t c =
-    until-made (plain_problem c.args.lasso.now.task.now.problem) c.args.lasso.now.stem c.args.lasso.now.worlds.now c.requires.lasso.loops (assignment_in c.args.env.now) (tree_of_formula c.args.first.now) c.in_ok-found.found c.go_round.new.labels c.in_ok-found.ensures.labels c.in_ok-go_round.ensures (assignment_in c.labels_of.new.env) (tree_of_formula c.args.second.now) c.in_ok-other.other c.go_round-2.new.labels c.until.new.self c.truncate.new.self (ap assignment_in c.in_ok-found.ensures.frame) c.in_ok-other.ensures.labels c.in_ok-go_round-2.ensures c.until.ensures c.truncate.ensures
+    until-made (plain_problem c.args.lasso.now.task.now.problem) c.args.lasso.now.stem c.args.lasso.now.worlds.now c.requires.lasso.loops (assignment_in c.args.env.now) (tree_of_formula c.args.first.now) c.in_ok-found.found c.go_round.new.labels c.in_ok-found.ensures.labels c.in_ok-go_round.ensures (assignment_in c.labels_of.new.env) (tree_of_formula c.args.second.now) c.in_ok-other.other c.go_round-2.new.labels c.until.new.self c.truncate.new.self (ap assignment_in c.in_ok-found.ensures.frame) c.in_ok-other.ensures.labels c.in_ok-go_round-2.ensures c.in_ok-until.ensures.until c.truncate.ensures
 
 pub until_labels-returns-in_err-found-clause-labels : goal.until_labels-returns-in_err-found-clause-labels
 until_labels-returns-in_err-found-clause-labels t c =
@@ -260,7 +260,7 @@ parts_labels-loop-part-preserved t c =
     record {
       frame = c.in_ok-found.ensures.frame ∙ c.loop-part.invariant.frame;
       so_far = parts-on (plain_problem c.args.lasso.now.task.now.problem) c.args.lasso.now.stem c.args.lasso.now.worlds.now (assignment_in c.args.env.now) c.args.junction c.as_slice-part-items.result.now c.loop-part.all c.in_ok-found.found c.join.new.self c.loop-part.part-index c.part-item.result c.loop-part-test.true c.part-item.is c.loop-part.invariant.so_far
-          (subst (λ (x : Assignment). TellsHolding (plain_problem c.args.lasso.now.task.now.problem) c.args.lasso.now.stem c.args.lasso.now.worlds.now x (tree_of_formula c.part-item.result) c.in_ok-found.found) (ap assignment_in c.loop-part.invariant.frame) c.in_ok-found.ensures.labels) c.join.ensures;
+          (subst (λ (x : Assignment). TellsHolding (plain_problem c.args.lasso.now.task.now.problem) c.args.lasso.now.stem c.args.lasso.now.worlds.now x (tree_of_formula c.part-item.result) c.in_ok-found.found) (ap assignment_in c.loop-part.invariant.frame) c.in_ok-found.ensures.labels) c.in_ok-join.ensures.joined;
     }
 
 pub parts_labels-returns-clause-labels : goal.parts_labels-returns-clause-labels
@@ -426,7 +426,7 @@ join_instance-join_where-requires-clause-within t c =
 
 pub join_instance-returns-clause-joined : goal.join_instance-returns-clause-joined
 join_instance-returns-clause-joined t c =
-    instance-joined (plain_problem c.args.lasso.now.task.now.problem) c.args.lasso.now.stem c.args.lasso.now.worlds.now (assignment_in c.args.env.now) (with_part c.args.binder.now (tree_of_formula c.args.part.now)) c.in_ok-there.there c.in_ok-found.found c.args.all.now c.join_where.new.self c.requires.size c.in_ok-there.ensures c.in_ok-found.ensures.labels c.join_where.ensures.size c.join_where.ensures.joined
+    instance-joined (plain_problem c.args.lasso.now.task.now.problem) c.args.lasso.now.stem c.args.lasso.now.worlds.now (assignment_in c.args.env.now) (with_part c.args.binder.now (tree_of_formula c.args.part.now)) c.in_ok-there.there c.in_ok-found.found c.args.all.now c.join_where.new.self c.requires.size c.in_ok-there.ensures c.in_ok-found.ensures.labels c.in_ok-join_where.ensures.size c.in_ok-join_where.ensures.joined
 
 pub join_instance-returns-in_err-found-clause-joined : goal.join_instance-returns-in_err-found-clause-joined
 join_instance-returns-in_err-found-clause-joined t c =

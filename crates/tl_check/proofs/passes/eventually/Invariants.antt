@@ -1,0 +1,8 @@
+use Rattle.tl_check.proofs.RunLaws.{EventuallySoFar}
+use Rattle.tl_check.proofs.passes.eventually.Given as goal
+
+abbrev pub invariant-loop-i : goal.invariant-loop-i
+invariant-loop-i l = EventuallySoFar l.i l.later l.runs l.initial.runs
+
+abbrev pub decreases-loop-i : goal.decreases-loop-i
+decreases-loop-i l = l.i

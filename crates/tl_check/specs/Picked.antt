@@ -1,0 +1,16 @@
+-- Labels that count at some positions alone.
+use Rattle.std.specs.Prelude.{◌+◌, ◌-◌, ℕ, List, [], ◌∷◌, ◌++◌, length, replicate, Bool, cond}
+
+-- the labels from a position on, among so many, with one label elsewhere
+abbrev pub placed_labels : List Bool → ℕ → ℕ → Bool → List Bool
+placed_labels bs at count elsewhere = (replicate at elsewhere ++ bs) ++ replicate (count - (at + length bs)) elsewhere
+
+-- the second labels where the first ones are true, and one label elsewhere
+abbrev pub chosen_labels : Bool → List Bool → List Bool → List Bool
+chosen_labels elsewhere [] cs = []
+chosen_labels elsewhere (b ∷ bs) [] = []
+chosen_labels elsewhere (b ∷ bs) (c ∷ cs) = cond b c elsewhere ∷ chosen_labels elsewhere bs cs
+
+-- the labels from a position on, where the first ones are true, and one label elsewhere
+abbrev pub picked_labels : List Bool → List Bool → ℕ → Bool → List Bool
+picked_labels there bs at elsewhere = chosen_labels elsewhere there (placed_labels bs at (length there) elsewhere)

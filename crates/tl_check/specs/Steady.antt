@@ -1,0 +1,11 @@
+-- Formulas that have the same truth in all states.
+use Rattle.std.specs.Prelude.{◌≡◌, ◌∷◌, List}
+use Rattle.tl_check.specs.Ahead.{true_ahead}
+use Rattle.tl_syntax.specs.Assignment.{Assignment}
+use Rattle.tl_syntax.specs.Trees.{FormulaTree}
+use Rattle.tl_terms.specs.Problem.{PlainProblem}
+use Rattle.tl_terms.specs.World.{World}
+
+-- its truth in one state is its truth in any other, whatever states follow
+abbrev pub IsSteady : Assignment → FormulaTree → Type 0
+IsSteady e f = (p : PlainProblem) (v w : World) (vs ws : List World) → true_ahead p e f (v ∷ vs) ≡ true_ahead p e f (w ∷ ws)
