@@ -7,15 +7,15 @@ use Rattle.tl_sexpr.specs.Tree.{FormTree, FormTrees, symbol, integer, list, no_f
 use Rattle.tl_formulas.specs.declared.roles.FormulaRole.TheVariants as role
 use Rattle.tl_rules.specs.declared.rule.Rule.TheVariants.{Shape, Twice, NotInBound, Limit}
 use Rattle.tl_formulas.specs.declared.signature.Signature.{Signature}
-use Rattle.tl_domain.specs.declared.words.ItemWord.{ItemWord}
-use Rattle.tl_domain.specs.declared.words.ItemWord.TheVariants as item
+use Rattle.tl_domain.specs.Words as item
 use Rattle.tl_rules.specs.Rules.{Break, first_break, IsLeastBreak}
-use Rattle.tl_domain.specs.Words.{item_word}
+use Rattle.tl_domain.specs.Words.{ItemWord, item_word}
 use Rattle.tl_rules.specs.Parts.{offset_of, is_within, natural, rest_of}
 use Rattle.tl_formulas.specs.Signatures.{Scope, slot_of, is_taken}
-use Rattle.tl_domain.specs.Operators.{has_head_shape, has_more, parameters_breaks, head_name_breaks, head_parts_breaks, head_list_breaks, head_breaks, parameters_of, is_clause, leading, after_leading, bounds_clause, pre_clause, effects_clause, occurs_in_bounds, pre_breaks, bounds_clause_breaks, pre_clause_breaks, effects_clause_breaks, clauses_breaks, operator_breaks}
-use Rattle.tl_domain.specs.declared.known.Known.{Known}
-use Rattle.tl_domain.specs.Items.{nothing_known, has_item_shape, is_second_control, is_full, arity_breaks, declaration_breaks, levels_breaks, with_head, item_list_breaks, item_parts_breaks, item_breaks, known_after, items_breaks}
+use Rattle.tl_problem.specs.Calls.{begins_with}
+use Rattle.tl_domain.specs.Operators.{has_head_shape, has_more, parameters_breaks, head_name_breaks, head_parts_breaks, head_list_breaks, head_breaks, parameters_of, leading, after_leading, bounds_clause, pre_clause, effects_clause, occurs_in_bounds, pre_breaks, bounds_clause_breaks, pre_clause_breaks, effects_clause_breaks, clauses_breaks, operator_breaks}
+use Rattle.tl_domain.specs.Declarations.{Declarations, nothing_declared}
+use Rattle.tl_domain.specs.Items.{has_item_shape, is_second_control, is_full, arity_breaks, declaration_breaks, levels_breaks, with_head, item_list_breaks, item_parts_breaks, item_breaks, declared_after, items_breaks}
 use Rattle.tl_domain.specs.DomainFiles.{has_domain_shape, domain_items_breaks, domain_form_breaks, domain_file_breaks}
 use Rattle.tl_sexpr.specs.Offsets.{RisesFrom, RiseFrom, AreAsRead}
 use Rattle.tl_rules.proofs.Order.{IsInOrder, from, up_to, both, none, one, tested, first-least}
@@ -77,7 +77,7 @@ LiesWithin low (Some f) next = RisesFrom low f next
 -- a leading clause lies before the forms after it
 leading-rises : (word : List ℕ) (fs : FormTrees) (low next : ℕ) → RiseFrom low fs next → (middle : ℕ) × LiesWithin low (leading word fs) middle × RiseFrom middle (after_leading word fs) next
 leading-rises word no_form low next h = (low, omega arith, h)
-leading-rises word (more_forms f fs) low next h = taken (is_clause word f)
+leading-rises word (more_forms f fs) low next h = taken (begins_with word f)
   where
     taken : (test : Bool) → (middle : ℕ) × LiesWithin low (if test then Some f else None) middle × RiseFrom middle (if test then fs else more_forms f fs) next
     taken true = (h.0, h.1, h.2)
@@ -138,7 +138,7 @@ declaration-order g (more_forms name (more_forms arity no_form)) low next h =
     (up_to (64 * h.0) (64 * later.0) (64 * next) _ (omega (arith, later.2)) (arity-order arity h.0 later.0 later.1))
 declaration-order g fs low next h = let parts = forms-within fs low next h in none (64 * low) (64 * next) (omega arith)
 
-item_parts-order : (k : Known) (w : ItemWord) (fs : FormTrees) (low next : ℕ) → RiseFrom low fs next → IsInOrder (64 * low) (item_parts_breaks k w fs) (64 * next)
+item_parts-order : (k : Declarations) (w : ItemWord) (fs : FormTrees) (low next : ℕ) → RiseFrom low fs next → IsInOrder (64 * low) (item_parts_breaks k w fs) (64 * next)
 item_parts-order k item.Predicate rest low next h = declaration-order k.signature rest low next h
 item_parts-order k item.Function rest low next h = declaration-order k.signature rest low next h
 item_parts-order k item.Define (more_forms head (more_forms f no_form)) low next h =
@@ -159,7 +159,7 @@ item_parts-order k item.Control (more_forms f no_form) low next h =
     up_to (64 * low) (64 * h.0) (64 * next) _ (omega (arith, h.2)) (formula-order role.Control k.signature [] f low h.0 h.1)
 item_parts-order k _ fs low next h = let parts = forms-within fs low next h in none (64 * low) (64 * next) (omega arith)
 
-item_list-order : (k : Known) (w : ItemWord) (rest : FormTrees) (at : ℕ) → IsInOrder (64 * at) (item_list_breaks k w rest at) (64 * (at + 1))
+item_list-order : (k : Declarations) (w : ItemWord) (rest : FormTrees) (at : ℕ) → IsInOrder (64 * at) (item_list_breaks k w rest at) (64 * (at + 1))
 item_list-order k w rest at =
     both (64 * at) (64 * at + 10) (64 * (at + 1)) _ _
     (tested (not (has_item_shape w rest)) Shape at (64 * at) (64 * at + 10) (omega arith) (omega arith))
@@ -167,7 +167,7 @@ item_list-order k w rest at =
     (tested (is_second_control k w) Twice at (64 * at + 10) (64 * at + 12) (omega arith) (omega arith))
     (tested (is_full k w) Limit at (64 * at + 12) (64 * (at + 1)) (omega arith) (omega arith)))
 
-item-order : (k : Known) (f : FormTree) (low next : ℕ) → RisesFrom low f next → IsInOrder (64 * low) (item_breaks k f) (64 * next)
+item-order : (k : Declarations) (f : FormTree) (low next : ℕ) → RisesFrom low f next → IsInOrder (64 * low) (item_breaks k f) (64 * next)
 item-order k (list (more_forms (symbol text s) rest) at) low next h =
     let elements = h.1 in
     let begin = elements.1 in
@@ -176,10 +176,10 @@ item-order k (list (more_forms (symbol text s) rest) at) low next h =
     (from (64 * (at + 1)) (64 * elements.0) (64 * next) _ (omega (arith, begin.0, begin.1)) (item_parts-order k (item_word text) rest elements.0 next elements.2)))
 item-order k f low next h = let within = form-within f low next h in one Shape (offset_of f) (64 * low) (64 * next) (omega (arith, within.0)) (omega (arith, within.1))
 
-items-order : (k : Known) (fs : FormTrees) (low next : ℕ) → RiseFrom low fs next → IsInOrder (64 * low) (items_breaks k fs) (64 * next)
+items-order : (k : Declarations) (fs : FormTrees) (low next : ℕ) → RiseFrom low fs next → IsInOrder (64 * low) (items_breaks k fs) (64 * next)
 items-order k no_form low next h = none (64 * low) (64 * next) (omega arith)
 items-order k (more_forms f fs) low next h =
-    both (64 * low) (64 * h.0) (64 * next) _ _ (item-order k f low h.0 h.1) (items-order (known_after k f) fs h.0 next h.2)
+    both (64 * low) (64 * h.0) (64 * next) _ _ (item-order k f low h.0 h.1) (items-order (declared_after k f) fs h.0 next h.2)
 
 domain_items-order : (fs : FormTrees) (low next : ℕ) → RiseFrom low fs next → IsInOrder (64 * low) (domain_items_breaks fs) (64 * next)
 domain_items-order no_form low next h = none (64 * low) (64 * next) (omega arith)
@@ -188,7 +188,7 @@ domain_items-order (more_forms a (more_forms name items)) low next h =
     let later = h.2 in
     let first = form-within a low h.0 h.1 in
     let second = form-within name h.0 later.0 later.1 in
-    from (64 * low) (64 * later.0) (64 * next) _ (omega (arith, first.0, first.1, second.0, second.1)) (items-order nothing_known items later.0 next later.2)
+    from (64 * low) (64 * later.0) (64 * next) _ (omega (arith, first.0, first.1, second.0, second.1)) (items-order nothing_declared items later.0 next later.2)
 
 domain_form-order : (f : FormTree) (low next : ℕ) → RisesFrom low f next → IsInOrder (64 * low) (domain_form_breaks f) (64 * next)
 domain_form-order (symbol text at) low next h = one Shape at (64 * low) (64 * next) (omega (arith, h.0)) (omega (arith, h.1))

@@ -1,32 +1,12 @@
 -- Heads, element by element.
-use Rattle.std.proofs.Common.{◌≡◌, ℕ, List, [], ◌∷◌, ◌++◌, Bool, false, refl, Some, None}
-use Rattle.std.specs.Prelude.{◌&&◌, not, is_some}
+use Rattle.std.proofs.Common.{◌≡◌, ℕ, List, [], ◌∷◌, ◌++◌, Bool, refl, Some, None}
+use Rattle.std.specs.Prelude.{not, is_some}
 use Rattle.tl_sexpr.specs.Tree.{FormTree, FormTrees, symbol, integer, list, no_form, more_forms}
 use Rattle.tl_rules.specs.declared.rule.Rule.TheVariants.{Twice, NotInBound}
 use Rattle.tl_rules.specs.Rules.{breaks_if}
-use Rattle.tl_rules.specs.Parts.{is_variable}
-use Rattle.tl_rules.specs.Parts.{offset_of, text_of, are_variables, elements_of, rest_of}
+use Rattle.tl_rules.specs.Parts.{offset_of, text_of, elements_of, rest_of}
 use Rattle.tl_formulas.specs.Signatures.{Scope, slot_of}
-use Rattle.tl_domain.specs.Operators.{has_head_shape, parameters_breaks, name_in_head}
-use Rattle.tl_formulas.proofs.VariableLists.{first-symbol, later-variables}
-
--- a head begins with a symbol
-pub head-nameless : (f : FormTree) (fs : FormTrees) → text_of f ≡ None → has_head_shape (more_forms f fs) ≡ false
-head-nameless (symbol t at) fs is = cc
-head-nameless (integer z at) fs is = refl
-head-nameless (list gs at) fs is = refl
-
--- a head that begins with a symbol is one where the symbol is a name and variables stand after it
-pub head-named : (f : FormTree) (fs : FormTrees) (text : List ℕ) → text_of f ≡ Some text → has_head_shape (more_forms f fs) ≡ (not (is_variable text) && are_variables fs)
-head-named (symbol t at) fs text is = cc
-head-named (integer z at) fs text is = cc
-head-named (list gs at) fs text is = cc
-
--- a form with a text is a symbol
-pub symbol-of-text : (f : FormTree) (text : List ℕ) → text_of f ≡ Some text → f ≡ symbol text (offset_of f)
-symbol-of-text (symbol t at) text is = cc
-symbol-of-text (integer z at) text is = cc
-symbol-of-text (list gs at) text is = cc
+use Rattle.tl_domain.specs.Operators.{parameters_breaks, name_in_head}
 
 -- the name and the variables of a head with these elements
 pub head-name : (f : FormTree) (text : List ℕ) (at : ℕ) (fs : FormTrees) → more_forms (symbol text at) fs ≡ elements_of f → name_in_head f ≡ text
@@ -49,8 +29,8 @@ parameters-next occurs earlier (symbol t at) fs text is = cc
 parameters-next occurs earlier (integer z at) fs text is = cc
 parameters-next occurs earlier (list gs at) fs text is = cc
 
-pub ruleset head_shapes = (head-nameless, head-named, symbol-of-text)
-
-pub ruleset parameter_lists = (parameters-next, first-symbol, later-variables)
-
-pub ruleset head_parts = (head-name, head-variables)
+-- a form that is no symbol is passed over
+pub parameters-skip : (occurs : List ℕ → Bool) (earlier : Scope) (f : FormTree) (fs : FormTrees) → text_of f ≡ None → parameters_breaks occurs earlier (more_forms f fs) ≡ parameters_breaks occurs earlier fs
+parameters-skip occurs earlier (symbol t at) fs is = cc
+parameters-skip occurs earlier (integer z at) fs is = refl
+parameters-skip occurs earlier (list gs at) fs is = refl

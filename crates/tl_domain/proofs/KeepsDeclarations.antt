@@ -19,21 +19,21 @@ use Rattle.tl_formulas.specs.declared.signature.Signature.{Signature}
 use Rattle.tl_formulas.specs.Signatures.{Table, place_of, is_in, is_taken}
 use Rattle.tl_formulas.proofs.KeepsLists.{none-parts, test-fails, test-passes}
 use Rattle.tl_formulas.proofs.KeepsCalls.{NamesOnly}
-use Rattle.tl_domain.specs.declared.known.Known.{Known}
-use Rattle.tl_domain.specs.declared.words.ItemWord.{ItemWord}
-use Rattle.tl_domain.specs.declared.words.ItemWord.TheVariants as item
+use Rattle.tl_domain.specs.Declarations.{Declarations}
+use Rattle.tl_domain.specs.Words.{ItemWord}
+use Rattle.tl_domain.specs.Words as item
 use Rattle.tl_domain.specs.Operators.{head_name_breaks}
 use Rattle.tl_domain.specs.Items.{has_declaration_shape, has_item_shape, is_full, is_second_control, arity_breaks, declaration_breaks, declaration_of, item_list_breaks, item_parts_breaks, signature_after}
 use Rattle.tl_domain.specs.MeaningOfItems.{declared_meant, predicates_in, functions_in}
 
 -- an item that breaks nothing, by its first word and the elements after it
-pub record IsLawful (names : List (List ℕ)) (k : Known) (w : ItemWord) (rest : FormTrees) : Type 0 where
+pub record IsLawful (names : List (List ℕ)) (k : Declarations) (w : ItemWord) (rest : FormTrees) : Type 0 where
   pub has : HaveNames names rest
   pub shape : has_item_shape w rest ≡ true
   pub room : is_full k w ≡ false
   pub parts : item_parts_breaks k w rest ≡ []
 
-pub is-lawful : (names : List (List ℕ)) (k : Known) (w : ItemWord) (rest : FormTrees) (at : ℕ) → HaveNames names rest → item_list_breaks k w rest at ++ item_parts_breaks k w rest ≡ [] → IsLawful names k w rest
+pub is-lawful : (names : List (List ℕ)) (k : Declarations) (w : ItemWord) (rest : FormTrees) (at : ℕ) → HaveNames names rest → item_list_breaks k w rest at ++ item_parts_breaks k w rest ≡ [] → IsLawful names k w rest
 is-lawful names k w rest at has none =
     let parts = none-parts (item_list_breaks k w rest at) (item_parts_breaks k w rest) none in
     let own = none-parts (breaks_if (not (has_item_shape w rest)) Shape at) _ parts.0 in
@@ -66,11 +66,11 @@ declaration-keeps names g (more_forms (symbol text s) (more_forms (integer z t) 
     let arity = within 0 8 z (test-passes (is_within 0 8 z) Limit t parts.1) in
     record { keeps = (record { named = number-below names text has.0; few = arity.1 }, tt); plain = not-true (is_variable text) shapes.0 }
 
-pub predicates-keep : (names : List (List ℕ)) (k : Known) (w : ItemWord) (rest : FormTrees) → IsLawful names k w rest → Each (DeclarationKeeps (length names)) (predicates_in names w rest)
+pub predicates-keep : (names : List (List ℕ)) (k : Declarations) (w : ItemWord) (rest : FormTrees) → IsLawful names k w rest → Each (DeclarationKeeps (length names)) (predicates_in names w rest)
 predicates-keep names k item.Predicate rest h = (declaration-keeps names k.signature rest h.has h.shape h.parts).keeps
 predicates-keep names k _ rest h = tt
 
-pub functions-keep : (names : List (List ℕ)) (k : Known) (w : ItemWord) (rest : FormTrees) → IsLawful names k w rest → Each (DeclarationKeeps (length names)) (functions_in names w rest)
+pub functions-keep : (names : List (List ℕ)) (k : Declarations) (w : ItemWord) (rest : FormTrees) → IsLawful names k w rest → Each (DeclarationKeeps (length names)) (functions_in names w rest)
 functions-keep names k item.Function rest h = (declaration-keeps names k.signature rest h.has h.shape h.parts).keeps
 functions-keep names k _ rest h = tt
 
@@ -100,7 +100,7 @@ pushed table text n plain h = record { absent = λ other variable. later other v
     later other variable [] none = or_from (bytes_eq other text) false (differs other variable) refl
     later other variable (e ∷ es) none = let parts = or_parts (bytes_eq other e.0) (list_any (λ d. bytes_eq other d.0) es) none in or_from (bytes_eq other e.0) _ parts.0 (later other variable es parts.1)
 
-pub predicates-plain : (names : List (List ℕ)) (k : Known) (w : ItemWord) (rest : FormTrees) → IsLawful names k w rest → HasNoVariables k.signature.predicates → HasNoVariables (signature_after k.signature w rest).predicates
+pub predicates-plain : (names : List (List ℕ)) (k : Declarations) (w : ItemWord) (rest : FormTrees) → IsLawful names k w rest → HasNoVariables k.signature.predicates → HasNoVariables (signature_after k.signature w rest).predicates
 predicates-plain names k item.Predicate rest h before = pushed k.signature.predicates (declaration_of rest).0 (declaration_of rest).1 (declaration-keeps names k.signature rest h.has h.shape h.parts).plain before
 predicates-plain names k item.Function rest h before = before
 predicates-plain names k item.Define no_form h before = before
@@ -112,7 +112,7 @@ predicates-plain names k item.Operator rest h before = before
 predicates-plain names k item.Control rest h before = before
 predicates-plain names k item.Other rest h before = before
 
-pub functions-plain : (names : List (List ℕ)) (k : Known) (w : ItemWord) (rest : FormTrees) → IsLawful names k w rest → HasNoVariables k.signature.functions → HasNoVariables (signature_after k.signature w rest).functions
+pub functions-plain : (names : List (List ℕ)) (k : Declarations) (w : ItemWord) (rest : FormTrees) → IsLawful names k w rest → HasNoVariables k.signature.functions → HasNoVariables (signature_after k.signature w rest).functions
 functions-plain names k item.Function rest h before = pushed k.signature.functions (declaration_of rest).0 (declaration_of rest).1 (declaration-keeps names k.signature rest h.has h.shape h.parts).plain before
 functions-plain names k item.Predicate rest h before = before
 functions-plain names k item.Define no_form h before = before

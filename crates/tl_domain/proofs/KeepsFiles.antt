@@ -27,22 +27,21 @@ use Rattle.tl_rules.proofs.NamesHave.{number-below, forms-grow, forms-have, form
 use Rattle.tl_formulas.proofs.KeepsLists.{none-parts, test-passes, Each-implies, Each-both}
 use Rattle.tl_formulas.proofs.KeepsCalls.{arities, seen}
 use Rattle.tl_formulas.proofs.KeepsFormulas.{FormulaKeeps, constant-keeps}
-use Rattle.tl_domain.specs.declared.known.Known.{Known}
-use Rattle.tl_domain.specs.declared.words.ItemWord.{ItemWord}
+use Rattle.tl_domain.specs.Declarations.{Declarations, nothing_declared}
 use Rattle.tl_domain.specs.DomainFiles.{has_domain_shape, domain_items_breaks, domain_form_breaks, domain_file_breaks}
 use Rattle.tl_rules.specs.OneForm.{second_form_breaks}
 use Rattle.tl_domain.specs.DomainTrees.{DefinitionTree, DomainTree, definition_tree, operator_tree, domain_tree}
-use Rattle.tl_domain.specs.Items.{nothing_known, item_breaks, signature_after, known_with, known_after, items_breaks}
+use Rattle.tl_domain.specs.Items.{item_breaks, signature_after, declared_with, declared_after, items_breaks}
 use Rattle.tl_domain.specs.LawsKeeps.{DomainIsKept, NamesAreThere}
 use Rattle.tl_domain.specs.MeaningOfItems.{predicates_in, functions_in, definitions_in, operators_in, with_item, with_item_form, with_items, empty_domain, domain_meant, domain_file_meant}
-use Rattle.tl_domain.specs.Words.{item_word}
+use Rattle.tl_domain.specs.Words.{ItemWord, item_word}
 use Rattle.tl_domain.proofs.KeepsDeclarations.{IsLawful, is-lawful, HasNoVariables, names-only, predicates-keep, functions-keep, predicates-plain, functions-plain}
 use Rattle.tl_domain.proofs.KeepsOperators.{OperatorTreeKeeps}
 use Rattle.tl_domain.proofs.KeepsGrowth.{Grows, DefinitionTreeKeeps, definition-grows, operator-grows, formula-grows, place-of-both}
 use Rattle.tl_domain.proofs.KeepsItems.{AddsDefinitions, predicates-grow, functions-grow, predicates-few, functions-few, operators-few, operators-grow, definitions-keep, operators-keep, control-keeps}
 
 -- what a domain keeps after items that declare all this
-record Stands (names : List (List ℕ)) (k : Known) (d : DomainTree) : Type 0 where
+record Stands (names : List (List ℕ)) (k : Declarations) (d : DomainTree) : Type 0 where
   pub name : d.name < length names
   pub predicates : Each (DeclarationKeeps (length names)) d.predicates
   pub functions : Each (DeclarationKeeps (length names)) d.functions
@@ -63,7 +62,7 @@ record Stands (names : List (List ℕ)) (k : Known) (d : DomainTree) : Type 0 wh
   pub counted : sum_by (λ x. x.levels) d.definitions ≤ k.levels + length d.definitions
 
 -- definitions with one more, or with none
-definitions-stand : (names : List (List ℕ)) (k : Known) (d : DomainTree) (w : ItemWord) (rest : FormTrees) → Stands names k d → Grows (seen k.signature) (seen (signature_after k.signature w rest)) → AddsDefinitions names k w rest
+definitions-stand : (names : List (List ℕ)) (k : Declarations) (d : DomainTree) (w : ItemWord) (rest : FormTrees) → Stands names k d → Grows (seen k.signature) (seen (signature_after k.signature w rest)) → AddsDefinitions names k w rest
     → (i : ℕ) (x : DefinitionTree) → slice_get (d.definitions ++ definitions_in names k.signature w rest) i ≡ Some x → DefinitionTreeKeeps (seen (signature_after k.signature w rest)) (length names) i x
 definitions-stand names k d w rest s grown adds i x at = elim (place-of-both d.definitions (definitions_in names k.signature w rest) i x at) [
   | inl before ↦ definition-grows (seen k.signature) (seen (signature_after k.signature w rest)) (length names) i x grown (s.definitions i x before)
@@ -82,7 +81,7 @@ definitions-stand names k d w rest s grown adds i x at = elim (place-of-both d.d
     last y keeps (suc j) place there = absurd (none-some x there)
 
 -- the number of definitions with those of an item
-few-stand : (names : List (List ℕ)) (k : Known) (d : DomainTree) (w : ItemWord) (rest : FormTrees) → Stands names k d → AddsDefinitions names k w rest → length (d.definitions ++ definitions_in names k.signature w rest) ≤ 64
+few-stand : (names : List (List ℕ)) (k : Declarations) (d : DomainTree) (w : ItemWord) (rest : FormTrees) → Stands names k d → AddsDefinitions names k w rest → length (d.definitions ++ definitions_in names k.signature w rest) ≤ 64
 few-stand names k d w rest s adds =
     let many : length k.signature.definitions ≡ length d.definitions = sym (length-map k.signature.definitions (λ e. e.1)) ∙ ap (λ (l : List ℕ). length l) s.definition_arities ∙ length-map d.definitions (λ z. length z.params) in
     let both = length-append d.definitions (definitions_in names k.signature w rest) in
@@ -92,17 +91,17 @@ few-stand names k d w rest s adds =
     ]
 
 -- the number of predicates, of functions and of operators with those of an item
-predicates-stand : (names : List (List ℕ)) (k : Known) (d : DomainTree) (w : ItemWord) (rest : FormTrees) → Stands names k d → IsLawful names k w rest → length (d.predicates ++ predicates_in names w rest) ≤ 256
+predicates-stand : (names : List (List ℕ)) (k : Declarations) (d : DomainTree) (w : ItemWord) (rest : FormTrees) → Stands names k d → IsLawful names k w rest → length (d.predicates ++ predicates_in names w rest) ≤ 256
 predicates-stand names k d w rest s h =
     let many : length k.signature.predicates ≡ length d.predicates = sym (length-map k.signature.predicates (λ e. e.1)) ∙ ap (λ (l : List ℕ). length l) s.predicate_arities ∙ length-map d.predicates (λ x. x.arity) in
     omega (arith, length-append d.predicates (predicates_in names w rest), predicates-few names k w rest h (omega (arith, s.few_predicates)))
 
-functions-stand : (names : List (List ℕ)) (k : Known) (d : DomainTree) (w : ItemWord) (rest : FormTrees) → Stands names k d → IsLawful names k w rest → length (d.functions ++ functions_in names w rest) ≤ 256
+functions-stand : (names : List (List ℕ)) (k : Declarations) (d : DomainTree) (w : ItemWord) (rest : FormTrees) → Stands names k d → IsLawful names k w rest → length (d.functions ++ functions_in names w rest) ≤ 256
 functions-stand names k d w rest s h =
     let many : length k.signature.functions ≡ length d.functions = sym (length-map k.signature.functions (λ e. e.1)) ∙ ap (λ (l : List ℕ). length l) s.function_arities ∙ length-map d.functions (λ x. x.arity) in
     omega (arith, length-append d.functions (functions_in names w rest), functions-few names k w rest h (omega (arith, s.few_functions)))
 
-operators-stand : (names : List (List ℕ)) (k : Known) (d : DomainTree) (w : ItemWord) (rest : FormTrees) → Stands names k d → IsLawful names k w rest → length (d.operators ++ operators_in names k.signature w rest) ≤ 256
+operators-stand : (names : List (List ℕ)) (k : Declarations) (d : DomainTree) (w : ItemWord) (rest : FormTrees) → Stands names k d → IsLawful names k w rest → length (d.operators ++ operators_in names k.signature w rest) ≤ 256
 operators-stand names k d w rest s h =
     omega (arith, length-append d.operators (operators_in names k.signature w rest), s.operator_names, operators-few names k w rest h (omega (arith, s.operator_names, s.few_operators)))
 
@@ -110,7 +109,7 @@ operators-stand names k d w rest s h =
 both-arities : {A : Type 0} (f : A → ℕ) (xs ys : List A) (old new : List ℕ) → new ≡ old ++ map f ys → old ≡ map f xs → new ≡ map f (xs ++ ys)
 both-arities f xs ys old new grown same = grown ∙ ap (λ (l : List ℕ). l ++ map f ys) same ∙ sym (map-append f xs ys)
 
-item-stands : (names : List (List ℕ)) (k : Known) (d : DomainTree) (w : ItemWord) (rest : FormTrees) → Stands names k d → IsLawful names k w rest → Stands names (known_with k w rest) (with_item names k.signature d w rest)
+item-stands : (names : List (List ℕ)) (k : Declarations) (d : DomainTree) (w : ItemWord) (rest : FormTrees) → Stands names k d → IsLawful names k w rest → Stands names (declared_with k w rest) (with_item names k.signature d w rest)
 item-stands names k d w rest s h =
     let only = names-only k.signature s.plain_predicates s.plain_functions in
     let adds = definitions-keep names k w rest only h in
@@ -147,16 +146,16 @@ item-stands names k d w rest s h =
 
 -- a domain with items that break nothing, whatever they declare together
 record StandsAfter (names : List (List ℕ)) (d : DomainTree) : Type 0 where
-  pub known : Known
+  pub known : Declarations
   pub stands : Stands names known d
 
-items-stand : (names : List (List ℕ)) (k : Known) (d : DomainTree) (fs : FormTrees) → Stands names k d → HaveNames names fs → items_breaks k fs ≡ [] → StandsAfter names (with_items names k d fs)
+items-stand : (names : List (List ℕ)) (k : Declarations) (d : DomainTree) (fs : FormTrees) → Stands names k d → HaveNames names fs → items_breaks k fs ≡ [] → StandsAfter names (with_items names k d fs)
 items-stand names k d no_form s has none = record { known = k; stands = s }
 items-stand names k d (more_forms f fs) s has none =
-    let parts = none-parts (item_breaks k f) (items_breaks (known_after k f) fs) none in
-    items-stand names (known_after k f) (with_item_form names k.signature d f) fs (form-stands f has.0 parts.0) has.1 parts.1
+    let parts = none-parts (item_breaks k f) (items_breaks (declared_after k f) fs) none in
+    items-stand names (declared_after k f) (with_item_form names k.signature d f) fs (form-stands f has.0 parts.0) has.1 parts.1
   where
-    form-stands : (form : FormTree) → HasNames names form → item_breaks k form ≡ [] → Stands names (known_after k form) (with_item_form names k.signature d form)
+    form-stands : (form : FormTree) → HasNames names form → item_breaks k form ≡ [] → Stands names (declared_after k form) (with_item_form names k.signature d form)
     form-stands (symbol text at) own wrong = cc
     form-stands (integer z at) own wrong = cc
     form-stands (list no_form at) own wrong = cc
@@ -164,14 +163,14 @@ items-stand names k d (more_forms f fs) s has none =
     form-stands (list (more_forms (integer z t) rest) at) own wrong = cc
     form-stands (list (more_forms (list gs t) rest) at) own wrong = cc
 
-nothing-stands : (names : List (List ℕ)) (name : ℕ) → name < length names → Stands names nothing_known (empty_domain name)
+nothing-stands : (names : List (List ℕ)) (name : ℕ) → name < length names → Stands names nothing_declared (empty_domain name)
 nothing-stands names name lt = record {
   name = lt;
   predicates = tt;
   functions = tt;
   definitions = λ i x at. absurd (none-some x at);
   operators = tt;
-  control = constant-keeps (seen nothing_known.signature) (length names) [] 0;
+  control = constant-keeps (seen nothing_declared.signature) (length names) [] 0;
   predicate_arities = refl;
   function_arities = refl;
   definition_arities = refl;
@@ -189,7 +188,7 @@ nothing-stands names name lt = record {
 elements-stand : (names : List (List ℕ)) (fs : FormTrees) → HaveNames names fs → has_domain_shape fs ≡ true → domain_items_breaks fs ≡ [] → StandsAfter names (domain_meant names fs)
 elements-stand names no_form has shape none = cc
 elements-stand names (more_forms word no_form) has shape none = cc
-elements-stand names (more_forms word (more_forms (symbol text t) items)) has shape none = items-stand names nothing_known (empty_domain (number_in names text)) items (nothing-stands names (number_in names text) (number-below names text has.1.0)) has.1.1 none
+elements-stand names (more_forms word (more_forms (symbol text t) items)) has shape none = items-stand names nothing_declared (empty_domain (number_in names text)) items (nothing-stands names (number_in names text) (number-below names text has.1.0)) has.1.1 none
 elements-stand names (more_forms word (more_forms (integer z t) items)) has shape none = let parts = and_parts (is_word (codes "domain") word) false shape in cc
 elements-stand names (more_forms word (more_forms (list gs t) items)) has shape none = let parts = and_parts (is_word (codes "domain") word) false shape in cc
 
@@ -227,7 +226,7 @@ operator-of-tree g n o h = record {
 }
 
 -- the numbers of arguments of a domain are those of the items that it comes from
-same-signature : (names : List (List ℕ)) (k : Known) (d : Domain) → Stands names k (domain_tree d) → seen k.signature ≡ signature_of d
+same-signature : (names : List (List ℕ)) (k : Declarations) (d : Domain) → Stands names k (domain_tree d) → seen k.signature ≡ signature_of d
 same-signature names k d s = parts s.predicate_arities s.function_arities (s.definition_arities ∙ map-map (λ x. length x.params) definition_tree d.definitions)
   where
     parts : {p q r s t u : List ℕ} → p ≡ q → r ≡ s → t ≡ u → ◌≡◌ {A = domain.Signature} (record { predicates = p; functions = r; definitions = t }) (record { predicates = q; functions = s; definitions = u })
@@ -239,7 +238,7 @@ nowhere qs h = Each-implies (λ q. q < 0) (λ q. is_slot_in [] q ≡ true) (λ q
 levels-of-trees : (ds : List Definition) → sum_by (λ x. x.levels) (map definition_tree ds) ≡ sum_by (λ x. x.levels) ds
 levels-of-trees ds = sym (sum-map (λ (x : DefinitionTree). x.levels) (map definition_tree ds)) ∙ ap (λ (l : List ℕ). sum l) (map-map (λ (x : DefinitionTree). x.levels) definition_tree ds) ∙ sum-map (λ (x : Definition). x.levels) ds
 
-tree-keeps : (names : List (List ℕ)) (k : Known) (d : Domain) → Stands names k (domain_tree d) → DomainKeeps (length names) d
+tree-keeps : (names : List (List ℕ)) (k : Declarations) (d : Domain) → Stands names k (domain_tree d) → DomainKeeps (length names) d
 tree-keeps names k d s =
     let same = same-signature names k d s in
     let definitions : (i : ℕ) (x : Definition) → slice_get d.definitions i ≡ Some x → DefinitionKeeps (signature_of d) (length names) i x = λ i x at.

@@ -24,9 +24,9 @@ use Rattle.tl_formulas.proofs.KeepsVariables.{length-variables, texts-count}
 use Rattle.tl_formulas.proofs.KeepsFormulas.{FormulaKeeps, formula-keeps}
 use Rattle.tl_formulas.proofs.KeepsState.{formula-state}
 use Rattle.tl_formulas.proofs.KeepsMore.{formula-fits}
-use Rattle.tl_domain.specs.declared.known.Known.{Known}
-use Rattle.tl_domain.specs.declared.words.ItemWord.{ItemWord}
-use Rattle.tl_domain.specs.declared.words.ItemWord.TheVariants as item
+use Rattle.tl_domain.specs.Declarations.{Declarations}
+use Rattle.tl_domain.specs.Words.{ItemWord}
+use Rattle.tl_domain.specs.Words as item
 use Rattle.tl_domain.specs.DomainTrees.{DefinitionTree}
 use Rattle.tl_domain.specs.Operators.{head_breaks, parameters_of, name_in_head, are_clauses}
 use Rattle.tl_domain.specs.Items.{levels_breaks, declaration_of, with_head, signature_after, operators_after, levels_after}
@@ -70,21 +70,21 @@ functions-grow names g item.Other rest = sym (append-nil (arities g.functions))
 
 -- ---- how many predicates, functions and operators there are: an item adds one only where there is room
 
-pub predicates-few : (names : List (List ℕ)) (k : Known) (w : ItemWord) (rest : FormTrees) → IsLawful names k w rest → length k.signature.predicates ≤ 256 → length k.signature.predicates + length (predicates_in names w rest) ≤ 256
+pub predicates-few : (names : List (List ℕ)) (k : Declarations) (w : ItemWord) (rest : FormTrees) → IsLawful names k w rest → length k.signature.predicates ≤ 256 → length k.signature.predicates + length (predicates_in names w rest) ≤ 256
 predicates-few names k item.Predicate rest h few = let room = ltb-true (length k.signature.predicates) 256 (not-false (nat_lt (length k.signature.predicates) 256) h.room) in omega arith
 predicates-few names k _ rest h few = omega arith
 
-pub functions-few : (names : List (List ℕ)) (k : Known) (w : ItemWord) (rest : FormTrees) → IsLawful names k w rest → length k.signature.functions ≤ 256 → length k.signature.functions + length (functions_in names w rest) ≤ 256
+pub functions-few : (names : List (List ℕ)) (k : Declarations) (w : ItemWord) (rest : FormTrees) → IsLawful names k w rest → length k.signature.functions ≤ 256 → length k.signature.functions + length (functions_in names w rest) ≤ 256
 functions-few names k item.Function rest h few = let room = ltb-true (length k.signature.functions) 256 (not-false (nat_lt (length k.signature.functions) 256) h.room) in omega arith
 functions-few names k _ rest h few = omega arith
 
-pub operators-few : (names : List (List ℕ)) (k : Known) (w : ItemWord) (rest : FormTrees) → IsLawful names k w rest → length k.operators ≤ 256 → length k.operators + length (operators_in names k.signature w rest) ≤ 256
+pub operators-few : (names : List (List ℕ)) (k : Declarations) (w : ItemWord) (rest : FormTrees) → IsLawful names k w rest → length k.operators ≤ 256 → length k.operators + length (operators_in names k.signature w rest) ≤ 256
 operators-few names k item.Operator no_form h few = omega arith
 operators-few names k item.Operator (more_forms head clauses) h few = let room = ltb-true (length k.operators) 256 (not-false (nat_lt (length k.operators) 256) h.room) in omega arith
 operators-few names k _ rest h few = omega arith
 
 -- an operator joins the domain where its name joins the names of operators
-pub operators-grow : (names : List (List ℕ)) (k : Known) (w : ItemWord) (rest : FormTrees) → length (operators_after k.operators w rest) ≡ length k.operators + length (operators_in names k.signature w rest)
+pub operators-grow : (names : List (List ℕ)) (k : Declarations) (w : ItemWord) (rest : FormTrees) → length (operators_after k.operators w rest) ≡ length k.operators + length (operators_in names k.signature w rest)
 operators-grow names k item.Operator no_form = omega arith
 operators-grow names k item.Operator (more_forms head clauses) = length-append k.operators (name_in_head head ∷ [])
 operators-grow names k _ rest = omega arith
@@ -92,7 +92,7 @@ operators-grow names k _ rest = omega arith
 -- ---- definitions
 
 -- what an item adds to the definitions: nothing, or one that keeps what definitions keep, where there is room
-pub record AddsDefinitions (names : List (List ℕ)) (k : Known) (w : ItemWord) (rest : FormTrees) : Type 0 where
+pub record AddsDefinitions (names : List (List ℕ)) (k : Declarations) (w : ItemWord) (rest : FormTrees) : Type 0 where
   pub adds : (definitions_in names k.signature w rest ≡ []) ⊎ ((d : DefinitionTree) × (definitions_in names k.signature w rest ≡ d ∷ []) × DefinitionTreeKeeps (seen (signature_after k.signature w rest)) (length names) (length k.signature.definitions) d × (length k.signature.definitions < 64))
   pub grows : arities (signature_after k.signature w rest).definitions ≡ arities k.signature.definitions ++ map (λ x. length x.params) (definitions_in names k.signature w rest)
   pub counted : k.levels + sum_by (λ x. x.levels) (definitions_in names k.signature w rest) ≤ levels_after k.levels w rest + length (definitions_in names k.signature w rest)
@@ -129,7 +129,7 @@ head-grows g head = record {
 head-length : (g : Signature) (head : FormTree) → length (arities (with_head g head).definitions) ≤ length g.definitions + 1
 head-length g head = omega (arith, length-map (with_head g head).definitions (λ (e : List ℕ × ℕ). e.1), length-append g.definitions ((name_in_head head, count (rest_of head)) ∷ []))
 
-none-added : (names : List (List ℕ)) (k : Known) (w : ItemWord) (rest : FormTrees) → definitions_in names k.signature w rest ≡ [] → arities (signature_after k.signature w rest).definitions ≡ arities k.signature.definitions → levels_after k.levels w rest ≡ k.levels → AddsDefinitions names k w rest
+none-added : (names : List (List ℕ)) (k : Declarations) (w : ItemWord) (rest : FormTrees) → definitions_in names k.signature w rest ≡ [] → arities (signature_after k.signature w rest).definitions ≡ arities k.signature.definitions → levels_after k.levels w rest ≡ k.levels → AddsDefinitions names k w rest
 none-added names k w rest none same levels = record {
   adds = inl none;
   grows = same ∙ sym (append-nil (arities k.signature.definitions)) ∙ ap (λ (ds : List DefinitionTree). arities k.signature.definitions ++ map (λ x. length x.params) ds) (sym none);
@@ -137,7 +137,7 @@ none-added names k w rest none same levels = record {
   few = λ le. omega (arith, levels);
 }
 
-define-adds : (names : List (List ℕ)) (k : Known) (head body : FormTree) → NamesOnly k.signature → IsLawful names k item.Define (more_forms head (more_forms body no_form)) → AddsDefinitions names k item.Define (more_forms head (more_forms body no_form))
+define-adds : (names : List (List ℕ)) (k : Declarations) (head body : FormTree) → NamesOnly k.signature → IsLawful names k item.Define (more_forms head (more_forms body no_form)) → AddsDefinitions names k item.Define (more_forms head (more_forms body no_form))
 define-adds names k head body only h =
     let old = is_taken k.signature in
     let everywhere = λ (text : List ℕ). true in
@@ -165,7 +165,7 @@ lawful-levels before z at none =
     let tests = or_parts (not (is_within 1 64 z)) (nat_lt 64 (before + natural z)) (test-fails (not (is_within 1 64 z) || nat_lt 64 (before + natural z)) Limit at none) in
     ((within 1 64 z (not-false (is_within 1 64 z) tests.0)).0, ltb-false 64 (before + natural z) tests.1)
 
-defined-adds : (names : List (List ℕ)) (k : Known) (z : ℤ) (at : ℕ) (head body : FormTree) → NamesOnly k.signature → IsLawful names k item.Defined (more_forms (integer z at) (more_forms head (more_forms body no_form))) → AddsDefinitions names k item.Defined (more_forms (integer z at) (more_forms head (more_forms body no_form)))
+defined-adds : (names : List (List ℕ)) (k : Declarations) (z : ℤ) (at : ℕ) (head body : FormTree) → NamesOnly k.signature → IsLawful names k item.Defined (more_forms (integer z at) (more_forms head (more_forms body no_form))) → AddsDefinitions names k item.Defined (more_forms (integer z at) (more_forms head (more_forms body no_form)))
 defined-adds names k z at head body only h =
     let old = is_taken k.signature in
     let everywhere = λ (text : List ℕ). true in
@@ -189,7 +189,7 @@ defined-adds names k z at head body only h =
       few = λ le. levels.1;
     }
 
-pub definitions-keep : (names : List (List ℕ)) (k : Known) (w : ItemWord) (rest : FormTrees) → NamesOnly k.signature → IsLawful names k w rest → AddsDefinitions names k w rest
+pub definitions-keep : (names : List (List ℕ)) (k : Declarations) (w : ItemWord) (rest : FormTrees) → NamesOnly k.signature → IsLawful names k w rest → AddsDefinitions names k w rest
 definitions-keep names k item.Define no_form only h = let shape = h.shape in cc
 definitions-keep names k item.Define (more_forms head no_form) only h = let shape = h.shape in cc
 definitions-keep names k item.Define (more_forms head (more_forms body no_form)) only h = define-adds names k head body only h
@@ -209,13 +209,13 @@ definitions-keep names k item.Other rest only h = none-added names k item.Other 
 
 -- ---- operators and control
 
-pub operators-keep : (names : List (List ℕ)) (k : Known) (w : ItemWord) (rest : FormTrees) → NamesOnly k.signature → IsLawful names k w rest → Each (OperatorTreeKeeps (seen k.signature) (length names)) (operators_in names k.signature w rest)
+pub operators-keep : (names : List (List ℕ)) (k : Declarations) (w : ItemWord) (rest : FormTrees) → NamesOnly k.signature → IsLawful names k w rest → Each (OperatorTreeKeeps (seen k.signature) (length names)) (operators_in names k.signature w rest)
 operators-keep names k item.Operator no_form only h = tt
 operators-keep names k item.Operator (more_forms head clauses) only h =
     (operator-keeps names k.signature k.operators head clauses only (and_parts (is_list head) (are_clauses clauses) h.shape).0 h.has.0 h.has.1 h.parts, tt)
 operators-keep names k _ rest only h = tt
 
-pub control-keeps : (names : List (List ℕ)) (k : Known) (control : FormulaTree) (w : ItemWord) (rest : FormTrees) → NamesOnly k.signature → IsLawful names k w rest → FormulaKeeps (seen k.signature) (length names) [] 0 control → FormulaKeeps (seen k.signature) (length names) [] 0 (control_with names k.signature control w rest)
+pub control-keeps : (names : List (List ℕ)) (k : Declarations) (control : FormulaTree) (w : ItemWord) (rest : FormTrees) → NamesOnly k.signature → IsLawful names k w rest → FormulaKeeps (seen k.signature) (length names) [] 0 control → FormulaKeeps (seen k.signature) (length names) [] 0 (control_with names k.signature control w rest)
 control-keeps names k control item.Control no_form only h before = before
 control-keeps names k control item.Control (more_forms f no_form) only h before = formula-keeps names role.Control k.signature [] [] f (record { few = omega arith; inside = tt; only = only }) h.has.0 h.parts
 control-keeps names k control item.Control (more_forms f (more_forms i fs)) only h before = before

@@ -33,7 +33,8 @@ use Rattle.tl_formulas.proofs.KeepsFormulas.{FormulaKeeps, IsPlace, constant-kee
 use Rattle.tl_formulas.proofs.KeepsState.{formula-state}
 use Rattle.tl_formulas.proofs.KeepsEffects.{EffectsKeep, nothing-keeps, effects-keep}
 use Rattle.tl_domain.specs.DomainTrees.{OperatorTree}
-use Rattle.tl_domain.specs.Operators.{head_breaks, parameters_of, name_in_head, is_clause, leading, after_leading, bounds_clause, pre_clause, effects_clause, occurs_in_bounds, pre_breaks, bounds_clause_breaks, pre_clause_breaks, effects_clause_breaks, clauses_breaks, operator_breaks}
+use Rattle.tl_problem.specs.Calls.{begins_with}
+use Rattle.tl_domain.specs.Operators.{head_breaks, parameters_of, name_in_head, leading, after_leading, bounds_clause, pre_clause, effects_clause, occurs_in_bounds, pre_breaks, bounds_clause_breaks, pre_clause_breaks, effects_clause_breaks, clauses_breaks, operator_breaks}
 use Rattle.tl_domain.specs.MeaningOfItems.{bounds_clause_meant, pre_clause_meant, effects_clause_meant, operator_meant}
 use Rattle.tl_domain.proofs.KeepsHeads.{head-keeps, parameters-keep, head-place, in-scope, parameters-occur}
 
@@ -61,7 +62,7 @@ ClauseHas names (Some clause) = HasNames names clause
 
 pub leading-has : (names : List (List ℕ)) (word : List ℕ) (fs : FormTrees) → HaveNames names fs → ClauseHas names (leading word fs)
 leading-has names word no_form has = tt
-leading-has names word (more_forms f fs) has = by_test (is_clause word f)
+leading-has names word (more_forms f fs) has = by_test (begins_with word f)
   where
     by_test : (b : Bool) → ClauseHas names (cond b (Some f) None)
     by_test true = has.0
@@ -69,18 +70,18 @@ leading-has names word (more_forms f fs) has = by_test (is_clause word f)
 
 pub after-has : (names : List (List ℕ)) (word : List ℕ) (fs : FormTrees) → HaveNames names fs → HaveNames names (after_leading word fs)
 after-has names word no_form has = tt
-after-has names word (more_forms f fs) has = by_test (is_clause word f)
+after-has names word (more_forms f fs) has = by_test (begins_with word f)
   where
     by_test : (b : Bool) → HaveNames names (cond b fs (more_forms f fs))
     by_test true = has.1
     by_test false = has
 
-leading-clause : (word : List ℕ) (fs : FormTrees) (clause : FormTree) → leading word fs ≡ Some clause → is_clause word clause ≡ true
+leading-clause : (word : List ℕ) (fs : FormTrees) (clause : FormTree) → leading word fs ≡ Some clause → begins_with word clause ≡ true
 leading-clause word no_form clause is = absurd (none-some clause is)
-leading-clause word (more_forms f fs) clause is = by_test (is_clause word f) refl is
+leading-clause word (more_forms f fs) clause is = by_test (begins_with word f) refl is
   where
-    by_test : (b : Bool) → is_clause word f ≡ b → cond b (Some f) None ≡ Some clause → is_clause word clause ≡ true
-    by_test true test same = ap (is_clause word) (sym (same_Some f clause same)) ∙ test
+    by_test : (b : Bool) → begins_with word f ≡ b → cond b (Some f) None ≡ Some clause → begins_with word clause ≡ true
+    by_test true test same = ap (begins_with word) (sym (same_Some f clause same)) ∙ test
     by_test false test same = absurd (none-some clause same)
 
 bounds-clause-keeps : (names : List (List ℕ)) (g : Signature) (scope : Scope) (clause : Option FormTree) → length scope ≤ 32 → ClauseHas names clause → bounds_clause_breaks g scope clause ≡ [] → Each (BoundKeeps (seen g) (length names) (length scope)) (bounds_clause_meant names g scope clause)
@@ -91,7 +92,7 @@ bounds-clause-keeps names g scope (Some clause) few has none = bounds-keep names
 clause-stands : (names : List (List ℕ)) (g : Signature) (scope : Scope) (fs : FormTrees) (text : List ℕ) (v : Var) → NamesOnly g → bounds_clause_breaks g scope (bounds_clause fs) ≡ [] → IsVariable scope text v → occurs_in_bounds fs text ≡ true → list_any (stands_in v) (bounds_clause_meant names g scope (bounds_clause fs)) ≡ true
 clause-stands names g scope fs text v only none is occurs = by_clause (bounds_clause fs) refl none occurs
   where
-    after-word : (clause : FormTree) → is_clause (codes "bounds") clause ≡ true → occurs_in text clause ≡ true → occurs_in_any text (rest_of clause) ≡ true
+    after-word : (clause : FormTree) → begins_with (codes "bounds") clause ≡ true → occurs_in text clause ≡ true → occurs_in_any text (rest_of clause) ≡ true
     after-word (symbol other at) clause found = cc
     after-word (integer z at) clause found = cc
     after-word (list no_form at) clause found = cc

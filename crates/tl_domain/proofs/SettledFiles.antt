@@ -21,11 +21,11 @@ use Rattle.tl_renumber.specs.Numbers.{Renumbering, IsSettled}
 use Rattle.tl_renumber.specs.Renumbered.{renumbered}
 use Rattle.tl_renumber.specs.RenumberedDomain.{renumbered_domain}
 use Rattle.tl_renumber.proofs.SettledNumbers.{texts-stay}
-use Rattle.tl_domain.specs.declared.known.Known.{Known}
+use Rattle.tl_domain.specs.Declarations.{Declarations, nothing_declared}
 use Rattle.tl_domain.specs.DomainFiles.{has_domain_shape, domain_items_breaks, domain_form_breaks, domain_file_breaks}
 use Rattle.tl_rules.specs.OneForm.{second_form_breaks}
 use Rattle.tl_domain.specs.DomainTrees.{DomainTree}
-use Rattle.tl_domain.specs.Items.{nothing_known, item_breaks, known_after, items_breaks}
+use Rattle.tl_domain.specs.Items.{item_breaks, declared_after, items_breaks}
 use Rattle.tl_domain.specs.LawsSettled.{SettledFileMeans}
 use Rattle.tl_domain.specs.MeaningOfItems.{with_item_form, with_items, empty_domain, domain_meant, domain_file_meant}
 use Rattle.tl_domain.specs.Words.{item_word}
@@ -44,7 +44,7 @@ settled-agrees numbers old new more is = record { number = λ text has. by_numbe
         ap (λ (o : Option ℕ). unwrap_or o (length new)) stays ∙ ap (λ (o : Option ℕ). settled.number_in numbers (unwrap_or o (length old))) (sym at)
 
 module _ (old new : List (List ℕ)) (r : Renumbering) (agrees : Agrees old new (renaming r)) where
-  form-settled : (k : Known) (d : DomainTree) (f : FormTree) → HasNames old f → item_breaks k f ≡ [] → with_item_form new k.signature (renumbered_domain r d) f ≡ renumbered_domain r (with_item_form old k.signature d f)
+  form-settled : (k : Declarations) (d : DomainTree) (f : FormTree) → HasNames old f → item_breaks k f ≡ [] → with_item_form new k.signature (renumbered_domain r d) f ≡ renumbered_domain r (with_item_form old k.signature d f)
   form-settled k d (symbol text at) has none = refl
   form-settled k d (integer z at) has none = refl
   form-settled k d (list no_form at) has none = refl
@@ -52,11 +52,11 @@ module _ (old new : List (List ℕ)) (r : Renumbering) (agrees : Agrees old new 
   form-settled k d (list (more_forms (integer z t) rest) at) has none = refl
   form-settled k d (list (more_forms (list gs t) rest) at) has none = refl
 
-  items-settled : (k : Known) (d : DomainTree) (fs : FormTrees) → HaveNames old fs → items_breaks k fs ≡ [] → with_items new k (renumbered_domain r d) fs ≡ renumbered_domain r (with_items old k d fs)
+  items-settled : (k : Declarations) (d : DomainTree) (fs : FormTrees) → HaveNames old fs → items_breaks k fs ≡ [] → with_items new k (renumbered_domain r d) fs ≡ renumbered_domain r (with_items old k d fs)
   items-settled k d no_form has none = refl
   items-settled k d (more_forms f fs) has none =
-      let parts = none-parts (item_breaks k f) (items_breaks (known_after k f) fs) none in
-      ap (λ (e : DomainTree). with_items new (known_after k f) e fs) (form-settled k d f has.0 parts.0) ∙ items-settled (known_after k f) (with_item_form old k.signature d f) fs has.1 parts.1
+      let parts = none-parts (item_breaks k f) (items_breaks (declared_after k f) fs) none in
+      ap (λ (e : DomainTree). with_items new (declared_after k f) e fs) (form-settled k d f has.0 parts.0) ∙ items-settled (declared_after k f) (with_item_form old k.signature d f) fs has.1 parts.1
 
   empty-settled : (text : List ℕ) → IsTrue (list_any (bytes_eq text) old) → empty_domain (number_in new text) ≡ renumbered_domain r (empty_domain (number_in old text))
   unfolding renaming renumbered
@@ -66,7 +66,7 @@ module _ (old new : List (List ℕ)) (r : Renumbering) (agrees : Agrees old new 
   elements-settled no_form has shape none = cc
   elements-settled (more_forms word no_form) has shape none = cc
   elements-settled (more_forms word (more_forms (symbol text t) items)) has shape none =
-      ap (λ (d : DomainTree). with_items new nothing_known d items) (empty-settled text has.1.0) ∙ items-settled nothing_known (empty_domain (number_in old text)) items has.1.1 none
+      ap (λ (d : DomainTree). with_items new nothing_declared d items) (empty-settled text has.1.0) ∙ items-settled nothing_declared (empty_domain (number_in old text)) items has.1.1 none
   elements-settled (more_forms word (more_forms (integer z t) items)) has shape none = let parts = and_parts (is_word (codes "domain") word) false shape in cc
   elements-settled (more_forms word (more_forms (list gs t) items)) has shape none = let parts = and_parts (is_word (codes "domain") word) false shape in cc
 

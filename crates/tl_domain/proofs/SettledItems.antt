@@ -28,9 +28,9 @@ use Rattle.tl_formulas.proofs.RenamedFormulas.{variables-renamed, first_formula-
 use Rattle.tl_renumber.specs.Numbers.{Renumbering}
 use Rattle.tl_renumber.specs.Renumbered.{renumbered_variables, renumbered_arg, renumbered_bound, renumbered_term, renumbered_terms, renumbered, renumbered_all, renumbered_effect, renumbered_effects}
 use Rattle.tl_renumber.specs.RenumberedDomain.{renumbered_declaration, renumbered_definition, renumbered_operator, renumbered_domain}
-use Rattle.tl_domain.specs.declared.known.Known.{Known}
-use Rattle.tl_domain.specs.declared.words.ItemWord.{ItemWord}
-use Rattle.tl_domain.specs.declared.words.ItemWord.TheVariants as item
+use Rattle.tl_domain.specs.Declarations.{Declarations}
+use Rattle.tl_domain.specs.Words.{ItemWord}
+use Rattle.tl_domain.specs.Words as item
 use Rattle.tl_domain.specs.DomainTrees.{DefinitionTree, OperatorTree, DomainTree}
 use Rattle.tl_domain.specs.Operators.{head_breaks, parameters_of, name_in_head, after_leading, bounds_clause, pre_clause, effects_clause, occurs_in_bounds, are_clauses, clauses_breaks}
 use Rattle.tl_domain.specs.Items.{has_declaration_shape, levels_breaks, with_head, natural_of}
@@ -160,28 +160,28 @@ module _ (old new : List (List ℕ)) (r : Renumbering) (agrees : Agrees old new 
   declared-settled (more_forms (symbol text s) (more_forms (list gs t) no_form)) has shape = let parts = and_parts (is_name (symbol text s)) false shape in cc
   declared-settled (more_forms (symbol text s) (more_forms (integer z t) no_form)) has shape = ap (λ (n : ℕ). record { name = n; arity = natural z } ∷ []) (name-settled text has.0)
 
-  predicates-settled : (k : Known) (w : ItemWord) (rest : FormTrees) → IsLawful old k w rest → predicates_in new w rest ≡ map (renumbered_declaration r) (predicates_in old w rest)
+  predicates-settled : (k : Declarations) (w : ItemWord) (rest : FormTrees) → IsLawful old k w rest → predicates_in new w rest ≡ map (renumbered_declaration r) (predicates_in old w rest)
   predicates-settled k item.Predicate rest h = declared-settled rest h.has h.shape
   predicates-settled k _ rest h = refl
 
-  functions-settled : (k : Known) (w : ItemWord) (rest : FormTrees) → IsLawful old k w rest → functions_in new w rest ≡ map (renumbered_declaration r) (functions_in old w rest)
+  functions-settled : (k : Declarations) (w : ItemWord) (rest : FormTrees) → IsLawful old k w rest → functions_in new w rest ≡ map (renumbered_declaration r) (functions_in old w rest)
   functions-settled k item.Function rest h = declared-settled rest h.has h.shape
   functions-settled k _ rest h = refl
 
-  define-settled : (k : Known) (head body : FormTree) → IsLawful old k item.Define (more_forms head (more_forms body no_form)) → definition_meant new k.signature 1 head body ≡ renumbered_definition r (definition_meant old k.signature 1 head body)
+  define-settled : (k : Declarations) (head body : FormTree) → IsLawful old k item.Define (more_forms head (more_forms body no_form)) → definition_meant new k.signature 1 head body ≡ renumbered_definition r (definition_meant old k.signature 1 head body)
   define-settled k head body h =
       let everywhere = λ (text : List ℕ). true in
       let parts = none-parts (head_breaks 8 (is_taken k.signature) everywhere head) (formula_breaks role.Body k.signature (parameters_of head) body) h.parts in
       definition-settled k.signature 1 head body h.has.0 (head-keeps old 8 (is_taken k.signature) everywhere head h.shape h.has.0 parts.0).name h.has.1.0
 
-  defined-settled : (k : Known) (n head body : FormTree) → IsLawful old k item.Defined (more_forms n (more_forms head (more_forms body no_form))) → definition_meant new (with_head k.signature head) (natural_of n) head body ≡ renumbered_definition r (definition_meant old (with_head k.signature head) (natural_of n) head body)
+  defined-settled : (k : Declarations) (n head body : FormTree) → IsLawful old k item.Defined (more_forms n (more_forms head (more_forms body no_form))) → definition_meant new (with_head k.signature head) (natural_of n) head body ≡ renumbered_definition r (definition_meant old (with_head k.signature head) (natural_of n) head body)
   defined-settled k n head body h =
       let everywhere = λ (text : List ℕ). true in
       let parts = none-parts (levels_breaks k.levels n) _ h.parts in
       let later = none-parts (head_breaks 8 (is_taken k.signature) everywhere head) (formula_breaks role.Body (with_head k.signature head) (parameters_of head) body) parts.1 in
       definition-settled (with_head k.signature head) (natural_of n) head body h.has.1.0 (head-keeps old 8 (is_taken k.signature) everywhere head (and_parts (is_integer n) (is_list head) h.shape).1 h.has.1.0 later.0).name h.has.1.1.0
 
-  definitions-settled : (k : Known) (w : ItemWord) (rest : FormTrees) → IsLawful old k w rest → definitions_in new k.signature w rest ≡ map (renumbered_definition r) (definitions_in old k.signature w rest)
+  definitions-settled : (k : Declarations) (w : ItemWord) (rest : FormTrees) → IsLawful old k w rest → definitions_in new k.signature w rest ≡ map (renumbered_definition r) (definitions_in old k.signature w rest)
   definitions-settled k item.Define no_form h = refl
   definitions-settled k item.Define (more_forms head no_form) h = refl
   definitions-settled k item.Define (more_forms head (more_forms body no_form)) h = ap (λ (d : DefinitionTree). d ∷ []) (define-settled k head body h)
@@ -197,7 +197,7 @@ module _ (old new : List (List ℕ)) (r : Renumbering) (agrees : Agrees old new 
   definitions-settled k item.Control rest h = refl
   definitions-settled k item.Other rest h = refl
 
-  operators-settled : (k : Known) (w : ItemWord) (rest : FormTrees) → IsLawful old k w rest → operators_in new k.signature w rest ≡ map (renumbered_operator r) (operators_in old k.signature w rest)
+  operators-settled : (k : Declarations) (w : ItemWord) (rest : FormTrees) → IsLawful old k w rest → operators_in new k.signature w rest ≡ map (renumbered_operator r) (operators_in old k.signature w rest)
   operators-settled k item.Operator no_form h = refl
   operators-settled k item.Operator (more_forms head clauses) h =
       let is_old = λ (text : List ℕ). list_any (bytes_eq text) k.operators in
@@ -206,14 +206,14 @@ module _ (old new : List (List ℕ)) (r : Renumbering) (agrees : Agrees old new 
       ap (λ (o : OperatorTree). o ∷ []) (operator-settled k.signature head clauses h.has.0 name h.has.1)
   operators-settled k _ rest h = refl
 
-  control-settled : (k : Known) (control : FormulaTree) (w : ItemWord) (rest : FormTrees) → IsLawful old k w rest → control_with new k.signature (renumbered r control) w rest ≡ renumbered r (control_with old k.signature control w rest)
+  control-settled : (k : Declarations) (control : FormulaTree) (w : ItemWord) (rest : FormTrees) → IsLawful old k w rest → control_with new k.signature (renumbered r control) w rest ≡ renumbered r (control_with old k.signature control w rest)
   control-settled k control item.Control no_form h = refl
   control-settled k control item.Control (more_forms f no_form) h = formula-settled k.signature [] f h.has.0
   control-settled k control item.Control (more_forms f (more_forms i fs)) h = refl
   control-settled k control _ rest h = refl
 
   -- a domain with an item
-  pub item-settled : (k : Known) (d : DomainTree) (w : ItemWord) (rest : FormTrees) → IsLawful old k w rest → with_item new k.signature (renumbered_domain r d) w rest ≡ renumbered_domain r (with_item old k.signature d w rest)
+  pub item-settled : (k : Declarations) (d : DomainTree) (w : ItemWord) (rest : FormTrees) → IsLawful old k w rest → with_item new k.signature (renumbered_domain r d) w rest ≡ renumbered_domain r (with_item old k.signature d w rest)
   item-settled k d w rest h = same-domain
       (both-mapped (renumbered_declaration r) d.predicates (predicates_in old w rest) (predicates_in new w rest) (predicates-settled k w rest h))
       (both-mapped (renumbered_declaration r) d.functions (functions_in old w rest) (functions_in new w rest) (functions-settled k w rest h))

@@ -8,7 +8,8 @@ use Rattle.tl_rules.specs.declared.rule.Rule.TheVariants.{Shape}
 use Rattle.tl_rules.specs.OneForm.{second_form_breaks}
 use Rattle.tl_rules.specs.Rules.{Break, breaks_if}
 use Rattle.tl_rules.specs.Parts.{is_name, is_word}
-use Rattle.tl_domain.specs.Items.{nothing_known, items_breaks}
+use Rattle.tl_domain.specs.Declarations.{nothing_declared}
+use Rattle.tl_domain.specs.Items.{items_breaks}
 
 -- the elements of the domain form begin with the word `domain` and a name
 abbrev pub has_domain_shape : FormTrees → Bool
@@ -17,7 +18,7 @@ has_domain_shape _ = false
 
 -- what the items of the domain form break, by all its elements
 abbrev pub domain_items_breaks : FormTrees → List Break
-domain_items_breaks (more_forms word (more_forms name items)) = items_breaks nothing_known items
+domain_items_breaks (more_forms word (more_forms name items)) = items_breaks nothing_declared items
 domain_items_breaks _ = []
 
 -- what the domain form breaks, with its items

@@ -33,18 +33,28 @@ pub record IsDomainOf (first : FormTrees) (names : List (List ℕ)) (d : Domain)
 
 -- a domain with these predicates and functions alone; a problem file goes by nothing else of its domain
 abbrev pub declared_in : DomainTree → Domain
-declared_in d = record { name = d.name; predicates = d.predicates; functions = d.functions; definitions = []; operators = []; control = True }
+declared_in d = record {
+  name = d.name;
+  predicates = d.predicates;
+  functions = d.functions;
+  definitions = [];
+  operators = [];
+  control = True;
+}
 
 -- the rules that the forms of a problem file break after those of a domain file
 abbrev pub problem_breaks : FormTrees → FormTrees → List Break
-problem_breaks first second = problem_file_breaks (names_with_all (names_of first) second) (declared_in (domain_file_meant (names_of first) first)) second
+problem_breaks first second =
+    problem_file_breaks (names_with_all (names_of first) second)
+    (declared_in (domain_file_meant (names_of first) first)) second
 
 -- the names are the texts of the symbols of both files, each once, in the order of their bytes
 pub record AreNamesOf (first second : FormTrees) (names : List (List ℕ)) : Type 0 where
   pub in_order : IsInOrder names
   pub are_texts : (text : List ℕ) → Among text names ↔ (HaveSymbol first text ⊎ HaveSymbol second text)
 
--- the forms of both files break no rule and stand for this problem: its domain is what the first mean, and what is true at first and what is wanted is what the second say
+-- the forms of both files break no rule and stand for this problem: its domain is what the first mean, and what is true
+-- at first and what is wanted is what the second say
 pub record AreFilesOf (first second : FormTrees) (p : Problem) : Type 0 where
   pub domain_lawful : domain_file_breaks first ≡ []
   pub problem_lawful : problem_breaks first second ≡ []

@@ -1,22 +1,18 @@
 -- Items of a domain: the rules that a form breaks in the role of an item, and what an item declares.
-use Rattle.std.specs.Prelude.{ℕ, ◌+◌, List, [], ◌∷◌, ◌++◌, Bool, true, false, ◌&&◌, ◌||◌, ◌==◌, not, nat_lt, length}
+use Rattle.std.specs.Prelude.{ℕ, ◌+◌, List, [], ◌∷◌, ◌++◌, Bool, true, false, ◌&&◌, ◌||◌, ◌==◌, not, nat_lt, length, Option, Some, None}
 use Rattle.tl_sexpr.specs.Tree.{FormTree, FormTrees, symbol, integer, list, no_form, more_forms}
-use Rattle.tl_domain.specs.declared.words.ItemWord.{ItemWord}
-use Rattle.tl_domain.specs.declared.words.ItemWord.TheVariants as item
+use Rattle.tl_domain.specs.Words as item
 use Rattle.tl_formulas.specs.declared.roles.FormulaRole.TheVariants as role
 use Rattle.tl_rules.specs.declared.rule.Rule.TheVariants.{Shape, Twice, Limit}
 use Rattle.tl_formulas.specs.declared.signature.Signature.{Signature}
-use Rattle.tl_domain.specs.declared.known.Known.{Known}
+use Rattle.tl_domain.specs.Declarations.{Declarations}
 use Rattle.tl_rules.specs.Rules.{Break, breaks_if}
-use Rattle.tl_domain.specs.Words.{item_word}
-use Rattle.tl_rules.specs.Parts.{count, is_list, is_integer, is_name, natural, is_within, rest_of}
+use Rattle.tl_domain.specs.Words.{ItemWord, item_word}
+use Rattle.tl_rules.specs.Parts.{count, is_list, is_integer, is_name, natural, is_within, offset_of, rest_of}
 use Rattle.tl_formulas.specs.Signatures.{is_taken}
 use Rattle.tl_formulas.specs.Formulas.{formula_breaks}
+use Rattle.tl_problem.specs.Calls.{CallTree, call_in}
 use Rattle.tl_domain.specs.Operators.{head_breaks, head_name_breaks, parameters_of, name_in_head, are_clauses, operator_breaks}
-
--- nothing is declared
-abbrev pub nothing_known : Known
-nothing_known = record { signature = record { predicates = []; functions = []; definitions = [] }; operators = []; levels = 0; controlled = false }
 
 -- the elements are a name and an integer, as `predicate` and `function` ask for
 abbrev pub has_declaration_shape : FormTrees → Bool
@@ -49,7 +45,7 @@ has_item_shape item.Control rest = count rest == 1
 has_item_shape item.Other rest = false
 
 -- there are as many of such items before as a domain can have
-abbrev pub is_full : Known → ItemWord → Bool
+abbrev pub is_full : Declarations → ItemWord → Bool
 is_full k item.Predicate = not (nat_lt (length k.signature.predicates) 256)
 is_full k item.Function = not (nat_lt (length k.signature.functions) 256)
 is_full k item.Define = not (nat_lt (length k.signature.definitions) 64)
@@ -59,7 +55,7 @@ is_full k item.Control = false
 is_full k item.Other = false
 
 -- a second control item
-abbrev pub is_second_control : Known → ItemWord → Bool
+abbrev pub is_second_control : Declarations → ItemWord → Bool
 is_second_control k item.Control = k.controlled
 is_second_control k _ = false
 
@@ -102,30 +98,37 @@ natural_of _ = 0
 abbrev pub with_head : Signature → FormTree → Signature
 with_head g head = with_definition g (name_in_head head, count (rest_of head))
 
+-- what a head and a body break after what the first signature has, where the body may use what the second has
+abbrev pub definition_breaks : Signature → Signature → FormTree → FormTree → List Break
+definition_breaks g h head f =
+    head_breaks 8 (is_taken g) (λ text. true) head ++ formula_breaks role.Body h (parameters_of head) f
+
 -- what the list of an item breaks itself
-abbrev pub item_list_breaks : Known → ItemWord → FormTrees → ℕ → List Break
+abbrev pub item_list_breaks : Declarations → ItemWord → FormTrees → ℕ → List Break
 item_list_breaks k w rest at =
-    breaks_if (not (has_item_shape w rest)) Shape at ++ (breaks_if (is_second_control k w) Twice at ++ breaks_if (is_full k w) Limit at)
+    breaks_if (not (has_item_shape w rest)) Shape at
+    ++ (breaks_if (is_second_control k w) Twice at ++ breaks_if (is_full k w) Limit at)
 
 -- what the elements after such a first word break
-abbrev pub item_parts_breaks : Known → ItemWord → FormTrees → List Break
+abbrev pub item_parts_breaks : Declarations → ItemWord → FormTrees → List Break
 item_parts_breaks k item.Predicate rest = declaration_breaks k.signature rest
 item_parts_breaks k item.Function rest = declaration_breaks k.signature rest
 item_parts_breaks k item.Define (more_forms head (more_forms f no_form)) =
-    head_breaks 8 (is_taken k.signature) (λ text. true) head ++ formula_breaks role.Body k.signature (parameters_of head) f
+    definition_breaks k.signature k.signature head f
 item_parts_breaks k item.Defined (more_forms n (more_forms head (more_forms f no_form))) =
-    levels_breaks k.levels n ++ (head_breaks 8 (is_taken k.signature) (λ text. true) head ++ formula_breaks role.Body (with_head k.signature head) (parameters_of head) f)
+    levels_breaks k.levels n ++ definition_breaks k.signature (with_head k.signature head) head f
 item_parts_breaks k item.Operator rest = operator_breaks k.signature k.operators rest
 item_parts_breaks k item.Control (more_forms f no_form) = formula_breaks role.Control k.signature [] f
 item_parts_breaks k _ _ = []
 
--- what an item breaks, with its parts
-abbrev pub item_breaks : Known → FormTree → List Break
-item_breaks k (list (more_forms (symbol text _) rest) at) =
-    item_list_breaks k (item_word text) rest at ++ item_parts_breaks k (item_word text) rest
-item_breaks k (list _ at) = (Shape, at) ∷ []
-item_breaks k (symbol text at) = (Shape, at) ∷ []
-item_breaks k (integer z at) = (Shape, at) ∷ []
+-- what an item at an offset breaks, with its parts; it is a list that begins with a symbol
+abbrev pub called_breaks : Declarations → Option CallTree → ℕ → List Break
+called_breaks k (Some c) at =
+    item_list_breaks k (item_word c.word) c.rest c.at ++ item_parts_breaks k (item_word c.word) c.rest
+called_breaks k None at = (Shape, at) ∷ []
+
+abbrev pub item_breaks : Declarations → FormTree → List Break
+item_breaks k f = called_breaks k (call_in f) (offset_of f)
 
 -- the signature with what an item declares
 abbrev pub signature_after : Signature → ItemWord → FormTrees → Signature
@@ -151,8 +154,8 @@ controlled_after before item.Control = true
 controlled_after before _ = before
 
 -- what is declared after an item of this word and these elements
-abbrev pub known_with : Known → ItemWord → FormTrees → Known
-known_with k w rest = record {
+abbrev pub declared_with : Declarations → ItemWord → FormTrees → Declarations
+declared_with k w rest = record {
   signature = signature_after k.signature w rest;
   operators = operators_after k.operators w rest;
   levels = levels_after k.levels w rest;
@@ -160,11 +163,14 @@ known_with k w rest = record {
 }
 
 -- what is declared after an item
-abbrev pub known_after : Known → FormTree → Known
-known_after k (list (more_forms (symbol text _) rest) at) = known_with k (item_word text) rest
-known_after k _ = k
+abbrev pub declared_after_call : Declarations → Option CallTree → Declarations
+declared_after_call k (Some c) = declared_with k (item_word c.word) c.rest
+declared_after_call k None = k
+
+abbrev pub declared_after : Declarations → FormTree → Declarations
+declared_after k f = declared_after_call k (call_in f)
 
 -- what items break that stand after others
-abbrev pub items_breaks : Known → FormTrees → List Break
+abbrev pub items_breaks : Declarations → FormTrees → List Break
 items_breaks k no_form = []
-items_breaks k (more_forms f fs) = item_breaks k f ++ items_breaks (known_after k f) fs
+items_breaks k (more_forms f fs) = item_breaks k f ++ items_breaks (declared_after k f) fs

@@ -14,4 +14,6 @@ pub record SameParts (p q : Problem) : Type 0 where
 
 -- two problems that the same files stand for are the same in all their parts
 abbrev pub FilesStandForOneProblem : Type 0
-FilesStandForOneProblem = (first second : FormTrees) (p q : Problem) → AreFilesOf first second p → AreFilesOf first second q → SameParts p q
+FilesStandForOneProblem =
+    (first second : FormTrees) (p q : Problem)
+    → AreFilesOf first second p → AreFilesOf first second q → SameParts p q

@@ -11,8 +11,14 @@ use Rattle.tl_domain.specs.MeaningOfItems.{domain_file_meant}
 
 -- a domain that forms stand for which break no rule, under names for all their symbols, keeps what the domain of every problem keeps
 abbrev pub DomainIsKept : Type 0
-DomainIsKept = (names : List (List ℕ)) (forms : FormTrees) (d : Domain) → domain_file_breaks forms ≡ [] → HaveNames names forms → domain_tree d ≡ domain_file_meant names forms → DomainKeeps (length names) d
+DomainIsKept =
+    (names : List (List ℕ)) (forms : FormTrees) (d : Domain)
+    → domain_file_breaks forms ≡ [] → HaveNames names forms → domain_tree d ≡ domain_file_meant names forms
+    → DomainKeeps (length names) d
 
 -- the names with each symbol of forms have all their symbols, and still have them when the symbols of more forms are added
 abbrev pub NamesAreThere : Type 0
-NamesAreThere = (names : List (List ℕ)) (forms more : FormTrees) → HaveNames (names_with_all names forms) forms × HaveNames (names_with_all (names_with_all names forms) more) forms
+NamesAreThere =
+    (names : List (List ℕ)) (forms more : FormTrees)
+    → HaveNames (names_with_all names forms) forms
+    × HaveNames (names_with_all (names_with_all names forms) more) forms

@@ -7,4 +7,6 @@ use Rattle.tl_domain.specs.DomainFiles.{domain_file_breaks}
 
 -- of the breaks of a domain file as it is read, the first in reading order has the least offset, and there the least rule
 abbrev pub FirstBreakIsLeast : Type 0
-FirstBreakIsLeast = (forms : FormTrees) (b : Break) → AreAsRead forms → first_break (domain_file_breaks forms) ≡ Some b → IsLeastBreak (domain_file_breaks forms) b
+FirstBreakIsLeast =
+    (forms : FormTrees) (b : Break) → AreAsRead forms → first_break (domain_file_breaks forms) ≡ Some b
+    → IsLeastBreak (domain_file_breaks forms) b

@@ -8,6 +8,10 @@ use Rattle.tl_renumber.specs.RenumberedDomain.{renumbered_domain}
 use Rattle.tl_domain.specs.DomainFiles.{domain_file_breaks}
 use Rattle.tl_domain.specs.MeaningOfItems.{domain_file_meant}
 
--- forms that break no rule stand under settled names for the renumbered domain that they stood for under the names before, also where the symbols of more forms, as those of a problem, were added in between
+-- forms that break no rule stand under settled names for the renumbered domain that they stood for under the names
+-- before, also where the symbols of more forms, as those of a problem, were added in between
 abbrev pub SettledFileMeans : Type 0
-SettledFileMeans = (numbers : List ℕ) (old new : List (List ℕ)) (forms more : FormTrees) → domain_file_breaks forms ≡ [] → HaveNames old forms → IsSettled numbers (names_with_all old more) new → domain_file_meant new forms ≡ renumbered_domain (number_in numbers) (domain_file_meant old forms)
+SettledFileMeans =
+    (numbers : List ℕ) (old new : List (List ℕ)) (forms more : FormTrees)
+    → domain_file_breaks forms ≡ [] → HaveNames old forms → IsSettled numbers (names_with_all old more) new
+    → domain_file_meant new forms ≡ renumbered_domain (number_in numbers) (domain_file_meant old forms)

@@ -1,9 +1,14 @@
 pub mod Words
+pub mod Declarations
+pub mod Parts
 pub mod Operators
 pub mod Items
 pub mod DomainFiles
 pub mod DomainTrees
 pub mod MeaningOfItems
+pub mod Readers
+pub mod Clauses
+pub mod ItemShapes
 pub mod Files
 pub mod Examples
 pub mod LawsOrder

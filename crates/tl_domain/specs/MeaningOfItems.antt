@@ -1,20 +1,20 @@
 -- The domain that a file stands for. Where a form breaks a rule, what is said of it here does not matter.
 use Rattle.std.specs.Prelude.{ℕ, List, [], ◌∷◌, ◌++◌, Option, Some, None}
-use Rattle.tl_sexpr.specs.Tree.{FormTree, FormTrees, symbol, list, no_form, more_forms}
+use Rattle.tl_sexpr.specs.Tree.{FormTree, FormTrees, symbol, no_form, more_forms}
 use Rattle.tl_syntax.specs.declared.bound.Bound.{Bound}
 use Rattle.tl_syntax.specs.declared.declared.Declared.{Declared}
 use Rattle.tl_syntax.specs.Trees.{FormulaTree, verum}
 use Rattle.tl_syntax.specs.Effects.{EffectTrees, no_effect}
-use Rattle.tl_domain.specs.declared.words.ItemWord.{ItemWord}
-use Rattle.tl_domain.specs.declared.words.ItemWord.TheVariants as item
+use Rattle.tl_domain.specs.Words as item
 use Rattle.tl_formulas.specs.declared.signature.Signature.{Signature}
-use Rattle.tl_domain.specs.Words.{item_word}
+use Rattle.tl_domain.specs.Words.{ItemWord, item_word}
 use Rattle.tl_rules.specs.Parts.{rest_of, elements_of}
 use Rattle.tl_formulas.specs.Signatures.{Scope}
 use Rattle.tl_rules.specs.Symbols.{number_in}
-use Rattle.tl_domain.specs.Operators.{parameters_of, name_in_head, bounds_clause, pre_clause, effects_clause}
-use Rattle.tl_domain.specs.Items.{nothing_known, declaration_of, natural_of, with_head, known_after}
-use Rattle.tl_domain.specs.declared.known.Known.{Known}
+use Rattle.tl_domain.specs.Operators.{ClauseTrees, clause_trees, parameters_of, name_in_head}
+use Rattle.tl_problem.specs.Calls.{CallTree, call_in}
+use Rattle.tl_domain.specs.Items.{declaration_of, natural_of, with_head, declared_after}
+use Rattle.tl_domain.specs.Declarations.{Declarations, nothing_declared}
 use Rattle.tl_formulas.specs.MeaningOfBounds.{bounds_meant}
 use Rattle.tl_formulas.specs.MeaningOfFormulas.{formula_meant, formulas_meant, first_formula, variables_from}
 use Rattle.tl_formulas.specs.MeaningOfEffects.{effects_meant}
@@ -51,18 +51,19 @@ effects_clause_meant names g scope (Some clause) = effects_meant names g scope (
 effects_clause_meant names g scope None = no_effect
 
 -- the operator of a name and parameters, with clauses
-abbrev pub operator_named : List (List ℕ) → Signature → List ℕ → Scope → FormTrees → OperatorTree
-operator_named names g name scope clauses = record {
+abbrev pub operator_with : List (List ℕ) → Signature → List ℕ → Scope → ClauseTrees → OperatorTree
+operator_with names g name scope c = record {
   name = number_in names name;
   params = variables_from names 0 scope;
-  bounds = bounds_clause_meant names g scope (bounds_clause clauses);
-  pre = pre_clause_meant names g scope (pre_clause clauses);
-  effects = effects_clause_meant names g scope (effects_clause clauses);
+  bounds = bounds_clause_meant names g scope c.bounds;
+  pre = pre_clause_meant names g scope c.pre;
+  effects = effects_clause_meant names g scope c.effects;
 }
 
 -- the operator of a head and clauses
 abbrev pub operator_meant : List (List ℕ) → Signature → FormTree → FormTrees → OperatorTree
-operator_meant names g head clauses = operator_named names g (name_in_head head) (parameters_of head) clauses
+operator_meant names g head clauses =
+    operator_with names g (name_in_head head) (parameters_of head) (clause_trees clauses)
 
 -- the predicates, functions, definitions and operators of an item, by its first word and the elements after it
 abbrev pub predicates_in : List (List ℕ) → ItemWord → FormTrees → List Declared
@@ -75,7 +76,8 @@ functions_in names _ rest = []
 
 abbrev pub definitions_in : List (List ℕ) → Signature → ItemWord → FormTrees → List DefinitionTree
 definitions_in names g item.Define (more_forms head (more_forms body no_form)) = definition_meant names g 1 head body ∷ []
-definitions_in names g item.Defined (more_forms n (more_forms head (more_forms body no_form))) = definition_meant names (with_head g head) (natural_of n) head body ∷ []
+definitions_in names g item.Defined (more_forms n (more_forms head (more_forms body no_form))) =
+    definition_meant names (with_head g head) (natural_of n) head body ∷ []
 definitions_in names g _ _ = []
 
 abbrev pub operators_in : List (List ℕ) → Signature → ItemWord → FormTrees → List OperatorTree
@@ -99,14 +101,17 @@ with_item names g d w rest = record {
 }
 
 -- a domain with an item
+abbrev pub with_called : List (List ℕ) → Signature → DomainTree → Option CallTree → DomainTree
+with_called names g d (Some c) = with_item names g d (item_word c.word) c.rest
+with_called names g d None = d
+
 abbrev pub with_item_form : List (List ℕ) → Signature → DomainTree → FormTree → DomainTree
-with_item_form names g d (list (more_forms (symbol text _) rest) at) = with_item names g d (item_word text) rest
-with_item_form names g d _ = d
+with_item_form names g d f = with_called names g d (call_in f)
 
 -- a domain with items, of which each may use what those before it declare
-abbrev pub with_items : List (List ℕ) → Known → DomainTree → FormTrees → DomainTree
+abbrev pub with_items : List (List ℕ) → Declarations → DomainTree → FormTrees → DomainTree
 with_items names k d no_form = d
-with_items names k d (more_forms f fs) = with_items names (known_after k f) (with_item_form names k.signature d f) fs
+with_items names k d (more_forms f fs) = with_items names (declared_after k f) (with_item_form names k.signature d f) fs
 
 -- a domain without items
 abbrev pub empty_domain : ℕ → DomainTree
@@ -114,7 +119,8 @@ empty_domain name = record { name = name; predicates = []; functions = []; defin
 
 -- the domain of the elements `domain`, its name and its items
 abbrev pub domain_meant : List (List ℕ) → FormTrees → DomainTree
-domain_meant names (more_forms word (more_forms (symbol text _) items)) = with_items names nothing_known (empty_domain (number_in names text)) items
+domain_meant names (more_forms word (more_forms (symbol text _) items)) =
+    with_items names nothing_declared (empty_domain (number_in names text)) items
 domain_meant names _ = empty_domain 0
 
 -- the domain that the forms of a file stand for, where the names have these numbers

@@ -1,5 +1,6 @@
 -- Heads and clauses of operators, and heads of definitions.
-use Rattle.std.specs.Prelude.{ℕ, List, [], ◌∷◌, ◌++◌, Bool, true, false, ◌&&◌, not, nat_lt, Option, Some, None, if◌then◌else◌, is_some, codes}
+use Rattle.std.specs.Prelude.{ℕ, List, [], ◌∷◌, ◌++◌, Bool, true, false, ◌&&◌, not, nat_lt, Option, Some, None, if◌then◌else◌}
+use Rattle.std.specs.Prelude.{is_some, codes}
 use Rattle.std.specs.List.{list_any}
 use Rattle.std.specs.Option.{option_map_or}
 use Rattle.std.specs.Str.{bytes_eq}
@@ -8,7 +9,8 @@ use Rattle.tl_formulas.specs.declared.roles.FormulaRole.TheVariants as role
 use Rattle.tl_rules.specs.declared.rule.Rule.TheVariants.{Shape, Twice, NotInBound, Limit}
 use Rattle.tl_formulas.specs.declared.signature.Signature.{Signature}
 use Rattle.tl_rules.specs.Rules.{Break, breaks_if}
-use Rattle.tl_rules.specs.Parts.{offset_of, count, is_name, are_variables, is_word, texts_of, elements_of, rest_of, occurs_in}
+use Rattle.tl_rules.specs.Parts.{offset_of, count, is_name, are_variables, texts_of, elements_of, rest_of, occurs_in}
+use Rattle.tl_problem.specs.Calls.{begins_with}
 use Rattle.tl_formulas.specs.Signatures.{Scope, slot_of}
 use Rattle.tl_formulas.specs.Bounds.{bounds_breaks}
 use Rattle.tl_formulas.specs.Formulas.{formula_breaks}
@@ -24,11 +26,18 @@ abbrev pub has_more : ℕ → FormTrees → Bool
 has_more most no_form = false
 has_more most (more_forms name variables) = nat_lt most (count variables)
 
--- what the variables of a head break, of which these stand before: one of them again, or, where the test says so, one that occurs nowhere in the bounds
+-- what a variable of a head breaks that stands after these
+abbrev pub parameter_breaks : (List ℕ → Bool) → Scope → List ℕ → ℕ → List Break
+parameter_breaks occurs earlier text at =
+    breaks_if (is_some (slot_of earlier text)) Twice at ++ breaks_if (not (occurs text)) NotInBound at
+
+-- what the variables of a head break, of which these stand before: one of them again, or, where the test says so, one
+-- that occurs nowhere in the bounds
 abbrev pub parameters_breaks : (List ℕ → Bool) → Scope → FormTrees → List Break
 parameters_breaks occurs earlier no_form = []
 parameters_breaks occurs earlier (more_forms (symbol text at) fs) =
-    breaks_if (is_some (slot_of earlier text)) Twice at ++ (breaks_if (not (occurs text)) NotInBound at ++ parameters_breaks occurs (earlier ++ text ∷ []) fs)
+    breaks_if (is_some (slot_of earlier text)) Twice at
+    ++ (breaks_if (not (occurs text)) NotInBound at ++ parameters_breaks occurs (earlier ++ text ∷ []) fs)
 parameters_breaks occurs earlier (more_forms (integer z at) fs) = parameters_breaks occurs earlier fs
 parameters_breaks occurs earlier (more_forms (list gs at) fs) = parameters_breaks occurs earlier fs
 
@@ -60,20 +69,15 @@ abbrev pub name_in_head : FormTree → List ℕ
 name_in_head (list (more_forms (symbol text _) variables) at) = text
 name_in_head _ = []
 
--- the form is a clause with this word
-abbrev pub is_clause : List ℕ → FormTree → Bool
-is_clause word (list (more_forms f fs) at) = is_word word f
-is_clause word _ = false
-
 -- the first of the forms, where it is a clause with this word
 abbrev pub leading : List ℕ → FormTrees → Option FormTree
 leading word no_form = None
-leading word (more_forms f fs) = if is_clause word f then Some f else None
+leading word (more_forms f fs) = if begins_with word f then Some f else None
 
 -- the forms after such a clause, or all where the first is none
 abbrev pub after_leading : List ℕ → FormTrees → FormTrees
 after_leading word no_form = no_form
-after_leading word (more_forms f fs) = if is_clause word f then fs else more_forms f fs
+after_leading word (more_forms f fs) = if begins_with word f then fs else more_forms f fs
 
 -- the clauses of an operator, which stand in the order `bounds`, `pre`, `effects`, each at most once
 abbrev pub bounds_clause : FormTrees → Option FormTree
@@ -92,11 +96,24 @@ is_nothing (more_forms f fs) = false
 
 -- beside those clauses there is none
 abbrev pub are_clauses : FormTrees → Bool
-are_clauses fs = is_nothing (after_leading (codes "effects") (after_leading (codes "pre") (after_leading (codes "bounds") fs)))
+are_clauses fs =
+    is_nothing (after_leading (codes "effects") (after_leading (codes "pre") (after_leading (codes "bounds") fs)))
 
--- the variable occurs in the `bounds` clause
+-- the clauses of an operator, of which each may be wanting
+pub record ClauseTrees : Type 0 where
+  pub bounds : Option FormTree
+  pub pre : Option FormTree
+  pub effects : Option FormTree
+
+abbrev pub clause_trees : FormTrees → ClauseTrees
+clause_trees fs = record { bounds = bounds_clause fs; pre = pre_clause fs; effects = effects_clause fs }
+
+-- the variable occurs in the clause, and in the `bounds` clause
+abbrev pub occurs_in_clause : Option FormTree → List ℕ → Bool
+occurs_in_clause clause text = option_map_or (occurs_in text) clause false
+
 abbrev pub occurs_in_bounds : FormTrees → List ℕ → Bool
-occurs_in_bounds clauses text = option_map_or (occurs_in text) (bounds_clause clauses) false
+occurs_in_bounds clauses = occurs_in_clause (bounds_clause clauses)
 
 -- what the precondition breaks, by the elements after `pre`
 abbrev pub pre_breaks : Signature → Scope → FormTrees → ℕ → List Break
@@ -117,11 +134,17 @@ effects_clause_breaks g scope None = []
 effects_clause_breaks g scope (Some clause) = effects_breaks g scope (rest_of clause)
 
 -- what clauses break
+abbrev pub clause_trees_breaks : Signature → Scope → ClauseTrees → List Break
+clause_trees_breaks g scope c =
+    bounds_clause_breaks g scope c.bounds
+    ++ (pre_clause_breaks g scope c.pre ++ effects_clause_breaks g scope c.effects)
+
 abbrev pub clauses_breaks : Signature → Scope → FormTrees → List Break
-clauses_breaks g scope fs = bounds_clause_breaks g scope (bounds_clause fs) ++ (pre_clause_breaks g scope (pre_clause fs) ++ effects_clause_breaks g scope (effects_clause fs))
+clauses_breaks g scope fs = clause_trees_breaks g scope (clause_trees fs)
 
 -- what an operator breaks that stands after operators with these names, by its elements after the first
 abbrev pub operator_breaks : Signature → List (List ℕ) → FormTrees → List Break
 operator_breaks g operators no_form = []
 operator_breaks g operators (more_forms head clauses) =
-    head_breaks 16 (λ text. list_any (bytes_eq text) operators) (occurs_in_bounds clauses) head ++ clauses_breaks g (parameters_of head) clauses
+    head_breaks 16 (λ text. list_any (bytes_eq text) operators) (occurs_in_bounds clauses) head
+    ++ clauses_breaks g (parameters_of head) clauses

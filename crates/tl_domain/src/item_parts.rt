@@ -1,193 +1,196 @@
-// Items by their first word: what the elements after it declare.
-ghost use Rattle.std.specs.Prelude.{◌≡◌, ℕ, List, ◌==◌, ◌<◌, ◌≤◌, [], true, length, OnOk};
-ghost use Rattle.tl_sexpr.specs.Tree.{tree_of};
-ghost use Rattle.tl_rules.specs.Parts.{count};
-ghost use Rattle.tl_rules.specs.Reads.{Reads, trees_in};
-ghost use Rattle.tl_domain.specs.DomainTrees.{DomainTree, domain_tree};
-ghost use Rattle.tl_domain.specs.Items.{has_declaration_shape, has_define_shape, has_defined_shape, has_operator_shape, declaration_breaks, declaration_of, item_parts_breaks, known_with};
-ghost use Rattle.tl_domain.specs.MeaningOfItems.{with_item};
-ghost use Rattle.tl_domain.specs.declared.item_parts.Declaration.{Declaration};
-ghost use Rattle.tl_domain.specs.declared.known.Known.{Known};
-ghost use Rattle.tl_domain.specs.declared.words.ItemWord.TheVariants as item;
+// Items by their first word: what the elements after it declare, and what they stand for.
+ghost use Rattle.std.specs.Prelude.{◌≤◌, OnOk};
+ghost use Rattle.tl_domain.specs.Readers.{AddsItem, ReadsArity};
+ghost use Rattle.tl_domain.specs.Words as item;
+ghost use Rattle.tl_problem.specs.Calls.{call_tree};
 
+use crate::clauses::clauses_in;
 use crate::definitions::{arity, check_free, definition, definition_head, levels};
-use crate::known::Known;
+use crate::draft::Draft;
+use crate::item_shapes::{Declaration, declaration_in, define_in, defined_in};
 use crate::operators::{operator, operator_head};
+use crate::parts::list_in;
 use std::alloc::Global;
-use tl_formulas::{FormulaRole, Scope, Signature, formula};
-use tl_rules::parts::{offset, one, split_first, symbol_text, three, two};
-use tl_rules::{FormFault, number_of};
-use tl_sexpr::Form;
-use tl_syntax::{Declared, Domain, Names};
+use tl_formulas::{FormulaRole, Scope, Signature, Vocabulary, formula};
+use tl_problem::calls::Call;
+use tl_rules::parts::{one, split_first};
+use tl_rules::{FormFault, Rule, breaks, number_of};
+use tl_syntax::{Declared, Names};
 
-/// A name and its number of arguments.
-#[derive(Clone, Copy)]
-struct Declaration<'a> {
-    name: &'a str,
-    arity: u32,
-}
-
-/// What the elements of a declaration give.
-#[tactic(auto, using(crate::proofs::ItemParts::declarations, crate::proofs::Rulesets::composed))]
-fn read_declaration<'a>(
-    signature: &Signature<'_>,
-    rest: &'a [Form],
-) -> Result<Declaration<'a>, FormFault>
-    requires { has_declaration_shape (trees_in rest.now) ≡ true }
-    ensures { Reads {Y = List ℕ × ℕ} (λ (x : Declaration). (x.name.now, x.arity)) result (declaration_breaks signature.now (trees_in rest.now)) (declaration_of (trees_in rest.now)) }
+/// The number of arguments of a declaration, whose name is new.
+#[tactic(auto, using(crate::proofs::Rulesets::composed))]
+fn declared_arity(signature: &Signature<'_>, declaration: Declaration<'_>) -> Result<u32, FormFault>
+    ensures { ReadsArity result signature.now declaration.entry }
 {
-    let Some((name_form, arity_form)) = two(rest) else {
-        unreachable!()
-    };
-    let Some(name) = symbol_text(name_form) else {
-        unreachable!()
-    };
-    check_free(signature, name, offset(name_form))?;
-    let arity = arity(arity_form)?;
-    Ok(Declaration { name, arity })
+    check_free(signature, declaration.name)?;
+    arity(declaration.arity)
 }
 
 /// An item `(predicate NAME ARITY)`.
+#[tactic(auto, using(crate::proofs::Rulesets::items))]
 pub(crate) fn predicate<'a>(
     names: &Names,
-    known: &mut Known<'a>,
-    domain: &mut Domain,
-    rest: &'a [Form],
+    draft: &mut Draft<'a>,
+    call: Call<'a>,
 ) -> Result<(), FormFault>
-    requires shape { has_declaration_shape (trees_in rest.now) ≡ true }
-    requires room { length known.old.signature.predicates < 256 }
-    ensures { Reads {Y = Known × DomainTree} (λ _. (known.new, domain_tree domain.new)) result (item_parts_breaks known.old item.Predicate (trees_in rest.now))
-        (known_with known.old item.Predicate (trees_in rest.now), with_item names.now known.old.signature (domain_tree domain.old) item.Predicate (trees_in rest.now)) }
+    ensures { AddsItem result names.now item.Predicate (call_tree call.entry) draft.old draft.new }
 {
-    let Declaration { name, arity } = read_declaration(&known.signature, rest)?;
-    known.signature.predicates.push(name, arity)?;
-    let number = number_of(names, name);
-    domain.predicates.push(Declared {
-        name: number,
-        arity,
-    })?;
+    let Some(declaration) = declaration_in(call.rest) else {
+        return Err(breaks(Rule::Shape, call.at));
+    };
+    if draft.signature.predicates.len() >= 256 {
+        return Err(breaks(Rule::Limit, call.at));
+    }
+    let text = declaration.name.text;
+    let arity = declared_arity(&draft.signature, declaration)?;
+    draft.signature.predicates.push(text, arity)?;
+    let name = number_of(names, text);
+    draft.domain.predicates.push(Declared { name, arity })?;
     Ok(())
 }
 
 /// An item `(function NAME ARITY)`.
+#[tactic(auto, using(crate::proofs::Rulesets::items))]
 pub(crate) fn function<'a>(
     names: &Names,
-    known: &mut Known<'a>,
-    domain: &mut Domain,
-    rest: &'a [Form],
+    draft: &mut Draft<'a>,
+    call: Call<'a>,
 ) -> Result<(), FormFault>
-    requires shape { has_declaration_shape (trees_in rest.now) ≡ true }
-    requires room { length known.old.signature.functions < 256 }
-    ensures { Reads {Y = Known × DomainTree} (λ _. (known.new, domain_tree domain.new)) result (item_parts_breaks known.old item.Function (trees_in rest.now))
-        (known_with known.old item.Function (trees_in rest.now), with_item names.now known.old.signature (domain_tree domain.old) item.Function (trees_in rest.now)) }
+    ensures { AddsItem result names.now item.Function (call_tree call.entry) draft.old draft.new }
 {
-    let Declaration { name, arity } = read_declaration(&known.signature, rest)?;
-    known.signature.functions.push(name, arity)?;
-    let number = number_of(names, name);
-    domain.functions.push(Declared {
-        name: number,
-        arity,
-    })?;
+    let Some(declaration) = declaration_in(call.rest) else {
+        return Err(breaks(Rule::Shape, call.at));
+    };
+    if draft.signature.functions.len() >= 256 {
+        return Err(breaks(Rule::Limit, call.at));
+    }
+    let text = declaration.name.text;
+    let arity = declared_arity(&draft.signature, declaration)?;
+    draft.signature.functions.push(text, arity)?;
+    let name = number_of(names, text);
+    draft.domain.functions.push(Declared { name, arity })?;
     Ok(())
 }
 
 /// An item `(define HEAD F)`, whose name can be used only after it.
-#[tactic(auto, using(crate::proofs::ItemParts::definition_items, crate::proofs::Rulesets::composed))]
+#[tactic(auto, using(crate::proofs::Rulesets::items))]
 pub(crate) fn define<'a>(
     alloc: Global,
     names: &Names,
-    known: &mut Known<'a>,
-    domain: &mut Domain,
-    rest: &'a [Form],
+    draft: &mut Draft<'a>,
+    call: Call<'a>,
 ) -> Result<(), FormFault>
-    requires shape { has_define_shape (trees_in rest.now) ≡ true }
-    requires room { length known.old.signature.definitions < 64 }
-    ensures { Reads {Y = Known × DomainTree} (λ _. (known.new, domain_tree domain.new)) result (item_parts_breaks known.old item.Define (trees_in rest.now))
-        (known_with known.old item.Define (trees_in rest.now), with_item names.now known.old.signature (domain_tree domain.old) item.Define (trees_in rest.now)) }
+    ensures { AddsItem result names.now item.Define (call_tree call.entry) draft.old draft.new }
 {
-    let Some((head_form, body)) = two(rest) else {
-        unreachable!()
+    let Some(parts) = define_in(call.rest) else {
+        return Err(breaks(Rule::Shape, call.at));
     };
-    let head = definition_head(alloc, &known.signature, head_form)?;
-    let definition = definition(alloc, names, &known.signature, &head, 1, body)?;
+    if draft.signature.definitions.len() >= 64 {
+        return Err(breaks(Rule::Limit, call.at));
+    }
+    let head = definition_head(alloc, &draft.signature, parts.head)?;
+    let vocabulary = Vocabulary {
+        alloc,
+        names,
+        signature: &draft.signature,
+    };
+    let definition = definition(&vocabulary, &head, 1, parts.body)?;
     let count = head.variables.len() as u32;
-    known.signature.definitions.push(head.name, count)?;
-    domain.definitions.push(definition)?;
+    draft.signature.definitions.push(head.name.text, count)?;
+    draft.domain.definitions.push(definition)?;
     Ok(())
 }
 
 /// An item `(defined N HEAD F)`, whose name can be used in its own body.
-#[tactic(auto, using(crate::proofs::ItemParts::definition_items, crate::proofs::Rulesets::composed))]
+#[tactic(auto, using(crate::proofs::Rulesets::items))]
 pub(crate) fn defined<'a>(
     alloc: Global,
     names: &Names,
-    known: &mut Known<'a>,
-    domain: &mut Domain,
-    rest: &'a [Form],
+    draft: &mut Draft<'a>,
+    call: Call<'a>,
 ) -> Result<(), FormFault>
-    requires shape { has_defined_shape (trees_in rest.now) ≡ true }
-    requires room { length known.old.signature.definitions < 64 }
-    requires few { known.old.levels ≤ 64 }
-    ensures read { Reads {Y = Known × DomainTree} (λ _. (known.new, domain_tree domain.new)) result (item_parts_breaks known.old item.Defined (trees_in rest.now))
-        (known_with known.old item.Defined (trees_in rest.now), with_item names.now known.old.signature (domain_tree domain.old) item.Defined (trees_in rest.now)) }
-    ensures few { OnOk result (known.new.levels ≤ 64) }
+    requires few { draft.old.levels ≤ 64 }
+    ensures read { AddsItem result names.now item.Defined (call_tree call.entry) draft.old draft.new }
+    ensures few { OnOk result (draft.new.levels ≤ 64) }
 {
-    let Some((number, head_form, body)) = three(rest) else {
-        unreachable!()
+    let Some(parts) = defined_in(call.rest) else {
+        return Err(breaks(Rule::Shape, call.at));
     };
-    let levels = levels(known.levels, number)?;
-    let head = definition_head(alloc, &known.signature, head_form)?;
+    if draft.signature.definitions.len() >= 64 {
+        return Err(breaks(Rule::Limit, call.at));
+    }
+    let levels = levels(draft.levels, parts.levels)?;
+    let head = definition_head(alloc, &draft.signature, parts.head)?;
     let count = head.variables.len() as u32;
-    known.signature.definitions.push(head.name, count)?;
-    let definition = definition(alloc, names, &known.signature, &head, levels, body)?;
-    domain.definitions.push(definition)?;
-    known.levels += levels;
+    draft.signature.definitions.push(head.name.text, count)?;
+    let vocabulary = Vocabulary {
+        alloc,
+        names,
+        signature: &draft.signature,
+    };
+    let definition = definition(&vocabulary, &head, levels, parts.body)?;
+    draft.domain.definitions.push(definition)?;
+    draft.levels += levels;
     Ok(())
 }
 
 /// An item `(operator HEAD CLAUSE*)`.
-#[tactic(auto, using(crate::proofs::Rulesets::composed))]
+#[tactic(auto, using(crate::proofs::Rulesets::items))]
 pub(crate) fn operator_item<'a>(
     alloc: Global,
     names: &Names,
-    known: &mut Known<'a>,
-    domain: &mut Domain,
-    rest: &'a [Form],
+    draft: &mut Draft<'a>,
+    call: Call<'a>,
 ) -> Result<(), FormFault>
-    requires shape { has_operator_shape (trees_in rest.now) ≡ true }
-    requires room { length known.old.operators < 256 }
-    ensures { Reads {Y = Known × DomainTree} (λ _. (known.new, domain_tree domain.new)) result (item_parts_breaks known.old item.Operator (trees_in rest.now))
-        (known_with known.old item.Operator (trees_in rest.now), with_item names.now known.old.signature (domain_tree domain.old) item.Operator (trees_in rest.now)) }
+    ensures { AddsItem result names.now item.Operator (call_tree call.entry) draft.old draft.new }
 {
-    let Some((head_form, clauses)) = split_first(rest) else {
-        unreachable!()
+    let Some((head, rest)) = split_first(call.rest) else {
+        return Err(breaks(Rule::Shape, call.at));
     };
-    let head = operator_head(alloc, &known.operators, clauses, head_form)?;
-    let operator = operator(alloc, names, &known.signature, &head, clauses)?;
-    known.operators.push(head.name)?;
-    domain.operators.push(operator)?;
+    let Some(list) = list_in(head) else {
+        return Err(breaks(Rule::Shape, call.at));
+    };
+    let Some(clauses) = clauses_in(rest) else {
+        return Err(breaks(Rule::Shape, call.at));
+    };
+    if draft.operators.len() >= 256 {
+        return Err(breaks(Rule::Limit, call.at));
+    }
+    let head = operator_head(alloc, &draft.operators, clauses.bounds, list)?;
+    let vocabulary = Vocabulary {
+        alloc,
+        names,
+        signature: &draft.signature,
+    };
+    let operator = operator(&vocabulary, &head, clauses)?;
+    draft.operators.push(head.name.text)?;
+    draft.domain.operators.push(operator)?;
     Ok(())
 }
 
-/// An item `(control F)`.
-#[tactic(auto, using(crate::proofs::Rulesets::composed))]
+/// An item `(control F)`, of which there is one at most.
+#[tactic(auto, using(crate::proofs::Rulesets::items))]
 pub(crate) fn control<'a>(
     alloc: Global,
     names: &Names,
-    known: &mut Known<'a>,
-    domain: &mut Domain,
-    rest: &'a [Form],
+    draft: &mut Draft<'a>,
+    call: Call<'a>,
 ) -> Result<(), FormFault>
-    requires shape { (count (trees_in rest.now) == 1) ≡ true }
-    ensures { Reads {Y = Known × DomainTree} (λ _. (known.new, domain_tree domain.new)) result (item_parts_breaks known.old item.Control (trees_in rest.now))
-        (known_with known.old item.Control (trees_in rest.now), with_item names.now known.old.signature (domain_tree domain.old) item.Control (trees_in rest.now)) }
+    ensures { AddsItem result names.now item.Control (call_tree call.entry) draft.old draft.new }
 {
-    let Some(form) = one(rest) else {
-        unreachable!()
+    let Some(form) = one(call.rest) else {
+        return Err(breaks(Rule::Shape, call.at));
     };
+    if draft.controlled {
+        return Err(breaks(Rule::Twice, call.at));
+    }
     let empty = Scope::new(alloc);
-    let role = FormulaRole::Control;
-    domain.control = formula(alloc, names, &known.signature, &empty, role, form)?;
-    known.controlled = true;
+    let vocabulary = Vocabulary {
+        alloc,
+        names,
+        signature: &draft.signature,
+    };
+    draft.domain.control = formula(&vocabulary, &empty, FormulaRole::Control, form)?;
+    draft.controlled = true;
     Ok(())
 }

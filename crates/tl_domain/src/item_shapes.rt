@@ -1,116 +1,79 @@
-// The list of an item itself: its shape, and how many items of its kind there may be.
-ghost use Rattle.std.specs.Prelude.{◌≡◌};
-ghost use Rattle.tl_rules.specs.Reads.{Checks, trees_in};
-ghost use Rattle.tl_domain.specs.Items.{has_declaration_shape, has_define_shape, has_defined_shape, has_operator_shape, has_item_shape, is_second_control, is_full, item_list_breaks};
+// The elements of items after their first word, where these have the shape that the word asks for.
+ghost use Rattle.std.specs.Prelude.{◌≡◌, false, MatchOption};
+ghost use Rattle.tl_rules.specs.Reads.{trees_in};
+ghost use Rattle.tl_domain.specs.Items.{has_declaration_shape, has_define_shape, has_defined_shape};
+ghost use Rattle.tl_domain.specs.ItemShapes.{IsDeclaration, IsDefine, IsDefined};
 
-use crate::clauses::are_clauses;
-use crate::known::Known;
-use crate::words::ItemWord;
-use tl_rules::parts::{is_integer, is_list, is_name, one, split_first, three, two};
-use tl_rules::{FormFault, Rule, breaks};
+use crate::parts::{Integer, List, Name, integer_in, list_in, name_in};
+use tl_rules::parts::{three, two};
 use tl_sexpr::Form;
 
-/// Whether the elements are a name and an integer.
-#[tactic(auto, using(crate::proofs::ItemParts::declaration_counts))]
-fn is_declaration(rest: &[Form]) -> bool
-    ensures { result ≡ has_declaration_shape (trees_in rest.now) }
+/// A name and a number of arguments, of `predicate` or `function`.
+#[derive(Clone, Copy)]
+pub(crate) struct Declaration<'a> {
+    pub(crate) name: Name<'a>,
+    pub(crate) arity: Integer,
+}
+
+/// A head and a body, of `define`.
+#[derive(Clone, Copy)]
+pub(crate) struct Define<'a> {
+    pub(crate) head: List<'a>,
+    pub(crate) body: &'a Form,
+}
+
+/// A number of levels, a head and a body, of `defined`.
+#[derive(Clone, Copy)]
+pub(crate) struct Defined<'a> {
+    pub(crate) levels: Integer,
+    pub(crate) head: List<'a>,
+    pub(crate) body: &'a Form,
+}
+
+/// The elements as a declaration, where they are one.
+#[tactic(auto, using(crate::proofs::ItemParts::shapes))]
+pub(crate) fn declaration_in(rest: &[Form]) -> Option<Declaration<'_>>
+    ensures { MatchOption result (has_declaration_shape (trees_in rest.now) ≡ false) (IsDeclaration (trees_in rest.now)) }
 {
-    match two(rest) {
-        Some((name, arity)) => is_name(name) && is_integer(arity),
-        None => false,
+    let Some((name, arity)) = two(rest) else {
+        return None;
+    };
+    let Some(name) = name_in(name) else {
+        return None;
+    };
+    match integer_in(arity) {
+        Some(arity) => Some(Declaration { name, arity }),
+        None => None,
     }
 }
 
-/// Whether the elements are a head and a body.
-#[tactic(auto, using(crate::proofs::ItemParts::definition_items))]
-fn is_define(rest: &[Form]) -> bool
-    ensures { result ≡ has_define_shape (trees_in rest.now) }
+/// The elements as a head and a body, where they are that.
+#[tactic(auto, using(crate::proofs::ItemParts::shapes))]
+pub(crate) fn define_in(rest: &[Form]) -> Option<Define<'_>>
+    ensures { MatchOption result (has_define_shape (trees_in rest.now) ≡ false) (IsDefine (trees_in rest.now)) }
 {
-    match two(rest) {
-        Some((head, _)) => is_list(head),
-        None => false,
+    let Some((head, body)) = two(rest) else {
+        return None;
+    };
+    match list_in(head) {
+        Some(head) => Some(Define { head, body }),
+        None => None,
     }
 }
 
-/// Whether the elements are a number of levels, a head and a body.
-#[tactic(auto, using(crate::proofs::ItemParts::definition_items))]
-fn is_defined(rest: &[Form]) -> bool
-    ensures { result ≡ has_defined_shape (trees_in rest.now) }
+/// The elements as a number of levels, a head and a body, where they are that.
+#[tactic(auto, using(crate::proofs::ItemParts::shapes))]
+pub(crate) fn defined_in(rest: &[Form]) -> Option<Defined<'_>>
+    ensures { MatchOption result (has_defined_shape (trees_in rest.now) ≡ false) (IsDefined (trees_in rest.now)) }
 {
-    match three(rest) {
-        Some((number, head, _)) => is_integer(number) && is_list(head),
-        None => false,
+    let Some((levels, head, body)) = three(rest) else {
+        return None;
+    };
+    let Some(levels) = integer_in(levels) else {
+        return None;
+    };
+    match list_in(head) {
+        Some(head) => Some(Defined { levels, head, body }),
+        None => None,
     }
-}
-
-/// Whether the elements are a head and clauses.
-fn is_operator(rest: &[Form]) -> bool
-    ensures { result ≡ has_operator_shape (trees_in rest.now) }
-{
-    match split_first(rest) {
-        Some((head, clauses)) => is_list(head) && are_clauses(clauses),
-        None => false,
-    }
-}
-
-/// Whether the elements after a first word have the shape that it asks for.
-#[tactic(auto, using(crate::proofs::Rulesets::composed))]
-fn has_shape(word: ItemWord, rest: &[Form]) -> bool
-    ensures { result ≡ has_item_shape word (trees_in rest.now) }
-{
-    match word {
-        ItemWord::Predicate => is_declaration(rest),
-        ItemWord::Function => is_declaration(rest),
-        ItemWord::Define => is_define(rest),
-        ItemWord::Defined => is_defined(rest),
-        ItemWord::Operator => is_operator(rest),
-        ItemWord::Control => one(rest).is_some(),
-        ItemWord::Other => false,
-    }
-}
-
-/// Whether there are as many items of a kind as a domain can have.
-fn is_full(known: &Known<'_>, word: ItemWord) -> bool
-    ensures { result ≡ is_full known.now word }
-{
-    match word {
-        ItemWord::Predicate => known.signature.predicates.len() >= 256,
-        ItemWord::Function => known.signature.functions.len() >= 256,
-        ItemWord::Define => known.signature.definitions.len() >= 64,
-        ItemWord::Defined => known.signature.definitions.len() >= 64,
-        ItemWord::Operator => known.operators.len() >= 256,
-        ItemWord::Control => false,
-        ItemWord::Other => false,
-    }
-}
-
-/// Whether an item is a second control item.
-fn is_second_control(known: &Known<'_>, word: ItemWord) -> bool
-    ensures { result ≡ is_second_control known.now word }
-{
-    match word {
-        ItemWord::Control => known.controlled,
-        _ => false,
-    }
-}
-
-/// Checks the list of an item itself.
-pub(crate) fn check_item(
-    known: &Known<'_>,
-    word: ItemWord,
-    rest: &[Form],
-    at: u32,
-) -> Result<(), FormFault>
-    ensures { Checks result (item_list_breaks known.now word (trees_in rest.now) at) }
-{
-    if !has_shape(word, rest) {
-        return Err(breaks(Rule::Shape, at));
-    }
-    if is_second_control(known, word) {
-        return Err(breaks(Rule::Twice, at));
-    }
-    if is_full(known, word) {
-        return Err(breaks(Rule::Limit, at));
-    }
-    Ok(())
 }

@@ -4,12 +4,14 @@ ghost use Rattle.tl_domain.specs.LawsKeeps.{DomainIsKept, NamesAreThere};
 ghost use Rattle.tl_domain.specs.LawsOrder.{FirstBreakIsLeast};
 ghost use Rattle.tl_domain.specs.LawsSettled.{SettledFileMeans};
 
-/// Of the rules that the forms of a domain file break, the first in reading order is at the least offset, and no lesser rule is broken there.
+/// Of the rules that the forms of a domain file break, the first in reading order is at the least offset, and no lesser
+/// rule is broken there.
 pub fn first_break_is_least()
     ensures { FirstBreakIsLeast }
 {}
 
-/// A domain that the forms of a file stand for, where these break no rule and each of their symbols has a name, keeps what the domain of every problem keeps.
+/// A domain that the forms of a file stand for, where these break no rule and each of their symbols has a name, keeps
+/// what the domain of every problem keeps.
 pub fn domain_is_kept()
     ensures { DomainIsKept }
 {}

@@ -11,10 +11,12 @@ use tl_rules::FormFault;
 use tl_sexpr::Forms;
 use tl_syntax::{Domain, Names, Problem};
 
-/// The problem that a domain file and the forms of a problem file stand for, given what `domain_of` answered for the first, from no names on.
+/// The problem that a domain file and the forms of a problem file stand for, given what `domain_of` answered for the
+/// first, from no names on.
 ///
-/// All symbols of the second file join the names, and then every name gets the number of its place in the order of their bytes.
-/// Where a form breaks a rule, the fault is the one with the least offset and there the least rule. A refused call drops the domain and the names.
+/// All symbols of the second file join the names, and then every name gets the number of its place in the order of their
+/// bytes. Where a form breaks a rule, the fault is the one with the least offset and there the least rule. A refused call
+/// drops the domain and the names.
 pub fn problem_of(
     alloc: Global,
     forms: &Forms,

@@ -4,7 +4,7 @@ ghost use Rattle.tl_sexpr.specs.Offsets.{AreAsRead};
 ghost use Rattle.tl_sexpr.specs.Spelling.{symbols_in_all};
 ghost use Rattle.tl_sexpr.specs.Tree.{trees_of};
 ghost use Rattle.tl_syntax.specs.Kept.{DomainKeeps};
-ghost use Rattle.tl_rules.specs.Reads.{Reads, IsLeastFault, trees_in};
+ghost use Rattle.tl_rules.specs.Reads.{Reads, IsLeastFault};
 ghost use Rattle.tl_rules.specs.Symbols.{names_with_all, BeginsWith};
 ghost use Rattle.tl_domain.specs.DomainFiles.{domain_file_breaks};
 ghost use Rattle.tl_domain.specs.DomainTrees.{domain_tree};
@@ -14,24 +14,8 @@ ghost use Rattle.tl_domain.specs.MeaningOfItems.{domain_file_meant};
 use crate::domain_file::domain_file;
 use std::alloc::Global;
 use tl_rules::{FormFault, add_forms};
-use tl_sexpr::{Form, Forms};
+use tl_sexpr::Forms;
 use tl_syntax::{Domain, Names};
-
-/// The domain that forms stand for, where none of them breaks a rule.
-#[tactic(auto, using(crate::proofs::LeastFault::least_fault, crate::proofs::DomainKept::domain_kept, crate::proofs::FilesStand::domain_of_file))]
-fn read_domain(alloc: Global, forms: &[Form], names: &mut Names) -> Result<Domain, FormFault>
-    requires room { length names.old + symbols_in_all (trees_in forms.now) < 2 ^ 32 }
-    ensures read { Reads domain_tree result (domain_file_breaks (trees_in forms.now)) (domain_file_meant names.new (trees_in forms.now)) }
-    ensures least { AreAsRead (trees_in forms.now) → IfErr result (IsLeastFault (domain_file_breaks (trees_in forms.now))) }
-    ensures keeps { IfOk result (DomainKeeps (length names.new)) }
-    ensures added { OnOk result (names.new ≡ names_with_all names.old (trees_in forms.now)) }
-    ensures kept { BeginsWith names.new names.old }
-    ensures no_other { BeginsWith (names_with_all names.old (trees_in forms.now)) names.new }
-    ensures file { names.old ≡ [] → IfOk result (IsDomainOf (trees_in forms.now) names.new) }
-{
-    add_forms(forms, names)?;
-    domain_file(alloc, names, forms)
-}
 
 /// The domain that the forms of a file stand for, where none of them breaks a rule.
 ///
@@ -40,10 +24,11 @@ fn read_domain(alloc: Global, forms: &[Form], names: &mut Names) -> Result<Domai
 /// read from a file it is the rule with the least number at the broken form with the least offset.
 /// What the domain keeps is copied; no form is. The domain keeps what the domain of every problem keeps.
 /// Where there were no names before, `problem_of` takes the domain and the names on to the problem.
-#[tactic(auto, using(tl_rules::proofs::FormTrees::form_trees))]
+#[tactic(auto, using(crate::proofs::Rulesets::files))]
 pub fn domain_of(alloc: Global, forms: &Forms, names: &mut Names) -> Result<Domain, FormFault>
     requires room { length names.old + symbols_in_all (trees_of forms.now) < 2 ^ 32 }
-    ensures read { Reads domain_tree result (domain_file_breaks (trees_of forms.now)) (domain_file_meant names.new (trees_of forms.now)) }
+    ensures read { Reads domain_tree result (domain_file_breaks (trees_of forms.now))
+        (domain_file_meant names.new (trees_of forms.now)) }
     ensures least { AreAsRead (trees_of forms.now) → IfErr result (IsLeastFault (domain_file_breaks (trees_of forms.now))) }
     ensures keeps { IfOk result (DomainKeeps (length names.new)) }
     ensures added { OnOk result (names.new ≡ names_with_all names.old (trees_of forms.now)) }
@@ -51,5 +36,6 @@ pub fn domain_of(alloc: Global, forms: &Forms, names: &mut Names) -> Result<Doma
     ensures no_other { BeginsWith (names_with_all names.old (trees_of forms.now)) names.new }
     ensures file { names.old ≡ [] → IfOk result (IsDomainOf (trees_of forms.now) names.new) }
 {
-    read_domain(alloc, forms.as_slice(), names)
+    add_forms(forms.as_slice(), names)?;
+    domain_file(alloc, names, forms.as_slice())
 }

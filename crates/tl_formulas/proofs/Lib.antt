@@ -1,4 +1,5 @@
 pub mod Rulesets
+pub mod Called
 pub mod Positions
 pub mod TermTrees
 pub mod OtherGoals

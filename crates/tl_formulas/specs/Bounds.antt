@@ -14,7 +14,8 @@ use Rattle.tl_formulas.specs.Goals.{arguments_breaks, goal_breaks}
 
 -- what `(n a*)` breaks, with its arguments, where it should name something of the table
 abbrev pub flat_breaks : Table → Scope → List ℕ → FormTrees → ℕ → List Break
-flat_breaks table scope text rest at = breaks_if (any_list rest) Shape at ++ (call_breaks table text (count rest) at ++ arguments_breaks scope rest)
+flat_breaks table scope text rest at =
+    breaks_if (any_list rest) Shape at ++ (call_breaks table text (count rest) at ++ arguments_breaks scope rest)
 
 -- what `(= X a)` breaks as a bound, by its elements after the first
 abbrev pub equality_breaks : Signature → Scope → FormTrees → ℕ → List Break

@@ -55,7 +55,8 @@ effect_list_breaks scope w rest at = breaks_if (not (has_effect_shape w rest)) S
 
 -- what `(n T*)` breaks, with its terms, where it should name something of the table
 abbrev pub target_breaks : Table → Table → Scope → FormTree → List Break
-target_breaks table functions scope (list (more_forms (symbol text _) rest) at) = call_breaks table text (count rest) at ++ terms_breaks functions scope rest
+target_breaks table functions scope (list (more_forms (symbol text _) rest) at) =
+    call_breaks table text (count rest) at ++ terms_breaks functions scope rest
 target_breaks table functions scope _ = []
 
 unfoldable mutual
@@ -69,16 +70,20 @@ unfoldable mutual
   effect_breaks g scope (list (more_forms (integer z _) rest) at) = (Shape, at) ∷ []
   effect_breaks g scope (list (more_forms (list fs _) rest) at) = (Shape, at) ∷ []
 
-  -- what the elements after such a first word break: a fact, a place and a term, a condition and effects, or variables with their bound and effects
+  -- what the elements after such a first word break: a fact, a place and a term, a condition and effects,
+  -- or variables with their bound and effects
   pub effect_parts_breaks : Signature → Scope → EffectWord → FormTrees → List Break
   effect_parts_breaks g scope w no_form = []
   effect_parts_breaks g scope effect.Add (more_forms fact rest) = target_breaks g.predicates g.functions scope fact
   effect_parts_breaks g scope effect.Del (more_forms fact rest) = target_breaks g.predicates g.functions scope fact
-  effect_parts_breaks g scope effect.Set (more_forms place terms) = target_breaks g.functions g.functions scope place ++ terms_breaks g.functions scope terms
-  effect_parts_breaks g scope effect.When (more_forms condition effects) = formula_breaks role.State g scope condition ++ effects_breaks g scope effects
+  effect_parts_breaks g scope effect.Set (more_forms place terms) =
+      target_breaks g.functions g.functions scope place ++ terms_breaks g.functions scope terms
+  effect_parts_breaks g scope effect.When (more_forms condition effects) =
+      formula_breaks role.State g scope condition ++ effects_breaks g scope effects
   effect_parts_breaks g scope effect.Each (more_forms vs no_form) = []
   effect_parts_breaks g scope effect.Each (more_forms vs (more_forms b effects)) =
-      variables_breaks [] scope b (elements_of vs) ++ (bound_breaks g (with_variables scope vs) b ++ effects_breaks g (with_variables scope vs) effects)
+      variables_breaks [] scope b (elements_of vs)
+      ++ (bound_breaks g (with_variables scope vs) b ++ effects_breaks g (with_variables scope vs) effects)
   effect_parts_breaks g scope effect.Other (more_forms f fs) = []
 
   -- what effects break

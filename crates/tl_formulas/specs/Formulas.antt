@@ -82,7 +82,7 @@ atom_breaks g text n at = atom_breaks_at (place_of g.predicates text)
     atom_breaks_at (Some i) = call_breaks_at g.predicates (Some i) n at
     atom_breaks_at None = call_breaks g.definitions text n at
 
--- rules 11 and 13 at a formula's list
+-- what the name of an atom breaks, and its number of arguments
 abbrev pub name_breaks : Signature → FormulaWord → List ℕ → FormTrees → ℕ → List Break
 name_breaks g word.Name text rest at = atom_breaks g text (count rest) at
 name_breaks g _ text rest at = []
@@ -98,13 +98,17 @@ abbrev pub steps_breaks : FormTree → List Break
 steps_breaks (integer z at) = breaks_if (not (is_within 0 100000 z)) Limit at
 steps_breaks _ = []
 
+-- what the list of a formula breaks itself, where it has the shape that its first word asks for
+abbrev pub shaped_list_breaks : FormulaRole → Signature → Scope → FormulaWord → List ℕ → FormTrees → ℕ → List Break
+shaped_list_breaks r g scope w text rest at =
+    name_breaks g w text rest at
+    ++ (breaks_if (is_temporal w && not (may_be_temporal r)) Temporal at
+    ++ breaks_if (is_crowded_by scope w rest || is_too_deep r rest) Limit at)
+
 -- what the list of a formula breaks itself
 abbrev pub formula_list_breaks : FormulaRole → Signature → Scope → FormulaWord → List ℕ → FormTrees → ℕ → List Break
 formula_list_breaks r g scope w text rest at =
-    breaks_if (not (has_formula_shape w rest)) Shape at
-    ++ (name_breaks g w text rest at
-    ++ (breaks_if (is_temporal w && not (may_be_temporal r)) Temporal at
-    ++ breaks_if (is_crowded_by scope w rest || is_too_deep r rest) Limit at))
+    breaks_if (not (has_formula_shape w rest)) Shape at ++ shaped_list_breaks r g scope w text rest at
 
 -- the symbol is a constant
 abbrev pub is_constant : List ℕ → Bool
@@ -126,7 +130,8 @@ unfoldable mutual
   formula_breaks r g scope (list (more_forms (integer z _) rest) at) = (Shape, at) ∷ []
   formula_breaks r g scope (list (more_forms (list fs _) rest) at) = (Shape, at) ∷ []
 
-  -- what the elements after such a first word break: the argument of `goal`, terms, variables with their bound and a formula, a number of steps and a formula, or formulas
+  -- what the elements after such a first word break: the argument of `goal`, terms, variables with their bound
+  -- and a formula, a number of steps and a formula, or formulas
   pub formula_parts_breaks : FormulaRole → Signature → Scope → FormulaWord → FormTrees → List Break
   formula_parts_breaks r g scope w no_form = []
   formula_parts_breaks r g scope word.Goal (more_forms f fs) = goals_breaks g scope (more_forms f fs)
@@ -134,10 +139,12 @@ unfoldable mutual
   formula_parts_breaks r g scope word.Name (more_forms f fs) = terms_breaks g.functions scope (more_forms f fs)
   formula_parts_breaks r g scope word.ForAll (more_forms vs no_form) = []
   formula_parts_breaks r g scope word.ForAll (more_forms vs (more_forms b fs)) =
-      variables_breaks [] scope b (elements_of vs) ++ (bound_breaks g (with_variables scope vs) b ++ formulas_breaks r g (with_variables scope vs) fs)
+      variables_breaks [] scope b (elements_of vs)
+      ++ (bound_breaks g (with_variables scope vs) b ++ formulas_breaks r g (with_variables scope vs) fs)
   formula_parts_breaks r g scope word.Exists (more_forms vs no_form) = []
   formula_parts_breaks r g scope word.Exists (more_forms vs (more_forms b fs)) =
-      variables_breaks [] scope b (elements_of vs) ++ (bound_breaks g (with_variables scope vs) b ++ formulas_breaks r g (with_variables scope vs) fs)
+      variables_breaks [] scope b (elements_of vs)
+      ++ (bound_breaks g (with_variables scope vs) b ++ formulas_breaks r g (with_variables scope vs) fs)
   formula_parts_breaks r g scope word.Within (more_forms k fs) = steps_breaks k ++ formulas_breaks r g scope fs
   formula_parts_breaks r g scope word.During (more_forms k fs) = steps_breaks k ++ formulas_breaks r g scope fs
   formula_parts_breaks r g scope _ (more_forms f fs) = formula_breaks r g scope f ++ formulas_breaks r g scope fs

@@ -24,7 +24,8 @@ is_miscounted_at table (Some i) n = not (has_arity table i n)
 
 -- a list that begins with a name of the table, and has not so many arguments
 abbrev pub miscounted_breaks : Table → FormTree → List Break
-miscounted_breaks table (list (more_forms (symbol text _) rest) at) = breaks_if (is_miscounted_at table (place_of table text) (count rest)) Arity at
+miscounted_breaks table (list (more_forms (symbol text _) rest) at) =
+    breaks_if (is_miscounted_at table (place_of table text) (count rest)) Arity at
 miscounted_breaks table _ = []
 
 -- what an argument of `goal` breaks that is no fact, by its elements and its offset: it should be `(= (f a*) a)` or `(not (p a*))`
@@ -42,4 +43,6 @@ other_goal_breaks g scope _ at = (GoalArg, at) ∷ []
 -- what an argument of `goal` breaks, with its parts
 unfoldable pub goal_breaks : Signature → Scope → FormTree → List Break
 goal_breaks g scope f =
-    miscounted_breaks g.predicates f ++ (if is_flat g.predicates f then arguments_breaks scope (rest_of f) else other_goal_breaks g scope (elements_of f) (offset_of f))
+    miscounted_breaks g.predicates f
+    ++ (if is_flat g.predicates f then arguments_breaks scope (rest_of f)
+    else other_goal_breaks g scope (elements_of f) (offset_of f))

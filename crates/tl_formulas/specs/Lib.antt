@@ -10,3 +10,6 @@ pub mod MeaningOfTerms
 pub mod MeaningOfBounds
 pub mod MeaningOfFormulas
 pub mod MeaningOfEffects
+pub mod Calls
+pub mod Shapes
+pub mod Readers

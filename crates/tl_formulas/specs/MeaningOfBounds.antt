@@ -1,5 +1,5 @@
 -- The bounds that forms stand for. Where a form breaks a rule, what is said of it here does not matter.
-use Rattle.std.specs.Prelude.{ℕ, List, [], ◌∷◌, Bool, true, false, if◌then◌else◌, unwrap_or}
+use Rattle.std.specs.Prelude.{ℕ, List, [], ◌∷◌, if◌then◌else◌, unwrap_or}
 use Rattle.tl_sexpr.specs.Tree.{FormTree, FormTrees, symbol, list, no_form, more_forms}
 use Rattle.tl_syntax.specs.declared.value.Cmp.TheVariants as cmp
 use Rattle.tl_syntax.specs.declared.variable.Arg.{Arg}
@@ -27,14 +27,6 @@ flat_meant names table scope f = (call_place table f, arguments_meant names scop
 abbrev pub no_bound : Bound
 no_bound = bound.Fact 0 []
 
--- the bound is one of those under `goal`
-abbrev pub is_under_goal : Bound → Bool
-is_under_goal (bound.Fact p xs) = false
-is_under_goal (bound.Place f xs x) = false
-is_under_goal (bound.GoalFact p xs) = true
-is_under_goal (bound.GoalPlace f xs x) = true
-is_under_goal (bound.GoalNot p xs) = true
-
 -- an argument of `goal` that is no fact, by its elements
 abbrev pub other_goal_meant : List (List ℕ) → Signature → Scope → FormTrees → Bound
 other_goal_meant names g scope (more_forms word (more_forms place (more_forms value no_form))) =
@@ -46,7 +38,8 @@ other_goal_meant names g scope _ = no_bound
 -- an argument of `goal`, as the bound that it is
 unfoldable pub goal_meant : List (List ℕ) → Signature → Scope → FormTree → Bound
 goal_meant names g scope f =
-    if is_flat g.predicates f then bound.GoalFact (call_place g.predicates f) (arguments_meant names scope (rest_of f)) else other_goal_meant names g scope (elements_of f)
+    if is_flat g.predicates f then bound.GoalFact (call_place g.predicates f) (arguments_meant names scope (rest_of f))
+    else other_goal_meant names g scope (elements_of f)
 
 -- a bound `(= X a)`, by its elements after the first
 abbrev pub equality_meant : List (List ℕ) → Signature → Scope → FormTrees → Bound

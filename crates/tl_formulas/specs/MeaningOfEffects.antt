@@ -35,14 +35,19 @@ unfoldable mutual
   -- an effect by its first word and the elements after it
   pub effect_list_meant : List (List ℕ) → Signature → Scope → EffectWord → FormTrees → EffectTree
   effect_list_meant names g scope w no_form = no_change
-  effect_list_meant names g scope effect.Add (more_forms fact rest) = add (call_place g.predicates fact) (terms_meant names g.functions scope (rest_of fact))
-  effect_list_meant names g scope effect.Del (more_forms fact rest) = del (call_place g.predicates fact) (terms_meant names g.functions scope (rest_of fact))
+  effect_list_meant names g scope effect.Add (more_forms fact rest) =
+      add (call_place g.predicates fact) (terms_meant names g.functions scope (rest_of fact))
+  effect_list_meant names g scope effect.Del (more_forms fact rest) =
+      del (call_place g.predicates fact) (terms_meant names g.functions scope (rest_of fact))
   effect_list_meant names g scope effect.Set (more_forms place terms) =
-      assign (call_place g.functions place) (terms_meant names g.functions scope (rest_of place)) (first_term (terms_meant names g.functions scope terms))
-  effect_list_meant names g scope effect.When (more_forms condition effects) = when (formula_meant names g scope condition) (effects_meant names g scope effects)
+      assign (call_place g.functions place) (terms_meant names g.functions scope (rest_of place))
+      (first_term (terms_meant names g.functions scope terms))
+  effect_list_meant names g scope effect.When (more_forms condition effects) =
+      when (formula_meant names g scope condition) (effects_meant names g scope effects)
   effect_list_meant names g scope effect.Each (more_forms vs no_form) = no_change
   effect_list_meant names g scope effect.Each (more_forms vs (more_forms b effects)) =
-      each (variables_meant names scope vs) (bound_meant names g (with_variables scope vs) b) (effects_meant names g (with_variables scope vs) effects)
+      each (variables_meant names scope vs) (bound_meant names g (with_variables scope vs) b)
+      (effects_meant names g (with_variables scope vs) effects)
   effect_list_meant names g scope effect.Other (more_forms f fs) = no_change
 
   -- effects

@@ -5,7 +5,9 @@ use Rattle.tl_sexpr.specs.Tree.{FormTree, FormTrees, symbol, integer, list, no_f
 use Rattle.tl_syntax.specs.declared.variable.Var.{Var}
 use Rattle.tl_syntax.specs.declared.bound.Bound.{Bound}
 use Rattle.tl_syntax.specs.declared.bound.Bound.TheVariants as bound
-use Rattle.tl_syntax.specs.Trees.{TermTrees, FormulaTree, FormulaTrees, verum, falsum, atom, defined, compare, goal_fact, goal_place, goal_not, negation, conjunction, disjunction, for_all, for_some, next, always, eventually, until, within, during, no_formula, more_formulas}
+use Rattle.tl_syntax.specs.Trees.{TermTrees, FormulaTree, FormulaTrees, verum, falsum, atom, defined, compare}
+use Rattle.tl_syntax.specs.Trees.{goal_fact, goal_place, goal_not, negation, conjunction, disjunction, for_all}
+use Rattle.tl_syntax.specs.Trees.{for_some, next, always, eventually, until, within, during, no_formula, more_formulas}
 use Rattle.tl_formulas.specs.declared.words.FormulaWord.{FormulaWord}
 use Rattle.tl_formulas.specs.declared.words.FormulaWord.TheVariants as word
 use Rattle.tl_formulas.specs.declared.signature.Signature.{Signature}
@@ -102,26 +104,33 @@ unfoldable mutual
   -- a formula by its first word and the elements after it
   pub formula_list_meant : List (List ℕ) → Signature → Scope → FormulaWord → List ℕ → FormTrees → FormulaTree
   formula_list_meant names g scope word.Name text no_form = atom_meant g text (terms_meant names g.functions scope no_form)
-  formula_list_meant names g scope word.Name text (more_forms f fs) = atom_meant g text (terms_meant names g.functions scope (more_forms f fs))
+  formula_list_meant names g scope word.Name text (more_forms f fs) =
+      atom_meant g text (terms_meant names g.functions scope (more_forms f fs))
   formula_list_meant names g scope word.Goal text no_form = verum
   formula_list_meant names g scope word.Goal text (more_forms f fs) = formula_of_goal (goal_meant names g scope f)
   formula_list_meant names g scope (word.Compare c) text no_form = verum
   formula_list_meant names g scope (word.Compare c) text (more_forms f fs) =
-      compare c (first_term (terms_meant names g.functions scope (more_forms f fs))) (second_term (terms_meant names g.functions scope (more_forms f fs)))
+      compare c (first_term (terms_meant names g.functions scope (more_forms f fs)))
+      (second_term (terms_meant names g.functions scope (more_forms f fs)))
   formula_list_meant names g scope word.ForAll text no_form = verum
   formula_list_meant names g scope word.ForAll text (more_forms vs no_form) = verum
   formula_list_meant names g scope word.ForAll text (more_forms vs (more_forms b fs)) =
-      for_all (variables_meant names scope vs) (bound_meant names g (with_variables scope vs) b) (first_formula (formulas_meant names g (with_variables scope vs) fs))
+      for_all (variables_meant names scope vs) (bound_meant names g (with_variables scope vs) b)
+      (first_formula (formulas_meant names g (with_variables scope vs) fs))
   formula_list_meant names g scope word.Exists text no_form = verum
   formula_list_meant names g scope word.Exists text (more_forms vs no_form) = verum
   formula_list_meant names g scope word.Exists text (more_forms vs (more_forms b fs)) =
-      for_some (variables_meant names scope vs) (bound_meant names g (with_variables scope vs) b) (first_formula (formulas_meant names g (with_variables scope vs) fs))
+      for_some (variables_meant names scope vs) (bound_meant names g (with_variables scope vs) b)
+      (first_formula (formulas_meant names g (with_variables scope vs) fs))
   formula_list_meant names g scope word.Within text no_form = verum
-  formula_list_meant names g scope word.Within text (more_forms k fs) = within (steps_meant k) (first_formula (formulas_meant names g scope fs))
+  formula_list_meant names g scope word.Within text (more_forms k fs) =
+      within (steps_meant k) (first_formula (formulas_meant names g scope fs))
   formula_list_meant names g scope word.During text no_form = verum
-  formula_list_meant names g scope word.During text (more_forms k fs) = during (steps_meant k) (first_formula (formulas_meant names g scope fs))
+  formula_list_meant names g scope word.During text (more_forms k fs) =
+      during (steps_meant k) (first_formula (formulas_meant names g scope fs))
   formula_list_meant names g scope w text no_form = joined w no_formula
-  formula_list_meant names g scope w text (more_forms f fs) = joined w (more_formulas (formula_meant names g scope f) (formulas_meant names g scope fs))
+  formula_list_meant names g scope w text (more_forms f fs) =
+      joined w (more_formulas (formula_meant names g scope f) (formulas_meant names g scope fs))
 
   -- formulas
   pub formulas_meant : List (List ℕ) → Signature → Scope → FormTrees → FormulaTrees
@@ -130,8 +139,11 @@ unfoldable mutual
 
 -- the variables, the bound and the formula of a quantifier, by the elements after its first
 abbrev pub quantifier_meant : List (List ℕ) → Signature → Scope → FormTrees → List Var × Bound × FormulaTree
-quantifier_meant names g scope (more_forms vs (more_forms b fs)) =
-    (variables_meant names scope vs, bound_meant names g (with_variables scope vs) b, first_formula (formulas_meant names g (with_variables scope vs) fs))
+quantifier_meant names g scope (more_forms vs (more_forms b fs)) = (
+  variables_meant names scope vs,
+  bound_meant names g (with_variables scope vs) b,
+  first_formula (formulas_meant names g (with_variables scope vs) fs),
+)
 quantifier_meant names g scope _ = ([], bound.Fact 0 [], verum)
 
 -- the number of steps and the formula of `within` and `for`, by the elements after the first

@@ -60,11 +60,13 @@ unfoldable mutual
   -- a term by the elements of its list and its offset
   pub term_list_meant : List (List ℕ) → Table → Scope → FormTrees → ℕ → TermTree
   term_list_meant names functions scope no_form at = value (Int (pos 0))
-  term_list_meant names functions scope (more_forms (symbol text _) rest) at = call_meant (operation_of text) (place_of functions text) (terms_meant names functions scope rest) at
+  term_list_meant names functions scope (more_forms (symbol text _) rest) at =
+      call_meant (operation_of text) (place_of functions text) (terms_meant names functions scope rest) at
   term_list_meant names functions scope (more_forms (integer z _) rest) at = value (Int (pos 0))
   term_list_meant names functions scope (more_forms (list fs _) rest) at = value (Int (pos 0))
 
   -- terms
   pub terms_meant : List (List ℕ) → Table → Scope → FormTrees → TermTrees
   terms_meant names functions scope no_form = no_term
-  terms_meant names functions scope (more_forms f fs) = more_terms (term_meant names functions scope f) (terms_meant names functions scope fs)
+  terms_meant names functions scope (more_forms f fs) =
+      more_terms (term_meant names functions scope f) (terms_meant names functions scope fs)

@@ -23,7 +23,8 @@ unfoldable mutual
   -- what the list of a term breaks, by its elements and its offset
   pub term_list_breaks : Table → Scope → FormTrees → ℕ → List Break
   term_list_breaks functions scope no_form at = (Shape, at) ∷ []
-  term_list_breaks functions scope (more_forms (symbol text _) rest) at = term_call_breaks functions (operation_of text) text rest at ++ terms_breaks functions scope rest
+  term_list_breaks functions scope (more_forms (symbol text _) rest) at =
+      term_call_breaks functions (operation_of text) text rest at ++ terms_breaks functions scope rest
   term_list_breaks functions scope (more_forms (integer z _) rest) at = (Shape, at) ∷ []
   term_list_breaks functions scope (more_forms (list fs _) rest) at = (Shape, at) ∷ []
 

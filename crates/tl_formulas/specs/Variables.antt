@@ -9,12 +9,15 @@ use Rattle.tl_formulas.specs.Signatures.{Scope, slot_of}
 -- what a variable breaks that stands after these variables of its list: it is one of them, is in scope, or stands nowhere in the bound
 abbrev pub variable_breaks : Scope → Scope → FormTree → List ℕ → ℕ → List Break
 variable_breaks earlier scope bound text at =
-    breaks_if (is_some (slot_of earlier text)) Twice at ++ (breaks_if (is_some (slot_of scope text)) Shadow at ++ breaks_if (not (occurs_in text bound)) NotInBound at)
+    breaks_if (is_some (slot_of earlier text)) Twice at
+    ++ (breaks_if (is_some (slot_of scope text)) Shadow at
+    ++ breaks_if (not (occurs_in text bound)) NotInBound at)
 
 -- what the variables of a list break, of which these stand before
 abbrev pub variables_breaks : Scope → Scope → FormTree → FormTrees → List Break
 variables_breaks earlier scope bound no_form = []
-variables_breaks earlier scope bound (more_forms (symbol text at) fs) = variable_breaks earlier scope bound text at ++ variables_breaks (earlier ++ text ∷ []) scope bound fs
+variables_breaks earlier scope bound (more_forms (symbol text at) fs) =
+    variable_breaks earlier scope bound text at ++ variables_breaks (earlier ++ text ∷ []) scope bound fs
 variables_breaks earlier scope bound (more_forms (integer z at) fs) = variables_breaks earlier scope bound fs
 variables_breaks earlier scope bound (more_forms (list gs at) fs) = variables_breaks earlier scope bound fs
 

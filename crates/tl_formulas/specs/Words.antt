@@ -11,7 +11,11 @@ use Rattle.tl_formulas.specs.declared.words.EffectWord.TheVariants as effect
 
 -- the words of the language, which no predicate, function or definition can have
 abbrev pub reserved_words : List (List ℕ)
-reserved_words = codes "true" ∷ codes "false" ∷ codes "not" ∷ codes "and" ∷ codes "or" ∷ codes "implies" ∷ codes "next" ∷ codes "always" ∷ codes "eventually" ∷ codes "until" ∷ codes "within" ∷ codes "for" ∷ codes "forall" ∷ codes "exists" ∷ codes "goal" ∷ codes "=" ∷ codes "<" ∷ codes "<=" ∷ codes ">" ∷ codes ">=" ∷ codes "+" ∷ codes "-" ∷ codes "*" ∷ []
+reserved_words =
+    codes "true" ∷ codes "false" ∷ codes "not" ∷ codes "and" ∷ codes "or" ∷ codes "implies" ∷ codes "next" ∷
+    codes "always" ∷ codes "eventually" ∷ codes "until" ∷ codes "within" ∷ codes "for" ∷ codes "forall" ∷
+    codes "exists" ∷ codes "goal" ∷ codes "=" ∷ codes "<" ∷ codes "<=" ∷ codes ">" ∷ codes ">=" ∷ codes "+" ∷
+    codes "-" ∷ codes "*" ∷ []
 
 -- the operation that a word names
 abbrev pub operation_of : List ℕ → Option Op

@@ -1,233 +1,151 @@
 // Bounds.
-ghost use Rattle.std.specs.Prelude.{◌≡◌, ℕ, List, unwrap_or};
-ghost use Rattle.tl_sexpr.specs.Tree.{list, no_form, more_forms, tree_of};
-ghost use Rattle.tl_syntax.specs.declared.variable.Arg.{Arg};
-ghost use Rattle.tl_syntax.specs.declared.bound.Bound.{Bound};
-ghost use Rattle.tl_syntax.specs.declared.bound.Bound.TheVariants as bound;
-ghost use Rattle.tl_formulas.specs.Bounds.{flat_breaks, equality_breaks, goal_bound_breaks, bound_call_breaks, bound_breaks, bounds_breaks};
-ghost use Rattle.tl_formulas.specs.MeaningOfBounds.{equality_meant, goal_bound_meant, bound_call_meant, bound_meant, bounds_meant};
-ghost use Rattle.tl_formulas.specs.MeaningOfTerms.{arguments_meant};
-ghost use Rattle.tl_rules.specs.Reads.{Reads, trees_in};
-ghost use Rattle.tl_formulas.specs.Signatures.{place_of};
+ghost use Rattle.tl_sexpr.specs.Tree.{tree_of};
+ghost use Rattle.tl_syntax.specs.declared.value.Cmp.TheVariants as cmp;
+ghost use Rattle.tl_formulas.specs.declared.words.FormulaWord.TheVariants as word;
+ghost use Rattle.tl_formulas.specs.Readers.{ReadsFlat, ReadsPlaceBound, ReadsBoundCall, ReadsBound, ReadsBounds};
 ghost use Rattle.tl_formulas.specs.Words.{formula_word};
+ghost use Rattle.tl_rules.specs.Reads.{trees_in};
 
 use crate::arguments::{argument, arguments};
-use crate::goals::goal;
+use crate::calls::{Call, call_in};
+use crate::goals::{bound_of, goal};
 use crate::scope::Scope;
-use crate::signature::{Signature, Table};
+use crate::signature::Table;
 use crate::terms::called;
+use crate::vocabulary::Vocabulary;
 use crate::words::{FormulaWord, formula_word};
-use std::alloc::Global;
-use tl_rules::parts::{any_list, call, is_list, one, two};
+use tl_rules::parts::{any_list, is_list, offset, one, two};
 use tl_rules::{FormFault, Rule, breaks};
 use tl_sexpr::Form;
-use tl_syntax::{Args, Bound, Bounds, Cmp, Names};
+use tl_syntax::{Args, Bound, Bounds, Cmp};
 
 /// The place of a name in a table and its arguments, none of which is a list.
 #[tactic(auto, using(crate::proofs::Rulesets::composed))]
 fn flat(
-    alloc: Global,
-    names: &Names,
-    table: &Table<'_>,
+    vocabulary: &Vocabulary<'_>,
     scope: &Scope<'_>,
-    text: &str,
-    rest: &[Form],
-    at: u32,
+    table: &Table<'_>,
+    call: Call<'_>,
 ) -> Result<(u32, Args), FormFault>
-    ensures { Reads (λ (x : ℕ × List Arg). x) result (flat_breaks table.now scope.now text.now (trees_in rest.now) at)
-        (unwrap_or (place_of table.now text.now) 0, arguments_meant names.now scope.now (trees_in rest.now)) }
+    ensures { ReadsFlat vocabulary.now scope.now table.now call.entry result }
 {
-    if any_list(rest) {
-        return Err(breaks(Rule::Shape, at));
+    if any_list(call.rest) {
+        return Err(breaks(Rule::Shape, call.at));
     }
-    let place = called(table, text, rest.len(), at)?;
-    let args = arguments(alloc, names, scope, rest)?;
+    let place = called(table, call.word, call.rest.len(), call.at)?;
+    let args = arguments(vocabulary, scope, call.rest)?;
     Ok((place, args))
 }
 
-/// A bound `(= X a)`, by the elements of X and its offset, and by a.
-#[tactic(auto, using(crate::proofs::Rulesets::composed))]
-fn equality_of(
-    alloc: Global,
-    names: &Names,
-    signature: &Signature<'_>,
-    scope: &Scope<'_>,
-    place: &[Form],
-    place_at: u32,
-    value: &Form,
-    at: u32,
-) -> Result<Bound, FormFault>
-    ensures { Reads (λ (x : Bound). x) result
-        (equality_breaks signature.now scope.now (more_forms (list (trees_in place.now) place_at) (more_forms (tree_of value.now) no_form)) at)
-        (equality_meant names.now signature.now scope.now (more_forms (list (trees_in place.now) place_at) (more_forms (tree_of value.now) no_form))) }
-{
-    let Some((text, rest)) = call(place) else {
-        return Err(breaks(Rule::Shape, at));
-    };
-    if is_list(value) {
-        return Err(breaks(Rule::Shape, at));
-    }
-    let functions = &signature.functions;
-    let (function, args) = flat(alloc, names, functions, scope, text, rest, place_at)?;
-    let value = argument(names, scope, value)?;
-    Ok(Bound::Place(function, args, value))
-}
-
-/// A bound `(= X a)`, by X and a.
-#[tactic(auto, using(crate::proofs::Rulesets::form_trees))]
-fn equality_at(
-    alloc: Global,
-    names: &Names,
-    signature: &Signature<'_>,
+/// A bound `(= X a)`, by X and a and its offset.
+#[tactic(auto, using(crate::proofs::Called::bounds))]
+fn place_bound(
+    vocabulary: &Vocabulary<'_>,
     scope: &Scope<'_>,
     place: &Form,
     value: &Form,
     at: u32,
 ) -> Result<Bound, FormFault>
-    ensures { Reads (λ (x : Bound). x) result
-        (equality_breaks signature.now scope.now (more_forms (tree_of place.now) (more_forms (tree_of value.now) no_form)) at)
-        (equality_meant names.now signature.now scope.now (more_forms (tree_of place.now) (more_forms (tree_of value.now) no_form))) }
+    ensures { ReadsPlaceBound vocabulary.now scope.now (tree_of place.now) (tree_of value.now) at
+        result }
 {
-    match place {
-        Form::Sym(_, _) => Err(breaks(Rule::Shape, at)),
-        Form::Int(_, _) => Err(breaks(Rule::Shape, at)),
-        Form::List(forms, place_at) => equality_of(
-            alloc,
-            names,
-            signature,
-            scope,
-            forms.as_slice(),
-            *place_at,
-            value,
-            at,
-        ),
+    let Some(call) = call_in(place) else {
+        return Err(breaks(Rule::Shape, at));
+    };
+    if is_list(value) {
+        return Err(breaks(Rule::Shape, at));
     }
+    let (function, args) = flat(vocabulary, scope, &vocabulary.signature.functions, call)?;
+    let value = argument(vocabulary, scope, value)?;
+    Ok(Bound::Place(function, args, value))
 }
 
-/// A bound `(= X a)`, by its elements after the first.
+/// A bound `(= X a)`.
 #[tactic(auto, using(crate::proofs::Counts::equality_count))]
 fn equality(
-    alloc: Global,
-    names: &Names,
-    signature: &Signature<'_>,
+    vocabulary: &Vocabulary<'_>,
     scope: &Scope<'_>,
-    rest: &[Form],
-    at: u32,
+    call: Call<'_>,
 ) -> Result<Bound, FormFault>
-    ensures { Reads (λ (x : Bound). x) result (equality_breaks signature.now scope.now (trees_in rest.now) at) (equality_meant names.now signature.now scope.now (trees_in rest.now)) }
+    ensures { ReadsBoundCall vocabulary.now scope.now (word.Compare cmp.Eq) call.entry result }
 {
-    match two(rest) {
-        Some((place, value)) => equality_at(alloc, names, signature, scope, place, value, at),
-        None => Err(breaks(Rule::Shape, at)),
+    match two(call.rest) {
+        Some((place, value)) => place_bound(vocabulary, scope, place, value, call.at),
+        None => Err(breaks(Rule::Shape, call.at)),
     }
 }
 
-/// A bound `(goal A)`, by its elements after the first.
+/// A bound `(goal A)`.
 #[tactic(auto, using(crate::proofs::Counts::goal_count))]
 fn goal_bound(
-    alloc: Global,
-    names: &Names,
-    signature: &Signature<'_>,
+    vocabulary: &Vocabulary<'_>,
     scope: &Scope<'_>,
-    rest: &[Form],
-    at: u32,
+    call: Call<'_>,
 ) -> Result<Bound, FormFault>
-    ensures { Reads (λ (x : Bound). x) result (goal_bound_breaks signature.now scope.now (trees_in rest.now) at) (goal_bound_meant names.now signature.now scope.now (trees_in rest.now)) }
+    ensures { ReadsBoundCall vocabulary.now scope.now word.Goal call.entry result }
 {
-    match one(rest) {
-        Some(form) => goal(alloc, names, signature, scope, form),
-        None => Err(breaks(Rule::Shape, at)),
-    }
+    let Some(form) = one(call.rest) else {
+        return Err(breaks(Rule::Shape, call.at));
+    };
+    let goal = goal(vocabulary, scope, form)?;
+    Ok(bound_of(goal))
 }
 
 /// A bound `(p a*)`.
 fn fact_bound(
-    alloc: Global,
-    names: &Names,
-    signature: &Signature<'_>,
+    vocabulary: &Vocabulary<'_>,
     scope: &Scope<'_>,
-    text: &str,
-    rest: &[Form],
-    at: u32,
+    call: Call<'_>,
 ) -> Result<Bound, FormFault>
-    ensures { Reads (λ (x : Bound). x) result (flat_breaks signature.now.predicates scope.now text.now (trees_in rest.now) at)
-        (bound.Fact (unwrap_or (place_of signature.now.predicates text.now) 0) (arguments_meant names.now scope.now (trees_in rest.now))) }
+    ensures { ReadsBoundCall vocabulary.now scope.now word.Name call.entry result }
 {
-    let predicates = &signature.predicates;
-    let (predicate, args) = flat(alloc, names, predicates, scope, text, rest, at)?;
+    let (predicate, args) = flat(vocabulary, scope, &vocabulary.signature.predicates, call)?;
     Ok(Bound::Fact(predicate, args))
 }
 
-/// A bound with this first word and these elements after it.
+/// The bound of a list that begins with a word.
 fn bound_call(
-    alloc: Global,
-    names: &Names,
-    signature: &Signature<'_>,
+    vocabulary: &Vocabulary<'_>,
     scope: &Scope<'_>,
-    text: &str,
-    rest: &[Form],
-    at: u32,
+    call: Call<'_>,
 ) -> Result<Bound, FormFault>
-    ensures { Reads (λ (x : Bound). x) result (bound_call_breaks signature.now scope.now (formula_word text.now) text.now (trees_in rest.now) at)
-        (bound_call_meant names.now signature.now scope.now (formula_word text.now) text.now (trees_in rest.now)) }
+    ensures { ReadsBoundCall vocabulary.now scope.now (formula_word call.entry.word.now)
+        call.entry result }
 {
-    match formula_word(text) {
-        FormulaWord::Compare(Cmp::Eq) => equality(alloc, names, signature, scope, rest, at),
-        FormulaWord::Goal => goal_bound(alloc, names, signature, scope, rest, at),
-        _ => fact_bound(alloc, names, signature, scope, text, rest, at),
-    }
-}
-
-/// A bound by its elements and its offset.
-#[tactic(auto, unfolding(crate::specs::Bounds::bound_breaks, crate::specs::MeaningOfBounds::bound_meant))]
-fn bound_list(
-    alloc: Global,
-    names: &Names,
-    signature: &Signature<'_>,
-    scope: &Scope<'_>,
-    forms: &[Form],
-    at: u32,
-) -> Result<Bound, FormFault>
-    ensures { Reads (λ (x : Bound). x) result (bound_breaks signature.now scope.now (list (trees_in forms.now) at)) (bound_meant names.now signature.now scope.now (list (trees_in forms.now) at)) }
-{
-    match call(forms) {
-        Some((text, rest)) => bound_call(alloc, names, signature, scope, text, rest, at),
-        None => Err(breaks(Rule::Shape, at)),
+    match formula_word(call.word) {
+        FormulaWord::Compare(Cmp::Eq) => equality(vocabulary, scope, call),
+        FormulaWord::Goal => goal_bound(vocabulary, scope, call),
+        _ => fact_bound(vocabulary, scope, call),
     }
 }
 
 /// A bound.
-#[tactic(auto, using(crate::proofs::Rulesets::form_trees), unfolding(crate::specs::Bounds::bound_breaks, crate::specs::MeaningOfBounds::bound_meant))]
+#[tactic(auto, using(crate::proofs::Called::bounds))]
 pub(crate) fn bound(
-    alloc: Global,
-    names: &Names,
-    signature: &Signature<'_>,
+    vocabulary: &Vocabulary<'_>,
     scope: &Scope<'_>,
     form: &Form,
 ) -> Result<Bound, FormFault>
-    ensures { Reads (λ (x : Bound). x) result (bound_breaks signature.now scope.now (tree_of form.now)) (bound_meant names.now signature.now scope.now (tree_of form.now)) }
+    ensures { ReadsBound vocabulary.now scope.now (tree_of form.now) result }
 {
-    match form {
-        Form::Sym(_, at) => Err(breaks(Rule::Shape, *at)),
-        Form::Int(_, at) => Err(breaks(Rule::Shape, *at)),
-        Form::List(forms, at) => bound_list(alloc, names, signature, scope, forms.as_slice(), *at),
+    match call_in(form) {
+        Some(call) => bound_call(vocabulary, scope, call),
+        None => Err(breaks(Rule::Shape, offset(form))),
     }
 }
 
 /// Bounds.
 #[tactic(auto, using(crate::proofs::Rulesets::composed))]
 pub fn bounds(
-    alloc: Global,
-    names: &Names,
-    signature: &Signature<'_>,
+    vocabulary: &Vocabulary<'_>,
     scope: &Scope<'_>,
     forms: &[Form],
 ) -> Result<Bounds, FormFault>
-    ensures { Reads (λ (xs : List Bound). xs) result (bounds_breaks signature.now scope.now (trees_in forms.now)) (bounds_meant names.now signature.now scope.now (trees_in forms.now)) }
+    ensures { ReadsBounds vocabulary.now scope.now (trees_in forms.now) result }
 {
-    let mut bounds = Bounds::new(alloc);
+    let mut bounds = Bounds::new(vocabulary.alloc);
     for form in forms {
-        bounds.push(bound(alloc, names, signature, scope, form)?)?;
+        bounds.push(bound(vocabulary, scope, form)?)?;
     }
     Ok(bounds)
 }

@@ -1,214 +1,192 @@
 // Effects.
-ghost use Rattle.std.specs.Prelude.{◌≡◌, ◌+◌, ◌≤◌, ◌++◌, [], true, false, length};
-ghost use Rattle.tl_sexpr.specs.Tree.{list, tree_of};
-ghost use Rattle.tl_syntax.specs.Effects.{each};
-ghost use Rattle.tl_syntax.specs.TreeOfEffect.{tree_of_effect, tree_of_effects};
-ghost use Rattle.tl_formulas.specs.Bounds.{bound_breaks};
-ghost use Rattle.tl_formulas.specs.Effects.{has_when_shape, has_each_shape, has_effect_shape, is_crowded_by, effect_list_breaks, effect_breaks, effect_parts_breaks, effects_breaks};
-ghost use Rattle.tl_formulas.specs.MeaningOfEffects.{effect_meant, effect_list_meant, effects_meant};
-ghost use Rattle.tl_formulas.specs.MeaningOfBounds.{bound_meant};
-ghost use Rattle.tl_formulas.specs.MeaningOfFormulas.{variables_from};
-ghost use Rattle.tl_formulas.specs.Variables.{variables_breaks};
-ghost use Rattle.tl_rules.specs.Parts.{are_variables, texts_of};
-ghost use Rattle.tl_rules.specs.Reads.{Reads, trees_in};
-ghost use Rattle.tl_formulas.specs.Words.{effect_word};
-ghost use Rattle.tl_formulas.specs.declared.words.EffectWord.TheVariants as effect;
+#![tactic(auto, using(crate::proofs::Rulesets::effects))]
 
+ghost use Rattle.std.specs.Prelude.{◌≡◌, false};
+ghost use Rattle.tl_sexpr.specs.Tree.{tree_of};
+ghost use Rattle.tl_formulas.specs.Effects.{is_crowded_by};
+ghost use Rattle.tl_formulas.specs.Readers.{ReadsTarget, ReadsEffect, ReadsEffectCall, ReadsEffectParts, ReadsEffects};
+ghost use Rattle.tl_formulas.specs.Shapes.{variables_tree, word_of_change, elements_of_change};
+ghost use Rattle.tl_formulas.specs.Variables.{is_crowded};
+ghost use Rattle.tl_formulas.specs.declared.shapes.EffectParts.TheVariants as change;
+ghost use Rattle.tl_rules.specs.Reads.{trees_in};
+
+use crate::bindings::is_crowded;
 use crate::bounds::bound;
-use crate::effect_checks::check_effect_list;
-use crate::effect_leaves::{add, del, set};
+use crate::calls::{Call, call_in};
+use crate::effect_parts::effect_parts;
 use crate::formulas::formula;
 use crate::roles::FormulaRole;
 use crate::scope::Scope;
-use crate::signature::Signature;
-use crate::variables::{check_variables, variable_list, variables, with_variables};
-use crate::words::{EffectWord, effect_word};
-use std::alloc::Global;
-use tl_rules::parts::{call, split_first};
+use crate::shapes::{Binding, EffectParts};
+use crate::signature::Table;
+use crate::terms::{called, term, terms};
+use crate::variables::{check_variables, variables, with_variables};
+use crate::vocabulary::Vocabulary;
+use crate::words::effect_word;
+use tl_rules::parts::offset;
 use tl_rules::{FormFault, Rule, breaks};
 use tl_sexpr::Form;
-use tl_syntax::{Effect, Effects, Names};
+use tl_syntax::{Effect, Effects, Terms};
+
+/// The place in a table of a list's first word, and the terms after the word.
+fn target(
+    vocabulary: &Vocabulary<'_>,
+    scope: &Scope<'_>,
+    table: &Table<'_>,
+    call: Call<'_>,
+) -> Result<(u32, Terms), FormFault>
+    ensures { ReadsTarget vocabulary.now scope.now table.now call.entry result }
+{
+    let place = called(table, call.word, call.rest.len(), call.at)?;
+    let terms = terms(vocabulary, scope, call.rest)?;
+    Ok((place, terms))
+}
+
+/// An effect `(add A)`, by the fact.
+fn add(vocabulary: &Vocabulary<'_>, scope: &Scope<'_>, fact: Call<'_>) -> Result<Effect, FormFault>
+    ensures { ReadsEffectParts vocabulary.now scope.now (change.Add fact.entry) result }
+{
+    let (predicate, terms) = target(vocabulary, scope, &vocabulary.signature.predicates, fact)?;
+    Ok(Effect::Add(predicate, terms))
+}
+
+/// An effect `(del A)`, by the fact.
+fn del(vocabulary: &Vocabulary<'_>, scope: &Scope<'_>, fact: Call<'_>) -> Result<Effect, FormFault>
+    ensures { ReadsEffectParts vocabulary.now scope.now (change.Del fact.entry) result }
+{
+    let (predicate, terms) = target(vocabulary, scope, &vocabulary.signature.predicates, fact)?;
+    Ok(Effect::Del(predicate, terms))
+}
+
+/// An effect `(set X T)`, by the place and its new value.
+fn set(
+    vocabulary: &Vocabulary<'_>,
+    scope: &Scope<'_>,
+    place: Call<'_>,
+    value: &Form,
+) -> Result<Effect, FormFault>
+    ensures { ReadsEffectParts vocabulary.now scope.now (change.Set place.entry value.entry)
+        result }
+{
+    let (function, args) = target(vocabulary, scope, &vocabulary.signature.functions, place)?;
+    let value = term(vocabulary, scope, value)?;
+    Ok(Effect::Assign(function, args, value))
+}
 
 /// An effect.
 #[cycle(effect)]
-#[tactic(auto, using(crate::proofs::Rulesets::form_trees, crate::proofs::EffectTrees::effect_trees, crate::proofs::Rulesets::composed), unfolding(crate::specs::Effects::effect_breaks, crate::specs::MeaningOfEffects::effect_meant))]
-fn effect(
-    alloc: Global,
-    names: &Names,
-    signature: &Signature<'_>,
-    scope: &Scope<'_>,
-    form: &Form,
-) -> Result<Effect, FormFault>
-    ensures { Reads tree_of_effect result (effect_breaks signature.now scope.now (tree_of form.now)) (effect_meant names.now signature.now scope.now (tree_of form.now)) }
+fn effect(vocabulary: &Vocabulary<'_>, scope: &Scope<'_>, form: &Form) -> Result<Effect, FormFault>
+    ensures { ReadsEffect vocabulary.now scope.now (tree_of form.now) result }
 {
-    match form {
-        Form::Sym(_, at) => Err(breaks(Rule::Shape, *at)),
-        Form::Int(_, at) => Err(breaks(Rule::Shape, *at)),
-        Form::List(forms, at) => effect_list(alloc, names, signature, scope, forms.as_slice(), *at),
+    match call_in(form) {
+        Some(call) => effect_call(vocabulary, scope, call),
+        None => Err(breaks(Rule::Shape, offset(form))),
     }
 }
 
-/// An effect by the elements of its list and its offset.
+/// The effect of a list that begins with a word.
 #[cycle(effect)]
-#[tactic(auto, using(crate::proofs::EffectTrees::effect_trees, crate::proofs::Rulesets::composed), unfolding(crate::specs::Effects::effect_breaks, crate::specs::MeaningOfEffects::effect_meant))]
-fn effect_list(
-    alloc: Global,
-    names: &Names,
-    signature: &Signature<'_>,
-    scope: &Scope<'_>,
-    forms: &[Form],
-    at: u32,
-) -> Result<Effect, FormFault>
-    ensures { Reads tree_of_effect result (effect_breaks signature.now scope.now (list (trees_in forms.now) at)) (effect_meant names.now signature.now scope.now (list (trees_in forms.now) at)) }
-{
-    match call(forms) {
-        Some((text, rest)) => effect_call(alloc, names, signature, scope, text, rest, at),
-        None => Err(breaks(Rule::Shape, at)),
-    }
-}
-
-/// An effect by its first word and the forms after it.
-#[cycle(effect)]
-#[tactic(auto, using(crate::proofs::EffectTrees::effect_trees, crate::proofs::Rulesets::composed), unfolding(crate::specs::Effects::effect_breaks, crate::specs::MeaningOfEffects::effect_meant))]
 fn effect_call(
-    alloc: Global,
-    names: &Names,
-    signature: &Signature<'_>,
+    vocabulary: &Vocabulary<'_>,
     scope: &Scope<'_>,
-    text: &str,
-    rest: &[Form],
-    at: u32,
+    call: Call<'_>,
 ) -> Result<Effect, FormFault>
-    ensures { Reads tree_of_effect result
-        (effect_list_breaks scope.now (effect_word text.now) (trees_in rest.now) at ++ effect_parts_breaks signature.now scope.now (effect_word text.now) (trees_in rest.now))
-        (effect_list_meant names.now signature.now scope.now (effect_word text.now) (trees_in rest.now)) }
+    ensures { ReadsEffectCall vocabulary.now scope.now call.entry result }
 {
-    let word = effect_word(text);
-    check_effect_list(scope, word, rest, at)?;
-    let e = effect_parts(alloc, names, signature, scope, word, rest)?;
+    let Some(parts) = effect_parts(effect_word(call.word), call.rest) else {
+        return Err(breaks(Rule::Shape, call.at));
+    };
+    if is_crowded_by(scope, parts) {
+        return Err(breaks(Rule::Limit, call.at));
+    }
+    let e = shaped_effect(vocabulary, scope, parts)?;
     Ok(e)
 }
 
-/// An effect whose list breaks nothing itself, by its first word and the forms after it.
-#[cycle(effect)]
-#[tactic(auto, using(crate::proofs::EffectTrees::effect_trees, crate::proofs::Rulesets::composed), unfolding(crate::specs::Effects::effect_breaks, crate::specs::MeaningOfEffects::effect_meant))]
-fn effect_parts(
-    alloc: Global,
-    names: &Names,
-    signature: &Signature<'_>,
-    scope: &Scope<'_>,
-    word: EffectWord,
-    rest: &[Form],
-) -> Result<Effect, FormFault>
-    requires shape { has_effect_shape word (trees_in rest.now) ≡ true }
-    requires room { is_crowded_by scope.now word (trees_in rest.now) ≡ false }
-    ensures { Reads tree_of_effect result (effect_parts_breaks signature.now scope.now word (trees_in rest.now)) (effect_list_meant names.now signature.now scope.now word (trees_in rest.now)) }
+/// Whether with the variables of an `each` more than 32 are in scope.
+fn is_crowded_by(scope: &Scope<'_>, parts: EffectParts<'_>) -> bool
+    ensures { result ≡ is_crowded_by scope.now (word_of_change parts.entry)
+        (elements_of_change parts.entry) }
 {
-    match word {
-        EffectWord::Add => add(alloc, names, signature, scope, rest),
-        EffectWord::Del => del(alloc, names, signature, scope, rest),
-        EffectWord::Set => set(alloc, names, signature, scope, rest),
-        EffectWord::When => when(alloc, names, signature, scope, rest),
-        EffectWord::Each => each(alloc, names, signature, scope, rest),
-        EffectWord::Other => unreachable!(),
+    match parts {
+        EffectParts::Each(binding, _) => is_crowded(scope, binding.list),
+        _ => false,
     }
 }
 
-/// An effect `(when F E*)`, by its elements after the first.
+/// The effect of these parts of a list that breaks nothing itself.
 #[cycle(effect)]
-#[tactic(auto, using(crate::proofs::EffectTrees::effect_trees, crate::proofs::Rulesets::composed), unfolding(crate::specs::Effects::effect_breaks, crate::specs::MeaningOfEffects::effect_meant))]
-fn when(
-    alloc: Global,
-    names: &Names,
-    signature: &Signature<'_>,
+fn shaped_effect(
+    vocabulary: &Vocabulary<'_>,
     scope: &Scope<'_>,
-    rest: &[Form],
+    parts: EffectParts<'_>,
 ) -> Result<Effect, FormFault>
-    requires { has_when_shape (trees_in rest.now) ≡ true }
-    ensures { Reads tree_of_effect result (effect_parts_breaks signature.now scope.now effect.When (trees_in rest.now)) (effect_list_meant names.now signature.now scope.now effect.When (trees_in rest.now)) }
+    requires { is_crowded_by scope.now (word_of_change parts) (elements_of_change parts) ≡ false }
+    ensures { ReadsEffectParts vocabulary.now scope.now parts.entry result }
 {
-    let Some((condition, forms)) = split_first(rest) else {
-        unreachable!()
-    };
-    let condition = formula(
-        alloc,
-        names,
-        signature,
-        scope,
-        FormulaRole::State,
-        condition,
-    )?;
-    let effects = effects(alloc, names, signature, scope, forms)?;
+    match parts {
+        EffectParts::Add(fact) => add(vocabulary, scope, fact),
+        EffectParts::Del(fact) => del(vocabulary, scope, fact),
+        EffectParts::Set(place, value) => set(vocabulary, scope, place, value),
+        EffectParts::When(condition, forms) => when(vocabulary, scope, condition, forms),
+        EffectParts::Each(binding, forms) => each(vocabulary, scope, binding, forms),
+    }
+}
+
+/// An effect `(when F E*)`, by its condition and its effects.
+#[cycle(effect)]
+fn when(
+    vocabulary: &Vocabulary<'_>,
+    scope: &Scope<'_>,
+    condition: &Form,
+    forms: &[Form],
+) -> Result<Effect, FormFault>
+    ensures { ReadsEffectParts vocabulary.now scope.now (change.When condition.entry forms.entry)
+        result }
+{
+    let condition = formula(vocabulary, scope, FormulaRole::State, condition)?;
+    let effects = effects(vocabulary, scope, forms)?;
     Ok(Effect::When(condition, effects))
 }
 
-/// An effect `(each (V*) B E*)`, by its elements after the first.
+/// An effect `(each (V*) B E*)`, by its variables, their bound and its effects.
 #[cycle(effect)]
-#[tactic(auto, using(crate::proofs::EffectTrees::effect_trees, crate::proofs::Rulesets::composed), unfolding(crate::specs::Effects::effect_breaks, crate::specs::MeaningOfEffects::effect_meant))]
 fn each(
-    alloc: Global,
-    names: &Names,
-    signature: &Signature<'_>,
+    vocabulary: &Vocabulary<'_>,
     scope: &Scope<'_>,
-    rest: &[Form],
-) -> Result<Effect, FormFault>
-    requires shape { has_each_shape (trees_in rest.now) ≡ true }
-    requires room { is_crowded_by scope.now effect.Each (trees_in rest.now) ≡ false }
-    ensures { Reads tree_of_effect result (effect_parts_breaks signature.now scope.now effect.Each (trees_in rest.now)) (effect_list_meant names.now signature.now scope.now effect.Each (trees_in rest.now)) }
-{
-    let Some((list, later)) = split_first(rest) else {
-        unreachable!()
-    };
-    let Some((bound, forms)) = split_first(later) else {
-        unreachable!()
-    };
-    let Some(variables) = variable_list(list) else {
-        unreachable!()
-    };
-    each_of(alloc, names, signature, scope, variables, bound, forms)
-}
-
-/// An effect `(each (V*) B E*)`, by its variables, its bound and its effects.
-#[cycle(effect)]
-#[tactic(auto, using(crate::proofs::EffectTrees::effect_trees, crate::proofs::Rulesets::composed), unfolding(crate::specs::Effects::effect_breaks, crate::specs::MeaningOfEffects::effect_meant))]
-fn each_of(
-    alloc: Global,
-    names: &Names,
-    signature: &Signature<'_>,
-    scope: &Scope<'_>,
+    binding: Binding<'_>,
     forms: &[Form],
-    bound_form: &Form,
-    effect_forms: &[Form],
 ) -> Result<Effect, FormFault>
-    requires variables { are_variables (trees_in forms.now) ≡ true }
-    requires room { length scope.now + length forms.now ≤ 32 }
-    ensures { Reads tree_of_effect result
-        (variables_breaks [] scope.now (tree_of bound_form.now) (trees_in forms.now) ++ (bound_breaks signature.now (scope.now ++ texts_of (trees_in forms.now)) (tree_of bound_form.now) ++ effects_breaks signature.now (scope.now ++ texts_of (trees_in forms.now)) (trees_in effect_forms.now)))
-        (each (variables_from names.now (length scope.now) (texts_of (trees_in forms.now))) (bound_meant names.now signature.now (scope.now ++ texts_of (trees_in forms.now)) (tree_of bound_form.now)) (effects_meant names.now signature.now (scope.now ++ texts_of (trees_in forms.now)) (trees_in effect_forms.now))) }
+    requires room { is_crowded scope.now (variables_tree binding.list) ≡ false }
+    ensures { ReadsEffectParts vocabulary.now scope.now (change.Each binding.entry forms.entry)
+        result }
 {
-    check_variables(alloc, scope, bound_form, forms)?;
-    let inner = with_variables(alloc, &*scope, forms)?;
-    let bound = bound(alloc, names, signature, &inner, bound_form)?;
-    let effects = effects(alloc, names, signature, &inner, effect_forms)?;
-    let vars = variables(alloc, names, scope.len(), forms)?;
+    let list = binding.list;
+    check_variables(vocabulary.alloc, scope, list.variables, binding.bound)?;
+    let inner = with_variables(vocabulary.alloc, &*scope, list.variables)?;
+    let bound = bound(vocabulary, &inner, binding.bound)?;
+    let effects = effects(vocabulary, &inner, forms)?;
+    let vars = variables(
+        vocabulary.alloc,
+        vocabulary.names,
+        scope.len(),
+        list.variables,
+    )?;
     Ok(Effect::Each(vars, bound, effects))
 }
 
 /// Effects.
 #[cycle(effect)]
-#[tactic(auto, using(crate::proofs::EffectTrees::effect_trees, crate::proofs::Rulesets::composed), unfolding(crate::specs::Effects::effect_breaks, crate::specs::MeaningOfEffects::effect_meant))]
 pub fn effects(
-    alloc: Global,
-    names: &Names,
-    signature: &Signature<'_>,
+    vocabulary: &Vocabulary<'_>,
     scope: &Scope<'_>,
     forms: &[Form],
 ) -> Result<Effects, FormFault>
-    ensures { Reads tree_of_effects result (effects_breaks signature.now scope.now (trees_in forms.now)) (effects_meant names.now signature.now scope.now (trees_in forms.now)) }
+    ensures { ReadsEffects vocabulary.now scope.now (trees_in forms.now) result }
 {
-    let mut effects = Effects::new(alloc);
+    let mut effects = Effects::new(vocabulary.alloc);
     for form in forms {
-        let one = effect(alloc, names, signature, scope, form)?;
+        let one = effect(vocabulary, scope, form)?;
         effects.push(one)?;
     }
     Ok(effects)

@@ -1,19 +1,18 @@
-// What a formula's list breaks itself.
-ghost use Rattle.std.specs.Prelude.{◌≡◌, [], false, true, OnOk};
-ghost use Rattle.tl_formulas.specs.Formulas.{has_quantifier_shape, has_counted_shape, has_formula_shape, is_temporal, may_be_temporal, role_below, is_too_deep, name_breaks, atom_breaks, is_crowded_by, formula_list_breaks};
+// What a formula's list breaks itself, where it has the shape that its first word asks for.
+ghost use Rattle.std.specs.Prelude.{◌≡◌, [], false, OnOk};
+ghost use Rattle.tl_sexpr.specs.Tree.{tree_of};
+ghost use Rattle.tl_formulas.specs.Formulas.{is_temporal, may_be_temporal, role_below, is_too_deep, atom_breaks};
+ghost use Rattle.tl_formulas.specs.Shapes.{word_of_parts, elements_of_parts, name_breaks_of, own_breaks_of, crowds};
 ghost use Rattle.tl_rules.specs.Parts.{is_deeper, is_any_deeper};
 ghost use Rattle.tl_rules.specs.Reads.{Checks, trees_in};
-ghost use Rattle.tl_formulas.specs.Variables.{is_crowded};
-ghost use Rattle.tl_formulas.specs.declared.words.FormulaWord.TheVariants as word;
-ghost use Rattle.tl_sexpr.specs.Tree.{tree_of};
 
+use crate::bindings::is_crowded;
+use crate::calls::Call;
 use crate::roles::FormulaRole;
 use crate::scope::Scope;
+use crate::shapes::{Binary, FormulaParts, Unary};
 use crate::signature::Signature;
 use crate::terms::called;
-use crate::variables::variable_list;
-use crate::words::FormulaWord;
-use tl_rules::parts::{is_integer, list_len, three, two};
 use tl_rules::{FormFault, Rule, breaks};
 use tl_sexpr::Form;
 
@@ -43,64 +42,25 @@ fn is_any_deeper(limit: u32, forms: &[Form]) -> bool
     false
 }
 
-/// Whether the forms are a non-empty list of variables, a bound and a formula.
-#[tactic(auto, using(crate::proofs::Counts::quantifier_count))]
-fn is_quantifier(rest: &[Form]) -> bool
-    ensures { result ≡ has_quantifier_shape (trees_in rest.now) }
+/// Whether the first word of a formula is temporal.
+fn is_temporal(parts: FormulaParts<'_>) -> bool
+    ensures { result ≡ is_temporal (word_of_parts parts.entry) }
 {
-    match three(rest) {
-        Some((variables, _, _)) => variable_list(variables).is_some(),
-        None => false,
-    }
-}
-
-/// Whether the forms are an integer and a formula.
-#[tactic(auto, using(crate::proofs::Counts::counted_count))]
-fn is_counted(rest: &[Form]) -> bool
-    ensures { result ≡ has_counted_shape (trees_in rest.now) }
-{
-    match two(rest) {
-        Some((steps, _)) => is_integer(steps),
-        None => false,
-    }
-}
-
-/// Whether the forms after such a first word have the shape that it asks for.
-#[tactic(auto, using(crate::proofs::Rulesets::composed))]
-fn has_shape(word: FormulaWord, rest: &[Form]) -> bool
-    ensures { result ≡ has_formula_shape word (trees_in rest.now) }
-{
-    match word {
-        FormulaWord::Not => rest.len() == 1,
-        FormulaWord::Next => rest.len() == 1,
-        FormulaWord::Always => rest.len() == 1,
-        FormulaWord::Eventually => rest.len() == 1,
-        FormulaWord::Goal => rest.len() == 1,
-        FormulaWord::Implies => rest.len() == 2,
-        FormulaWord::Until => rest.len() == 2,
-        FormulaWord::Compare(_) => rest.len() == 2,
-        FormulaWord::And => true,
-        FormulaWord::Or => true,
-        FormulaWord::Name => true,
-        FormulaWord::ForAll => is_quantifier(rest),
-        FormulaWord::Exists => is_quantifier(rest),
-        FormulaWord::Within => is_counted(rest),
-        FormulaWord::During => is_counted(rest),
-    }
-}
-
-/// Whether a word is temporal.
-fn is_temporal(word: FormulaWord) -> bool
-    ensures { result ≡ is_temporal word }
-{
-    match word {
-        FormulaWord::Next => true,
-        FormulaWord::Always => true,
-        FormulaWord::Eventually => true,
-        FormulaWord::Until => true,
-        FormulaWord::Within => true,
-        FormulaWord::During => true,
-        _ => false,
+    match parts {
+        FormulaParts::One(word, _) => match word {
+            Unary::Not => false,
+            Unary::Next | Unary::Always | Unary::Eventually => true,
+        },
+        FormulaParts::Two(word, _) => match word {
+            Binary::Implies => false,
+            Binary::Until => true,
+        },
+        FormulaParts::Counted(_) => true,
+        FormulaParts::Many(_, _)
+        | FormulaParts::Quantified(_)
+        | FormulaParts::Goal(_)
+        | FormulaParts::Compare(_, _)
+        | FormulaParts::Atom(_) => false,
     }
 }
 
@@ -110,8 +70,7 @@ fn may_be_temporal(role: FormulaRole) -> bool
 {
     match role {
         FormulaRole::Control => true,
-        FormulaRole::State => false,
-        FormulaRole::Body => false,
+        FormulaRole::State | FormulaRole::Body => false,
     }
 }
 
@@ -121,8 +80,7 @@ pub(crate) fn role_below(role: FormulaRole) -> FormulaRole
 {
     match role {
         FormulaRole::Control => FormulaRole::Control,
-        FormulaRole::State => FormulaRole::State,
-        FormulaRole::Body => FormulaRole::State,
+        FormulaRole::State | FormulaRole::Body => FormulaRole::State,
     }
 }
 
@@ -131,8 +89,7 @@ fn is_too_deep(role: FormulaRole, forms: &[Form]) -> bool
     ensures { result ≡ is_too_deep role (trees_in forms.now) }
 {
     match role {
-        FormulaRole::Control => false,
-        FormulaRole::State => false,
+        FormulaRole::Control | FormulaRole::State => false,
         FormulaRole::Body => is_any_deeper(23, forms),
     }
 }
@@ -157,75 +114,51 @@ fn check_atom(signature: &Signature<'_>, text: &str, count: usize, at: u32) -> R
 }
 
 /// Checks the name of an atom, and its number of arguments.
-#[tactic(auto, using(crate::proofs::Rulesets::composed))]
+#[tactic(auto, using(crate::proofs::Rulesets::composed, crate::proofs::FormulaParts::formula_parts))]
 fn check_name(
     signature: &Signature<'_>,
-    word: FormulaWord,
-    text: &str,
-    rest: &[Form],
-    at: u32,
+    parts: FormulaParts<'_>,
+    call: Call<'_>,
 ) -> Result<(), FormFault>
-    ensures { Checks result (name_breaks signature.now word text.now (trees_in rest.now) at) }
+    ensures { Checks result (name_breaks_of signature.now parts.entry call.entry) }
 {
-    match word {
-        FormulaWord::Name => check_atom(signature, text, rest.len(), at),
+    match parts {
+        FormulaParts::Atom(args) => check_atom(signature, call.word, args.len(), call.at),
         _ => Ok(()),
     }
 }
 
-/// Whether with the variables of a list more than 32 are in scope.
-pub(crate) fn is_crowded(scope: &Scope<'_>, list: &Form) -> bool
-    ensures { result ≡ is_crowded scope.now (tree_of list.now) }
-{
-    scope.len() + list_len(list) > 32
-}
-
 /// Whether with the variables of a quantifier more than 32 are in scope.
-fn is_crowded_by(scope: &Scope<'_>, word: FormulaWord, rest: &[Form]) -> bool
-    ensures { result ≡ is_crowded_by scope.now word (trees_in rest.now) }
+fn is_crowded_by(scope: &Scope<'_>, parts: FormulaParts<'_>) -> bool
+    ensures { result ≡ crowds scope.now parts.entry }
 {
-    match word {
-        FormulaWord::ForAll => crowds(scope, rest),
-        FormulaWord::Exists => crowds(scope, rest),
+    match parts {
+        FormulaParts::Quantified(quantified) => is_crowded(scope, quantified.binding.list),
         _ => false,
     }
 }
 
-/// Whether with the variables of the first form more than 32 are in scope.
-fn crowds(scope: &Scope<'_>, rest: &[Form]) -> bool
-    ensures { result ≡ is_crowded_by scope.now word.ForAll (trees_in rest.now) }
-{
-    match rest.first() {
-        Some(list) => is_crowded(scope, list),
-        None => false,
-    }
-}
-
-/// Checks a formula's list by its first word and the forms after it.
+/// Checks a formula's list, of which these are the parts.
 #[tactic(auto, using(crate::proofs::Rulesets::composed))]
 pub(crate) fn check_formula_list(
-    role: FormulaRole,
     signature: &Signature<'_>,
     scope: &Scope<'_>,
-    word: FormulaWord,
-    text: &str,
-    rest: &[Form],
-    at: u32,
+    role: FormulaRole,
+    parts: FormulaParts<'_>,
+    call: Call<'_>,
 ) -> Result<(), FormFault>
-    ensures checked { Checks result (formula_list_breaks role signature.now scope.now word text.now (trees_in rest.now) at) }
-    ensures shape { OnOk result (has_formula_shape word (trees_in rest.now) ≡ true) }
-    ensures name { OnOk result (name_breaks signature.now word text.now (trees_in rest.now) at ≡ []) }
-    ensures room { OnOk result (is_crowded_by scope.now word (trees_in rest.now) ≡ false) }
+    requires { trees_in call.rest.now ≡ elements_of_parts parts }
+    ensures checked { Checks result
+        (own_breaks_of role signature.now scope.now parts.entry call.entry) }
+    ensures name { OnOk result (name_breaks_of signature.now parts.entry call.entry ≡ []) }
+    ensures room { OnOk result (crowds scope.now parts.entry ≡ false) }
 {
-    if !has_shape(word, rest) {
-        return Err(breaks(Rule::Shape, at));
+    check_name(signature, parts, call)?;
+    if is_temporal(parts) && !may_be_temporal(role) {
+        return Err(breaks(Rule::Temporal, call.at));
     }
-    check_name(signature, word, text, rest, at)?;
-    if is_temporal(word) && !may_be_temporal(role) {
-        return Err(breaks(Rule::Temporal, at));
-    }
-    if is_crowded_by(scope, word, rest) || is_too_deep(role, rest) {
-        return Err(breaks(Rule::Limit, at));
+    if is_crowded_by(scope, parts) || is_too_deep(role, call.rest) {
+        return Err(breaks(Rule::Limit, call.at));
     }
     Ok(())
 }

@@ -1,33 +1,34 @@
 // Formulas without formulas in them, and formulas made of others.
-ghost use Rattle.std.specs.Prelude.{◌≡◌, ◌==◌, [], true, not};
+ghost use Rattle.std.specs.Prelude.{◌≡◌, [], not};
+ghost use Rattle.tl_sexpr.specs.Tree.{tree_of};
 ghost use Rattle.tl_syntax.specs.TreeOfFormula.{tree_of_formula, tree_of_formulas};
-ghost use Rattle.tl_syntax.specs.Trees.{compare, no_formula, more_formulas};
-ghost use Rattle.tl_formulas.specs.Formulas.{is_constant, name_breaks, goals_breaks};
-ghost use Rattle.tl_formulas.specs.MeaningOfBounds.{is_under_goal};
-ghost use Rattle.tl_formulas.specs.MeaningOfFormulas.{constant_meant, formula_of_goal, joined, is_single, is_double, is_many, formula_list_meant, atom_meant};
-ghost use Rattle.tl_formulas.specs.MeaningOfTerms.{terms_meant, first_term, second_term};
-ghost use Rattle.tl_rules.specs.Parts.{count};
+ghost use Rattle.tl_syntax.specs.Trees.{no_formula, more_formulas};
+ghost use Rattle.tl_formulas.specs.Formulas.{is_constant, name_breaks};
+ghost use Rattle.tl_formulas.specs.MeaningOfFormulas.{constant_meant, formula_of_goal, joined};
+ghost use Rattle.tl_formulas.specs.Readers.{bound_of_goal, formula_pair, quantifier_tree, counted_tree};
+ghost use Rattle.tl_formulas.specs.Readers.{Makes, ReadsGoalFormula, ReadsComparison, ReadsAtom};
+ghost use Rattle.tl_formulas.specs.Shapes.{unary_word, binary_word, many_word};
 ghost use Rattle.tl_rules.specs.Reads.{Reads, trees_in};
 ghost use Rattle.tl_rules.specs.Rules.{breaks_if};
-ghost use Rattle.tl_formulas.specs.Terms.{terms_breaks};
 ghost use Rattle.tl_rules.specs.declared.rule.Rule.TheVariants.{Shape};
 ghost use Rattle.tl_formulas.specs.declared.words.FormulaWord.TheVariants as word;
 
-use crate::goals::goal;
+use crate::calls::Call;
+use crate::goals::{GoalArgument, goal};
 use crate::scope::Scope;
-use crate::signature::Signature;
+use crate::shapes::{Binary, Pair, Unary};
 use crate::terms::{term, terms};
-use crate::words::FormulaWord;
+use crate::vocabulary::Vocabulary;
 use std::alloc::Global;
-use tl_rules::parts::{one, two};
 use tl_rules::{FormFault, Rule, breaks};
 use tl_sexpr::Form;
-use tl_syntax::{Bound, Cmp, Formula, Formulas, Names};
+use tl_syntax::{Bound, Cmp, Formula, Formulas, Junction, Vars};
 
 /// A symbol as a formula: a constant.
-#[tactic(auto, using(crate::proofs::FormulaTrees::formula_trees, crate::proofs::Rulesets::composed), unfolding(crate::specs::Formulas::formula_breaks, crate::specs::MeaningOfFormulas::formula_meant))]
+#[tactic(auto, using(crate::proofs::Rulesets::formulas))]
 pub(crate) fn constant(text: &str, at: u32) -> Result<Formula, FormFault>
-    ensures { Reads tree_of_formula result (breaks_if (not (is_constant text.now)) Shape at) (constant_meant text.now) }
+    ensures { Reads tree_of_formula result (breaks_if (not (is_constant text.now)) Shape at)
+        (constant_meant text.now) }
 {
     match text {
         "true" => Ok(Formula::True),
@@ -36,108 +37,87 @@ pub(crate) fn constant(text: &str, at: u32) -> Result<Formula, FormFault>
     }
 }
 
-/// A bound under `goal`, as the formula that it is.
-#[tactic(auto, using(crate::proofs::FormulaTrees::formula_trees, crate::proofs::Rulesets::composed), unfolding(crate::specs::Formulas::formula_breaks, crate::specs::MeaningOfFormulas::formula_meant))]
-fn under_goal(bound: Bound) -> Formula
-    requires { is_under_goal bound ≡ true }
-    ensures { tree_of_formula result ≡ formula_of_goal bound }
+/// An argument of `goal` as the formula that it is under `goal`.
+#[tactic(auto, using(crate::proofs::Rulesets::formulas))]
+fn under_goal(goal: GoalArgument) -> Formula
+    ensures { tree_of_formula result ≡ formula_of_goal (bound_of_goal goal) }
 {
-    match bound {
-        Bound::GoalFact(predicate, args) => Formula::GoalFact(predicate, args),
-        Bound::GoalPlace(function, args, value) => Formula::GoalPlace(function, args, value),
-        Bound::GoalNot(predicate, args) => Formula::GoalNot(predicate, args),
-        Bound::Fact(_, _) => unreachable!(),
-        Bound::Place(_, _, _) => unreachable!(),
+    match goal {
+        GoalArgument::Fact(predicate, args) => Formula::GoalFact(predicate, args),
+        GoalArgument::Place(function, args, value) => Formula::GoalPlace(function, args, value),
+        GoalArgument::Not(predicate, args) => Formula::GoalNot(predicate, args),
     }
 }
 
 /// A formula `(goal A)`.
-#[tactic(auto, using(crate::proofs::FormulaTrees::formula_trees, crate::proofs::Rulesets::composed), unfolding(crate::specs::Formulas::formula_breaks, crate::specs::MeaningOfFormulas::formula_meant))]
+#[tactic(auto, using(crate::proofs::Rulesets::formulas))]
 pub(crate) fn goal_formula(
-    alloc: Global,
-    names: &Names,
-    signature: &Signature<'_>,
+    vocabulary: &Vocabulary<'_>,
     scope: &Scope<'_>,
-    rest: &[Form],
+    form: &Form,
 ) -> Result<Formula, FormFault>
-    requires { (count (trees_in rest.now) == 1) ≡ true }
-    ensures { Reads tree_of_formula result (goals_breaks signature.now scope.now (trees_in rest.now)) (formula_list_meant names.now signature.now scope.now word.Goal [] (trees_in rest.now)) }
+    ensures { ReadsGoalFormula vocabulary.now scope.now (tree_of form.now) result }
 {
-    let Some(form) = one(rest) else {
-        unreachable!()
-    };
-    let bound = goal(alloc, names, signature, scope, form)?;
-    Ok(under_goal(bound))
+    let goal = goal(vocabulary, scope, form)?;
+    Ok(under_goal(goal))
 }
 
 /// A comparison of two terms.
-#[tactic(auto, using(crate::proofs::FormulaTrees::formula_trees, crate::proofs::Rulesets::composed), unfolding(crate::specs::Terms::term_breaks, crate::specs::MeaningOfTerms::term_meant))]
+#[tactic(auto, using(crate::proofs::Rulesets::formulas, crate::proofs::Called::term_pairs))]
 pub(crate) fn comparison(
-    alloc: Global,
-    names: &Names,
-    signature: &Signature<'_>,
+    vocabulary: &Vocabulary<'_>,
     scope: &Scope<'_>,
     cmp: Cmp,
-    rest: &[Form],
+    pair: Pair<'_>,
 ) -> Result<Formula, FormFault>
-    requires { (count (trees_in rest.now) == 2) ≡ true }
-    ensures { Reads tree_of_formula result (terms_breaks signature.now.functions scope.now (trees_in rest.now))
-        (compare cmp (first_term (terms_meant names.now signature.now.functions scope.now (trees_in rest.now))) (second_term (terms_meant names.now signature.now.functions scope.now (trees_in rest.now)))) }
+    ensures { ReadsComparison vocabulary.now scope.now cmp pair.entry result }
 {
-    let Some((left, right)) = two(rest) else {
-        unreachable!()
-    };
-    let functions = &signature.functions;
-    let left = term(alloc, names, functions, scope, left)?;
-    let right = term(alloc, names, functions, scope, right)?;
+    let left = term(vocabulary, scope, pair.first)?;
+    let right = term(vocabulary, scope, pair.second)?;
     Ok(Formula::Compare(cmp, left, right))
 }
 
 /// An atom of a declared or a defined predicate.
-#[tactic(auto, using(crate::proofs::FormulaTrees::formula_trees, crate::proofs::Rulesets::composed), unfolding(crate::specs::Formulas::formula_breaks, crate::specs::MeaningOfFormulas::formula_meant))]
+#[tactic(auto, using(crate::proofs::Rulesets::formulas))]
 pub(crate) fn atom(
-    alloc: Global,
-    names: &Names,
-    signature: &Signature<'_>,
+    vocabulary: &Vocabulary<'_>,
     scope: &Scope<'_>,
-    text: &str,
-    rest: &[Form],
-    at: u32,
+    call: Call<'_>,
 ) -> Result<Formula, FormFault>
-    requires { name_breaks signature.now word.Name text.now (trees_in rest.now) at ≡ [] }
-    ensures { Reads tree_of_formula result (terms_breaks signature.now.functions scope.now (trees_in rest.now))
-        (atom_meant signature.now text.now (terms_meant names.now signature.now.functions scope.now (trees_in rest.now))) }
+    requires { name_breaks vocabulary.now.signature.now word.Name call.word.now
+        (trees_in call.rest.now) call.at ≡ [] }
+    ensures { ReadsAtom vocabulary.now scope.now call.entry.word.now
+        (trees_in call.entry.rest.now) result }
 {
-    let terms = terms(alloc, names, &signature.functions, scope, rest)?;
-    if let Some(predicate) = signature.predicates.place(text) {
+    let terms = terms(vocabulary, scope, call.rest)?;
+    if let Some(predicate) = vocabulary.signature.predicates.place(call.word) {
         return Ok(Formula::Atom(predicate, terms));
     }
-    let Some(definition) = signature.definitions.place(text) else {
+    let Some(definition) = vocabulary.signature.definitions.place(call.word) else {
         unreachable!()
     };
     Ok(Formula::Defined(definition, terms))
 }
 
-/// A formula under a word.
-#[tactic(auto, using(crate::proofs::FormulaTrees::formula_trees, crate::proofs::Rulesets::composed), unfolding(crate::specs::Formulas::formula_breaks, crate::specs::MeaningOfFormulas::formula_meant))]
-pub(crate) fn single(alloc: Global, word: FormulaWord, f: Formula) -> Result<Formula, FormFault>
-    requires { is_single word ≡ true }
-    ensures { Reads tree_of_formula result [] (joined word (more_formulas (tree_of_formula f) no_formula)) }
+/// A formula under a word that stands before one.
+#[tactic(auto, using(crate::proofs::Rulesets::formulas))]
+pub(crate) fn under_unary(alloc: Global, word: Unary, f: Formula) -> Result<Formula, FormFault>
+    ensures { Makes (joined (unary_word word) (more_formulas (tree_of_formula f) no_formula))
+        result }
 {
     let f = Box::new(alloc, f)?;
     match word {
-        FormulaWord::Not => Ok(Formula::Not(f)),
-        FormulaWord::Next => Ok(Formula::Next(f)),
-        FormulaWord::Always => Ok(Formula::Always(f)),
-        FormulaWord::Eventually => Ok(Formula::Eventually(f)),
-        _ => unreachable!(),
+        Unary::Not => Ok(Formula::Not(f)),
+        Unary::Next => Ok(Formula::Next(f)),
+        Unary::Always => Ok(Formula::Always(f)),
+        Unary::Eventually => Ok(Formula::Eventually(f)),
     }
 }
 
 /// The disjunction of two formulas.
-#[tactic(auto, using(crate::proofs::FormulaTrees::formula_trees, crate::proofs::Rulesets::composed), unfolding(crate::specs::Formulas::formula_breaks, crate::specs::MeaningOfFormulas::formula_meant))]
+#[tactic(auto, using(crate::proofs::Rulesets::formulas))]
 fn either(alloc: Global, f: Formula, g: Formula) -> Result<Formula, FormFault>
-    ensures { Reads tree_of_formula result [] (joined word.Or (more_formulas (tree_of_formula f) (more_formulas (tree_of_formula g) no_formula))) }
+    ensures { Makes (joined word.Or (formula_pair f g)) result }
 {
     let mut parts = Formulas::new(alloc);
     parts.push(f)?;
@@ -145,37 +125,68 @@ fn either(alloc: Global, f: Formula, g: Formula) -> Result<Formula, FormFault>
     Ok(Formula::Or(parts))
 }
 
-/// Two formulas under a word; an implication is read as a disjunction.
-#[tactic(auto, using(crate::proofs::FormulaTrees::formula_trees, crate::proofs::Rulesets::composed), unfolding(crate::specs::Formulas::formula_breaks, crate::specs::MeaningOfFormulas::formula_meant))]
-pub(crate) fn double(
+/// Two formulas under a word that stands before two; an implication is read as a disjunction.
+#[tactic(auto, using(crate::proofs::Rulesets::formulas))]
+pub(crate) fn under_binary(
     alloc: Global,
-    word: FormulaWord,
+    word: Binary,
     f: Formula,
     g: Formula,
 ) -> Result<Formula, FormFault>
-    requires { is_double word ≡ true }
-    ensures { Reads tree_of_formula result [] (joined word (more_formulas (tree_of_formula f) (more_formulas (tree_of_formula g) no_formula))) }
+    ensures { Makes (joined (binary_word word) (formula_pair f g)) result }
 {
     let f = Box::new(alloc, f)?;
     match word {
-        FormulaWord::Until => {
+        Binary::Until => {
             let g = Box::new(alloc, g)?;
             Ok(Formula::Until(f, g))
         }
-        FormulaWord::Implies => either(alloc, Formula::Not(f), g),
-        _ => unreachable!(),
+        Binary::Implies => either(alloc, Formula::Not(f), g),
     }
 }
 
-/// Formulas under a word.
-#[tactic(auto, using(crate::proofs::FormulaTrees::formula_trees, crate::proofs::Rulesets::composed), unfolding(crate::specs::Formulas::formula_breaks, crate::specs::MeaningOfFormulas::formula_meant))]
-pub(crate) fn many(word: FormulaWord, parts: Formulas) -> Formula
-    requires { is_many word ≡ true }
-    ensures { tree_of_formula result ≡ joined word (tree_of_formulas parts) }
+/// All of the formulas, or any of them.
+#[tactic(auto, using(crate::proofs::Rulesets::formulas))]
+pub(crate) fn under_many(junction: Junction, parts: Formulas) -> Formula
+    ensures { tree_of_formula result ≡ joined (many_word junction) (tree_of_formulas parts) }
 {
-    match word {
-        FormulaWord::And => Formula::And(parts),
-        FormulaWord::Or => Formula::Or(parts),
-        _ => unreachable!(),
+    match junction {
+        Junction::All => Formula::And(parts),
+        Junction::Any => Formula::Or(parts),
+    }
+}
+
+/// A formula under a quantifier: for all values of the variables in the bound, or for any.
+#[tactic(auto, using(crate::proofs::Rulesets::formulas))]
+pub(crate) fn under_quantifier(
+    alloc: Global,
+    junction: Junction,
+    vars: Vars,
+    bound: Bound,
+    f: Formula,
+) -> Result<Formula, FormFault>
+    ensures { Makes (quantifier_tree junction vars bound (tree_of_formula f)) result }
+{
+    let f = Box::new(alloc, f)?;
+    match junction {
+        Junction::All => Ok(Formula::ForAll(vars, bound, f)),
+        Junction::Any => Ok(Formula::Exists(vars, bound, f)),
+    }
+}
+
+/// A formula over a number of steps: for all of them, or for any.
+#[tactic(auto, using(crate::proofs::Rulesets::formulas))]
+pub(crate) fn under_steps(
+    alloc: Global,
+    junction: Junction,
+    steps: u32,
+    f: Formula,
+) -> Result<Formula, FormFault>
+    ensures { Makes (counted_tree junction steps (tree_of_formula f)) result }
+{
+    let f = Box::new(alloc, f)?;
+    match junction {
+        Junction::All => Ok(Formula::During(steps, f)),
+        Junction::Any => Ok(Formula::Within(steps, f)),
     }
 }

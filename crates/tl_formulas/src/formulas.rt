@@ -1,268 +1,157 @@
 // Formulas.
-ghost use Rattle.std.specs.Prelude.{◌≡◌, ◌==◌, ◌++◌, [], true, false};
-ghost use Rattle.tl_sexpr.specs.Tree.{list, tree_of};
-ghost use Rattle.tl_syntax.specs.TreeOfFormula.{tree_of_formula, tree_of_formulas};
-ghost use Rattle.tl_formulas.specs.Formulas.{has_formula_shape, name_breaks, is_crowded_by, role_below, formula_list_breaks, formula_breaks, formula_parts_breaks, formulas_breaks};
-ghost use Rattle.tl_formulas.specs.MeaningOfFormulas.{joined, is_single, is_double, is_many, formula_meant, formula_list_meant, formulas_meant};
-ghost use Rattle.tl_rules.specs.Parts.{count};
-ghost use Rattle.tl_rules.specs.Reads.{Reads, trees_in};
-ghost use Rattle.tl_formulas.specs.Words.{formula_word};
+#![tactic(auto, using(crate::proofs::Rulesets::formulas, crate::proofs::FormulaParts::formula_parts))]
 
+ghost use Rattle.std.specs.Prelude.{◌≡◌, [], false};
+ghost use Rattle.tl_sexpr.specs.Tree.{no_form, more_forms, tree_of};
+ghost use Rattle.tl_formulas.specs.Readers.{ReadsFormula, ReadsFormulaCall, ReadsFormulaParts, ReadsFormulas, ReadsJoined};
+ghost use Rattle.tl_formulas.specs.Shapes.{unary_word, binary_word, many_word, pair_trees, elements_of_parts, name_breaks_of, crowds};
+ghost use Rattle.tl_rules.specs.Reads.{trees_in};
+
+use crate::calls::{Call, call_in};
 use crate::formula_checks::{check_formula_list, role_below};
-use crate::formula_leaves::{atom, comparison, constant, double, goal_formula, many, single};
-use crate::quantifiers::{during, exists, for_all, within};
+use crate::formula_leaves::{
+    atom, comparison, constant, goal_formula, under_binary, under_many, under_unary,
+};
+use crate::formula_parts::formula_parts;
+use crate::quantifiers::{over_steps, quantifier};
 use crate::roles::FormulaRole;
 use crate::scope::Scope;
-use crate::signature::Signature;
-use crate::words::{FormulaWord, formula_word};
-use std::alloc::Global;
-use tl_rules::parts::{call, one, two};
+use crate::shapes::{Binary, FormulaParts, Pair, Unary};
+use crate::vocabulary::Vocabulary;
+use crate::words::formula_word;
 use tl_rules::{FormFault, Rule, breaks};
 use tl_sexpr::Form;
-use tl_syntax::{Formula, Formulas, Names};
+use tl_syntax::{Formula, Formulas, Junction};
 
 /// A formula.
 #[cycle(formula)]
-#[tactic(auto, using(crate::proofs::Rulesets::form_trees, crate::proofs::FormulaTrees::formula_trees, crate::proofs::Rulesets::composed), unfolding(crate::specs::Formulas::formula_breaks, crate::specs::MeaningOfFormulas::formula_meant))]
 pub fn formula(
-    alloc: Global,
-    names: &Names,
-    signature: &Signature<'_>,
+    vocabulary: &Vocabulary<'_>,
     scope: &Scope<'_>,
     role: FormulaRole,
     form: &Form,
 ) -> Result<Formula, FormFault>
-    ensures { Reads tree_of_formula result (formula_breaks role signature.now scope.now (tree_of form.now)) (formula_meant names.now signature.now scope.now (tree_of form.now)) }
+    ensures { ReadsFormula vocabulary.now role scope.now (tree_of form.now) result }
 {
     match form {
         Form::Sym(text, at) => constant(text.as_str(), *at),
         Form::Int(_, at) => Err(breaks(Rule::Shape, *at)),
-        Form::List(forms, at) => formula_list(
-            alloc,
-            names,
-            signature,
-            scope,
-            role,
-            forms.as_slice(),
-            *at,
-        ),
+        Form::List(_, at) => match call_in(form) {
+            Some(call) => formula_call(vocabulary, scope, role, call),
+            None => Err(breaks(Rule::Shape, *at)),
+        },
     }
 }
 
-/// A formula by the elements of its list and its offset.
+/// The formula of a list that begins with a word.
 #[cycle(formula)]
-#[tactic(auto, using(crate::proofs::FormulaTrees::formula_trees, crate::proofs::FormulaParts::formula_parts, crate::proofs::Rulesets::composed), unfolding(crate::specs::Formulas::formula_breaks, crate::specs::MeaningOfFormulas::formula_meant))]
-fn formula_list(
-    alloc: Global,
-    names: &Names,
-    signature: &Signature<'_>,
-    scope: &Scope<'_>,
-    role: FormulaRole,
-    forms: &[Form],
-    at: u32,
-) -> Result<Formula, FormFault>
-    ensures { Reads tree_of_formula result (formula_breaks role signature.now scope.now (list (trees_in forms.now) at)) (formula_meant names.now signature.now scope.now (list (trees_in forms.now) at)) }
-{
-    match call(forms) {
-        Some((text, rest)) => formula_call(alloc, names, signature, scope, role, text, rest, at),
-        None => Err(breaks(Rule::Shape, at)),
-    }
-}
-
-/// A formula by its first word and the forms after it.
-#[cycle(formula)]
-#[tactic(auto, using(crate::proofs::FormulaTrees::formula_trees, crate::proofs::FormulaParts::formula_parts, crate::proofs::Rulesets::composed), unfolding(crate::specs::Formulas::formula_breaks, crate::specs::MeaningOfFormulas::formula_meant))]
 fn formula_call(
-    alloc: Global,
-    names: &Names,
-    signature: &Signature<'_>,
+    vocabulary: &Vocabulary<'_>,
     scope: &Scope<'_>,
     role: FormulaRole,
-    text: &str,
-    rest: &[Form],
-    at: u32,
+    call: Call<'_>,
 ) -> Result<Formula, FormFault>
-    ensures { Reads tree_of_formula result
-        (formula_list_breaks role signature.now scope.now (formula_word text.now) text.now (trees_in rest.now) at ++ formula_parts_breaks (role_below role) signature.now scope.now (formula_word text.now) (trees_in rest.now))
-        (formula_list_meant names.now signature.now scope.now (formula_word text.now) text.now (trees_in rest.now)) }
+    ensures { ReadsFormulaCall vocabulary.now role scope.now call.entry result }
 {
-    let word = formula_word(text);
-    check_formula_list(role, signature, scope, word, text, rest, at)?;
-    let below = role_below(role);
-    let f = formula_parts(alloc, names, signature, scope, below, word, text, rest, at)?;
+    let Some(parts) = formula_parts(formula_word(call.word), call.rest) else {
+        return Err(breaks(Rule::Shape, call.at));
+    };
+    check_formula_list(vocabulary.signature, scope, role, parts, call)?;
+    let f = shaped_formula(vocabulary, scope, role_below(role), parts, call)?;
     Ok(f)
 }
 
-/// A formula whose list breaks nothing itself, by its first word and the forms after it.
+/// The formula of these parts of a list that breaks nothing itself.
 #[cycle(formula)]
-#[tactic(auto, using(crate::proofs::FormulaTrees::formula_trees, crate::proofs::FormulaParts::formula_parts, crate::proofs::Rulesets::composed), unfolding(crate::specs::Formulas::formula_breaks, crate::specs::MeaningOfFormulas::formula_meant))]
-fn formula_parts(
-    alloc: Global,
-    names: &Names,
-    signature: &Signature<'_>,
+fn shaped_formula(
+    vocabulary: &Vocabulary<'_>,
     scope: &Scope<'_>,
     role: FormulaRole,
-    word: FormulaWord,
-    text: &str,
-    rest: &[Form],
-    at: u32,
+    parts: FormulaParts<'_>,
+    call: Call<'_>,
 ) -> Result<Formula, FormFault>
-    requires shape { has_formula_shape word (trees_in rest.now) ≡ true }
-    requires name { name_breaks signature.now word text.now (trees_in rest.now) at ≡ [] }
-    requires room { is_crowded_by scope.now word (trees_in rest.now) ≡ false }
-    ensures { Reads tree_of_formula result (formula_parts_breaks role signature.now scope.now word (trees_in rest.now)) (formula_list_meant names.now signature.now scope.now word text.now (trees_in rest.now)) }
+    requires elements { trees_in call.rest.now ≡ elements_of_parts parts }
+    requires name { name_breaks_of vocabulary.now.signature.now parts call ≡ [] }
+    requires room { crowds scope.now parts ≡ false }
+    ensures { ReadsFormulaParts vocabulary.now role scope.now call.entry.word.now parts.entry
+        result }
 {
-    match word {
-        FormulaWord::Not => one_under(alloc, names, signature, scope, role, FormulaWord::Not, rest),
-        FormulaWord::Next => one_under(
-            alloc,
-            names,
-            signature,
-            scope,
-            role,
-            FormulaWord::Next,
-            rest,
-        ),
-        FormulaWord::Always => one_under(
-            alloc,
-            names,
-            signature,
-            scope,
-            role,
-            FormulaWord::Always,
-            rest,
-        ),
-        FormulaWord::Eventually => one_under(
-            alloc,
-            names,
-            signature,
-            scope,
-            role,
-            FormulaWord::Eventually,
-            rest,
-        ),
-        FormulaWord::Implies => two_under(
-            alloc,
-            names,
-            signature,
-            scope,
-            role,
-            FormulaWord::Implies,
-            rest,
-        ),
-        FormulaWord::Until => two_under(
-            alloc,
-            names,
-            signature,
-            scope,
-            role,
-            FormulaWord::Until,
-            rest,
-        ),
-        FormulaWord::And => many_under(
-            alloc,
-            names,
-            signature,
-            scope,
-            role,
-            FormulaWord::And,
-            rest,
-        ),
-        FormulaWord::Or => many_under(alloc, names, signature, scope, role, FormulaWord::Or, rest),
-        FormulaWord::Within => within(alloc, names, signature, scope, role, rest),
-        FormulaWord::During => during(alloc, names, signature, scope, role, rest),
-        FormulaWord::ForAll => for_all(alloc, names, signature, scope, role, rest),
-        FormulaWord::Exists => exists(alloc, names, signature, scope, role, rest),
-        FormulaWord::Goal => goal_formula(alloc, names, signature, scope, rest),
-        FormulaWord::Compare(cmp) => comparison(alloc, names, signature, scope, cmp, rest),
-        FormulaWord::Name => atom(alloc, names, signature, scope, text, rest, at),
+    match parts {
+        FormulaParts::One(word, form) => unary(vocabulary, scope, role, word, form),
+        FormulaParts::Two(word, pair) => binary(vocabulary, scope, role, word, pair),
+        FormulaParts::Many(junction, forms) => many(vocabulary, scope, role, junction, forms),
+        FormulaParts::Quantified(quantified) => quantifier(vocabulary, scope, role, quantified),
+        FormulaParts::Counted(counted) => over_steps(vocabulary, scope, role, counted),
+        FormulaParts::Goal(form) => goal_formula(vocabulary, scope, form),
+        FormulaParts::Compare(cmp, pair) => comparison(vocabulary, scope, cmp, pair),
+        FormulaParts::Atom(_) => atom(vocabulary, scope, call),
     }
 }
 
 /// A word before one formula.
 #[cycle(formula)]
-#[tactic(auto, using(crate::proofs::FormulaTrees::formula_trees, crate::proofs::FormulaParts::formula_parts, crate::proofs::Rulesets::composed), unfolding(crate::specs::Formulas::formula_breaks, crate::specs::MeaningOfFormulas::formula_meant))]
-fn one_under(
-    alloc: Global,
-    names: &Names,
-    signature: &Signature<'_>,
+fn unary(
+    vocabulary: &Vocabulary<'_>,
     scope: &Scope<'_>,
     role: FormulaRole,
-    word: FormulaWord,
-    rest: &[Form],
+    word: Unary,
+    form: &Form,
 ) -> Result<Formula, FormFault>
-    requires word { is_single word ≡ true }
-    requires shape { (count (trees_in rest.now) == 1) ≡ true }
-    ensures { Reads tree_of_formula result (formulas_breaks role signature.now scope.now (trees_in rest.now)) (joined word (formulas_meant names.now signature.now scope.now (trees_in rest.now))) }
+    ensures { ReadsJoined vocabulary.now role scope.now (unary_word word)
+        (more_forms (tree_of form.now) no_form) result }
 {
-    let Some(form) = one(rest) else {
-        unreachable!()
-    };
-    let f = formula(alloc, names, signature, scope, role, form)?;
-    let made = single(alloc, word, f)?;
+    let f = formula(vocabulary, scope, role, form)?;
+    let made = under_unary(vocabulary.alloc, word, f)?;
     Ok(made)
 }
 
 /// A word before two formulas.
 #[cycle(formula)]
-#[tactic(auto, using(crate::proofs::FormulaTrees::formula_trees, crate::proofs::FormulaParts::formula_parts, crate::proofs::Rulesets::composed), unfolding(crate::specs::Formulas::formula_breaks, crate::specs::MeaningOfFormulas::formula_meant))]
-fn two_under(
-    alloc: Global,
-    names: &Names,
-    signature: &Signature<'_>,
+fn binary(
+    vocabulary: &Vocabulary<'_>,
     scope: &Scope<'_>,
     role: FormulaRole,
-    word: FormulaWord,
-    rest: &[Form],
+    word: Binary,
+    pair: Pair<'_>,
 ) -> Result<Formula, FormFault>
-    requires word { is_double word ≡ true }
-    requires shape { (count (trees_in rest.now) == 2) ≡ true }
-    ensures { Reads tree_of_formula result (formulas_breaks role signature.now scope.now (trees_in rest.now)) (joined word (formulas_meant names.now signature.now scope.now (trees_in rest.now))) }
+    ensures { ReadsJoined vocabulary.now role scope.now (binary_word word) (pair_trees pair.entry)
+        result }
 {
-    let Some((first, second)) = two(rest) else {
-        unreachable!()
-    };
-    let f = formula(alloc, names, signature, scope, role, first)?;
-    let g = formula(alloc, names, signature, scope, role, second)?;
-    let made = double(alloc, word, f, g)?;
+    let f = formula(vocabulary, scope, role, pair.first)?;
+    let g = formula(vocabulary, scope, role, pair.second)?;
+    let made = under_binary(vocabulary.alloc, word, f, g)?;
     Ok(made)
 }
 
-/// A word before any number of formulas.
+/// All of the formulas, or any of them.
 #[cycle(formula)]
-#[tactic(auto, using(crate::proofs::FormulaTrees::formula_trees, crate::proofs::FormulaParts::formula_parts, crate::proofs::Rulesets::composed), unfolding(crate::specs::Formulas::formula_breaks, crate::specs::MeaningOfFormulas::formula_meant))]
-fn many_under(
-    alloc: Global,
-    names: &Names,
-    signature: &Signature<'_>,
+fn many(
+    vocabulary: &Vocabulary<'_>,
     scope: &Scope<'_>,
     role: FormulaRole,
-    word: FormulaWord,
-    rest: &[Form],
+    junction: Junction,
+    forms: &[Form],
 ) -> Result<Formula, FormFault>
-    requires word { is_many word ≡ true }
-    ensures { Reads tree_of_formula result (formulas_breaks role signature.now scope.now (trees_in rest.now)) (joined word (formulas_meant names.now signature.now scope.now (trees_in rest.now))) }
+    ensures { ReadsJoined vocabulary.now role scope.now (many_word junction) (trees_in forms.now)
+        result }
 {
-    let parts = formulas(alloc, names, signature, scope, role, rest)?;
-    Ok(many(word, parts))
+    let parts = formulas(vocabulary, scope, role, forms)?;
+    Ok(under_many(junction, parts))
 }
 
 /// Formulas.
 #[cycle(formula)]
-#[tactic(auto, using(crate::proofs::FormulaTrees::formula_trees, crate::proofs::FormulaParts::formula_parts, crate::proofs::Rulesets::composed), unfolding(crate::specs::Formulas::formula_breaks, crate::specs::MeaningOfFormulas::formula_meant))]
 fn formulas(
-    alloc: Global,
-    names: &Names,
-    signature: &Signature<'_>,
+    vocabulary: &Vocabulary<'_>,
     scope: &Scope<'_>,
     role: FormulaRole,
     forms: &[Form],
 ) -> Result<Formulas, FormFault>
-    ensures { Reads tree_of_formulas result (formulas_breaks role signature.now scope.now (trees_in forms.now)) (formulas_meant names.now signature.now scope.now (trees_in forms.now)) }
+    ensures { ReadsFormulas vocabulary.now role scope.now (trees_in forms.now) result }
 {
-    let mut formulas = Formulas::new(alloc);
+    let mut formulas = Formulas::new(vocabulary.alloc);
     for form in forms {
-        let one = formula(alloc, names, signature, scope, role, form)?;
+        let one = formula(vocabulary, scope, role, form)?;
         formulas.push(one)?;
     }
     Ok(formulas)

@@ -2,33 +2,39 @@
 //!
 //! The definitions stand in `specs/`: for each kind of form the rules that it breaks, and what it stands for.
 //!
-//! - `words`: the words of formulas and effects; `roles`: where a formula stands.
-//! - `scope`, `signature`: the variables in scope, and what is declared so far.
+//! - `vocabulary`, `signature`, `scope`: what forms are read by, what is declared so far, and the variables in scope.
+//! - `words`: the words of formulas and effects; `roles`: where a formula stands; `calls`: lists that begin with a word.
 //! - `terms`, `arguments`, `goals`, `bounds`, `variables`: the parts of formulas.
-//! - `formulas`, `quantifiers`, `formula_leaves`, `formula_checks`, `steps`: formulas.
-//! - `effects`, `effect_leaves`, `effect_checks`: effects.
+//! - `shapes`: the parts of formulas' and effects' lists; `bindings`: variables and their bound.
+//! - `formulas`, `formula_parts`, `formula_checks`, `formula_leaves`, `quantifiers`, `steps`: formulas.
+//! - `effects`, `effect_parts`: effects.
 #![tactic(auto)]
 
 mod arguments;
+mod bindings;
 pub mod bounds;
-mod effect_checks;
-mod effect_leaves;
+mod calls;
+mod effect_parts;
 pub mod effects;
 mod formula_checks;
 mod formula_leaves;
+mod formula_parts;
 mod formulas;
 mod goals;
 mod quantifiers;
 mod roles;
 mod scope;
+mod shapes;
 mod signature;
 mod steps;
 mod terms;
 pub mod variables;
+mod vocabulary;
 mod words;
 
 pub use formulas::formula;
 pub use roles::FormulaRole;
 pub use scope::Scope;
 pub use signature::{Signature, Table};
-pub use words::is_reserved;
+pub use vocabulary::Vocabulary;
+pub use words::{EffectWord, FormulaWord, is_reserved};

@@ -1,25 +1,23 @@
 // Terms.
-ghost use Rattle.std.specs.Prelude.{◌≡◌, ◌++◌, ◌==◌, not, Some, None};
+ghost use Rattle.std.specs.Prelude.{◌≡◌, Some, None};
 ghost use Rattle.tl_sexpr.specs.Tree.{tree_of};
-ghost use Rattle.tl_syntax.specs.TreeOfTerm.{tree_of_term, tree_of_terms};
-ghost use Rattle.tl_formulas.specs.MeaningOfTerms.{call_meant, term_of_argument, term_meant, term_list_meant, terms_meant};
-ghost use Rattle.tl_rules.specs.Parts.{count};
-ghost use Rattle.tl_rules.specs.Rules.{breaks_if};
-ghost use Rattle.tl_formulas.specs.Words.{operation_of};
-ghost use Rattle.tl_rules.specs.declared.rule.Rule.TheVariants.{Shape};
-ghost use Rattle.tl_rules.specs.Reads.{Reads, trees_in};
+ghost use Rattle.tl_syntax.specs.TreeOfTerm.{tree_of_term};
+ghost use Rattle.tl_formulas.specs.MeaningOfTerms.{term_of_argument};
+ghost use Rattle.tl_formulas.specs.Readers.{ReadsTerm, ReadsTermCall, ReadsTerms};
 ghost use Rattle.tl_formulas.specs.Signatures.{call_breaks, place_of};
-ghost use Rattle.tl_formulas.specs.Terms.{term_call_breaks, term_breaks, term_list_breaks, terms_breaks};
+ghost use Rattle.tl_formulas.specs.Words.{operation_of};
+ghost use Rattle.tl_rules.specs.Reads.{Reads, trees_in};
 
 use crate::arguments::symbol;
+use crate::calls::{Call, call_in};
 use crate::scope::Scope;
 use crate::signature::Table;
+use crate::vocabulary::Vocabulary;
 use crate::words::operation;
-use std::alloc::Global;
-use tl_rules::parts::{call, two};
-use tl_rules::{FormFault, Rule};
+use tl_rules::parts::two;
+use tl_rules::{FormFault, Rule, breaks};
 use tl_sexpr::Form;
-use tl_syntax::{Arg, Names, Op, Term, Terms, Value};
+use tl_syntax::{Arg, Op, Term, Terms, Value};
 
 /// An argument as a term.
 #[tactic(auto, using(crate::proofs::TermTrees::term_trees))]
@@ -34,152 +32,102 @@ fn term_of(arg: Arg) -> Term
 
 /// The place of a name in a table, where it has so many arguments.
 pub(crate) fn called(table: &Table<'_>, text: &str, count: usize, at: u32) -> Result<u32, FormFault>
-    ensures { Reads (λ place. Some place) result (call_breaks table.now text.now count at) (place_of table.now text.now) }
+    ensures { Reads (λ place. Some place) result (call_breaks table.now text.now count at)
+        (place_of table.now text.now) }
 {
     let Some(place) = table.place(text) else {
-        return Err(FormFault::Breaks {
-            broken: Rule::Unknown,
-            at,
-        });
+        return Err(breaks(Rule::Unknown, at));
     };
     if !table.has_arity(place, count) {
-        return Err(FormFault::Breaks {
-            broken: Rule::Arity,
-            at,
-        });
+        return Err(breaks(Rule::Arity, at));
     }
     Ok(place)
 }
 
 /// A term.
 #[cycle(term)]
-#[tactic(auto, using(crate::proofs::Rulesets::form_trees, crate::proofs::TermTrees::term_trees, crate::proofs::Rulesets::composed), unfolding(crate::specs::Terms::term_breaks, crate::specs::MeaningOfTerms::term_meant))]
+#[tactic(auto, using(crate::proofs::Rulesets::terms))]
 pub(crate) fn term(
-    alloc: Global,
-    names: &Names,
-    functions: &Table<'_>,
+    vocabulary: &Vocabulary<'_>,
     scope: &Scope<'_>,
     form: &Form,
 ) -> Result<Term, FormFault>
-    ensures { Reads tree_of_term result (term_breaks functions.now scope.now (tree_of form.now)) (term_meant names.now functions.now scope.now (tree_of form.now)) }
+    ensures { ReadsTerm vocabulary.now scope.now (tree_of form.now) result }
 {
     match form {
         Form::Sym(text, at) => {
-            let arg = symbol(names, scope, text.as_str(), *at)?;
+            let arg = symbol(vocabulary, scope, text.as_str(), *at)?;
             Ok(term_of(arg))
         }
         Form::Int(value, _) => Ok(Term::Val(Value::Int(*value))),
-        Form::List(forms, at) => term_list(alloc, names, functions, scope, forms.as_slice(), *at),
+        Form::List(_, at) => match call_in(form) {
+            Some(call) => term_call(vocabulary, scope, call),
+            None => Err(breaks(Rule::Shape, *at)),
+        },
     }
 }
 
-/// The term of a list with these elements at this offset.
+/// The term of a list that begins with a word.
 #[cycle(term)]
-#[tactic(auto, using(crate::proofs::Rulesets::form_trees, crate::proofs::TermTrees::term_trees, crate::proofs::Rulesets::composed), unfolding(crate::specs::Terms::term_breaks, crate::specs::MeaningOfTerms::term_meant))]
-fn term_list(
-    alloc: Global,
-    names: &Names,
-    functions: &Table<'_>,
-    scope: &Scope<'_>,
-    forms: &[Form],
-    at: u32,
-) -> Result<Term, FormFault>
-    ensures { Reads tree_of_term result (term_list_breaks functions.now scope.now (trees_in forms.now) at) (term_list_meant names.now functions.now scope.now (trees_in forms.now) at) }
-{
-    match call(forms) {
-        Some((text, rest)) => term_call(alloc, names, functions, scope, text, rest, at),
-        None => Err(FormFault::Breaks {
-            broken: Rule::Shape,
-            at,
-        }),
-    }
-}
-
-/// The term of a list with this first word and these elements after it.
-#[cycle(term)]
-#[tactic(auto, using(crate::proofs::Rulesets::form_trees, crate::proofs::TermTrees::term_trees, crate::proofs::Rulesets::composed), unfolding(crate::specs::Terms::term_breaks, crate::specs::MeaningOfTerms::term_meant))]
+#[tactic(auto, using(crate::proofs::Rulesets::terms))]
 fn term_call(
-    alloc: Global,
-    names: &Names,
-    functions: &Table<'_>,
+    vocabulary: &Vocabulary<'_>,
     scope: &Scope<'_>,
-    text: &str,
-    rest: &[Form],
-    at: u32,
+    call: Call<'_>,
 ) -> Result<Term, FormFault>
-    ensures { Reads tree_of_term result
-        (term_call_breaks functions.now (operation_of text.now) text.now (trees_in rest.now) at ++ terms_breaks functions.now scope.now (trees_in rest.now))
-        (call_meant (operation_of text.now) (place_of functions.now text.now) (terms_meant names.now functions.now scope.now (trees_in rest.now)) at) }
+    ensures { ReadsTermCall vocabulary.now scope.now (operation_of call.entry.word.now) call.entry
+        result }
 {
-    match operation(text) {
-        Some(op) => arithmetic(alloc, names, functions, scope, op, rest, at),
-        None => fluent(alloc, names, functions, scope, text, rest, at),
+    match operation(call.word) {
+        Some(op) => arithmetic(vocabulary, scope, op, call),
+        None => fluent(vocabulary, scope, call),
     }
 }
 
 /// A place of the function of this name.
 #[cycle(term)]
-#[tactic(auto, using(crate::proofs::Rulesets::form_trees, crate::proofs::TermTrees::term_trees, crate::proofs::Rulesets::composed))]
-fn fluent(
-    alloc: Global,
-    names: &Names,
-    functions: &Table<'_>,
-    scope: &Scope<'_>,
-    text: &str,
-    rest: &[Form],
-    at: u32,
-) -> Result<Term, FormFault>
-    ensures { Reads tree_of_term result
-        (call_breaks functions.now text.now (count (trees_in rest.now)) at ++ terms_breaks functions.now scope.now (trees_in rest.now))
-        (call_meant None (place_of functions.now text.now) (terms_meant names.now functions.now scope.now (trees_in rest.now)) at) }
+#[tactic(auto, using(crate::proofs::Rulesets::terms))]
+fn fluent(vocabulary: &Vocabulary<'_>, scope: &Scope<'_>, call: Call<'_>) -> Result<Term, FormFault>
+    ensures { ReadsTermCall vocabulary.now scope.now None call.entry result }
 {
-    let function = called(functions, text, rest.len(), at)?;
-    let args = terms(alloc, names, functions, scope, rest)?;
+    let functions = &vocabulary.signature.functions;
+    let function = called(functions, call.word, call.rest.len(), call.at)?;
+    let args = terms(vocabulary, scope, call.rest)?;
     Ok(Term::Place(function, args))
 }
 
-/// An operation on these operands.
+/// An operation on the elements after its word.
 #[cycle(term)]
-#[tactic(auto, using(crate::proofs::Rulesets::form_trees, crate::proofs::TermTrees::term_trees, crate::proofs::Rulesets::composed), unfolding(crate::specs::Terms::term_breaks, crate::specs::MeaningOfTerms::term_meant))]
+#[tactic(auto, using(crate::proofs::Rulesets::terms))]
 fn arithmetic(
-    alloc: Global,
-    names: &Names,
-    functions: &Table<'_>,
+    vocabulary: &Vocabulary<'_>,
     scope: &Scope<'_>,
     op: Op,
-    rest: &[Form],
-    at: u32,
+    call: Call<'_>,
 ) -> Result<Term, FormFault>
-    ensures { Reads tree_of_term result
-        (breaks_if (not (count (trees_in rest.now) == 2)) Shape at ++ terms_breaks functions.now scope.now (trees_in rest.now))
-        (call_meant (Some op) None (terms_meant names.now functions.now scope.now (trees_in rest.now)) at) }
+    ensures { ReadsTermCall vocabulary.now scope.now (Some op) call.entry result }
 {
-    let Some((left, right)) = two(rest) else {
-        return Err(FormFault::Breaks {
-            broken: Rule::Shape,
-            at,
-        });
+    let Some((left, right)) = two(call.rest) else {
+        return Err(breaks(Rule::Shape, call.at));
     };
-    let left = Box::new(alloc, term(alloc, names, functions, scope, left)?)?;
-    let right = Box::new(alloc, term(alloc, names, functions, scope, right)?)?;
-    Ok(Term::Arith(op, left, right, at))
+    let left = Box::new(vocabulary.alloc, term(vocabulary, scope, left)?)?;
+    let right = Box::new(vocabulary.alloc, term(vocabulary, scope, right)?)?;
+    Ok(Term::Arith(op, left, right, call.at))
 }
 
 /// Terms.
 #[cycle(term)]
-#[tactic(auto, using(crate::proofs::TermTrees::term_steps, crate::proofs::Rulesets::composed), unfolding(crate::specs::Terms::term_breaks, crate::specs::MeaningOfTerms::term_meant))]
+#[tactic(auto, using(crate::proofs::Rulesets::terms, crate::proofs::TermTrees::term_steps))]
 pub(crate) fn terms(
-    alloc: Global,
-    names: &Names,
-    functions: &Table<'_>,
+    vocabulary: &Vocabulary<'_>,
     scope: &Scope<'_>,
     forms: &[Form],
 ) -> Result<Terms, FormFault>
-    ensures { Reads tree_of_terms result (terms_breaks functions.now scope.now (trees_in forms.now)) (terms_meant names.now functions.now scope.now (trees_in forms.now)) }
+    ensures { ReadsTerms vocabulary.now scope.now (trees_in forms.now) result }
 {
-    let mut terms = Terms::new(alloc);
+    let mut terms = Terms::new(vocabulary.alloc);
     for form in forms {
-        let one = term(alloc, names, functions, scope, form)?;
+        let one = term(vocabulary, scope, form)?;
         terms.push(one)?;
     }
     Ok(terms)

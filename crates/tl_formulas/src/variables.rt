@@ -1,13 +1,15 @@
 // Variable lists.
-ghost use Rattle.std.specs.Prelude.{◌≡◌, List, ℕ, ◌+◌, ◌++◌, ◌≤◌, [], true, false, length, IfOk, MatchOption};
+ghost use Rattle.std.specs.Prelude.{◌≡◌, List, ℕ, ◌+◌, ◌++◌, ◌≤◌, [], length};
 ghost use Rattle.tl_sexpr.specs.Tree.{list, tree_of};
 ghost use Rattle.tl_syntax.specs.declared.variable.Var.{Var};
 ghost use Rattle.tl_formulas.specs.MeaningOfFormulas.{variables_from};
-ghost use Rattle.tl_rules.specs.Parts.{are_variables, is_variable_list, elements_of, texts_of, occurs_in, occurs_in_any};
+ghost use Rattle.tl_rules.specs.Parts.{are_variables, is_variable_list, texts_of, occurs_in, occurs_in_any};
 ghost use Rattle.tl_rules.specs.Reads.{Reads, Checks, trees_in};
 ghost use Rattle.tl_formulas.specs.Variables.{variable_breaks, variables_breaks};
+ghost use Rattle.tl_formulas.specs.Shapes.{FindsVariables};
 
 use crate::scope::Scope;
+use crate::shapes::VariableList;
 use std::alloc::Global;
 use tl_rules::parts::{is_variable, offset, symbol_text};
 use tl_rules::{FormFault, Rule, breaks, number_of};
@@ -53,18 +55,20 @@ pub fn are_variables(forms: &[Form]) -> bool
     true
 }
 
-/// The variables of a non-empty list of variables.
+/// The variables of a non-empty list of variables, and its offset.
 #[tactic(auto, using(crate::proofs::Rulesets::form_trees, crate::proofs::VariableLists::variable_lists))]
-pub(crate) fn variable_list(form: &Form) -> Option<&[Form]>
-    ensures { MatchOption result (is_variable_list (tree_of form.now) ≡ false)
-        (λ variables. (is_variable_list (tree_of form.now) ≡ true) × (trees_in variables.now ≡ elements_of (tree_of form.now)) × (are_variables (trees_in variables.now) ≡ true)) }
+pub(crate) fn variable_list(form: &Form) -> Option<VariableList<'_>>
+    ensures { FindsVariables (tree_of form.now) result }
 {
     match form {
         Form::Sym(_, _) => None,
         Form::Int(_, _) => None,
-        Form::List(forms, _) => {
+        Form::List(forms, at) => {
             if is_variable_list(forms.as_slice()) {
-                Some(forms.as_slice())
+                Some(VariableList {
+                    variables: forms.as_slice(),
+                    at: *at,
+                })
             } else {
                 None
             }
@@ -90,7 +94,8 @@ fn check_variable(
     text: &str,
     at: u32,
 ) -> Result<(), FormFault>
-    ensures { Checks result (variable_breaks earlier.now scope.now (tree_of bound.now) text.now at) }
+    ensures { Checks result
+        (variable_breaks earlier.now scope.now (tree_of bound.now) text.now at) }
 {
     if earlier.slot(text).is_some() {
         return Err(breaks(Rule::Twice, at));
@@ -104,25 +109,24 @@ fn check_variable(
     Ok(())
 }
 
-/// Checks the variables of a list, at most 32, that have this bound.
+/// Checks the variables of a binding, at most 32.
 #[tactic(auto, using(crate::proofs::VariableLists::variable_lists, crate::proofs::Rulesets::composed))]
 pub(crate) fn check_variables(
     alloc: Global,
     scope: &Scope<'_>,
-    bound: &Form,
     variables: &[Form],
+    bound: &Form,
 ) -> Result<(), FormFault>
-    requires variables { are_variables (trees_in variables.now) ≡ true }
-    requires few { length variables.now ≤ 32 }
-    ensures { Checks result (variables_breaks [] scope.now (tree_of bound.now) (trees_in variables.now)) }
+    requires { length variables.now ≤ 32 }
+    ensures { Checks result
+        (variables_breaks [] scope.now (tree_of bound.now) (trees_in variables.now)) }
 {
     let mut earlier = Scope::new(alloc);
     for form in variables {
-        let Some(text) = symbol_text(form) else {
-            unreachable!()
-        };
-        check_variable(&earlier, scope, bound, text, offset(form))?;
-        earlier.push(text)?;
+        if let Some(text) = symbol_text(form) {
+            check_variable(&earlier, scope, bound, text, offset(form))?;
+            earlier.push(text)?;
+        }
     }
     Ok(())
 }
@@ -135,7 +139,8 @@ pub fn with_variables<'a>(
     variables: &'a [Form],
 ) -> Result<Scope<'a>, FormFault>
     requires { length scope.now + length variables.now ≤ 32 }
-    ensures { Reads (λ (x : List (List ℕ)). x) result [] (scope.now ++ texts_of (trees_in variables.now)) }
+    ensures { Reads (λ (x : List (List ℕ)). x) result []
+        (scope.now ++ texts_of (trees_in variables.now)) }
 {
     let mut inner = scope.copy(alloc)?;
     for form in variables {
@@ -155,7 +160,8 @@ pub fn variables(
     variables: &[Form],
 ) -> Result<Vars, FormFault>
     requires { from + length variables.now ≤ 32 }
-    ensures { Reads (λ (x : List Var). x) result [] (variables_from names.now from (texts_of (trees_in variables.now))) }
+    ensures { Reads (λ (x : List Var). x) result []
+        (variables_from names.now from (texts_of (trees_in variables.now))) }
 {
     let mut vars = Vars::new(alloc);
     let mut slot = from as u32;

@@ -6,35 +6,55 @@ ghost use Rattle.tl_formulas.specs.Words.{reserved_words, operation_of, formula_
 
 use tl_syntax::{Cmp, Op};
 
-/// What the first word of a formula's list says.
+/// What the first word of a formula's list says, as the rules of formulas tell words apart.
 #[derive(Clone, Copy)]
-pub(crate) enum FormulaWord {
+pub enum FormulaWord {
+    /// `not`
     Not,
+    /// `and`
     And,
+    /// `or`
     Or,
+    /// `implies`
     Implies,
+    /// `next`: in the next state.
     Next,
+    /// `always`: now and in every later state.
     Always,
+    /// `eventually`: now or in a later state.
     Eventually,
+    /// `until`: the first until the second.
     Until,
+    /// `within`: in one of the next steps.
     Within,
+    /// `for`: in each of the next steps.
     During,
+    /// `forall`: for each value in a bound.
     ForAll,
+    /// `exists`: for a value in a bound.
     Exists,
+    /// `goal`: of the goal, and not of the state.
     Goal,
+    /// `=`, `<`, `<=`, `>` or `>=`.
     Compare(Cmp),
     /// Another symbol, which should be the name of a predicate.
     Name,
 }
 
-/// What the first word of an effect says.
+/// What the first word of an effect's list says, as the rules of effects tell words apart.
 #[derive(Clone, Copy)]
-pub(crate) enum EffectWord {
+pub enum EffectWord {
+    /// `add`: a fact is added.
     Add,
+    /// `del`: a fact is deleted.
     Del,
+    /// `set`: a place has a new value.
     Set,
+    /// `when`: effects where a formula holds.
     When,
+    /// `each`: effects for each value in a bound.
     Each,
+    /// Another symbol, which no effect begins with.
     Other,
 }
 

@@ -1,7 +1,7 @@
 -- Lists with another number of elements than their first word asks for.
 use Rattle.std.proofs.Common.{◌≡◌, ℕ, List, [], ◌∷◌, false, true≢false, refl}
 use Rattle.std.specs.Prelude.{◌==◌}
-use Rattle.tl_sexpr.specs.Tree.{FormTree, FormTrees, symbol, integer, list, no_form, more_forms}
+use Rattle.tl_sexpr.specs.Tree.{FormTrees, no_form, more_forms}
 use Rattle.tl_syntax.specs.declared.declared.Declared.{Declared}
 use Rattle.tl_rules.specs.declared.rule.Rule.TheVariants.{Shape}
 use Rattle.tl_rules.specs.Parts.{count}
@@ -10,38 +10,14 @@ use Rattle.tl_problem.specs.Facts.{equality_breaks, negation_breaks}
 
 pub equality_count : (names : List (List ℕ)) (ds : List Declared) (fs : FormTrees) (at : ℕ) → (count fs == 2) ≡ false → equality_breaks names ds fs at ≡ (Shape, at) ∷ []
 equality_count names ds no_form at other = refl
-equality_count names ds (more_forms f no_form) at other = cases f
-  where
-    cases : (f : FormTree) → equality_breaks names ds (more_forms f no_form) at ≡ (Shape, at) ∷ []
-    cases (symbol text _) = refl
-    cases (integer z _) = refl
-    cases (list no_form _) = refl
-    cases (list (more_forms (symbol text _) fs) _) = refl
-    cases (list (more_forms (integer z _) fs) _) = refl
-    cases (list (more_forms (list gs _) fs) _) = refl
+equality_count names ds (more_forms f no_form) at other = refl
 equality_count names ds (more_forms f (more_forms h no_form)) at other = absurd (true≢false other)
-equality_count names ds (more_forms f (more_forms h (more_forms i fs))) at other = cases f
-  where
-    cases : (f : FormTree) → equality_breaks names ds (more_forms f (more_forms h (more_forms i fs))) at ≡ (Shape, at) ∷ []
-    cases (symbol text _) = refl
-    cases (integer z _) = refl
-    cases (list no_form _) = refl
-    cases (list (more_forms (symbol text _) gs) _) = refl
-    cases (list (more_forms (integer z _) gs) _) = refl
-    cases (list (more_forms (list hs _) gs) _) = refl
+equality_count names ds (more_forms f (more_forms h (more_forms i fs))) at other = refl
 
 pub negation_count : (names : List (List ℕ)) (ds : List Declared) (fs : FormTrees) (at : ℕ) → (count fs == 1) ≡ false → negation_breaks names ds fs at ≡ (Shape, at) ∷ []
 negation_count names ds no_form at other = refl
 negation_count names ds (more_forms f no_form) at other = absurd (true≢false other)
-negation_count names ds (more_forms f (more_forms h fs)) at other = cases f
-  where
-    cases : (f : FormTree) → negation_breaks names ds (more_forms f (more_forms h fs)) at ≡ (Shape, at) ∷ []
-    cases (symbol text _) = refl
-    cases (integer z _) = refl
-    cases (list no_form _) = refl
-    cases (list (more_forms (symbol text _) gs) _) = refl
-    cases (list (more_forms (integer z _) gs) _) = refl
-    cases (list (more_forms (list hs _) gs) _) = refl
+negation_count names ds (more_forms f (more_forms h fs)) at other = refl
 
 pub problem_count : (fs : FormTrees) → (count fs == 4) ≡ false → has_problem_shape fs ≡ false
 problem_count no_form other = refl

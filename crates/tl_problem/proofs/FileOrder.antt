@@ -15,13 +15,13 @@ use Rattle.tl_rules.proofs.OneForm.{second_form-order}
 use Rattle.tl_rules.proofs.Order.{IsInOrder, from, up_to, both, none, one, tested, either, first-least}
 use Rattle.tl_problem.specs.declared.elements.Section.{Section}
 use Rattle.tl_problem.specs.declared.elements.Section.TheVariants as section
-use Rattle.tl_problem.specs.declared.elements.ElementWord.{ElementWord}
-use Rattle.tl_problem.specs.declared.elements.ElementWord.TheVariants as word
-use Rattle.tl_problem.specs.declared.literals.Literals.{Literals}
+use Rattle.tl_problem.specs.Calls.{CallTree}
+use Rattle.tl_problem.specs.ElementWords.{ElementWord, element_word}
+use Rattle.tl_problem.specs.ElementWords as word
+use Rattle.tl_problem.specs.Literals.{Literals, no_literal, has_other_value}
 use Rattle.tl_problem.specs.Declarations.{position_of, has_arity, call_breaks_at}
-use Rattle.tl_problem.specs.Elements.{or_else, element_word, element_call_breaks, element_breaks, with_element, elements_breaks}
+use Rattle.tl_problem.specs.Elements.{or_else, element_call_breaks, element_breaks, with_element, elements_breaks}
 use Rattle.tl_problem.specs.Facts.{ground_breaks, fact_meant, equality_breaks, equality_meant, negation_breaks, negation_meant}
-use Rattle.tl_problem.specs.Literals.{no_literal, has_other_value}
 use Rattle.tl_problem.specs.ProblemFiles.{has_problem_shape, section_breaks, sections_breaks, problem_form_breaks, problem_file_breaks}
 use Rattle.tl_problem.specs.Values.{value_breaks, values_breaks}
 
@@ -38,11 +38,11 @@ call-order : (declared : List Declared) (found : Option ℕ) (n at : ℕ) → Is
 call-order declared None n at = one Unknown at (64 * at) (64 * at + 64) (omega arith) (omega arith)
 call-order declared (Some i) n at = tested (not (has_arity declared i n)) Arity at (64 * at) (64 * at + 64) (omega arith) (omega arith)
 
-ground-order : (names : List (List ℕ)) (declared : List Declared) (text : List ℕ) (rest : FormTrees) (at low next : ℕ) → at + 1 ≤ low → RiseFrom low rest next → IsInOrder (64 * at) (ground_breaks names declared text rest at) (64 * next)
-ground-order names declared text rest at low next le h =
-    both (64 * at) (64 * at + 64) (64 * next) _ _
-    (call-order declared (position_of names declared text) (count rest) at)
-    (from (64 * at + 64) (64 * low) (64 * next) _ (omega arith) (values-order rest low next h))
+ground-order : (names : List (List ℕ)) (declared : List Declared) (c : CallTree) (low next : ℕ) → c.at + 1 ≤ low → RiseFrom low c.rest next → IsInOrder (64 * c.at) (ground_breaks names declared c) (64 * next)
+ground-order names declared c low next le h =
+    both (64 * c.at) (64 * c.at + 64) (64 * next) _ _
+    (call-order declared (position_of names declared c.word) (count c.rest) c.at)
+    (from (64 * c.at + 64) (64 * low) (64 * next) _ (omega arith) (values-order c.rest low next h))
 
 equality-order : (names : List (List ℕ)) (functions : List Declared) (fs : FormTrees) (at next : ℕ) → RiseFrom (at + 1) fs next → IsInOrder (64 * at) (equality_breaks names functions fs at) (64 * next)
 equality-order names functions (more_forms (list (more_forms (symbol text s) rest) place) (more_forms value no_form)) at next h =
@@ -51,8 +51,9 @@ equality-order names functions (more_forms (list (more_forms (symbol text s) res
     let later = h.2 in
     let parts = forms-within rest inner.0 h.0 inner.2 in
     both (64 * at) (64 * h.0) (64 * next) _ _
-    (from (64 * at) (64 * place) (64 * h.0) _ (omega (arith, h.1.0)) (ground-order names functions text rest place inner.0 h.0 (omega (arith, first.0, first.1)) inner.2))
+    (from (64 * at) (64 * place) (64 * h.0) _ (omega (arith, h.1.0)) (ground-order names functions (record { word = text; rest = rest; at = place }) inner.0 h.0 (omega (arith, first.0, first.1)) inner.2))
     (up_to (64 * h.0) (64 * later.0) (64 * next) _ (omega (arith, later.2)) (value-order value h.0 later.0 later.1))
+equality-order names functions (more_forms f (more_forms value no_form)) at next h = let parts = forms-within (more_forms f (more_forms value no_form)) (at + 1) next h in one Shape at (64 * at) (64 * next) (omega arith) (omega arith)
 equality-order names functions fs at next h = let parts = forms-within fs (at + 1) next h in one Shape at (64 * at) (64 * next) (omega arith) (omega arith)
 
 negation-order : (names : List (List ℕ)) (predicates : List Declared) (fs : FormTrees) (at next : ℕ) → RiseFrom (at + 1) fs next → IsInOrder (64 * at) (negation_breaks names predicates fs at) (64 * next)
@@ -60,33 +61,34 @@ negation-order names predicates (more_forms (list (more_forms (symbol text s) re
     let inner = h.1.1 in
     let first = form-within (symbol text s) (fact + 1) inner.0 inner.1 in
     from (64 * at) (64 * fact) (64 * next) _ (omega (arith, h.1.0))
-    (up_to (64 * fact) (64 * h.0) (64 * next) _ (omega (arith, h.2)) (ground-order names predicates text rest fact inner.0 h.0 (omega (arith, first.0, first.1)) inner.2))
+    (up_to (64 * fact) (64 * h.0) (64 * next) _ (omega (arith, h.2)) (ground-order names predicates (record { word = text; rest = rest; at = fact }) inner.0 h.0 (omega (arith, first.0, first.1)) inner.2))
+negation-order names predicates (more_forms f no_form) at next h = let parts = forms-within (more_forms f no_form) (at + 1) next h in one Shape at (64 * at) (64 * next) (omega arith) (omega arith)
 negation-order names predicates fs at next h = let parts = forms-within fs (at + 1) next h in one Shape at (64 * at) (64 * next) (omega arith) (omega arith)
 
 else-order : (low high : ℕ) (xs ys : List Break) → IsInOrder low xs high → IsInOrder low ys high → IsInOrder low (or_else xs ys) high
 else-order low high [] ys h i = i
 else-order low high (x ∷ xs) ys h i = h
 
-element_call-order : (names : List (List ℕ)) (d : Domain) (l : Literals) (w : ElementWord) (text : List ℕ) (rest : FormTrees) (at low next : ℕ) → at + 1 ≤ low → RiseFrom low rest next → RiseFrom (at + 1) rest next → IsInOrder (64 * at) (element_call_breaks names d l w text rest at) (64 * next)
-element_call-order names d l word.Equality text rest at low next le h i =
-    let parts = forms-within rest low next h in
-    else-order (64 * at) (64 * next) _ _ (equality-order names d.functions rest at next i)
-    (tested (has_other_value l.values (equality_meant names d.functions rest)) TwoValues at (64 * at) (64 * next) (omega arith) (omega arith))
-element_call-order names d l word.Negation text rest at low next le h i =
-    let parts = forms-within rest low next h in
-    else-order (64 * at) (64 * next) _ _ (negation-order names d.predicates rest at next i)
-    (tested (list_any (fact_eq (negation_meant names d.predicates rest)) l.facts) TwoValues at (64 * at) (64 * next) (omega arith) (omega arith))
-element_call-order names d l word.Fact text rest at low next le h i =
-    let parts = forms-within rest low next h in
-    else-order (64 * at) (64 * next) _ _ (ground-order names d.predicates text rest at low next le h)
-    (tested (list_any (fact_eq (fact_meant names d.predicates text rest)) l.nots) TwoValues at (64 * at) (64 * next) (omega arith) (omega arith))
+element_call-order : (names : List (List ℕ)) (d : Domain) (l : Literals) (w : ElementWord) (c : CallTree) (low next : ℕ) → c.at + 1 ≤ low → RiseFrom low c.rest next → RiseFrom (c.at + 1) c.rest next → IsInOrder (64 * c.at) (element_call_breaks names d l w c) (64 * next)
+element_call-order names d l word.Equality c low next le h i =
+    let parts = forms-within c.rest low next h in
+    else-order (64 * c.at) (64 * next) _ _ (equality-order names d.functions c.rest c.at next i)
+    (tested (has_other_value l.values (equality_meant names d.functions c.rest)) TwoValues c.at (64 * c.at) (64 * next) (omega arith) (omega arith))
+element_call-order names d l word.Negation c low next le h i =
+    let parts = forms-within c.rest low next h in
+    else-order (64 * c.at) (64 * next) _ _ (negation-order names d.predicates c.rest c.at next i)
+    (tested (list_any (fact_eq (negation_meant names d.predicates c.rest)) l.facts) TwoValues c.at (64 * c.at) (64 * next) (omega arith) (omega arith))
+element_call-order names d l word.Fact c low next le h i =
+    let parts = forms-within c.rest low next h in
+    else-order (64 * c.at) (64 * next) _ _ (ground-order names d.predicates c low next le h)
+    (tested (list_any (fact_eq (fact_meant names d.predicates c)) l.nots) TwoValues c.at (64 * c.at) (64 * next) (omega arith) (omega arith))
 
 element-order : (names : List (List ℕ)) (d : Domain) (s : Section) (l : Literals) (f : FormTree) (low next : ℕ) → RisesFrom low f next → IsInOrder (64 * low) (element_breaks names d s l f) (64 * next)
 element-order names d s l (list (more_forms (symbol text t) rest) at) low next h =
     let inner = h.1 in
     let first = form-within (symbol text t) (at + 1) inner.0 inner.1 in
     from (64 * low) (64 * at) (64 * next) _ (omega (arith, h.0))
-    (element_call-order names d l (element_word s text) text rest at inner.0 next (omega (arith, first.0, first.1)) inner.2 (rest-rises (list (more_forms (symbol text t) rest) at) low next h))
+    (element_call-order names d l (element_word s text) (record { word = text; rest = rest; at = at }) inner.0 next (omega (arith, first.0, first.1)) inner.2 (rest-rises (list (more_forms (symbol text t) rest) at) low next h))
 element-order names d s l f low next h = let within = form-within f low next h in one Shape (offset_of f) (64 * low) (64 * next) (omega (arith, within.0)) (omega (arith, within.1))
 
 elements-order : (names : List (List ℕ)) (d : Domain) (s : Section) (l : Literals) (fs : FormTrees) (low next : ℕ) → RiseFrom low fs next → IsInOrder (64 * low) (elements_breaks names d s l fs) (64 * next)

@@ -1,58 +1,54 @@
 -- What a problem file breaks and says depends on what the domain declares alone.
 use Rattle.std.proofs.Common.{◌≡◌, ℕ, List, [], ◌∷◌, ◌++◌, refl, ap, ◌∙◌}
-use Rattle.std.specs.Prelude.{nat_lt, if◌then◌else◌}
-use Rattle.std.specs.List.{list_any}
+use Rattle.std.specs.Prelude.{Option, Some, None, nat_lt, if◌then◌else◌}
 use Rattle.tl_sexpr.specs.Tree.{FormTree, FormTrees, symbol, integer, list, no_form, more_forms}
 use Rattle.tl_syntax.specs.declared.declared.Declared.{Declared}
 use Rattle.tl_syntax.specs.declared.domain.Domain.{Domain}
-use Rattle.tl_syntax.specs.DerivedTests.{fact_eq}
-use Rattle.tl_rules.specs.declared.rule.Rule.TheVariants.{Shape, Limit, TwoValues}
+use Rattle.tl_rules.specs.declared.rule.Rule.TheVariants.{Shape, Limit}
 use Rattle.tl_rules.specs.Parts.{offset_of, count, rest_of}
 use Rattle.tl_rules.specs.Rules.{breaks_if}
 use Rattle.tl_problem.specs.declared.elements.Section.{Section}
 use Rattle.tl_problem.specs.declared.elements.Section.TheVariants as section
-use Rattle.tl_problem.specs.declared.elements.ElementWord.{ElementWord}
-use Rattle.tl_problem.specs.declared.elements.ElementWord.TheVariants as word
-use Rattle.tl_problem.specs.declared.literals.Literals.{Literals}
-use Rattle.tl_problem.specs.Elements.{or_else, element_word, element_call_breaks, with_element_call, element_breaks, with_element, elements_breaks, with_elements}
+use Rattle.tl_problem.specs.Calls.{CallTree, call_in}
+use Rattle.tl_problem.specs.ElementWords.{ElementWord, element_word}
+use Rattle.tl_problem.specs.ElementWords as word
+use Rattle.tl_problem.specs.Literals.{Literals, no_literal, and_fact, and_value, and_not, fact_denied, fact_said, value_differs}
+use Rattle.tl_problem.specs.Elements.{or_else, element_call_breaks, with_element_call, called_breaks, with_called, element_breaks, with_element, elements_breaks, with_elements}
 use Rattle.tl_problem.specs.LawsDeclarations.{DeclareAlike, FilesGoByDeclarations}
-use Rattle.tl_problem.specs.Literals.{no_literal, has_other_value, and_fact, and_value, and_not}
 use Rattle.tl_problem.specs.Facts.{ground_breaks, fact_meant, equality_breaks, equality_meant, negation_breaks, negation_meant}
 use Rattle.tl_rules.specs.OneForm.{second_form_breaks}
 use Rattle.tl_problem.specs.ProblemFiles.{has_problem_shape, section_breaks, sections_breaks, problem_form_breaks, problem_file_breaks, sections_meant, problem_form_meant, problem_file_meant}
 
 module _ (names : List (List ℕ)) (d e : Domain) (alike : DeclareAlike d e) where
-  call_breaks : (l : Literals) (w : ElementWord) (text : List ℕ) (rest : FormTrees) (at : ℕ) → element_call_breaks names d l w text rest at ≡ element_call_breaks names e l w text rest at
-  call_breaks l word.Equality text rest at =
+  call_breaks : (l : Literals) (w : ElementWord) (c : CallTree) → element_call_breaks names d l w c ≡ element_call_breaks names e l w c
+  call_breaks l word.Equality c =
       let fs = alike.functions in
-      λ i. or_else (equality_breaks names (fs i) rest at) (breaks_if (has_other_value l.values (equality_meant names (fs i) rest)) TwoValues at)
-  call_breaks l word.Negation text rest at =
+      λ i. or_else (equality_breaks names (fs i) c.rest c.at) (value_differs l (equality_meant names (fs i) c.rest) c.at)
+  call_breaks l word.Negation c =
       let ps = alike.predicates in
-      λ i. or_else (negation_breaks names (ps i) rest at) (breaks_if (list_any (fact_eq (negation_meant names (ps i) rest)) l.facts) TwoValues at)
-  call_breaks l word.Fact text rest at =
+      λ i. or_else (negation_breaks names (ps i) c.rest c.at) (fact_said l (negation_meant names (ps i) c.rest) c.at)
+  call_breaks l word.Fact c =
       let ps = alike.predicates in
-      λ i. or_else (ground_breaks names (ps i) text rest at) (breaks_if (list_any (fact_eq (fact_meant names (ps i) text rest)) l.nots) TwoValues at)
+      λ i. or_else (ground_breaks names (ps i) c) (fact_denied l (fact_meant names (ps i) c) c.at)
 
-  with_call : (l : Literals) (w : ElementWord) (text : List ℕ) (rest : FormTrees) → with_element_call names d l w text rest ≡ with_element_call names e l w text rest
-  with_call l word.Equality text rest = ap (λ (fs : List Declared). and_value l (equality_meant names fs rest)) alike.functions
-  with_call l word.Negation text rest = ap (λ (ps : List Declared). and_not l (negation_meant names ps rest)) alike.predicates
-  with_call l word.Fact text rest = ap (λ (ps : List Declared). and_fact l (fact_meant names ps text rest)) alike.predicates
+  with_call : (l : Literals) (w : ElementWord) (c : CallTree) → with_element_call names d l w c ≡ with_element_call names e l w c
+  with_call l word.Equality c = ap (λ (fs : List Declared). and_value l (equality_meant names fs c.rest)) alike.functions
+  with_call l word.Negation c = ap (λ (ps : List Declared). and_not l (negation_meant names ps c.rest)) alike.predicates
+  with_call l word.Fact c = ap (λ (ps : List Declared). and_fact l (fact_meant names ps c)) alike.predicates
+
+  called : (s : Section) (l : Literals) (c : Option CallTree) (at : ℕ) → called_breaks names d s l c at ≡ called_breaks names e s l c at
+  called s l (Some c) at = call_breaks l (element_word s c.word) c
+  called s l None at = refl
 
   one_breaks : (s : Section) (l : Literals) (f : FormTree) → element_breaks names d s l f ≡ element_breaks names e s l f
-  one_breaks s l (symbol text at) = refl
-  one_breaks s l (integer z at) = refl
-  one_breaks s l (list no_form at) = refl
-  one_breaks s l (list (more_forms (symbol text n) rest) at) = call_breaks l (element_word s text) text rest at
-  one_breaks s l (list (more_forms (integer z n) rest) at) = refl
-  one_breaks s l (list (more_forms (list fs n) rest) at) = refl
+  one_breaks s l f = called s l (call_in f) (offset_of f)
+
+  with_some : (s : Section) (l : Literals) (c : Option CallTree) → with_called names d s l c ≡ with_called names e s l c
+  with_some s l (Some c) = with_call l (element_word s c.word) c
+  with_some s l None = refl
 
   with_one : (s : Section) (l : Literals) (f : FormTree) → with_element names d s l f ≡ with_element names e s l f
-  with_one s l (symbol text at) = refl
-  with_one s l (integer z at) = refl
-  with_one s l (list no_form at) = refl
-  with_one s l (list (more_forms (symbol text n) rest) at) = with_call l (element_word s text) text rest
-  with_one s l (list (more_forms (integer z n) rest) at) = refl
-  with_one s l (list (more_forms (list fs n) rest) at) = refl
+  with_one s l f = with_some s l (call_in f)
 
   all_breaks : (s : Section) (l : Literals) (fs : FormTrees) → elements_breaks names d s l fs ≡ elements_breaks names e s l fs
   all_breaks s l no_form = refl

@@ -23,14 +23,14 @@ use Rattle.tl_rules.specs.Rules.{Break, breaks_if}
 use Rattle.tl_rules.proofs.NamesHave.{number-below}
 use Rattle.tl_problem.specs.declared.elements.Section.{Section}
 use Rattle.tl_problem.specs.declared.elements.Section.TheVariants as section
-use Rattle.tl_problem.specs.declared.elements.ElementWord.{ElementWord}
-use Rattle.tl_problem.specs.declared.elements.ElementWord.TheVariants as word
-use Rattle.tl_problem.specs.declared.literals.Literals.{Literals}
+use Rattle.tl_problem.specs.Calls.{CallTree}
+use Rattle.tl_problem.specs.ElementWords.{ElementWord, element_word}
+use Rattle.tl_problem.specs.ElementWords as word
+use Rattle.tl_problem.specs.Literals.{Literals, no_literal, with_fact, with_value, value_at}
 use Rattle.tl_problem.specs.Declarations.{position_of, has_arity, call_breaks_at}
-use Rattle.tl_problem.specs.Elements.{or_else, element_word, element_call_breaks, with_element_call, element_breaks, with_element, elements_breaks, with_elements}
+use Rattle.tl_problem.specs.Elements.{or_else, element_call_breaks, with_element_call, element_breaks, with_element, elements_breaks, with_elements}
 use Rattle.tl_problem.specs.Facts.{ground_breaks, fact_meant, equality_breaks, equality_meant, negation_breaks, negation_meant}
 use Rattle.tl_problem.specs.Keeps.{LiteralsKeep, SectionsKeep}
-use Rattle.tl_problem.specs.Literals.{no_literal, with_fact, with_value, value_at}
 use Rattle.tl_problem.specs.ProblemFiles.{has_problem_shape, section_breaks, section_meant, sections_breaks, sections_meant, problem_form_breaks, problem_form_meant, problem_file_breaks, problem_file_meant}
 use Rattle.tl_rules.specs.Values.{value_meant, values_meant}
 use Rattle.tl_problem.proofs.Consistent.{agrees-with_value, consistent-with_fact, consistent-with_not}
@@ -88,28 +88,30 @@ called-takes declared None n at none = cc
 called-takes declared (Some i) n at none = arity-takes declared i n (test-passes (has_arity declared i n) Arity at none)
 
 -- what `(n c*)` calls takes its values
-ground-takes : (names : List (List ℕ)) (declared : List Declared) (text : List ℕ) (rest : FormTrees) (at : ℕ) → ground_breaks names declared text rest at ≡ [] → Takes (arities declared) (unwrap_or (position_of names declared text) 0) (length (values_meant names rest))
-ground-takes names declared text rest at none =
-    let P : ℕ → Type 0 = λ n. Takes (arities declared) (unwrap_or (position_of names declared text) 0) n in
-    subst P (sym (length-values names rest)) (called-takes declared (position_of names declared text) (count rest) at (none-parts _ _ none).0)
+ground-takes : (names : List (List ℕ)) (declared : List Declared) (c : CallTree) → ground_breaks names declared c ≡ [] → Takes (arities declared) (unwrap_or (position_of names declared c.word) 0) (length (values_meant names c.rest))
+ground-takes names declared c none =
+    let P : ℕ → Type 0 = λ n. Takes (arities declared) (unwrap_or (position_of names declared c.word) 0) n in
+    subst P (sym (length-values names c.rest)) (called-takes declared (position_of names declared c.word) (count c.rest) c.at (none-parts _ _ none).0)
 
 -- a fact that breaks nothing
-fact-kept : (g : Signature) (names : List (List ℕ)) (predicates : List Declared) (text : List ℕ) (rest : FormTrees) (at : ℕ) → arities predicates ≡ g.predicates → HaveNames names rest → ground_breaks names predicates text rest at ≡ [] → FactKeeps g (length names) (fact_meant names predicates text rest)
-fact-kept g names predicates text rest at is have none = record {
-  takes = let P : List ℕ → Type 0 = λ ns. Takes ns (unwrap_or (position_of names predicates text) 0) (length (values_meant names rest)) in subst P is (ground-takes names predicates text rest at none);
-  named = values-named names rest have;
+fact-kept : (g : Signature) (names : List (List ℕ)) (predicates : List Declared) (c : CallTree) → arities predicates ≡ g.predicates → HaveNames names c.rest → ground_breaks names predicates c ≡ [] → FactKeeps g (length names) (fact_meant names predicates c)
+fact-kept g names predicates c is have none = record {
+  takes = let P : List ℕ → Type 0 = λ ns. Takes ns (unwrap_or (position_of names predicates c.word) 0) (length (values_meant names c.rest)) in subst P is (ground-takes names predicates c none);
+  named = values-named names c.rest have;
 }
 
 negation-kept : (g : Signature) (names : List (List ℕ)) (predicates : List Declared) (fs : FormTrees) (at : ℕ) → arities predicates ≡ g.predicates → HaveNames names fs → negation_breaks names predicates fs at ≡ [] → FactKeeps g (length names) (negation_meant names predicates fs)
-negation-kept g names predicates (more_forms (list (more_forms (symbol text s) rest) fact) no_form) at is have none = fact-kept g names predicates text rest fact is have.0.1 none
+negation-kept g names predicates (more_forms (list (more_forms (symbol text s) rest) fact) no_form) at is have none = fact-kept g names predicates (record { word = text; rest = rest; at = fact }) is have.0.1 none
+negation-kept g names predicates (more_forms f no_form) at is have none = cc
 negation-kept g names predicates fs at is have none = cc
 
 equality-kept : (g : Signature) (names : List (List ℕ)) (functions : List Declared) (fs : FormTrees) (at : ℕ) → arities functions ≡ g.functions → HaveNames names fs → equality_breaks names functions fs at ≡ [] → PlaceKeeps g (length names) (equality_meant names functions fs)
 equality-kept g names functions (more_forms (list (more_forms (symbol text s) rest) place) (more_forms value no_form)) at is have none = record {
-  takes = let P : List ℕ → Type 0 = λ ns. Takes ns (unwrap_or (position_of names functions text) 0) (length (values_meant names rest)) in subst P is (ground-takes names functions text rest place (none-parts _ _ none).0);
+  takes = let P : List ℕ → Type 0 = λ ns. Takes ns (unwrap_or (position_of names functions text) 0) (length (values_meant names rest)) in subst P is (ground-takes names functions (record { word = text; rest = rest; at = place }) (none-parts _ _ none).0);
   named = values-named names rest have.0.1;
   value = value-named names value have.1.0;
 }
+equality-kept g names functions (more_forms f (more_forms value no_form)) at is have none = cc
 equality-kept g names functions fs at is have none = cc
 
 -- lists with one more
@@ -128,40 +130,40 @@ Each-with_value P values x h p = by_test (is_some (value_at values (x.fun, x.arg
     by_test false = Each-last P values x h p
 
 -- an element that breaks nothing, after others that keep this
-element_call-kept : (names : List (List ℕ)) (d : Domain) (l : Literals) (w : ElementWord) (text : List ℕ) (rest : FormTrees) (at : ℕ) → HaveNames names rest → element_call_breaks names d l w text rest at ≡ [] → LiteralsKeep (signature_of d) (length names) l → LiteralsKeep (signature_of d) (length names) (with_element_call names d l w text rest)
-element_call-kept names d l word.Equality text rest at have none kept =
+element_call-kept : (names : List (List ℕ)) (d : Domain) (l : Literals) (w : ElementWord) (c : CallTree) → HaveNames names c.rest → element_call_breaks names d l w c ≡ [] → LiteralsKeep (signature_of d) (length names) l → LiteralsKeep (signature_of d) (length names) (with_element_call names d l w c)
+element_call-kept names d l word.Equality c have none kept =
     let parts = else-parts _ _ none in
-    let more = equality-kept (signature_of d) names d.functions rest at refl have parts.0 in
+    let more = equality-kept (signature_of d) names d.functions c.rest c.at refl have parts.0 in
     record {
       facts = kept.facts;
-      values = Each-with_value (PlaceKeeps (signature_of d) (length names)) l.values (equality_meant names d.functions rest) kept.values more;
+      values = Each-with_value (PlaceKeeps (signature_of d) (length names)) l.values (equality_meant names d.functions c.rest) kept.values more;
       nots = kept.nots;
-      agrees = agrees-with_value l.values (equality_meant names d.functions rest) kept.agrees;
+      agrees = agrees-with_value l.values (equality_meant names d.functions c.rest) kept.agrees;
       consistent = kept.consistent;
     }
-element_call-kept names d l word.Negation text rest at have none kept =
+element_call-kept names d l word.Negation c have none kept =
     let parts = else-parts _ _ none in
-    let more = negation-kept (signature_of d) names d.predicates rest at refl have parts.0 in
+    let more = negation-kept (signature_of d) names d.predicates c.rest c.at refl have parts.0 in
     record {
       facts = kept.facts;
       values = kept.values;
-      nots = Each-with_fact (FactKeeps (signature_of d) (length names)) l.nots (negation_meant names d.predicates rest) kept.nots more;
+      nots = Each-with_fact (FactKeeps (signature_of d) (length names)) l.nots (negation_meant names d.predicates c.rest) kept.nots more;
       agrees = kept.agrees;
-      consistent = consistent-with_not l.facts l.nots (negation_meant names d.predicates rest) kept.consistent (test-fails _ TwoValues at parts.1);
+      consistent = consistent-with_not l.facts l.nots (negation_meant names d.predicates c.rest) kept.consistent (test-fails _ TwoValues c.at parts.1);
     }
-element_call-kept names d l word.Fact text rest at have none kept =
+element_call-kept names d l word.Fact c have none kept =
     let parts = else-parts _ _ none in
-    let more = fact-kept (signature_of d) names d.predicates text rest at refl have parts.0 in
+    let more = fact-kept (signature_of d) names d.predicates c refl have parts.0 in
     record {
-      facts = Each-with_fact (FactKeeps (signature_of d) (length names)) l.facts (fact_meant names d.predicates text rest) kept.facts more;
+      facts = Each-with_fact (FactKeeps (signature_of d) (length names)) l.facts (fact_meant names d.predicates c) kept.facts more;
       values = kept.values;
       nots = kept.nots;
       agrees = kept.agrees;
-      consistent = consistent-with_fact l.facts l.nots (fact_meant names d.predicates text rest) kept.consistent (test-fails _ TwoValues at parts.1);
+      consistent = consistent-with_fact l.facts l.nots (fact_meant names d.predicates c) kept.consistent (test-fails _ TwoValues c.at parts.1);
     }
 
 element-kept : (names : List (List ℕ)) (d : Domain) (s : Section) (l : Literals) (f : FormTree) → HasNames names f → element_breaks names d s l f ≡ [] → LiteralsKeep (signature_of d) (length names) l → LiteralsKeep (signature_of d) (length names) (with_element names d s l f)
-element-kept names d s l (list (more_forms (symbol text t) rest) at) have none kept = element_call-kept names d l (element_word s text) text rest at have.1 none kept
+element-kept names d s l (list (more_forms (symbol text t) rest) at) have none kept = element_call-kept names d l (element_word s text) (record { word = text; rest = rest; at = at }) have.1 none kept
 element-kept names d s l f have none kept = cc
 
 elements-kept : (names : List (List ℕ)) (d : Domain) (s : Section) (l : Literals) (fs : FormTrees) → HaveNames names fs → elements_breaks names d s l fs ≡ [] → LiteralsKeep (signature_of d) (length names) l → LiteralsKeep (signature_of d) (length names) (with_elements names d s l fs)

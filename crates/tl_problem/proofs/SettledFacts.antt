@@ -32,8 +32,9 @@ use Rattle.tl_renumber.specs.Numbers as table
 use Rattle.tl_renumber.specs.Renumbered.{renumbered_value, renumbered_values, renumbered_fact, renumbered_place}
 use Rattle.tl_renumber.specs.RenumberedDomain.{renumbered_declaration}
 use Rattle.tl_renumber.proofs.SettledNumbers.{numbers-differ, texts-stay}
-use Rattle.tl_problem.specs.Declarations.{position_of, has_arity, call_breaks_at}
-use Rattle.tl_problem.specs.Facts.{ground_breaks, position_meant, fact_meant, equality_breaks, equality_meant, negation_breaks, negation_meant}
+use Rattle.tl_problem.specs.Calls.{CallTree}
+use Rattle.tl_problem.specs.Declarations.{position_of, position_meant, has_arity, call_breaks_at}
+use Rattle.tl_problem.specs.Facts.{ground_breaks, fact_meant, equality_breaks, equality_meant, negation_breaks, negation_meant}
 use Rattle.tl_problem.specs.Literals.{with_fact, same_place, value_at, with_value, has_other_value}
 use Rattle.tl_rules.specs.Values.{value_meant, values_meant}
 use Rattle.tl_problem.specs.Values.{value_breaks, values_breaks}
@@ -108,22 +109,24 @@ module _ (r : Renumbering) (old new : List (List ℕ)) (renames : Renames r old 
   call-new ds es is None n at = refl
   call-new ds es is (Some i) n at = ap (λ (b : Bool). breaks_if (not b) Arity at) (ap (λ xs. has_arity xs i n) is ∙ arity-new ds i n)
 
-  pub ground-new : (ds es : List Declared) → es ≡ map (renumbered_declaration r) ds → Each (DeclarationKeeps (length old)) ds → (text : List ℕ) (rest : FormTrees) (at : ℕ) → list_any (bytes_eq text) old ≡ true → ground_breaks new es text rest at ≡ ground_breaks old ds text rest at
-  ground-new ds es is kept text rest at has =
-      ap (λ (found : Option ℕ). call_breaks_at es found (count rest) at ++ values_breaks rest) (position-new ds es is kept text has)
-      ∙ ap (λ (bs : List Break). bs ++ values_breaks rest) (call-new ds es is (position_of old ds text) (count rest) at)
+  pub ground-new : (ds es : List Declared) → es ≡ map (renumbered_declaration r) ds → Each (DeclarationKeeps (length old)) ds → (c : CallTree) → list_any (bytes_eq c.word) old ≡ true → ground_breaks new es c ≡ ground_breaks old ds c
+  ground-new ds es is kept c has =
+      ap (λ (found : Option ℕ). call_breaks_at es found (count c.rest) c.at ++ values_breaks c.rest) (position-new ds es is kept c.word has)
+      ∙ ap (λ (bs : List Break). bs ++ values_breaks c.rest) (call-new ds es is (position_of old ds c.word) (count c.rest) c.at)
 
   meant-new : (ds es : List Declared) → es ≡ map (renumbered_declaration r) ds → Each (DeclarationKeeps (length old)) ds → (text : List ℕ) → list_any (bytes_eq text) old ≡ true → position_meant new es text ≡ position_meant old ds text
   meant-new ds es is kept text has = ap (λ (found : Option ℕ). unwrap_or found 0) (position-new ds es is kept text has)
 
-  pub fact-new : (ds es : List Declared) → es ≡ map (renumbered_declaration r) ds → Each (DeclarationKeeps (length old)) ds → (text : List ℕ) (rest : FormTrees) → list_any (bytes_eq text) old ≡ true → HaveNames old rest → fact_meant new es text rest ≡ renumbered_fact r (fact_meant old ds text rest)
-  fact-new ds es is kept text rest has have =
+  pub fact-new : (ds es : List Declared) → es ≡ map (renumbered_declaration r) ds → Each (DeclarationKeeps (length old)) ds → (c : CallTree) → list_any (bytes_eq c.word) old ≡ true → HaveNames old c.rest → fact_meant new es c ≡ renumbered_fact r (fact_meant old ds c)
+  fact-new ds es is kept c has have =
       let make : ℕ → List Value → Fact = λ p vs. record { pred = p; args = vs } in
-      ap₂ make (meant-new ds es is kept text has) (values-new rest have)
+      ap₂ make (meant-new ds es is kept c.word has) (values-new c.rest have)
 
   pub negation-new : (ds es : List Declared) → es ≡ map (renumbered_declaration r) ds → Each (DeclarationKeeps (length old)) ds → (fs : FormTrees) (at : ℕ) → HaveNames old fs → (negation_breaks new es fs at ≡ negation_breaks old ds fs at) × (negation_meant new es fs ≡ renumbered_fact r (negation_meant old ds fs))
   negation-new ds es is kept (more_forms (list (more_forms (symbol text s) rest) fact) no_form) at have =
-      (ground-new ds es is kept text rest fact have.0.0, fact-new ds es is kept text rest have.0.0 have.0.1)
+      let c : CallTree = record { word = text; rest = rest; at = fact } in
+      (ground-new ds es is kept c have.0.0, fact-new ds es is kept c have.0.0 have.0.1)
+  negation-new ds es is kept (more_forms f no_form) at have = (refl, refl)
   negation-new ds es is kept fs at have = (refl, refl)
 
   pub equality-new : (ds es : List Declared) → es ≡ map (renumbered_declaration r) ds → Each (DeclarationKeeps (length old)) ds → (fs : FormTrees) (at : ℕ) → HaveNames old fs → (equality_breaks new es fs at ≡ equality_breaks old ds fs at) × (equality_meant new es fs ≡ renumbered_place r (equality_meant old ds fs))
@@ -131,7 +134,8 @@ module _ (r : Renumbering) (old new : List (List ℕ)) (renames : Renames r old 
       let p = meant-new ds es is kept text have.0.0 in
       let vs = values-new rest have.0.1 in
       let v = value-new value have.1.0 in
-      (ap (λ (bs : List Break). bs ++ value_breaks value) (ground-new ds es is kept text rest place have.0.0), λ i. record { fun = p i; args = vs i; value = v i })
+      (ap (λ (bs : List Break). bs ++ value_breaks value) (ground-new ds es is kept (record { word = text; rest = rest; at = place }) have.0.0), λ i. record { fun = p i; args = vs i; value = v i })
+  equality-new ds es is kept (more_forms f (more_forms value no_form)) at have = (refl, refl)
   equality-new ds es is kept fs at have = (refl, refl)
 
   -- where two are the same

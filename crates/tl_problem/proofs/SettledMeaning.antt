@@ -24,12 +24,12 @@ use Rattle.tl_renumber.specs.RenumberedDomain.{renumbered_declaration}
 use Rattle.tl_renumber.specs.RenumberingKeeps.{IsRenumbered}
 use Rattle.tl_problem.specs.declared.elements.Section.{Section}
 use Rattle.tl_problem.specs.declared.elements.Section.TheVariants as section
-use Rattle.tl_problem.specs.declared.elements.ElementWord.{ElementWord}
-use Rattle.tl_problem.specs.declared.elements.ElementWord.TheVariants as word
-use Rattle.tl_problem.specs.declared.literals.Literals.{Literals}
-use Rattle.tl_problem.specs.Elements.{or_else, element_word, element_call_breaks, with_element_call, element_breaks, with_element, elements_breaks, with_elements}
+use Rattle.tl_problem.specs.Calls.{CallTree}
+use Rattle.tl_problem.specs.ElementWords.{ElementWord, element_word}
+use Rattle.tl_problem.specs.ElementWords as word
+use Rattle.tl_problem.specs.Literals.{Literals, no_literal, with_fact, with_value, has_other_value}
+use Rattle.tl_problem.specs.Elements.{or_else, element_call_breaks, with_element_call, element_breaks, with_element, elements_breaks, with_elements}
 use Rattle.tl_problem.specs.Facts.{fact_meant, equality_meant, negation_meant}
-use Rattle.tl_problem.specs.Literals.{no_literal, with_fact, with_value, has_other_value}
 use Rattle.tl_rules.specs.OneForm.{second_form_breaks}
 use Rattle.tl_problem.specs.ProblemFiles.{has_problem_shape, section_breaks, section_meant, sections_breaks, sections_meant, problem_form_breaks, problem_form_meant, problem_file_breaks, problem_file_meant}
 use Rattle.tl_problem.specs.Problems.{IsProblemOf, all_names, breaks_of, said_by}
@@ -62,10 +62,12 @@ declares r n d e same kept = record {
 
 equality-named : (names : List (List ℕ)) (ds : List Declared) (fs : FormTrees) → HaveNames names fs → PlaceIsNamed (length names) (equality_meant names ds fs)
 equality-named names ds (more_forms (list (more_forms (symbol text s) rest) place) (more_forms value no_form)) have = (values-named names rest have.0.1, value-named names value have.1.0)
+equality-named names ds (more_forms f (more_forms value no_form)) have = (tt, tt)
 equality-named names ds fs have = (tt, tt)
 
 negation-named : (names : List (List ℕ)) (ds : List Declared) (fs : FormTrees) → HaveNames names fs → FactIsNamed (length names) (negation_meant names ds fs)
 negation-named names ds (more_forms (list (more_forms (symbol text s) rest) fact) no_form) have = values-named names rest have.0.1
+negation-named names ds (more_forms f no_form) have = tt
 negation-named names ds fs have = tt
 
 module _ (r : Renumbering) (old new : List (List ℕ)) (renames : Renames r old new) (d e : Domain) (declared : Declares r (length old) d e) where
@@ -75,52 +77,52 @@ module _ (r : Renumbering) (old new : List (List ℕ)) (renames : Renames r old 
     meant : with_element new e s (renumbered_literals r l) f ≡ renumbered_literals r (with_element old d s l f)
     named : LiteralsNamed (length old) (with_element old d s l f)
 
-  record SameCall (l : Literals) (w : ElementWord) (text : List ℕ) (rest : FormTrees) (at : ℕ) : Type 0 where
-    breaks : element_call_breaks new e (renumbered_literals r l) w text rest at ≡ element_call_breaks old d l w text rest at
-    meant : with_element_call new e (renumbered_literals r l) w text rest ≡ renumbered_literals r (with_element_call old d l w text rest)
-    named : LiteralsNamed (length old) (with_element_call old d l w text rest)
+  record SameCall (l : Literals) (w : ElementWord) (c : CallTree) : Type 0 where
+    breaks : element_call_breaks new e (renumbered_literals r l) w c ≡ element_call_breaks old d l w c
+    meant : with_element_call new e (renumbered_literals r l) w c ≡ renumbered_literals r (with_element_call old d l w c)
+    named : LiteralsNamed (length old) (with_element_call old d l w c)
 
-  call-same : (l : Literals) (w : ElementWord) (text : List ℕ) (rest : FormTrees) (at : ℕ) → list_any (bytes_eq text) old ≡ true → HaveNames old rest → LiteralsNamed (length old) l → SameCall l w text rest at
-  call-same l word.Equality text rest at has have named =
-      let x = equality_meant old d.functions rest in
-      let same = equality-new r old new renames d.functions e.functions declared.functions declared.named_functions rest at have in
-      let here = equality-named old d.functions rest have in
+  call-same : (l : Literals) (w : ElementWord) (c : CallTree) → list_any (bytes_eq c.word) old ≡ true → HaveNames old c.rest → LiteralsNamed (length old) l → SameCall l w c
+  call-same l word.Equality c has have named =
+      let x = equality_meant old d.functions c.rest in
+      let same = equality-new r old new renames d.functions e.functions declared.functions declared.named_functions c.rest c.at have in
+      let here = equality-named old d.functions c.rest have in
       let values = map (renumbered_place r) l.values in
       let make : List PlaceValue → Literals = λ vs. record { facts = map (renumbered_fact r) l.facts; values = vs; nots = map (renumbered_fact r) l.nots } in
       record {
-        breaks = ap₂ or_else same.0 (ap (λ (b : Bool). breaks_if b TwoValues at) (ap (has_other_value values) same.1 ∙ other-new r old new renames l.values x named.values here));
+        breaks = ap₂ or_else same.0 (ap (λ (b : Bool). breaks_if b TwoValues c.at) (ap (has_other_value values) same.1 ∙ other-new r old new renames l.values x named.values here));
         meant = ap make (ap (with_value values) same.1 ∙ with_value-new r old new renames l.values x named.values here);
         named = record { facts = named.facts; values = Each-with_value (PlaceIsNamed (length old)) l.values x named.values here; nots = named.nots };
       }
-  call-same l word.Negation text rest at has have named =
-      let x = negation_meant old d.predicates rest in
-      let same = negation-new r old new renames d.predicates e.predicates declared.predicates declared.named_predicates rest at have in
-      let here = negation-named old d.predicates rest have in
+  call-same l word.Negation c has have named =
+      let x = negation_meant old d.predicates c.rest in
+      let same = negation-new r old new renames d.predicates e.predicates declared.predicates declared.named_predicates c.rest c.at have in
+      let here = negation-named old d.predicates c.rest have in
       let facts = map (renumbered_fact r) l.facts in
       let nots = map (renumbered_fact r) l.nots in
       let make : List Fact → Literals = λ ns. record { facts = facts; values = map (renumbered_place r) l.values; nots = ns } in
       record {
-        breaks = ap₂ or_else same.0 (ap (λ (b : Bool). breaks_if b TwoValues at) (ap (λ (y : Fact). list_any (fact_eq y) facts) same.1 ∙ known-new r old new renames x l.facts here named.facts));
+        breaks = ap₂ or_else same.0 (ap (λ (b : Bool). breaks_if b TwoValues c.at) (ap (λ (y : Fact). list_any (fact_eq y) facts) same.1 ∙ known-new r old new renames x l.facts here named.facts));
         meant = ap make (ap (with_fact nots) same.1 ∙ with_fact-new r old new renames l.nots x named.nots here);
         named = record { facts = named.facts; values = named.values; nots = Each-with_fact (FactIsNamed (length old)) l.nots x named.nots here };
       }
-  call-same l word.Fact text rest at has have named =
-      let x = fact_meant old d.predicates text rest in
-      let same = fact-new r old new renames d.predicates e.predicates declared.predicates declared.named_predicates text rest has have in
-      let here = values-named old rest have in
+  call-same l word.Fact c has have named =
+      let x = fact_meant old d.predicates c in
+      let same = fact-new r old new renames d.predicates e.predicates declared.predicates declared.named_predicates c has have in
+      let here = values-named old c.rest have in
       let facts = map (renumbered_fact r) l.facts in
       let nots = map (renumbered_fact r) l.nots in
       let make : List Fact → Literals = λ fs. record { facts = fs; values = map (renumbered_place r) l.values; nots = nots } in
       record {
-        breaks = ap₂ or_else (ground-new r old new renames d.predicates e.predicates declared.predicates declared.named_predicates text rest at has)
-            (ap (λ (b : Bool). breaks_if b TwoValues at) (ap (λ (y : Fact). list_any (fact_eq y) nots) same ∙ known-new r old new renames x l.nots here named.nots));
+        breaks = ap₂ or_else (ground-new r old new renames d.predicates e.predicates declared.predicates declared.named_predicates c has)
+            (ap (λ (b : Bool). breaks_if b TwoValues c.at) (ap (λ (y : Fact). list_any (fact_eq y) nots) same ∙ known-new r old new renames x l.nots here named.nots));
         meant = ap make (ap (with_fact facts) same ∙ with_fact-new r old new renames l.facts x named.facts here);
         named = record { facts = Each-with_fact (FactIsNamed (length old)) l.facts x named.facts here; values = named.values; nots = named.nots };
       }
 
   element-same : (s : Section) (l : Literals) (f : FormTree) → HasNames old f → LiteralsNamed (length old) l → Same s l f
   element-same s l (list (more_forms (symbol text t) rest) at) have named =
-      let call = call-same l (element_word s text) text rest at have.0 have.1 named in
+      let call = call-same l (element_word s text) (record { word = text; rest = rest; at = at }) have.0 have.1 named in
       record { breaks = call.breaks; meant = call.meant; named = call.named }
   element-same s l f have named = record { breaks = refl; meant = refl; named = named }
 
@@ -172,15 +174,15 @@ settled-same numbers old new d e forms settled same kept have =
 
 -- ---- nothing is negated at first
 
-init-word : (text : List ℕ) (rest : FormTrees) (names : List (List ℕ)) (d : Domain) (l : Literals) → l.nots ≡ [] → (with_element_call names d l (element_word section.Init text) text rest).nots ≡ []
-init-word text rest names d l none = by_test (bytes_eq text (codes "="))
+init-word : (c : CallTree) (names : List (List ℕ)) (d : Domain) (l : Literals) → l.nots ≡ [] → (with_element_call names d l (element_word section.Init c.word) c).nots ≡ []
+init-word c names d l none = by_test (bytes_eq c.word (codes "="))
   where
-    by_test : (b : Bool) → (with_element_call names d l (if b then word.Equality else word.Fact) text rest).nots ≡ []
+    by_test : (b : Bool) → (with_element_call names d l (if b then word.Equality else word.Fact) c).nots ≡ []
     by_test true = none
     by_test false = none
 
 init-element : (names : List (List ℕ)) (d : Domain) (l : Literals) (f : FormTree) → l.nots ≡ [] → (with_element names d section.Init l f).nots ≡ []
-init-element names d l (list (more_forms (symbol text t) rest) at) none = init-word text rest names d l none
+init-element names d l (list (more_forms (symbol text t) rest) at) none = init-word (record { word = text; rest = rest; at = at }) names d l none
 init-element names d l f none = none
 
 init-elements : (names : List (List ℕ)) (d : Domain) (l : Literals) (fs : FormTrees) → l.nots ≡ [] → (with_elements names d section.Init l fs).nots ≡ []

@@ -13,11 +13,11 @@ use Rattle.tl_renumber.specs.RenumberingKeeps.{IsRenumbered}
 use Rattle.tl_renumber.proofs.Keeping.{signature-stays, domain-keeps}
 use Rattle.tl_renumber.proofs.KeysStay.{facts-keep, places-keep, places-agree, facts-share}
 use Rattle.tl_renumber.proofs.SettledNumbers.{numbers-stay, numbers-differ}
-use Rattle.tl_problem.specs.declared.literals.Literals.{Literals}
-use Rattle.tl_problem.specs.declared.sections.Sections.{Sections}
+use Rattle.tl_problem.specs.Literals.{Literals}
+use Rattle.tl_problem.specs.Sections.{Sections}
 use Rattle.tl_problem.specs.declared.settled.Lists.{Lists}
 use Rattle.tl_problem.specs.Keeps.{LiteralsKeep, SectionsKeep}
-use Rattle.tl_problem.specs.Problems.{AreSettled}
+use Rattle.tl_problem.specs.SettledLists.{AreSettled}
 
 -- the lists of a section, with so many names: what a problem keeps of them
 pub record ListsKeep (g : Signature) (n : ℕ) (l : Lists) : Type 0 where

@@ -4,8 +4,8 @@ use Rattle.tl_syntax.specs.Kept.{FactKeeps, PlaceKeeps}
 use Rattle.tl_syntax.specs.Keys.{fact_key, place_entry, no_clash, share_key}
 use Rattle.tl_syntax.specs.Lists.{Each}
 use Rattle.tl_syntax.specs.Signature.{Signature}
-use Rattle.tl_problem.specs.declared.literals.Literals.{Literals}
-use Rattle.tl_problem.specs.declared.sections.Sections.{Sections}
+use Rattle.tl_problem.specs.Literals.{Literals}
+use Rattle.tl_problem.specs.Sections.{Sections}
 
 -- with n names: facts and places take their values, no place has two values, and no fact is also negated
 pub record LiteralsKeep (g : Signature) (n : ℕ) (l : Literals) : Type 0 where

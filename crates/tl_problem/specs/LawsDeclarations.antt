@@ -11,4 +11,7 @@ pub record DeclareAlike (d e : Domain) : Type 0 where
 
 -- of a domain, what a problem file breaks and says goes by its predicates and functions alone
 abbrev pub FilesGoByDeclarations : Type 0
-FilesGoByDeclarations = (names : List (List ℕ)) (d e : Domain) (forms : FormTrees) → DeclareAlike d e → (problem_file_breaks names d forms ≡ problem_file_breaks names e forms) × (problem_file_meant names d forms ≡ problem_file_meant names e forms)
+FilesGoByDeclarations =
+    (names : List (List ℕ)) (d e : Domain) (forms : FormTrees) → DeclareAlike d e
+    → (problem_file_breaks names d forms ≡ problem_file_breaks names e forms)
+    × (problem_file_meant names d forms ≡ problem_file_meant names e forms)

@@ -9,4 +9,7 @@ use Rattle.tl_problem.specs.ProblemFiles.{problem_file_breaks, problem_file_mean
 
 -- what the forms of a problem file say that break no rule keeps what a problem keeps
 abbrev pub LawfulProblemKeeps : Type 0
-LawfulProblemKeeps = (names : List (List ℕ)) (d : Domain) (forms : FormTrees) → problem_file_breaks names d forms ≡ [] → HaveNames names forms → SectionsKeep (signature_of d) (length names) (problem_file_meant names d forms)
+LawfulProblemKeeps =
+    (names : List (List ℕ)) (d : Domain) (forms : FormTrees)
+    → problem_file_breaks names d forms ≡ [] → HaveNames names forms
+    → SectionsKeep (signature_of d) (length names) (problem_file_meant names d forms)

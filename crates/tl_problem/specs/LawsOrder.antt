@@ -8,4 +8,7 @@ use Rattle.tl_problem.specs.ProblemFiles.{problem_file_breaks}
 
 -- of the breaks of a problem file as it is read, the first in reading order has the least offset, and there the least rule
 abbrev pub FirstBreakIsLeast : Type 0
-FirstBreakIsLeast = (names : List (List ℕ)) (d : Domain) (forms : FormTrees) (b : Break) → AreAsRead forms → first_break (problem_file_breaks names d forms) ≡ Some b → IsLeastBreak (problem_file_breaks names d forms) b
+FirstBreakIsLeast =
+    (names : List (List ℕ)) (d : Domain) (forms : FormTrees) (b : Break)
+    → AreAsRead forms → first_break (problem_file_breaks names d forms) ≡ Some b
+    → IsLeastBreak (problem_file_breaks names d forms) b

@@ -14,10 +14,16 @@ use Rattle.tl_renumber.specs.RenumberingKeeps.{IsRenumbered}
 
 -- the forms break the same rules, and say the same with the new numbers
 abbrev pub SettledFileSaysTheSame : Type 0
-SettledFileSaysTheSame = (numbers : List ℕ) (old new : List (List ℕ)) (d e : Domain) (forms : FormTrees) → IsSettled numbers old new → IsRenumbered (number_in numbers) d e → DomainKeeps (length old) d → HaveNames old forms
-    → (problem_file_breaks new e forms ≡ problem_file_breaks old d forms) × (problem_file_meant new e forms ≡ renumbered_sections (number_in numbers) (problem_file_meant old d forms))
+SettledFileSaysTheSame =
+    (numbers : List ℕ) (old new : List (List ℕ)) (d e : Domain) (forms : FormTrees)
+    → IsSettled numbers old new → IsRenumbered (number_in numbers) d e → DomainKeeps (length old) d → HaveNames old forms
+    → (problem_file_breaks new e forms ≡ problem_file_breaks old d forms)
+    × (problem_file_meant new e forms ≡ renumbered_sections (number_in numbers) (problem_file_meant old d forms))
 
 -- a problem of a file is just what the file says with the problem's own domain and names
 abbrev pub ProblemSaysItsFile : Type 0
-ProblemSaysItsFile = (names : List (List ℕ)) (d : Domain) (forms : FormTrees) (p : Problem) → DomainKeeps (length names) d → IsProblemOf names d forms p
-    → (problem_file_breaks p.names p.domain forms ≡ breaks_of names d forms) × (problem_file_meant p.names p.domain forms ≡ sections_of p)
+ProblemSaysItsFile =
+    (names : List (List ℕ)) (d : Domain) (forms : FormTrees) (p : Problem)
+    → DomainKeeps (length names) d → IsProblemOf names d forms p
+    → (problem_file_breaks p.names p.domain forms ≡ breaks_of names d forms)
+    × (problem_file_meant p.names p.domain forms ≡ sections_of p)

@@ -1,7 +1,7 @@
 -- What the elements of `init` or of `goal` say together: facts, places with values, and negated facts.
 --
 -- A fact that is written twice counts once, where it stands first; so does a place that is written twice with one value.
-use Rattle.std.specs.Prelude.{List, [], ◌∷◌, ◌++◌, Bool, false, ◌&&◌, ◌==◌, not, Option, if◌then◌else◌, is_some, map}
+use Rattle.std.specs.Prelude.{ℕ, List, [], ◌∷◌, ◌++◌, Bool, false, ◌&&◌, ◌==◌, not, Option, if◌then◌else◌, is_some, map}
 use Rattle.std.specs.List.{list_any}
 use Rattle.std.specs.Map.{lookup}
 use Rattle.std.specs.Option.{option_map_or}
@@ -10,7 +10,14 @@ use Rattle.tl_syntax.specs.declared.place_value.PlaceValue.{PlaceValue}
 use Rattle.tl_syntax.specs.declared.value.Value.{Value}
 use Rattle.tl_syntax.specs.DerivedTests.{value_eq, values_eq, fact_eq}
 use Rattle.tl_syntax.specs.Keys.{Key, place_entry}
-use Rattle.tl_problem.specs.declared.literals.Literals.{Literals}
+use Rattle.tl_rules.specs.declared.rule.Rule.TheVariants.{TwoValues}
+use Rattle.tl_rules.specs.Rules.{Break, breaks_if}
+
+-- what elements say: facts, places with values, and facts that are to be false
+pub record Literals : Type 0 where
+  pub facts : List Fact
+  pub values : List PlaceValue
+  pub nots : List Fact
 
 -- the facts with this one, at the end where it is new
 abbrev pub with_fact : List Fact → Fact → List Fact
@@ -45,3 +52,14 @@ and_value l x = record { facts = l.facts; values = with_value l.values x; nots =
 
 abbrev pub and_not : Literals → Fact → Literals
 and_not l f = record { facts = l.facts; values = l.values; nots = with_fact l.nots f }
+
+-- what an element at an offset breaks beside what is said: its fact is negated there, the fact that it negates is
+-- said there, or its place has another value there
+abbrev pub fact_denied : Literals → Fact → ℕ → List Break
+fact_denied l f at = breaks_if (list_any (fact_eq f) l.nots) TwoValues at
+
+abbrev pub fact_said : Literals → Fact → ℕ → List Break
+fact_said l f at = breaks_if (list_any (fact_eq f) l.facts) TwoValues at
+
+abbrev pub value_differs : Literals → PlaceValue → ℕ → List Break
+value_differs l x at = breaks_if (has_other_value l.values x) TwoValues at

@@ -1,5 +1,5 @@
 -- Problem files: the rules that the forms of a file break in reading order, and what they say.
-use Rattle.std.specs.Prelude.{ℕ, List, [], ◌∷◌, ◌++◌, Bool, false, ◌&&◌, nat_lt, codes, if◌then◌else◌}
+use Rattle.std.specs.Prelude.{List, ℕ, [], ◌∷◌, ◌++◌, Bool, false, ◌&&◌, nat_lt, codes, if◌then◌else◌}
 use Rattle.tl_sexpr.specs.Tree.{FormTree, FormTrees, symbol, integer, list, no_form, more_forms}
 use Rattle.tl_syntax.specs.declared.domain.Domain.{Domain}
 use Rattle.tl_rules.specs.declared.rule.Rule.TheVariants.{Shape, Limit}
@@ -8,15 +8,10 @@ use Rattle.tl_rules.specs.Rules.{Break, breaks_if}
 use Rattle.tl_rules.specs.Parts.{offset_of, count, is_name, is_word, rest_of}
 use Rattle.tl_problem.specs.declared.elements.Section.{Section}
 use Rattle.tl_problem.specs.declared.elements.Section.TheVariants as section
-use Rattle.tl_problem.specs.declared.literals.Literals.{Literals}
-use Rattle.tl_problem.specs.declared.sections.Sections.{Sections}
+use Rattle.tl_problem.specs.Calls.{begins_with}
 use Rattle.tl_problem.specs.Elements.{elements_breaks, with_elements}
-use Rattle.tl_problem.specs.Literals.{no_literal}
-
--- the form is a list that begins with this word
-abbrev pub begins_with : List ℕ → FormTree → Bool
-begins_with word (list (more_forms f fs) at) = is_word word f
-begins_with word _ = false
+use Rattle.tl_problem.specs.Literals.{Literals, no_literal}
+use Rattle.tl_problem.specs.Sections.{Sections, no_sections}
 
 -- the elements of the problem form are the word `problem`, a name, a list that begins with `init` and one that begins with `goal`
 abbrev pub has_problem_shape : FormTrees → Bool
@@ -26,7 +21,8 @@ has_problem_shape _ = false
 
 -- what an `init` or a `goal` form breaks, with its elements, of which there may be 4,096
 abbrev pub section_breaks : List (List ℕ) → Domain → Section → FormTree → List Break
-section_breaks names d s f = breaks_if (nat_lt 4096 (count (rest_of f))) Limit (offset_of f) ++ elements_breaks names d s no_literal (rest_of f)
+section_breaks names d s f =
+    breaks_if (nat_lt 4096 (count (rest_of f))) Limit (offset_of f) ++ elements_breaks names d s no_literal (rest_of f)
 
 -- what the `init` and the `goal` form of a problem form break, by all its elements
 abbrev pub sections_breaks : List (List ℕ) → Domain → FormTrees → List Break
@@ -53,15 +49,15 @@ section_meant names d s f = with_elements names d s no_literal (rest_of f)
 abbrev pub sections_meant : List (List ℕ) → Domain → FormTrees → Sections
 sections_meant names d (more_forms word (more_forms name (more_forms init (more_forms goal no_form)))) =
     record { init = section_meant names d section.Init init; goal = section_meant names d section.Goal goal }
-sections_meant names d _ = record { init = no_literal; goal = no_literal }
+sections_meant names d _ = no_sections
 
 -- what the problem form says
 abbrev pub problem_form_meant : List (List ℕ) → Domain → FormTree → Sections
 problem_form_meant names d (list fs at) = sections_meant names d fs
-problem_form_meant names d (symbol text at) = record { init = no_literal; goal = no_literal }
-problem_form_meant names d (integer z at) = record { init = no_literal; goal = no_literal }
+problem_form_meant names d (symbol text at) = no_sections
+problem_form_meant names d (integer z at) = no_sections
 
 -- what the forms of a problem file say
 abbrev pub problem_file_meant : List (List ℕ) → Domain → FormTrees → Sections
-problem_file_meant names d no_form = record { init = no_literal; goal = no_literal }
+problem_file_meant names d no_form = no_sections
 problem_file_meant names d (more_forms f fs) = problem_form_meant names d f

@@ -5,19 +5,11 @@ use Rattle.tl_syntax.specs.declared.domain.Domain.{Domain}
 use Rattle.tl_syntax.specs.declared.problem.Problem.{Problem}
 use Rattle.tl_rules.specs.Rules.{Break}
 use Rattle.tl_rules.specs.Symbols.{names_with_all}
-use Rattle.tl_problem.specs.declared.literals.Literals.{Literals}
-use Rattle.tl_problem.specs.declared.settled.Lists.{Lists}
-use Rattle.tl_problem.specs.declared.sections.Sections.{Sections}
+use Rattle.tl_problem.specs.Sections.{Sections}
 use Rattle.tl_problem.specs.ProblemFiles.{problem_file_breaks, problem_file_meant}
 use Rattle.tl_renumber.specs.Numbers.{number_in, IsSettled}
 use Rattle.tl_renumber.specs.Renumbered.{renumbered_fact, renumbered_place}
 use Rattle.tl_renumber.specs.RenumberingKeeps.{IsRenumbered}
-
--- the lists of what a section says, where the names get these numbers
-pub record AreSettled (numbers : List ℕ) (l : Literals) (lists : Lists) : Type 0 where
-  pub facts : lists.facts ≡ map (renumbered_fact (number_in numbers)) l.facts
-  pub values : lists.values ≡ map (renumbered_place (number_in numbers)) l.values
-  pub nots : lists.nots ≡ map (renumbered_fact (number_in numbers)) l.nots
 
 -- the problem of a domain and of what a file says, where the names get these numbers, which are those of their order by bytes
 pub record IsSettledProblem (numbers : List ℕ) (names : List (List ℕ)) (d : Domain) (said : Sections) (p : Problem) : Type 0 where
@@ -42,4 +34,5 @@ said_by names d forms = problem_file_meant (all_names names forms) d forms
 
 -- the problem of the domain and the forms, with the names of both files in the order of their bytes
 abbrev pub IsProblemOf : List (List ℕ) → Domain → FormTrees → Problem → Type 0
-IsProblemOf names d forms p = (numbers : List ℕ) × IsSettledProblem numbers (all_names names forms) d (said_by names d forms) p
+IsProblemOf names d forms p =
+    (numbers : List ℕ) × IsSettledProblem numbers (all_names names forms) d (said_by names d forms) p

@@ -2,8 +2,10 @@
 ghost use Rattle.std.specs.Prelude.{◌≡◌, ◌==◌, ◌<◌, ℕ, IfSome, length, unwrap_or};
 ghost use Rattle.std.specs.List.{position};
 ghost use Rattle.tl_rules.specs.Reads.{Reads};
-ghost use Rattle.tl_problem.specs.Declarations.{position_of, call_breaks_at};
+ghost use Rattle.tl_problem.specs.Calls.{call_tree};
+ghost use Rattle.tl_problem.specs.Declarations.{call_breaks_at, position_meant, call_breaks};
 
+use crate::calls::Call;
 use tl_rules::{FormFault, Rule, breaks, number_of};
 use tl_syntax::{Declared, Names};
 
@@ -15,19 +17,12 @@ fn position_among(declared: &[Declared], name: u32) -> Option<usize>
     declared.iter().position(|one| one.name == name)
 }
 
-/// The position of what is declared under a name, which is called with so many arguments by the form at an offset.
+/// The position of the declaration of a name, which is called with so many arguments by the form at an offset.
 /// A domain declares far less than what 32 bits can number; past them the answer is want of memory.
-pub(crate) fn called(
-    names: &Names,
-    declared: &[Declared],
-    text: &str,
-    count: usize,
-    at: u32,
-) -> Result<u32, FormFault>
-    ensures { Reads (λ (x : ℕ). x) result (call_breaks_at declared.now (position_of names.now declared.now text.now) count at)
-        (unwrap_or (position_of names.now declared.now text.now) 0) }
+fn position_with(declared: &[Declared], name: u32, count: usize, at: u32) -> Result<u32, FormFault>
+    ensures { Reads (λ (x : ℕ). x) result (call_breaks_at declared.now (position (λ d. d.name == name) declared.now) count at)
+        (unwrap_or (position (λ d. d.name == name) declared.now) 0) }
 {
-    let name = number_of(names, text);
     let Some(position) = position_among(declared, name) else {
         return Err(breaks(Rule::Unknown, at));
     };
@@ -38,4 +33,14 @@ pub(crate) fn called(
         Ok(position) => Ok(position),
         Err(_) => Err(FormFault::NoMemory),
     }
+}
+
+/// The position of what a list calls.
+#[tactic(auto, using(crate::proofs::Rulesets::composed))]
+pub(crate) fn called(names: &Names, declared: &[Declared], call: Call<'_>) -> Result<u32, FormFault>
+    ensures { Reads (λ (x : ℕ). x) result (call_breaks names.now declared.now (call_tree call.entry))
+        (position_meant names.now declared.now call.entry.word.now) }
+{
+    let name = number_of(names, call.word);
+    position_with(declared, name, call.rest.len(), call.at)
 }

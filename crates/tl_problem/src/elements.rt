@@ -1,202 +1,113 @@
 // The elements of `init` and of `goal`.
-ghost use Rattle.std.specs.Prelude.{◌≡◌, []};
-ghost use Rattle.tl_sexpr.specs.Tree.{list, tree_of};
-ghost use Rattle.tl_rules.specs.Reads.{Reads, trees_in};
-ghost use Rattle.tl_problem.specs.declared.elements.ElementWord.TheVariants as word;
-ghost use Rattle.tl_problem.specs.Elements.{element_word, element_call_breaks, with_element_call, element_breaks, with_element, elements_breaks, with_elements};
+ghost use Rattle.tl_sexpr.specs.Tree.{tree_of};
+ghost use Rattle.tl_rules.specs.Reads.{trees_in};
+ghost use Rattle.tl_problem.specs.Calls.{call_tree};
+ghost use Rattle.tl_problem.specs.ElementWords as word;
+ghost use Rattle.tl_problem.specs.ElementWords.{element_word};
+ghost use Rattle.tl_problem.specs.Readers.{AddsCall, AddsElement, AddsElements};
 
+use crate::calls::{Call, call_in};
 use crate::facts::{equality, fact, negation};
-use crate::literals::Literals;
-use std::alloc::Global;
-use tl_rules::parts::call;
+use crate::literals::LiteralTables;
+use crate::vocabulary::Vocabulary;
+use tl_rules::parts::offset;
 use tl_rules::{FormFault, Rule, breaks};
 use tl_sexpr::Form;
-use tl_syntax::{Domain, Names};
 
-/// Where elements stand.
+/// Where the elements of a problem file stand.
 #[derive(Clone, Copy)]
-pub(crate) enum Section {
+pub enum Section {
     /// In `init`, which says what is true at first.
     Init,
-    /// In `goal`, where facts may be negated.
+    /// In `goal`, which says what is wanted, and where facts may be negated.
     Goal,
-}
-
-/// What the first word of an element says.
-#[derive(Clone, Copy)]
-pub(crate) enum ElementWord {
-    /// A place has a value.
-    Equality,
-    /// A fact is to be false.
-    Negation,
-    /// Another symbol, which should be the name of a predicate.
-    Fact,
-}
-
-/// What the first word of an element says.
-fn element_word(section: Section, text: &str) -> ElementWord
-    ensures { result ≡ element_word section text.now }
-{
-    match section {
-        Section::Init => match text {
-            "=" => ElementWord::Equality,
-            _ => ElementWord::Fact,
-        },
-        Section::Goal => match text {
-            "=" => ElementWord::Equality,
-            "not" => ElementWord::Negation,
-            _ => ElementWord::Fact,
-        },
-    }
 }
 
 /// Reads a fact `(p c*)`.
 #[tactic(auto, using(crate::proofs::OrElse::in_turn))]
 fn read_fact(
-    alloc: Global,
-    names: &Names,
-    domain: &Domain,
-    literals: &mut Literals,
-    text: &str,
-    rest: &[Form],
-    at: u32,
+    vocabulary: &Vocabulary<'_>,
+    literals: &mut LiteralTables,
+    call: Call<'_>,
 ) -> Result<(), FormFault>
-    ensures { Reads (λ (x : Unit {0}). literals.new) result
-        (element_call_breaks names.now domain.now literals.old word.Fact text.now (trees_in rest.now) at)
-        (with_element_call names.now domain.now literals.old word.Fact text.now (trees_in rest.now)) }
+    ensures { AddsCall result vocabulary.now word.Fact (call_tree call.entry) literals.old literals.new }
 {
-    let predicates = domain.predicates.as_slice();
-    let fact = fact(alloc, names, predicates, text, rest, at)?;
-    literals.add_fact(fact, at)
+    let predicates = vocabulary.domain.predicates.as_slice();
+    let fact = fact(vocabulary.alloc, vocabulary.names, predicates, call)?;
+    literals.add_fact(fact, call.at)
 }
 
-/// Reads a negated fact `(not X)`, by the elements of the list after the first.
+/// Reads a negated fact `(not X)`.
 #[tactic(auto, using(crate::proofs::OrElse::in_turn))]
 fn read_negation(
-    alloc: Global,
-    names: &Names,
-    domain: &Domain,
-    literals: &mut Literals,
-    rest: &[Form],
-    at: u32,
+    vocabulary: &Vocabulary<'_>,
+    literals: &mut LiteralTables,
+    call: Call<'_>,
 ) -> Result<(), FormFault>
-    ensures { Reads (λ (x : Unit {0}). literals.new) result
-        (element_call_breaks names.now domain.now literals.old word.Negation [] (trees_in rest.now) at)
-        (with_element_call names.now domain.now literals.old word.Negation [] (trees_in rest.now)) }
+    ensures { AddsCall result vocabulary.now word.Negation (call_tree call.entry) literals.old literals.new }
 {
-    let predicates = domain.predicates.as_slice();
-    let fact = negation(alloc, names, predicates, rest, at)?;
-    literals.add_not(fact, at)
+    let predicates = vocabulary.domain.predicates.as_slice();
+    let fact = negation(vocabulary.alloc, vocabulary.names, predicates, call)?;
+    literals.add_not(fact, call.at)
 }
 
-/// Reads an equality `(= X c)`, by the elements of the list after the first.
+/// Reads an equality `(= X c)`.
 #[tactic(auto, using(crate::proofs::OrElse::in_turn))]
 fn read_equality(
-    alloc: Global,
-    names: &Names,
-    domain: &Domain,
-    literals: &mut Literals,
-    rest: &[Form],
-    at: u32,
+    vocabulary: &Vocabulary<'_>,
+    literals: &mut LiteralTables,
+    call: Call<'_>,
 ) -> Result<(), FormFault>
-    ensures { Reads (λ (x : Unit {0}). literals.new) result
-        (element_call_breaks names.now domain.now literals.old word.Equality [] (trees_in rest.now) at)
-        (with_element_call names.now domain.now literals.old word.Equality [] (trees_in rest.now)) }
+    ensures { AddsCall result vocabulary.now word.Equality (call_tree call.entry) literals.old literals.new }
 {
-    let functions = domain.functions.as_slice();
-    let entry = equality(alloc, names, functions, rest, at)?;
-    literals.add_value(entry, at)
+    let functions = vocabulary.domain.functions.as_slice();
+    let entry = equality(vocabulary.alloc, vocabulary.names, functions, call)?;
+    literals.add_value(entry, call.at)
 }
 
-/// Reads an element with this first word and these elements after it.
+/// Reads an element that begins with a symbol.
 fn read_call(
-    alloc: Global,
-    names: &Names,
-    domain: &Domain,
+    vocabulary: &Vocabulary<'_>,
     section: Section,
-    literals: &mut Literals,
-    text: &str,
-    rest: &[Form],
-    at: u32,
+    literals: &mut LiteralTables,
+    call: Call<'_>,
 ) -> Result<(), FormFault>
-    ensures { Reads (λ (x : Unit {0}). literals.new) result
-        (element_call_breaks names.now domain.now literals.old (element_word section text.now) text.now (trees_in rest.now) at)
-        (with_element_call names.now domain.now literals.old (element_word section text.now) text.now (trees_in rest.now)) }
+    ensures { AddsCall result vocabulary.now (element_word section call.entry.word.now) (call_tree call.entry) literals.old literals.new }
 {
-    match element_word(section, text) {
-        ElementWord::Equality => read_equality(alloc, names, domain, literals, rest, at),
-        ElementWord::Negation => read_negation(alloc, names, domain, literals, rest, at),
-        ElementWord::Fact => read_fact(alloc, names, domain, literals, text, rest, at),
-    }
-}
-
-/// Reads an element by its elements and its offset.
-fn read_list(
-    alloc: Global,
-    names: &Names,
-    domain: &Domain,
-    section: Section,
-    literals: &mut Literals,
-    forms: &[Form],
-    at: u32,
-) -> Result<(), FormFault>
-    ensures { Reads (λ (x : Unit {0}). literals.new) result
-        (element_breaks names.now domain.now section literals.old (list (trees_in forms.now) at))
-        (with_element names.now domain.now section literals.old (list (trees_in forms.now) at)) }
-{
-    match call(forms) {
-        Some((text, rest)) => { read_call(alloc, names, domain, section, literals, text, rest, at) }
-        None => Err(breaks(Rule::Shape, at)),
+    match (section, call.word) {
+        (_, "=") => read_equality(vocabulary, literals, call),
+        (Section::Goal, "not") => read_negation(vocabulary, literals, call),
+        _ => read_fact(vocabulary, literals, call),
     }
 }
 
 /// Reads an element.
-#[tactic(auto, using(crate::proofs::Rulesets::form_trees))]
 fn read_element(
-    alloc: Global,
-    names: &Names,
-    domain: &Domain,
+    vocabulary: &Vocabulary<'_>,
     section: Section,
-    literals: &mut Literals,
+    literals: &mut LiteralTables,
     form: &Form,
 ) -> Result<(), FormFault>
-    ensures { Reads (λ (x : Unit {0}). literals.new) result
-        (element_breaks names.now domain.now section literals.old (tree_of form.now))
-        (with_element names.now domain.now section literals.old (tree_of form.now)) }
+    ensures { AddsElement result vocabulary.now section (tree_of form.now) literals.old literals.new }
 {
-    match form {
-        Form::Sym(_, at) => Err(breaks(Rule::Shape, *at)),
-        Form::Int(_, at) => Err(breaks(Rule::Shape, *at)),
-        Form::List(forms, at) => {
-            read_list(
-                alloc,
-                names,
-                domain,
-                section,
-                literals,
-                forms.as_slice(),
-                *at,
-            )
-        }
+    match call_in(form) {
+        Some(call) => read_call(vocabulary, section, literals, call),
+        None => Err(breaks(Rule::Shape, offset(form))),
     }
 }
 
 /// Reads elements one after the other.
 #[tactic(auto, using(crate::proofs::Rulesets::composed))]
 pub(crate) fn read_elements(
-    alloc: Global,
-    names: &Names,
-    domain: &Domain,
+    vocabulary: &Vocabulary<'_>,
     section: Section,
-    literals: &mut Literals,
+    literals: &mut LiteralTables,
     forms: &[Form],
 ) -> Result<(), FormFault>
-    ensures { Reads (λ (x : Unit {0}). literals.new) result
-        (elements_breaks names.now domain.now section literals.old (trees_in forms.now))
-        (with_elements names.now domain.now section literals.old (trees_in forms.now)) }
+    ensures { AddsElements result vocabulary.now section (trees_in forms.now) literals.old literals.new }
 {
     for form in forms {
-        read_element(alloc, names, domain, section, literals, form)?;
+        read_element(vocabulary, section, literals, form)?;
     }
     Ok(())
 }

@@ -5,12 +5,14 @@ ghost use Rattle.tl_problem.specs.LawsNames.{DomainKeepsWithMore};
 ghost use Rattle.tl_problem.specs.LawsOrder.{FirstBreakIsLeast};
 ghost use Rattle.tl_problem.specs.LawsSettled.{SettledFileSaysTheSame, ProblemSaysItsFile};
 
-/// Of the rules that the forms of a problem file break, the first in reading order is at the least offset, and no lesser rule is broken there.
+/// Of the rules that the forms of a problem file break, the first in reading order is at the least offset, and no lesser
+/// rule is broken there.
 pub fn first_break_is_least()
     ensures { FirstBreakIsLeast }
 {}
 
-/// What a problem file says that breaks no rule keeps what a problem keeps: facts and places take their values, no place has two values, and no fact of the goal is also negated.
+/// What a problem file says that breaks no rule keeps what a problem keeps: facts and places take their values, no place
+/// has two values, and no fact of the goal is also negated.
 pub fn lawful_problem_keeps()
     ensures { LawfulProblemKeeps }
 {}
@@ -20,7 +22,8 @@ pub fn domain_keeps_with_more_names()
     ensures { DomainKeepsWithMore }
 {}
 
-/// With settled names the forms of a problem file break the same rules and say the same; so a problem that was read says just what its file says with the problem's own domain and names.
+/// With settled names the forms of a problem file break the same rules and say the same; so a problem that was read says
+/// just what its file says with the problem's own domain and names.
 pub fn settled_names_keep_the_meaning()
     ensures file { SettledFileSaysTheSame }
     ensures problem { ProblemSaysItsFile }

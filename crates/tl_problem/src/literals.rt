@@ -1,11 +1,7 @@
 // What the elements of `init` or of `goal` say together.
 ghost use Rattle.std.specs.Prelude.{◌≡◌};
-ghost use Rattle.std.specs.List.{list_any};
-ghost use Rattle.tl_rules.specs.Reads.{Reads};
-ghost use Rattle.tl_rules.specs.Rules.{breaks_if};
-ghost use Rattle.tl_rules.specs.declared.rule.Rule.TheVariants.{TwoValues};
-ghost use Rattle.tl_syntax.specs.DerivedTests.{fact_eq};
-ghost use Rattle.tl_problem.specs.Literals.{no_literal, has_other_value, and_fact, and_value, and_not};
+ghost use Rattle.tl_problem.specs.Literals.{no_literal, and_fact, and_value, and_not, fact_denied, fact_said, value_differs};
+ghost use Rattle.tl_problem.specs.Readers.{Adds, literals_in};
 
 use crate::fact_set::FactSet;
 use crate::place_map::{Place, PlaceMap};
@@ -13,9 +9,9 @@ use std::alloc::Global;
 use tl_rules::{FormFault, Rule, breaks};
 use tl_syntax::{Fact, PlaceValue};
 
-/// What the elements of `init` or of `goal` say together.
+/// What the elements of `init` or of `goal` say together, in tables where facts and places are looked up.
 #[derive(Drop)]
-pub(crate) struct Literals {
+pub(crate) struct LiteralTables {
     /// The facts.
     pub(crate) facts: FactSet,
     /// The places with their values.
@@ -24,12 +20,12 @@ pub(crate) struct Literals {
     pub(crate) nots: FactSet,
 }
 
-impl Literals {
+impl LiteralTables {
     /// Nothing is said yet. It takes no memory.
-    pub(crate) fn new(alloc: Global) -> Literals
-        ensures { result ≡ no_literal }
+    pub(crate) fn new(alloc: Global) -> LiteralTables
+        ensures { literals_in result ≡ no_literal }
     {
-        Literals {
+        LiteralTables {
             facts: FactSet::new(alloc),
             values: PlaceMap::new(alloc),
             nots: FactSet::new(alloc),
@@ -38,7 +34,7 @@ impl Literals {
 
     /// Adds the fact of an element at this offset, which no element may negate.
     pub(crate) fn add_fact(&mut self, fact: Fact, at: u32) -> Result<(), FormFault>
-        ensures { Reads (λ (x : Unit {0}). self.new) result (breaks_if (list_any (fact_eq fact) self.old.nots) TwoValues at) (and_fact self.old fact) }
+        ensures { Adds result self.new (fact_denied (literals_in self.old) fact at) (and_fact (literals_in self.old) fact) }
     {
         if self.nots.contains(&fact) {
             return Err(breaks(Rule::TwoValues, at));
@@ -49,7 +45,7 @@ impl Literals {
 
     /// Adds the negated fact of an element at this offset, which no element may say.
     pub(crate) fn add_not(&mut self, fact: Fact, at: u32) -> Result<(), FormFault>
-        ensures { Reads (λ (x : Unit {0}). self.new) result (breaks_if (list_any (fact_eq fact) self.old.facts) TwoValues at) (and_not self.old fact) }
+        ensures { Adds result self.new (fact_said (literals_in self.old) fact at) (and_not (literals_in self.old) fact) }
     {
         if self.facts.contains(&fact) {
             return Err(breaks(Rule::TwoValues, at));
@@ -60,7 +56,7 @@ impl Literals {
 
     /// Adds the place with its value of an element at this offset, to which no element may give another value.
     pub(crate) fn add_value(&mut self, entry: PlaceValue, at: u32) -> Result<(), FormFault>
-        ensures { Reads (λ (x : Unit {0}). self.new) result (breaks_if (has_other_value self.old.values entry) TwoValues at) (and_value self.old entry) }
+        ensures { Adds result self.new (value_differs (literals_in self.old) entry at) (and_value (literals_in self.old) entry) }
     {
         let PlaceValue { fun, args, value } = entry;
         let place = Place { fun, args };

@@ -4,62 +4,45 @@ ghost use Rattle.tl_sexpr.specs.Offsets.{AreAsRead};
 ghost use Rattle.tl_sexpr.specs.Spelling.{symbols_in_all};
 ghost use Rattle.tl_sexpr.specs.Tree.{trees_of};
 ghost use Rattle.tl_syntax.specs.Kept.{DomainKeeps};
-ghost use Rattle.tl_rules.specs.Reads.{IsFirst, IsLeastFault, Reads, trees_in};
-ghost use Rattle.tl_problem.specs.declared.sections.Sections.{Sections};
+ghost use Rattle.tl_rules.specs.Reads.{IsFirst, IsLeastFault, Reads};
+ghost use Rattle.tl_problem.specs.Readers.{sections_in};
 ghost use Rattle.tl_problem.specs.Problems.{IsProblemOf, all_names, breaks_of, said_by};
 
-use crate::sections::{Sections, problem_file};
+use crate::sections::{SectionTables, problem_file};
 use crate::settled::settled;
+use crate::vocabulary::Vocabulary;
 use std::alloc::Global;
 use tl_rules::{FormFault, add_forms};
-use tl_sexpr::{Form, Forms};
+use tl_sexpr::Forms;
 use tl_syntax::{Domain, Names, Problem};
 
 /// What the forms of a file say. All their symbols join the names.
+#[tactic(auto, using(crate::proofs::Rulesets::form_trees))]
 fn said(
     alloc: Global,
     domain: &Domain,
     names: &mut Names,
-    forms: &[Form],
-) -> Result<Sections, FormFault>
-    requires { length names.old + symbols_in_all (trees_in forms.now) < 2 ^ 32 }
-    ensures read { Reads (λ (x : Sections). x) result (breaks_of names.old domain.now (trees_in forms.now)) (said_by names.old domain.now (trees_in forms.now)) }
-    ensures names { OnOk result (names.new ≡ all_names names.old (trees_in forms.now)) }
+    forms: &Forms,
+) -> Result<SectionTables, FormFault>
+    requires { length names.old + symbols_in_all (trees_of forms.now) < 2 ^ 32 }
+    ensures read { Reads sections_in result (breaks_of names.old domain.now (trees_of forms.now))
+        (said_by names.old domain.now (trees_of forms.now)) }
+    ensures names { OnOk result (names.new ≡ all_names names.old (trees_of forms.now)) }
 {
-    add_forms(forms, names)?;
-    problem_file(alloc, names, domain, forms)
-}
-
-/// The problem that forms stand for, with the domain of the domain file and its names.
-fn read_problem(
-    alloc: Global,
-    forms: &[Form],
-    domain: Domain,
-    names: Names,
-) -> Result<Problem, FormFault>
-    requires room { length names + symbols_in_all (trees_in forms.now) < 2 ^ 32 }
-    requires domain { DomainKeeps (length names) domain }
-    ensures problem { IfOk result (IsProblemOf names domain (trees_in forms.now)) }
-    ensures lawful { OnOk result (breaks_of names domain (trees_in forms.now) ≡ []) }
-    ensures fault { IfErr result (IsFirst (breaks_of names domain (trees_in forms.now))) }
-    ensures least { AreAsRead (trees_in forms.now) → IfErr result (IsLeastFault (breaks_of names domain (trees_in forms.now))) }
-{
-    let mut all_names = names;
-    match said(alloc, &domain, &mut all_names, forms) {
-        Ok(said) => Ok(settled(alloc, domain, all_names, said)?),
-        Err(fault) => {
-            drop(domain);
-            drop(all_names);
-            Err(fault)
-        }
-    }
+    add_forms(forms.as_slice(), names)?;
+    let vocabulary = Vocabulary {
+        alloc,
+        names,
+        domain,
+    };
+    problem_file(&vocabulary, forms.as_slice())
 }
 
 /// The problem that the forms of a problem file stand for, with the domain of the domain file and its names.
 ///
-/// All symbols of the file join the names, which then are numbered by the order of their bytes; the domain and what the file says get these numbers.
-/// Where a form breaks a rule, the fault is the one with the least offset and there the least rule. A refused call drops the domain and the names.
-#[tactic(auto, using(tl_rules::proofs::FormTrees::form_trees))]
+/// All symbols of the file join the names, which then are numbered by the order of their bytes; the domain and what the
+/// file says get these numbers. Where a form breaks a rule, the fault is the one with the least offset and there the
+/// least rule. A refused call drops the domain and the names.
 pub fn problem_of(
     alloc: Global,
     forms: &Forms,
@@ -73,5 +56,7 @@ pub fn problem_of(
     ensures fault { IfErr result (IsFirst (breaks_of names domain (trees_of forms.now))) }
     ensures least { AreAsRead (trees_of forms.now) → IfErr result (IsLeastFault (breaks_of names domain (trees_of forms.now))) }
 {
-    read_problem(alloc, forms.as_slice(), domain, names)
+    let mut all_names = names;
+    let said = said(alloc, &domain, &mut all_names, forms)?;
+    Ok(settled(alloc, domain, all_names, said)?)
 }

@@ -1,131 +1,65 @@
 // The problem form and its two sections.
-ghost use Rattle.std.specs.Prelude.{◌≡◌, ◌==◌, ◌++◌, false, MatchOption};
+ghost use Rattle.std.specs.Prelude.{◌≡◌, ◌==◌, false, MatchOption};
 ghost use Rattle.tl_sexpr.specs.Tree.{list, no_form, more_forms, tree_of};
-ghost use Rattle.tl_rules.specs.Parts.{count, is_name, rest_of};
-ghost use Rattle.tl_rules.specs.Reads.{Reads, Checks, trees_in};
-ghost use Rattle.tl_problem.specs.declared.elements.Section.TheVariants as section;
-ghost use Rattle.tl_problem.specs.declared.literals.Literals.{Literals};
-ghost use Rattle.tl_problem.specs.declared.sections.Sections.{Sections};
-ghost use Rattle.tl_problem.specs.ProblemFiles.{begins_with, section_breaks, section_meant, problem_form_breaks, problem_form_meant, problem_file_breaks, problem_file_meant};
+ghost use Rattle.tl_rules.specs.Parts.{count};
+ghost use Rattle.tl_rules.specs.Reads.{trees_in};
+ghost use Rattle.tl_problem.specs.Readers.{ReadsSection, ReadsSections, ReadsProblemForm, ReadsProblemFile};
 
+use crate::calls::{begins_with, rest_of};
 use crate::elements::{Section, read_elements};
-use crate::literals::Literals;
-use std::alloc::Global;
-use tl_rules::parts::{is_variable, is_word, offset, split_first};
+use crate::literals::LiteralTables;
+use crate::vocabulary::Vocabulary;
+use tl_rules::parts::{is_name, is_word, offset, split_first};
 use tl_rules::{FormFault, Rule, breaks, check_last};
 use tl_sexpr::Form;
-use tl_syntax::{Domain, Names};
 
-/// What the two sections of a problem form say.
+/// What the two sections of a problem form say, in tables.
 #[derive(Drop)]
-pub(crate) struct Sections {
+pub(crate) struct SectionTables {
     /// What is true at first.
-    pub(crate) init: Literals,
+    pub(crate) init: LiteralTables,
     /// What is wanted.
-    pub(crate) goal: Literals,
-}
-
-/// Whether a form is a name.
-#[tactic(auto, using(crate::proofs::Rulesets::form_trees))]
-fn is_name(form: &Form) -> bool
-    ensures { result ≡ is_name (tree_of form.now) }
-{
-    match form {
-        Form::Sym(text, _) => !is_variable(text.as_str()),
-        Form::Int(_, _) => false,
-        Form::List(_, _) => false,
-    }
-}
-
-/// Whether a list of these forms begins with this word.
-fn list_begins_with(word: &str, forms: &[Form], _at: u32) -> bool
-    ensures { result ≡ begins_with word.now (list (trees_in forms.now) _at) }
-{
-    match split_first(forms) {
-        Some((first, _)) => is_word(word, first),
-        None => false,
-    }
-}
-
-/// Whether a form is a list that begins with this word.
-#[tactic(auto, using(crate::proofs::Rulesets::form_trees))]
-fn begins_with(word: &str, form: &Form) -> bool
-    ensures { result ≡ begins_with word.now (tree_of form.now) }
-{
-    match form {
-        Form::Sym(_, _) => false,
-        Form::Int(_, _) => false,
-        Form::List(forms, at) => list_begins_with(word, forms.as_slice(), *at),
-    }
-}
-
-/// The forms of a list after the first.
-fn rest_of_list(forms: &[Form], _at: u32) -> &[Form]
-    ensures { trees_in result.now ≡ rest_of (list (trees_in forms.now) _at) }
-{
-    match split_first(forms) {
-        Some((_, rest)) => rest,
-        None => forms,
-    }
-}
-
-/// The elements of a list after the first.
-#[tactic(auto, using(crate::proofs::Rulesets::form_trees))]
-fn rest_of(form: &Form) -> &[Form]
-    ensures { trees_in result.now ≡ rest_of (tree_of form.now) }
-{
-    match form {
-        Form::Sym(_, _) => &[],
-        Form::Int(_, _) => &[],
-        Form::List(forms, at) => rest_of_list(forms.as_slice(), *at),
-    }
+    pub(crate) goal: LiteralTables,
 }
 
 /// An `init` or a `goal` form.
 #[tactic(auto, using(crate::proofs::Rulesets::composed))]
 fn section(
-    alloc: Global,
-    names: &Names,
-    domain: &Domain,
+    vocabulary: &Vocabulary<'_>,
     section: Section,
     form: &Form,
-) -> Result<Literals, FormFault>
-    ensures { Reads (λ (x : Literals). x) result
-        (section_breaks names.now domain.now section (tree_of form.now))
-        (section_meant names.now domain.now section (tree_of form.now)) }
+) -> Result<LiteralTables, FormFault>
+    ensures { ReadsSection result vocabulary.now section (tree_of form.now) }
 {
     let elements = rest_of(form);
     if elements.len() > 4096 {
         return Err(breaks(Rule::Limit, offset(form)));
     }
-    let mut literals = Literals::new(alloc);
-    read_elements(alloc, names, domain, section, &mut literals, elements)?;
+    let mut literals = LiteralTables::new(vocabulary.alloc);
+    read_elements(vocabulary, section, &mut literals, elements)?;
     Ok(literals)
 }
 
 /// The two sections of a problem form.
 #[tactic(auto, using(crate::proofs::Rulesets::composed))]
 fn both_sections(
-    alloc: Global,
-    names: &Names,
-    domain: &Domain,
+    vocabulary: &Vocabulary<'_>,
     init: &Form,
     goal: &Form,
-) -> Result<Sections, FormFault>
-    ensures { Reads (λ (x : Sections). x) result
-        (section_breaks names.now domain.now section.Init (tree_of init.now) ++ section_breaks names.now domain.now section.Goal (tree_of goal.now))
-        (record { init = section_meant names.now domain.now section.Init (tree_of init.now); goal = section_meant names.now domain.now section.Goal (tree_of goal.now) }) }
+) -> Result<SectionTables, FormFault>
+    ensures { ReadsSections result vocabulary.now (tree_of init.now) (tree_of goal.now) }
 {
-    let init = section(alloc, names, domain, Section::Init, init)?;
-    let goal = section(alloc, names, domain, Section::Goal, goal)?;
-    Ok(Sections { init, goal })
+    let init = section(vocabulary, Section::Init, init)?;
+    let goal = section(vocabulary, Section::Goal, goal)?;
+    Ok(SectionTables { init, goal })
 }
 
 /// The four forms, where there are four.
 #[tactic(auto, using(crate::proofs::Rulesets::composed))]
 fn four(forms: &[Form]) -> Option<(&Form, &Form, &Form, &Form)>
     ensures { MatchOption result ((count (trees_in forms.now) == 4) ≡ false)
-        (λ found. trees_in forms.now ≡ more_forms (tree_of found.0.now) (more_forms (tree_of found.1.now) (more_forms (tree_of found.2.now) (more_forms (tree_of found.3.now) no_form)))) }
+        (λ found. trees_in forms.now ≡ more_forms (tree_of found.0.now) (more_forms (tree_of found.1.now)
+        (more_forms (tree_of found.2.now) (more_forms (tree_of found.3.now) no_form)))) }
 {
     match forms {
         [first, second, third, fourth] => Some((first, second, third, fourth)),
@@ -136,15 +70,11 @@ fn four(forms: &[Form]) -> Option<(&Form, &Form, &Form, &Form)>
 /// The problem form, by its elements and its offset.
 #[tactic(auto, using(crate::proofs::Counts::problem_count))]
 fn problem_list(
-    alloc: Global,
-    names: &Names,
-    domain: &Domain,
+    vocabulary: &Vocabulary<'_>,
     forms: &[Form],
     at: u32,
-) -> Result<Sections, FormFault>
-    ensures { Reads (λ (x : Sections). x) result
-        (problem_form_breaks names.now domain.now (list (trees_in forms.now) at))
-        (problem_form_meant names.now domain.now (list (trees_in forms.now) at)) }
+) -> Result<SectionTables, FormFault>
+    ensures { ReadsProblemForm result vocabulary.now (list (trees_in forms.now) at) }
 {
     let Some((word, name, init, goal)) = four(forms) else {
         return Err(breaks(Rule::Shape, at));
@@ -154,7 +84,7 @@ fn problem_list(
         && begins_with("init", init)
         && begins_with("goal", goal)
     {
-        both_sections(alloc, names, domain, init, goal)
+        both_sections(vocabulary, init, goal)
     } else {
         Err(breaks(Rule::Shape, at))
     }
@@ -162,39 +92,27 @@ fn problem_list(
 
 /// The problem form.
 #[tactic(auto, using(crate::proofs::Rulesets::form_trees))]
-fn problem_form(
-    alloc: Global,
-    names: &Names,
-    domain: &Domain,
-    form: &Form,
-) -> Result<Sections, FormFault>
-    ensures { Reads (λ (x : Sections). x) result
-        (problem_form_breaks names.now domain.now (tree_of form.now))
-        (problem_form_meant names.now domain.now (tree_of form.now)) }
+fn problem_form(vocabulary: &Vocabulary<'_>, form: &Form) -> Result<SectionTables, FormFault>
+    ensures { ReadsProblemForm result vocabulary.now (tree_of form.now) }
 {
     match form {
-        Form::Sym(_, at) => Err(breaks(Rule::Shape, *at)),
-        Form::Int(_, at) => Err(breaks(Rule::Shape, *at)),
-        Form::List(forms, at) => problem_list(alloc, names, domain, forms.as_slice(), *at),
+        Form::Sym(_, at) | Form::Int(_, at) => Err(breaks(Rule::Shape, *at)),
+        Form::List(forms, at) => problem_list(vocabulary, forms.as_slice(), *at),
     }
 }
 
 /// The forms of a problem file.
 #[tactic(auto, using(crate::proofs::Rulesets::composed))]
 pub(crate) fn problem_file(
-    alloc: Global,
-    names: &Names,
-    domain: &Domain,
+    vocabulary: &Vocabulary<'_>,
     forms: &[Form],
-) -> Result<Sections, FormFault>
-    ensures { Reads (λ (x : Sections). x) result
-        (problem_file_breaks names.now domain.now (trees_in forms.now))
-        (problem_file_meant names.now domain.now (trees_in forms.now)) }
+) -> Result<SectionTables, FormFault>
+    ensures { ReadsProblemFile result vocabulary.now (trees_in forms.now) }
 {
     let Some((first, rest)) = split_first(forms) else {
         return Err(breaks(Rule::Shape, 0));
     };
-    let sections = problem_form(alloc, names, domain, first)?;
+    let sections = problem_form(vocabulary, first)?;
     match check_last(rest) {
         Ok(()) => Ok(sections),
         Err(fault) => {

@@ -6,12 +6,14 @@ ghost use Rattle.tl_renumber.specs.Numbers.{number_in};
 ghost use Rattle.tl_renumber.specs.Renumbered.{renumbered_fact, renumbered_place};
 ghost use Rattle.tl_renumber.specs.RenumberingKeeps.{IsRenumbered};
 ghost use Rattle.tl_problem.specs.Keeps.{SectionsKeep};
-ghost use Rattle.tl_problem.specs.Problems.{IsSettledProblem, AreSettled};
+ghost use Rattle.tl_problem.specs.Problems.{IsSettledProblem};
+ghost use Rattle.tl_problem.specs.Readers.{literals_in, sections_in};
+ghost use Rattle.tl_problem.specs.SettledLists.{AreSettled, AreSettledSections};
 
 use crate::fact_set::FactSet;
-use crate::literals::Literals;
+use crate::literals::LiteralTables;
 use crate::place_map::PlaceMap;
-use crate::sections::Sections;
+use crate::sections::SectionTables;
 use std::alloc::Global;
 use tl_renumber::{renumber_domain, renumber_facts, renumber_places};
 use tl_syntax::{Domain, Facts, Names, NoMemory, PlaceValues, Problem};
@@ -22,6 +24,13 @@ pub(crate) struct Lists {
     facts: Facts,
     values: PlaceValues,
     nots: Facts,
+}
+
+/// The lists of both sections.
+#[derive(Drop)]
+pub(crate) struct SectionLists {
+    init: Lists,
+    goal: Lists,
 }
 
 /// The list of facts with other numbers for the names.
@@ -41,78 +50,51 @@ fn settled_values(alloc: Global, values: PlaceMap, numbers: &[u32]) -> Result<Pl
 }
 
 /// The lists of what a section says, with other numbers for the names.
-fn settled_lists(alloc: Global, literals: Literals, numbers: &[u32]) -> Result<Lists, NoMemory>
-    ensures { IfOk result (AreSettled numbers.now literals) }
+fn settled_lists(alloc: Global, literals: LiteralTables, numbers: &[u32]) -> Result<Lists, NoMemory>
+    ensures { IfOk result (AreSettled numbers.now (literals_in literals)) }
 {
-    let Literals {
+    let LiteralTables {
         facts,
         values,
         nots,
     } = literals;
-    let facts = match settled_facts(alloc, facts, numbers) {
-        Ok(facts) => facts,
-        Err(refused) => {
-            drop(values);
-            drop(nots);
-            return Err(refused);
-        }
-    };
-    let values = match settled_values(alloc, values, numbers) {
-        Ok(values) => values,
-        Err(refused) => {
-            drop(facts);
-            drop(nots);
-            return Err(refused);
-        }
-    };
-    match settled_facts(alloc, nots, numbers) {
-        Ok(nots) => Ok(Lists {
-            facts,
-            values,
-            nots,
-        }),
-        Err(refused) => {
-            drop(facts);
-            drop(values);
-            Err(refused)
-        }
-    }
+    let facts = settled_facts(alloc, facts, numbers)?;
+    let values = settled_values(alloc, values, numbers)?;
+    let nots = settled_facts(alloc, nots, numbers)?;
+    Ok(Lists {
+        facts,
+        values,
+        nots,
+    })
+}
+
+/// The lists of both sections, with other numbers for the names.
+fn settled_sections(
+    alloc: Global,
+    said: SectionTables,
+    numbers: &[u32],
+) -> Result<SectionLists, NoMemory>
+    ensures { IfOk result (AreSettledSections numbers.now (sections_in said)) }
+{
+    let SectionTables { init, goal } = said;
+    let init = settled_lists(alloc, init, numbers)?;
+    let goal = settled_lists(alloc, goal, numbers)?;
+    Ok(SectionLists { init, goal })
 }
 
 /// A domain and the lists of the two sections, with other numbers for the names.
 fn settled_parts(
     alloc: Global,
     domain: Domain,
-    said: Sections,
+    said: SectionTables,
     numbers: &[u32],
-) -> Result<(Domain, Lists, Lists), NoMemory>
-    ensures { IfOk result (λ parts. IsRenumbered (number_in numbers.now) domain parts.0 × AreSettled numbers.now said.init parts.1 × AreSettled numbers.now said.goal parts.2) }
+) -> Result<(Domain, SectionLists), NoMemory>
+    ensures { IfOk result (λ parts. IsRenumbered (number_in numbers.now) domain parts.0
+        × AreSettledSections numbers.now (sections_in said) parts.1) }
 {
-    let Sections { init, goal } = said;
-    let init = match settled_lists(alloc, init, numbers) {
-        Ok(init) => init,
-        Err(refused) => {
-            drop(goal);
-            drop(domain);
-            return Err(refused);
-        }
-    };
-    let goal = match settled_lists(alloc, goal, numbers) {
-        Ok(goal) => goal,
-        Err(refused) => {
-            drop(init);
-            drop(domain);
-            return Err(refused);
-        }
-    };
-    match renumber_domain(alloc, domain, numbers) {
-        Ok(domain) => Ok((domain, init, goal)),
-        Err(refused) => {
-            drop(init);
-            drop(goal);
-            Err(refused)
-        }
-    }
+    let lists = settled_sections(alloc, said, numbers)?;
+    let domain = renumber_domain(alloc, domain, numbers)?;
+    Ok((domain, lists))
 }
 
 /// The problem of a domain and of what a file says, with the names in the order of their bytes.
@@ -120,33 +102,22 @@ pub(crate) fn settled(
     alloc: Global,
     domain: Domain,
     names: Names,
-    said: Sections,
+    said: SectionTables,
 ) -> Result<Problem, NoMemory>
     requires domain { DomainKeeps (length names) domain }
-    requires said { SectionsKeep (signature_of domain) (length names) said }
-    ensures { IfOk result (λ p. (numbers : List ℕ) × IsSettledProblem numbers names domain said p) }
+    requires said { SectionsKeep (signature_of domain) (length names) (sections_in said) }
+    ensures { IfOk result (λ p. (numbers : List ℕ) × IsSettledProblem numbers names domain (sections_in said) p) }
 {
-    let (names, numbers) = match names.settled(alloc) {
-        Ok(settled) => settled,
-        Err(refused) => {
-            drop(domain);
-            drop(said);
-            return Err(refused);
-        }
-    };
-    match settled_parts(alloc, domain, said, numbers.as_slice()) {
-        Ok((domain, init, goal)) => Ok(Problem {
-            domain,
-            names,
-            init_facts: init.facts,
-            init_values: init.values,
-            goal_facts: goal.facts,
-            goal_values: goal.values,
-            goal_nots: goal.nots,
-        }),
-        Err(refused) => {
-            drop(names);
-            Err(refused)
-        }
-    }
+    let (names, numbers) = names.settled(alloc)?;
+    let (domain, lists) = settled_parts(alloc, domain, said, numbers.as_slice())?;
+    let SectionLists { init, goal } = lists;
+    Ok(Problem {
+        domain,
+        names,
+        init_facts: init.facts,
+        init_values: init.values,
+        goal_facts: goal.facts,
+        goal_values: goal.values,
+        goal_nots: goal.nots,
+    })
 }

@@ -15,7 +15,8 @@ use tl_syntax::{Names, Value, Values};
 /// A value: a name or an integer.
 #[tactic(auto, using(crate::proofs::Rulesets::form_trees))]
 pub(crate) fn value(names: &Names, form: &Form) -> Result<Value, FormFault>
-    ensures { Reads (λ (x : Value). x) result (value_breaks (tree_of form.now)) (value_meant names.now (tree_of form.now)) }
+    ensures { Reads (λ (x : Value). x) result (value_breaks (tree_of form.now))
+        (value_meant names.now (tree_of form.now)) }
 {
     match form {
         Form::Sym(text, at) => {
@@ -33,7 +34,8 @@ pub(crate) fn value(names: &Names, form: &Form) -> Result<Value, FormFault>
 /// Values.
 #[tactic(auto, using(crate::proofs::Rulesets::composed))]
 pub(crate) fn values(alloc: Global, names: &Names, forms: &[Form]) -> Result<Values, FormFault>
-    ensures { Reads (λ (xs : List Value). xs) result (values_breaks (trees_in forms.now)) (values_meant names.now (trees_in forms.now)) }
+    ensures { Reads (λ (xs : List Value). xs) result (values_breaks (trees_in forms.now))
+        (values_meant names.now (trees_in forms.now)) }
 {
     let mut values = Values::new(alloc);
     for form in forms {

@@ -11,17 +11,14 @@ use Rattle.tl_formulas.proofs.terms.+term.Given as goal
 abbrev pub decreases-term : goal.decreases-term
 decreases-term l = 4 * size (tree_of l.form.now)
 
-abbrev pub decreases-term_list : goal.decreases-term_list
-decreases-term_list l = 4 * sizes (trees_in l.forms.now) + 3
-
 abbrev pub decreases-term_call : goal.decreases-term_call
-decreases-term_call l = 4 * sizes (trees_in l.rest.now) + 2
+decreases-term_call l = 4 * sizes (trees_in l.call.rest.now) + 2
 
 abbrev pub decreases-fluent : goal.decreases-fluent
-decreases-fluent l = 4 * sizes (trees_in l.rest.now) + 1
+decreases-fluent l = 4 * sizes (trees_in l.call.rest.now) + 1
 
 abbrev pub decreases-arithmetic : goal.decreases-arithmetic
-decreases-arithmetic l = 4 * sizes (trees_in l.rest.now) + 1
+decreases-arithmetic l = 4 * sizes (trees_in l.call.rest.now) + 1
 
 abbrev pub decreases-terms : goal.decreases-terms
 decreases-terms l = 4 * sizes (trees_in l.forms.now)
@@ -29,7 +26,7 @@ decreases-terms l = 4 * sizes (trees_in l.forms.now)
 -- the terms so far, and after them those that are left
 abbrev pub invariant-terms-loop-form : goal.invariant-terms-loop-form
 invariant-terms-loop-form l = record {
-  breaks : terms_breaks l.functions l.scope (trees_in l.forms) ≡ terms_breaks l.functions l.scope (trees_in (drop l.form-index l.forms));
-  meant : terms_meant l.names l.functions l.scope (trees_in l.forms) ≡ after_terms (map tree_of_term l.terms.items.items) (terms_meant l.names l.functions l.scope (trees_in (drop l.form-index l.forms)));
+  breaks : terms_breaks l.vocabulary.signature.now.functions l.scope (trees_in l.forms) ≡ terms_breaks l.vocabulary.signature.now.functions l.scope (trees_in (drop l.form-index l.forms));
+  meant : terms_meant l.vocabulary.names.now l.vocabulary.signature.now.functions l.scope (trees_in l.forms) ≡ after_terms (map tree_of_term l.terms.items.items) (terms_meant l.vocabulary.names.now l.vocabulary.signature.now.functions l.scope (trees_in (drop l.form-index l.forms)));
   fewer : sizes (trees_in (drop l.form-index l.forms)) ≤ sizes (trees_in l.forms);
 }

@@ -1,6 +1,5 @@
-use Rattle.std.proofs.Common.{◌≡◌, ◌≤◌, [], length, drop, true}
+use Rattle.std.proofs.Common.{◌≡◌, ◌≤◌, [], length, drop}
 use Rattle.tl_sexpr.specs.Tree.{tree_of}
-use Rattle.tl_rules.specs.Parts.{are_variables}
 use Rattle.tl_rules.specs.Reads.{trees_in}
 use Rattle.tl_formulas.specs.Variables.{variables_breaks}
 use Rattle.tl_formulas.proofs.variables.check_variables.Given as goal
@@ -9,6 +8,5 @@ use Rattle.tl_formulas.proofs.variables.check_variables.Given as goal
 abbrev pub invariant-loop-form : goal.invariant-loop-form
 invariant-loop-form l = record {
   breaks : variables_breaks [] l.scope (tree_of l.bound) (trees_in l.variables) ≡ variables_breaks l.earlier l.scope (tree_of l.bound) (trees_in (drop l.form-index l.variables));
-  are : are_variables (trees_in (drop l.form-index l.variables)) ≡ true;
   few : length l.earlier ≤ l.form-index;
 }

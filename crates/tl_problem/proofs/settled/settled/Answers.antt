@@ -1,13 +1,17 @@
 use Rattle.tl_renumber.specs.Numbers.{IsSettled}
+use Rattle.tl_problem.specs.Readers.{sections_in}
 use Rattle.tl_problem.proofs.SettledProblems.{parts-settled, settled-lent}
 use Rattle.tl_problem.proofs.settled.settled.Goals as goal
 
 pub invariant_of-result : goal.invariant_of-result
 invariant_of-result c =
-    let parts = c.in-Ok-settled_parts.ensures in
-    let e = c.in-Ok.ensures in
-    let table : IsSettled c.in-Ok.settled.1 c.args.names c.in-Ok.settled.0 = record { permutation = e.permutation; order = e.order; count = e.count; renumbered = e.renumbered } in
-    let k = parts-settled c.args.domain c.in-Ok-settled_parts.domain c.in-Ok.settled.1 c.as_slice.result.now c.args.names c.in-Ok.settled.0 c.args.said c.in-Ok-settled_parts.init c.in-Ok-settled_parts.goal c.as_slice.ensures table parts.0 parts.1 parts.2 c.requires.domain c.requires.said in
+    let parts = c.in_ok-domain.ensures in
+    let lists = c.in_ok-domain.lists in
+    let numbers = c.in_ok-names.numbers in
+    let names = c.in_ok-names.names in
+    let e = c.in_ok-names.ensures in
+    let table : IsSettled numbers c.args.names names = record { permutation = e.permutation; order = e.order; count = e.count; renumbered = e.renumbered } in
+    let k = parts-settled c.args.domain c.in_ok-domain.domain numbers c.as_slice.result.now c.args.names names (sections_in c.args.said) lists.init lists.goal c.as_slice.ensures table parts.0 parts.1.init parts.1.goal c.requires.domain c.requires.said in
     record {
       settled = e.order;
       domain_keeps = k.domain;
@@ -21,19 +25,21 @@ invariant_of-result c =
       goal_is_consistent = k.wanted.consistent;
     }
 
-pub returns-in-Ok-settled_parts : goal.returns-in-Ok-settled_parts
-returns-in-Ok-settled_parts c =
-    let parts = c.in-Ok-settled_parts.ensures in
-    let e = c.in-Ok.ensures in
-    let table : IsSettled c.in-Ok.settled.1 c.args.names c.in-Ok.settled.0 = record { permutation = e.permutation; order = e.order; count = e.count; renumbered = e.renumbered } in (
+pub returns : goal.returns
+returns c =
+    let parts = c.in_ok-domain.ensures in
+    let numbers = c.in_ok-names.numbers in
+    let names = c.in_ok-names.names in
+    let e = c.in_ok-names.ensures in
+    let table : IsSettled numbers c.args.names names = record { permutation = e.permutation; order = e.order; count = e.count; renumbered = e.renumbered } in (
       c.as_slice.result.now,
       record {
-        settled = settled-lent c.in-Ok.settled.1 c.as_slice.result.now c.args.names c.in-Ok.settled.0 c.as_slice.ensures table;
+        settled = settled-lent numbers c.as_slice.result.now c.args.names names c.as_slice.ensures table;
         domain = parts.0;
-        init_facts = parts.1.facts;
-        init_values = parts.1.values;
-        goal_facts = parts.2.facts;
-        goal_values = parts.2.values;
-        goal_nots = parts.2.nots;
+        init_facts = parts.1.init.facts;
+        init_values = parts.1.init.values;
+        goal_facts = parts.1.goal.facts;
+        goal_values = parts.1.goal.values;
+        goal_nots = parts.1.goal.nots;
       },
     )
