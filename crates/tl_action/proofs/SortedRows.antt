@@ -14,7 +14,7 @@ use Rattle.tl_syntax.specs.declared.value.Value.{Value}
 use Rattle.tl_syntax.specs.Lists.{Each, Among, Rises}
 use Rattle.tl_world.specs.Plain.{row_cmp}
 use Rattle.tl_syntax.proofs.ListLaws.{same_test}
-use Rattle.tl_world.specs.Same.{tells-equivalence}
+use Rattle.tl_syntax.proofs.Telling.{tells-equivalence}
 use Rattle.tl_world.proofs.Alike.{values_eq, values-tell}
 use Rattle.tl_world.proofs.Lent.{row_ties}
 use Rattle.tl_world.proofs.Lookup.{row_total}

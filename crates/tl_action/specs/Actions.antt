@@ -34,6 +34,10 @@ AreActions p w actions = (a : Action) → Among a actions ↔ IsTrue (is_some (s
 abbrev pub ArgumentsAreNamed : ℕ → Action → Type 0
 ArgumentsAreNamed n a = Each (ValueIsNamed n) a.args
 
+-- where the world is named, so are the arguments of the actions
+abbrev pub ActionsAreNamed : ℕ → World → List Action → Type 0
+ActionsAreNamed n w actions = WorldIsNamed n w → Each (ArgumentsAreNamed n) actions
+
 -- where a world and the arguments of an action are named, so is the world after the action
 abbrev pub StaysNamed : ℕ → World → Action → World → Type 0
 StaysNamed n w a next = WorldIsNamed n w → ArgumentsAreNamed n a → WorldIsNamed n next

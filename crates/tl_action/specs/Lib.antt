@@ -7,4 +7,5 @@ pub mod Sure
 pub mod Prepared
 pub mod Join
 pub mod RowLists
+pub mod UnderFrames
 pub mod Actions

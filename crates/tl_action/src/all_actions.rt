@@ -1,15 +1,13 @@
 // All actions that are executable in a world.
-ghost use Rattle.std.specs.Prelude.{◌≡◌, ◌++◌, [], length, map, IfOk, IfErr, OnOk};
-ghost use Rattle.tl_action.specs.Actions.{action_of, AreActions, ArgumentsAreNamed, HasOperator, IsCausedBySome};
-ghost use Rattle.tl_action.specs.Join.{IsRowFault};
-ghost use Rattle.tl_action.specs.RowLists.{IsRows, AreRowsOf};
-ghost use Rattle.tl_eval.specs.Frames.{assignment_in};
+ghost use Rattle.std.specs.Prelude.{◌≡◌, ◌++◌, length, map, IfOk, IfErr, OnOk};
+ghost use Rattle.tl_action.specs.Actions.{action_of, ActionsAreNamed, AreActions, HasOperator, IsCausedBySome};
+ghost use Rattle.tl_action.specs.RowLists.{IsRows};
+ghost use Rattle.tl_action.specs.UnderFrames.{AreRowsUnder, IsRowFaultUnder};
 ghost use Rattle.tl_syntax.specs.Kept.{OperatorKeeps};
 ghost use Rattle.tl_syntax.specs.Lists.{Each, Rises};
 ghost use Rattle.tl_syntax.specs.Signature.{signature_of};
-ghost use Rattle.tl_terms.specs.NamedWorlds.{WorldIsNamed};
 ghost use Rattle.tl_terms.specs.Orders.{action_cmp};
-ghost use Rattle.tl_terms.specs.ProblemMeaning.{plain_operator, plain_problem};
+ghost use Rattle.tl_terms.specs.ProblemMeaning.{plain_problem};
 
 use crate::ActFault;
 use crate::join::{JoinOrder, join};
@@ -36,8 +34,8 @@ fn rows_of(
     operator: &Operator,
 ) -> Result<Vec<Values>, ActFault>
     requires { OperatorKeeps (signature_of task.now.problem.domain) (length task.now.problem.names) operator.now }
-    ensures rows { IfOk result (λ rows. AreRowsOf (plain_problem task.now.problem) w.now (plain_operator operator.now) (assignment_in env.old) rows.items) }
-    ensures cause { IfErr result (IsRowFault (plain_problem task.now.problem) w.now (plain_operator operator.now) [] operator.now.bounds (assignment_in env.old)) }
+    ensures rows { IfOk result (λ rows. AreRowsUnder task.now w.now operator.now env.old rows.items) }
+    ensures cause { IfErr result (IsRowFaultUnder task.now w.now operator.now env.old) }
 {
     let order = JoinOrder::of(alloc, task, w, operator)?;
     let mut rows = Vec::new(alloc);
@@ -65,7 +63,7 @@ pub fn actions(alloc: Global, task: &Task, w: &World, env: &mut Env) -> Result<A
     ensures actions { IfOk result (AreActions (plain_problem task.now.problem) w.now) }
     ensures order { IfOk result (Rises action_cmp) }
     ensures fit { IfOk result (Each (HasOperator (plain_problem task.now.problem))) }
-    ensures named { IfOk result (λ found. WorldIsNamed (length task.now.problem.names) w.now → Each (ArgumentsAreNamed (length task.now.problem.names)) found) }
+    ensures named { IfOk result (λ found. ActionsAreNamed (length task.now.problem.names) w.now found) }
     ensures cause { IfErr result (IsCausedBySome (plain_problem task.now.problem) w.now) }
 {
     let operators = task.problem.domain.operators.as_slice();

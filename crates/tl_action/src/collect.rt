@@ -1,19 +1,12 @@
 // The changes that effects make, all read in one world.
 ghost use Rattle.std.specs.Prelude.{◌≡◌};
-ghost use Rattle.tl_action.specs.Agreement.{EffectReads, EffectsRead, EachReads, EffectLeaves, EffectsLeave, EachLeaves};
-ghost use Rattle.tl_action.specs.Collected.{Collects, CollectsEach, GivesFact, GivesPlace};
-ghost use Rattle.tl_eval.specs.Frames.{assignment_in};
+ghost use Rattle.tl_action.specs.Agreement.{EffectReads, EffectsRead, EachReads};
+ghost use Rattle.tl_action.specs.UnderFrames.{FactIsCollected, PlaceIsCollected, EffectIsCollected, EffectsAreCollected, EachIsCollected, EffectLeavesFrame, EffectsLeaveFrame, EachLeavesFrame};
 ghost use Rattle.tl_syntax.specs.BoundVariables.{DifferInSlot, OccurIn};
 ghost use Rattle.tl_syntax.specs.Fits.{BoundFits, TermFits, TermsFit};
 ghost use Rattle.tl_syntax.specs.Signature.{signature_of};
 ghost use Rattle.tl_syntax.specs.TreeOfEffect.{tree_of_effect, tree_of_effects};
 ghost use Rattle.tl_syntax.specs.TreeOfTerm.{tree_of_term, tree_of_terms};
-ghost use Rattle.tl_terms.specs.Bounds.{tuples};
-ghost use Rattle.tl_terms.specs.Definitions.{situation_of};
-ghost use Rattle.tl_terms.specs.Looked.{looked_in_each, looked_in_term, looked_in_effect, looked_in_effects, looks_of};
-ghost use Rattle.tl_terms.specs.ProblemMeaning.{plain_problem};
-ghost use Rattle.tl_terms.specs.Step.{effect_instances, all_instances};
-ghost use Rattle.tl_terms.specs.Terms.{term_value, term_values};
 
 use crate::ActFault;
 use crate::changes::Changes;
@@ -34,7 +27,7 @@ fn collect_fact(
     facts: &mut Facts,
 ) -> Result<bool, ActFault>
     requires { TermsFit (signature_of task.now.problem.domain) (tree_of_terms terms.now) }
-    ensures fact { GivesFact pred (term_values w.now (assignment_in env.old) (tree_of_terms terms.now)) (looked_in_each w.now (assignment_in env.old) (tree_of_terms terms.now)) facts.old facts.new result }
+    ensures fact { FactIsCollected w.now env.old pred terms.now facts.old facts.new result }
     ensures frame { env.new ≡ env.old }
 {
     match values_of(alloc, task, w, env, terms) {
@@ -60,7 +53,7 @@ fn collect_place(
 ) -> Result<bool, ActFault>
     requires args { TermsFit (signature_of task.now.problem.domain) (tree_of_terms terms.now) }
     requires value { TermFits (signature_of task.now.problem.domain) (tree_of_term value.now) }
-    ensures place { GivesPlace fun (term_values w.now (assignment_in env.old) (tree_of_terms terms.now)) (term_value w.now (assignment_in env.old) (tree_of_term value.now)) (looked_in_each w.now (assignment_in env.old) (tree_of_terms terms.now)) (looked_in_term w.now (assignment_in env.old) (tree_of_term value.now)) places.old places.new result }
+    ensures place { PlaceIsCollected w.now env.old fun terms.now value.now places.old places.new result }
     ensures frame { env.new ≡ env.old }
 {
     match values_of(alloc, task, w, env, terms) {
@@ -88,8 +81,8 @@ fn collect(
     changes: &mut Changes,
 ) -> Result<bool, ActFault>
     requires { EffectReads (signature_of task.now.problem.domain) (tree_of_effect effect.now) }
-    ensures changes { Collects (effect_instances (situation_of (plain_problem task.now.problem) w.now) (assignment_in env.old) (tree_of_effect effect.now)) (looked_in_effect (looks_of (plain_problem task.now.problem) w.now) (situation_of (plain_problem task.now.problem) w.now) (assignment_in env.old) (tree_of_effect effect.now)) changes.old changes.new result }
-    ensures frame { EffectLeaves (signature_of task.now.problem.domain) (tree_of_effect effect.now) (assignment_in env.old) (assignment_in env.new) }
+    ensures changes { EffectIsCollected task.now w.now env.old effect.now changes.old changes.new result }
+    ensures frame { EffectLeavesFrame task.now effect.now env.old env.new }
 {
     match effect {
         Effect::Add(pred, args) => {
@@ -123,8 +116,8 @@ pub(crate) fn collect_all(
     changes: &mut Changes,
 ) -> Result<bool, ActFault>
     requires { EffectsRead (signature_of task.now.problem.domain) (tree_of_effects effects.now) }
-    ensures changes { Collects (all_instances (situation_of (plain_problem task.now.problem) w.now) (assignment_in env.old) (tree_of_effects effects.now)) (looked_in_effects (looks_of (plain_problem task.now.problem) w.now) (situation_of (plain_problem task.now.problem) w.now) (assignment_in env.old) (tree_of_effects effects.now)) changes.old changes.new result }
-    ensures frame { EffectsLeave (signature_of task.now.problem.domain) (tree_of_effects effects.now) (assignment_in env.old) (assignment_in env.new) }
+    ensures changes { EffectsAreCollected task.now w.now env.old effects.now changes.old changes.new result }
+    ensures frame { EffectsLeaveFrame task.now effects.now env.old env.new }
 {
     for effect in effects.as_slice().iter() {
         match collect(alloc, task, w, env, effect, changes) {
@@ -152,8 +145,8 @@ fn collect_each(
     requires differ { DifferInSlot vars.now }
     requires occur { OccurIn vars.now bound.now }
     requires fits { BoundFits (signature_of task.now.problem.domain) bound.now }
-    ensures changes { CollectsEach (plain_problem task.now.problem) w.now (assignment_in env.old) vars.now (tree_of_effects effects.now) (tuples (situation_of (plain_problem task.now.problem) w.now) (assignment_in env.old) vars.now bound.now) changes.old changes.new result }
-    ensures frame { EachLeaves (signature_of task.now.problem.domain) vars.now (tree_of_effects effects.now) (assignment_in env.old) (assignment_in env.new) }
+    ensures changes { EachIsCollected task.now w.now env.old vars.now bound.now effects.now changes.old changes.new result }
+    ensures frame { EachLeavesFrame task.now vars.now effects.now env.old env.new }
 {
     let mut tuples = TupleReader::open(task, env, vars, bound);
     while tuples.next(task, w, bound) {

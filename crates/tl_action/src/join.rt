@@ -1,12 +1,12 @@
 // The rows of values with which an operator can be applied, by a join of its bounds.
-ghost use Rattle.std.specs.Prelude.{◌≡◌, ◌<◌, ◌≤◌, length, take, IfNone, IfOk, IfSome};
+ghost use Rattle.std.specs.Prelude.{◌≡◌, ◌<◌, ◌≤◌, length, IfNone, IfOk, IfSome};
 ghost use Rattle.tl_action.specs.Agreement.{Agree};
-ghost use Rattle.tl_action.specs.Join.{arranged, HasNoCompletion, IsJoinOrder, IsPassed, JoinsFrom, JoinsRow, Known};
+ghost use Rattle.tl_action.specs.Join.{arranged, IsJoinOrder};
+ghost use Rattle.tl_action.specs.UnderFrames.{IsPassedUnder, HasNoneUnder, RowIsJoined, RowsAreJoined, KeepsKnown};
 ghost use Rattle.tl_eval.specs.Frames.{assignment_in};
 ghost use Rattle.tl_syntax.specs.FreeVariables.{slots_of};
 ghost use Rattle.tl_syntax.specs.Kept.{OperatorKeeps};
 ghost use Rattle.tl_syntax.specs.Signature.{signature_of};
-ghost use Rattle.tl_terms.specs.ProblemMeaning.{plain_problem};
 
 use crate::ActFault;
 use crate::first_bound::{bounds_in, first_bound, moved_bounds};
@@ -77,7 +77,7 @@ fn find_row(
 ) -> Result<(), ActFault>
     requires keeps { OperatorKeeps (signature_of task.now.problem.domain) (length task.now.problem.names) operator.now }
     requires order { IsJoinOrder operator.now order.now }
-    ensures rows { JoinsRow (plain_problem task.now.problem) w.now (arranged operator.now order.now) (assignment_in env.old) rows.old.items rows.new.items result }
+    ensures rows { RowIsJoined task.now w.now operator.now order.now env.old rows.old.items rows.new.items result }
     ensures frame { Agree (slots_of operator.now.params) (assignment_in env.new) (assignment_in env.old) }
 {
     match values_of(alloc, task, w, env, &order.terms) {
@@ -107,8 +107,8 @@ fn next_level(
     requires keeps { OperatorKeeps (signature_of task.now.problem.domain) (length task.now.problem.names) operator.now }
     requires order { IsJoinOrder operator.now order.now }
     requires within { j ≤ length (arranged operator.now order.now).bounds }
-    ensures passed { IfSome result (IsPassed (plain_problem task.now.problem) w.now (arranged operator.now order.now) (assignment_in env.now) j) }
-    ensures none { IfNone result (HasNoCompletion (plain_problem task.now.problem) w.now (arranged operator.now order.now) (assignment_in env.now) j) }
+    ensures passed { IfSome result (IsPassedUnder task.now w.now operator.now order.now env.now j) }
+    ensures none { IfNone result (HasNoneUnder task.now w.now operator.now order.now env.now j) }
 {
     let bounds = order.bounds(operator);
     let levels = order.levels.as_slice();
@@ -138,8 +138,8 @@ fn join_level(
     requires keeps { OperatorKeeps (signature_of task.now.problem.domain) (length task.now.problem.names) operator.now }
     requires order { IsJoinOrder operator.now order.now }
     requires within { j < length (arranged operator.now order.now).bounds }
-    ensures rows { JoinsFrom (plain_problem task.now.problem) w.now (arranged operator.now order.now) j (assignment_in env.old) rows.old.items rows.new.items result }
-    ensures frame { Known (take j (arranged operator.now order.now).bounds) operator.now.params (assignment_in env.new) (assignment_in env.old) }
+    ensures rows { RowsAreJoined task.now w.now operator.now order.now j env.old rows.old.items rows.new.items result }
+    ensures frame { KeepsKnown operator.now order.now j env.old env.new }
 {
     let bounds = order.bounds(operator);
     let levels = order.levels.as_slice();
@@ -176,8 +176,8 @@ pub(crate) fn join(
     requires keeps { OperatorKeeps (signature_of task.now.problem.domain) (length task.now.problem.names) operator.now }
     requires order { IsJoinOrder operator.now order.now }
     requires within { j ≤ length (arranged operator.now order.now).bounds }
-    ensures rows { JoinsFrom (plain_problem task.now.problem) w.now (arranged operator.now order.now) j (assignment_in env.old) rows.old.items rows.new.items result }
-    ensures frame { Known (take j (arranged operator.now order.now).bounds) operator.now.params (assignment_in env.new) (assignment_in env.old) }
+    ensures rows { RowsAreJoined task.now w.now operator.now order.now j env.old rows.old.items rows.new.items result }
+    ensures frame { KeepsKnown operator.now order.now j env.old env.new }
 {
     match next_level(task, w, env, operator, order, j) {
         Some(k) => {

@@ -1,15 +1,14 @@
 // Whether an operator whose bounds are true can be applied, and what it then changes.
 ghost use Rattle.std.specs.Prelude.{◌≡◌, length};
 ghost use Rattle.tl_action.specs.Agreement.{Agree};
-ghost use Rattle.tl_action.specs.Answers.{Answers};
-ghost use Rattle.tl_action.specs.Prepared.{CollectsWhole, HaveValues, Prepares, is_prepared, looked_prepared};
+ghost use Rattle.tl_action.specs.Prepared.{HaveValues};
 ghost use Rattle.tl_action.specs.Sure.{are_sure};
+ghost use Rattle.tl_action.specs.UnderFrames.{AnswersPrepared, ChangesAreCollected, ChangesArePrepared};
 ghost use Rattle.tl_eval.specs.Frames.{assignment_in};
 ghost use Rattle.tl_syntax.specs.FreeVariables.{slots_of};
 ghost use Rattle.tl_syntax.specs.Kept.{OperatorKeeps};
 ghost use Rattle.tl_syntax.specs.Signature.{signature_of};
 ghost use Rattle.tl_syntax.specs.TreeOfEffect.{tree_of_effects};
-ghost use Rattle.tl_terms.specs.ProblemMeaning.{plain_operator, plain_problem};
 
 use crate::ActFault;
 use crate::changes::Changes;
@@ -30,7 +29,7 @@ pub(crate) fn prepared(
     operator: &Operator,
 ) -> Result<Option<Changes>, ActFault>
     requires { OperatorKeeps (signature_of task.now.problem.domain) (length task.now.problem.names) operator.now }
-    ensures changes { Prepares (plain_problem task.now.problem) w.now (assignment_in env.old) (plain_operator operator.now) result }
+    ensures changes { ChangesArePrepared task.now w.now operator.now env.old result }
     ensures frame { Agree (slots_of operator.now.params) (assignment_in env.new) (assignment_in env.old) }
 {
     match state(task, w, env, &operator.pre) {
@@ -53,7 +52,7 @@ pub(crate) fn is_prepared(
     requires keeps { OperatorKeeps (signature_of task.now.problem.domain) (length task.now.problem.names) operator.now }
     requires values { HaveValues (slots_of operator.now.params) (assignment_in env.old) }
     requires sure { sure ≡ are_sure (tree_of_effects operator.now.effects) }
-    ensures answer { Answers (is_prepared (plain_problem task.now.problem) w.now (assignment_in env.old) (plain_operator operator.now)) (looked_prepared (plain_problem task.now.problem) w.now (assignment_in env.old) (plain_operator operator.now)) result }
+    ensures answer { AnswersPrepared task.now w.now operator.now env.old result }
     ensures frame { Agree (slots_of operator.now.params) (assignment_in env.new) (assignment_in env.old) }
 {
     if sure {
@@ -78,7 +77,7 @@ fn collected(
     operator: &Operator,
 ) -> Result<Option<Changes>, ActFault>
     requires { OperatorKeeps (signature_of task.now.problem.domain) (length task.now.problem.names) operator.now }
-    ensures changes { CollectsWhole (plain_problem task.now.problem) w.now (assignment_in env.old) (plain_operator operator.now) result }
+    ensures changes { ChangesAreCollected task.now w.now operator.now env.old result }
     ensures frame { Agree (slots_of operator.now.params) (assignment_in env.new) (assignment_in env.old) }
 {
     let mut changes = Changes::new(alloc);

@@ -1,12 +1,9 @@
 // The values of the terms of an effect.
 ghost use Rattle.std.specs.Prelude.{◌≡◌};
-ghost use Rattle.tl_action.specs.Answers.{Answers};
-ghost use Rattle.tl_eval.specs.Frames.{assignment_in};
+ghost use Rattle.tl_action.specs.UnderFrames.{AnswersValues};
 ghost use Rattle.tl_syntax.specs.Fits.{TermsFit};
 ghost use Rattle.tl_syntax.specs.Signature.{signature_of};
 ghost use Rattle.tl_syntax.specs.TreeOfTerm.{tree_of_terms};
-ghost use Rattle.tl_terms.specs.Looked.{looked_in_each};
-ghost use Rattle.tl_terms.specs.Terms.{term_values};
 
 use crate::ActFault;
 use std::alloc::Global;
@@ -24,7 +21,7 @@ pub(crate) fn values_of(
     terms: &Terms,
 ) -> Result<Option<Values>, ActFault>
     requires { TermsFit (signature_of task.now.problem.domain) (tree_of_terms terms.now) }
-    ensures values { Answers (term_values w.now (assignment_in env.old) (tree_of_terms terms.now)) (looked_in_each w.now (assignment_in env.old) (tree_of_terms terms.now)) result }
+    ensures values { AnswersValues w.now env.old terms.now result }
     ensures frame { env.new ≡ env.old }
 {
     let mut values = Values::new(alloc);

@@ -4,7 +4,7 @@ use Rattle.std.specs.Prelude.{pos, codes}
 use Rattle.std.specs.FinSet as set
 use Rattle.tl_sexpr.specs.Tree.{FormTree, symbol, integer, list, no_form, more_forms}
 use Rattle.tl_syntax.specs.declared.operator.Operator.{Operator}
-use Rattle.tl_syntax.specs.TotalOrders.{key_total}
+use Rattle.tl_syntax.proofs.TotalOrders.{key_total}
 use Rattle.tl_syntax.specs.Trees.{falsum}
 use Rattle.tl_rules.specs.declared.rule.Rule.TheVariants.{Shape, Limit, NoPair}
 use Rattle.tl_rules.specs.Rules.{first_break}

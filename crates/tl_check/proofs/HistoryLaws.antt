@@ -22,7 +22,7 @@ use Rattle.tl_syntax.specs.declared.value.Value.{Value}
 use Rattle.tl_syntax.specs.DerivedTests.{fact_eq}
 use Rattle.tl_syntax.specs.Keys.{Key, key_cmp, fact_key}
 use Rattle.tl_syntax.specs.Lists.{Each, Among}
-use Rattle.tl_syntax.specs.TotalOrders.{key_total}
+use Rattle.tl_syntax.proofs.TotalOrders.{key_total}
 use Rattle.tl_terms.specs.ProblemMeaning.{world_of}
 use Rattle.tl_terms.specs.World.{World, has_fact}
 

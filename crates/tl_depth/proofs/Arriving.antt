@@ -10,7 +10,7 @@ use Rattle.tl_depth.specs.Tables.{IsUncut, entries_left}
 use Rattle.tl_depth.specs.Levels.{path_of, stepped, frames_of, IsRunning, level_height}
 use Rattle.tl_depth.specs.PairGraph.{graph_of}
 use Rattle.tl_search.specs.PairGraph.{next_pair, unless_pruned}
-use Rattle.tl_depth.specs.SamePairs.{pair_discrete}
+use Rattle.tl_terms.proofs.SamePairs.{pair_discrete}
 use Rattle.tl_search.specs.RangeCauses.{IsRangeCause, HasNoSimplePlanBefore}
 use Rattle.tl_search.proofs.RangeLaws.{range-by-idling, range-by-action}
 use Rattle.tl_eval.specs.declared.range.RangeNote.{RangeNote}

@@ -13,7 +13,7 @@ use Rattle.tl_depth.specs.PairGraph.{first_pair, graph_of}
 use Rattle.tl_depth.specs.Tables.{IsUncut}
 use Rattle.tl_search.proofs.PathLaws.{pair-first}
 use Rattle.tl_search.specs.PairGraph.{unless_pruned}
-use Rattle.tl_depth.specs.SamePairs.{pair_discrete}
+use Rattle.tl_terms.proofs.SamePairs.{pair_discrete}
 use Rattle.tl_search.specs.RangeCauses.{IsRangeCause, HasNoSimplePlanBefore}
 use Rattle.tl_search.proofs.RangeLaws.{range-at-root, range-by-idling, range-by-action}
 use Rattle.tl_eval.specs.declared.range.RangeNote.{RangeNote}

@@ -10,7 +10,7 @@ use Rattle.tl_depth.specs.Search.{Reports, ReportsOneMore}
 use Rattle.tl_depth.specs.Tables.{IsUncut, entries_left}
 use Rattle.tl_depth.specs.Levels.{stepped, frames_of, IsRunning, level_height}
 use Rattle.tl_depth.specs.PairGraph.{first_pair, graph_of}
-use Rattle.tl_depth.specs.SamePairs.{pair_discrete}
+use Rattle.tl_terms.proofs.SamePairs.{pair_discrete}
 use Rattle.tl_depth.specs.declared.level.Level.{Level}
 use Rattle.tl_depth.proofs.LevelFacts.{get-rest, frames-height, frames-sized}
 use Rattle.tl_depth.proofs.Tables.{height-bounded}

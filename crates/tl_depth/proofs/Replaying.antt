@@ -18,7 +18,7 @@ use Rattle.tl_depth.specs.Levels.{node_at, frame_of, frames_of}
 use Rattle.tl_depth.specs.Ongoing.{IsOngoing, IsArrived}
 use Rattle.tl_depth.specs.Outcomes.{Reported}
 use Rattle.tl_depth.specs.PairGraph.{graph_of}
-use Rattle.tl_depth.specs.SamePairs.{pair_discrete}
+use Rattle.tl_terms.proofs.SamePairs.{pair_discrete}
 use Rattle.tl_depth.specs.Search.{AreFrames}
 use Rattle.tl_depth.specs.Tables.{met_in}
 use Rattle.tl_depth.specs.declared.level.Level.{Level}

@@ -10,7 +10,7 @@ use Rattle.tl_depth.specs.Search.{Reports}
 use Rattle.tl_depth.specs.Levels.{IsRunning, path_of}
 use Rattle.tl_depth.specs.PairGraph.{first_pair, graph_of}
 use Rattle.tl_search.specs.PairGraph.{next_pair, unless_pruned}
-use Rattle.tl_depth.specs.SamePairs.{pair_discrete}
+use Rattle.tl_terms.proofs.SamePairs.{pair_discrete}
 use Rattle.tl_search.specs.RangeCauses.{HasNoSimplePlanBefore}
 use Rattle.tl_search.specs.Plans.{IsFirstSimplePlan}
 use Rattle.tl_depth.specs.Answers.{IsLed, AreLed, IsExhausted, IsActionSum}

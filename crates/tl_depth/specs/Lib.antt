@@ -2,7 +2,6 @@ pub mod ActionGraphs
 pub mod Search
 pub mod Tables
 pub mod Levels
-pub mod SamePairs
 pub mod PairGraph
 pub mod Answers
 pub mod Arrivals

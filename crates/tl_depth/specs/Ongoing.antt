@@ -9,7 +9,7 @@ use Rattle.tl_depth.specs.Tables.{IsUncut, entries_left}
 use Rattle.tl_depth.specs.Levels.{IsRunning, level_height}
 use Rattle.tl_depth.specs.PairGraph.{first_pair, graph_of}
 use Rattle.tl_search.specs.PairGraph.{next_pair, unless_pruned}
-use Rattle.tl_depth.specs.SamePairs.{pair_discrete}
+use Rattle.tl_terms.proofs.SamePairs.{pair_discrete}
 use Rattle.tl_eval.specs.Notes.{Tells}
 use Rattle.tl_terms.specs.Looked.{looked_by_action}
 use Rattle.tl_search.specs.ListedActions.{ListsActions}

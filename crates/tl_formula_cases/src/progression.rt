@@ -46,7 +46,8 @@ fn one_of(ids: &Ids, i: usize) -> Result<usize, Fail>
 fn part_of(nodes: &Nodes, whole: usize, i: usize) -> Result<usize, Fail>
     requires { whole < length (trees nodes.now) }
     ensures number { IfOk result (λ n. n < length (trees nodes.now)) }
-    ensures sentence { IfOk result (λ n. (g : Signature) → IsSentence g (tree_at (trees nodes.now) whole) → IsSentence g (tree_at (trees nodes.now) n)) }
+    ensures sentence { IfOk result (λ n. (g : Signature)
+        → IsSentence g (tree_at (trees nodes.now) whole) → IsSentence g (tree_at (trees nodes.now) n)) }
 {
     match nodes.get(whole) {
         Node::And(parts) => one_of(parts, i),
@@ -306,7 +307,8 @@ fn a_state_formula_adds_no_node(rt: HostRuntime) -> Result<(), Fail> {
 fn not_always(nodes: &mut Nodes, id: usize) -> Result<usize, Fail>
     requires { id < length (trees nodes.old) }
     ensures number { IfOk result (λ n. n < length (trees nodes.new)) }
-    ensures sentence { IfOk result (λ n. (g : Signature) → IsSentence g (tree_at (trees nodes.old) id) → IsSentence g (tree_at (trees nodes.new) n)) }
+    ensures sentence { IfOk result (λ n. (g : Signature)
+        → IsSentence g (tree_at (trees nodes.old) id) → IsSentence g (tree_at (trees nodes.new) n)) }
 {
     let always = nodes.intern(Node::Always(id))?;
     let number = nodes.intern(Node::Not(always))?;

@@ -99,7 +99,8 @@ fn action(
 /// It breaks `Rule::Shape` where it is no list that begins with a symbol, `Rule::NoOperator` where that names no operator, `Rule::ArgumentCount` where the number of its arguments is not that of the operator's parameters, and `Rule::NotAValue` at an argument that is a list, a variable or a symbol of neither file. The fault is the one with the least offset, and there the least rule.
 pub fn action_of(alloc: Global, form: &Form, problem: &Problem) -> Result<Action, FormFault>
     ensures read { ReadsAction problem.now (tree_of form.now) result }
-    ensures least { (low next : ℕ) → RisesFrom low (tree_of form.now) next → IfErr result (IsLeastFault (action_breaks_in problem.now (tree_of form.now))) }
+    ensures least { (low next : ℕ) → RisesFrom low (tree_of form.now) next
+        → IfErr result (IsLeastFault (action_breaks_in problem.now (tree_of form.now))) }
     ensures named { IfOk result (λ action. ActionIsNamed problem.now.names problem.now.domain.operators action) }
 {
     action(

@@ -1,7 +1,7 @@
 -- Lists of trees in which of equal trees the first stays.
 use Rattle.std.proofs.Common.{◌≡◌, Bool, true, false, true≢false, cond, not, List, [], ◌∷◌, ◌++◌, ◌||◌, ◌&&◌, filter, refl, sym, ap, ◌∙◌, subst}
 use Rattle.std.specs.List.{list_any}
-use Rattle.tl_syntax.specs.Same.{formula_discrete}
+use Rattle.tl_syntax.proofs.Same.{formula_discrete}
 use Rattle.tl_syntax.specs.Trees.{FormulaTree}
 use Rattle.tl_terms.specs.Simplification.{same_formula, is_yes, without_repeats}
 use Rattle.tl_terms.proofs.Simplification.{same_formula-is}

@@ -51,7 +51,8 @@ pub fn read_whole<S: Store>(
     ensures count { IfOk result (λ bytes. (length bytes ≡ S.taken store.new) × (length bytes ≤ limit)) }
     ensures too_long { IsErrOf result ReadFault.TooLong → (S.taken store.new ≡ limit + 1)
         × IsLonger (S.files store.old) name.now limit }
-    ensures failed { IsErrOf result ReadFault.Failed → Lacks (S.files store.old) name.now ⊎ Rose (S.faults store.old) (S.faults store.new) }
+    ensures failed { IsErrOf result ReadFault.Failed
+        → Lacks (S.files store.old) name.now ⊎ Rose (S.faults store.old) (S.faults store.new) }
     ensures whole { OnOk result (S.whole store.new ≡ told_file (S.files store.old) name.now) }
     ensures whole_too_long { IsErrOf result ReadFault.TooLong → S.whole store.new ≡ told_file (S.files store.old) name.now }
     ensures files { S.files store.new ≡ S.files store.old }

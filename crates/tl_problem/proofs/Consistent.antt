@@ -13,7 +13,7 @@ use Rattle.tl_syntax.specs.declared.place_value.PlaceValue.{PlaceValue}
 use Rattle.tl_syntax.specs.declared.value.Value.{Value}
 use Rattle.tl_syntax.specs.DerivedTests.{fact_eq, value_eq, values_eq}
 use Rattle.tl_syntax.specs.Keys.{Key, key_cmp, value_cmp, fact_key, place_entry, agree, no_clash, share_key}
-use Rattle.tl_syntax.specs.TotalOrders.{key_total, key_ties, value_total}
+use Rattle.tl_syntax.proofs.TotalOrders.{key_total, key_ties, value_total}
 use Rattle.tl_syntax.proofs.Plain.{both, with_both, list-tells, value-tells, fact-tells}
 use Rattle.tl_problem.specs.Literals.{same_place, value_at, with_fact, with_value}
 

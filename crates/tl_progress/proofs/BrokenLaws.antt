@@ -13,14 +13,15 @@ use Rattle.tl_syntax.specs.declared.term.Term.{Term}
 use Rattle.tl_syntax.specs.declared.term.Terms.{Terms}
 use Rattle.tl_syntax.specs.declared.value.Value.{Value}
 use Rattle.tl_syntax.specs.Assignment.{Assignment, no_values}
+use Rattle.tl_syntax.specs.DerivedTests.{fact_eq}
 use Rattle.tl_syntax.specs.Keys.{key_cmp, fact_key}
 use Rattle.tl_syntax.specs.Lists.{Among}
-use Rattle.tl_syntax.specs.TotalOrders.{key_total}
+use Rattle.tl_syntax.proofs.TotalOrders.{key_total}
 use Rattle.tl_syntax.specs.TreeOfFormula.{tree_of_formula}
 use Rattle.tl_syntax.specs.TreeOfTerm.{tree_of_term, terms_of_list}
 use Rattle.tl_syntax.specs.Trees.{TermTree, variable, value, place, arith, FormulaTree, falsum, atom, conjunction, formulas_of_list}
 use Rattle.tl_syntax.proofs.FormulaTrees.{tree-Atom}
-use Rattle.tl_syntax.proofs.Plain.{both, fact_eq, fact_eq-key, value-tells}
+use Rattle.tl_syntax.proofs.Plain.{both, fact_eq-key, value-tells}
 use Rattle.tl_syntax.proofs.TermTrees.{trees-Terms}
 use Rattle.tl_terms.specs.Bounds.{fact_in}
 use Rattle.tl_terms.specs.Definitions.{situation_of}

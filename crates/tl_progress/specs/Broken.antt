@@ -5,11 +5,10 @@ use Rattle.tl_syntax.specs.declared.fact.Fact.{Fact}
 use Rattle.tl_syntax.specs.declared.term.Term.{Term}
 use Rattle.tl_syntax.specs.declared.value.Value.{Value}
 use Rattle.tl_syntax.specs.Assignment.{no_values}
-use Rattle.tl_syntax.specs.DerivedTests.{value_eq}
+use Rattle.tl_syntax.specs.DerivedTests.{fact_eq, value_eq}
 use Rattle.tl_syntax.specs.Keys.{fact_key}
 use Rattle.tl_syntax.specs.TreeOfTerm.{tree_of_term}
 use Rattle.tl_syntax.specs.Trees.{FormulaTree, TermTree, variable, value, place, arith}
-use Rattle.tl_syntax.proofs.Plain.{fact_eq}
 use Rattle.tl_terms.specs.Definitions.{situation_of}
 use Rattle.tl_terms.specs.Problem.{PlainProblem}
 use Rattle.tl_terms.specs.Progression.{constant, progressed}

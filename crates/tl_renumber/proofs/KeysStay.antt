@@ -15,7 +15,7 @@ use Rattle.tl_syntax.specs.Kept.{FactKeeps, PlaceKeeps}
 use Rattle.tl_syntax.specs.Lists.{Each}
 use Rattle.tl_syntax.specs.Named.{ValueIsNamed}
 use Rattle.tl_syntax.specs.Signature.{Signature, Takes}
-use Rattle.tl_syntax.specs.TotalOrders.{value_total, key_total, value_ties, key_ties}
+use Rattle.tl_syntax.proofs.TotalOrders.{value_total, key_total, value_ties, key_ties}
 use Rattle.tl_syntax.proofs.ListLaws.{same_test}
 use Rattle.tl_renumber.specs.Numbers.{Renumbering}
 use Rattle.tl_renumber.specs.Renumbered.{renumbered_value, renumbered_values, renumbered_fact, renumbered_place}

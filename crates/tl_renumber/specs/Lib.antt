@@ -1,5 +1,6 @@
 pub mod Numbers
 pub mod Renumbered
+pub mod RenumberedParts
 pub mod DomainTrees
 pub mod RenumberedDomain
 pub mod RenumberingKeeps

@@ -16,14 +16,16 @@ use tl_syntax::{
 /// The domain with the new numbers of its names: a number of a name becomes the one that the list has at it, and one past the list stays.
 /// Positions, slots and offsets stay. It fails for want of memory alone, and the old domain is gone then too.
 pub fn renumber_domain(alloc: Global, domain: Domain, numbers: &[u32]) -> Result<Domain, NoMemory>
-    ensures renumbered { IfOk result (λ out. domain_tree out ≡ renumbered_domain (number_in numbers.now) (domain_tree domain)) }
+    ensures renumbered { IfOk result (λ out. domain_tree out
+        ≡ renumbered_domain (number_in numbers.now) (domain_tree domain)) }
 {
     renumber_parts(alloc, &domain, numbers)
 }
 
 // A new domain with the new numbers.
 fn renumber_parts(alloc: Global, domain: &Domain, numbers: &[u32]) -> Result<Domain, NoMemory>
-    ensures { IfOk result (λ out. domain_tree out ≡ renumbered_domain (number_in numbers.now) (domain_tree domain.now)) }
+    ensures { IfOk result (λ out. domain_tree out
+        ≡ renumbered_domain (number_in numbers.now) (domain_tree domain.now)) }
 {
     let predicates = renumber_declarations(alloc, &domain.predicates, numbers)?;
     let functions = renumber_declarations(alloc, &domain.functions, numbers)?;
@@ -64,7 +66,8 @@ fn renumber_definitions(
     definitions: &Definitions,
     numbers: &[u32],
 ) -> Result<Definitions, NoMemory>
-    ensures { IfOk result (λ out. map definition_tree out ≡ map (λ d. renumbered_definition (number_in numbers.now) (definition_tree d)) definitions.now) }
+    ensures { IfOk result (λ out. map definition_tree out
+        ≡ map (λ d. renumbered_definition (number_in numbers.now) (definition_tree d)) definitions.now) }
 {
     let mut out = Definitions::new(alloc);
     for definition in definitions.as_slice().iter() {
@@ -79,7 +82,8 @@ fn renumber_definition(
     definition: &Definition,
     numbers: &[u32],
 ) -> Result<Definition, NoMemory>
-    ensures { IfOk result (λ out. definition_tree out ≡ renumbered_definition (number_in numbers.now) (definition_tree definition.now)) }
+    ensures { IfOk result (λ out. definition_tree out
+        ≡ renumbered_definition (number_in numbers.now) (definition_tree definition.now)) }
 {
     let params = renumber_variables(alloc, &definition.params, numbers)?;
     let body = renumber_formula(alloc, &definition.body, numbers)?;
@@ -97,7 +101,8 @@ fn renumber_operators(
     operators: &Operators,
     numbers: &[u32],
 ) -> Result<Operators, NoMemory>
-    ensures { IfOk result (λ out. map operator_tree out ≡ map (λ o. renumbered_operator (number_in numbers.now) (operator_tree o)) operators.now) }
+    ensures { IfOk result (λ out. map operator_tree out
+        ≡ map (λ o. renumbered_operator (number_in numbers.now) (operator_tree o)) operators.now) }
 {
     let mut out = Operators::new(alloc);
     for operator in operators.as_slice().iter() {
@@ -112,7 +117,8 @@ fn renumber_operator(
     operator: &Operator,
     numbers: &[u32],
 ) -> Result<Operator, NoMemory>
-    ensures { IfOk result (λ out. operator_tree out ≡ renumbered_operator (number_in numbers.now) (operator_tree operator.now)) }
+    ensures { IfOk result (λ out. operator_tree out
+        ≡ renumbered_operator (number_in numbers.now) (operator_tree operator.now)) }
 {
     let params = renumber_variables(alloc, &operator.params, numbers)?;
     let bounds = renumber_bounds(alloc, &operator.bounds, numbers)?;

@@ -1,11 +1,11 @@
 // Effects with other numbers for their names.
 ghost use Rattle.std.specs.Prelude.{◌≡◌, IfOk};
 ghost use Rattle.tl_renumber.specs.Numbers.{number_in};
-ghost use Rattle.tl_renumber.specs.Renumbered.{renumbered, renumbered_bound, renumbered_effect, renumbered_effects, renumbered_term, renumbered_terms, renumbered_variables};
-ghost use Rattle.tl_syntax.specs.Effects.{assign, each, when};
+ghost use Rattle.tl_renumber.specs.Renumbered.{renumbered, renumbered_effect, renumbered_effects};
+ghost use Rattle.tl_renumber.specs.RenumberedParts.{renumbered_assignment, renumbered_repetition};
+ghost use Rattle.tl_syntax.specs.Effects.{when};
 ghost use Rattle.tl_syntax.specs.TreeOfEffect.{tree_of_effect, tree_of_effects};
 ghost use Rattle.tl_syntax.specs.TreeOfFormula.{tree_of_formula};
-ghost use Rattle.tl_syntax.specs.TreeOfTerm.{tree_of_term, tree_of_terms};
 
 use crate::formulas::renumber_formula;
 use crate::parts::renumber_scope;
@@ -20,7 +20,8 @@ pub fn renumber_effects(
     effects: &Effects,
     numbers: &[u32],
 ) -> Result<Effects, NoMemory>
-    ensures renumbered { IfOk result (λ out. tree_of_effects out ≡ renumbered_effects (number_in numbers.now) (tree_of_effects effects.now)) }
+    ensures renumbered { IfOk result (λ out. tree_of_effects out
+        ≡ renumbered_effects (number_in numbers.now) (tree_of_effects effects.now)) }
 {
     let mut out = Effects::new(alloc);
     for effect in effects.as_slice().iter() {
@@ -34,7 +35,8 @@ pub fn renumber_effects(
 #[cycle(renumber_effect)]
 #[tactic(auto, using(crate::proofs::Trees::effect_trees), unfolding(crate::specs::Renumbered::renumbered_effect))]
 pub fn renumber_effect(alloc: Global, effect: &Effect, numbers: &[u32]) -> Result<Effect, NoMemory>
-    ensures renumbered { IfOk result (λ out. tree_of_effect out ≡ renumbered_effect (number_in numbers.now) (tree_of_effect effect.now)) }
+    ensures renumbered { IfOk result (λ out. tree_of_effect out
+        ≡ renumbered_effect (number_in numbers.now) (tree_of_effect effect.now)) }
 {
     match effect {
         Effect::Add(p, args) => Ok(Effect::Add(*p, renumber_terms(alloc, args, numbers)?)),
@@ -60,7 +62,8 @@ fn renumber_assignment(
     value: &Term,
     numbers: &[u32],
 ) -> Result<Effect, NoMemory>
-    ensures { IfOk result (λ out. tree_of_effect out ≡ assign fun (renumbered_terms (number_in numbers.now) (tree_of_terms args.now)) (renumbered_term (number_in numbers.now) (tree_of_term value.now))) }
+    ensures { IfOk result (λ out. tree_of_effect out
+        ≡ renumbered_assignment numbers.now fun args.now value.now) }
 {
     let args = renumber_terms(alloc, args, numbers)?;
     let value = renumber_term(alloc, value, numbers)?;
@@ -75,7 +78,8 @@ fn renumber_condition(
     effects: Effects,
     numbers: &[u32],
 ) -> Result<Effect, NoMemory>
-    ensures { IfOk result (λ out. tree_of_effect out ≡ when (renumbered (number_in numbers.now) (tree_of_formula condition.now)) (tree_of_effects effects)) }
+    ensures { IfOk result (λ out. tree_of_effect out
+        ≡ when (renumbered (number_in numbers.now) (tree_of_formula condition.now)) (tree_of_effects effects)) }
 {
     let condition = renumber_formula(alloc, condition, numbers)?;
     Ok(Effect::When(condition, effects))
@@ -90,7 +94,8 @@ fn renumber_repetition(
     effects: Effects,
     numbers: &[u32],
 ) -> Result<Effect, NoMemory>
-    ensures { IfOk result (λ out. tree_of_effect out ≡ each (renumbered_variables (number_in numbers.now) vars.now) (renumbered_bound (number_in numbers.now) bound.now) (tree_of_effects effects)) }
+    ensures { IfOk result (λ out. tree_of_effect out
+        ≡ renumbered_repetition numbers.now vars.now bound.now effects) }
 {
     let (vars, bound) = renumber_scope(alloc, vars, bound, numbers)?;
     Ok(Effect::Each(vars, bound, effects))

@@ -1,8 +1,8 @@
 // Formulas with other numbers for their names.
 ghost use Rattle.std.specs.Prelude.{◌≡◌, IfOk};
 ghost use Rattle.tl_renumber.specs.Numbers.{number_in};
-ghost use Rattle.tl_renumber.specs.Renumbered.{renumbered, renumbered_all, renumbered_bound, renumbered_variables};
-ghost use Rattle.tl_syntax.specs.Junctions.{quantified};
+ghost use Rattle.tl_renumber.specs.Renumbered.{renumbered, renumbered_all};
+ghost use Rattle.tl_renumber.specs.RenumberedParts.{renumbered_quantified};
 ghost use Rattle.tl_syntax.specs.TreeOfFormula.{tree_of_formula, tree_of_formulas};
 ghost use Rattle.tl_syntax.specs.Trees.{until};
 
@@ -21,7 +21,8 @@ pub fn renumber_formulas(
     formulas: &Formulas,
     numbers: &[u32],
 ) -> Result<Formulas, NoMemory>
-    ensures renumbered { IfOk result (λ out. tree_of_formulas out ≡ renumbered_all (number_in numbers.now) (tree_of_formulas formulas.now)) }
+    ensures renumbered { IfOk result (λ out. tree_of_formulas out
+        ≡ renumbered_all (number_in numbers.now) (tree_of_formulas formulas.now)) }
 {
     let mut out = Formulas::new(alloc);
     for formula in formulas.as_slice().iter() {
@@ -39,7 +40,8 @@ pub fn renumber_formula(
     formula: &Formula,
     numbers: &[u32],
 ) -> Result<Formula, NoMemory>
-    ensures renumbered { IfOk result (λ out. tree_of_formula out ≡ renumbered (number_in numbers.now) (tree_of_formula formula.now)) }
+    ensures renumbered { IfOk result (λ out. tree_of_formula out
+        ≡ renumbered (number_in numbers.now) (tree_of_formula formula.now)) }
 {
     match formula {
         Formula::True => Ok(Formula::True),
@@ -81,7 +83,8 @@ fn renumber_until(
     g: Formula,
     numbers: &[u32],
 ) -> Result<Formula, NoMemory>
-    ensures { IfOk result (λ out. tree_of_formula out ≡ until (renumbered (number_in numbers.now) (tree_of_formula f.now)) (tree_of_formula g)) }
+    ensures { IfOk result (λ out. tree_of_formula out
+        ≡ until (renumbered (number_in numbers.now) (tree_of_formula f.now)) (tree_of_formula g)) }
 {
     let f = renumber_formula(alloc, f, numbers)?;
     Formula::until(alloc, f, g)
@@ -97,7 +100,8 @@ fn renumber_quantified(
     f: &Formula,
     numbers: &[u32],
 ) -> Result<Formula, NoMemory>
-    ensures { IfOk result (λ out. tree_of_formula out ≡ quantified junction (renumbered_variables (number_in numbers.now) vars.now) (renumbered_bound (number_in numbers.now) bound.now) (renumbered (number_in numbers.now) (tree_of_formula f.now))) }
+    ensures { IfOk result (λ out. tree_of_formula out
+        ≡ renumbered_quantified numbers.now junction vars.now bound.now f.now) }
 {
     let (vars, bound) = renumber_scope(alloc, vars, bound, numbers)?;
     let f = renumber_formula(alloc, f, numbers)?;

@@ -1,10 +1,11 @@
 // Formulas that have no formula below them, with other numbers for their names.
 ghost use Rattle.std.specs.Prelude.{◌≡◌, IfOk};
 ghost use Rattle.tl_renumber.specs.Numbers.{number_in};
-ghost use Rattle.tl_renumber.specs.Renumbered.{renumbered_arg, renumbered_args, renumbered_term, renumbered_terms};
+ghost use Rattle.tl_renumber.specs.Renumbered.{renumbered_args, renumbered_terms};
+ghost use Rattle.tl_renumber.specs.RenumberedParts.{renumbered_comparison, renumbered_goal_place};
 ghost use Rattle.tl_syntax.specs.TreeOfFormula.{tree_of_formula};
-ghost use Rattle.tl_syntax.specs.TreeOfTerm.{tree_of_term, tree_of_terms};
-ghost use Rattle.tl_syntax.specs.Trees.{atom, compare, defined, goal_fact, goal_not, goal_place};
+ghost use Rattle.tl_syntax.specs.TreeOfTerm.{tree_of_terms};
+ghost use Rattle.tl_syntax.specs.Trees.{atom, defined, goal_fact, goal_not};
 
 use crate::parts::{renumber_arg, renumber_args};
 use crate::terms::{renumber_term, renumber_terms};
@@ -19,7 +20,8 @@ pub(crate) fn renumber_atom(
     args: &Terms,
     numbers: &[u32],
 ) -> Result<Formula, NoMemory>
-    ensures { IfOk result (λ out. tree_of_formula out ≡ atom pred (renumbered_terms (number_in numbers.now) (tree_of_terms args.now))) }
+    ensures { IfOk result (λ out. tree_of_formula out
+        ≡ atom pred (renumbered_terms (number_in numbers.now) (tree_of_terms args.now))) }
 {
     Ok(Formula::Atom(pred, renumber_terms(alloc, args, numbers)?))
 }
@@ -32,7 +34,8 @@ pub(crate) fn renumber_defined(
     args: &Terms,
     numbers: &[u32],
 ) -> Result<Formula, NoMemory>
-    ensures { IfOk result (λ out. tree_of_formula out ≡ defined number (renumbered_terms (number_in numbers.now) (tree_of_terms args.now))) }
+    ensures { IfOk result (λ out. tree_of_formula out
+        ≡ defined number (renumbered_terms (number_in numbers.now) (tree_of_terms args.now))) }
 {
     Ok(Formula::Defined(number, renumber_terms(alloc, args, numbers)?))
 }
@@ -46,7 +49,8 @@ pub(crate) fn renumber_comparison(
     right: &Term,
     numbers: &[u32],
 ) -> Result<Formula, NoMemory>
-    ensures { IfOk result (λ out. tree_of_formula out ≡ compare cmp (renumbered_term (number_in numbers.now) (tree_of_term left.now)) (renumbered_term (number_in numbers.now) (tree_of_term right.now))) }
+    ensures { IfOk result (λ out. tree_of_formula out
+        ≡ renumbered_comparison numbers.now cmp left.now right.now) }
 {
     let left = renumber_term(alloc, left, numbers)?;
     let right = renumber_term(alloc, right, numbers)?;
@@ -61,7 +65,8 @@ pub(crate) fn renumber_goal_fact(
     args: &Args,
     numbers: &[u32],
 ) -> Result<Formula, NoMemory>
-    ensures { IfOk result (λ out. tree_of_formula out ≡ goal_fact pred (renumbered_args (number_in numbers.now) args.now)) }
+    ensures { IfOk result (λ out. tree_of_formula out
+        ≡ goal_fact pred (renumbered_args (number_in numbers.now) args.now)) }
 {
     Ok(Formula::GoalFact(pred, renumber_args(alloc, args, numbers)?))
 }
@@ -75,7 +80,8 @@ pub(crate) fn renumber_goal_place(
     value: Arg,
     numbers: &[u32],
 ) -> Result<Formula, NoMemory>
-    ensures { IfOk result (λ out. tree_of_formula out ≡ goal_place fun (renumbered_args (number_in numbers.now) args.now) (renumbered_arg (number_in numbers.now) value)) }
+    ensures { IfOk result (λ out. tree_of_formula out
+        ≡ renumbered_goal_place numbers.now fun args.now value) }
 {
     let args = renumber_args(alloc, args, numbers)?;
     Ok(Formula::GoalPlace(fun, args, renumber_arg(value, numbers)))
@@ -89,7 +95,8 @@ pub(crate) fn renumber_goal_not(
     args: &Args,
     numbers: &[u32],
 ) -> Result<Formula, NoMemory>
-    ensures { IfOk result (λ out. tree_of_formula out ≡ goal_not pred (renumbered_args (number_in numbers.now) args.now)) }
+    ensures { IfOk result (λ out. tree_of_formula out
+        ≡ goal_not pred (renumbered_args (number_in numbers.now) args.now)) }
 {
     Ok(Formula::GoalNot(pred, renumber_args(alloc, args, numbers)?))
 }

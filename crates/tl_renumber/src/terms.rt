@@ -11,7 +11,8 @@ use tl_syntax::{NoMemory, Term, Terms};
 /// A list of terms with the new numbers of their names. It fails for want of memory alone.
 #[cycle(renumber_term)]
 pub fn renumber_terms(alloc: Global, terms: &Terms, numbers: &[u32]) -> Result<Terms, NoMemory>
-    ensures renumbered { IfOk result (λ out. tree_of_terms out ≡ renumbered_terms (number_in numbers.now) (tree_of_terms terms.now)) }
+    ensures renumbered { IfOk result (λ out. tree_of_terms out
+        ≡ renumbered_terms (number_in numbers.now) (tree_of_terms terms.now)) }
 {
     let mut out = Terms::new(alloc);
     for term in terms.as_slice().iter() {
@@ -25,7 +26,8 @@ pub fn renumber_terms(alloc: Global, terms: &Terms, numbers: &[u32]) -> Result<T
 #[cycle(renumber_term)]
 #[tactic(auto, using(crate::proofs::Trees::term_trees), unfolding(crate::specs::Renumbered::renumbered_term))]
 pub fn renumber_term(alloc: Global, term: &Term, numbers: &[u32]) -> Result<Term, NoMemory>
-    ensures renumbered { IfOk result (λ out. tree_of_term out ≡ renumbered_term (number_in numbers.now) (tree_of_term term.now)) }
+    ensures renumbered { IfOk result (λ out. tree_of_term out
+        ≡ renumbered_term (number_in numbers.now) (tree_of_term term.now)) }
 {
     match term {
         Term::Var(var) => Ok(Term::Var(renumber_variable(*var, numbers))),

@@ -13,7 +13,7 @@ use Rattle.tl_syntax.specs.declared.value.Cmp.TheVariants as cmp
 use Rattle.tl_syntax.specs.Assignment.{no_values}
 use Rattle.tl_syntax.specs.Effects.{add, no_effect, more_effects}
 use Rattle.tl_syntax.specs.Keys.{value_cmp}
-use Rattle.tl_syntax.specs.TotalOrders.{key_total}
+use Rattle.tl_syntax.proofs.TotalOrders.{key_total}
 use Rattle.tl_syntax.specs.Trees.{FormulaTree, verum, compare, arith, value, no_term}
 use Rattle.tl_terms.specs.Acceptance.{states_from, states, last_of, IsAccepted}
 use Rattle.tl_terms.specs.Calm.{NonePastRange, IsCalm, IsCalmAfter}

@@ -1,22 +1,18 @@
 -- What a space keeps is kept in one way: each of these facts has at most one proof.
-use Rattle.std.specs.Prelude.{◌≡◌, ℕ, List, [], ◌∷◌, slice_get, Bool, true, false, Option, Some, None, refl}
-use Rattle.std.specs.Bool.{Decides}
+use Rattle.std.specs.Prelude.{◌≡◌, ℕ, List, [], slice_get, Some}
 use Rattle.std.specs.Coded.{Π_prop}
-use Rattle.std.proofs.Common.{sym, ap, true≢false}
 use Rattle.std.proofs.Props.{props}
 use mathlib.Core.HLevel.{hedberg}
 use Rattle.tl_syntax.specs.Assignment.{Assignment}
-use Rattle.tl_syntax.specs.FreeVariables.{free_slots, InScope}
-use Rattle.tl_syntax.specs.KeptOnce.{fits-prop, named-prop, values-prop}
-use Rattle.tl_syntax.specs.Lists.{Each}
-use Rattle.tl_syntax.specs.Same.{formula_discrete}
+use Rattle.tl_syntax.specs.FreeVariables.{free_slots}
+use Rattle.tl_syntax.specs.KeptOnce.{Each-prop, scope-prop, fits-prop, named-prop, values-prop}
+use Rattle.tl_syntax.proofs.Same.{formula_discrete, option_discrete}
 use Rattle.tl_syntax.specs.Signature.{Signature}
 use Rattle.tl_syntax.specs.Trees.{FormulaTree, falsum}
-use Rattle.tl_terms.specs.NamedWorlds.{WorldIsNamed, world_named-prop}
 use Rattle.tl_terms.specs.Pairs.{Pair}
 use Rattle.tl_terms.specs.Problem.{PlainProblem}
 use Rattle.tl_terms.specs.World.{World}
-use Rattle.tl_world.specs.Same.{world_eq, world-tells}
+use Rattle.tl_terms.proofs.SamePairs.{pair_discrete}
 use Rattle.tl_nodes.specs.NodeTrees.{tree_at}
 use Rattle.tl_progress.specs.declared.residuals.Residuals.{Residuals}
 use Rattle.tl_progress.specs.Answers.{residual}
@@ -32,40 +28,10 @@ use Rattle.tl_space.specs.declared.numbers.Met.TheVariants as met
 use Rattle.tl_space.specs.Kept.{world_at, kept_over, nodes_at, paths_of, IsLabel, AreNumbers, AreWalks, IsNamedMet, AreKeptBy}
 use Rattle.tl_space.specs.Remembered.{pair_in_at, IsKnown, IsRemembered, AreRemembered, AreFound}
 
--- ---- pairs are the same in at most one way
-
-same_pair : (x y : Pair) → Dec (x ≡ y)
-same_pair x y = by (world_eq x.world y.world) (world-tells x.world y.world) (formula_discrete x.formula y.formula)
-  where
-    by : (b : Bool) → Decides b (x.world ≡ y.world) → Dec (x.formula ≡ y.formula) → Dec (x ≡ y)
-    by true d (yes q) = yes (let p : x.world ≡ y.world = d.0 refl in λ i. record { world = p i; formula = q i })
-    by true d (no n) = no (λ e. n (ap (λ (z : Pair). z.formula) e))
-    by false d r = no (λ e. true≢false (sym (d.1 (ap (λ (z : Pair). z.world) e))))
-
-some_pair : (a b : Option Pair) → Dec (a ≡ b)
-some_pair None None = yes refl
-some_pair None (Some y) = no (λ e. let b : ⊥ = cc in b)
-some_pair (Some x) None = no (λ e. let b : ⊥ = cc in b)
-some_pair (Some x) (Some y) = by (same_pair x y)
-  where
-    by : Dec (x ≡ y) → Dec (Some x ≡ Some y)
-    by (yes p) = yes (ap (λ z. Some z) p)
-    by (no n) = no (λ e. n (let d : x ≡ y = cc in d))
-
--- ---- lists
-
-Each-prop : {A : Type 0} (P : A → Type 0) → ((x : A) → IsProp (P x)) → (xs : List A) → IsProp (Each P xs)
-Each-prop P p [] = hlevel
-Each-prop P p (x ∷ xs) = hlevel (p x, Each-prop P p xs)
-
 -- ---- the facts of numbers
 
-scope-prop : (qs : List ℕ) → IsProp (InScope [] qs)
-scope-prop [] = hlevel
-scope-prop (q ∷ qs) = hlevel (props, scope-prop qs)
-
 sentence-prop : (g : Signature) (f : FormulaTree) → IsProp (IsSentence g f)
-sentence-prop g f = hlevel (fits-prop g [] f, scope-prop (free_slots f))
+sentence-prop g f = hlevel (fits-prop g [] f, scope-prop [] (free_slots f))
 
 label-prop : (g : Signature) (c : ℕ) (ts : List FormulaTree) (l : ℕ) → IsProp (IsLabel g c ts l)
 label-prop g c ts l = hlevel (props, sentence-prop g (tree_at ts l), named-prop c (tree_at ts l))
@@ -78,7 +44,7 @@ met-prop c met.First = hlevel
 met-prop c (met.After j a) = values-prop c a.args
 
 walks-prop : (p : PlainProblem) (kept : List KeptPair) → IsProp (AreWalks p kept)
-walks-prop p kept = Π_prop (λ i. Π_prop (λ x. Π_prop (λ e. hedberg some_pair (walk (pair_graph p) x.path) (Some x.node))))
+walks-prop p kept = Π_prop (λ i. Π_prop (λ x. Π_prop (λ e. hedberg (option_discrete pair_discrete) (walk (pair_graph p) x.path) (Some x.node))))
 
 all_numbers-prop : (g : Signature) (c : ℕ) (ws : List World) (ts : List FormulaTree) (ns : List Numbers) → IsProp ((i : ℕ) (n : Numbers) → slice_get ns i ≡ Some n → AreNumbers g c ws ts n)
 all_numbers-prop g c ws ts ns = Π_prop (λ i. Π_prop (λ n. Π_prop (λ e. numbers-prop g c ws ts n)))
@@ -90,7 +56,7 @@ kept-prop g c p ws ts ns ms = hlevel (props, all_numbers-prop g c ws ts ns, walk
 
 known-prop : (xs : List Pair) (x : Pair) (r : Arrival) → IsProp (IsKnown xs x r)
 known-prop xs x arrival.Pruned = hedberg formula_discrete x.formula falsum
-known-prop xs x (arrival.Seen k) = hedberg some_pair (slice_get xs k) (Some x)
+known-prop xs x (arrival.Seen k) = hedberg (option_discrete pair_discrete) (slice_get xs k) (Some x)
 known-prop xs x (arrival.Fresh k) = hlevel
 
 remembered-prop : (p : PlainProblem) (ws : List World) (ts : List FormulaTree) (ns : List Numbers) (e : Numbers × Arrival) → IsProp (IsRemembered p ws ts ns e)
@@ -99,23 +65,8 @@ remembered-prop p ws ts ns e = hlevel (props, known-prop (nodes_at ws ts ns) (pa
 pub all-remembered-prop : (p : PlainProblem) (ws : List World) (ts : List FormulaTree) (ns : List Numbers) (es : List (Numbers × Arrival)) → IsProp (AreRemembered p ws ts ns es)
 all-remembered-prop p ws ts ns es = Each-prop (IsRemembered p ws ts ns) (remembered-prop p ws ts ns) es
 
-some_formula : (a b : Option FormulaTree) → Dec (a ≡ b)
-some_formula None None = yes refl
-some_formula None (Some y) = no (λ e. let b : ⊥ = cc in b)
-some_formula (Some x) None = no (λ e. let b : ⊥ = cc in b)
-some_formula (Some x) (Some y) = by (formula_discrete x y)
-  where
-    by : Dec (x ≡ y) → Dec (Some x ≡ Some y)
-    by (yes p) = yes (ap (λ z. Some z) p)
-    by (no n) = no (λ e. n (let d : x ≡ y = cc in d))
-
 next-prop : (p : PlainProblem) (w : World) (ts : List FormulaTree) (i : ℕ) (f : FormulaTree) → IsProp ((e : Assignment) → slice_get ts i ≡ Some (residual p w e f))
-next-prop p w ts i f = Π_prop (λ e. hedberg some_formula (slice_get ts i) (Some (residual p w e f)))
+next-prop p w ts i f = Π_prop (λ e. hedberg (option_discrete formula_discrete) (slice_get ts i) (Some (residual p w e f)))
 
 pub found-prop : (p : PlainProblem) (ws : List World) (ts : List FormulaTree) (r : Residuals) → IsProp (AreFound p ws ts r)
 found-prop p ws ts r = Π_prop (λ n. Π_prop (λ k. Π_prop (λ i. Π_prop (λ h. hlevel (props, next-prop p (world_at ws n) ts i (tree_at ts k))))))
-
--- ---- named worlds
-
-pub worlds-prop : (c : ℕ) (ws : List World) → IsProp (Each (WorldIsNamed c) ws)
-worlds-prop c ws = Each-prop (WorldIsNamed c) (world_named-prop c) ws

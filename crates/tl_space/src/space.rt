@@ -2,11 +2,12 @@
 ghost use Rattle.std.specs.Prelude.{◌≡◌, [], length, IfOk};
 ghost use Rattle.tl_nodes.specs.Numbers.{trees};
 ghost use Rattle.tl_space.specs.Kept.{AreKeptBy};
-ghost use Rattle.tl_space.specs.KeptOnce.{kept-prop, all-remembered-prop, found-prop, worlds-prop};
+ghost use Rattle.tl_space.specs.KeptOnce.{kept-prop, all-remembered-prop, found-prop};
 ghost use Rattle.tl_space.specs.Remembered.{AreFound, AreRemembered};
 ghost use Rattle.tl_world.specs.WorldNumbers.{worlds_in};
 ghost use Rattle.tl_syntax.specs.Lists.{Each};
 ghost use Rattle.tl_syntax.specs.Signature.{signature_of};
+ghost use Rattle.tl_terms.proofs.KeptOnce.{worlds_named-prop};
 ghost use Rattle.tl_terms.specs.NamedWorlds.{WorldIsNamed};
 ghost use Rattle.tl_terms.specs.ProblemMeaning.{plain_problem};
 
@@ -45,7 +46,7 @@ pub struct Space {
     pub(crate) from: Vec<Met>,
     pub(crate) arrivals: IndexMap<Numbers, Arrival>,
     pub(crate) residuals: Residuals,
-    ghost named_worlds: { Each (WorldIsNamed (length task.problem.names)) (worlds_in worlds) } by { worlds-prop (length task.problem.names) (worlds_in worlds) },
+    ghost named_worlds: { Each (WorldIsNamed (length task.problem.names)) (worlds_in worlds) } by { worlds_named-prop (length task.problem.names) (worlds_in worlds) },
     ghost kept: { AreKeptBy (signature_of task.problem.domain) (length task.problem.names) (plain_problem task.problem) (worlds_in worlds) (trees nodes) pairs.keys from.items } by { kept-prop (signature_of task.problem.domain) (length task.problem.names) (plain_problem task.problem) (worlds_in worlds) (trees nodes) pairs.keys from.items },
     ghost remembered: { AreRemembered (plain_problem task.problem) (worlds_in worlds) (trees nodes) pairs.keys arrivals.entries } by { all-remembered-prop (plain_problem task.problem) (worlds_in worlds) (trees nodes) pairs.keys arrivals.entries },
     ghost found: { AreFound (plain_problem task.problem) (worlds_in worlds) (trees nodes) residuals } by { found-prop (plain_problem task.problem) (worlds_in worlds) (trees nodes) residuals },

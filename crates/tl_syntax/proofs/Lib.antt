@@ -3,7 +3,10 @@ pub mod Places
 pub mod InOrder
 pub mod SettledTexts
 pub mod ListLaws
+pub mod TotalOrders
 pub mod Plain
+pub mod Telling
+pub mod Same
 pub mod PartsSame
 pub mod TermTrees
 pub mod FormulaTrees

@@ -7,9 +7,9 @@ use Rattle.std.specs.Ordering.{eq_by_cmp}
 use Rattle.tl_syntax.specs.declared.value.Value.TheVariants.{Int, Sym}
 use Rattle.tl_syntax.specs.declared.fact.Fact.{Fact}
 use Rattle.tl_syntax.specs.contracts.value.ValuePartialEq.TheImpl as value_impl
-use Rattle.tl_syntax.specs.contracts.fact.FactPartialEq.TheImpl as fact_impl
+use Rattle.tl_syntax.specs.DerivedTests.{fact_eq}
 use Rattle.tl_syntax.specs.Keys.{Key, key_cmp}
-use Rattle.tl_syntax.specs.TotalOrders.{key_total, key_ties}
+use Rattle.tl_syntax.proofs.TotalOrders.{key_total, key_ties}
 
 -- the test holds exactly where the two are the same
 abbrev pub Tells : {A : Type 0} → (A → A → Bool) → Type 0
@@ -34,10 +34,6 @@ pub value-tells : Tells (value_impl.ghosts).eq
 value-tells (Int m) (Int n) = (λ h. ap (λ (k : ℤ). Int k) ((signed_Decides m n).0 h), λ e. (signed_Decides m n).1 (let k : m ≡ n = cc in k))
 value-tells (Sym m) (Sym n) = (λ h. ap (λ (k : ℕ). Sym k) (eqb-true m n h), λ e. eq-eqb m n (let k : m ≡ n = cc in k))
 value-tells u v = (λ h. absurd (true≢false (sym h)), λ e. absurd (let k : ⊥ = cc in k))
-
--- the derived test of two facts
-abbrev pub fact_eq : Fact → Fact → Bool
-fact_eq = (fact_impl.ghosts).eq
 
 pub fact-tells : Tells fact_eq
 fact-tells f g = (

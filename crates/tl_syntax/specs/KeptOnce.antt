@@ -28,7 +28,7 @@ use Rattle.tl_syntax.specs.TreeOfEffect.{tree_of_effects}
 use Rattle.tl_syntax.specs.TreeOfFormula.{tree_of_formula}
 use Rattle.tl_syntax.specs.Trees.{TermTree, TermTrees, variable, value, place, arith, no_term, more_terms, FormulaTree, FormulaTrees, verum, falsum, atom, defined, compare, goal_fact, goal_place, goal_not, negation, conjunction, disjunction, for_all, for_some, next, always, eventually, until, within, during, no_formula, more_formulas}
 
-Each-prop : {A : Type 0} (P : A → Type 0) → ((x : A) → IsProp (P x)) → (xs : List A) → IsProp (Each P xs)
+pub Each-prop : {A : Type 0} (P : A → Type 0) → ((x : A) → IsProp (P x)) → (xs : List A) → IsProp (Each P xs)
 Each-prop P p [] = hlevel
 Each-prop P p (x ∷ xs) = hlevel (p x, Each-prop P p xs)
 
@@ -219,7 +219,7 @@ mutual
   state_effects-prop no_effect = hlevel
   state_effects-prop (more_effects e es) = hlevel (state_effect-prop e, state_effects-prop es)
 
-scope-prop : (scope qs : List ℕ) → IsProp (InScope scope qs)
+pub scope-prop : (scope qs : List ℕ) → IsProp (InScope scope qs)
 scope-prop scope qs = Each-prop (λ q. IsTrue (is_slot_in scope q)) (λ q. hlevel props) qs
 
 declaration-prop : (n : ℕ) (d : Declared) → IsProp (DeclarationKeeps n d)

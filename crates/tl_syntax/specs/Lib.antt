@@ -9,12 +9,10 @@ pub mod TreeOfEffect
 pub mod Basic
 pub mod StateFormulas
 pub mod Keys
-pub mod TotalOrders
 pub mod Assignment
 pub mod BoundVariables
 pub mod DefinitionNames
 pub mod Named
-pub mod Same
 pub mod Substitution
 pub mod Bindings
 pub mod DerivedTests
@@ -22,6 +20,7 @@ pub mod Signature
 pub mod FreeVariables
 pub mod Fits
 pub mod Junctions
+pub mod SubstitutedParts
 pub mod Kept
 pub mod KeptOnce
 pub mod SubstitutionKeeps

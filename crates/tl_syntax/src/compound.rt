@@ -59,7 +59,8 @@ impl Formula {
     /// That `g` holds now or later, and `f` until then. It fails for want of memory alone, and drops both then.
     #[tactic(auto, using(crate::proofs::FormulaTrees::formula_trees))]
     pub fn until(alloc: Global, f: Formula, g: Formula) -> Result<Formula, NoMemory>
-        ensures made { IfOk result (λ out. tree_of_formula out ≡ until (tree_of_formula f) (tree_of_formula g)) }
+        ensures made { IfOk result (λ out. tree_of_formula out
+            ≡ until (tree_of_formula f) (tree_of_formula g)) }
     {
         let f = Box::new(alloc, f)?;
         let g = Box::new(alloc, g)?;
@@ -92,7 +93,8 @@ impl Formula {
         bound: Bound,
         f: Formula,
     ) -> Result<Formula, NoMemory>
-        ensures made { IfOk result (λ out. tree_of_formula out ≡ quantified junction vars bound (tree_of_formula f)) }
+        ensures made { IfOk result (λ out. tree_of_formula out
+            ≡ quantified junction vars bound (tree_of_formula f)) }
     {
         match junction {
             Junction::All => Formula::for_all(alloc, vars, bound, f),

@@ -2,11 +2,11 @@
 ghost use Rattle.std.specs.Prelude.{◌≡◌, ◌↔◌, [], ◌∷◌, ◌++◌, true, IfOk, OnOk, OnErr};
 ghost use Rattle.tl_syntax.specs.Basic.{is_basic};
 ghost use Rattle.tl_syntax.specs.Bindings.{assignment_of};
-ghost use Rattle.tl_syntax.specs.Junctions.{quantified};
-ghost use Rattle.tl_syntax.specs.Substitution.{without, substituted, substituted_all, substituted_arg, substituted_args, substituted_bound, substituted_term, substituted_terms};
+ghost use Rattle.tl_syntax.specs.SubstitutedParts.{substituted_comparison, substituted_goal_place, substituted_quantified};
+ghost use Rattle.tl_syntax.specs.Substitution.{substituted, substituted_all, substituted_args, substituted_bound, substituted_terms};
 ghost use Rattle.tl_syntax.specs.TreeOfFormula.{formulas_in, tree_of_formula, tree_of_formulas};
-ghost use Rattle.tl_syntax.specs.TreeOfTerm.{tree_of_term, tree_of_terms};
-ghost use Rattle.tl_syntax.specs.Trees.{atom, compare, defined, goal_fact, goal_not, goal_place, until};
+ghost use Rattle.tl_syntax.specs.TreeOfTerm.{tree_of_terms};
+ghost use Rattle.tl_syntax.specs.Trees.{atom, defined, goal_fact, goal_not, until};
 
 use crate::substitution::{
     Binding, arg_with_values, args_with_values, bindings_below, bound_with_values,
@@ -110,7 +110,8 @@ impl Formulas {
         alloc: Global,
         bindings: &[Binding],
     ) -> Result<Formulas, NoMemory>
-        ensures substituted { IfOk result (λ out. tree_of_formulas out ≡ substituted_all (assignment_of bindings.now) (tree_of_formulas self.now)) }
+        ensures substituted { IfOk result (λ out. tree_of_formulas out
+            ≡ substituted_all (assignment_of bindings.now) (tree_of_formulas self.now)) }
     {
         let mut out = Formulas {
             items: Vec::new(alloc),
@@ -143,7 +144,8 @@ impl Formula {
     #[cycle(put_in_formulas)]
     #[tactic(auto, using(crate::proofs::FormulaTrees::formula_trees, crate::proofs::Bindings::assignment_below), unfolding(crate::specs::Substitution::substituted))]
     pub fn with_values(&self, alloc: Global, bindings: &[Binding]) -> Result<Formula, NoMemory>
-        ensures substituted { IfOk result (λ out. tree_of_formula out ≡ substituted (assignment_of bindings.now) (tree_of_formula self.now)) }
+        ensures substituted { IfOk result (λ out. tree_of_formula out
+            ≡ substituted (assignment_of bindings.now) (tree_of_formula self.now)) }
     {
         match self {
             Formula::True => Ok(Formula::True),
@@ -223,7 +225,8 @@ fn atom_with_values(
     args: &Terms,
     bindings: &[Binding],
 ) -> Result<Formula, NoMemory>
-    ensures { IfOk result (λ out. tree_of_formula out ≡ atom pred (substituted_terms (assignment_of bindings.now) (tree_of_terms args.now))) }
+    ensures { IfOk result (λ out. tree_of_formula out
+        ≡ atom pred (substituted_terms (assignment_of bindings.now) (tree_of_terms args.now))) }
 {
     Ok(Formula::Atom(pred, args.with_values(alloc, bindings)?))
 }
@@ -236,7 +239,8 @@ fn defined_with_values(
     args: &Terms,
     bindings: &[Binding],
 ) -> Result<Formula, NoMemory>
-    ensures { IfOk result (λ out. tree_of_formula out ≡ defined number (substituted_terms (assignment_of bindings.now) (tree_of_terms args.now))) }
+    ensures { IfOk result (λ out. tree_of_formula out
+        ≡ defined number (substituted_terms (assignment_of bindings.now) (tree_of_terms args.now))) }
 {
     Ok(Formula::Defined(number, args.with_values(alloc, bindings)?))
 }
@@ -250,7 +254,8 @@ fn comparison_with_values(
     right: &Term,
     bindings: &[Binding],
 ) -> Result<Formula, NoMemory>
-    ensures { IfOk result (λ out. tree_of_formula out ≡ compare cmp (substituted_term (assignment_of bindings.now) (tree_of_term left.now)) (substituted_term (assignment_of bindings.now) (tree_of_term right.now))) }
+    ensures { IfOk result (λ out. tree_of_formula out
+        ≡ substituted_comparison bindings.now cmp left.now right.now) }
 {
     let left = left.with_values(alloc, bindings)?;
     let right = right.with_values(alloc, bindings)?;
@@ -265,7 +270,8 @@ fn goal_fact_with_values(
     args: &Args,
     bindings: &[Binding],
 ) -> Result<Formula, NoMemory>
-    ensures { IfOk result (λ out. tree_of_formula out ≡ goal_fact pred (substituted_args (assignment_of bindings.now) args.now)) }
+    ensures { IfOk result (λ out. tree_of_formula out
+        ≡ goal_fact pred (substituted_args (assignment_of bindings.now) args.now)) }
 {
     Ok(Formula::GoalFact(pred, args_with_values(alloc, args, bindings)?))
 }
@@ -279,7 +285,8 @@ fn goal_place_with_values(
     value: Arg,
     bindings: &[Binding],
 ) -> Result<Formula, NoMemory>
-    ensures { IfOk result (λ out. tree_of_formula out ≡ goal_place fun (substituted_args (assignment_of bindings.now) args.now) (substituted_arg (assignment_of bindings.now) value)) }
+    ensures { IfOk result (λ out. tree_of_formula out
+        ≡ substituted_goal_place bindings.now fun args.now value) }
 {
     let args = args_with_values(alloc, args, bindings)?;
     Ok(Formula::GoalPlace(fun, args, arg_with_values(value, bindings)))
@@ -293,7 +300,8 @@ fn goal_not_with_values(
     args: &Args,
     bindings: &[Binding],
 ) -> Result<Formula, NoMemory>
-    ensures { IfOk result (λ out. tree_of_formula out ≡ goal_not pred (substituted_args (assignment_of bindings.now) args.now)) }
+    ensures { IfOk result (λ out. tree_of_formula out
+        ≡ goal_not pred (substituted_args (assignment_of bindings.now) args.now)) }
 {
     Ok(Formula::GoalNot(pred, args_with_values(alloc, args, bindings)?))
 }
@@ -306,7 +314,8 @@ fn until_with_values(
     g: Formula,
     bindings: &[Binding],
 ) -> Result<Formula, NoMemory>
-    ensures { IfOk result (λ out. tree_of_formula out ≡ until (substituted (assignment_of bindings.now) (tree_of_formula f.now)) (tree_of_formula g)) }
+    ensures { IfOk result (λ out. tree_of_formula out
+        ≡ until (substituted (assignment_of bindings.now) (tree_of_formula f.now)) (tree_of_formula g)) }
 {
     let f = f.with_values(alloc, bindings)?;
     Formula::until(alloc, f, g)
@@ -323,7 +332,8 @@ fn quantified_with_values(
     f: &Formula,
     bindings: &[Binding],
 ) -> Result<Formula, NoMemory>
-    ensures { IfOk result (λ out. tree_of_formula out ≡ quantified junction vars.now (substituted_bound (without vars.now (assignment_of bindings.now)) bound.now) (substituted (without vars.now (assignment_of bindings.now)) (tree_of_formula f.now))) }
+    ensures { IfOk result (λ out. tree_of_formula out
+        ≡ substituted_quantified bindings.now junction vars.now bound.now f.now) }
 {
     let below = bindings_below(alloc, vars, bindings)?;
     let (vars, bound) = scope_with_values(alloc, vars, bound, below.as_slice())?;

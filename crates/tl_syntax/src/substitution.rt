@@ -128,7 +128,8 @@ pub fn bound_with_values(
 /// The formula with the values put in for the free occurrences of the variables. It fails for want of memory alone.
 pub fn subst(alloc: Global, f: &Formula, vars: &Vars, values: &[Value]) -> Result<Formula, NoMemory>
     requires { length vars.now ≡ length values.now }
-    ensures { IfOk result (λ out. tree_of_formula out ≡ substituted (bind vars.now values.now no_values) (tree_of_formula f.now)) }
+    ensures { IfOk result (λ out. tree_of_formula out
+        ≡ substituted (bind vars.now values.now no_values) (tree_of_formula f.now)) }
 {
     let bindings = bindings_of(alloc, vars, values)?;
     f.with_values(alloc, bindings.as_slice())

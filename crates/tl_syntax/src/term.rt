@@ -68,7 +68,8 @@ impl Terms {
     /// The list with the values put in. It fails for want of memory alone.
     #[cycle(put_in_terms)]
     pub(crate) fn with_values(&self, alloc: Global, bindings: &[Binding]) -> Result<Terms, NoMemory>
-        ensures substituted { IfOk result (λ out. tree_of_terms out ≡ substituted_terms (assignment_of bindings.now) (tree_of_terms self.now)) }
+        ensures substituted { IfOk result (λ out. tree_of_terms out
+            ≡ substituted_terms (assignment_of bindings.now) (tree_of_terms self.now)) }
     {
         let mut out = Terms {
             items: Vec::new(alloc),
@@ -101,7 +102,8 @@ impl Term {
     #[cycle(put_in_terms)]
     #[tactic(auto, using(crate::proofs::TermTrees::term_trees), unfolding(crate::specs::Substitution::substituted_term))]
     pub(crate) fn with_values(&self, alloc: Global, bindings: &[Binding]) -> Result<Term, NoMemory>
-        ensures substituted { IfOk result (λ out. tree_of_term out ≡ substituted_term (assignment_of bindings.now) (tree_of_term self.now)) }
+        ensures substituted { IfOk result (λ out. tree_of_term out
+            ≡ substituted_term (assignment_of bindings.now) (tree_of_term self.now)) }
     {
         match self {
             Term::Var(var) => match value_of(bindings, var.slot) {

@@ -6,7 +6,7 @@ use Rattle.std.specs.FinMap as dict
 use Rattle.std.specs.Ordering.{eq_by_cmp, is_eq}
 use Rattle.std.specs.Cmp.{tied_itself, Equal-is}
 use Rattle.tl_syntax.specs.Lists.{Among, Rises}
-use Rattle.tl_syntax.specs.TotalOrders.{value_total, key_total, value_ties, key_ties}
+use Rattle.tl_syntax.proofs.TotalOrders.{value_total, key_total, value_ties, key_ties}
 use Rattle.tl_syntax.specs.Keys.{Key, value_cmp, key_cmp}
 use Rattle.tl_terms.specs.World.{World, has_fact, value_at}
 use Rattle.tl_syntax.proofs.ListLaws.{iff-trans, iff-path, or-iff, Each-Among}

@@ -1,5 +1,8 @@
 pub mod KeyLaws
 pub mod WorldLaws
+pub mod SameWorlds
+pub mod SamePairs
+pub mod KeptOnce
 pub mod GoalLaws
 pub mod DefinedLaws
 pub mod SubstitutedHolds

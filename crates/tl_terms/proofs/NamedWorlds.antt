@@ -12,7 +12,7 @@ use Rattle.tl_syntax.specs.Keys.{Key, key_cmp, fact_key, place_entry}
 use Rattle.tl_syntax.specs.Lists.{Each, Among}
 use Rattle.tl_syntax.specs.Named.{ValueIsNamed, FactIsNamed, PlaceIsNamed}
 use Rattle.tl_syntax.specs.Signature.{Signature, signature_of}
-use Rattle.tl_syntax.specs.TotalOrders.{key_total}
+use Rattle.tl_syntax.proofs.TotalOrders.{key_total}
 use Rattle.tl_syntax.proofs.ListLaws.{Each-over, Each-Among}
 use Rattle.tl_terms.specs.NamedWorlds.{WorldIsNamed}
 use Rattle.tl_terms.specs.ProblemMeaning.{world_of, plain_problem}

@@ -6,7 +6,7 @@ use Rattle.std.specs.Cmp.Lexicographic.{slice_cmp, lists_total}
 use Rattle.std.specs.FinSet as set
 use Rattle.tl_terms.specs.LawsOrders.{OrdersTotally}
 use Rattle.tl_terms.specs.Orders.{action_cmp, plan_cmp}
-use Rattle.tl_syntax.specs.TotalOrders.{value_total, key_total, value_ties, key_ties}
+use Rattle.tl_syntax.proofs.TotalOrders.{value_total, key_total, value_ties, key_ties}
 use Rattle.tl_syntax.specs.Keys.{value_cmp, key_cmp}
 use Rattle.tl_syntax.specs.declared.action.Action.{Action}
 

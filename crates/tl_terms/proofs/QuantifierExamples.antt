@@ -11,7 +11,7 @@ use Rattle.tl_syntax.specs.Lists.{Among, Rises}
 use Rattle.tl_terms.specs.Progression.{progressed}
 use Rattle.tl_terms.specs.Simplification.{and_parts, without_repeats, simplified_and}
 use Rattle.tl_syntax.specs.Substitution.{substituted_term, substituted}
-use Rattle.tl_syntax.specs.TotalOrders.{value_total}
+use Rattle.tl_syntax.proofs.TotalOrders.{value_total}
 use Rattle.tl_syntax.specs.Trees.{variable, no_term, more_terms, FormulaTree, verum, falsum, atom, conjunction, for_all, for_some, next, always, formulas_of_list}
 use Rattle.tl_terms.specs.Truth.{state_true}
 use Rattle.tl_syntax.specs.Keys.{Key, value_cmp, key_cmp}

@@ -4,7 +4,7 @@ use Rattle.std.specs.List.{list_any}
 use Rattle.tl_syntax.specs.Assignment.{Assignment}
 use Rattle.tl_syntax.specs.Lists.{Each, One}
 use Rattle.tl_terms.specs.Run.{Situations, Holds, HoldAll, HoldsOne}
-use Rattle.tl_syntax.specs.Same.{formula_discrete}
+use Rattle.tl_syntax.proofs.Same.{formula_discrete}
 use Rattle.tl_terms.specs.Simplification.{is_yes, same_formula, and_parts, and_parts_all, or_parts, or_parts_all, is_verum, is_falsum, without_repeats, conjunction_of, disjunction_of, simplified_and, simplified_or, simplified_not}
 use Rattle.tl_syntax.specs.Trees.{FormulaTree, verum, falsum, atom, defined, compare, goal_fact, goal_place, goal_not, negation, conjunction, disjunction, for_all, for_some, next, always, eventually, until, within, during, FormulaTrees, no_formula, more_formulas, formulas_of_list}
 use Rattle.tl_syntax.proofs.ListLaws.{Each-append, One-append, Each-drop, One-drop, Each-refuted, One-certain, One-filter, One-split}

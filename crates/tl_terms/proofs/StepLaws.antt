@@ -14,7 +14,7 @@ use Rattle.tl_terms.specs.Problem.{PlainOperator, PlainProblem}
 use Rattle.tl_terms.specs.Situation.{Situation}
 use Rattle.tl_terms.specs.Step.{EffectInstance, all_instances, is_defined, added, deleted, given, without_all, with_all, overwritten, changed, applied, applied_if, step}
 use Rattle.tl_syntax.specs.Keys.{agree, no_clash, Key, value_cmp, key_cmp}
-use Rattle.tl_syntax.specs.TotalOrders.{key_total}
+use Rattle.tl_syntax.proofs.TotalOrders.{key_total}
 use Rattle.tl_terms.specs.Truth.{state_true}
 use Rattle.tl_terms.specs.World.{World, has_fact, value_at}
 use Rattle.tl_terms.proofs.KeyLaws.{key-is, key-itself, value-is, value-itself, key-among}

@@ -12,7 +12,7 @@ use Rattle.tl_terms.specs.Bounds.{arg_value, arg_values, fact_in, same_value, bo
 use Rattle.tl_syntax.specs.Lists.{Each, One, Among}
 use Rattle.tl_terms.specs.Situation.{Situation}
 use Rattle.tl_terms.specs.Terms.{prepend, place_value}
-use Rattle.tl_syntax.specs.TotalOrders.{value_total, value_ties}
+use Rattle.tl_syntax.proofs.TotalOrders.{value_total, value_ties}
 use Rattle.tl_syntax.specs.Keys.{Key, value_cmp}
 use Rattle.tl_terms.specs.World.{World, has_fact, value_at, values_in, marked, values_of}
 use Rattle.tl_terms.proofs.KeyLaws.{key-among, entry_of}

@@ -9,7 +9,7 @@ use Rattle.tl_syntax.specs.Assignment.{Assignment, bind}
 use Rattle.tl_terms.specs.Bounds.{bound_true, tuples_of, tuples}
 use Rattle.tl_syntax.specs.Lists.{Each, Rises}
 use Rattle.tl_terms.specs.Situation.{Situation}
-use Rattle.tl_syntax.specs.TotalOrders.{value_total}
+use Rattle.tl_syntax.proofs.TotalOrders.{value_total}
 use Rattle.tl_syntax.specs.Keys.{value_cmp}
 use Rattle.tl_terms.specs.World.{World, values_in, marked, values_of}
 use Rattle.tl_syntax.specs.declared.value.Value.{Value}

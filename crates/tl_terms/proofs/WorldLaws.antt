@@ -4,7 +4,7 @@ use Rattle.std.specs.FinSet as set
 use Rattle.std.specs.FinMap as dict
 use Rattle.tl_syntax.specs.Keys.{Key}
 use Rattle.tl_terms.specs.World.{World, has_fact, value_at}
-use Rattle.tl_syntax.specs.TotalOrders.{key_total, key_ties}
+use Rattle.tl_syntax.proofs.TotalOrders.{key_total, key_ties}
 
 -- two worlds with the same facts and the same values of places are one
 pub same_world : (v w : World) → ((k : Key) → has_fact v k ≡ has_fact w k) → ((k : Key) → value_at v k ≡ value_at w k) → v ≡ w

@@ -18,13 +18,13 @@ use Rattle.tl_terms.specs.Orders.{plan_cmp}
 use Rattle.tl_terms.specs.Problem.{PlainProblem}
 use Rattle.tl_terms.specs.Progression.{progressed}
 use Rattle.tl_terms.specs.Run.{Holds, Run, state_at, Satisfies}
-use Rattle.tl_syntax.specs.Same.{formula_discrete}
+use Rattle.tl_syntax.proofs.Same.{formula_discrete}
 use Rattle.tl_terms.specs.Simplification.{is_yes, same_formula, and_parts, or_parts, without_repeats, simplified_and, simplified_or, simplified_not}
 use Rattle.tl_terms.specs.Situation.{Situation}
 use Rattle.tl_terms.specs.Step.{adds, dels, sets, effect_instances, changed, applied, step}
 use Rattle.tl_syntax.specs.Substitution.{substituted_term, substituted}
 use Rattle.tl_terms.specs.Terms.{term_value}
-use Rattle.tl_syntax.specs.TotalOrders.{key_total}
+use Rattle.tl_syntax.proofs.TotalOrders.{key_total}
 use Rattle.tl_syntax.specs.Trees.{TermTree, value, place, no_term, more_terms, FormulaTree, verum, falsum, atom, defined, compare, negation, conjunction, disjunction, next, always, eventually, until, within, during, no_formula, formulas_of_list, arith}
 use Rattle.tl_terms.specs.Truth.{state_true}
 use Rattle.tl_syntax.specs.Keys.{Key, value_cmp, key_cmp}

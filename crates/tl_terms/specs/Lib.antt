@@ -1,4 +1,5 @@
 pub mod World
+pub mod SameWorlds
 pub mod Problem
 pub mod ProblemMeaning
 pub mod Situation

@@ -2,7 +2,6 @@
 use Rattle.std.specs.Prelude.{◌≡◌, ℕ, Some, IsTrue}
 use Rattle.tl_syntax.specs.declared.value.Value.{Value}
 use Rattle.tl_syntax.specs.Keys.{Key}
-use Rattle.tl_syntax.specs.KeptOnce.{named_value-prop, values-prop}
 use Rattle.tl_syntax.specs.Lists.{Each}
 use Rattle.tl_syntax.specs.Named.{ValueIsNamed}
 use Rattle.tl_terms.specs.World.{World, has_fact, value_at}
@@ -11,7 +10,3 @@ use Rattle.tl_terms.specs.World.{World, has_fact, value_at}
 pub record WorldIsNamed (n : ℕ) (w : World) : Type 0 where
   pub facts : (k : Key) → IsTrue (has_fact w k) → Each (ValueIsNamed n) k.1
   pub places : (k : Key) (v : Value) → value_at w k ≡ Some v → Each (ValueIsNamed n) k.1 × ValueIsNamed n v
-
--- and so in one way
-pub world_named-prop : (n : ℕ) (w : World) → IsProp (WorldIsNamed n w)
-world_named-prop n w = hlevel (values-prop n, named_value-prop n)

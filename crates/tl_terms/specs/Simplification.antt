@@ -2,7 +2,7 @@
 use Rattle.std.specs.Prelude.{List, [], ◌∷◌, ◌++◌, flat_map, filter, Bool, true, false, cond, not}
 use Rattle.std.specs.List.{list_any}
 use Rattle.tl_syntax.specs.Trees.{FormulaTree, FormulaTrees, verum, falsum, negation, conjunction, disjunction, no_formula, more_formulas, formulas_of_list}
-use Rattle.tl_syntax.specs.Same.{formula_discrete}
+use Rattle.tl_syntax.proofs.Same.{formula_discrete}
 
 -- whether a decided question is answered by yes
 abbrev pub is_yes : {A : Type 0} → Dec A → Bool

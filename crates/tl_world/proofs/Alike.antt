@@ -16,7 +16,10 @@ use Rattle.tl_world.specs.Tables.{PlainRows, InOrder, fact_row, place_row, fact_
 use Rattle.std.specs.Hash.FoldHasher as folding
 use Rattle.std.specs.declared.hash.FoldHasher.{FoldHasher}
 use Rattle.tl_world.specs.Codes.{rows_code, places_code, row_of, fact_table_fed, place_table_fed, tables_code}
-use Rattle.tl_world.specs.Same.{world_eq, world-tells, told_alike, world_fed}
+use Rattle.tl_syntax.proofs.Telling.{told_alike}
+use Rattle.tl_terms.proofs.SameWorlds.{world-tells}
+use Rattle.tl_terms.specs.SameWorlds.{world_eq}
+use Rattle.tl_world.specs.WorldCode.{world_fed}
 use Rattle.tl_world.proofs.Lent.{bare}
 use Rattle.tl_world.proofs.Group.{whole, same-facts, same-places, facts-back, places-back}
 

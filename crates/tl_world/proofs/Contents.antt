@@ -11,7 +11,7 @@ use Rattle.tl_syntax.specs.declared.place_value.PlaceValue.{PlaceValue}
 use Rattle.tl_syntax.specs.declared.value.Value.{Value}
 use Rattle.tl_syntax.specs.Keys.{Key, key_cmp, fact_key, place_entry}
 use Rattle.tl_syntax.specs.Lists.{Among}
-use Rattle.tl_syntax.specs.TotalOrders.{key_total, key_ties}
+use Rattle.tl_syntax.proofs.TotalOrders.{key_total, key_ties}
 use Rattle.tl_syntax.proofs.ListLaws.{iff-trans, iff-sym, iff-path, all-iff, Each-Among}
 use Rattle.tl_terms.specs.ProblemMeaning.{world_of}
 use Rattle.tl_terms.specs.Step.{with_all, overwritten}

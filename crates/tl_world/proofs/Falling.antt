@@ -10,7 +10,7 @@ use Rattle.tl_syntax.specs.declared.place_value.PlaceValue.{PlaceValue}
 use Rattle.tl_syntax.specs.declared.value.Value.{Value}
 use Rattle.tl_syntax.specs.declared.value.Value.TheVariants.{Sym}
 use Rattle.tl_syntax.specs.Keys.{Key, key_cmp, place_entry}
-use Rattle.tl_syntax.specs.TotalOrders.{key_total, key_ties}
+use Rattle.tl_syntax.proofs.TotalOrders.{key_total, key_ties}
 use Rattle.tl_terms.specs.Step.{overwritten}
 use Rattle.tl_world.specs.Falling.{is_above}
 

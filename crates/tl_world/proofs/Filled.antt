@@ -6,13 +6,13 @@ use Rattle.std.proofs.lemmas.Option.{slice_get-get_or}
 use Rattle.tl_syntax.specs.declared.value.Value.{Value}
 use Rattle.tl_syntax.specs.declared.value.Value.TheVariants.{Sym}
 use Rattle.tl_syntax.specs.Keys.{value_cmp}
-use Rattle.tl_syntax.specs.TotalOrders.{value_total, value_ties}
+use Rattle.tl_syntax.proofs.TotalOrders.{value_total, value_ties}
 use Rattle.tl_syntax.specs.contracts.value.ValuePartialEq.TheImpl as value_impl
 use Rattle.tl_syntax.proofs.Plain.{value-tells}
 use Rattle.tl_world.specs.declared.pattern.Part.{Part}
 use Rattle.tl_world.specs.declared.pattern.Part.TheVariants.{Fixed, Free}
 use Rattle.tl_world.specs.Plain.{row_cmp}
-use Rattle.tl_world.specs.Same.{told_alike, order-tells}
+use Rattle.tl_syntax.proofs.Telling.{told_alike, order-tells}
 use Rattle.tl_world.specs.Fits.{is_value, fits_at, fits_all, is_free, occurs}
 use Rattle.tl_world.specs.Least.{fits_some}
 use Rattle.tl_world.specs.Patterns.{fill, filled}

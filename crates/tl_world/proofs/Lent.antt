@@ -7,7 +7,7 @@ use Rattle.std.specs.Ordering.{eq_by_cmp}
 use Rattle.std.specs.Cmp.{IsTotalOrder, tied_itself, Equal-is}
 use Rattle.tl_syntax.specs.declared.value.Value.{Value}
 use Rattle.tl_syntax.specs.Lists.{Among, Rises}
-use Rattle.tl_syntax.specs.TotalOrders.{value_ties}
+use Rattle.tl_syntax.proofs.TotalOrders.{value_ties}
 use Rattle.tl_syntax.proofs.ListLaws.{or-iff, Each-Among}
 use Rattle.tl_terms.proofs.TuplesRise.{keys-rise}
 use Rattle.tl_world.specs.declared.table.PlaceRow.{PlaceRow}

@@ -9,7 +9,7 @@ use Rattle.std.specs.FinMap as dict
 use Rattle.std.specs.FinMap.Entries.{below_all, is_some-find}
 use Rattle.tl_syntax.specs.declared.value.Value.{Value}
 use Rattle.tl_syntax.specs.Keys.{Key, key_cmp}
-use Rattle.tl_syntax.specs.TotalOrders.{key_total, value_total}
+use Rattle.tl_syntax.proofs.TotalOrders.{key_total, value_total}
 use Rattle.tl_world.specs.Plain.{row_cmp, PlainRows, PlainTables, keyed, entries_of, AreRows, EachInOrder, InOrder, set_of, map_of}
 use Rattle.tl_world.proofs.Search.{first_true, second_true, with_true, is_less, find-at, search-err}
 

@@ -7,7 +7,7 @@ use Rattle.std.specs.List.Sorted.{IsPermutation}
 use Rattle.std.specs.Ordering.{eq_by_cmp}
 use Rattle.tl_syntax.specs.declared.fact.Fact.{Fact}
 use Rattle.tl_syntax.specs.Keys.{Key, key_cmp, fact_key}
-use Rattle.tl_syntax.specs.TotalOrders.{key_total, key_ties}
+use Rattle.tl_syntax.proofs.TotalOrders.{key_total, key_ties}
 use Rattle.tl_terms.specs.Step.{with_all}
 
 pub contains-all : (s : set.FinSet key_cmp) (fs : List Fact) (q : Key) → set.contains (with_all s (map fact_key fs)) q ≡ (list_any (λ f. eq_by_cmp key_cmp q (fact_key f)) fs || set.contains s q)

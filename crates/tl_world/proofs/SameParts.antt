@@ -7,7 +7,7 @@ use Rattle.tl_syntax.specs.DerivedTests.{value_eq}
 use Rattle.tl_syntax.proofs.Plain.{list-tells, value-tells}
 use Rattle.tl_world.specs.Codes.{values_eq, rows_code}
 use Rattle.tl_world.specs.RowTests.{rows_eq, rows-tell}
-use Rattle.tl_world.specs.Same.{told_alike}
+use Rattle.tl_syntax.proofs.Telling.{told_alike}
 use Rattle.tl_world.specs.Runs.{between, IsPart}
 use Rattle.tl_world.proofs.Parts.{between-to-end, between-joined, between-between, get-between-of}
 

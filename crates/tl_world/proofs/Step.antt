@@ -7,7 +7,7 @@ use Rattle.std.specs.FinMap as dict
 use Rattle.std.specs.FinMap.Entries.{below_all, where_key, by_order, is_sorted-put, is_sorted-where_key, find-put, find-where_key}
 use Rattle.tl_syntax.specs.declared.value.Value.{Value}
 use Rattle.tl_syntax.specs.Keys.{Key, key_cmp}
-use Rattle.tl_syntax.specs.TotalOrders.{key_total, key_ties}
+use Rattle.tl_syntax.proofs.TotalOrders.{key_total, key_ties}
 use Rattle.tl_world.specs.Plain.{row_cmp, PlainRows, PlainTables, entries_of, EachInOrder, InOrder, IsFilled, set_of, map_of}
 use Rattle.tl_world.proofs.Lookup.{find-entries, in_rows, row_total, contains-set_of, get-map_of}
 use Rattle.tl_world.proofs.Edits.{other_than}

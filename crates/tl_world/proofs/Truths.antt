@@ -6,7 +6,7 @@ use Rattle.std.specs.Prelude.{slice_get}
 use Rattle.std.specs.Cmp.{Equal-is, tied_itself}
 use Rattle.tl_syntax.specs.declared.value.Value.{Value}
 use Rattle.tl_syntax.specs.Keys.{value_cmp}
-use Rattle.tl_syntax.specs.TotalOrders.{value_total, value_ties}
+use Rattle.tl_syntax.proofs.TotalOrders.{value_total, value_ties}
 use Rattle.tl_syntax.specs.Lists.{Among}
 use Rattle.tl_syntax.proofs.ListLaws.{iff-trans}
 use Rattle.tl_terms.specs.World.{World, has_fact, value_at}

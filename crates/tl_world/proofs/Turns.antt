@@ -9,7 +9,7 @@ use Rattle.std.specs.Ordering.{is_lt, is_gt, ordering_then}
 use Rattle.std.specs.Cmp.{tied_itself}
 use Rattle.tl_syntax.specs.declared.value.Value.{Value}
 use Rattle.tl_syntax.specs.Keys.{value_cmp}
-use Rattle.tl_syntax.specs.TotalOrders.{value_total, value_ties}
+use Rattle.tl_syntax.proofs.TotalOrders.{value_total, value_ties}
 use Rattle.tl_syntax.specs.Lists.{Each, Rises}
 use Rattle.tl_syntax.proofs.Plain.{value-tells, both}
 use Rattle.tl_world.specs.declared.pattern.Match.{Match}

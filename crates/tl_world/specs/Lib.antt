@@ -5,7 +5,7 @@ pub mod RowTests
 pub mod Cuts
 pub mod Runs
 pub mod Tables
-pub mod Same
+pub mod WorldCode
 pub mod Patterns
 pub mod Next
 pub mod Fits
@@ -16,3 +16,5 @@ pub mod WorldNumbers
 pub mod Moves
 pub mod Second
 pub mod Falling
+pub mod Edits
+pub mod Calls

@@ -9,7 +9,7 @@ use Rattle.tl_world.specs.declared.pattern.Match.{Match}
 use Rattle.tl_world.specs.declared.pattern.Pattern.{Pattern}
 use Rattle.tl_world.specs.Least.{IsLeast, above, match_in_place}
 use Rattle.tl_world.specs.Plain.{row_cmp}
-use Rattle.tl_world.specs.Patterns.{makes_true, is_true_of, filled, parts_of, IsLawful}
+use Rattle.tl_world.specs.Patterns.{makes_true, is_true_of, filled, parts_of, tuple_in_place, IsLawful}
 
 -- t comes after the tuple, where one is given, in lexicographic value order
 abbrev pub IsAfter : Option (List Value) → List Value → Type 0
@@ -24,6 +24,10 @@ IsLater k test after t = (length t ≡ k) × (test t ≡ true) × IsAfter after 
 abbrev pub IsNext : ℕ → (List Value → Bool) → Option (List Value) → Option (List Value) → Type 0
 IsNext k test after None = (t : List Value) → ¬ IsLater k test after t
 IsNext k test after (Some m) = IsLater k test after m × ((t : List Value) → IsLater k test after t → is_gt (row_cmp m t) ≡ false)
+
+-- the least tuple after the one in place that makes the pattern true in the world is put in place, where there is one
+abbrev pub PutsNextMatch : World → Pattern → Bool → Match → Bool → Match → Type 0
+PutsNextMatch w p b old c new = IsNext p.free (makes_true w p) (tuple_in_place b old) (tuple_in_place c new)
 
 -- the least tuple after the one in place that makes the pattern a fact of the world, or a place with its value, is put in place
 abbrev pub PutsNextOf : World → Bool → Pattern → Bool → Match → Bool → Match → Type 0

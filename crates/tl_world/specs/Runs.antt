@@ -18,6 +18,10 @@ joined (r ∷ rs) = r.rows.value ++ joined rs
 abbrev pub run_place : List Run → ℕ → ℕ
 run_place rs i = length (joined (take i rs))
 
+-- the first row of run i
+abbrev pub first_row : List Run → ℕ → List Value
+first_row rs i = slice_index_or (joined rs) (run_place rs i) []
+
 -- each run has rows, and ends where the rows up to its last are counted from n on
 abbrev pub AreCounted : ℕ → List Run → Type 0
 AreCounted n [] = Unit {0}

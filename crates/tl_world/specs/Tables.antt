@@ -1,5 +1,6 @@
 -- The fields of a world as plain tables.
 use Rattle.std.specs.Prelude.{ℕ, List, [], ◌∷◌, ◌++◌, map}
+use Rattle.std.specs.FinMap as dict
 use Rattle.std.specs.FinSet as set
 use Rattle.tl_syntax.specs.declared.value.Value.{Value}
 use Rattle.tl_syntax.specs.Keys.{key_cmp}
@@ -38,6 +39,10 @@ place_tables = map place_table
 -- the facts of a world as a set
 abbrev pub facts_of : List (Named (List (List Value))) → set.FinSet key_cmp
 facts_of ts = set_of (fact_tables ts)
+
+-- the places of a world with their values as a map
+abbrev pub places_of : List (Named (List PlaceRow)) → dict.FinMap key_cmp Value
+places_of ts = map_of (place_tables ts)
 
 -- a table by its number and its rows
 abbrev pub plain_of : {R : Type 0} → Named R → ℕ × R

@@ -5,8 +5,9 @@ ghost use Rattle.std.specs.List.Sorted.{IsPermutation};
 ghost use Rattle.std.specs.Prelude.{◌≡◌, ◌<◌, ◌≤◌, Bool, false, length, map, IfOk, IfSome, OnOk};
 ghost use Rattle.tl_syntax.specs.declared.fact.Fact.{Fact as PlainFact};
 ghost use Rattle.tl_syntax.specs.Keys.{fact_key};
-ghost use Rattle.tl_terms.specs.Step.{with_all, without_all};
-ghost use Rattle.tl_world.specs.Moves.{IsMoved, IsTakenOut, AreSameBeside, changed_facts};
+ghost use Rattle.tl_terms.specs.Step.{with_all};
+ghost use Rattle.tl_world.specs.Edits.{FactIsTakenOut, FactsAreTakenOut};
+ghost use Rattle.tl_world.specs.Moves.{IsMoved, IsTakenOut, changed_facts};
 ghost use Rattle.tl_world.specs.Tables.{InOrder, fact_tables, facts_of};
 
 use crate::Rows;
@@ -66,7 +67,7 @@ fn without(
 ) -> Result<(), NoMemory>
     requires { InOrder (fact_tables tables.old.items) }
     ensures order { OnOk result (InOrder (fact_tables tables.new.items)) }
-    ensures facts { OnOk result (AreSameBeside adds.now (facts_of tables.new.items) (set.remove (facts_of tables.old.items) (pred, args.now))) }
+    ensures facts { OnOk result (FactIsTakenOut adds.now (pred, args.now) tables.old.items tables.new.items) }
 {
     match find_table(tables.as_slice(), pred) {
         Err(_) => Ok(()),
@@ -102,7 +103,7 @@ fn without_each(
 ) -> Result<(), NoMemory>
     requires { InOrder (fact_tables tables.old.items) }
     ensures order { OnOk result (InOrder (fact_tables tables.new.items)) }
-    ensures facts { OnOk result (AreSameBeside adds.now (facts_of tables.new.items) (without_all (facts_of tables.old.items) (map fact_key dels.now))) }
+    ensures facts { OnOk result (FactsAreTakenOut adds.now dels.now tables.old.items tables.new.items) }
 {
     let mut i = dels.len();
     while i > 0 {

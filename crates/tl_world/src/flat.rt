@@ -1,11 +1,11 @@
 // Rows one after another in one list.
 ghost use Rattle.std.specs.List.{insert};
 ghost use Rattle.std.specs.Prelude.{◌≡◌, ◌<◌, ◌≤◌, ◌+◌, ◌-◌, ◌^◌, List, [], ◌∷◌, ◌++◌, length, map, take, drop, slice_index_or, IfOk, OnOk};
+ghost use Rattle.tl_syntax.proofs.Telling.{tells-partial};
 ghost use Rattle.tl_syntax.specs.Lists.{Each};
 ghost use Rattle.tl_world.specs.Cuts.{begin};
 ghost use Rattle.tl_world.specs.Runs.{between};
 ghost use Rattle.tl_world.specs.RowTests.{rows_eq, rows-tell};
-ghost use Rattle.tl_world.specs.Same.{tells-partial};
 
 use std::alloc::Global;
 use std::marker::Model;

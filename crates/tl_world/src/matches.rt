@@ -1,7 +1,7 @@
 // The tuples that make a pattern true in a world, one after another.
 ghost use Rattle.std.specs.Option.{option_map};
 ghost use Rattle.std.specs.Prelude.{◌≡◌, true, false, IfSome};
-ghost use Rattle.tl_world.specs.Next.{IsNext, PutsNextOf};
+ghost use Rattle.tl_world.specs.Next.{IsNext, PutsNextMatch, PutsNextOf};
 ghost use Rattle.tl_world.specs.Patterns.{IsLawful, makes_true, tuple_of, tuple_in_place};
 
 use crate::by_second::put_next_in_table;
@@ -64,7 +64,7 @@ impl World {
     ) -> bool
         requires pattern { IsLawful pattern.now }
         requires before { begun ≡ true → tuple.old.len ≡ pattern.now.free }
-        ensures next { IsNext pattern.now.free (makes_true self.now pattern.now) (tuple_in_place begun tuple.old) (tuple_in_place result tuple.new) }
+        ensures next { PutsNextMatch self.now pattern.now begun tuple.old result tuple.new }
         ensures len { result ≡ true → tuple.new.len ≡ pattern.now.free }
     {
         if pattern.place {

@@ -3,10 +3,10 @@ ghost use Rattle.std.specs.Hash as fed;
 ghost use Rattle.std.specs.Hash.{same_Alike};
 ghost use Rattle.std.specs.List.{insert, remove};
 ghost use Rattle.std.specs.Prelude.{◌≡◌, ◌<◌, ◌≤◌, ◌==◌, [], ◌∷◌, length, slice_index_or, IfOk, IfSome};
+ghost use Rattle.tl_syntax.proofs.Telling.{tells-partial, tells-equivalence};
 ghost use Rattle.tl_world.specs.Codes.{row_code, rows_code, values_eq};
 ghost use Rattle.tl_world.specs.Moves.{place_after};
 ghost use Rattle.tl_world.specs.RowTests.{rows_eq, rows-tell};
-ghost use Rattle.tl_world.specs.Same.{tells-partial, tells-equivalence};
 ghost use Rattle.tl_world.specs.Second.{IsSecond};
 
 use crate::runs::Runs;

@@ -2,10 +2,10 @@
 ghost use Rattle.std.specs.List.{insert};
 ghost use Rattle.std.specs.List.Sorted.{IsBinarySearchResult, IsSearchInRange};
 ghost use Rattle.std.specs.Prelude.{◌≡◌, ◌<◌, ◌≤◌, ◌+◌, ◌^◌, ◌↔◌, ◌++◌, [], ◌∷◌, length, take, slice_index_or, true, IfOk, IfSome, OnOk};
+ghost use Rattle.tl_syntax.proofs.Telling.{tells-partial};
 ghost use Rattle.tl_world.specs.Codes.{values_eq};
 ghost use Rattle.tl_world.specs.RowTests.{rows_eq, rows-tell};
 ghost use Rattle.tl_world.specs.Runs.{between, IsPart, IsPartFor};
-ghost use Rattle.tl_world.specs.Same.{tells-partial};
 ghost use Rattle.tl_world.specs.Tables.{row_cmp};
 
 use crate::flat::Flat;

@@ -1,7 +1,7 @@
 // Runs of rows that tables share.
-ghost use Rattle.std.specs.Prelude.{◌≡◌, ◌≢◌, ◌<◌, ◌≤◌, ◌+◌, ◌^◌, [], ◌++◌, length, slice_index_or, true, IfOk, OnOk};
+ghost use Rattle.std.specs.Prelude.{◌≡◌, ◌≢◌, ◌<◌, ◌≤◌, ◌+◌, ◌^◌, [], ◌++◌, length, true, IfOk, OnOk};
 ghost use Rattle.std.specs.declared.cmp.Ordering.TheVariants.{Greater};
-ghost use Rattle.tl_world.specs.Runs.{between, joined, run_place, AreCounted, IsPart, IsPartFor};
+ghost use Rattle.tl_world.specs.Runs.{between, first_row, joined, run_place, AreCounted, IsPart, IsPartFor};
 ghost use Rattle.tl_world.specs.Tables.{row_cmp};
 
 use crate::flat::Flat;
@@ -98,8 +98,8 @@ fn find_run_for(runs: &[Run], args: &[Value]) -> usize
     requires counted { AreCounted 0 runs.now }
     requires some { 0 < length runs.now }
     ensures bound { result < length runs.now }
-    ensures before { 0 < result → row_cmp (slice_index_or (joined runs.now) (run_place runs.now result) []) args.now ≢ Greater }
-    ensures after { result + 1 < length runs.now → row_cmp (slice_index_or (joined runs.now) (run_place runs.now (result + 1)) []) args.now ≡ Greater }
+    ensures before { 0 < result → row_cmp (first_row runs.now result) args.now ≢ Greater }
+    ensures after { result + 1 < length runs.now → row_cmp (first_row runs.now (result + 1)) args.now ≡ Greater }
 {
     let mut low = 0;
     let mut high = runs.len();

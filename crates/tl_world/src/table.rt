@@ -3,9 +3,9 @@ ghost use Rattle.std.specs.Hash as fed;
 ghost use Rattle.std.specs.Hash.{same_Alike};
 ghost use Rattle.std.specs.List.{insert, remove};
 ghost use Rattle.std.specs.Prelude.{◌≡◌, ◌<◌, ◌≤◌, ◌==◌, [], ◌∷◌, length, slice_index_or, IfOk};
+ghost use Rattle.tl_syntax.proofs.Telling.{tells-partial, tells-equivalence};
 ghost use Rattle.tl_world.specs.Codes.{place_code, places_code};
 ghost use Rattle.tl_world.specs.RowTests.{place_rows_eq, place_rows-tell};
-ghost use Rattle.tl_world.specs.Same.{tells-partial, tells-equivalence};
 
 use std::alloc::Global;
 use std::hash::{FoldHasher, Hash, Hasher};

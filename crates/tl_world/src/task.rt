@@ -1,9 +1,10 @@
 // A problem with its worlds.
 ghost use Rattle.std.specs.Prelude.{◌≡◌, length, IfOk};
+ghost use Rattle.tl_terms.proofs.KeptOnce.{world_named-prop};
+ghost use Rattle.tl_terms.proofs.SameWorlds.{world_paths};
 ghost use Rattle.tl_terms.specs.Acceptance.{meets_goal};
-ghost use Rattle.tl_terms.specs.NamedWorlds.{WorldIsNamed, world_named-prop};
+ghost use Rattle.tl_terms.specs.NamedWorlds.{WorldIsNamed};
 ghost use Rattle.tl_terms.specs.ProblemMeaning.{plain_problem};
-ghost use Rattle.tl_world.specs.Same.{world_paths};
 
 use crate::World;
 use std::alloc::Global;

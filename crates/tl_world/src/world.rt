@@ -1,19 +1,22 @@
 // Worlds, their look-ups and their changes.
 ghost use Rattle.std.specs.FinMap as dict;
 ghost use Rattle.std.specs.FinSet as set;
+ghost use Rattle.std.specs.Hash.{same_Alike};
 ghost use Rattle.std.specs.List.{list_all};
-ghost use Rattle.std.specs.Prelude.{◌≡◌, ◌↔◌, ◌<◌, ◌&&◌, ℕ, List, [], map, length, not, true, false, Some, None, IfNone, IfSome, IfOk};
-ghost use Rattle.tl_syntax.specs.Keys.{fact_key, place_entry};
-ghost use Rattle.tl_syntax.specs.Lists.{Each, Among, Rises};
-ghost use Rattle.tl_syntax.specs.Named.{FactIsNamed, PlaceIsNamed};
+ghost use Rattle.std.specs.Prelude.{◌≡◌, ◌↔◌, ◌<◌, ◌&&◌, List, [], map, length, not, true, false, Some, None, IfNone, IfSome, IfOk};
+ghost use Rattle.tl_syntax.proofs.Telling.{tells-partial, tells-equivalence};
+ghost use Rattle.tl_syntax.specs.Lists.{Among, Rises};
+ghost use Rattle.tl_terms.proofs.SameWorlds.{world-tells};
 ghost use Rattle.tl_terms.specs.Acceptance.{is_value};
-ghost use Rattle.tl_terms.specs.NamedWorlds.{WorldIsNamed};
 ghost use Rattle.tl_terms.specs.ProblemMeaning.{world_of};
-ghost use Rattle.tl_terms.specs.Step.{with_all, without_all, overwritten};
+ghost use Rattle.tl_terms.specs.SameWorlds.{world_eq};
 ghost use Rattle.tl_terms.specs.World.{has_fact, value_at};
+ghost use Rattle.tl_world.specs.Calls.{ArePlacesOf, IsNamedByParts, StaysNamedWith, gives_row};
 ghost use Rattle.tl_world.specs.Codes.{tables_code};
-ghost use Rattle.tl_world.specs.Same.{world_eq, world-tells, tells-partial, tells-equivalence, world_fed, world-alike};
-ghost use Rattle.tl_world.specs.Tables.{InOrder, fact_tables, place_tables, set_of, map_of, row_cmp, place_row};
+ghost use Rattle.tl_world.specs.Tables.{InOrder, fact_tables, place_tables, set_of, map_of, row_cmp};
+ghost use Rattle.tl_world.specs.WorldCode.{world_fed};
+ghost use Rattle.tl_world.specs.Edits.{changed_places};
+ghost use Rattle.tl_world.specs.Moves.{changed_facts};
 
 use crate::facts::change_facts;
 use crate::named::{Named, find_table, share};
@@ -70,7 +73,7 @@ impl Eq for World {
 impl Hash for World {
     ghost hash_input = { λ w. world_fed w };
 
-    ghost respects_eq = { world-alike.fed };
+    ghost respects_eq = { (same_Alike world_fed world-tells).fed };
 
     fn hash<H: Hasher>(&self, state: &mut H) {
         self.code.hash(state);
@@ -116,7 +119,7 @@ impl World {
     /// More than a few facts are sorted first, so that each is found by halves and stands at the end of its table.
     pub fn of(alloc: Global, facts: &[Fact], places: &[PlaceValue]) -> Result<World, NoMemory>
         ensures same { IfOk result (λ w. w ≡ world_of facts.now places.now) }
-        ensures named { IfOk result (λ w. (n : ℕ) → Each (FactIsNamed n) facts.now → Each (PlaceIsNamed n) places.now → WorldIsNamed n w) }
+        ensures named { IfOk result (λ w. IsNamedByParts facts.now places.now w) }
     {
         World::new(alloc).changed(alloc, &[], facts, places)
     }
@@ -173,7 +176,7 @@ impl World {
     /// It takes no memory.
     pub fn places(&self, fun: u32) -> Option<&PlaceRows>
         ensures none { IfNone result ((a : List _) → value_at self.now (fun, a) ≡ None) }
-        ensures places { IfSome result (λ r. (a : List _) (v : _) → Among (a, v) (map place_row r.now) ↔ (value_at self.now (fun, a) ≡ Some v)) }
+        ensures places { IfSome result (λ r. ArePlacesOf self.now fun r.now) }
         ensures order { IfSome result (λ r. Rises row_cmp (map (λ p. p.args) r.now)) }
         ensures filled { IfSome result (λ r. 0 < length r.now) }
     {
@@ -199,9 +202,9 @@ impl World {
         adds: &[Fact],
         sets: &[PlaceValue],
     ) -> Result<World, NoMemory>
-        ensures facts { IfOk result (λ w. w.facts ≡ with_all (without_all self.now.facts (map fact_key dels.now)) (map fact_key adds.now)) }
-        ensures places { IfOk result (λ w. w.places ≡ overwritten self.now.places (map place_entry sets.now)) }
-        ensures named { IfOk result (λ w. (n : ℕ) → WorldIsNamed n self.now → Each (FactIsNamed n) adds.now → Each (PlaceIsNamed n) sets.now → WorldIsNamed n w) }
+        ensures facts { IfOk result (λ w. w.facts ≡ changed_facts self.now.facts dels.now adds.now) }
+        ensures places { IfOk result (λ w. w.places ≡ changed_places self.now.places sets.now) }
+        ensures named { IfOk result (λ w. StaysNamedWith self.now adds.now sets.now w) }
     {
         let mut facts = share(alloc, self.facts.as_slice())?;
         let mut places = share(alloc, self.places.as_slice())?;
@@ -248,7 +251,7 @@ impl World {
     }
 
     fn gives_each(&self, tables: &[Named<PlaceRows>]) -> bool
-        ensures { result ≡ list_all (λ t. list_all (λ r. is_value (value_at self.now (t.name, r.args)) r.value) t.rows.value) tables.now }
+        ensures { result ≡ list_all (λ t. list_all (λ r. gives_row self.now t.name r) t.rows.value) tables.now }
     {
         tables
             .iter()
@@ -282,7 +285,7 @@ impl World {
     }
 
     fn gives_rows(&self, fun: u32, rows: &[PlaceRow]) -> bool
-        ensures { result ≡ list_all (λ r. is_value (value_at self.now (fun, r.args)) r.value) rows.now }
+        ensures { result ≡ list_all (λ r. gives_row self.now fun r) rows.now }
     {
         rows.iter()
             .all(|r| self.value(fun, r.args.as_slice()) == Some(r.value))

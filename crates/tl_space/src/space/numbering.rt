@@ -49,7 +49,8 @@ impl Space {
         requires from { from < length (worlds_in self.old.worlds) }
         requires named { WorldIsNamed (name_count self.old) (world_after (world_at (worlds_in self.old.worlds) from) changes.now) }
         ensures keeps { KeepsPairs self.old self.new }
-        ensures number { IfOk result (λ n. slice_get (worlds_in self.new.worlds) n ≡ Some (world_after (world_at (worlds_in self.old.worlds) from) changes.now)) }
+        ensures number { IfOk result (λ n. slice_get (worlds_in self.new.worlds) n
+            ≡ Some (world_after (world_at (worlds_in self.old.worlds) from) changes.now)) }
     {
         let next = changes.world_after(self.alloc, self.worlds.get(from))?;
         self.number_of_world(next)

@@ -1,7 +1,7 @@
 use Rattle.std.proofs.Common.{Some, sym, ap, ◌∙◌}
 use Rattle.std.specs.FinSet as set
 use Rattle.std.specs.Option.{option_copied}
-use Rattle.tl_syntax.specs.TotalOrders.{value_ties}
+use Rattle.tl_syntax.proofs.TotalOrders.{value_ties}
 use Rattle.tl_check.proofs.differences.first_of.Goals as goal
 
 pub returns-in-Equal : goal.returns-in-Equal

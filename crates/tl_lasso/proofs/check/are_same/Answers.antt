@@ -1,5 +1,5 @@
 use Rattle.std.proofs.Common.{sym, ◌∙◌}
-use Rattle.tl_world.specs.Same.{world-tells}
+use Rattle.tl_terms.proofs.SameWorlds.{world-tells}
 use Rattle.tl_lasso.proofs.check.are_same.Goals as goal
 
 pub returns : goal.returns

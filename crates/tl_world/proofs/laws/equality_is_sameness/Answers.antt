@@ -1,4 +1,4 @@
-use Rattle.tl_world.specs.Same.{world-tells}
+use Rattle.tl_terms.proofs.SameWorlds.{world-tells}
 use Rattle.tl_world.proofs.laws.equality_is_sameness.Goals as goal
 
 pub returns : goal.returns

@@ -5,7 +5,7 @@ use Rattle.std.specs.FinMap as dict
 use Rattle.std.specs.Prelude.{Result, Ok, Err, IfOk}
 use Rattle.std.specs.FinSet as set
 use Rattle.tl_syntax.specs.declared.value.Value.{Value}
-use Rattle.tl_syntax.specs.TotalOrders.{value_ties}
+use Rattle.tl_syntax.proofs.TotalOrders.{value_ties}
 use Rattle.tl_world.specs.declared.table.PlaceRow.{PlaceRow}
 use Rattle.tl_world.specs.Tables.{row_cmp, place_row}
 use Rattle.tl_world.proofs.Edits.{insert-put, replace-put}

@@ -6,7 +6,7 @@ use Rattle.tl_syntax.specs.DerivedTests.{value_eq}
 use Rattle.tl_syntax.proofs.Plain.{list-tells, value-tells, both, with_both}
 use Rattle.tl_world.specs.Cuts.{AreEnds, rows_between}
 use Rattle.tl_world.specs.RowTests.{rows_eq, rows-tell}
-use Rattle.tl_world.specs.Same.{told_alike}
+use Rattle.tl_syntax.proofs.Telling.{told_alike}
 use Rattle.tl_world.proofs.Cuts.{cuts-back}
 use Rattle.tl_world.proofs.flat.FlatPartialEq.eq.Goals as goal
 

@@ -1,7 +1,7 @@
 use Rattle.std.proofs.Common.{◌≡◌, ◌+◌, length, length-append, true≢false, refl, sym, ap, ◌∙◌, arith}
 use Rattle.tl_world.specs.RowTests.{rows_eq, rows-tell}
 use Rattle.tl_world.specs.Runs.{between}
-use Rattle.tl_world.specs.Same.{told_alike}
+use Rattle.tl_syntax.proofs.Telling.{told_alike}
 use Rattle.tl_world.proofs.SameParts.{rows-differ, first-same, last-same, whole-same}
 use Rattle.tl_world.proofs.runs.RunsPartialEq.eq.Goals as goal
 

@@ -1,6 +1,7 @@
 use Rattle.std.proofs.Common.{ap, inl}
 use Rattle.std.specs.Prelude.{Ok}
-use Rattle.tl_world.specs.Same.{world_eq, world-tells}
+use Rattle.tl_terms.proofs.SameWorlds.{world-tells}
+use Rattle.tl_terms.specs.SameWorlds.{world_eq}
 use Rattle.tl_world.proofs.Numbering.{once, stored, added, absent, stay-added}
 use Rattle.tl_world.proofs.worlds.Worlds.number.Goals as goal
 

@@ -1,5 +1,5 @@
 -- Trees are equal or differ, and which of the two is decided.
-use Rattle.std.specs.Prelude.{◌≡◌, ℕ, zero, suc, ℤ, List, ◌⊎◌, refl}
+use Rattle.std.specs.Prelude.{◌≡◌, ℕ, zero, suc, ℤ, List, Option, Some, None, ◌⊎◌, refl}
 use mathlib.Core.Path.{ap, sym, ◌∙◌}
 use mathlib.Core.Logic.{inl, inr}
 use mathlib.Core.HLevel.{×_discrete}
@@ -23,6 +23,13 @@ use Rattle.tl_syntax.specs.Trees.{TermTree, TermTrees, FormulaTree, TermTree-dis
 -- what a type that can be told apart gives back can be told apart
 told_by : {A B : Type 0} (to : A → B) (from : B → A) → ((x : A) → from (to x) ≡ x) → Discrete B → Discrete A
 told_by to from back d x y = (elim (d (to x) (to y)) [ yes e ↦ yes (sym (back x) ∙ (ap from e ∙ back y)) | no n ↦ no (λ e. n (ap to e)) ])
+
+-- options of what can be told apart
+pub option_discrete : {A : Type 0} → Discrete A → Discrete (Option A)
+option_discrete d None None = yes refl
+option_discrete d None (Some y) = no (λ e. let b : ⊥ = cc in b)
+option_discrete d (Some x) None = no (λ e. let b : ⊥ = cc in b)
+option_discrete d (Some x) (Some y) = (elim (d x y) [ yes p ↦ yes (ap (λ z. Some z) p) | no n ↦ no (λ e. n (let q : x ≡ y = cc in q)) ])
 
 -- variables, with their names
 var_discrete : Discrete Var

@@ -1,0 +1,28 @@
+-- What the calls of a world say of its rows, of its values, and of what is named in it.
+use Rattle.std.specs.Prelude.{◌≡◌, ◌↔◌, ℕ, List, map, Bool, Some}
+use Rattle.tl_syntax.specs.declared.fact.Fact.{Fact}
+use Rattle.tl_syntax.specs.declared.place_value.PlaceValue.{PlaceValue}
+use Rattle.tl_syntax.specs.declared.value.Value.{Value}
+use Rattle.tl_syntax.specs.Lists.{Among, Each}
+use Rattle.tl_syntax.specs.Named.{FactIsNamed, PlaceIsNamed}
+use Rattle.tl_terms.specs.Acceptance.{is_value}
+use Rattle.tl_terms.specs.NamedWorlds.{WorldIsNamed}
+use Rattle.tl_terms.specs.World.{World, value_at}
+use Rattle.tl_world.specs.declared.table.PlaceRow.{PlaceRow}
+use Rattle.tl_world.specs.Tables.{place_row}
+
+-- the rows are the places of the function with their values in the world
+abbrev pub ArePlacesOf : World → ℕ → List PlaceRow → Type 0
+ArePlacesOf w f rows = (a : List Value) (v : Value) → Among (a, v) (map place_row rows) ↔ (value_at w (f, a) ≡ Some v)
+
+-- whether the place of the row has the row's value in the world
+abbrev pub gives_row : World → ℕ → PlaceRow → Bool
+gives_row w f r = is_value (value_at w (f, r.args)) r.value
+
+-- where the facts and the places with their values are named, so is the world
+abbrev pub IsNamedByParts : List Fact → List PlaceValue → World → Type 0
+IsNamedByParts facts places w = (n : ℕ) → Each (FactIsNamed n) facts → Each (PlaceIsNamed n) places → WorldIsNamed n w
+
+-- where a world, the facts that are added and the places that are set are named, so is the world after
+abbrev pub StaysNamedWith : World → List Fact → List PlaceValue → World → Type 0
+StaysNamedWith old adds sets new = (n : ℕ) → WorldIsNamed n old → Each (FactIsNamed n) adds → Each (PlaceIsNamed n) sets → WorldIsNamed n new

@@ -1,0 +1,24 @@
+-- What edits of tables make of their facts and places.
+use Rattle.std.specs.Prelude.{List, map}
+use Rattle.std.specs.FinMap as dict
+use Rattle.std.specs.FinSet as set
+use Rattle.tl_syntax.specs.declared.fact.Fact.{Fact}
+use Rattle.tl_syntax.specs.declared.place_value.PlaceValue.{PlaceValue}
+use Rattle.tl_syntax.specs.declared.value.Value.{Value}
+use Rattle.tl_syntax.specs.Keys.{Key, key_cmp, fact_key, place_entry}
+use Rattle.tl_terms.specs.Step.{without_all, overwritten}
+use Rattle.tl_world.specs.declared.named.Named.{Named}
+use Rattle.tl_world.specs.Moves.{AreSameBeside}
+use Rattle.tl_world.specs.Tables.{facts_of}
+
+-- the tables have the same facts without this one, but for those of a list
+abbrev pub FactIsTakenOut : List Fact → Key → List (Named (List (List Value))) → List (Named (List (List Value))) → Type 0
+FactIsTakenOut beside q old new = AreSameBeside beside (facts_of new) (set.remove (facts_of old) q)
+
+-- and so without some facts
+abbrev pub FactsAreTakenOut : List Fact → List Fact → List (Named (List (List Value))) → List (Named (List (List Value))) → Type 0
+FactsAreTakenOut beside dels old new = AreSameBeside beside (facts_of new) (without_all (facts_of old) (map fact_key dels))
+
+-- the places with the values that are set; of two for one place the earlier counts
+abbrev pub changed_places : dict.FinMap key_cmp Value → List PlaceValue → dict.FinMap key_cmp Value
+changed_places m sets = overwritten m (map place_entry sets)
