@@ -1,9 +1,9 @@
 -- Where the facts of a predicate differ between one state and the next.
-use Rattle.std.proofs.Common.{◌≡◌, ◌<◌, ◌+◌, ◌↔◌, ◌⊎◌, ℕ, zero, suc, List, [], ◌∷◌, ◌++◌, take, cond, Bool, true, false, true≢false, Option, Some, None, IfSome, IfNone, Bor, unwrap_or, refl, sym, ap, ◌∙◌, subst, inl, inr, arith, add-one}
+use Rattle.std.proofs.Common.{◌≡◌, ◌<◌, ◌+◌, ◌↔◌, ◌⊎◌, ℕ, zero, suc, List, [], ◌∷◌, ◌++◌, length, take, drop, length-take, length-drop, ◌≤◌, cond, Bool, true, false, true≢false, Option, Some, None, IfSome, IfNone, Bor, unwrap_or, refl, sym, ap, ◌∙◌, subst, inl, inr, arith, add-one}
 use Rattle.std.specs.Option.{option_copied}
 use Rattle.std.specs.Prelude.{slice_get}
 use Rattle.tl_check.proofs.LineLaws.{truth-before_change, truth-at_change, before-more, before-added}
-use Rattle.tl_check.specs.Differences.{AreBefore, fact_with, TellsNext}
+use Rattle.tl_check.specs.Differences.{AreBefore, AreSameFrom, fact_with, TellsNext}
 use Rattle.tl_check.specs.Lines.{truth_from}
 use Rattle.tl_check.specs.declared.line.Change.{Change}
 use Rattle.tl_syntax.specs.declared.fact.Fact.{Fact}
@@ -31,6 +31,36 @@ among-at : (rows : List (List Value)) (x : ℕ) (r : List Value) → slice_get r
 among-at [] x r h = absurd (let z : ⊥ = cc in z)
 among-at (s ∷ rows) zero r h = inl (let d : s ≡ r = cc in d)
 among-at (s ∷ rows) (suc x) r h = inr (among-at rows x r h)
+
+-- one row is the same from two places on
+one-from : (rows : List (List Value)) (x : ℕ) (a : List Value) → slice_get rows x ≡ Some a → take 1 (drop x rows) ≡ a ∷ []
+one-from [] x a h = absurd (let z : ⊥ = cc in z)
+one-from (r ∷ rows) zero a h = ap (λ (b : List Value). b ∷ []) (let d : r ≡ a = cc in d)
+one-from (r ∷ rows) (suc x) a h = one-from rows x a h
+
+pub same-one : (rows others : List (List Value)) (x y : ℕ) (a : List Value) → slice_get rows x ≡ Some a → slice_get others y ≡ Some a → AreSameFrom rows x others y 1
+same-one rows others x y a h l = record {
+  some = omega arith;
+  same = one-from rows x a h ∙ sym (one-from others y a l);
+  many = ap length (one-from rows x a h);
+}
+
+-- and none of them is past the end
+within : (rows : List (List Value)) (x n : ℕ) → 0 < n → length (take n (drop x rows)) ≡ n → x + n ≤ length rows
+within rows x n p m =
+    let t = length-take n (drop x rows) in
+    let d = length-drop x rows in
+    omega (arith, p, m, t, d)
+
+pub same-within : (rows others : List (List Value)) (x y n : ℕ) → AreSameFrom rows x others y n → (x + n ≤ length rows) × (y + n ≤ length others)
+same-within rows others x y n s = (within rows x n s.some s.many, within others y n s.some (ap length (sym s.same) ∙ s.many))
+
+-- the first of some rows from a place on, and the others
+from-head : (es rows : List (List Value)) (x : ℕ) (r : List Value) → take (suc (length es)) (drop x rows) ≡ r ∷ es → (slice_get rows x ≡ Some r) × (take (length es) (drop (suc x) rows) ≡ es)
+from-head es [] zero r h = absurd (let z : ⊥ = cc in z)
+from-head es [] (suc x) r h = absurd (let z : ⊥ = cc in z)
+from-head es (s ∷ rows) zero r h = (ap Some (let d : s ≡ r = cc in d), (let d : take (length es) rows ≡ es = cc in d))
+from-head es (s ∷ rows) (suc x) r h = from-head es rows x r h
 
 module _ (q at : ℕ) (rows later : List (List Value)) (w : World) (old : Fact → List Change) where
   abbrev pub Known : List Value → Type 0
@@ -74,6 +104,27 @@ module _ (q at : ℕ) (rows later : List (List Value)) (w : World) (old : Fact �
           let was : truth_from false (old (fact_with q a)) at ≡ true = k.1.0 (subst (λ (b : List Value). Among b rows) e (among-at rows x r h)) in
           let is : has_fact w (q, a) ≡ true = (is_later a).0 (subst (λ (b : List Value). Among b later) e (among-at later y r l)) in
           elim (p.either a k) [ inl done ↦ done | inr stays ↦ stays ∙ (was ∙ sym is) ]
+
+  -- some rows of both
+  passed-run : (es : List (List Value)) (x y a b : ℕ) (new : Fact → List Change) → take (length es) (drop x rows) ≡ es → take (length es) (drop y later) ≡ es → x + length es ≡ a → y + length es ≡ b → Passed q at rows later w old x y new → Passed q at rows later w old a b new
+  passed-run [] x y a b new f g d e p =
+      let left : x ≡ a = omega (arith, d) in
+      let right : y ≡ b = omega (arith, e) in
+      subst (λ (k : ℕ). Passed q at rows later w old a k new) right (subst (λ (k : ℕ). Passed q at rows later w old k y new) left p)
+  passed-run (r ∷ es) x y a b new f g d e p =
+      let h = from-head es rows x r f in
+      let k = from-head es later y r g in
+      passed-run es (x + 1) (y + 1) a b new
+      (subst (λ (j : ℕ). take (length es) (drop j rows) ≡ es) (sym (add-one x)) h.1)
+      (subst (λ (j : ℕ). take (length es) (drop j later) ≡ es) (sym (add-one y)) k.1)
+      (omega (arith, d)) (omega (arith, e))
+      (passed-both x y new r h.0 k.0 p)
+
+  pub passed-same : (x y n : ℕ) (new : Fact → List Change) → AreSameFrom rows x later y n → Passed q at rows later w old x y new → Passed q at rows later w old (x + n) (y + n) new
+  passed-same x y n new s p = passed-run (take n (drop x rows)) x y (x + n) (y + n) new
+      (ap (λ (k : ℕ). take k (drop x rows)) s.many)
+      (ap (λ (k : ℕ). take k (drop y later)) s.many ∙ sym s.same)
+      (ap (λ (k : ℕ). x + k) s.many) (ap (λ (k : ℕ). y + k) s.many) p
 
   -- a row that is noted
   module _ (x y : ℕ) (new next : Fact → List Change) (r : List Value) (p : Passed q at rows later w old x y new) (noted : (g : Fact) → next g ≡ cond (fact_eq (fact_with q r) g) (new g ++ record { at = at; truth = has_fact w (q, r) } ∷ []) (new g)) where

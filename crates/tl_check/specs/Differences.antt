@@ -1,5 +1,5 @@
 -- Where the facts of a predicate differ between one state and the next.
-use Rattle.std.specs.Prelude.{◌≡◌, ◌↔◌, ◌+◌, ◌<◌, ℕ, List, [], true, false, Option, Some, None, unwrap_or}
+use Rattle.std.specs.Prelude.{◌≡◌, ◌↔◌, ◌+◌, ◌<◌, ℕ, List, [], length, take, drop, true, false, Option, Some, None, slice_get, unwrap_or}
 use Rattle.tl_check.specs.Lines.{truth_from}
 use Rattle.tl_check.specs.Tracks.{Lines, line_in, AddsChange}
 use Rattle.tl_check.specs.declared.differences.First.{First}
@@ -16,6 +16,20 @@ IsFirst x y Both = (a : List Value) × (x ≡ Some a) × (y ≡ Some a)
 IsFirst x y (Earlier row) = x ≡ Some row.now
 IsFirst x y (Later row) = y ≡ Some row.now
 IsFirst x y Neither = (x ≡ None) × (y ≡ None)
+
+-- so many rows from a place on, one at least, are those of the others from a place on
+pub record AreSameFrom (rows : List (List Value)) (x : ℕ) (others : List (List Value)) (y n : ℕ) : Type 0 where
+  pub some : 0 < n
+  pub same : take n (drop x rows) ≡ take n (drop y others)
+  pub many : length (take n (drop x rows)) ≡ n
+
+-- the rows at two places, where the rows are given or there are none, are there and are the same
+abbrev pub AreSameAt : Option (List (List Value)) → ℕ → Option (List (List Value)) → ℕ → Type 0
+AreSameAt rows x others y = IsFirst (slice_get (unwrap_or rows []) x) (slice_get (unwrap_or others []) y) Both
+
+-- and so are so many from there on
+abbrev pub AreSameRows : Option (List (List Value)) → ℕ → Option (List (List Value)) → ℕ → ℕ → Type 0
+AreSameRows rows x others y n = AreSameFrom (unwrap_or rows []) x (unwrap_or others []) y n
 
 -- all changes come before the position
 abbrev pub AreBefore : ℕ → List Change → Type 0

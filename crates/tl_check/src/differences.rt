@@ -1,7 +1,7 @@
 // Where the facts of a predicate differ between one state and the next.
 ghost use Rattle.std.specs.Option.{option_copied};
-ghost use Rattle.std.specs.Prelude.{◌≡◌, [], slice_get, unwrap_or, ◌+◌, ◌<◌, ◌^◌, IfOk, IfSome, OnOk};
-ghost use Rattle.tl_check.specs.Differences.{IsFirst, AddsRow, TellsState, fact_with};
+ghost use Rattle.std.specs.Prelude.{◌≡◌, [], length, slice_get, unwrap_or, ◌<◌, ◌^◌, IfOk, IfSome, OnOk};
+ghost use Rattle.tl_check.specs.Differences.{IsFirst, AreSameAt, AreSameRows, AddsRow, TellsState, fact_with};
 ghost use Rattle.tl_check.specs.Tracks.{IsCovered};
 ghost use Rattle.tl_world.specs.Plain.{row_cmp};
 
@@ -28,7 +28,7 @@ enum First<'a> {
 /// The row at a place, where there is one. It takes no memory.
 fn row_at(rows: Option<&Rows>, k: usize) -> Option<&[Value]>
     ensures row { option_copied result ≡ slice_get (unwrap_or (option_copied rows.entry) []) k }
-    ensures next { IfSome result (λ row. k + 1 < 2 ^ 64) }
+    ensures small { IfSome result (λ row. length (unwrap_or (option_copied rows.entry) []) < 2 ^ 64) }
 {
     match rows {
         Some(rows) => {
@@ -65,6 +65,20 @@ fn first_of<'a>(earlier: Option<&'a [Value]>, later: Option<&'a [Value]>) -> Fir
     }
 }
 
+/// How many rows from the two places on are the same, as far as tables tell, where the first ones are. It takes no memory.
+fn same_rows(earlier: Option<&Rows>, x: usize, later: Option<&Rows>, y: usize) -> usize
+    requires { AreSameAt (option_copied earlier) x (option_copied later) y }
+    ensures { AreSameRows (option_copied earlier.entry) x (option_copied later.entry) y result }
+{
+    match (earlier, later) {
+        (Some(rows), Some(others)) => {
+            let same = rows.same_from(x, others, y);
+            if same > 0 { same } else { 1 }
+        }
+        _ => 1,
+    }
+}
+
 /// The fact of a predicate with these arguments. It fails for want of memory alone.
 pub(crate) fn fact_of(alloc: Global, pred: u32, row: &[Value]) -> Result<Fact, NoMemory>
     ensures { IfOk result (λ fact. fact ≡ fact_with pred row.now) }
@@ -95,7 +109,7 @@ impl Tracks {
 
     /// Adds the changes that come with a state, where the rows of the state before are given. It fails for want of memory alone.
     ///
-    /// The rows of both states are gone over once, side by side.
+    /// The rows of both states are gone over once, side by side. Where the tables of both have the same run of rows, it is passed as one.
     pub(crate) fn note_state(
         &mut self,
         alloc: Global,
@@ -114,8 +128,9 @@ impl Tracks {
         loop {
             match first_of(row_at(earlier, x), row_at(later, y)) {
                 First::Both => {
-                    x += 1;
-                    y += 1;
+                    let same = same_rows(earlier, x, later, y);
+                    x += same;
+                    y += same;
                 }
                 First::Earlier(row) => {
                     self.note_row(alloc, pred, row, w, at)?;

@@ -81,3 +81,14 @@ pub part-tells : (xs part rows : List (List Value)) (from at : ℕ) (b : Bool) �
 part-tells xs part rows from at b h e l is =
     let here : between xs at (at + length rows) ≡ part = sym (h.are ∙ λ i. between xs (e i) (e i + l i)) in
     (λ t. here ∙ (rows-tell part rows).0 (sym is ∙ t), λ same. is ∙ (rows-tell part rows).1 (sym here ∙ same))
+
+-- parts with the same rows
+part-from : (xs rows : List (List Value)) (from k n : ℕ) → IsPart xs from rows → from ≡ k → n ≡ length rows → take n (drop k xs) ≡ rows
+part-from xs rows from k n h e l =
+    let size : from + length rows - from ≡ n = omega (arith, l) in
+    sym (h.are ∙ λ i. take (size i) (drop (e i) xs))
+
+pub parts-alike : (xs ys rows others : List (List Value)) (from start k l n : ℕ) (b : Bool) → IsPart xs from rows → IsPart ys start others → from ≡ k → start ≡ l → n ≡ length rows → b ≡ rows_eq rows others → b ≡ true → take n (drop k xs) ≡ take n (drop l ys)
+parts-alike xs ys rows others from start k l n b h g e f size is t =
+    let same : rows ≡ others = (rows-tell rows others).0 (sym is ∙ t) in
+    part-from xs rows from k n h e size ∙ (same ∙ sym (part-from ys others start l n g f (size ∙ ap length same)))

@@ -2,7 +2,7 @@
 ghost use Rattle.std.specs.Hash as fed;
 ghost use Rattle.std.specs.Hash.{same_Alike};
 ghost use Rattle.std.specs.List.{insert, remove};
-ghost use Rattle.std.specs.Prelude.{◌≡◌, ◌<◌, ◌≤◌, ◌==◌, [], ◌∷◌, length, slice_index_or, IfOk, IfSome};
+ghost use Rattle.std.specs.Prelude.{◌≡◌, ◌<◌, ◌≤◌, ◌==◌, [], ◌∷◌, length, take, drop, slice_index_or, IfOk, IfSome};
 ghost use Rattle.tl_syntax.proofs.Telling.{tells-partial, tells-equivalence};
 ghost use Rattle.tl_world.specs.Codes.{row_code, rows_code, values_eq};
 ghost use Rattle.tl_world.specs.Moves.{place_after};
@@ -73,6 +73,16 @@ impl Rows {
         ensures { result.now ≡ slice_index_or self.now k result.now }
     {
         self.runs.row(k)
+    }
+
+    /// How many rows from place `k` on are found to be those of the other from place `l` on, without a look at each of them. There may be more, and 0 tells nothing. It takes no memory.
+    ///
+    /// A table that comes from another by a change has its runs of rows but for one or two. Where a run begins at both places, the values of the two are compared in one go.
+    pub fn same_from(&self, k: usize, other: &Rows, l: usize) -> usize
+        ensures same { take result (drop k self.now) ≡ take result (drop l other.now) }
+        ensures many { length (take result (drop k self.now)) ≡ result }
+    {
+        self.runs.same_from(k, &other.runs, l)
     }
 
     /// The rows alone.

@@ -1,7 +1,7 @@
 // The rows of a table, in runs.
 ghost use Rattle.std.specs.List.{insert};
 ghost use Rattle.std.specs.List.Sorted.{IsBinarySearchResult, IsSearchInRange};
-ghost use Rattle.std.specs.Prelude.{◌≡◌, ◌<◌, ◌≤◌, ◌+◌, ◌^◌, ◌↔◌, ◌++◌, [], ◌∷◌, length, take, slice_index_or, true, IfOk, IfSome, OnOk};
+ghost use Rattle.std.specs.Prelude.{◌≡◌, ◌<◌, ◌≤◌, ◌+◌, ◌^◌, ◌↔◌, ◌++◌, [], ◌∷◌, length, take, drop, slice_index_or, true, IfOk, IfSome, OnOk};
 ghost use Rattle.tl_syntax.proofs.Telling.{tells-partial};
 ghost use Rattle.tl_world.specs.Codes.{values_eq};
 ghost use Rattle.tl_world.specs.RowTests.{rows_eq, rows-tell};
@@ -345,6 +345,20 @@ impl Runs {
             *part == *rows
         } else {
             self.has_each_at(at, rows)
+        }
+    }
+
+    /// How many rows from place `k` on are found to be those of the other from place `l` on, by one comparison of values: all rows of a run, where one with the same rows begins at each of the places, and else none.
+    pub(crate) fn same_from(&self, k: usize, other: &Runs, l: usize) -> usize
+        ensures same { take result (drop k self.now) ≡ take result (drop l other.now) }
+        ensures many { length (take result (drop k self.now)) ≡ result }
+    {
+        let (rows, from) = self.part_of(k, k / MOST);
+        let (others, start) = other.part_of(l, l / MOST);
+        if from == k && start == l && *rows == *others {
+            rows.len()
+        } else {
+            0
         }
     }
 
