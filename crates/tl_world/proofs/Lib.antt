@@ -39,3 +39,4 @@ pub mod Moving
 pub mod Exchanged
 pub mod Beside
 pub mod Falling
+pub mod Unchanged

@@ -18,3 +18,4 @@ pub mod Second
 pub mod Falling
 pub mod Edits
 pub mod Calls
+pub mod Unchanged

@@ -44,7 +44,7 @@ impl Model for Rows {
 
 /// The code of a row.
 #[tactic(auto, unfolding(crate::specs::Codes::row_code))]
-fn code_of_row(row: &[Value]) -> u64
+pub(crate) fn code_of_row(row: &[Value]) -> u64
     ensures { result ≡ row_code row.now }
 {
     let mut hasher = FoldHasher::default();
@@ -83,6 +83,11 @@ impl Rows {
         ensures many { length (take result (drop k self.now)) ≡ result }
     {
         self.runs.same_from(k, &other.runs, l)
+    }
+
+    /// The code of the rows. It takes no memory.
+    pub(crate) fn code(&self) -> u64 {
+        self.code
     }
 
     /// The rows alone.

@@ -36,7 +36,7 @@ impl Model for Runs {
 }
 
 /// Whether the two rows are the same.
-fn is_same_row(a: &[Value], b: &[Value]) -> bool
+pub(crate) fn is_same_row(a: &[Value], b: &[Value]) -> bool
     ensures { result ≡ values_eq a.now b.now }
 {
     a == b

@@ -97,6 +97,11 @@ impl PlaceRows {
         self.rows[k].value
     }
 
+    /// The code of the places with their values. It takes no memory.
+    pub(crate) fn code(&self) -> u64 {
+        self.code
+    }
+
     pub(crate) fn as_slice(&self) -> &[PlaceRow]
         ensures { result.now ≡ self.now }
     {

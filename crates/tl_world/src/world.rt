@@ -3,7 +3,7 @@ ghost use Rattle.std.specs.FinMap as dict;
 ghost use Rattle.std.specs.FinSet as set;
 ghost use Rattle.std.specs.Hash.{same_Alike};
 ghost use Rattle.std.specs.List.{list_all};
-ghost use Rattle.std.specs.Prelude.{◌≡◌, ◌↔◌, ◌<◌, ◌&&◌, List, [], map, length, not, true, false, Some, None, IfNone, IfSome, IfOk};
+ghost use Rattle.std.specs.Prelude.{◌≡◌, ◌↔◌, ◌<◌, ◌&&◌, ◌++◌, List, [], map, length, not, true, false, Some, None, IfNone, IfSome, IfOk};
 ghost use Rattle.tl_syntax.proofs.Telling.{tells-partial, tells-equivalence};
 ghost use Rattle.tl_syntax.specs.Lists.{Among, Rises};
 ghost use Rattle.tl_terms.proofs.SameWorlds.{world-tells};
@@ -16,12 +16,14 @@ ghost use Rattle.tl_world.specs.Codes.{tables_code};
 ghost use Rattle.tl_world.specs.Tables.{InOrder, fact_tables, place_tables, set_of, map_of, row_cmp};
 ghost use Rattle.tl_world.specs.WorldCode.{world_fed};
 ghost use Rattle.tl_world.specs.Edits.{changed_places};
-ghost use Rattle.tl_world.specs.Moves.{changed_facts};
+ghost use Rattle.tl_world.specs.Moves.{AreSameBeside, changed_facts};
 
 use crate::facts::change_facts;
+use crate::mark::{changed_mark, mark_of_facts, mark_of_places};
 use crate::named::{Named, find_table, share};
 use crate::places::{change_places, find_place};
 use crate::runs::find_row;
+use crate::tables_beside::are_tables_beside;
 use crate::{PlaceRow, PlaceRows, Rows};
 use std::alloc::Global;
 use std::hash::{FoldHasher, Hash, Hasher};
@@ -211,6 +213,30 @@ impl World {
         change_facts(alloc, &mut facts, dels, adds)?;
         change_places(alloc, &mut places, sets)?;
         Ok(whole(facts, places))
+    }
+
+    /// Whether the worlds are found to have the same facts, but for those that the changes name. It takes no memory.
+    pub(crate) fn is_beside(&self, other: &World, dels: &[Fact], adds: &[Fact]) -> bool
+        ensures { result ≡ true → AreSameBeside (dels.now ++ adds.now) self.now.facts other.now.facts }
+    {
+        are_tables_beside(self.facts.as_slice(), other.facts.as_slice(), dels, adds)
+    }
+
+    /// Whether the worlds have the same places with the same values. It takes no memory.
+    pub(crate) fn has_same_places(&self, other: &World) -> bool
+        ensures { result ≡ true → self.now.places ≡ other.now.places }
+    {
+        self.places == other.places
+    }
+
+    /// A number that is the same for equal worlds, and seldom for others. It takes no memory.
+    pub(crate) fn mark(&self) -> u64 {
+        mark_of_facts(self.facts.as_slice()).wrapping_add(mark_of_places(self.places.as_slice()))
+    }
+
+    /// The mark of the world that the changes of facts make of this one, where each deleted fact is in it and no added one is. It takes no memory.
+    pub(crate) fn mark_after(&self, dels: &[Fact], adds: &[Fact]) -> u64 {
+        changed_mark(self.mark(), dels, adds)
     }
 
     /// Whether all facts of the other world are in this one.

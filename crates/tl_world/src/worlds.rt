@@ -1,19 +1,31 @@
 // Worlds by numbers.
-ghost use Rattle.std.specs.Prelude.{◌≡◌, ◌<◌, ℕ, [], length, slice_get, Some, Ok, IfOk, OnErr};
+ghost use Rattle.std.specs.Prelude.{◌≡◌, ◌<◌, ℕ, [], length, slice_get, Some, Ok, IfOk, IfSome, OnErr};
 ghost use Rattle.tl_world.specs.NumberedLists.{IsOnce, IsAdded, Stay};
+ghost use Rattle.tl_world.specs.Unchanged.{IsNumberAfter};
 
 use crate::World;
-use indexmap::IndexSet;
+use indexmap::{IndexMap, IndexSet};
 use std::alloc::Global;
-use tl_syntax::NoMemory;
+use tl_syntax::{Fact, NoMemory, PlaceValue};
 
 /// Worlds by numbers: each number below `len` is of one world, and equal worlds have one number. Numbers keep their worlds after every call, a refused one included.
 ///
-/// A world is found by its code, and then compared with the kept worlds of that code.
+/// A world is found by its code, and then compared with the kept worlds of that code. One that changes make of a kept world is guessed by its mark before it is made.
 #[derive(Drop)]
 pub struct Worlds {
     table: IndexSet<World>,
+    by_mark: IndexMap<u64, usize>,
     pub ghost one_to_one: { IsOnce table.keys },
+}
+
+/// Notes the number of a new world with the mark, where there is memory for it.
+fn note(by_mark: &mut IndexMap<u64, usize>, is_new: bool, mark: u64, number: usize) {
+    if is_new {
+        match by_mark.insert(mark, number) {
+            Ok(_) => {}
+            Err(_) => {}
+        }
+    }
 }
 
 impl Worlds {
@@ -25,6 +37,7 @@ impl Worlds {
     {
         Worlds {
             table: IndexSet::new(alloc),
+            by_mark: IndexMap::new(alloc),
         }
     }
 
@@ -52,7 +65,34 @@ impl Worlds {
         ensures stay { Stay (worlds_in self.old) (worlds_in self.new) }
         ensures refused { OnErr result (worlds_in self.new ≡ worlds_in self.old) }
     {
-        let (number, _) = self.table.insert_full(world)?;
+        let mark = world.mark();
+        let (number, is_new) = self.table.insert_full(world)?;
+        note(&mut self.by_mark, is_new, mark, number);
         Ok(number)
+    }
+
+    /// The number of the world that the changes make of the world of the number `from`, where it is found without making that world. It may have a number where none is found. It takes no memory.
+    ///
+    /// It is found where no place is set, each deleted fact is in the world of `from` or among those that are added, no added fact is in it, and no later world has the same mark.
+    pub fn find_after(
+        &self,
+        from: usize,
+        dels: &[Fact],
+        adds: &[Fact],
+        sets: &[PlaceValue],
+    ) -> Option<usize>
+        requires { from < length (worlds_in self.now) }
+        ensures { IfSome result (IsNumberAfter (worlds_in self.now) from dels.now adds.now sets.now) }
+    {
+        if !sets.is_empty() {
+            return None;
+        }
+        let before = self.get(from);
+        let number = *self.by_mark.get(&before.mark_after(dels, adds))?;
+        if number < self.table.len() && self.get(number).is_after(before, dels, adds, sets) {
+            Some(number)
+        } else {
+            None
+        }
     }
 }

@@ -29,3 +29,6 @@ returns-clause-known c n e =
     let at = stored world_eq world-tells c.args.world s.0 c.insert_full.new.self.keys c.in_ok-number.number s.1 s.2 in
     let still = stay-added _ _ c.args.world (added world_eq world-tells _ _ _ c.in_ok-number.ensures.keys) n c.args.world e in
     ap (λ i. Ok i) (once world_eq world-tells _ c.insert_full.ensures.unique c.in_ok-number.number n c.args.world at still)
+
+pub invariant_of-self-2 : goal.invariant_of-self-2
+invariant_of-self-2 c = record { one_to_one = once world_eq world-tells _ c.insert_full.ensures.unique }

@@ -1,0 +1,45 @@
+-- Facts that changes do not name, and the world that changes make.
+use Rattle.std.specs.Prelude.{◌≡◌, ℕ, Bool, false, List, [], ◌∷◌, ◌++◌, map, slice_get, Some}
+use Rattle.std.specs.List.{list_any}
+use Rattle.std.specs.Ordering.{eq_by_cmp}
+use Rattle.tl_syntax.specs.declared.fact.Fact.{Fact}
+use Rattle.tl_syntax.specs.declared.place_value.PlaceValue.{PlaceValue}
+use Rattle.tl_syntax.specs.declared.value.Value.{Value}
+use Rattle.tl_syntax.specs.Keys.{Key, key_cmp, fact_key}
+use Rattle.tl_terms.specs.World.{World}
+use Rattle.tl_world.specs.declared.named.Named.{Named}
+use Rattle.tl_world.specs.Edits.{changed_places}
+use Rattle.tl_world.specs.Moves.{changed_facts}
+
+-- whether this fact is one of them
+abbrev pub names : List Fact → Key → Bool
+names facts q = list_any (λ f. eq_by_cmp key_cmp q (fact_key f)) facts
+
+-- the facts of the table with the number n
+abbrev pub row_keys : ℕ → List (List Value) → List Key
+row_keys n rows = map (λ a. (n, a)) rows
+
+-- the facts of the tables
+abbrev pub table_keys : List (Named (List (List Value))) → List Key
+table_keys [] = []
+table_keys (t ∷ ts) = row_keys t.name t.rows.value ++ table_keys ts
+
+-- the same facts are in both lists, but for some
+abbrev pub AreAlikeBeside : List Fact → List Key → List Key → Type 0
+AreAlikeBeside facts xs ys = (q : Key) → names facts q ≡ false → list_any (eq_by_cmp key_cmp q) xs ≡ list_any (eq_by_cmp key_cmp q) ys
+
+-- the tables with the number n have the same facts, but for those that are deleted or added
+abbrev pub AreRowsBeside : List Fact → List Fact → ℕ → List (List Value) → List (List Value) → Type 0
+AreRowsBeside dels adds n rows others = AreAlikeBeside (dels ++ adds) (row_keys n rows) (row_keys n others)
+
+-- the tables of two worlds have them so
+abbrev pub AreTablesBeside : List Fact → List Fact → List (Named (List (List Value))) → List (Named (List (List Value))) → Type 0
+AreTablesBeside dels adds ts us = AreAlikeBeside (dels ++ adds) (table_keys ts) (table_keys us)
+
+-- the world without some facts, with others, and with the values that are set; of two for one place the earlier counts
+abbrev pub changed_world : World → List Fact → List Fact → List PlaceValue → World
+changed_world w dels adds sets = record { facts = changed_facts w.facts dels adds; places = changed_places w.places sets }
+
+-- the number is that of the world that the changes make of the world of another number
+abbrev pub IsNumberAfter : List World → ℕ → List Fact → List Fact → List PlaceValue → ℕ → Type 0
+IsNumberAfter ws from dels adds sets n = (w : World) → slice_get ws from ≡ Some w → slice_get ws n ≡ Some (changed_world w dels adds sets)

@@ -1,0 +1,60 @@
+// Whether a world is the one that changes make of another.
+ghost use Rattle.std.specs.List.{list_all};
+ghost use Rattle.std.specs.Prelude.{◌≡◌, ◌||◌, not, true};
+ghost use Rattle.tl_syntax.specs.Keys.{fact_key};
+ghost use Rattle.tl_terms.specs.World.{has_fact};
+ghost use Rattle.tl_world.specs.Edits.{changed_places};
+ghost use Rattle.tl_world.specs.Moves.{changed_facts};
+ghost use Rattle.tl_world.specs.Unchanged.{names};
+
+use crate::World;
+use crate::named_facts::is_one_of;
+use tl_syntax::{Fact, PlaceValue};
+
+impl World {
+    /// Whether all the facts are in the world. It takes no memory.
+    fn holds_added(&self, adds: &[Fact]) -> bool
+        ensures { result ≡ list_all (λ f. has_fact self.now (fact_key f)) adds.now }
+    {
+        adds.iter()
+            .all(|f| self.holds(f.pred, f.args.as_slice()))
+    }
+
+    /// Whether none of the facts of `dels` is in the world but for such as are of `adds`. It takes no memory.
+    fn lacks_deleted(&self, dels: &[Fact], adds: &[Fact]) -> bool
+        ensures { result ≡ list_all (λ f. not (has_fact self.now (fact_key f)) || names adds.now (fact_key f)) dels.now }
+    {
+        dels.iter().all(|f| {
+            !self.holds(f.pred, f.args.as_slice()) || is_one_of(adds, f.pred, f.args.as_slice())
+        })
+    }
+
+    /// Whether the facts of this world are found to be those that the changes make of the facts of the world `from`. It takes no memory.
+    fn has_changed_facts(&self, from: &World, dels: &[Fact], adds: &[Fact]) -> bool
+        ensures { result ≡ true → self.now.facts ≡ changed_facts from.now.facts dels.now adds.now }
+    {
+        if !self.holds_added(adds) {
+            return false;
+        }
+        if !self.lacks_deleted(dels, adds) {
+            return false;
+        }
+        self.is_beside(from, dels, adds)
+    }
+
+    /// Whether this world is found to be the one that the changes make of the world `from`, without making it. It may be so where the answer is no, as it is where places are set. It takes no memory.
+    ///
+    /// The facts of both worlds are gone over once, side by side.
+    pub fn is_after(
+        &self,
+        from: &World,
+        dels: &[Fact],
+        adds: &[Fact],
+        sets: &[PlaceValue],
+    ) -> bool
+        ensures facts { result ≡ true → self.now.facts ≡ changed_facts from.now.facts dels.now adds.now }
+        ensures places { result ≡ true → self.now.places ≡ changed_places from.now.places sets.now }
+    {
+        sets.is_empty() && self.has_same_places(from) && self.has_changed_facts(from, dels, adds)
+    }
+}

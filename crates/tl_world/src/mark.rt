@@ -1,0 +1,51 @@
+// Marks of worlds, by which a world that changes make is guessed. No clause speaks of them.
+use crate::named::Named;
+use crate::named_facts::is_one_of;
+use crate::rows::code_of_row;
+use crate::{PlaceRows, Rows};
+use tl_syntax::Fact;
+
+/// An odd number for the predicate, and another one for the function with this number.
+const FACTORS: [u64; 2] = [0x9e37_79b9_7f4a_7c15, 0xc2b2_ae3d_27d4_eb4f];
+
+/// The code of a table, or of a row, as a part of the mark.
+fn part(code: u64, name: u32, factor: u64) -> u64 {
+    code.wrapping_mul(u64::from(name).wrapping_mul(factor) | 1)
+}
+
+/// The mark of tables of facts: the sum of those of their facts.
+pub(crate) fn mark_of_facts(tables: &[Named<Rows>]) -> u64 {
+    let mut mark = 0u64;
+    for t in tables {
+        mark = mark.wrapping_add(part(t.rows.code(), t.name, FACTORS[0]));
+    }
+    mark
+}
+
+/// The mark of tables of places: the sum of those of their places with their values.
+pub(crate) fn mark_of_places(tables: &[Named<PlaceRows>]) -> u64 {
+    let mut mark = 0u64;
+    for t in tables {
+        mark = mark.wrapping_add(part(t.rows.code(), t.name, FACTORS[1]));
+    }
+    mark
+}
+
+/// The mark of a fact.
+fn mark_of_fact(fact: &Fact) -> u64 {
+    part(code_of_row(fact.args.as_slice()), fact.pred, FACTORS[0])
+}
+
+/// The mark after the facts of `dels` are deleted and those of `adds` added, as if each that is deleted were there and each that is added were not.
+pub(crate) fn changed_mark(mark: u64, dels: &[Fact], adds: &[Fact]) -> u64 {
+    let mut mark = mark;
+    for d in dels {
+        if !is_one_of(adds, d.pred, d.args.as_slice()) {
+            mark = mark.wrapping_sub(mark_of_fact(d));
+        }
+    }
+    for a in adds {
+        mark = mark.wrapping_add(mark_of_fact(a));
+    }
+    mark
+}
