@@ -1,6 +1,6 @@
 -- When rows in runs are the same.
-use Rattle.std.proofs.Common.{◌≡◌, ℕ, ◌+◌, ◌-◌, ◌<◌, ◌≤◌, Bool, true, false, true≢false, List, [], ◌∷◌, ◌++◌, length, get_or, take, drop, refl, sym, ap, ◌∙◌, arith}
-use Rattle.std.proofs.lemmas.List.{take_all, take-append-drop, take-take, take_more, length-drop, get_or-take}
+use Rattle.std.proofs.Common.{◌≡◌, ℕ, suc, ◌+◌, ◌-◌, ◌<◌, ◌≤◌, Bool, ◌&&◌, true, false, true≢false, List, [], ◌∷◌, ◌++◌, length, get_or, take, drop, drop-cons, drop-drop, refl, sym, ap, ◌∙◌, arith}
+use Rattle.std.proofs.lemmas.List.{take_all, take-append-drop, take-take, take_more, length-drop, length-take, drop-take, get_or-take}
 use Rattle.std.proofs.Math.Seq.{take-append_seam}
 use Rattle.tl_syntax.specs.declared.value.Value.{Value}
 use Rattle.tl_syntax.specs.DerivedTests.{value_eq}
@@ -92,3 +92,40 @@ pub parts-alike : (xs ys rows others : List (List Value)) (from start k l n : �
 parts-alike xs ys rows others from start k l n b h g e f size is t =
     let same : rows ≡ others = (rows-tell rows others).0 (sym is ∙ t) in
     part-from xs rows from k n h e size ∙ (same ∙ sym (part-from ys others start l n g f (size ∙ ap length same)))
+
+-- some rows of a part
+part-rows : (xs rows : List (List Value)) (from k n : ℕ) → IsPart xs from rows → from ≤ k → k < from + length rows → length (take n (drop (k - from) rows)) ≡ n → take n (drop (k - from) rows) ≡ take n (drop k xs)
+part-rows xs rows from k n h p q many =
+    let r = length rows - (k - from) in
+    let size : from + length rows - from ≡ (k - from) + r = omega (arith, p, q) in
+    let at : from + (k - from) ≡ k = omega (arith, p) in
+    let some : n ≤ r = let a = length-drop (k - from) rows in let b = length-take n (drop (k - from) rows) in omega (arith, a, b, many) in
+    let left : drop (k - from) rows ≡ take r (drop k xs) =
+    ap (drop (k - from)) (h.are ∙ ap (λ m. take m (drop from xs)) size)
+    ∙ (drop-take (k - from) r (drop from xs) ∙ ap (take r) (drop-drop (k - from) from xs ∙ ap (λ m. drop m xs) at)) in
+    ap (take n) left ∙ take-take n r (drop k xs) some
+
+-- rows of two parts that are the same
+pub parts-same : (xs ys rows others : List (List Value)) (from start k l n : ℕ) → IsPart xs from rows → IsPart ys start others → from ≤ k → start ≤ l → k < from + length rows → l < start + length others
+    → take n (drop (k - from) rows) ≡ take n (drop (l - start) others) → length (take n (drop (k - from) rows)) ≡ n → take n (drop k xs) ≡ take n (drop l ys)
+parts-same xs ys rows others from start k l n h g p q v w e many =
+    sym (part-rows xs rows from k n h p v many) ∙ (e ∙ part-rows ys others start l n g q w (sym (ap length e) ∙ many))
+
+-- one more row that is the same
+pub more-same : (xs ys : List (List Value)) (k l n m : ℕ) (x y : List Value) (b : Bool) → m ≡ n + 1 → k + n < length xs → l + n < length ys → x ≡ get_or xs (k + n) x → y ≡ get_or ys (l + n) y → b ≡ values_eq x y → b ≡ true
+    → take n (drop k xs) ≡ take n (drop l ys) → take m (drop k xs) ≡ take m (drop l ys)
+more-same xs ys k l n m x y b e p q f g is t same =
+    ap (λ i. take i (drop k xs)) e
+    ∙ (one xs k x p f ∙ ((λ i. same i ++ (row-tells x y).0 (sym is ∙ t) i ∷ []) ∙ (sym (one ys l y q g) ∙ ap (λ i. take i (drop l ys)) (sym e))))
+  where
+    one : (zs : List (List Value)) (i : ℕ) (z : List Value) → i + n < length zs → z ≡ get_or zs (i + n) z → take (n + 1) (drop i zs) ≡ take n (drop i zs) ++ z ∷ []
+    one zs i z w h =
+        take_more (drop i zs) n z (let a = length-drop i zs in omega (arith, a, w))
+        ∙ ap (λ u. take n (drop i zs) ++ u ∷ []) (Rattle.std.proofs.lemmas.List.get_or-drop i zs n z ∙ sym h)
+
+-- lists of values are compared value by value
+pub rest-told : (xs ys : List Value) (i j : ℕ) (x y : Value) → j ≡ i + 1 → i < length xs → i < length ys → x ≡ get_or xs i x → y ≡ get_or ys i y → values_eq (drop i xs) (drop i ys) ≡ (value_eq x y && values_eq (drop j xs) (drop j ys))
+rest-told xs ys i j x y e p q f g =
+    let s : suc i ≡ j = omega (arith, e) in
+    (λ k. values_eq (drop-cons xs i x p k) (drop-cons ys i y q k))
+    ∙ (λ k. value_eq (sym f k) (sym g k) && values_eq (drop (s k) xs) (drop (s k) ys))

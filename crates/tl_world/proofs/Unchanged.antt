@@ -86,13 +86,6 @@ keys-any p ts = ap (list_any p) (same ts)
         map-append (λ e. e.0) (keyed u.name (map fact_row u.rows.value)) (entries_of (fact_tables us))
         ∙ λ i. same-rows u.name u.rows.value i ++ same us i
 
--- one row at each place is the same
-pub one-same : (xs ys : List (List Value)) (k l : ℕ) (x y : List Value) (b : Bool) → k < length xs → l < length ys → x ≡ get_or xs k x → y ≡ get_or ys l y → b ≡ values_eq x y → b ≡ true → take 1 (drop k xs) ≡ take 1 (drop l ys)
-one-same xs ys k l x y b p q e f is t =
-    let one : (zs : List (List Value)) (i : ℕ) (z : List Value) → i < length zs → z ≡ get_or zs i z → take 1 (drop i zs) ≡ z ∷ [] =
-    λ zs i z w g. ap (take 1) (drop-cons zs i z w) ∙ ap (λ u. u ∷ []) (sym g) in
-    one xs k x p e ∙ (ap (λ u. u ∷ []) ((row-tells x y).0 (sym is ∙ t)) ∙ sym (one ys l y q f))
-
 module _ (fs : List Fact) where
   pub alike-facts : (ts us : List (Named (List (List Value)))) → AreAlikeBeside fs (table_keys ts) (table_keys us) → AreSameBeside fs (facts_of ts) (facts_of us)
   alike-facts ts us h q e =

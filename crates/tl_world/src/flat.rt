@@ -7,6 +7,7 @@ ghost use Rattle.tl_world.specs.Cuts.{begin};
 ghost use Rattle.tl_world.specs.Runs.{between};
 ghost use Rattle.tl_world.specs.RowTests.{rows_eq, rows-tell};
 
+use crate::same_row::is_same_row;
 use std::alloc::Global;
 use std::marker::Model;
 use tl_syntax::{NoMemory, Value};
@@ -114,7 +115,8 @@ impl PartialEq for Flat {
     ghost laws = { tells-partial rows_eq rows-tell };
 
     fn eq(&self, other: &Flat) -> bool {
-        self.ends == other.ends && self.values == other.values
+        self.ends == other.ends
+            && is_same_row(self.values.as_slice(), other.values.as_slice())
     }
 }
 
@@ -152,6 +154,24 @@ impl Flat {
     {
         let ends = self.ends.as_slice();
         part(self.values.as_slice(), begin(ends, k), ends[k])
+    }
+
+    /// How many rows from place `k` on are those of the other from place `l` on, by a comparison of each.
+    pub(crate) fn same_rows(&self, k: usize, other: &Flat, l: usize) -> usize
+        requires row { k ≤ length self.now }
+        requires other { l ≤ length other.now }
+        ensures same { take result (drop k self.now) ≡ take result (drop l other.now) }
+        ensures many { length (take result (drop k self.now)) ≡ result }
+    {
+        let most = (self.len() - k).min(other.len() - l);
+        let mut n = 0;
+        while n < most {
+            if !is_same_row(self.row(k + n), other.row(l + n)) {
+                return n;
+            }
+            n += 1;
+        }
+        n
     }
 
     /// One more row at the end.

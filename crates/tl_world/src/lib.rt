@@ -42,6 +42,7 @@ mod row_search;
 mod rows;
 mod rows_beside;
 mod runs;
+mod same_row;
 mod second;
 mod second_made;
 mod shared;

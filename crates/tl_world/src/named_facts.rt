@@ -4,7 +4,7 @@ ghost use Rattle.std.specs.Prelude.{◌≡◌, ◌++◌};
 ghost use Rattle.tl_syntax.specs.Keys.{key_cmp, fact_key};
 ghost use Rattle.tl_world.specs.Unchanged.{names};
 
-use crate::runs::is_same_row;
+use crate::same_row::is_same_row;
 use tl_syntax::{Fact, Value};
 
 /// Whether the fact is that of the predicate with these arguments.

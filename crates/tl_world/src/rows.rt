@@ -85,6 +85,16 @@ impl Rows {
         self.runs.same_from(k, &other.runs, l)
     }
 
+    /// How many rows from place `k` on are those of the other from place `l` on, by a comparison of each. There may be more where the rows are cut into runs, but for the first one. It takes no memory.
+    pub(crate) fn same_rows(&self, k: usize, other: &Rows, l: usize) -> usize
+        requires row { k < length self.now }
+        requires other { l < length other.now }
+        ensures same { take result (drop k self.now) ≡ take result (drop l other.now) }
+        ensures many { length (take result (drop k self.now)) ≡ result }
+    {
+        self.runs.same_rows(k, &other.runs, l)
+    }
+
     /// The code of the rows. It takes no memory.
     pub(crate) fn code(&self) -> u64 {
         self.code

@@ -3,13 +3,13 @@ ghost use Rattle.std.specs.List.{insert};
 ghost use Rattle.std.specs.List.Sorted.{IsBinarySearchResult, IsSearchInRange};
 ghost use Rattle.std.specs.Prelude.{◌≡◌, ◌<◌, ◌≤◌, ◌+◌, ◌^◌, ◌↔◌, ◌++◌, [], ◌∷◌, length, take, drop, slice_index_or, true, IfOk, IfSome, OnOk};
 ghost use Rattle.tl_syntax.proofs.Telling.{tells-partial};
-ghost use Rattle.tl_world.specs.Codes.{values_eq};
 ghost use Rattle.tl_world.specs.RowTests.{rows_eq, rows-tell};
 ghost use Rattle.tl_world.specs.Runs.{between, IsPart, IsPartFor};
 ghost use Rattle.tl_world.specs.Tables.{row_cmp};
 
 use crate::flat::Flat;
 use crate::row_search::{begins_after, find_in};
+use crate::same_row::is_same_row;
 use crate::shared::{FEWEST, MOST, Shared};
 use std::alloc::Global;
 use std::marker::Model;
@@ -33,13 +33,6 @@ impl Model for Runs {
     ghost Value = { List (List PlainValue) };
 
     ghost view = { λ r. r.shared ++ r.last };
-}
-
-/// Whether the two rows are the same.
-pub(crate) fn is_same_row(a: &[Value], b: &[Value]) -> bool
-    ensures { result ≡ values_eq a.now b.now }
-{
-    a == b
 }
 
 impl Runs {
@@ -360,6 +353,18 @@ impl Runs {
         } else {
             0
         }
+    }
+
+    /// How many rows from place `k` on are those of the other from place `l` on, by a comparison of each, up to the end of a run of one of the two.
+    pub(crate) fn same_rows(&self, k: usize, other: &Runs, l: usize) -> usize
+        requires row { k < length self.now }
+        requires other { l < length other.now }
+        ensures same { take result (drop k self.now) ≡ take result (drop l other.now) }
+        ensures many { length (take result (drop k self.now)) ≡ result }
+    {
+        let (rows, from) = self.part_of(k, k / MOST);
+        let (others, start) = other.part_of(l, l / MOST);
+        rows.same_rows(k - from, others, l - start)
     }
 
     /// Whether the table begins with the rows of the runs.

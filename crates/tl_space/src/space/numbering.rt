@@ -1,5 +1,5 @@
 // Worlds and formulas get their numbers. The pairs stay.
-ghost use Rattle.std.specs.Prelude.{◌≡◌, ◌<◌, length, slice_get, Some, IfOk, IfErr};
+ghost use Rattle.std.specs.Prelude.{◌≡◌, ◌<◌, length, slice_get, Some, IfOk, IfErr, IfSome};
 ghost use Rattle.tl_action.specs.ChangedWorlds.{world_after};
 ghost use Rattle.tl_nodes.specs.Numbering.{Keeps};
 ghost use Rattle.tl_nodes.specs.Numbers.{trees, Denotes};
@@ -17,7 +17,7 @@ use tl_action::Changes;
 use tl_nodes::Nodes;
 use tl_progress::{Incoming, ProgressFault, progress_kept};
 use tl_terms::NoMemory;
-use tl_world::{Task, World};
+use tl_world::{Task, World, Worlds};
 
 /// The first world again, which shares its tables.
 fn first_of(alloc: Global, task: &Task) -> Result<World, NoMemory>
@@ -34,6 +34,20 @@ fn number_control(nodes: &mut Nodes, task: &Task) -> Result<usize, NoMemory>
     nodes.of_tree(&task.problem.domain.control)
 }
 
+/// The number of the world that the changes make of the world of a number, where it is found without making that world. It takes no memory.
+fn found_after(worlds: &Worlds, from: usize, changes: &Changes) -> Option<usize>
+    requires { from < length (worlds_in worlds.now) }
+    ensures { IfSome result (λ n. slice_get (worlds_in worlds.now) n
+        ≡ Some (world_after (world_at (worlds_in worlds.now) from) changes.now)) }
+{
+    worlds.find_after(
+        from,
+        changes.dels.as_slice(),
+        changes.adds.as_slice(),
+        changes.sets.as_slice(),
+    )
+}
+
 impl Space {
     /// The number of the world: the one that it has, or else the next one. A refused call drops the world.
     pub(crate) fn number_of_world(&mut self, world: World) -> Result<usize, NoMemory>
@@ -44,7 +58,7 @@ impl Space {
         self.worlds.number(world)
     }
 
-    /// The number of the world that the changes make of the world of a number.
+    /// The number of the world that the changes make of the world of a number. A world that has a number is seldom made for it.
     pub(crate) fn number_after(&mut self, from: usize, changes: &Changes) -> Result<usize, NoMemory>
         requires from { from < length (worlds_in self.old.worlds) }
         requires named { WorldIsNamed (name_count self.old) (world_after (world_at (worlds_in self.old.worlds) from) changes.now) }
@@ -52,6 +66,9 @@ impl Space {
         ensures number { IfOk result (λ n. slice_get (worlds_in self.new.worlds) n
             ≡ Some (world_after (world_at (worlds_in self.old.worlds) from) changes.now)) }
     {
+        if let Some(known) = found_after(&self.worlds, from, changes) {
+            return Ok(known);
+        }
         let next = changes.world_after(self.alloc, self.worlds.get(from))?;
         self.number_of_world(next)
     }

@@ -24,8 +24,9 @@ same es fs xs ys a b v w h k e d p q = told_alike {P = v ≡ w} (a && b) (rows_e
 
 pub returns-then-eq : goal.returns-then-eq
 returns-then-eq c =
-    sym (ap (λ a. a && c.eq-then-eq.result) c.if-eq.true)
-    ∙ same c.self.inside.ends.items c.other.inside.ends.items c.self.inside.values.items c.other.inside.values.items c.eq.result c.eq-then-eq.result _ _ c.self.invariant c.other.invariant c.self.view_is c.other.view_is c.eq.ensures c.eq-then-eq.ensures
+    sym (ap (λ a. a && c.is_same_row.result) c.if-eq.true)
+    ∙ same c.self.inside.ends.items c.other.inside.ends.items c.self.inside.values.items c.other.inside.values.items c.eq.result c.is_same_row.result _ _ c.self.invariant c.other.invariant c.self.view_is c.other.view_is c.eq.ensures
+    (c.is_same_row.ensures ∙ λ i. pointwise value_eq (c.as_slice.ensures.value i) (c.as_slice-then-eq.ensures.value i))
 
 pub returns-else-eq : goal.returns-else-eq
 returns-else-eq c =
