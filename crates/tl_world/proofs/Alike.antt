@@ -12,7 +12,7 @@ use Rattle.tl_syntax.proofs.Plain.{value-tells, list-tells, both, with_both}
 use Rattle.tl_syntax.specs.contracts.value.ValuePartialEq.TheImpl as value_impl
 use Rattle.tl_world.specs.declared.named.Named.{Named}
 use Rattle.tl_world.specs.declared.table.PlaceRow.{PlaceRow}
-use Rattle.tl_world.specs.Tables.{PlainRows, InOrder, map_of, fact_row, place_row, fact_table, place_table, fact_tables, place_tables}
+use Rattle.tl_world.specs.Tables.{PlainRows, InOrder, fact_row, place_row, fact_table, place_table, fact_tables, place_tables}
 use Rattle.std.specs.Hash.FoldHasher as folding
 use Rattle.std.specs.declared.hash.FoldHasher.{FoldHasher}
 use Rattle.tl_world.specs.Codes.{rows_code, places_code, row_of, fact_table_fed, place_table_fed, tables_code}
@@ -99,10 +99,6 @@ pub eq_first : (fs gs : List (Named (List (List Value)))) (ps qs : List (Named (
     → whole (fact_tables fs) (place_tables ps) ≡ v → whole (fact_tables gs) (place_tables qs) ≡ w
     → a ≡ world_eq v w
 eq_first fs gs ps qs a v w h k p n e d = (n ∙ ap (λ x. x && pointwise place_table_eq ps qs) (sym n)) ∙ eq_whole fs gs ps qs a (pointwise place_table_eq ps qs) v w h k p refl e d
-
--- places are the same where their tables are
-pub places-told : (ps qs : List (Named (List PlaceRow))) (b : Bool) → b ≡ pointwise place_table_eq ps qs → b ≡ true → map_of (place_tables ps) ≡ map_of (place_tables qs)
-places-told ps qs b is t = ap map_of ((mapped-tells place_table place_table_eq place_table-tells ps qs).0 (sym is ∙ t))
 
 -- what the tables feed
 flat_map-map : {A B : Type 0} (f : A → B) (F : B → HashWrites) (xs : List A) → flat_map F (map f xs) ≡ flat_map (λ x. F (f x)) xs

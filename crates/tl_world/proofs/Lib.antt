@@ -40,3 +40,4 @@ pub mod Exchanged
 pub mod Beside
 pub mod Falling
 pub mod Unchanged
+pub mod Unset

@@ -25,7 +25,7 @@ in_rows None a = None
 in_rows (Some rs) a = dict.find row_cmp a rs
 
 module _ {X : Type 0} where
-  find-append : (q : Key) (es fs : List (Key × X)) → dict.find key_cmp q (es ++ fs) ≡ or_else (dict.find key_cmp q es) (dict.find key_cmp q fs)
+  pub find-append : (q : Key) (es fs : List (Key × X)) → dict.find key_cmp q (es ++ fs) ≡ or_else (dict.find key_cmp q es) (dict.find key_cmp q fs)
   find-append q [] fs = refl
   find-append q (e ∷ es) fs =
       elim (eq_by_cmp key_cmp q e.0) as (λ b. cond b (Some e.1) (dict.find key_cmp q (es ++ fs)) ≡ or_else (cond b (Some e.1) (dict.find key_cmp q es)) (dict.find key_cmp q fs)) [

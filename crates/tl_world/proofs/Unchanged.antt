@@ -1,5 +1,5 @@
 -- Tables with the same facts but for those that changes name, and worlds that are what changes make.
-use Rattle.std.proofs.Common.{◌≡◌, ◌||◌, ◌&&◌, ℕ, suc, ◌<◌, ◌+◌, Bool, true, false, not, true≢false, List, [], ◌∷◌, ◌++◌, map, length, get_or, take, drop, drop-cons, drop-drop, refl, sym, ap, ◌∙◌, subst, arith}
+use Rattle.std.proofs.Common.{◌≡◌, ◌||◌, ◌&&◌, ℕ, suc, ◌<◌, ◌+◌, Bool, true, false, not, true≢false, List, [], ◌∷◌, ◌++◌, map, length, get_or, take, drop, drop-cons, drop-drop, slice_get, Some, refl, sym, ap, ◌∙◌, subst, arith}
 use Rattle.std.proofs.lemmas.List.{take-append-drop, map-append}
 use Rattle.std.proofs.lemmas.List.Folds.{list_any-append}
 use Rattle.std.specs.Cmp.{tied_itself, Equal-is}
@@ -7,21 +7,24 @@ use Rattle.std.specs.FinSet as set
 use Rattle.std.specs.List.{list_all, list_any}
 use Rattle.std.specs.Ordering.{eq_by_cmp}
 use Rattle.tl_syntax.specs.declared.fact.Fact.{Fact}
+use Rattle.tl_syntax.specs.declared.place_value.PlaceValue.{PlaceValue}
 use Rattle.tl_syntax.specs.declared.value.Value.{Value}
 use Rattle.tl_syntax.specs.Keys.{Key, key_cmp, fact_key}
 use Rattle.tl_syntax.proofs.Plain.{both}
 use Rattle.tl_syntax.proofs.Telling.{told_alike}
 use Rattle.tl_syntax.proofs.TotalOrders.{key_total, key_ties}
 use Rattle.tl_terms.specs.Step.{without_all}
+use Rattle.tl_terms.specs.World.{World}
 use Rattle.tl_world.specs.declared.named.Named.{Named}
 use Rattle.tl_world.specs.Codes.{values_eq}
+use Rattle.tl_world.specs.Edits.{changed_places}
 use Rattle.tl_world.specs.Moves.{AreSameBeside, changed_facts}
 use Rattle.tl_world.specs.Tables.{keyed, entries_of, fact_row, fact_tables, facts_of}
-use Rattle.tl_world.specs.Unchanged.{names, row_keys, table_keys, AreAlikeBeside}
+use Rattle.tl_world.specs.Unchanged.{names, row_keys, table_keys, AreAlikeBeside, IsNumberAfter}
 use Rattle.tl_world.proofs.Orders.{contains-all}
 use Rattle.tl_world.proofs.SameParts.{row-tells}
 
-key-is : (q k : Key) → eq_by_cmp key_cmp q k ≡ true → q ≡ k
+pub key-is : (q k : Key) → eq_by_cmp key_cmp q k ≡ true → q ≡ k
 key-is q k e = key_ties q k ((Equal-is (key_cmp q k)).0 e)
 
 key-itself : (q k : Key) → q ≡ k → eq_by_cmp key_cmp q k ≡ true
@@ -71,6 +74,15 @@ is-changed s t dels adds in_now out beside = set.same_set key_total key_ties s (
         | false ↦ λ g. beside q (list_any-append (λ f. eq_by_cmp key_cmp q (fact_key f)) dels adds ∙ (ap (λ b. b || names adds q) g ∙ e))
       ]) refl
     ]) refl
+
+-- a world that is what the changes make has its number
+pub number-after : (ws : List World) (from n : ℕ) (before found : World) (dels adds : List Fact) (sets : List PlaceValue) → slice_get ws from ≡ Some before → slice_get ws n ≡ Some found
+    → found.facts ≡ changed_facts before.facts dels adds → found.places ≡ changed_places before.places sets → IsNumberAfter ws from dels adds sets n
+number-after ws from n before found dels adds sets p q f g w e =
+    let same : before ≡ w = let both_are : Some before ≡ Some w = sym p ∙ e in cc in
+    let facts = f ∙ ap (λ (v : World). changed_facts v.facts dels adds) same in
+    let places = g ∙ ap (λ (v : World). changed_places v.places sets) same in
+    q ∙ λ i. Some (record { facts = facts i; places = places i })
 
 -- the facts of the tables are their keys
 keys-any : (p : Key → Bool) (ts : List (Named (List (List Value)))) → list_any p (map (λ e. e.0) (entries_of (fact_tables ts))) ≡ list_any p (table_keys ts)

@@ -19,3 +19,4 @@ pub mod Falling
 pub mod Edits
 pub mod Calls
 pub mod Unchanged
+pub mod Unset

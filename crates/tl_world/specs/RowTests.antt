@@ -24,7 +24,7 @@ place_row_eq x y = values_eq x.args y.args && value_eq x.value y.value
 abbrev pub place_rows_eq : List PlaceRow → List PlaceRow → Bool
 place_rows_eq = pointwise place_row_eq
 
-place_row-tells : Tells place_row_eq
+pub place_row-tells : Tells place_row_eq
 place_row-tells x y = (
   λ h. let k = both (values_eq x.args y.args) (value_eq x.value y.value) h in
       let p = (list-tells value_eq value-tells x.args y.args).0 k.0 in let q = (value-tells x.value y.value).0 k.1 in λ i. record { args = p i; value = q i },

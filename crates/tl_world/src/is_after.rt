@@ -1,8 +1,9 @@
 // Whether a world is the one that changes make of another.
 ghost use Rattle.std.specs.List.{list_all};
 ghost use Rattle.std.specs.Prelude.{◌≡◌, ◌||◌, not, true};
-ghost use Rattle.tl_syntax.specs.Keys.{fact_key};
-ghost use Rattle.tl_terms.specs.World.{has_fact};
+ghost use Rattle.tl_syntax.specs.Keys.{fact_key, place_entry};
+ghost use Rattle.tl_terms.specs.Acceptance.{is_value};
+ghost use Rattle.tl_terms.specs.World.{has_fact, value_at};
 ghost use Rattle.tl_world.specs.Edits.{changed_places};
 ghost use Rattle.tl_world.specs.Moves.{changed_facts};
 ghost use Rattle.tl_world.specs.Unchanged.{names};
@@ -42,9 +43,27 @@ impl World {
         self.is_beside(from, dels, adds)
     }
 
-    /// Whether this world is found to be the one that the changes make of the world `from`, without making it. It may be so where the answer is no, as it is where places are set. It takes no memory.
+    /// Whether the places that are set have their values. It takes no memory.
+    fn has_set_values(&self, sets: &[PlaceValue]) -> bool
+        ensures { result ≡ list_all (λ p. is_value (value_at self.now (place_entry p).0) (place_entry p).1) sets.now }
+    {
+        sets.iter()
+            .all(|p| self.value(p.fun, p.args.as_slice()) == Some(p.value))
+    }
+
+    /// Whether the places of this world are found to have the values that the settings leave of those of the world `from`. It takes no memory.
+    fn has_changed_places(&self, from: &World, sets: &[PlaceValue]) -> bool
+        ensures { result ≡ true → self.now.places ≡ changed_places from.now.places sets.now }
+    {
+        if !self.has_set_values(sets) {
+            return false;
+        }
+        self.has_values_beside(from, sets)
+    }
+
+    /// Whether this world is found to be the one that the changes make of the world `from`, without making it. It may be so where the answer is no, as where one place is set to two values. It takes no memory.
     ///
-    /// The facts of both worlds are gone over once, side by side.
+    /// The facts and the places of both worlds are gone over once, side by side.
     pub fn is_after(
         &self,
         from: &World,
@@ -55,6 +74,6 @@ impl World {
         ensures facts { result ≡ true → self.now.facts ≡ changed_facts from.now.facts dels.now adds.now }
         ensures places { result ≡ true → self.now.places ≡ changed_places from.now.places sets.now }
     {
-        sets.is_empty() && self.has_same_places(from) && self.has_changed_facts(from, dels, adds)
+        self.has_changed_facts(from, dels, adds) && self.has_changed_places(from, sets)
     }
 }

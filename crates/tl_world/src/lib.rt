@@ -37,6 +37,7 @@ mod named_facts;
 mod next;
 mod pattern;
 mod places;
+mod places_beside;
 mod row_match;
 mod row_search;
 mod rows;

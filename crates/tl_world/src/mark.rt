@@ -3,7 +3,8 @@ use crate::named::Named;
 use crate::named_facts::is_one_of;
 use crate::rows::code_of_row;
 use crate::{PlaceRows, Rows};
-use tl_syntax::Fact;
+use std::hash::{FoldHasher, Hash, Hasher};
+use tl_syntax::{Fact, PlaceValue, Value};
 
 /// An odd number for the predicate, and another one for the function with this number.
 const FACTORS: [u64; 2] = [0x9e37_79b9_7f4a_7c15, 0xc2b2_ae3d_27d4_eb4f];
@@ -48,4 +49,21 @@ pub(crate) fn changed_mark(mark: u64, dels: &[Fact], adds: &[Fact]) -> u64 {
         mark = mark.wrapping_add(mark_of_fact(a));
     }
     mark
+}
+
+/// The mark of a place with a value.
+fn mark_of_place(place: &PlaceValue, value: Value) -> u64 {
+    let mut hasher = FoldHasher::default();
+    place.args.hash(&mut hasher);
+    value.hash(&mut hasher);
+    part(hasher.finish(), place.fun, FACTORS[1])
+}
+
+/// The mark after a place is set that had a value before, or none.
+pub(crate) fn set_mark(mark: u64, before: Option<Value>, place: &PlaceValue) -> u64 {
+    let without = match before {
+        Some(value) => mark.wrapping_sub(mark_of_place(place, value)),
+        None => mark,
+    };
+    without.wrapping_add(mark_of_place(place, place.value))
 }

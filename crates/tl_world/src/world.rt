@@ -16,12 +16,14 @@ ghost use Rattle.tl_world.specs.Codes.{tables_code};
 ghost use Rattle.tl_world.specs.Tables.{InOrder, fact_tables, place_tables, set_of, map_of, row_cmp};
 ghost use Rattle.tl_world.specs.WorldCode.{world_fed};
 ghost use Rattle.tl_world.specs.Edits.{changed_places};
+ghost use Rattle.tl_world.specs.Unset.{AreSameUnset};
 ghost use Rattle.tl_world.specs.Moves.{AreSameBeside, changed_facts};
 
 use crate::facts::change_facts;
-use crate::mark::{changed_mark, mark_of_facts, mark_of_places};
+use crate::mark::{changed_mark, mark_of_facts, mark_of_places, set_mark};
 use crate::named::{Named, find_table, share};
 use crate::places::{change_places, find_place};
+use crate::places_beside::are_place_tables_beside;
 use crate::runs::find_row;
 use crate::tables_beside::are_tables_beside;
 use crate::{PlaceRow, PlaceRows, Rows};
@@ -222,11 +224,11 @@ impl World {
         are_tables_beside(self.facts.as_slice(), other.facts.as_slice(), dels, adds)
     }
 
-    /// Whether the worlds have the same places with the same values. It takes no memory.
-    pub(crate) fn has_same_places(&self, other: &World) -> bool
-        ensures { result ≡ true → self.now.places ≡ other.now.places }
+    /// Whether the places of the worlds are found to have the same values, but for those that are set. It takes no memory.
+    pub(crate) fn has_values_beside(&self, other: &World, sets: &[PlaceValue]) -> bool
+        ensures { result ≡ true → AreSameUnset sets.now self.now.places other.now.places }
     {
-        self.places == other.places
+        are_place_tables_beside(self.places.as_slice(), other.places.as_slice(), sets)
     }
 
     /// A number that is the same for equal worlds, and seldom for others. It takes no memory.
@@ -234,9 +236,14 @@ impl World {
         mark_of_facts(self.facts.as_slice()).wrapping_add(mark_of_places(self.places.as_slice()))
     }
 
-    /// The mark of the world that the changes of facts make of this one, where each deleted fact is in it and no added one is. It takes no memory.
-    pub(crate) fn mark_after(&self, dels: &[Fact], adds: &[Fact]) -> u64 {
-        changed_mark(self.mark(), dels, adds)
+    /// The mark of the world that the changes make of this one, where each deleted fact is in it and no added one is. It takes no memory.
+    pub(crate) fn mark_after(&self, dels: &[Fact], adds: &[Fact], sets: &[PlaceValue]) -> u64 {
+        let mut mark = changed_mark(self.mark(), dels, adds);
+        for p in sets {
+            let before = self.value(p.fun, p.args.as_slice());
+            mark = set_mark(mark, before, p);
+        }
+        mark
     }
 
     /// Whether all facts of the other world are in this one.

@@ -73,7 +73,7 @@ impl Worlds {
 
     /// The number of the world that the changes make of the world of the number `from`, where it is found without making that world. It may have a number where none is found. It takes no memory.
     ///
-    /// It is found where no place is set, each deleted fact is in the world of `from` or among those that are added, no added fact is in it, and no later world has the same mark.
+    /// It is found where each deleted fact is in the world of `from` or among those that are added, no added fact is in it, none of the changes is given twice, and no later world has the same mark.
     pub fn find_after(
         &self,
         from: usize,
@@ -84,11 +84,8 @@ impl Worlds {
         requires { from < length (worlds_in self.now) }
         ensures { IfSome result (IsNumberAfter (worlds_in self.now) from dels.now adds.now sets.now) }
     {
-        if !sets.is_empty() {
-            return None;
-        }
         let before = self.get(from);
-        let number = *self.by_mark.get(&before.mark_after(dels, adds))?;
+        let number = *self.by_mark.get(&before.mark_after(dels, adds, sets))?;
         if number < self.table.len() && self.get(number).is_after(before, dels, adds, sets) {
             Some(number)
         } else {

@@ -1,0 +1,31 @@
+-- Places that are not set.
+use Rattle.std.specs.Prelude.{◌≡◌, ℕ, Bool, false, List, map}
+use Rattle.std.specs.FinMap as dict
+use Rattle.std.specs.List.{list_any}
+use Rattle.std.specs.Ordering.{eq_by_cmp}
+use Rattle.tl_syntax.specs.declared.place_value.PlaceValue.{PlaceValue}
+use Rattle.tl_syntax.specs.declared.value.Value.{Value}
+use Rattle.tl_syntax.specs.Keys.{Key, key_cmp, place_entry}
+use Rattle.tl_world.specs.declared.named.Named.{Named}
+use Rattle.tl_world.specs.declared.table.PlaceRow.{PlaceRow}
+use Rattle.tl_world.specs.Tables.{keyed, entries_of, place_row, place_tables}
+
+-- whether this place is one of those that are set
+abbrev pub is_set : List PlaceValue → Key → Bool
+is_set sets q = list_any (λ p. eq_by_cmp key_cmp q (place_entry p).0) sets
+
+-- places have the same values in both lists, but for those that are set
+abbrev pub AreValuesBeside : List PlaceValue → List (Key × Value) → List (Key × Value) → Type 0
+AreValuesBeside sets es fs = (q : Key) → is_set sets q ≡ false → dict.find key_cmp q es ≡ dict.find key_cmp q fs
+
+-- those of the function with the number n have them so in two tables
+abbrev pub ArePlacesBeside : List PlaceValue → ℕ → List PlaceRow → List PlaceRow → Type 0
+ArePlacesBeside sets n rows others = AreValuesBeside sets (keyed n (map place_row rows)) (keyed n (map place_row others))
+
+-- and those of the tables of two worlds
+abbrev pub ArePlaceTablesBeside : List PlaceValue → List (Named (List PlaceRow)) → List (Named (List PlaceRow)) → Type 0
+ArePlaceTablesBeside sets ts us = AreValuesBeside sets (entries_of (place_tables ts)) (entries_of (place_tables us))
+
+-- places have the same values in both maps, but for those that are set
+abbrev pub AreSameUnset : List PlaceValue → dict.FinMap key_cmp Value → dict.FinMap key_cmp Value → Type 0
+AreSameUnset sets m t = (q : Key) → is_set sets q ≡ false → dict.get m q ≡ dict.get t q

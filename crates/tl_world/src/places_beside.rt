@@ -1,0 +1,121 @@
+// Places of two worlds that have the same values but for those that are set.
+ghost use Rattle.std.specs.Ordering.{eq_by_cmp};
+ghost use Rattle.std.specs.Prelude.{◌≡◌, [], drop, true};
+ghost use Rattle.tl_syntax.specs.Keys.{key_cmp, place_entry};
+ghost use Rattle.tl_world.specs.Unset.{is_set, ArePlacesBeside, ArePlaceTablesBeside};
+
+use crate::PlaceRow;
+use crate::PlaceRows;
+use crate::named::Named;
+use crate::same_row::is_same_row;
+use tl_syntax::{PlaceValue, Value};
+
+/// Whether the place is that of the function with these arguments.
+fn is_place(place: &PlaceValue, fun: u32, args: &[Value]) -> bool
+    ensures { result ≡ eq_by_cmp key_cmp (fun, args.now) (place_entry place.now).0 }
+{
+    place.fun == fun && is_same_row(place.args.as_slice(), args)
+}
+
+/// Whether the place of the function with these arguments is set. It takes no memory.
+fn is_one_set(sets: &[PlaceValue], fun: u32, args: &[Value]) -> bool
+    ensures { result ≡ is_set sets.now (fun, args.now) }
+{
+    sets.iter().any(|p| is_place(p, fun, args))
+}
+
+/// Whether all places from one on are set. It takes no memory.
+fn are_set_from(fun: u32, rows: &[PlaceRow], from: usize, sets: &[PlaceValue]) -> bool
+    ensures { result ≡ true → ArePlacesBeside sets.now fun (drop from rows.now) [] }
+{
+    let mut k = from;
+    while k < rows.len() {
+        let r = &rows[k];
+        if !is_one_set(sets, fun, r.args.as_slice()) {
+            return false;
+        }
+        k += 1;
+    }
+    true
+}
+
+/// Whether the places of a function are found to have the same values in both tables, but for those that are set. It takes no memory.
+///
+/// Both tables are gone over once, side by side.
+fn are_places_beside(
+    fun: u32,
+    rows: &[PlaceRow],
+    others: &[PlaceRow],
+    sets: &[PlaceValue],
+) -> bool
+    ensures { result ≡ true → ArePlacesBeside sets.now fun rows.now others.now }
+{
+    let mut k = 0;
+    let mut l = 0;
+    while k < rows.len() && l < others.len() {
+        let r = &rows[k];
+        let o = &others[l];
+        if *r == *o {
+            k += 1;
+            l += 1;
+        } else if is_one_set(sets, fun, r.args.as_slice()) {
+            k += 1;
+        } else if is_one_set(sets, fun, o.args.as_slice()) {
+            l += 1;
+        } else {
+            return false;
+        }
+    }
+    are_set_from(fun, rows, k, sets) && are_set_from(fun, others, l, sets)
+}
+
+/// Whether all places of the tables from one on are set. It takes no memory.
+fn are_tables_set_from(tables: &[Named<PlaceRows>], from: usize, sets: &[PlaceValue]) -> bool
+    ensures { result ≡ true → ArePlaceTablesBeside sets.now (drop from tables.now) [] }
+{
+    let mut i = from;
+    while i < tables.len() {
+        let t = &tables[i];
+        if !are_set_from(t.name, t.rows.as_slice(), 0, sets) {
+            return false;
+        }
+        i += 1;
+    }
+    true
+}
+
+/// Whether the places of the two lists of tables are found to have the same values, but for those that are set. It takes no memory.
+///
+/// Both lists are gone over once, side by side.
+pub(crate) fn are_place_tables_beside(
+    tables: &[Named<PlaceRows>],
+    others: &[Named<PlaceRows>],
+    sets: &[PlaceValue],
+) -> bool
+    ensures { result ≡ true → ArePlaceTablesBeside sets.now tables.now others.now }
+{
+    let mut i = 0;
+    let mut j = 0;
+    while i < tables.len() && j < others.len() {
+        let t = &tables[i];
+        let u = &others[j];
+        if t.name == u.name {
+            if !are_places_beside(t.name, t.rows.as_slice(), u.rows.as_slice(), sets) {
+                return false;
+            }
+            i += 1;
+            j += 1;
+        } else if t.name < u.name {
+            if !are_set_from(t.name, t.rows.as_slice(), 0, sets) {
+                return false;
+            }
+            i += 1;
+        } else {
+            if !are_set_from(u.name, u.rows.as_slice(), 0, sets) {
+                return false;
+            }
+            j += 1;
+        }
+    }
+    are_tables_set_from(tables, i, sets) && are_tables_set_from(others, j, sets)
+}
