@@ -138,7 +138,7 @@ module _ (fs : List Fact) where
         let left : take s (drop k xs) ++ drop i xs ≡ drop k xs = ap (λ zs. take s (drop k xs) ++ zs) (ap (λ m. drop m xs) p ∙ sym (drop-drop s k xs)) ∙ take-append-drop s (drop k xs) in
         let right : take s (drop l ys) ++ drop j ys ≡ drop l ys = ap (λ zs. take s (drop l ys) ++ zs) (ap (λ m. drop m ys) q ∙ sym (drop-drop s l ys)) ∙ take-append-drop s (drop l ys) in
         subst (λ zs. AreAlikeBeside fs (row_keys n (drop k xs)) (row_keys n zs)) right (subst (λ zs. AreAlikeBeside fs (row_keys n zs) (row_keys n (take s (drop l ys) ++ drop j ys))) left
-          (rows-parts (take s (drop k xs)) (take s (drop l ys)) (drop i xs) (drop j ys) (same-alike _ _ (ap (row_keys n) e)) h))
+        (rows-parts (take s (drop k xs)) (take s (drop l ys)) (drop i xs) (drop j ys) (same-alike _ _ (ap (row_keys n) e)) h))
 
     -- a row that is named is passed in one
     pub named-passed : (xs ys : List (List Value)) (k i : ℕ) (r : List Value) → i ≡ k + 1 → k < length xs → r ≡ get_or xs k r → names fs (n, r) ≡ true
@@ -162,7 +162,7 @@ module _ (fs : List Fact) where
       let left = from-table ts i k t p v d in
       let right : row_keys t.name u.rows.value ++ table_keys (drop l us) ≡ table_keys (drop j us) = ap (λ n. row_keys n u.rows.value ++ table_keys (drop l us)) same ∙ from-table us j l u q w e in
       subst (λ ks. AreAlikeBeside fs (table_keys (drop i ts)) ks) right (subst (λ ks. AreAlikeBeside fs ks (row_keys t.name u.rows.value ++ table_keys (drop l us))) left
-        (alike-parts (row_keys t.name t.rows.value) (row_keys t.name u.rows.value) (table_keys (drop k ts)) (table_keys (drop l us)) rows h))
+      (alike-parts (row_keys t.name t.rows.value) (row_keys t.name u.rows.value) (table_keys (drop k ts)) (table_keys (drop l us)) rows h))
 
   -- a table all rows of which are named is passed in one
   pub table-passed : (ts us : List (Named (List (List Value)))) (i k : ℕ) (t : Named (List (List Value))) → k ≡ i + 1 → i < length ts → t ≡ get_or ts i t

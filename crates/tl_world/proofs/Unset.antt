@@ -72,15 +72,15 @@ module _ (sets : List PlaceValue) where
     same-passed xs ys k l i j r s p q v w d e same h =
         let one : AreValuesBeside sets (((n, r.args), r.value) ∷ []) (((n, s.args), s.value) ∷ []) = λ u _. ap (λ (x : PlaceRow). dict.find key_cmp u (((n, x.args), x.value) ∷ [])) same in
         subst (λ zs. AreValuesBeside sets (keyed n (map place_row (drop k xs))) (keyed n (map place_row zs))) (first-place ys l j s q w e)
-          (subst (λ zs. AreValuesBeside sets (keyed n (map place_row zs)) (keyed n (map place_row (s ∷ drop j ys)))) (first-place xs k i r p v d)
-            (values-parts (((n, r.args), r.value) ∷ []) (((n, s.args), s.value) ∷ []) (keyed n (map place_row (drop i xs))) (keyed n (map place_row (drop j ys))) one h))
+        (subst (λ zs. AreValuesBeside sets (keyed n (map place_row zs)) (keyed n (map place_row (s ∷ drop j ys)))) (first-place xs k i r p v d)
+        (values-parts (((n, r.args), r.value) ∷ []) (((n, s.args), s.value) ∷ []) (keyed n (map place_row (drop i xs))) (keyed n (map place_row (drop j ys))) one h))
 
     -- a place that is set is passed in one
     pub set-passed : (xs ys : List PlaceRow) (k i : ℕ) (r : PlaceRow) → i ≡ k + 1 → k < length xs → r ≡ get_or xs k r → is_set sets (n, r.args) ≡ true
         → AreValuesBeside sets (keyed n (map place_row (drop i xs))) (keyed n (map place_row ys)) → AreValuesBeside sets (keyed n (map place_row (drop k xs))) (keyed n (map place_row ys))
     set-passed xs ys k i r p w e m h =
         subst (λ zs. AreValuesBeside sets (keyed n (map place_row zs)) (keyed n (map place_row ys))) (first-place xs k i r p w e)
-          (values-parts (((n, r.args), r.value) ∷ []) [] (keyed n (map place_row (drop i xs))) (keyed n (map place_row ys)) (set-alone (n, r.args) r.value m) h)
+        (values-parts (((n, r.args), r.value) ∷ []) [] (keyed n (map place_row (drop i xs))) (keyed n (map place_row ys)) (set-alone (n, r.args) r.value m) h)
 
     pub set-passed-back : (xs ys : List PlaceRow) (l j : ℕ) (r : PlaceRow) → j ≡ l + 1 → l < length ys → r ≡ get_or ys l r → is_set sets (n, r.args) ≡ true
         → AreValuesBeside sets (keyed n (map place_row xs)) (keyed n (map place_row (drop j ys))) → AreValuesBeside sets (keyed n (map place_row xs)) (keyed n (map place_row (drop l ys)))
@@ -97,7 +97,7 @@ module _ (sets : List PlaceValue) where
   tables-passed ts us i j k l t u p q v w d e same rows h =
       let right : keyed t.name (map place_row u.rows.value) ++ entries_of (place_tables (drop l us)) ≡ entries_of (place_tables (drop j us)) = ap (λ n. keyed n (map place_row u.rows.value) ++ entries_of (place_tables (drop l us))) same ∙ from-table us j l u q w e in
       subst (λ es. AreValuesBeside sets (entries_of (place_tables (drop i ts))) es) right (subst (λ es. AreValuesBeside sets es (keyed t.name (map place_row u.rows.value) ++ entries_of (place_tables (drop l us)))) (from-table ts i k t p v d)
-        (values-parts (keyed t.name (map place_row t.rows.value)) (keyed t.name (map place_row u.rows.value)) (entries_of (place_tables (drop k ts))) (entries_of (place_tables (drop l us))) rows h))
+      (values-parts (keyed t.name (map place_row t.rows.value)) (keyed t.name (map place_row u.rows.value)) (entries_of (place_tables (drop k ts))) (entries_of (place_tables (drop l us))) rows h))
 
   -- a table all places of which are set is passed in one
   pub table-passed : (ts us : List (Named (List PlaceRow))) (i k : ℕ) (t : Named (List PlaceRow)) → k ≡ i + 1 → i < length ts → t ≡ get_or ts i t

@@ -115,8 +115,7 @@ impl PartialEq for Flat {
     ghost laws = { tells-partial rows_eq rows-tell };
 
     fn eq(&self, other: &Flat) -> bool {
-        self.ends == other.ends
-            && is_same_row(self.values.as_slice(), other.values.as_slice())
+        self.ends == other.ends && is_same_row(self.values.as_slice(), other.values.as_slice())
     }
 }
 

@@ -17,8 +17,7 @@ impl World {
     fn holds_added(&self, adds: &[Fact]) -> bool
         ensures { result ≡ list_all (λ f. has_fact self.now (fact_key f)) adds.now }
     {
-        adds.iter()
-            .all(|f| self.holds(f.pred, f.args.as_slice()))
+        adds.iter().all(|f| self.holds(f.pred, f.args.as_slice()))
     }
 
     /// Whether none of the facts of `dels` is in the world but for such as are of `adds`. It takes no memory.
@@ -64,13 +63,7 @@ impl World {
     /// Whether this world is found to be the one that the changes make of the world `from`, without making it. It may be so where the answer is no, as where one place is set to two values. It takes no memory.
     ///
     /// The facts and the places of both worlds are gone over once, side by side.
-    pub fn is_after(
-        &self,
-        from: &World,
-        dels: &[Fact],
-        adds: &[Fact],
-        sets: &[PlaceValue],
-    ) -> bool
+    pub fn is_after(&self, from: &World, dels: &[Fact], adds: &[Fact], sets: &[PlaceValue]) -> bool
         ensures facts { result ≡ true → self.now.facts ≡ changed_facts from.now.facts dels.now adds.now }
         ensures places { result ≡ true → self.now.places ≡ changed_places from.now.places sets.now }
     {

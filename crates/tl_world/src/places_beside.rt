@@ -4,10 +4,9 @@ ghost use Rattle.std.specs.Prelude.{◌≡◌, [], drop, true};
 ghost use Rattle.tl_syntax.specs.Keys.{key_cmp, place_entry};
 ghost use Rattle.tl_world.specs.Unset.{is_set, ArePlacesBeside, ArePlaceTablesBeside};
 
-use crate::PlaceRow;
-use crate::PlaceRows;
 use crate::named::Named;
 use crate::same_row::is_same_row;
+use crate::{PlaceRow, PlaceRows};
 use tl_syntax::{PlaceValue, Value};
 
 /// Whether the place is that of the function with these arguments.
@@ -42,12 +41,7 @@ fn are_set_from(fun: u32, rows: &[PlaceRow], from: usize, sets: &[PlaceValue]) -
 /// Whether the places of a function are found to have the same values in both tables, but for those that are set. It takes no memory.
 ///
 /// Both tables are gone over once, side by side.
-fn are_places_beside(
-    fun: u32,
-    rows: &[PlaceRow],
-    others: &[PlaceRow],
-    sets: &[PlaceValue],
-) -> bool
+fn are_places_beside(fun: u32, rows: &[PlaceRow], others: &[PlaceRow], sets: &[PlaceValue]) -> bool
     ensures { result ≡ true → ArePlacesBeside sets.now fun rows.now others.now }
 {
     let mut k = 0;

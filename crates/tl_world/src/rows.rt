@@ -85,7 +85,7 @@ impl Rows {
         self.runs.same_from(k, &other.runs, l)
     }
 
-    /// How many rows from place `k` on are those of the other from place `l` on, by a comparison of each. There may be more where the rows are cut into runs, but for the first one. It takes no memory.
+    /// How many rows from place `k` on are those of the other from place `l` on. There may be more where the rows are cut into runs, but 0 tells that the first ones differ. It takes no memory.
     pub(crate) fn same_rows(&self, k: usize, other: &Rows, l: usize) -> usize
         requires row { k < length self.now }
         requires other { l < length other.now }

@@ -355,13 +355,19 @@ impl Runs {
         }
     }
 
-    /// How many rows from place `k` on are those of the other from place `l` on, by a comparison of each, up to the end of a run of one of the two.
+    /// How many rows from place `k` on are those of the other from place `l` on, up to the end of a run of one of the two. A run with the same rows as one of the other is compared in one go, where the table is cut into runs.
     pub(crate) fn same_rows(&self, k: usize, other: &Runs, l: usize) -> usize
         requires row { k < length self.now }
         requires other { l < length other.now }
         ensures same { take result (drop k self.now) ≡ take result (drop l other.now) }
         ensures many { length (take result (drop k self.now)) ≡ result }
     {
+        if self.shared.len() > 0 {
+            let whole = self.same_from(k, other, l);
+            if whole > 0 {
+                return whole;
+            }
+        }
         let (rows, from) = self.part_of(k, k / MOST);
         let (others, start) = other.part_of(l, l / MOST);
         rows.same_rows(k - from, others, l - start)

@@ -9,13 +9,7 @@ use crate::rows_beside::{are_named_from, are_rows_beside};
 use tl_syntax::Fact;
 
 /// Whether the two tables of one predicate are found to have the same facts, but for those that the changes name. It takes no memory.
-fn is_table_beside(
-    pred: u32,
-    rows: &Rows,
-    others: &Rows,
-    dels: &[Fact],
-    adds: &[Fact],
-) -> bool
+fn is_table_beside(pred: u32, rows: &Rows, others: &Rows, dels: &[Fact], adds: &[Fact]) -> bool
     ensures { result ≡ true → AreRowsBeside dels.now adds.now pred rows.now others.now }
 {
     if has_pred(dels, pred) || has_pred(adds, pred) {
@@ -26,12 +20,7 @@ fn is_table_beside(
 }
 
 /// Whether all facts of the tables from a place on are such as the changes name. It takes no memory.
-fn are_tables_named_from(
-    tables: &[Named<Rows>],
-    from: usize,
-    dels: &[Fact],
-    adds: &[Fact],
-) -> bool
+fn are_tables_named_from(tables: &[Named<Rows>], from: usize, dels: &[Fact], adds: &[Fact]) -> bool
     ensures { result ≡ true → AreTablesBeside dels.now adds.now (drop from tables.now) [] }
 {
     let mut i = from;
