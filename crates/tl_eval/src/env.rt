@@ -10,6 +10,7 @@ use crate::scope::{put_in_scope, restore, saved};
 use std::alloc::Global;
 use std::marker::Model;
 use tl_syntax::{NoMemory, Value, Var};
+use tl_world::Task;
 
 /// How many variables a frame has.
 pub(crate) const SLOTS: usize = 32;
@@ -52,8 +53,28 @@ impl Env {
         ensures slots { IfOk result (λ env. length env ≡ 32) }
         ensures empty { IfOk result (λ env. (q : ℕ) → assignment_in env q ≡ None) }
     {
+        Env::with_places(alloc, PLACES)
+    }
+
+    /// `new` for the evaluations of one task. Where nothing is defined there is little to remember, and some 140 KiB are reserved in place of 390.
+    pub fn for_task(alloc: Global, task: &Task) -> Result<Env, NoMemory>
+        ensures slots { IfOk result (λ env. length env ≡ 32) }
+        ensures empty { IfOk result (λ env. (q : ℕ) → assignment_in env q ≡ None) }
+    {
+        if task.problem.domain.definitions.is_empty() {
+            return Env::with_places(alloc, FEW_PLACES);
+        }
+        Env::new(alloc)
+    }
+
+    /// All frames, with no value in any slot, and so many places for truths of definitions.
+    fn with_places(alloc: Global, places: usize) -> Result<Env, NoMemory>
+        requires { 8 ≤ places }
+        ensures slots { IfOk result (λ env. length env ≡ 32) }
+        ensures empty { IfOk result (λ env. (q : ℕ) → assignment_in env q ≡ None) }
+    {
         let values = vec![in alloc; None; FRAMES * SLOTS]?;
-        let memory = Memory::new(alloc, PLACES)?;
+        let memory = Memory::new(alloc, places)?;
         Ok(Env { values, memory })
     }
 

@@ -2,7 +2,7 @@ use Rattle.std.proofs.Common.{ap, ◌∙◌, sym, take, Option, List, rules}
 use Rattle.tl_syntax.specs.declared.value.Value.{Value}
 use Rattle.tl_eval.specs.Frames.{assignment_in}
 use Rattle.tl_eval.proofs.FrameLaws.{length-frame, nothing-at}
-use Rattle.tl_eval.proofs.env.Env.new.Goals as goal
+use Rattle.tl_eval.proofs.env.Env.with_places.Goals as goal
 
 pub returns-clause-slots : goal.returns-clause-slots
 returns-clause-slots c = length-frame c.in_ok-values.values.items (sym c.in_ok-values.values.ok.0 ∙ c.in_ok-values.ensures.len)
