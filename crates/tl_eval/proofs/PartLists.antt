@@ -1,6 +1,6 @@
 -- The parts for leading arguments of a list.
-use Rattle.std.proofs.Common.{◌≡◌, ◌<◌, ℕ, zero, suc, List, [], ◌∷◌, map, take, length, get_or, Option, Some, None, sym, ◌∙◌, inl, inr, arith}
-use Rattle.tl_eval.specs.PatternOf.{part_for, AreParts}
+use Rattle.std.proofs.Common.{◌≡◌, ◌<◌, ℕ, zero, suc, List, [], ◌∷◌, map, take, length, get_or, Bool, true, false, Option, Some, None, sym, ap, ◌∙◌, inl, inr, arith}
+use Rattle.tl_eval.specs.PatternOf.{in_place, part_for, AreParts}
 use Rattle.tl_syntax.specs.declared.variable.Arg.{Arg}
 use Rattle.tl_syntax.specs.declared.variable.Var.{Var}
 use Rattle.tl_syntax.specs.Assignment.{Assignment}
@@ -20,3 +20,10 @@ among-mapped f (u ∷ xs) (suc n) d y h k = inr (among-mapped f xs n d y (omega 
 -- where the argument at a position has no part, some argument has none
 pub parts-none : (ss : List Var) (e : Assignment) (xs : List Arg) (n : ℕ) (d : Arg) (o : Option Part) → n < length xs → o ≡ part_for ss e (get_or xs n d) → o ≡ None → AreParts ss e xs None
 parts-none ss e xs n d o h k l = among-mapped (part_for ss e) xs n d None h (sym k ∙ l)
+
+-- what counts, and what does not
+pub counts : {A : Type 0} (b : Bool) (a : A) → b ≡ true → in_place b a ≡ Some a
+counts b a q = ap (λ c. in_place c a) q
+
+pub counts-not : {A : Type 0} (b : Bool) (a : A) → b ≡ false → in_place b a ≡ None
+counts-not b a q = ap (λ c. in_place c a) q

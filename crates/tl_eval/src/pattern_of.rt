@@ -2,7 +2,7 @@
 ghost use Rattle.std.specs.List.{position};
 ghost use Rattle.std.specs.Prelude.{◌≡◌, ◌==◌, ◌≤◌, ◌∷◌, [], ◌++◌, length, true, false};
 ghost use Rattle.tl_eval.specs.Frames.{assignment_in};
-ghost use Rattle.tl_eval.specs.PatternOf.{part_for, AreParts, IsPatternOfArgs, IsPatternOf};
+ghost use Rattle.tl_eval.specs.PatternOf.{in_place, part_for, AreParts, IsPatternOfArgs, IsPatternOf};
 ghost use Rattle.tl_syntax.specs.BoundVariables.{args_of, DifferInSlot, OccurIn};
 
 use crate::term_value::value_in;
@@ -33,75 +33,104 @@ fn part_of(frame: &[Option<Value>], vars: &[Var], arg: &Arg) -> Option<Part>
     }
 }
 
-/// The parts for arguments, where each has one, before others that do not count. It takes no memory.
-fn parts_of(frame: &[Option<Value>], vars: &[Var], args: &[Arg]) -> Option<[Part; 9]>
+/// Puts the parts for arguments in place, before others that do not count, and says whether each argument has one. It takes no memory.
+fn put_parts(frame: &[Option<Value>], vars: &[Var], args: &[Arg], parts: &mut [Part; 9]) -> bool
     requires few { length vars.now ≤ 9 }
     requires short { length args.now ≤ 9 }
-    ensures { AreParts vars.now (assignment_in frame.now) args.now result }
+    ensures { AreParts vars.now (assignment_in frame.now) args.now (in_place result parts.new) }
 {
-    let mut parts = [Part::Free(0); 9];
     for (i, arg) in args.iter().enumerate() {
-        parts[i] = part_of(frame, vars, arg)?;
+        match part_of(frame, vars, arg) {
+            Some(part) => parts[i] = part,
+            None => return false,
+        }
     }
-    Some(parts)
+    true
 }
 
-/// The pattern of a fact, where each argument has a part. It takes no memory.
-fn fact_pattern(frame: &[Option<Value>], vars: &[Var], pred: u32, args: &[Arg]) -> Option<Pattern>
+/// Makes the pattern, which has its name, that of a fact, and says whether each argument has a part. It takes no memory.
+fn put_fact(frame: &[Option<Value>], vars: &[Var], args: &[Arg], pattern: &mut Pattern) -> bool
     requires few { length vars.now ≤ 9 }
     requires short { length args.now ≤ 9 }
-    ensures { IsPatternOfArgs vars.now (assignment_in frame.now) false pred args.now result }
+    ensures { IsPatternOfArgs vars.now (assignment_in frame.now) false pattern.old.name args.now (in_place result pattern.new) }
 {
-    let parts = parts_of(frame, vars, args)?;
-    Some(Pattern {
-        place: false,
-        name: pred,
-        parts,
-        len: args.len() as u32,
-        free: vars.len() as u32,
-    })
+    pattern.place = false;
+    pattern.len = args.len() as u32;
+    pattern.free = vars.len() as u32;
+    put_parts(frame, vars, args, &mut pattern.parts)
 }
 
-/// The pattern of a place with its value, where the value and each argument have a part. It takes no memory.
-fn place_pattern(
+/// Makes the pattern, which has its name, that of a place with its value, and says whether the value and each argument have a part. It takes no memory.
+fn put_place(
     frame: &[Option<Value>],
     vars: &[Var],
-    fun: u32,
     args: &[Arg],
     value: &Arg,
-) -> Option<Pattern>
+    pattern: &mut Pattern,
+) -> bool
     requires few { length vars.now ≤ 9 }
     requires short { length args.now ≤ 8 }
-    ensures { IsPatternOfArgs vars.now (assignment_in frame.now) true fun (args.now ++ value.now ∷ []) result }
+    ensures { IsPatternOfArgs vars.now (assignment_in frame.now) true pattern.old.name (args.now ++ value.now ∷ []) (in_place result pattern.new) }
 {
-    let mut parts = parts_of(frame, vars, args)?;
-    let last = part_of(frame, vars, value)?;
-    parts[args.len()] = last;
-    Some(Pattern {
-        place: true,
-        name: fun,
-        parts,
-        len: args.len() as u32 + 1,
-        free: vars.len() as u32,
-    })
+    pattern.place = true;
+    pattern.len = args.len() as u32 + 1;
+    pattern.free = vars.len() as u32;
+    if !put_parts(frame, vars, args, &mut pattern.parts) {
+        return false;
+    }
+    match part_of(frame, vars, value) {
+        Some(last) => {
+            pattern.parts[args.len()] = last;
+            true
+        }
+        None => false,
+    }
 }
 
-/// The pattern that the tuples of the bound make true, where each other variable has a value in the frame. It takes no memory.
-pub(crate) fn pattern_of(frame: &[Option<Value>], vars: &[Var], b: &Bound) -> Option<Pattern>
+/// A pattern of no bound, for `put_pattern_of`. It takes no memory.
+#[inline(always)]
+pub(crate) fn no_pattern() -> Pattern {
+    Pattern {
+        place: false,
+        name: 0,
+        parts: [Part::Fixed(Value::Int(0)); 9],
+        len: 0,
+        free: 0,
+    }
+}
+
+/// Puts the pattern that the tuples of the bound make true in place, and says whether each other variable has a value in the frame: where one has none, the pattern means nothing. It takes no memory.
+pub(crate) fn put_pattern_of(
+    frame: &[Option<Value>],
+    vars: &[Var],
+    b: &Bound,
+    pattern: &mut Pattern,
+) -> bool
     requires differ { DifferInSlot vars.now }
     requires occur { OccurIn vars.now b.now }
     requires few { length (args_of b.now) ≤ 9 }
-    ensures { IsPatternOf vars.now (assignment_in frame.now) b.now result }
+    ensures { IsPatternOf vars.now (assignment_in frame.now) b.now (in_place result pattern.new) }
 {
     match b {
-        Bound::Fact(pred, args) => fact_pattern(frame, vars, *pred, args.as_slice()),
+        Bound::Fact(pred, args) => {
+            pattern.name = *pred;
+            put_fact(frame, vars, args.as_slice(), pattern)
+        }
         Bound::Place(fun, args, value) => {
-            place_pattern(frame, vars, *fun, args.as_slice(), value)
+            pattern.name = *fun;
+            put_place(frame, vars, args.as_slice(), value, pattern)
         }
-        Bound::GoalFact(pred, args) => fact_pattern(frame, vars, *pred, args.as_slice()),
+        Bound::GoalFact(pred, args) => {
+            pattern.name = *pred;
+            put_fact(frame, vars, args.as_slice(), pattern)
+        }
         Bound::GoalPlace(fun, args, value) => {
-            place_pattern(frame, vars, *fun, args.as_slice(), value)
+            pattern.name = *fun;
+            put_place(frame, vars, args.as_slice(), value, pattern)
         }
-        Bound::GoalNot(pred, args) => fact_pattern(frame, vars, *pred, args.as_slice()),
+        Bound::GoalNot(pred, args) => {
+            pattern.name = *pred;
+            put_fact(frame, vars, args.as_slice(), pattern)
+        }
     }
 }

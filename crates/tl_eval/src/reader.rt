@@ -8,7 +8,7 @@ ghost use Rattle.tl_syntax.specs.Fits.{BoundFits};
 ghost use Rattle.tl_syntax.specs.Signature.{signature_of};
 
 use crate::Env;
-use crate::pattern_of::pattern_of;
+use crate::pattern_of::{no_pattern, put_pattern_of};
 use crate::tuples::world_of_bound;
 use std::marker::Model;
 use tl_syntax::{Bound, Value, Var, Vars};
@@ -18,21 +18,23 @@ use tl_world::{Match, Pattern, Task, World};
 /// Contracts see the pattern, and the tuple that the reader has come to, where there is one.
 #[derive(Drop)]
 pub struct TupleReader {
-    pattern: Option<Pattern>,
+    pattern: Pattern,
+    has_pattern: bool,
     tuple: Match,
     begun: bool,
     near: usize,
 }
 
 impl Model for TupleReader {
+    ghost use Rattle.tl_eval.specs.PatternOf.{in_place};
     ghost use Rattle.tl_eval.specs.Reader.{Reader, CanGoOn};
     ghost use Rattle.tl_world.specs.Patterns.{tuple_in_place};
 
     ghost Value = { Reader };
 
-    ghost view = { λ r. record { pattern = r.pattern; tuple = tuple_in_place r.begun r.tuple } };
+    ghost view = { λ r. record { pattern = in_place r.has_pattern r.pattern; tuple = tuple_in_place r.begun r.tuple } };
 
-    ghost invariant = { λ r. CanGoOn r.pattern r.begun r.tuple };
+    ghost invariant = { λ r. CanGoOn (in_place r.has_pattern r.pattern) r.begun r.tuple };
 }
 
 impl TupleReader {
@@ -47,17 +49,31 @@ impl TupleReader {
         ensures few { length vars.now ≤ 9 }
     {
         let mut tuples = TupleReader::unopened();
-        tuples.open_at(task, env.frame(), vars.as_slice(), b);
+        tuples.open_in_place(task, env, vars, b);
         tuples
     }
 
-    /// A reader of no tuple, for `open_at`. It takes no memory.
+    /// `open` in the place of another reader, which ends: nothing of a reader's size is handed over. It takes no memory.
     #[inline(always)]
-    pub(crate) fn unopened() -> TupleReader
+    pub fn open_in_place(&mut self, task: &Task, env: &Env, vars: &Vars, b: &Bound)
+        requires differ { DifferInSlot vars.now }
+        requires occur { OccurIn vars.now b.now }
+        requires fits { BoundFits (signature_of task.now.problem.domain) b.now }
+        ensures reads { Reads vars.now (assignment_in env.now) b.now self.new }
+        ensures before { self.new.tuple ≡ None }
+        ensures few { length vars.now ≤ 9 }
+    {
+        self.open_at(task, env.frame(), vars.as_slice(), b);
+    }
+
+    /// A reader of no tuple, for `open_in_place`. It takes no memory.
+    #[inline(always)]
+    pub fn unopened() -> TupleReader
         ensures { result.tuple ≡ None }
     {
         TupleReader {
-            pattern: None,
+            pattern: no_pattern(),
+            has_pattern: false,
             tuple: Match {
                 values: [Value::Int(0); 9],
                 len: 0,
@@ -67,7 +83,7 @@ impl TupleReader {
         }
     }
 
-    /// `open` for variables and a frame that are given as slices, in the place of another reader: one that is handed over would lie on the stack twice. It takes no memory.
+    /// `open_in_place` for variables and a frame that are given as slices. It takes no memory.
     #[inline(never)]
     pub(crate) fn open_at(&mut self, task: &Task, frame: &[Option<Value>], vars: &[Var], b: &Bound)
         requires differ { DifferInSlot vars.now }
@@ -79,7 +95,8 @@ impl TupleReader {
     {
         let _ = &task.problem;
         self.begun = false;
-        self.pattern = pattern_of(frame, vars, b);
+        self.near = 0;
+        self.has_pattern = put_pattern_of(frame, vars, b, &mut self.pattern);
     }
 
     /// Goes on to the next tuple of the bound, which is the one that the reader was opened for, in the world, and says whether there is one.
@@ -91,14 +108,15 @@ impl TupleReader {
         ensures found { result ≡ true → IsSome self.new.tuple }
         ensures end { result ≡ false → self.new.tuple ≡ None }
     {
-        let found = match &self.pattern {
-            Some(pattern) => world_of_bound(task, w, b).put_next_match(
-                pattern,
+        let found = if self.has_pattern {
+            world_of_bound(task, w, b).put_next_match(
+                &self.pattern,
                 self.begun,
                 &mut self.tuple,
                 &mut self.near,
-            ),
-            None => false,
+            )
+        } else {
+            false
         };
         self.begun = found;
         found

@@ -9,7 +9,7 @@ ghost use Rattle.tl_syntax.specs.Fits.{BoundFits};
 ghost use Rattle.tl_syntax.specs.Signature.{signature_of};
 
 use crate::Env;
-use crate::pattern_of::pattern_of;
+use crate::pattern_of::{no_pattern, put_pattern_of};
 use tl_syntax::{Bound, Value, Var, Vars};
 use tl_world::{Match, Task, World};
 
@@ -42,8 +42,12 @@ pub(crate) fn next_tuple_in(
     ensures next { IsNextMatch (situation_in task.now w.now) vars.now (assignment_in frame.now) b.now after result }
     ensures len { IfSome result (λ m. m.len ≡ length vars.now) }
 {
-    let pattern = pattern_of(frame, vars, b)?;
-    world_of_bound(task, w, b).next_match(&pattern, after)
+    let mut pattern = no_pattern();
+    if put_pattern_of(frame, vars, b, &mut pattern) {
+        world_of_bound(task, w, b).next_match(&pattern, after)
+    } else {
+        None
+    }
 }
 
 /// The least tuple for the variables, in lexicographic value order, that makes the bound true in the world and comes after `after`, where that is given: None exactly where there is none.

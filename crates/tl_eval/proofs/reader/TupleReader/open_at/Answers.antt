@@ -3,8 +3,8 @@ use Rattle.tl_eval.proofs.PatternLaws.{few-variables, bound-few}
 use Rattle.tl_syntax.specs.Signature.{signature_of}
 use Rattle.tl_eval.proofs.reader.TupleReader.open_at.Goals as goal
 
-pub pattern_of-self-inside-requires-clause-few : goal.pattern_of-self-inside-requires-clause-few
-pattern_of-self-inside-requires-clause-few c =
+pub put_pattern_of-self-inside-requires-clause-few : goal.put_pattern_of-self-inside-requires-clause-few
+put_pattern_of-self-inside-requires-clause-few c =
     let problem = c.args.task.now.problem in
     bound-few (signature_of problem.domain) (declared-few _ _ problem.domain_keeps.predicates) (declared-few _ _ problem.domain_keeps.functions) c.args.b.now c.requires.fits
 
