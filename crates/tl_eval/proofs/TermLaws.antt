@@ -58,20 +58,30 @@ few-Place t f ts q h =
     let nodes : term_nodes (tree_of_term t) ≡ 2 + terms_nodes (tree_of_terms ts) = ap term_nodes same in
     record { few = small.0; small = small.1; smaller = omega numbers }
 
--- the operands of an operation have few arguments and are smaller
+-- the operands of an operation have few arguments, and are smaller together
 pub record Operands (t a b : TermTree) : Type 0 where
   pub first : HasFewArguments a
   pub second : HasFewArguments b
-  pub first_smaller : term_nodes a < term_nodes t
-  pub second_smaller : term_nodes b < term_nodes t
+  pub smaller : term_nodes a + term_nodes b < term_nodes t
 
-pub few-Arith : (t : Term) (op : Op) (a b : Box Term Global) (at : ℕ) → t ≡ term.Arith op a b at → HasFewArguments (tree_of_term t) → Operands (tree_of_term t) (tree_of_term a.value) (tree_of_term b.value)
+few-boxed : (t : Term) (op : Op) (a b : Box Term Global) (at : ℕ) → t ≡ term.Arith op a b at → HasFewArguments (tree_of_term t) → Operands (tree_of_term t) (tree_of_term a.value) (tree_of_term b.value)
 unfolding HasFewArguments term_nodes
-few-Arith t op a b at q h =
+few-boxed t op a b at q h =
     let same : tree_of_term t ≡ arith op (tree_of_term a.value) (tree_of_term b.value) at = ap tree_of_term q ∙ tree-Arith op a b at in
     let small : HasFewArguments (arith op (tree_of_term a.value) (tree_of_term b.value) at) = subst HasFewArguments same h in
     let nodes : term_nodes (tree_of_term t) ≡ 1 + (term_nodes (tree_of_term a.value) + term_nodes (tree_of_term b.value)) = ap term_nodes same in
-    record { first = small.0; second = small.1; first_smaller = omega numbers; second_smaller = omega numbers }
+    record { first = small.0; second = small.1; smaller = omega numbers }
+
+pub few-Arith : (t : Term) (op : Op) (a b : Box Term Global) (at : ℕ) (x y : Term) → t ≡ term.Arith op a b at → x ≡ a.value → y ≡ b.value → HasFewArguments (tree_of_term t) → Operands (tree_of_term t) (tree_of_term x) (tree_of_term y)
+few-Arith t op a b at x y q m n h = subst (λ u. Operands (tree_of_term t) (tree_of_term u) (tree_of_term y)) (sym m) (subst (λ u. Operands (tree_of_term t) (tree_of_term a.value) (tree_of_term u)) (sym n) (few-boxed t op a b at q h))
+
+-- each term has a node
+pub some-nodes : (t : TermTree) → 1 ≤ term_nodes t
+unfolding term_nodes
+some-nodes (variable s) = omega numbers
+some-nodes (value v) = omega numbers
+some-nodes (place f ts) = omega numbers
+some-nodes (arith op s t at) = omega numbers
 
 -- the terms so far have these values, and the rest is left
 pub record Passed (w : World) (e : Assignment) (all : TermTrees) (rest : List TermTree) (count : ℕ) (row : List Value) : Type 0 where
@@ -154,62 +164,60 @@ operated at op m n left right a b r p u q v h =
     by (Ok x) f = (f.0, in_range-append left (right ++ one) u (in_range-append right one v (f.1, tt)))
     by (Err e) f = (among-right (operation_of e) left (right ++ one) (among-right (operation_of e) right one (inl (sym f.0))), subst IsPastRange (sym f.0) f.1)
 
--- ---- the same of a term that is an operation
+-- ---- the same of an operation on two terms
 
-arith-tree : (w : World) (e : Assignment) (t : Term) (op : Op) (a b : Box Term Global) (at : ℕ) (r : Result (Option Value) RangeNote) → t ≡ term.Arith op a b at
-    → Evaluates (apply_op op (term_value w e (tree_of_term a.value)) (term_value w e (tree_of_term b.value))) (looked_on at op (term_value w e (tree_of_term a.value)) (term_value w e (tree_of_term b.value)) (looked_in_term w e (tree_of_term a.value)) (looked_in_term w e (tree_of_term b.value))) r
-    → Evaluates (term_value w e (tree_of_term t)) (looked_in_term w e (tree_of_term t)) r
-unfolding term_value looked_in_term
-arith-tree w e t op a b at r q h = by_tree w e t (arith op (tree_of_term a.value) (tree_of_term b.value) at) r (ap tree_of_term q ∙ tree-Arith op a b at) h
-
--- what an operand x evaluates to, which is the tree of u
+-- what an operand evaluates to
 abbrev pub Operand : World → Assignment → Term → Result (Option Value) RangeNote → Type 0
 Operand w e u r = Evaluates (term_value w e (tree_of_term u)) (looked_in_term w e (tree_of_term u)) r
 
-pub at-Arith-None : (w : World) (e : Assignment) (t : Term) (op : Op) (a b : Box Term Global) (at : ℕ) (u : Term) (r : Result (Option Value) RangeNote) (i : Result (Option ℤ) RangeNote) (o : Option ℤ)
-    → t ≡ term.Arith op a b at → u ≡ a.value → Operand w e u r → i ≡ integer_found r → i ≡ Ok o → o ≡ None → Operand w e t (Ok None)
-at-Arith-None w e t op a b at u r i o q p h k l m =
-    arith-tree w e t op a b at (Ok None) q
-    (first-None at op (term_value w e (tree_of_term a.value)) (term_value w e (tree_of_term b.value)) (looked_in_term w e (tree_of_term a.value)) (looked_in_term w e (tree_of_term b.value)) r
-    (subst (λ (x : Term). Operand w e x r) p h) (sym k ∙ (l ∙ ap (λ (x : Option ℤ). Ok x) m)))
+-- what the operation on two terms evaluates to
+abbrev pub Operation-on : World → Assignment → Op → Term → Term → ℕ → Result (Option Value) RangeNote → Type 0
+Operation-on w e op a b at r = Evaluates (term_value w e (arith op (tree_of_term a) (tree_of_term b) at)) (looked_in_term w e (arith op (tree_of_term a) (tree_of_term b) at)) r
 
-pub at-Arith-Err : (w : World) (e : Assignment) (t : Term) (op : Op) (a b : Box Term Global) (at : ℕ) (u : Term) (r : Result (Option Value) RangeNote) (i : Result (Option ℤ) RangeNote) (n : RangeNote)
-    → t ≡ term.Arith op a b at → u ≡ a.value → Operand w e u r → i ≡ integer_found r → i ≡ Err n → Operand w e t (Err n)
-at-Arith-Err w e t op a b at u r i n q p h k l =
-    let told = note-of (term_value w e (tree_of_term u)) (looked_in_term w e (tree_of_term u)) r n h (sym k ∙ l) in
-    let first : Tells (looked_in_term w e (tree_of_term a.value)) n = subst (λ (x : Term). Tells (looked_in_term w e (tree_of_term x)) n) p told in
-    arith-tree w e t op a b at (Err n) q (among-left (operation_of n) (looked_in_term w e (tree_of_term a.value)) _ first.0, first.1)
+-- a term that is an operation
+pub at-Arith : (w : World) (e : Assignment) (t : Term) (op : Op) (a b : Box Term Global) (at : ℕ) (x y : Term) (r : Result (Option Value) RangeNote) → t ≡ term.Arith op a b at → x ≡ a.value → y ≡ b.value → Operation-on w e op x y at r → Operand w e t r
+at-Arith w e t op a b at x y r q m n h =
+    by_tree w e t (arith op (tree_of_term a.value) (tree_of_term b.value) at) r (ap tree_of_term q ∙ tree-Arith op a b at)
+    (subst (λ (u : Term). Operation-on w e op u b.value at r) m (subst (λ (u : Term). Operation-on w e op x u at r) n h))
 
--- the first operand is an integer z
-pub record First (w : World) (e : Assignment) (a : Term) (z : ℤ) : Type 0 where
+pub on-None : (w : World) (e : Assignment) (op : Op) (a b : Term) (at : ℕ) (r : Result (Option Value) RangeNote) (i : Result (Option ℤ) RangeNote) (o : Option ℤ) → Operand w e a r → i ≡ integer_found r → i ≡ Ok o → o ≡ None → Operation-on w e op a b at (Ok None)
+unfolding term_value looked_in_term
+on-None w e op a b at r i o h k l m =
+    first-None at op (term_value w e (tree_of_term a)) (term_value w e (tree_of_term b)) (looked_in_term w e (tree_of_term a)) (looked_in_term w e (tree_of_term b)) r h (sym k ∙ (l ∙ ap (λ (x : Option ℤ). Ok x) m))
+
+pub on-Err : (w : World) (e : Assignment) (op : Op) (a b : Term) (at : ℕ) (r : Result (Option Value) RangeNote) (i : Result (Option ℤ) RangeNote) (n : RangeNote) → Operand w e a r → i ≡ integer_found r → i ≡ Err n → Operation-on w e op a b at (Err n)
+unfolding term_value looked_in_term
+on-Err w e op a b at r i n h k l =
+    let told = note-of (term_value w e (tree_of_term a)) (looked_in_term w e (tree_of_term a)) r n h (sym k ∙ l) in
+    (among-left (operation_of n) (looked_in_term w e (tree_of_term a)) _ told.0, told.1)
+
+-- the operand is an integer z
+pub record IsInteger (w : World) (e : Assignment) (a : Term) (z : ℤ) : Type 0 where
   pub meant : Some (Int z) ≡ term_value w e (tree_of_term a)
   pub in_range : AreInRange (looked_in_term w e (tree_of_term a))
 
-pub operand-is : (w : World) (e : Assignment) (a u : Term) (r : Result (Option Value) RangeNote) (i : Result (Option ℤ) RangeNote) (o : Option ℤ) (z : ℤ) → u ≡ a → Operand w e u r → i ≡ integer_found r → i ≡ Ok o → o ≡ Some z → First w e a z
-operand-is w e a u r i o z p h k l m =
-    let is = integer-is (term_value w e (tree_of_term u)) (looked_in_term w e (tree_of_term u)) r z h (sym k ∙ (l ∙ ap (λ (x : Option ℤ). Ok x) m)) in
-    subst (λ (x : Term). First w e x z) p (record { meant = is.0; in_range = is.1 })
+pub operand-is : (w : World) (e : Assignment) (a : Term) (r : Result (Option Value) RangeNote) (i : Result (Option ℤ) RangeNote) (o : Option ℤ) (z : ℤ) → Operand w e a r → i ≡ integer_found r → i ≡ Ok o → o ≡ Some z → IsInteger w e a z
+operand-is w e a r i o z h k l m =
+    let is = integer-is (term_value w e (tree_of_term a)) (looked_in_term w e (tree_of_term a)) r z h (sym k ∙ (l ∙ ap (λ (x : Option ℤ). Ok x) m)) in
+    record { meant = is.0; in_range = is.1 }
 
-pub at-Arith-second-None : (w : World) (e : Assignment) (t : Term) (op : Op) (a b : Box Term Global) (at : ℕ) (z : ℤ) (u : Term) (r : Result (Option Value) RangeNote) (i : Result (Option ℤ) RangeNote) (o : Option ℤ)
-    → t ≡ term.Arith op a b at → First w e a.value z → u ≡ b.value → Operand w e u r → i ≡ integer_found r → i ≡ Ok o → o ≡ None → Operand w e t (Ok None)
-at-Arith-second-None w e t op a b at z u r i o q f p h k l m =
-    arith-tree w e t op a b at (Ok None) q
-    (second-None at op (term_value w e (tree_of_term a.value)) (term_value w e (tree_of_term b.value)) (looked_in_term w e (tree_of_term a.value)) (looked_in_term w e (tree_of_term b.value)) z r f.meant f.in_range
-    (subst (λ (x : Term). Operand w e x r) p h) (sym k ∙ (l ∙ ap (λ (x : Option ℤ). Ok x) m)))
+pub on-second-None : (w : World) (e : Assignment) (op : Op) (a b : Term) (at : ℕ) (z : ℤ) (r : Result (Option Value) RangeNote) (i : Result (Option ℤ) RangeNote) (o : Option ℤ)
+    → IsInteger w e a z → Operand w e b r → i ≡ integer_found r → i ≡ Ok o → o ≡ None → Operation-on w e op a b at (Ok None)
+unfolding term_value looked_in_term
+on-second-None w e op a b at z r i o f h k l m =
+    second-None at op (term_value w e (tree_of_term a)) (term_value w e (tree_of_term b)) (looked_in_term w e (tree_of_term a)) (looked_in_term w e (tree_of_term b)) z r f.meant f.in_range h (sym k ∙ (l ∙ ap (λ (x : Option ℤ). Ok x) m))
 
-pub at-Arith-second-Err : (w : World) (e : Assignment) (t : Term) (op : Op) (a b : Box Term Global) (at : ℕ) (z : ℤ) (u : Term) (r : Result (Option Value) RangeNote) (i : Result (Option ℤ) RangeNote) (n : RangeNote)
-    → t ≡ term.Arith op a b at → First w e a.value z → u ≡ b.value → Operand w e u r → i ≡ integer_found r → i ≡ Err n → Operand w e t (Err n)
-at-Arith-second-Err w e t op a b at z u r i n q f p h k l =
-    let told = note-of (term_value w e (tree_of_term u)) (looked_in_term w e (tree_of_term u)) r n h (sym k ∙ l) in
-    let second : Tells (looked_in_term w e (tree_of_term b.value)) n = subst (λ (x : Term). Tells (looked_in_term w e (tree_of_term x)) n) p told in
-    arith-tree w e t op a b at (Err n) q (second-Err at op (term_value w e (tree_of_term a.value)) (term_value w e (tree_of_term b.value)) (looked_in_term w e (tree_of_term a.value)) (looked_in_term w e (tree_of_term b.value)) z n f.meant second)
+pub on-second-Err : (w : World) (e : Assignment) (op : Op) (a b : Term) (at : ℕ) (z : ℤ) (r : Result (Option Value) RangeNote) (i : Result (Option ℤ) RangeNote) (n : RangeNote)
+    → IsInteger w e a z → Operand w e b r → i ≡ integer_found r → i ≡ Err n → Operation-on w e op a b at (Err n)
+unfolding term_value looked_in_term
+on-second-Err w e op a b at z r i n f h k l =
+    second-Err at op (term_value w e (tree_of_term a)) (term_value w e (tree_of_term b)) (looked_in_term w e (tree_of_term a)) (looked_in_term w e (tree_of_term b)) z n f.meant
+    (note-of (term_value w e (tree_of_term b)) (looked_in_term w e (tree_of_term b)) r n h (sym k ∙ l))
 
-pub at-Arith : (w : World) (e : Assignment) (t : Term) (op : Op) (a b : Box Term Global) (at : ℕ) (y z : ℤ) (r : Result (Option Value) RangeNote)
-    → t ≡ term.Arith op a b at → First w e a.value y → First w e b.value z
-    → Operates at op y z r → Operand w e t r
-at-Arith w e t op a b at y z r q f g h =
-    arith-tree w e t op a b at r q
-    (operated at op (term_value w e (tree_of_term a.value)) (term_value w e (tree_of_term b.value)) (looked_in_term w e (tree_of_term a.value)) (looked_in_term w e (tree_of_term b.value)) y z r f.meant f.in_range g.meant g.in_range h)
+pub on-both : (w : World) (e : Assignment) (op : Op) (a b : Term) (at : ℕ) (y z : ℤ) (r : Result (Option Value) RangeNote) → IsInteger w e a y → IsInteger w e b z → Operates at op y z r → Operation-on w e op a b at r
+unfolding term_value looked_in_term
+on-both w e op a b at y z r f g h =
+    operated at op (term_value w e (tree_of_term a)) (term_value w e (tree_of_term b)) (looked_in_term w e (tree_of_term a)) (looked_in_term w e (tree_of_term b)) y z r f.meant f.in_range g.meant g.in_range h
 
 -- ---- a list of terms
 

@@ -2,11 +2,12 @@
 use Rattle.std.specs.Prelude.{ℕ, List, Bool, Option, Result}
 use Rattle.tl_eval.specs.Frames.{assignment_in}
 use Rattle.tl_eval.specs.Notes.{Evaluates}
+use Rattle.tl_eval.specs.declared.range.Operator.{Operator}
 use Rattle.tl_eval.specs.declared.range.RangeNote.{RangeNote}
 use Rattle.tl_syntax.specs.declared.value.Cmp.{Cmp}
 use Rattle.tl_syntax.specs.declared.value.Value.{Value}
 use Rattle.tl_syntax.specs.declared.variable.Arg.{Arg}
-use Rattle.tl_syntax.specs.Trees.{TermTree, TermTrees}
+use Rattle.tl_syntax.specs.Trees.{TermTree, TermTrees, arith}
 use Rattle.tl_terms.specs.Bounds.{arg_value, arg_values, fact_in, same_value}
 use Rattle.tl_terms.specs.Looked.{followed_if, leaves_open, looked_in_term, looked_in_terms}
 use Rattle.tl_terms.specs.Operations.{Operation}
@@ -33,6 +34,10 @@ all_looked_under w frame ts = looked_in_terms w (assignment_in frame) ts
 -- it is the value of the term, or a note of it
 abbrev pub IsValue : World → List (Option Value) → TermTree → Result (Option Value) RangeNote → Type 0
 IsValue w frame t result = Evaluates (value_under w frame t) (looked_under w frame t) result
+
+-- it is the value of the operation on the two terms, or a note of it
+abbrev pub IsOperationValue : World → List (Option Value) → Operator → TermTree → TermTree → Result (Option Value) RangeNote → Type 0
+IsOperationValue w frame o s t result = IsValue w frame (arith o.op s t o.at) result
 
 -- these are the values of the terms, or a note of them
 abbrev pub AreValues : World → List (Option Value) → TermTrees → Result (Option (List Value)) RangeNote → Type 0

@@ -16,11 +16,20 @@ pub struct RangeNote {
     pub right: i64,
 }
 
+/// An operation of a term, without its operands.
+#[derive(Clone, Copy)]
+pub(crate) struct Operator {
+    /// The offset of its form in the domain file, in bytes.
+    pub(crate) at: u32,
+    /// The operation.
+    pub(crate) op: Op,
+}
+
 /// The exact result of the operation, or a note where it is past range. It takes no memory.
-pub(crate) fn operate(at: u32, op: Op, left: i64, right: i64) -> Result<Option<Value>, RangeNote>
-    ensures { Operates at op left right result }
+pub(crate) fn operate(operator: Operator, left: i64, right: i64) -> Result<Option<Value>, RangeNote>
+    ensures { Operates operator.at operator.op left right result }
 {
-    let exact = match op {
+    let exact = match operator.op {
         Op::Plus => left.checked_add(right),
         Op::Minus => left.checked_sub(right),
         Op::Times => left.checked_mul(right),
@@ -28,8 +37,8 @@ pub(crate) fn operate(at: u32, op: Op, left: i64, right: i64) -> Result<Option<V
     match exact {
         Some(value) => Ok(Some(Value::Int(value))),
         None => Err(RangeNote {
-            at,
-            op,
+            at: operator.at,
+            op: operator.op,
             left,
             right,
         }),

@@ -3,12 +3,12 @@ ghost use Rattle.std.specs.Prelude.{◌≡◌, ◌≤◌, [], IfOk, IfErr};
 ghost use Rattle.tl_eval.specs.Frames.{assignment_in};
 ghost use Rattle.tl_eval.specs.Notes.{integer_found, row_found, AreInRange, Tells};
 ghost use Rattle.tl_eval.specs.Small.{HasFewArguments, HaveFewArguments};
-ghost use Rattle.tl_eval.specs.TermValues.{value_under, looked_under, IsValue, AreValues, IsPlaceValue};
+ghost use Rattle.tl_eval.specs.TermValues.{value_under, looked_under, IsValue, AreValues, IsPlaceValue, IsOperationValue};
 ghost use Rattle.tl_syntax.specs.Fits.{TermFits, term_count};
 ghost use Rattle.tl_syntax.specs.Signature.{signature_of};
 ghost use Rattle.tl_syntax.specs.TreeOfTerm.{tree_of_term, tree_of_terms};
 
-use crate::range::operate;
+use crate::range::{Operator, operate};
 use crate::row::Row;
 use crate::{Env, RangeNote};
 use tl_syntax::{Term, Terms, Value};
@@ -38,6 +38,7 @@ fn integer_of(found: Result<Option<Value>, RangeNote>) -> Result<Option<i64>, Ra
 
 /// The value of a term under a frame, where it is defined. It takes no memory.
 #[cycle(value_of_term)]
+#[inline(always)]
 pub(crate) fn value_of_term(
     w: &World,
     frame: &[Option<Value>],
@@ -50,15 +51,34 @@ pub(crate) fn value_of_term(
         Term::Var(var) => Ok(value_in(frame, var.slot)),
         Term::Val(value) => Ok(Some(*value)),
         Term::Place(fun, args) => value_of_place(w, frame, *fun, args),
-        Term::Arith(op, left, right, at) => match integer_of(value_of_term(w, frame, left)) {
-            Ok(Some(a)) => match integer_of(value_of_term(w, frame, right)) {
-                Ok(Some(b)) => operate(*at, *op, a, b),
-                Ok(None) => Ok(None),
-                Err(note) => Err(note),
-            },
+        Term::Arith(op, left, right, at) => {
+            value_of_operation(w, frame, Operator { at: *at, op: *op }, left, right)
+        }
+    }
+}
+
+/// The value of an operation on two terms, where both are integers. It takes no memory.
+#[cycle(value_of_term)]
+#[inline(never)]
+fn value_of_operation(
+    w: &World,
+    frame: &[Option<Value>],
+    operator: Operator,
+    left: &Term,
+    right: &Term,
+) -> Result<Option<Value>, RangeNote>
+    requires left { HasFewArguments (tree_of_term left.now) }
+    requires right { HasFewArguments (tree_of_term right.now) }
+    ensures { IsOperationValue w.now frame.now operator (tree_of_term left.now) (tree_of_term right.now) result }
+{
+    match integer_of(value_of_term(w, frame, left)) {
+        Ok(Some(a)) => match integer_of(value_of_term(w, frame, right)) {
+            Ok(Some(b)) => operate(operator, a, b),
             Ok(None) => Ok(None),
             Err(note) => Err(note),
         },
+        Ok(None) => Ok(None),
+        Err(note) => Err(note),
     }
 }
 

@@ -2,21 +2,23 @@ use Rattle.std.proofs.Common.{arith, rules, subst, sym, to_z, of_z, w64}
 use Rattle.std.proofs.lemmas.Int.{to_z-of_z}
 use mir.Val.{SFits}
 use Rattle.tl_eval.specs.Frames.{assignment_in}
-use Rattle.tl_syntax.specs.TreeOfTerm.{tree_of_terms}
-use Rattle.tl_eval.proofs.TermLaws.{few-Place, few-Arith, at-Var, at-Val, at-Place, at-Arith-None, at-Arith-Err, operand-is, at-Arith-second-None, at-Arith-second-Err, at-Arith, First, begun, item-few, pushed, undefined, noted, ended}
+use Rattle.tl_syntax.specs.TreeOfTerm.{tree_of_term, tree_of_terms}
+use Rattle.tl_eval.proofs.TermLaws.{few-Place, few-Arith, some-nodes, at-Var, at-Val, at-Place, at-Arith, on-None, on-Err, IsInteger, operand-is, on-second-None, on-second-Err, on-both, begun, item-few, pushed, undefined, noted, ended}
 use Rattle.tl_eval.proofs.term_value.+value_of_term.Goals as goal
 
 pub value_of_term-value_of_place-requires : goal.value_of_term-value_of_place-requires
 value_of_term-value_of_place-requires t c =
     let few = few-Place c.args.t.now c.in-Place.fun c.in-Place.args c.in-Place.is c.requires in (omega (arith, few.smaller, c.decreases), (few.small, few.few))
 
-pub value_of_term-value_of_term-requires : goal.value_of_term-value_of_term-requires
-value_of_term-value_of_term-requires t c =
-    let few = few-Arith c.args.t.now c.in-Arith.op c.in-Arith.left c.in-Arith.right c.in-Arith.at c.in-Arith.is c.requires in rw c.deref.ensures (omega (arith, few.first_smaller, c.decreases), few.first)
+pub value_of_term-value_of_operation-requires : goal.value_of_term-value_of_operation-requires
+value_of_term-value_of_operation-requires t c =
+    let few = few-Arith c.args.t.now c.in-Arith.op c.in-Arith.left c.in-Arith.right c.in-Arith.at c.deref.result.now c.deref-in-Arith.result.now c.in-Arith.is c.deref.ensures c.deref-in-Arith.ensures c.requires in (omega (arith, few.smaller, c.decreases), (few.first, few.second))
 
-pub value_of_term-value_of_term-requires-in-Ok-Some : goal.value_of_term-value_of_term-requires-in-Ok-Some
-value_of_term-value_of_term-requires-in-Ok-Some t c =
-    let few = few-Arith c.args.t.now c.in-Arith.op c.in-Arith.left c.in-Arith.right c.in-Arith.at c.in-Arith.is c.requires in rw c.deref-in-Ok-Some.ensures (omega (arith, few.second_smaller, c.decreases), few.second)
+pub value_of_operation-value_of_term-requires : goal.value_of_operation-value_of_term-requires
+value_of_operation-value_of_term-requires t c = (omega (arith, some-nodes (tree_of_term c.args.right.now), c.decreases), c.requires.left)
+
+pub value_of_operation-value_of_term-requires-in-Ok-Some : goal.value_of_operation-value_of_term-requires-in-Ok-Some
+value_of_operation-value_of_term-requires-in-Ok-Some t c = (omega (arith, some-nodes (tree_of_term c.args.left.now), c.decreases), c.requires.right)
 
 pub value_of_term-returns-in-Var : goal.value_of_term-returns-in-Var
 value_of_term-returns-in-Var t c = at-Var c.args.w.now (assignment_in c.args.frame.now) c.args.t.now c.in-Var.var c.value_in.result c.in-Var.is c.value_in.ensures
@@ -27,39 +29,45 @@ value_of_term-returns-in-Val t c = at-Val c.args.w.now (assignment_in c.args.fra
 pub value_of_term-returns-in-Place : goal.value_of_term-returns-in-Place
 value_of_term-returns-in-Place t c = at-Place c.args.w.now (assignment_in c.args.frame.now) c.args.t.now c.in-Place.fun c.in-Place.args c.value_of_place.result c.in-Place.is c.value_of_place.ensures
 
-pub value_of_term-returns-in-Ok-None : goal.value_of_term-returns-in-Ok-None
-value_of_term-returns-in-Ok-None t c =
-    at-Arith-None c.args.w.now (assignment_in c.args.frame.now) c.args.t.now c.in-Arith.op c.in-Arith.left c.in-Arith.right c.in-Arith.at c.deref.result.now c.value_of_term.result c.integer_of.result c.in-Ok-None.field-0
-    c.in-Arith.is c.deref.ensures c.value_of_term.ensures c.integer_of.ensures c.in-Ok-None.is c.in-Ok-None.field-0-is
+pub value_of_term-returns-in-Arith : goal.value_of_term-returns-in-Arith
+value_of_term-returns-in-Arith t c =
+    at-Arith c.args.w.now (assignment_in c.args.frame.now) c.args.t.now c.in-Arith.op c.in-Arith.left c.in-Arith.right c.in-Arith.at c.deref.result.now c.deref-in-Arith.result.now c.value_of_operation.result
+    c.in-Arith.is c.deref.ensures c.deref-in-Arith.ensures c.value_of_operation.ensures
 
-pub value_of_term-returns-in-Err : goal.value_of_term-returns-in-Err
-value_of_term-returns-in-Err t c =
-    at-Arith-Err c.args.w.now (assignment_in c.args.frame.now) c.args.t.now c.in-Arith.op c.in-Arith.left c.in-Arith.right c.in-Arith.at c.deref.result.now c.value_of_term.result c.integer_of.result c.in-Err.note
-    c.in-Arith.is c.deref.ensures c.value_of_term.ensures c.integer_of.ensures c.in-Err.is
+pub value_of_operation-returns-in-Ok-None : goal.value_of_operation-returns-in-Ok-None
+value_of_operation-returns-in-Ok-None t c =
+    on-None c.args.w.now (assignment_in c.args.frame.now) c.args.operator.op c.args.left.now c.args.right.now c.args.operator.at c.value_of_term.result c.integer_of.result c.in-Ok-None.field-0
+    c.value_of_term.ensures c.integer_of.ensures c.in-Ok-None.is c.in-Ok-None.field-0-is
 
-pub value_of_term-returns-in-Ok-None-integer_of : goal.value_of_term-returns-in-Ok-None-integer_of
-value_of_term-returns-in-Ok-None-integer_of t c =
-    let first = operand-is c.args.w.now (assignment_in c.args.frame.now) c.in-Arith.left.value c.deref.result.now c.value_of_term.result c.integer_of.result c.in-Ok-Some.field-0 c.in-Ok-Some.a c.deref.ensures c.value_of_term.ensures c.integer_of.ensures c.in-Ok-Some.is c.in-Ok-Some.field-0-is in
-    at-Arith-second-None c.args.w.now (assignment_in c.args.frame.now) c.args.t.now c.in-Arith.op c.in-Arith.left c.in-Arith.right c.in-Arith.at c.in-Ok-Some.a c.deref-in-Ok-Some.result.now c.value_of_term-in-Ok-Some.result c.integer_of-in-Ok-Some.result c.in-Ok-None-integer_of.field-0
-    c.in-Arith.is first c.deref-in-Ok-Some.ensures c.value_of_term-in-Ok-Some.ensures c.integer_of-in-Ok-Some.ensures c.in-Ok-None-integer_of.is c.in-Ok-None-integer_of.field-0-is
+pub value_of_operation-returns-in-Err : goal.value_of_operation-returns-in-Err
+value_of_operation-returns-in-Err t c =
+    on-Err c.args.w.now (assignment_in c.args.frame.now) c.args.operator.op c.args.left.now c.args.right.now c.args.operator.at c.value_of_term.result c.integer_of.result c.in-Err.note
+    c.value_of_term.ensures c.integer_of.ensures c.in-Err.is
 
-pub value_of_term-returns-in-Err-integer_of : goal.value_of_term-returns-in-Err-integer_of
-value_of_term-returns-in-Err-integer_of t c =
-    let first = operand-is c.args.w.now (assignment_in c.args.frame.now) c.in-Arith.left.value c.deref.result.now c.value_of_term.result c.integer_of.result c.in-Ok-Some.field-0 c.in-Ok-Some.a c.deref.ensures c.value_of_term.ensures c.integer_of.ensures c.in-Ok-Some.is c.in-Ok-Some.field-0-is in
-    at-Arith-second-Err c.args.w.now (assignment_in c.args.frame.now) c.args.t.now c.in-Arith.op c.in-Arith.left c.in-Arith.right c.in-Arith.at c.in-Ok-Some.a c.deref-in-Ok-Some.result.now c.value_of_term-in-Ok-Some.result c.integer_of-in-Ok-Some.result c.in-Err-integer_of.note
-    c.in-Arith.is first c.deref-in-Ok-Some.ensures c.value_of_term-in-Ok-Some.ensures c.integer_of-in-Ok-Some.ensures c.in-Err-integer_of.is
+pub value_of_operation-returns-in-Ok-None-integer_of : goal.value_of_operation-returns-in-Ok-None-integer_of
+value_of_operation-returns-in-Ok-None-integer_of t c =
+    let first = operand-is c.args.w.now (assignment_in c.args.frame.now) c.args.left.now c.value_of_term.result c.integer_of.result c.in-Ok-Some.field-0 c.in-Ok-Some.a c.value_of_term.ensures c.integer_of.ensures c.in-Ok-Some.is c.in-Ok-Some.field-0-is in
+    on-second-None c.args.w.now (assignment_in c.args.frame.now) c.args.operator.op c.args.left.now c.args.right.now c.args.operator.at c.in-Ok-Some.a c.value_of_term-in-Ok-Some.result c.integer_of-in-Ok-Some.result c.in-Ok-None-integer_of.field-0
+    first c.value_of_term-in-Ok-Some.ensures c.integer_of-in-Ok-Some.ensures c.in-Ok-None-integer_of.is c.in-Ok-None-integer_of.field-0-is
 
-pub value_of_term-returns-in-Ok-Some-integer_of : goal.value_of_term-returns-in-Ok-Some-integer_of
-value_of_term-returns-in-Ok-Some-integer_of t c =
-    let first = operand-is c.args.w.now (assignment_in c.args.frame.now) c.in-Arith.left.value c.deref.result.now c.value_of_term.result c.integer_of.result c.in-Ok-Some.field-0 c.in-Ok-Some.a c.deref.ensures c.value_of_term.ensures c.integer_of.ensures c.in-Ok-Some.is c.in-Ok-Some.field-0-is in
-    let second = operand-is c.args.w.now (assignment_in c.args.frame.now) c.in-Arith.right.value c.deref-in-Ok-Some.result.now c.value_of_term-in-Ok-Some.result c.integer_of-in-Ok-Some.result c.in-Ok-Some-integer_of.field-0 c.in-Ok-Some-integer_of.b c.deref-in-Ok-Some.ensures c.value_of_term-in-Ok-Some.ensures c.integer_of-in-Ok-Some.ensures c.in-Ok-Some-integer_of.is c.in-Ok-Some-integer_of.field-0-is in
+pub value_of_operation-returns-in-Err-integer_of : goal.value_of_operation-returns-in-Err-integer_of
+value_of_operation-returns-in-Err-integer_of t c =
+    let first = operand-is c.args.w.now (assignment_in c.args.frame.now) c.args.left.now c.value_of_term.result c.integer_of.result c.in-Ok-Some.field-0 c.in-Ok-Some.a c.value_of_term.ensures c.integer_of.ensures c.in-Ok-Some.is c.in-Ok-Some.field-0-is in
+    on-second-Err c.args.w.now (assignment_in c.args.frame.now) c.args.operator.op c.args.left.now c.args.right.now c.args.operator.at c.in-Ok-Some.a c.value_of_term-in-Ok-Some.result c.integer_of-in-Ok-Some.result c.in-Err-integer_of.note
+    first c.value_of_term-in-Ok-Some.ensures c.integer_of-in-Ok-Some.ensures c.in-Err-integer_of.is
+
+pub value_of_operation-returns-in-Ok-Some-integer_of : goal.value_of_operation-returns-in-Ok-Some-integer_of
+value_of_operation-returns-in-Ok-Some-integer_of t c =
+    let w = c.args.w.now in
     let e = assignment_in c.args.frame.now in
     let a = c.in-Ok-Some.a in
     let b = c.in-Ok-Some-integer_of.b in
+    let first = operand-is w e c.args.left.now c.value_of_term.result c.integer_of.result c.in-Ok-Some.field-0 a c.value_of_term.ensures c.integer_of.ensures c.in-Ok-Some.is c.in-Ok-Some.field-0-is in
+    let second = operand-is w e c.args.right.now c.value_of_term-in-Ok-Some.result c.integer_of-in-Ok-Some.result c.in-Ok-Some-integer_of.field-0 b c.value_of_term-in-Ok-Some.ensures c.integer_of-in-Ok-Some.ensures c.in-Ok-Some-integer_of.is c.in-Ok-Some-integer_of.field-0-is in
     let a-fits : SFits w64 a = search rules in
     let b-fits : SFits w64 b = search rules in
-    at-Arith c.args.w.now e c.args.t.now c.in-Arith.op c.in-Arith.left c.in-Arith.right c.in-Arith.at (to_z w64 (of_z w64 a)) (to_z w64 (of_z w64 b)) c.operate.result
-    c.in-Arith.is (subst (First c.args.w.now e c.in-Arith.left.value) (sym (to_z-of_z w64 a a-fits)) first) (subst (First c.args.w.now e c.in-Arith.right.value) (sym (to_z-of_z w64 b b-fits)) second) c.operate.ensures
+    on-both w e c.args.operator.op c.args.left.now c.args.right.now c.args.operator.at (to_z w64 (of_z w64 a)) (to_z w64 (of_z w64 b)) c.operate.result
+    (subst (IsInteger w e c.args.left.now) (sym (to_z-of_z w64 a a-fits)) first) (subst (IsInteger w e c.args.right.now) (sym (to_z-of_z w64 b b-fits)) second) c.operate.ensures
 
 pub put_values_of_terms-loop-term-init : goal.put_values_of_terms-loop-term-init
 put_values_of_terms-loop-term-init t c = begun c.args.w.now (assignment_in c.args.frame.now) c.args.ts.now c.as_slice-term-items.result.now c.args.row.now c.as_slice-term-items.ensures c.requires.empty c.requires.small c.requires.few

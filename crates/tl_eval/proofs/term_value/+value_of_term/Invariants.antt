@@ -8,6 +8,9 @@ use Rattle.tl_eval.proofs.term_value.+value_of_term.Given as goal
 abbrev pub decreases-value_of_term : goal.decreases-value_of_term
 decreases-value_of_term l = term_nodes (tree_of_term l.t.now)
 
+abbrev pub decreases-value_of_operation : goal.decreases-value_of_operation
+decreases-value_of_operation l = term_nodes (tree_of_term l.left.now) + term_nodes (tree_of_term l.right.now)
+
 abbrev pub decreases-value_of_place : goal.decreases-value_of_place
 decreases-value_of_place l = 1 + terms_nodes (tree_of_terms l.args.now)
 
