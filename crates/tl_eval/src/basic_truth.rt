@@ -1,6 +1,7 @@
 // The truth of formulas that have no formula below them.
-ghost use Rattle.std.specs.Prelude.{◌≡◌, ◌≤◌, length};
+ghost use Rattle.std.specs.Prelude.{◌≡◌, ◌≤◌, [], length};
 ghost use Rattle.tl_eval.specs.Frames.{assignment_in};
+ghost use Rattle.tl_eval.specs.PatternOf.{in_place};
 ghost use Rattle.tl_eval.specs.Small.{HasFewArguments, HaveFewArguments};
 ghost use Rattle.tl_eval.specs.TermValues.{gives_value, IsAtomTruth, IsComparison};
 ghost use Rattle.tl_syntax.specs.Fits.{term_count};
@@ -16,28 +17,28 @@ use tl_syntax::{Arg, Cmp, Term, Terms, Value};
 use tl_world::World;
 
 /// The value of an argument under a frame, where it has one. It takes no memory.
-fn value_of_arg(frame: &[Option<Value>], arg: Arg) -> Option<Value>
-    ensures { result ≡ arg_value (assignment_in frame.now) arg }
+fn value_of_arg(frame: &[Option<Value>], arg: &Arg) -> Option<Value>
+    ensures { result ≡ arg_value (assignment_in frame.now) arg.now }
 {
     match arg {
         Arg::Var(var) => value_in(frame, var.slot),
-        Arg::Val(value) => Some(value),
+        Arg::Val(value) => Some(*value),
     }
 }
 
-/// The values of arguments under a frame, where all have one. It takes no memory.
-fn values_of_args(frame: &[Option<Value>], args: &[Arg]) -> Option<Row>
-    requires { length args.now ≤ 8 }
-    ensures { result ≡ arg_values (assignment_in frame.now) args.now }
+/// Puts the values of arguments under a frame into an empty row, and says whether all have one. It takes no memory.
+fn put_values_of_args(frame: &[Option<Value>], args: &[Arg], row: &mut Row) -> bool
+    requires few { length args.now ≤ 8 }
+    requires empty { row.old ≡ [] }
+    ensures { in_place result row.new ≡ arg_values (assignment_in frame.now) args.now }
 {
-    let mut row = Row::new();
     for arg in args.iter() {
-        match value_of_arg(frame, *arg) {
+        match value_of_arg(frame, arg) {
             Some(value) => row.push(value),
-            None => return None,
+            None => return false,
         }
     }
-    Some(row)
+    true
 }
 
 /// Whether the first side of a comparison leaves it open. It takes no memory.
@@ -140,9 +141,11 @@ pub(crate) fn fact_true(w: &World, frame: &[Option<Value>], pred: u32, args: &[A
     requires { length args.now ≤ 8 }
     ensures { result ≡ fact_in w.now pred (arg_values (assignment_in frame.now) args.now) }
 {
-    match values_of_args(frame, args) {
-        Some(row) => w.holds(pred, row.as_slice()),
-        None => false,
+    let mut row = Row::new();
+    if put_values_of_args(frame, args, &mut row) {
+        w.holds(pred, row.as_slice())
+    } else {
+        false
     }
 }
 
@@ -153,13 +156,15 @@ pub(crate) fn place_true(
     frame: &[Option<Value>],
     fun: u32,
     args: &[Arg],
-    value: Arg,
+    value: &Arg,
 ) -> bool
     requires { length args.now ≤ 8 }
-    ensures { result ≡ gives_value w.now frame.now fun args.now value }
+    ensures { result ≡ gives_value w.now frame.now fun args.now value.now }
 {
-    match values_of_args(frame, args) {
-        Some(row) => are_same(w.value(fun, row.as_slice()), value_of_arg(frame, value)),
-        None => false,
+    let mut row = Row::new();
+    if put_values_of_args(frame, args, &mut row) {
+        are_same(w.value(fun, row.as_slice()), value_of_arg(frame, value))
+    } else {
+        false
     }
 }

@@ -19,10 +19,10 @@ pub fn bound_holds(task: &Task, w: &World, env: &Env, b: &Bound) -> bool
     let frame = env.frame();
     match b {
         Bound::Fact(pred, args) => fact_true(w, frame, *pred, args.as_slice()),
-        Bound::Place(fun, args, value) => place_true(w, frame, *fun, args.as_slice(), *value),
+        Bound::Place(fun, args, value) => place_true(w, frame, *fun, args.as_slice(), value),
         Bound::GoalFact(pred, args) => fact_true(&task.goal, frame, *pred, args.as_slice()),
         Bound::GoalPlace(fun, args, value) => {
-            place_true(&task.goal, frame, *fun, args.as_slice(), *value)
+            place_true(&task.goal, frame, *fun, args.as_slice(), value)
         }
         Bound::GoalNot(pred, args) => fact_true(&task.avoid, frame, *pred, args.as_slice()),
     }

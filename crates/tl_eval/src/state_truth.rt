@@ -61,7 +61,7 @@ fn truth_of(
             current(frames),
             *fun,
             args.as_slice(),
-            *value,
+            value,
         )),
         Formula::GoalNot(pred, args) => Ok(fact_true(
             &task.avoid,

@@ -3,10 +3,10 @@ use Rattle.tl_syntax.specs.declared.value.Value.TheVariants.{Int}
 use Rattle.tl_syntax.specs.declared.variable.Arg.TheVariants.{Val}
 use Rattle.tl_eval.specs.Frames.{assignment_in}
 use Rattle.tl_eval.proofs.BasicLaws.{args-begun, args-room, args-pushed, args-undefined, args-ended}
-use Rattle.tl_eval.proofs.basic_truth.values_of_args.Goals as goal
+use Rattle.tl_eval.proofs.basic_truth.put_values_of_args.Goals as goal
 
 pub loop-arg-init : goal.loop-arg-init
-loop-arg-init c = args-begun (assignment_in c.args.frame.now) c.args.args.now c.new-row.result c.new-row.ensures c.requires
+loop-arg-init c = args-begun (assignment_in c.args.frame.now) c.args.args.now c.args.row.now c.requires.empty c.requires.few
 
 pub push-requires : goal.push-requires
 push-requires c = args-room (assignment_in c.args.frame.now) c.args.args.now c.loop-arg.arg-index (Val (Int (pos 0))) c.loop-arg.row c.loop-arg-test.true c.loop-arg.invariant
