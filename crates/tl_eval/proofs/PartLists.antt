@@ -1,6 +1,7 @@
 -- The parts for leading arguments of a list.
 use Rattle.std.proofs.Common.{◌≡◌, ◌<◌, ℕ, zero, suc, List, [], ◌∷◌, map, take, length, get_or, Bool, true, false, Option, Some, None, sym, ap, ◌∙◌, inl, inr, arith}
-use Rattle.tl_eval.specs.PatternOf.{in_place, part_for, AreParts}
+use Rattle.tl_eval.specs.InPlace.{in_place}
+use Rattle.tl_eval.specs.PatternOf.{part_for, AreParts}
 use Rattle.tl_syntax.specs.declared.variable.Arg.{Arg}
 use Rattle.tl_syntax.specs.declared.variable.Var.{Var}
 use Rattle.tl_syntax.specs.Assignment.{Assignment}

@@ -1,4 +1,5 @@
 pub mod Frames
+pub mod InPlace
 pub mod Small
 pub mod Notes
 pub mod TermValues

@@ -1,5 +1,5 @@
 -- The pattern of a bound: its known values put in, and its quantified variables by their positions.
-use Rattle.std.specs.Prelude.{◌≡◌, ◌==◌, ℕ, List, map, take, length, Bool, true, false, Option, Some, None}
+use Rattle.std.specs.Prelude.{◌≡◌, ◌==◌, ℕ, List, map, take, length, Bool, false, Option, Some, None}
 use Rattle.std.specs.List.{position}
 use Rattle.tl_syntax.specs.declared.bound.Bound.{Bound}
 use Rattle.tl_syntax.specs.declared.bound.Bound.TheVariants as bound
@@ -16,11 +16,6 @@ use Rattle.tl_world.specs.declared.pattern.Part.{Part}
 use Rattle.tl_world.specs.declared.pattern.Part.TheVariants.{Fixed, Free}
 use Rattle.tl_world.specs.declared.pattern.Pattern.{Pattern}
 use Rattle.tl_world.specs.Patterns.{IsLawful, makes_true, parts_of}
-
--- what stands in place, where it counts
-abbrev pub in_place : {A : Type 0} → Bool → A → Option A
-in_place true a = Some a
-in_place false a = None
 
 -- the variable at the position, where there is one, and else the known value, where there is one
 abbrev pub free_or_fixed : Option ℕ → Option Value → Option Part

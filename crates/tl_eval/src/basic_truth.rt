@@ -1,7 +1,7 @@
 // The truth of formulas that have no formula below them.
 ghost use Rattle.std.specs.Prelude.{◌≡◌, ◌≤◌, [], length};
 ghost use Rattle.tl_eval.specs.Frames.{assignment_in};
-ghost use Rattle.tl_eval.specs.PatternOf.{in_place};
+ghost use Rattle.tl_eval.specs.InPlace.{in_place};
 ghost use Rattle.tl_eval.specs.Small.{HasFewArguments, HaveFewArguments};
 ghost use Rattle.tl_eval.specs.TermValues.{gives_value, IsAtomTruth, IsComparison};
 ghost use Rattle.tl_syntax.specs.Fits.{term_count};

@@ -2,7 +2,8 @@
 ghost use Rattle.std.specs.List.{position};
 ghost use Rattle.std.specs.Prelude.{◌≡◌, ◌==◌, ◌≤◌, ◌∷◌, [], ◌++◌, length, true, false};
 ghost use Rattle.tl_eval.specs.Frames.{assignment_in};
-ghost use Rattle.tl_eval.specs.PatternOf.{in_place, part_for, AreParts, IsPatternOfArgs, IsPatternOf};
+ghost use Rattle.tl_eval.specs.InPlace.{in_place};
+ghost use Rattle.tl_eval.specs.PatternOf.{part_for, AreParts, IsPatternOfArgs, IsPatternOf};
 ghost use Rattle.tl_syntax.specs.BoundVariables.{args_of, DifferInSlot, OccurIn};
 
 use crate::term_value::value_in;

@@ -26,7 +26,7 @@ pub struct TupleReader {
 }
 
 impl Model for TupleReader {
-    ghost use Rattle.tl_eval.specs.PatternOf.{in_place};
+    ghost use Rattle.tl_eval.specs.InPlace.{in_place};
     ghost use Rattle.tl_eval.specs.Reader.{Reader, CanGoOn};
     ghost use Rattle.tl_world.specs.Patterns.{tuple_in_place};
 

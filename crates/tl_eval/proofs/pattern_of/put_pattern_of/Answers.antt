@@ -1,5 +1,5 @@
 use Rattle.tl_eval.specs.Frames.{assignment_in}
-use Rattle.tl_eval.specs.PatternOf.{in_place}
+use Rattle.tl_eval.specs.InPlace.{in_place}
 use Rattle.tl_eval.proofs.PatternLaws.{few-variables, stands, at-Fact, at-Place, at-GoalFact, at-GoalPlace, at-GoalNot}
 use Rattle.tl_eval.proofs.pattern_of.put_pattern_of.Goals as goal
 

@@ -1,5 +1,5 @@
 use Rattle.tl_eval.specs.Frames.{assignment_in}
-use Rattle.tl_eval.specs.PatternOf.{in_place}
+use Rattle.tl_eval.specs.InPlace.{in_place}
 use Rattle.tl_eval.proofs.PartLists.{counts-not}
 use Rattle.tl_eval.proofs.PatternLaws.{no-parts, no-last}
 use Rattle.tl_eval.proofs.pattern_of.put_place.Goals as goal

@@ -1,6 +1,6 @@
 use Rattle.std.specs.Option.{option_map}
 use Rattle.tl_eval.specs.Frames.{assignment_in}
-use Rattle.tl_eval.specs.PatternOf.{in_place}
+use Rattle.tl_eval.specs.InPlace.{in_place}
 use Rattle.tl_eval.proofs.ArityLaws.{declared-few}
 use Rattle.tl_eval.proofs.PartLists.{counts, counts-not}
 use Rattle.tl_eval.proofs.PatternLaws.{bound-few}
