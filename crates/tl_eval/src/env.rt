@@ -106,8 +106,17 @@ impl Env {
         ensures { AreKept vars.now self.now result }
     {
         let mut values = [None; 9];
-        keep(self.values.as_slice(), vars, &mut values);
+        self.keep(vars, &mut values);
         values
+    }
+
+    /// `kept` in place: puts what the slots of the variables have in the caller's frame into the first places of `values`, in the variables' order. It takes no memory.
+    #[inline(always)]
+    pub fn keep(&self, vars: &[Var], values: &mut [Option<Value>; 9])
+        requires few { length vars.now ≤ 9 }
+        ensures { AreKept vars.now self.now values.new }
+    {
+        keep(self.values.as_slice(), vars, values);
     }
 
     /// Gives the slots of the variables these values in the caller's frame, in the variables' order. It takes no memory.

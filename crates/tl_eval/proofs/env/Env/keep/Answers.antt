@@ -3,7 +3,7 @@ use Rattle.tl_eval.specs.Frames.{assignment_in}
 use Rattle.tl_eval.proofs.FrameLaws.{length-frame}
 use Rattle.tl_syntax.specs.declared.value.Value.{Value}
 use Rattle.tl_syntax.specs.declared.variable.Var.{Var}
-use Rattle.tl_eval.proofs.env.Env.kept.Goals as goal
+use Rattle.tl_eval.proofs.env.Env.keep.Goals as goal
 
 pub returns : goal.returns
 returns c =
