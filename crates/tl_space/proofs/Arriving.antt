@@ -1,10 +1,10 @@
 -- The pairs that arrive at a space.
-use Rattle.std.proofs.Common.{◌≡◌, ◌≢◌, ◌<◌, ℕ, List, [], ◌∷◌, ◌++◌, length, slice_get, Option, Some, refl, sym, ap, ap₂, subst, ◌∙◌}
+use Rattle.std.proofs.Common.{◌≡◌, ◌≢◌, ◌<◌, ℕ, List, [], ◌∷◌, ◌++◌, length, slice_get, Option, Some, refl, sym, ap, ap₂, subst, ◌∙◌, IsTrue, nat_eq, eqb-true}
 use Rattle.std.specs.Option.{option_map}
 use Rattle.std.proofs.lemmas.Option.{get_or_from_slice_get}
 use Rattle.tl_syntax.specs.declared.action.Action.{Action}
 use Rattle.tl_syntax.specs.Assignment.{no_values}
-use Rattle.tl_syntax.specs.Trees.{FormulaTree, falsum}
+use Rattle.tl_syntax.specs.Trees.{FormulaTree, falsum, verum}
 use Rattle.tl_terms.specs.Acceptance.{states_from}
 use Rattle.tl_terms.specs.Definitions.{situation_of}
 use Rattle.tl_terms.specs.Looked.{looked_by_progressing}
@@ -146,6 +146,27 @@ module _ (a b : Space) (key : Numbers) (l : ℕ) (k : KeepsPairs a b) (n : AreNu
         arrives = same ∙ (arriving-node ∙ sym (arriving-later a c key (keeps-trans a b c k k2) n));
         room = room;
       }
+
+-- ---- an arrival whose pair has its own numbers
+
+-- TRUE leaves TRUE
+pub true-leaves-itself : (s : Space) (n : Numbers) → slice_get (trees s.nodes) 0 ≡ Some verum → IsTrue (nat_eq n.label 0) → node_in s n ≡ arriving_in s n
+unfolding node_at pair_in_at progressed
+true-leaves-itself s n t e =
+    let g : tree_at (trees s.nodes) n.label ≡ verum = tree-is (trees s.nodes) n.label verum (ap (slice_get (trees s.nodes)) (eqb-true n.label 0 e) ∙ t) in
+    let w = world_at (worlds_in s.worlds) n.world in
+    (λ i. record { world = w; formula = g i }) ∙ sym (λ i. record { world = w; formula = progressed (situation_of (problem_of s) w) no_values (g i) })
+
+-- it is to be kept, where it is new and there is room
+pub itself-to-keep : (a c : Space) (key : Numbers) → KeepsPairs a c → AreNumbersIn a key → node_in a key ≡ arriving_in a key → IsNew a key → HasRoom c → IsToKeep c key key
+itself-to-keep a c key k numbers itself new room =
+    let same : node_in c key ≡ node_in a key = node-later a c key k numbers in
+    record {
+      numbers = numbers-later a c key k numbers;
+      new = record { unpruned = λ f. new.unpruned (ap (λ (x : Pair). x.formula) (sym same) ∙ f); absent = λ i f. new.absent i (ap (λ (ns : List Numbers). slice_get ns i) (sym k.pairs) ∙ f) };
+      arrives = same ∙ (itself ∙ sym (arriving-later a c key k numbers));
+      room = room;
+    }
 
 -- ---- what comes of an arrival, in the words of the space before it
 

@@ -113,6 +113,12 @@ module _ (s : Space) (n : Numbers) (m : Met) (ks : List Numbers) (ms : List Met)
       (subst (AreRemembered (problem_of s) (worlds_in s.worlds) (trees s.nodes) (s.pairs.keys ++ n ∷ [])) (sym g)
       (remembered-with (problem_of s) (worlds_in s.worlds) (trees s.nodes) s.pairs.keys n key k s.arrivals.entries s.remembered numbers.world numbers.label.inside is arrives))
 
+  -- what was remembered stays right, where the pair's arrival is not remembered
+  pub remembered-still-with : AreRemembered (problem_of s) (worlds_in s.worlds) (trees s.nodes) ks s.arrivals.entries
+  remembered-still-with =
+      subst (λ (ns : List Numbers). AreRemembered (problem_of s) (worlds_in s.worlds) (trees s.nodes) ns s.arrivals.entries) (sym e)
+      (all-remembered-more (problem_of s) (worlds_in s.worlds) (trees s.nodes) s.pairs.keys n s.arrivals.entries s.remembered)
+
 -- one more arrival is remembered, which is known
 pub remembered-known : (s : Space) (key : Numbers) (r : Arrival) (es : List (Numbers × Arrival)) → AreNumbersIn s key → IsKnownIn s key r → es ≡ insert_entry numbers_eq s.arrivals.entries key r → AreRemembered (problem_of s) (worlds_in s.worlds) (trees s.nodes) s.pairs.keys es
 remembered-known s key r es numbers known g =

@@ -1,5 +1,5 @@
 // What is known of an arrival.
-ghost use Rattle.std.specs.Prelude.{IfOk, IfErr, IfSome, IfNone};
+ghost use Rattle.std.specs.Prelude.{◌≡◌, IsTrue, IfOk, IfErr, IfSome, IfNone};
 ghost use Rattle.tl_space.specs.Inner.{node_in, nodes_in, arriving_in, AreNumbersIn, IsKnownIn, KeepsPairs, IsNew, IsFound, IsProgressFault};
 ghost use Rattle.tl_space.specs.Remembered.{IsKnown};
 
@@ -8,6 +8,9 @@ use crate::numbers::{Found, Numbers};
 use tl_progress::ProgressFault;
 use tl_search::Arrival;
 use tl_terms::NoMemory;
+
+/// The number of the formula TRUE.
+pub(crate) const TRUE: usize = 0;
 
 /// The number of the formula FALSE.
 const FALSE: usize = 1;
@@ -50,13 +53,41 @@ impl Space {
         }
     }
 
-    /// What is found of the arrival in this world with this formula: by memory, or else by progression. Nothing is kept yet.
+    /// Whether TRUE comes in. It is what it leaves then. It takes no memory.
+    fn leaves_itself(&self, key: Numbers) -> bool
+        ensures { IsTrue result → node_in self.now key ≡ arriving_in self.now key }
+    {
+        let _ = self.nodes.len();
+        key.label == TRUE
+    }
+
+    /// What is found of the arrival whose pair has its own numbers. Such arrivals are not remembered.
+    fn find_itself(&mut self, key: Numbers) -> Result<Found, ProgressFault>
+        requires key { AreNumbersIn self.old key }
+        requires itself { node_in self.old key ≡ arriving_in self.old key }
+        ensures keeps { KeepsPairs self.old self.new }
+        ensures found { IfOk result (IsFound self.new key) }
+        ensures cause { IfErr result (IsProgressFault self.old key) }
+    {
+        match self.known(key) {
+            Some(arrival) => Ok(Found::Known(arrival)),
+            None => match self.make_room() {
+                Ok(()) => Ok(Found::New(key)),
+                Err(_) => Err(ProgressFault::NoMemory),
+            },
+        }
+    }
+
+    /// What is found of the arrival in this world with this formula: at once, by memory, or else by progression. Nothing is kept yet.
     pub(crate) fn find(&mut self, key: Numbers) -> Result<Found, ProgressFault>
         requires { AreNumbersIn self.old key }
         ensures keeps { KeepsPairs self.old self.new }
         ensures found { IfOk result (IsFound self.new key) }
         ensures cause { IfErr result (IsProgressFault self.old key) }
     {
+        if self.leaves_itself(key) {
+            return self.find_itself(key);
+        }
         match self.remembered(key) {
             Some(arrival) => Ok(Found::Known(arrival)),
             None => self.find_anew(key),

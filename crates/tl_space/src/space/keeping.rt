@@ -5,6 +5,7 @@ ghost use Rattle.tl_space.specs.Kept.{IsNamedMet, MayMeet};
 ghost use Rattle.tl_space.specs.Spaces.{name_count, kept_of, Grows};
 
 use super::Space;
+use super::arriving::TRUE;
 use crate::numbers::{Met, Numbers};
 use tl_search::Arrival;
 use tl_terms::NoMemory;
@@ -20,7 +21,7 @@ impl Space {
         Ok(())
     }
 
-    /// Keeps the new pair of these numbers, met first in this way, and remembers its arrival. The pair is the only growth that can fail.
+    /// Keeps the new pair of these numbers, met first in this way, and remembers its arrival, unless it is one of TRUE. The pair is the only growth that can fail.
     pub(crate) fn keep(
         &mut self,
         key: Numbers,
@@ -40,7 +41,9 @@ impl Space {
         match self.pairs.insert_full(numbers) {
             Ok((at, _)) => {
                 self.from.push(met).unwrap();
-                self.arrivals.insert(key, Arrival::Seen(at)).unwrap();
+                if key.label != TRUE {
+                    self.arrivals.insert(key, Arrival::Seen(at)).unwrap();
+                }
                 Ok(at)
             }
             Err(_) => Err(NoMemory),
