@@ -1,8 +1,8 @@
 -- The numbers that are left of the parts of a join, one part after another.
-use Rattle.std.proofs.Common.{◌≡◌, ℕ, zero, suc, ◌+◌, ◌<◌, Bool, true, false, cond, not, List, [], ◌∷◌, ◌++◌, ◌||◌, filter, fold, length, take, slice_index_or, nat_lt, nat_eq, eqb-true, refl, sym, ap, ap₂, ◌∙◌, subst, arith, append-nil, if◌then◌else◌}
-use Rattle.std.specs.List.{list_any}
+use Rattle.std.proofs.Common.{◌≡◌, ℕ, zero, suc, ◌+◌, ◌<◌, Bool, true, false, cond, not, List, [], ◌∷◌, ◌++◌, ◌||◌, filter, fold, length, take, drop, ◌-◌, ◌≤◌, slice_index_or, nat_lt, nat_eq, eqb-true, refl, sym, ap, ap₂, ◌∙◌, subst, arith, append-nil, if◌then◌else◌}
+use Rattle.std.specs.List.{list_any, slice_range}
 use Rattle.std.proofs.lemmas.Bool.{not-false}
-use Rattle.std.proofs.lemmas.List.{map-append, take_more}
+use Rattle.std.proofs.lemmas.List.{map-append, take_more, get_or-drop, length-drop}
 use Rattle.std.proofs.lemmas.List.Elements.{filter-append}
 use Rattle.std.proofs.lemmas.List.Sums.{fold-append}
 use Rattle.indexmap.specs.IndexSet.{insert_all, insert_key}
@@ -112,3 +112,33 @@ pub each-below : (n : ℕ) (xs : List ℕ) (i : ℕ) → i < length xs → all_b
 each-below n [] i h k = absurd (omega arith)
 each-below n (x ∷ xs) zero h k = (both (nat_lt x n) (all_below n xs) k).0
 each-below n (x ∷ xs) (suc i) h k = each-below n xs i (omega arith) (both (nat_lt x n) (all_below n xs) k).1
+
+-- one more number stands in the row
+pub row-more : (xs : List ℕ) (from i : ℕ) → from ≤ i → i < length xs → slice_range xs from (i + 1) ≡ slice_range xs from i ++ slice_index_or xs i 0 ∷ []
+row-more xs from i a h =
+    let l : length (drop from xs) ≡ length xs - from = length-drop from xs in
+    let m : i - from < length (drop from xs) = omega arith in
+    let e : (i + 1) - from ≡ (i - from) + 1 = omega arith in
+    let g : from + (i - from) ≡ i = omega arith in
+    ap (λ n. take n (drop from xs)) e
+    ∙ (take_more (drop from xs) (i - from) 0 m ∙ ap (λ x. take (i - from) (drop from xs) ++ x ∷ []) (get_or-drop from xs (i - from) 0 ∙ ap (λ n. slice_index_or xs n 0) g))
+
+-- no number stands in a row that ends where it begins
+pub row-none : (xs : List ℕ) (from to : ℕ) → from ≡ to → slice_range xs from to ≡ []
+row-none xs from to e = let n : to - from ≡ 0 = omega arith in ap (λ n. take n (drop from xs)) n
+
+-- one more part that is no join of this kind, and what is kept with it
+pub opened-more : (ts : List FormulaTree) (junction : Junction) (xs : List ℕ) (i : ℕ) (old new : List ℕ) → i < length xs → all_below (length ts) xs ≡ true
+    → parts_of junction (tree_at ts (slice_index_or xs i 0)) ≡ tree_at ts (slice_index_or xs i 0) ∷ [] → new ≡ kept_with junction old (slice_index_or xs i 0)
+    → IsOpened ts junction (take i xs) old → IsOpened ts junction (take (i + 1) xs) new
+opened-more ts junction xs i old new h below single e w =
+    opened-next ts junction xs i new h (opened-one ts junction (take i xs) old new (slice_index_or xs i 0) (each-below (length ts) xs i h below) single e w)
+
+-- a row that begins with this number, and one that goes on with it
+pub row-begun : (xs : List ℕ) (from to i f : ℕ) → from ≡ to → f ≡ i → i < length xs → slice_range xs f (i + 1) ≡ slice_range xs from to ++ slice_index_or xs i 0 ∷ []
+row-begun xs from to i f e g h =
+    row-more xs f i (omega arith) h ∙ ap (λ l. l ++ slice_index_or xs i 0 ∷ []) (row-none xs f i g ∙ sym (row-none xs from to e))
+
+pub row-going : (xs : List ℕ) (from to i f : ℕ) → f ≡ from → to ≡ i → from ≤ to → i < length xs → slice_range xs f (i + 1) ≡ slice_range xs from to ++ slice_index_or xs i 0 ∷ []
+row-going xs from to i f e g k h =
+    row-more xs f i (omega arith) h ∙ ap₂ (λ a b. slice_range xs a b ++ slice_index_or xs i 0 ∷ []) e (sym g)

@@ -1,5 +1,5 @@
 -- Trees with values put in that are remembered.
-use Rattle.std.specs.Prelude.{◌≡◌, ◌<◌, ◌≤◌, ◌&&◌, ◌==◌, ℕ, List, [], ◌∷◌, length, take, slice_get, Bool, true, false, Option, Some, None}
+use Rattle.std.specs.Prelude.{◌≡◌, ◌<◌, ◌≤◌, ◌&&◌, ◌==◌, List, [], ◌∷◌, length, take, slice_get, Bool, true, false, Option, Some, None}
 use Rattle.tl_nodes.specs.declared.nodes.filled.Filled.{Filled}
 use Rattle.tl_nodes.specs.NodeTrees.{tree_at}
 use Rattle.tl_syntax.specs.declared.substitution.Binding.{Binding}

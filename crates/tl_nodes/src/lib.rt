@@ -4,11 +4,11 @@
 //! Contracts see `Nodes` as the list of the trees by number.
 //!
 //! - `node`: one layer of a formula, whose parts are numbers.
-//! - `nodes`: the table, and below it `intern` (a layer gets its number), `flags` (temporal words), `negation`, `join` (simplified conjunction and disjunction) with `left`, `few` and `flatten` (what is left of its parts), `of_tree` (a whole formula), and `filling` with `filled` (trees with values put in, as they were found before).
+//! - `nodes`: the table, and below it `intern` (a layer gets its number), `flags` (temporal words), `negation`, `join` (simplified conjunction and disjunction) with `left`, `few` and `flatten` (what is left of its parts), `of_tree` (a whole formula), `filling` with `filled` (trees with values put in, as they were found before), and `marks` (fingerprints of facts).
 #![tactic(auto)]
 
 mod node;
 mod nodes;
 
 pub use node::Node;
-pub use nodes::Nodes;
+pub use nodes::{Nodes, fact_mark};

@@ -17,12 +17,15 @@ mod flatten;
 mod intern;
 mod join;
 mod left;
+mod marks;
 mod negation;
 mod of_tree;
 
 use crate::Node;
 use filled::{Filled, PLACES};
 use indexmap::IndexSet;
+pub use marks::fact_mark;
+use marks::mark_at;
 use std::alloc::Global;
 use tl_syntax::NoMemory;
 
@@ -33,6 +36,8 @@ pub struct Nodes {
     pub(crate) alloc: Global,
     pub(crate) table: IndexSet<Node>,
     pub(crate) temporal: Vec<bool>,
+    pub(crate) marks: Vec<u64>,
+    pub(crate) joins: Vec<usize>,
     pub(crate) filled: Vec<Filled>,
     ghost below: { EachFits table.keys },
     ghost one_to_one: { OneToOne (trees_of_nodes table.keys) },
@@ -55,11 +60,15 @@ impl Nodes {
         let mut temporal = Vec::new(alloc);
         temporal.push(false)?;
         temporal.push(false)?;
+        let marks = vec![in alloc; 0; 2]?;
+        let joins = vec![in alloc; 0; PLACES]?;
         let filled = vec![in alloc; Filled::none(); PLACES]?;
         Ok(Nodes {
             alloc,
             table,
             temporal,
+            marks,
+            joins,
             filled,
         })
     }
@@ -90,5 +99,10 @@ impl Nodes {
         ensures state { (result ≡ false) ↔ IsState (tree_at (trees self.now) id) }
     {
         self.temporal[id]
+    }
+
+    /// A fingerprint of the number's tree, where it is a fact or the negation of one: that of `fact_mark`. Of each other tree it is 0. It takes no memory.
+    pub fn mark(&self, id: usize) -> u64 {
+        mark_at(self.marks.as_slice(), id)
     }
 }

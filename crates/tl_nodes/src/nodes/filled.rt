@@ -111,12 +111,12 @@ fn are_same(bindings: &[Binding], others: &[Binding]) -> bool
 }
 
 /// A hash with one more word.
-fn mixed(hash: u64, word: u64) -> u64 {
+pub(crate) fn mixed(hash: u64, word: u64) -> u64 {
     (hash.rotate_left(5) ^ word).wrapping_mul(MULTIPLIER)
 }
 
 /// A value as a word.
-fn word_of(value: Option<Value>) -> u64 {
+pub(crate) fn word_of(value: Option<Value>) -> u64 {
     match value {
         Some(Value::Int(integer)) => integer.cast_unsigned(),
         Some(Value::Sym(number)) => !(number as u64),

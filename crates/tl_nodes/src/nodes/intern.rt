@@ -7,6 +7,7 @@ ghost use Rattle.tl_nodes.specs.Numbers.{trees, Denotes, StaysIfKnown};
 
 use super::Nodes;
 use super::flags::temporal_of;
+use super::marks::mark_of;
 use crate::Node;
 use tl_syntax::NoMemory;
 
@@ -21,7 +22,15 @@ impl Nodes {
         ensures refused { OnErr result (trees self.new ≡ trees self.old) }
     {
         let flag = temporal_of(self.temporal.as_slice(), &node);
+        let mark = mark_of(self.marks.as_slice(), &node);
         match self.temporal.reserve(1) {
+            Ok(()) => {}
+            Err(_) => {
+                drop(node);
+                return Err(NoMemory);
+            }
+        }
+        match self.marks.reserve(1) {
             Ok(()) => {}
             Err(_) => {
                 drop(node);
@@ -31,6 +40,7 @@ impl Nodes {
         let (at, is_new) = self.table.insert_full(node)?;
         if is_new {
             self.temporal.push(flag).unwrap();
+            self.marks.push(mark).unwrap();
         }
         Ok(at)
     }

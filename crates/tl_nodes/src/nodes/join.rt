@@ -1,13 +1,16 @@
 // Conjunction and disjunction that simplify.
-ghost use Rattle.std.specs.Prelude.{◌≡◌, true, length, IfOk, OnErr};
+ghost use Rattle.std.specs.Prelude.{◌≡◌, true, length, IfOk, IfSome, IsTrue, OnErr};
 ghost use Rattle.tl_nodes.specs.Fits.{all_below};
 ghost use Rattle.tl_nodes.specs.Joins.{simplified_join, dropped, decides, join_node};
 ghost use Rattle.tl_nodes.specs.Left.{JoinsLeft, StaysIfJoined};
+ghost use Rattle.tl_nodes.specs.NodeTrees.{tree_of_node};
 ghost use Rattle.tl_nodes.specs.Numbering.{Keeps};
 ghost use Rattle.tl_nodes.specs.Numbers.{trees, Denotes, trees_in, StaysIfKnown};
 ghost use Rattle.tl_terms.specs.Simplification.{simplified_and, simplified_or};
 
 use super::Nodes;
+use super::few::Few;
+use super::filled::{PLACES, mixed};
 use crate::Node;
 use std::alloc::Global;
 use tl_syntax::{Ids, Junction, NoMemory};
@@ -43,13 +46,26 @@ impl Nodes {
         ensures kept { Keeps (trees self.old) (trees self.new) }
         ensures refused { OnErr result (trees self.new ≡ trees self.old) }
     {
-        match self.few_left(parts, junction) {
-            Some(few) => self.join_left(few.as_slice(), junction),
-            None => {
-                let left = self.many_left(parts, junction)?;
-                self.join_left(left.as_slice(), junction)
-            }
+        match self.row_left(parts, junction) {
+            Some(row) => self.join_left(row, junction),
+            None => self.join_opened(parts, junction),
         }
+    }
+
+    // The same, where what is left of the parts is put elsewhere.
+    fn join_opened(&mut self, parts: &[usize], junction: Junction) -> Result<usize, NoMemory>
+        requires { all_below (length (trees self.old)) parts.now ≡ true }
+        ensures number { IfOk result (λ i. Denotes self.new i (simplified_join junction (trees_in self.old parts.now))) }
+        ensures known { StaysIfKnown self.old self.new (simplified_join junction (trees_in self.old parts.now)) }
+        ensures kept { Keeps (trees self.old) (trees self.new) }
+        ensures refused { OnErr result (trees self.new ≡ trees self.old) }
+    {
+        let mut few = Few::new();
+        if self.put_few_left(&mut few, parts, junction) {
+            return self.join_left(few.as_slice(), junction);
+        }
+        let left = self.many_left(parts, junction)?;
+        self.join_left(left.as_slice(), junction)
     }
 
     // The number of the join of the parts of which these numbers are left.
@@ -70,10 +86,74 @@ impl Nodes {
         if left.len() == 1 {
             return Ok(left[0]);
         }
+        let home = home_of_join(left, junction);
+        match self.find_join(home, left, junction) {
+            Some(number) => Ok(number),
+            None => self.join_anew(home, left, junction),
+        }
+    }
+
+    // The number of the join of these numbers, where it is remembered. It takes no memory.
+    fn find_join(&self, home: usize, left: &[usize], junction: Junction) -> Option<usize>
+        ensures { IfSome result (λ i. Denotes self.now i (tree_of_node (trees self.now) (join_node junction left.now))) }
+    {
+        let at = match self.joins.get(home) {
+            Some(at) => *at,
+            None => return None,
+        };
+        if at < self.len() && is_join_of(self.get(at), left, junction) {
+            Some(at)
+        } else {
+            None
+        }
+    }
+
+    // The number of the join of these numbers, which is remembered then. Another one may be forgotten for it.
+    fn join_anew(
+        &mut self,
+        home: usize,
+        left: &[usize],
+        junction: Junction,
+    ) -> Result<usize, NoMemory>
+        requires { all_below (length (trees self.old)) left.now ≡ true }
+        ensures number { IfOk result (λ i. Denotes self.new i (tree_of_node (trees self.old) (join_node junction left.now))) }
+        ensures known { StaysIfKnown self.old self.new (tree_of_node (trees self.old) (join_node junction left.now)) }
+        ensures kept { Keeps (trees self.old) (trees self.new) }
+        ensures refused { OnErr result (trees self.new ≡ trees self.old) }
+    {
         let ids = ids_of(self.alloc, left)?;
         let node = join_of(junction, ids);
-        self.intern(node)
+        let number = self.intern(node)?;
+        if let Some(place) = self.joins.get_mut(home) {
+            *place = number;
+        }
+        Ok(number)
     }
+}
+
+// Whether the node is the join of these numbers.
+fn is_join_of(node: &Node, left: &[usize], junction: Junction) -> bool
+    ensures { IsTrue result → node.now ≡ join_node junction left.now }
+{
+    match junction {
+        Junction::All => match node {
+            Node::And(ids) => ids.as_slice() == left,
+            _ => false,
+        },
+        Junction::Any => match node {
+            Node::Or(ids) => ids.as_slice() == left,
+            _ => false,
+        },
+    }
+}
+
+// The place for the join of these numbers. What is remembered does not depend on it.
+fn home_of_join(left: &[usize], junction: Junction) -> usize {
+    let mut hash = mixed(0, unit_of(junction) as u64);
+    for id in left.iter() {
+        hash = mixed(hash, *id as u64);
+    }
+    (hash >> 32) as usize & (PLACES - 1)
 }
 
 fn join_of(junction: Junction, ids: Ids) -> Node

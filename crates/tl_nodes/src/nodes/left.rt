@@ -1,5 +1,5 @@
 // What is left of the parts of a join.
-ghost use Rattle.std.specs.Prelude.{◌≡◌, ◌<◌, ◌∷◌, ◌++◌, [], List, ℕ, true, cond, filter, not, length, nat_eq, IsTrue, IfOk, IfSome};
+ghost use Rattle.std.specs.Prelude.{◌≡◌, ◌<◌, ◌∷◌, ◌++◌, [], List, ℕ, true, false, cond, filter, not, length, nat_eq, IsTrue, IfOk, IfSome};
 ghost use Rattle.indexmap.specs.IndexSet.{insert_all, insert_key};
 ghost use Rattle.tl_nodes.specs.Fits.{all_below};
 ghost use Rattle.tl_nodes.specs.Joins.{dropped};
@@ -14,25 +14,54 @@ use std::alloc::Global;
 use tl_syntax::{Junction, NoMemory};
 
 impl Nodes {
-    // What is left of the parts, where they open to few, and none is nested in a join of a part. It takes no memory.
-    pub(crate) fn few_left(&self, parts: &[usize], junction: Junction) -> Option<Few>
+    // What is left of the parts, where they are few, none is a join of the same kind, and what is left stands in a row. It takes no memory.
+    pub(crate) fn row_left<'a>(&self, parts: &'a [usize], junction: Junction) -> Option<&'a [usize]>
         requires { all_below (length (trees self.now)) parts.now ≡ true }
-        ensures { IfSome result (λ few. IsOpened (trees self.now) junction parts.now few) }
+        ensures { IfSome result (λ row. IsOpened (trees self.now) junction parts.now row.now) }
     {
-        let mut few = Few::new();
+        let mut from = 0;
+        let mut to = 0;
         if parts.len() > FEW {
             return None;
         }
-        for part in parts.iter() {
-            let goes_on = match self.nested(*part, junction) {
-                Some(ids) => self.keep_all(&mut few, ids.as_slice(), junction),
-                None => keep_one(&mut few, *part, junction),
-            };
-            if !goes_on {
+        for k in 0..parts.len() {
+            let part = parts[k];
+            match self.nested(part, junction) {
+                Some(_) => return None,
+                None => {}
+            }
+            if is_dropped(&parts[from..to], part, junction) {
+                continue;
+            }
+            if from == to {
+                from = k;
+            } else if to < k {
                 return None;
             }
+            to = k + 1;
         }
-        Some(few)
+        Some(&parts[from..to])
+    }
+
+    // Puts what is left of the parts to no numbers, where they open to few, and none is nested in a join of a part. False: it is more. It takes no memory.
+    pub(crate) fn put_few_left(&self, few: &mut Few, parts: &[usize], junction: Junction) -> bool
+        requires below { all_below (length (trees self.now)) parts.now ≡ true }
+        requires none { few.old ≡ [] }
+        ensures { IsTrue result → IsOpened (trees self.now) junction parts.now few.new }
+    {
+        if parts.len() > FEW {
+            return false;
+        }
+        for part in parts.iter() {
+            let goes_on = match self.nested(*part, junction) {
+                Some(ids) => self.keep_all(few, ids.as_slice(), junction),
+                None => keep_one(few, *part, junction),
+            };
+            if !goes_on {
+                return false;
+            }
+        }
+        true
     }
 
     // Keeps the parts of a join. False: one of them is a join of the same kind, or they are too many.
@@ -76,6 +105,14 @@ impl Nodes {
         let flat = self.flatten(parts, junction)?;
         distinct_but(self.alloc, flat.as_slice(), unit_of(junction))
     }
+}
+
+// Whether a number is not kept: it is the constant that is dropped, or is there.
+fn is_dropped(row: &[usize], id: usize, junction: Junction) -> bool
+    ensures dropped { IsTrue result → row.now ≡ cond (nat_eq id (dropped junction)) row.now (insert_key nat_eq row.now id) }
+    ensures kept { result ≡ false → row.now ++ id ∷ [] ≡ cond (nat_eq id (dropped junction)) row.now (insert_key nat_eq row.now id) }
+{
+    id == unit_of(junction) || row.contains(&id)
 }
 
 // Keeps a number, unless it is the constant that is dropped or is there. False: there is no room.
