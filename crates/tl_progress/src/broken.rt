@@ -10,6 +10,7 @@ ghost use Rattle.tl_syntax.specs.Lists.{Among};
 ghost use Rattle.tl_syntax.specs.TreeOfFormula.{tree_of_formula};
 ghost use Rattle.tl_syntax.specs.TreeOfTerm.{tree_of_term};
 
+use crate::changed::Changed;
 use tl_nodes::{Node, Nodes};
 use tl_syntax::{Fact, Formula, Ids, Term, Value};
 
@@ -120,8 +121,9 @@ fn is_one_broken(nodes: &Nodes, at: usize, parts: &Ids, dels: &[Fact], adds: &[F
     requires below { all_below at parts.now ≡ true }
     ensures { IsTrue result → (q : ℕ) × Among q parts.now × Leaves false (tree_at (trees nodes.now) q) dels.now adds.now }
 {
+    let changed = Changed::of(dels, adds);
     for part in parts.as_slice().iter() {
-        if is_broken(nodes, *part, dels, adds) {
+        if changed.may_break(nodes.mark(*part)) && is_broken(nodes, *part, dels, adds) {
             return true;
         }
     }

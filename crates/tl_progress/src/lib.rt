@@ -14,6 +14,7 @@
 //! - `quantifier`: a quantifier in its node, and its instances, one after another.
 //! - `residual`: what has to hold next, under a frame.
 //! - `broken`: formulas that changes of facts make false, whatever else is true.
+//! - `changed`: the fingerprints of what changes of facts make false.
 //! - `early`: what decides a conjunction or a disjunction before its parts are worked out.
 //! - `joined`: conjunctions and disjunctions, by their parts with temporal words.
 //! - `residuals`: what is kept of worlds between calls.
@@ -21,6 +22,7 @@
 #![tactic(auto)]
 
 mod broken;
+mod changed;
 mod early;
 mod fault;
 mod frames;
