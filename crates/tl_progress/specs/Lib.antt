@@ -5,6 +5,7 @@ pub mod Known
 pub mod Broken
 pub mod KeptResiduals
 pub mod FrameValues
+pub mod FewNumbers
 pub mod Quantifiers
 pub mod Steps
 pub mod Remaining

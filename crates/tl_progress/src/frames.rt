@@ -1,12 +1,12 @@
 // Frames as they are read by a call.
-ghost use Rattle.std.specs.Prelude.{◌≡◌, IfOk, OnOk};
+ghost use Rattle.std.specs.Prelude.{◌≡◌, [], IfOk, OnOk, IsTrue};
 ghost use Rattle.tl_eval.specs.Frames.{assignment_in};
 ghost use Rattle.tl_progress.specs.FrameValues.{with_slot};
 ghost use Rattle.tl_syntax.specs.Assignment.{no_values};
 ghost use Rattle.tl_syntax.specs.Bindings.{assignment_of};
 
+use crate::few_bindings::FewBindings;
 use std::alloc::Global;
-use tl_eval::Env;
 use tl_syntax::{Binding, Bindings, NoMemory, Value};
 
 /// A frame in which no slot has a value.
@@ -32,8 +32,8 @@ fn bind_slot(out: &mut Bindings, slot: u32, value: Option<Value>) -> Result<(), 
     }
 }
 
-// The values of a frame, as bindings of their slots.
-fn bindings_in(alloc: Global, frame: &[Option<Value>; 32]) -> Result<Bindings, NoMemory>
+/// The values of a frame, as bindings of their slots.
+pub(crate) fn bindings_in(alloc: Global, frame: &[Option<Value>; 32]) -> Result<Bindings, NoMemory>
     ensures { IfOk result (λ bindings. assignment_of bindings ≡ assignment_in frame.now) }
 {
     let mut out = Bindings::new(alloc);
@@ -43,10 +43,35 @@ fn bindings_in(alloc: Global, frame: &[Option<Value>; 32]) -> Result<Bindings, N
     Ok(out)
 }
 
-/// The values of the caller's frame, as bindings of their slots.
-pub(crate) fn frame_bindings(alloc: Global, env: &Env) -> Result<Bindings, NoMemory>
-    ensures { IfOk result (λ bindings. assignment_of bindings ≡ assignment_in env.now) }
+// Adds the binding of a slot, where it has a value. False: there is no room for it.
+fn bind_few(out: &mut FewBindings, slot: u32, value: Option<Value>) -> bool
+    ensures { IsTrue result → out.new ≡ with_slot out.old slot value }
 {
-    let frame = env.saved();
-    bindings_in(alloc, &frame)
+    match value {
+        Some(given) => out.push(Binding {
+            slot,
+            value: Some(given),
+        }),
+        None => true,
+    }
+}
+
+/// Puts the values of a frame to no bindings, as bindings of their slots. False: they are more than a few. It takes no memory.
+pub(crate) fn put_few(out: &mut FewBindings, frame: &[Option<Value>; 32]) -> bool
+    requires { out.old ≡ [] }
+    ensures { IsTrue result → assignment_of out.new ≡ assignment_in frame.now }
+{
+    for slot in 0..32_u32 {
+        if !bind_few(out, slot, frame[slot as usize]) {
+            return false;
+        }
+    }
+    true
+}
+
+/// Whether no slot of the frame has a value.
+pub(crate) fn is_empty_frame(frame: &[Option<Value>; 32]) -> bool
+    ensures { IsTrue result → assignment_in frame.now ≡ no_values }
+{
+    frame.iter().all(|value| value.is_none())
 }

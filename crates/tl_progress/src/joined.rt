@@ -13,15 +13,16 @@ ghost use Rattle.tl_terms.specs.Progression.{constant};
 use crate::ProgressFault;
 use crate::idling::sentence_truth;
 use crate::joins::{constant_number, decides, gather, join};
+use crate::numbers::Numbers;
 use crate::order::is_shallow;
 use crate::parts::{part_at, part_count};
 use crate::progression::temporal_residual;
 use crate::residuals::{Incoming, Residuals};
-use crate::truth::truth_of;
+use crate::truth::{basic_truth, truth_of};
 use indexmap::IndexMap;
 use std::alloc::Global;
 use tl_eval::Env;
-use tl_nodes::Nodes;
+use tl_nodes::{Node, Nodes};
 use tl_syntax::Junction;
 use tl_world::{Task, World};
 
@@ -52,6 +53,10 @@ fn state_part(
     ensures cause { IfErr result (IsCausedBy (looked_for_residual_at task.now w.now env.old nodes.now part)) }
     ensures frame { env.new ≡ env.old }
 {
+    match nodes.get(part) {
+        Node::Basic(f) => return basic_truth(task, w, env, f),
+        _ => {}
+    }
     if is_shallow(nodes, part) {
         let nothing = IndexMap::new(alloc);
         return truth_of(nodes, task, w, env, &nothing, part);
@@ -67,17 +72,17 @@ fn open_parts(
     w: &World,
     env: &mut Env,
     joined: Joined,
-) -> Result<Option<Vec<usize>>, ProgressFault>
+) -> Result<Option<Numbers>, ProgressFault>
     requires at { joined.at < length (trees nodes.now) }
     requires join { IsJoin joined.junction (tree_in nodes.now joined.at) }
     requires sentence { IsSentenceIn task.now (tree_in nodes.now joined.at) }
     ensures decided { IfOk result (λ o. IfNone o (IsDecided task.now w.now env.old nodes.now joined)) }
-    ensures parts { IfOk result (λ o. IfSome o (λ v. AreOpenIn task.now w.now env.old nodes.now joined v.items)) }
+    ensures parts { IfOk result (λ o. IfSome o (λ v. AreOpenIn task.now w.now env.old nodes.now joined v)) }
     ensures cause { IfErr result (IsCausedBy (looked_for_residual_at task.now w.now env.old nodes.now joined.at)) }
     ensures frame { env.new ≡ env.old }
 {
     let stop = joined.junction.deciding_truth();
-    let mut parts = Vec::new(alloc);
+    let mut parts = Numbers::new(alloc);
     for i in 0..part_count(nodes, joined.at) {
         let part = part_at(nodes, joined.at, i);
         if nodes.temporal(part) {
@@ -170,7 +175,7 @@ fn parts_residual(
     ensures cause { IfErr result (IsCausedBy (looked_for_residual_at task.now w.now env.old nodes.old joined.at)) }
     ensures frame { env.new ≡ env.old }
 {
-    let mut answers = Vec::new(residuals.alloc);
+    let mut answers = Numbers::new(residuals.alloc);
     for part in parts.iter() {
         let incoming = Incoming {
             world: joined.world,

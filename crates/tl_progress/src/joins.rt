@@ -8,6 +8,7 @@ ghost use Rattle.tl_progress.specs.Parts.{Gathers};
 ghost use Rattle.tl_syntax.specs.Junctions.{deciding_truth};
 ghost use Rattle.tl_terms.specs.Progression.{constant};
 
+use crate::numbers::Numbers;
 use tl_nodes::{Node, Nodes};
 use tl_syntax::{Junction, NoMemory};
 
@@ -43,14 +44,14 @@ pub(crate) fn decides(nodes: &Nodes, id: usize, junction: Junction) -> bool
 /// Adds a part to those of a join. The constant that the join drops is left out.
 pub(crate) fn gather(
     nodes: &Nodes,
-    parts: &mut Vec<usize>,
+    parts: &mut Numbers,
     part: usize,
     junction: Junction,
 ) -> Result<(), NoMemory>
-    requires parts { all_below (length (trees nodes.now)) parts.old.items ≡ true }
+    requires parts { all_below (length (trees nodes.now)) parts.old ≡ true }
     requires part { part < length (trees nodes.now) }
-    ensures below { OnOk result (all_below (length (trees nodes.now)) parts.new.items ≡ true) }
-    ensures same { OnOk result (Gathers nodes.now junction parts.old.items part parts.new.items) }
+    ensures below { OnOk result (all_below (length (trees nodes.now)) parts.new ≡ true) }
+    ensures same { OnOk result (Gathers nodes.now junction parts.old part parts.new) }
 {
     if is_constant(nodes, part, !junction.deciding_truth()) {
         return Ok(());

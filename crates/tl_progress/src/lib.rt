@@ -6,10 +6,10 @@
 //! - `fault`: why a call gives no answer.
 //! - `known`: what a call has worked out.
 //! - `order`: the numbers that a call works out, parts before wholes.
-//! - `frames`: the values of a frame.
+//! - `frames`: the values of a frame, and `few_bindings`, as a few bindings in place.
 //! - `truth`: truth where a world is repeated for ever, under a frame.
 //! - `idling`: the idling check.
-//! - `parts`, `joins`: parts of joins, and joins of numbers.
+//! - `parts`, `joins`: parts of joins, and joins of numbers; `numbers`, those that a join gathers.
 //! - `substitution`, `remaining`: values put into what remains.
 //! - `quantifier`: a quantifier in its node, and its instances, one after another.
 //! - `residual`: what has to hold next, under a frame.
@@ -25,11 +25,13 @@ mod broken;
 mod changed;
 mod early;
 mod fault;
+mod few_bindings;
 mod frames;
 mod idling;
 mod joined;
 mod joins;
 mod known;
+mod numbers;
 mod order;
 mod parts;
 mod progression;

@@ -5,7 +5,8 @@ ghost use Rattle.tl_nodes.specs.Numbers.{trees, Denotes, filled_at};
 ghost use Rattle.tl_progress.specs.Remaining.{remaining_at, with_remaining, until_remaining, steps_left_at};
 ghost use Rattle.tl_progress.specs.Steps.{step_node};
 
-use crate::frames::frame_bindings;
+use crate::few_bindings::FewBindings;
+use crate::frames::{bindings_in, put_few};
 use crate::joins::{decides, join};
 use crate::substitution::put_in;
 use std::alloc::Global;
@@ -29,6 +30,26 @@ fn put_in_anew(
     Ok(number)
 }
 
+// The number of the tree with the values put in: the one that is remembered, or else a new one.
+fn filled(
+    alloc: Global,
+    nodes: &mut Nodes,
+    bindings: &[Binding],
+    at: usize,
+) -> Result<usize, NoMemory>
+    requires { at < length (trees nodes.old) }
+    ensures kept { Keeps (trees nodes.old) (trees nodes.new) }
+    ensures number { IfOk result (λ i. Denotes nodes.new i (filled_at nodes.old bindings.now at)) }
+{
+    if bindings.is_empty() {
+        return Ok(at);
+    }
+    match nodes.find_filled(at, bindings) {
+        Some(number) => Ok(number),
+        None => put_in_anew(alloc, nodes, bindings, at),
+    }
+}
+
 /// The number of the tree with the frame's values put in. It is made once, where it is remembered still.
 pub(crate) fn remaining(
     alloc: Global,
@@ -40,15 +61,13 @@ pub(crate) fn remaining(
     ensures kept { Keeps (trees nodes.old) (trees nodes.new) }
     ensures number { IfOk result (λ i. Denotes nodes.new i (remaining_at nodes.old env.now at)) }
 {
-    let bindings = frame_bindings(alloc, env)?;
-    if bindings.is_empty() {
-        return Ok(at);
+    let frame = env.saved();
+    let mut few = FewBindings::new();
+    if put_few(&mut few, &frame) {
+        return filled(alloc, nodes, few.as_slice(), at);
     }
-    let values = bindings.as_slice();
-    match nodes.find_filled(at, values) {
-        Some(number) => Ok(number),
-        None => put_in_anew(alloc, nodes, values, at),
-    }
+    let bindings = bindings_in(alloc, &frame)?;
+    filled(alloc, nodes, bindings.as_slice(), at)
 }
 
 /// The number of the join of a part and of what remains of a tree. Where the part decides, nothing is put in.

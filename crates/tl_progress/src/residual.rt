@@ -13,6 +13,7 @@ ghost use Rattle.tl_syntax.specs.StateFormulas.{IsState};
 use crate::ProgressFault;
 use crate::joins::{constant_number, decides, gather, join};
 use crate::known::Known;
+use crate::numbers::Numbers;
 use crate::parts::{part_at, part_count};
 use crate::quantifier::Quantifier;
 use crate::remaining::{remaining, until_remaining, with_fewer_steps, with_remaining};
@@ -192,7 +193,7 @@ fn join_residual(
     ensures cause { IfErr result (IsCausedBy (looked_for_residual_at task.now w.now env.old nodes.old at)) }
     ensures frame { env.new ≡ env.old }
 {
-    let mut answers = Vec::new(alloc);
+    let mut answers = Numbers::new(alloc);
     for i in 0..part_count(nodes, at) {
         let part = part_at(nodes, at, i);
         match residual_of(alloc, nodes, task, w, env, known, part) {
@@ -260,7 +261,7 @@ fn instances_residual(
     ensures cause { IfErr result (IsCausedBy (looked_for_residual_at task.now w.now env.old nodes.old quantifier.at)) }
     ensures others { AgreeElsewhere (vars_at nodes.old quantifier) (assignment_in env.new) (assignment_in env.old) }
 {
-    let mut answers = Vec::new(alloc);
+    let mut answers = Numbers::new(alloc);
     'tuples: while quantifier.put_next(nodes, task, w, env, tuples) {
         match residual_of(alloc, nodes, task, w, env, known, quantifier.part) {
             Ok(number) => {

@@ -18,8 +18,13 @@ use tl_nodes::{Node, Nodes};
 use tl_syntax::{Bound, Formula, Ids, Junction, Vars};
 use tl_world::{Task, World};
 
-// The truth of a basic formula.
-fn basic_truth(task: &Task, w: &World, env: &mut Env, f: &Formula) -> Result<bool, ProgressFault>
+/// The truth of a basic formula. It takes no memory.
+pub(crate) fn basic_truth(
+    task: &Task,
+    w: &World,
+    env: &mut Env,
+    f: &Formula,
+) -> Result<bool, ProgressFault>
     requires fits { FitsIn task.now (tree_of_formula f.now) }
     requires basic { is_basic (tree_of_formula f.now) ≡ true }
     ensures truth { IfOk result (λ b. b ≡ state_true_in task.now w.now env.old (tree_of_formula f.now)) }

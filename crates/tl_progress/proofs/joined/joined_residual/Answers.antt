@@ -17,13 +17,13 @@ use Rattle.tl_progress.proofs.joined.joined_residual.Goals as goal
 pub parts_residual-requires-clause-below : goal.parts_residual-requires-clause-below
 parts_residual-requires-clause-below c =
     let open_parts = rw c.in-Ok-Some.field-0-is at c.in-Ok-Some.ensures.parts in
-    subst (Each (IsBelow false (trees c.args.nodes.now) c.args.joined.at)) (sym c.as_slice.ensures.value) open_parts.below
+    subst (Each (IsBelow false (trees c.args.nodes.now) c.args.joined.at)) (sym c.as_slice.ensures) open_parts.below
 
 pub returns-in-Ok-Some-clause-number : goal.returns-in-Ok-Some-clause-number
 returns-in-Ok-Some-clause-number c =
     let open_parts = rw c.in-Ok-Some.field-0-is at c.in-Ok-Some.ensures.parts in
     subst (λ (f : FormulaTree). IfOk c.parts_residual.result (λ i. slice_get (trees c.parts_residual.new.nodes) i ≡ Some f))
-    (ap (λ (ids : List ℕ). simplified_join c.args.joined.junction (map (residual (plain_problem c.args.task.now.problem) c.args.w.now (assignment_in c.args.env.now)) (trees_at (trees c.args.nodes.now) ids))) c.as_slice.ensures.value ∙ open_parts.same)
+    (ap (λ (ids : List ℕ). simplified_join c.args.joined.junction (map (residual (plain_problem c.args.task.now.problem) c.args.w.now (assignment_in c.args.env.now)) (trees_at (trees c.args.nodes.now) ids))) c.as_slice.ensures ∙ open_parts.same)
     (subst (λ (v : List (Option Value)). IfOk c.parts_residual.result (λ i. slice_get (trees c.parts_residual.new.nodes) i ≡ Some (simplified_join c.args.joined.junction (map (residual (plain_problem c.args.task.now.problem) c.args.w.now (assignment_in v)) (trees_at (trees c.args.nodes.now) c.as_slice.result.now))))) c.open_parts.ensures.frame c.parts_residual.ensures.number)
 
 pub returns-in-Ok-Some-clause-cause : goal.returns-in-Ok-Some-clause-cause

@@ -18,8 +18,8 @@ use Rattle.tl_progress.proofs.joined.open_parts.Goals as goal
 pub loop-i-init : goal.loop-i-init
 loop-i-init c = record {
   frame = refl;
-  below = subst (Each (IsBelow false (trees c.args.nodes.now) c.args.joined.at)) (sym c.new-parts.ensures.items) tt;
-  passed = passed-none (plain_problem c.args.task.now.problem) c.args.w.now (assignment_in c.args.env.now) (trees c.args.nodes.now) c.args.joined.at c.args.joined.junction c.new-parts.result.items c.new-parts.ensures.items;
+  below = subst (Each (IsBelow false (trees c.args.nodes.now) c.args.joined.at)) (sym c.new-parts.ensures) tt;
+  passed = passed-none (plain_problem c.args.task.now.problem) c.args.w.now (assignment_in c.args.env.now) (trees c.args.nodes.now) c.args.joined.at c.args.joined.junction c.new-parts.result c.new-parts.ensures;
 }
 
 pub state_part-requires-clause-sentence : goal.state_part-requires-clause-sentence
@@ -35,13 +35,13 @@ loop-i-preserved-then-temporal c =
     let low = part-among false (trees c.args.nodes.now) c.args.joined.at c.args.joined.junction c.requires.join c.loop-i.i c.part_at-part.result c.part_at-part.ensures.smaller c.part_at-part.ensures.tree in
     record {
       frame = c.loop-i.invariant.frame;
-      below = each-more (IsBelow false (trees c.args.nodes.now) c.args.joined.at) c.loop-i.parts.items c.push.new.self.items c.part_at-part.result c.in_ok-push.ensures.items c.loop-i.invariant.below low;
-      passed = passed-open (plain_problem c.args.task.now.problem) c.args.w.now (assignment_in c.args.env.now) (trees c.args.nodes.now) c.args.joined.at c.args.joined.junction c.loop-i.parts.items c.loop-i.i c.part_at-part.result c.part_at-part.ensures.tree c.loop-i.invariant.passed c.push.new.self.items c.in_ok-push.ensures.items;
+      below = each-more (IsBelow false (trees c.args.nodes.now) c.args.joined.at) c.loop-i.parts c.push.new.self c.part_at-part.result c.in_ok-push.ensures c.loop-i.invariant.below low;
+      passed = passed-open (plain_problem c.args.task.now.problem) c.args.w.now (assignment_in c.args.env.now) (trees c.args.nodes.now) c.args.joined.at c.args.joined.junction c.loop-i.parts c.loop-i.i c.part_at-part.result c.part_at-part.ensures.tree c.loop-i.invariant.passed c.push.new.self c.in_ok-push.ensures;
     }
 
 pub returns-then-truth-stop-clause-decided : goal.returns-then-truth-stop-clause-decided
 returns-then-truth-stop-clause-decided c =
-    passed-decided (plain_problem c.args.task.now.problem) c.args.w.now (assignment_in c.args.env.now) (trees c.args.nodes.now) c.args.joined.at c.args.joined.junction c.loop-i.parts.items c.loop-i.i c.part_at-part.result c.part_at-part.ensures.tree c.loop-i.invariant.passed c.requires.join c.in-Ok.truth
+    passed-decided (plain_problem c.args.task.now.problem) c.args.w.now (assignment_in c.args.env.now) (trees c.args.nodes.now) c.args.joined.at c.args.joined.junction c.loop-i.parts c.loop-i.i c.part_at-part.result c.part_at-part.ensures.tree c.loop-i.invariant.passed c.requires.join c.in-Ok.truth
     (subst (λ (v : List (Option Value)). residual (plain_problem c.args.task.now.problem) c.args.w.now (assignment_in v) (tree_at (trees c.args.nodes.now) c.part_at-part.result) ≡ constant c.in-Ok.truth) c.loop-i.invariant.frame c.in-Ok.ensures.truth)
     (ap (λ (b : Bool). beq c.in-Ok.truth b) (sym c.deciding_truth-stop.ensures) ∙ c.if-truth-stop.true)
 
@@ -52,7 +52,7 @@ pub loop-i-preserved : goal.loop-i-preserved
 loop-i-preserved c = record {
   frame = c.state_part.ensures.frame ∙ c.loop-i.invariant.frame;
   below = c.loop-i.invariant.below;
-  passed = passed-on (plain_problem c.args.task.now.problem) c.args.w.now (assignment_in c.args.env.now) (trees c.args.nodes.now) c.args.joined.at c.args.joined.junction c.loop-i.parts.items c.loop-i.i c.part_at-part.result c.part_at-part.ensures.tree c.loop-i.invariant.passed c.in-Ok.truth
+  passed = passed-on (plain_problem c.args.task.now.problem) c.args.w.now (assignment_in c.args.env.now) (trees c.args.nodes.now) c.args.joined.at c.args.joined.junction c.loop-i.parts c.loop-i.i c.part_at-part.result c.part_at-part.ensures.tree c.loop-i.invariant.passed c.in-Ok.truth
       (subst (λ (v : List (Option Value)). residual (plain_problem c.args.task.now.problem) c.args.w.now (assignment_in v) (tree_at (trees c.args.nodes.now) c.part_at-part.result) ≡ constant c.in-Ok.truth) c.loop-i.invariant.frame c.in-Ok.ensures.truth)
       (ap (λ (b : Bool). beq c.in-Ok.truth b) (sym c.deciding_truth-stop.ensures) ∙ c.if-truth-stop.false);
 }
@@ -68,4 +68,4 @@ returns-in-Err-clause-frame c = c.state_part.ensures.frame ∙ c.loop-i.invarian
 
 pub returns-clause-parts : goal.returns-clause-parts
 returns-clause-parts c =
-    passed-all (plain_problem c.args.task.now.problem) c.args.w.now (assignment_in c.args.env.now) (trees c.args.nodes.now) c.args.joined.at c.args.joined.junction c.loop-i.parts.items c.loop-i.i (omega (arith, c.loop-i-test.false, c.part_count-i-end.ensures)) c.requires.join c.loop-i.invariant.below c.loop-i.invariant.passed
+    passed-all (plain_problem c.args.task.now.problem) c.args.w.now (assignment_in c.args.env.now) (trees c.args.nodes.now) c.args.joined.at c.args.joined.junction c.loop-i.parts c.loop-i.i (omega (arith, c.loop-i-test.false, c.part_count-i-end.ensures)) c.requires.join c.loop-i.invariant.below c.loop-i.invariant.passed

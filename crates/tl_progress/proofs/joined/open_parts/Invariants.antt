@@ -10,6 +10,6 @@ use Rattle.tl_progress.proofs.joined.open_parts.Given as goal
 abbrev pub invariant-loop-i : goal.invariant-loop-i
 invariant-loop-i l = record {
   frame : l.env ≡ l.fn.env;
-  below : Each (IsBelow false (trees l.nodes) l.joined.at) l.parts.items;
-  passed : Passed (plain_problem l.task.problem) l.w (assignment_in l.fn.env) (trees l.nodes) l.joined.at l.joined.junction l.parts.items l.i;
+  below : Each (IsBelow false (trees l.nodes) l.joined.at) l.parts;
+  passed : Passed (plain_problem l.task.problem) l.w (assignment_in l.fn.env) (trees l.nodes) l.joined.at l.joined.junction l.parts l.i;
 }

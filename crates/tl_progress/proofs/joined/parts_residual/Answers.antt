@@ -26,7 +26,7 @@ loop-part-init c = record {
   kept = λ i f h. h;
   found = c.requires.found;
   elsewhere = λ m k o. refl;
-  passed = gather-begun c.args.joined.junction (trees c.args.nodes.now) c.new-answers.result.items (map (residual (plain_problem c.args.task.now.problem) c.args.w.now (assignment_in c.args.env.now)) (trees_at (trees c.args.nodes.now) c.args.parts.now)) c.new-answers.ensures.items;
+  passed = gather-begun c.args.joined.junction (trees c.args.nodes.now) c.new-answers.result (map (residual (plain_problem c.args.task.now.problem) c.args.w.now (assignment_in c.args.env.now)) (trees_at (trees c.args.nodes.now) c.args.parts.now)) c.new-answers.ensures;
 }
 
 pub kept_residual-requires : goal.kept_residual-requires
@@ -53,8 +53,8 @@ returns-then-decides-clause-number c =
     let under = low.under in
     let inside : get_or c.args.parts.now c.loop-part.part-index 0 < length (trees c.args.nodes.now) = omega (arith, under, c.requires.at) in
     let same = stays (trees c.args.nodes.now) (trees c.loop-part.nodes) c.loop-part.invariant.kept (get_or c.args.parts.now c.loop-part.part-index 0) inside in
-    gather-decided c.args.joined.junction (trees c.loop-part.nodes) (trees c.kept_residual.new.nodes) c.in-Ok.ensures.kept c.loop-part.answers.items ((residual (plain_problem c.args.task.now.problem) c.args.w.now (assignment_in c.args.env.now)) (tree_at (trees c.args.nodes.now) (get_or c.args.parts.now c.loop-part.part-index 0))) (map (residual (plain_problem c.args.task.now.problem) c.args.w.now (assignment_in c.args.env.now)) (trees_at (trees c.args.nodes.now) (drop (c.loop-part.part-index + 1) c.args.parts.now))) (map (residual (plain_problem c.args.task.now.problem) c.args.w.now (assignment_in c.args.env.now)) (trees_at (trees c.args.nodes.now) c.args.parts.now))
-    (subst (λ (fs : List FormulaTree). Gathered c.args.joined.junction (trees c.loop-part.nodes) c.loop-part.answers.items fs (map (residual (plain_problem c.args.task.now.problem) c.args.w.now (assignment_in c.args.env.now)) (trees_at (trees c.args.nodes.now) c.args.parts.now))) (ids-next (plain_problem c.args.task.now.problem) c.args.w.now (assignment_in c.args.env.now) (trees c.args.nodes.now) c.args.parts.now c.loop-part.part-index c.loop-part-test.true) c.loop-part.invariant.passed) c.in-Ok.answer
+    gather-decided c.args.joined.junction (trees c.loop-part.nodes) (trees c.kept_residual.new.nodes) c.in-Ok.ensures.kept c.loop-part.answers ((residual (plain_problem c.args.task.now.problem) c.args.w.now (assignment_in c.args.env.now)) (tree_at (trees c.args.nodes.now) (get_or c.args.parts.now c.loop-part.part-index 0))) (map (residual (plain_problem c.args.task.now.problem) c.args.w.now (assignment_in c.args.env.now)) (trees_at (trees c.args.nodes.now) (drop (c.loop-part.part-index + 1) c.args.parts.now))) (map (residual (plain_problem c.args.task.now.problem) c.args.w.now (assignment_in c.args.env.now)) (trees_at (trees c.args.nodes.now) c.args.parts.now))
+    (subst (λ (fs : List FormulaTree). Gathered c.args.joined.junction (trees c.loop-part.nodes) c.loop-part.answers fs (map (residual (plain_problem c.args.task.now.problem) c.args.w.now (assignment_in c.args.env.now)) (trees_at (trees c.args.nodes.now) c.args.parts.now))) (ids-next (plain_problem c.args.task.now.problem) c.args.w.now (assignment_in c.args.env.now) (trees c.args.nodes.now) c.args.parts.now c.loop-part.part-index c.loop-part-test.true) c.loop-part.invariant.passed) c.in-Ok.answer
     (subst (λ (f : FormulaTree). slice_get (trees c.kept_residual.new.nodes) c.in-Ok.answer ≡ Some (residual (plain_problem c.args.task.now.problem) c.args.w.now (assignment_in c.args.env.now) f)) same (subst (λ (v : List (Option Value)). slice_get (trees c.kept_residual.new.nodes) c.in-Ok.answer ≡ Some (residual (plain_problem c.args.task.now.problem) c.args.w.now (assignment_in v) (tree_at (trees c.loop-part.nodes) (get_or c.args.parts.now c.loop-part.part-index 0)))) c.loop-part.invariant.frame c.in-Ok.ensures.number))
     (c.decides.ensures c.if-decides.true)
 
@@ -71,8 +71,8 @@ gather-requires c =
     let inside : get_or c.args.parts.now c.loop-part.part-index 0 < length (trees c.args.nodes.now) = omega (arith, under, c.requires.at) in
     let same = stays (trees c.args.nodes.now) (trees c.loop-part.nodes) c.loop-part.invariant.kept (get_or c.args.parts.now c.loop-part.part-index 0) inside in
     record {
-      parts = below-still c.args.joined.junction (trees c.loop-part.nodes) (trees c.kept_residual.new.nodes) c.in-Ok.ensures.kept c.loop-part.answers.items ((residual (plain_problem c.args.task.now.problem) c.args.w.now (assignment_in c.args.env.now)) (tree_at (trees c.args.nodes.now) (get_or c.args.parts.now c.loop-part.part-index 0))) (map (residual (plain_problem c.args.task.now.problem) c.args.w.now (assignment_in c.args.env.now)) (trees_at (trees c.args.nodes.now) (drop (c.loop-part.part-index + 1) c.args.parts.now))) (map (residual (plain_problem c.args.task.now.problem) c.args.w.now (assignment_in c.args.env.now)) (trees_at (trees c.args.nodes.now) c.args.parts.now))
-          (subst (λ (fs : List FormulaTree). Gathered c.args.joined.junction (trees c.loop-part.nodes) c.loop-part.answers.items fs (map (residual (plain_problem c.args.task.now.problem) c.args.w.now (assignment_in c.args.env.now)) (trees_at (trees c.args.nodes.now) c.args.parts.now))) (ids-next (plain_problem c.args.task.now.problem) c.args.w.now (assignment_in c.args.env.now) (trees c.args.nodes.now) c.args.parts.now c.loop-part.part-index c.loop-part-test.true) c.loop-part.invariant.passed) c.in-Ok.answer
+      parts = below-still c.args.joined.junction (trees c.loop-part.nodes) (trees c.kept_residual.new.nodes) c.in-Ok.ensures.kept c.loop-part.answers ((residual (plain_problem c.args.task.now.problem) c.args.w.now (assignment_in c.args.env.now)) (tree_at (trees c.args.nodes.now) (get_or c.args.parts.now c.loop-part.part-index 0))) (map (residual (plain_problem c.args.task.now.problem) c.args.w.now (assignment_in c.args.env.now)) (trees_at (trees c.args.nodes.now) (drop (c.loop-part.part-index + 1) c.args.parts.now))) (map (residual (plain_problem c.args.task.now.problem) c.args.w.now (assignment_in c.args.env.now)) (trees_at (trees c.args.nodes.now) c.args.parts.now))
+          (subst (λ (fs : List FormulaTree). Gathered c.args.joined.junction (trees c.loop-part.nodes) c.loop-part.answers fs (map (residual (plain_problem c.args.task.now.problem) c.args.w.now (assignment_in c.args.env.now)) (trees_at (trees c.args.nodes.now) c.args.parts.now))) (ids-next (plain_problem c.args.task.now.problem) c.args.w.now (assignment_in c.args.env.now) (trees c.args.nodes.now) c.args.parts.now c.loop-part.part-index c.loop-part-test.true) c.loop-part.invariant.passed) c.in-Ok.answer
           (subst (λ (f : FormulaTree). slice_get (trees c.kept_residual.new.nodes) c.in-Ok.answer ≡ Some (residual (plain_problem c.args.task.now.problem) c.args.w.now (assignment_in c.args.env.now) f)) same (subst (λ (v : List (Option Value)). slice_get (trees c.kept_residual.new.nodes) c.in-Ok.answer ≡ Some (residual (plain_problem c.args.task.now.problem) c.args.w.now (assignment_in v) (tree_at (trees c.loop-part.nodes) (get_or c.args.parts.now c.loop-part.part-index 0)))) c.loop-part.invariant.frame c.in-Ok.ensures.number));
       part = slice_get_within (trees c.kept_residual.new.nodes) c.in-Ok.answer _ c.in-Ok.ensures.number;
     }
@@ -88,10 +88,10 @@ loop-part-preserved c =
       kept = λ i f h. c.in-Ok.ensures.kept i f (c.loop-part.invariant.kept i f h);
       found = c.in-Ok.ensures.found;
       elsewhere = λ m k o. c.in-Ok.ensures.elsewhere m k o ∙ c.loop-part.invariant.elsewhere m k o;
-      passed = gather-on c.args.joined.junction (trees c.loop-part.nodes) (trees c.kept_residual.new.nodes) c.in-Ok.ensures.kept c.loop-part.answers.items ((residual (plain_problem c.args.task.now.problem) c.args.w.now (assignment_in c.args.env.now)) (tree_at (trees c.args.nodes.now) (get_or c.args.parts.now c.loop-part.part-index 0))) (map (residual (plain_problem c.args.task.now.problem) c.args.w.now (assignment_in c.args.env.now)) (trees_at (trees c.args.nodes.now) (drop (c.loop-part.part-index + 1) c.args.parts.now))) (map (residual (plain_problem c.args.task.now.problem) c.args.w.now (assignment_in c.args.env.now)) (trees_at (trees c.args.nodes.now) c.args.parts.now))
-          (subst (λ (fs : List FormulaTree). Gathered c.args.joined.junction (trees c.loop-part.nodes) c.loop-part.answers.items fs (map (residual (plain_problem c.args.task.now.problem) c.args.w.now (assignment_in c.args.env.now)) (trees_at (trees c.args.nodes.now) c.args.parts.now))) (ids-next (plain_problem c.args.task.now.problem) c.args.w.now (assignment_in c.args.env.now) (trees c.args.nodes.now) c.args.parts.now c.loop-part.part-index c.loop-part-test.true) c.loop-part.invariant.passed) c.in-Ok.answer
+      passed = gather-on c.args.joined.junction (trees c.loop-part.nodes) (trees c.kept_residual.new.nodes) c.in-Ok.ensures.kept c.loop-part.answers ((residual (plain_problem c.args.task.now.problem) c.args.w.now (assignment_in c.args.env.now)) (tree_at (trees c.args.nodes.now) (get_or c.args.parts.now c.loop-part.part-index 0))) (map (residual (plain_problem c.args.task.now.problem) c.args.w.now (assignment_in c.args.env.now)) (trees_at (trees c.args.nodes.now) (drop (c.loop-part.part-index + 1) c.args.parts.now))) (map (residual (plain_problem c.args.task.now.problem) c.args.w.now (assignment_in c.args.env.now)) (trees_at (trees c.args.nodes.now) c.args.parts.now))
+          (subst (λ (fs : List FormulaTree). Gathered c.args.joined.junction (trees c.loop-part.nodes) c.loop-part.answers fs (map (residual (plain_problem c.args.task.now.problem) c.args.w.now (assignment_in c.args.env.now)) (trees_at (trees c.args.nodes.now) c.args.parts.now))) (ids-next (plain_problem c.args.task.now.problem) c.args.w.now (assignment_in c.args.env.now) (trees c.args.nodes.now) c.args.parts.now c.loop-part.part-index c.loop-part-test.true) c.loop-part.invariant.passed) c.in-Ok.answer
           (subst (λ (f : FormulaTree). slice_get (trees c.kept_residual.new.nodes) c.in-Ok.answer ≡ Some (residual (plain_problem c.args.task.now.problem) c.args.w.now (assignment_in c.args.env.now) f)) same (subst (λ (v : List (Option Value)). slice_get (trees c.kept_residual.new.nodes) c.in-Ok.answer ≡ Some (residual (plain_problem c.args.task.now.problem) c.args.w.now (assignment_in v) (tree_at (trees c.loop-part.nodes) (get_or c.args.parts.now c.loop-part.part-index 0)))) c.loop-part.invariant.frame c.in-Ok.ensures.number))
-          c.gather.new.parts.items c.in_ok-gather-in-Ok.ensures.below c.in_ok-gather-in-Ok.ensures.same;
+          c.gather.new.parts c.in_ok-gather-in-Ok.ensures.below c.in_ok-gather-in-Ok.ensures.same;
     }
 
 pub returns-in_err-gather-in-Ok-clause-kept : goal.returns-in_err-gather-in-Ok-clause-kept
@@ -123,15 +123,15 @@ pub returns-in-Err-clause-frame : goal.returns-in-Err-clause-frame
 returns-in-Err-clause-frame c = c.kept_residual.ensures.frame ∙ c.loop-part.invariant.frame
 
 pub join-requires : goal.join-requires
-join-requires c = subst (λ (ids : List ℕ). all_below (length (trees c.loop-part.nodes)) ids ≡ true) (sym c.as_slice.ensures.value) c.loop-part.invariant.passed.below
+join-requires c = subst (λ (ids : List ℕ). all_below (length (trees c.loop-part.nodes)) ids ≡ true) (sym c.as_slice.ensures) c.loop-part.invariant.passed.below
 
 pub returns-clause-kept : goal.returns-clause-kept
 returns-clause-kept c = λ i f h. c.in_ok-number.ensures.kept i f (c.loop-part.invariant.kept i f h)
 
 pub returns-clause-number : goal.returns-clause-number
 returns-clause-number c =
-    c.in_ok-number.ensures.number ∙ ap (λ (f : FormulaTree). Some f) (ap (λ (ids : List ℕ). simplified_join c.args.joined.junction (trees_at (trees c.loop-part.nodes) ids)) c.as_slice.ensures.value
-    ∙ gather-end c.args.joined.junction (trees c.loop-part.nodes) c.loop-part.answers.items (map (residual (plain_problem c.args.task.now.problem) c.args.w.now (assignment_in c.args.env.now)) (trees_at (trees c.args.nodes.now) (drop c.loop-part.part-index c.args.parts.now))) (map (residual (plain_problem c.args.task.now.problem) c.args.w.now (assignment_in c.args.env.now)) (trees_at (trees c.args.nodes.now) c.args.parts.now)) c.loop-part.invariant.passed (ids-done (plain_problem c.args.task.now.problem) c.args.w.now (assignment_in c.args.env.now) (trees c.args.nodes.now) c.args.parts.now c.loop-part.part-index (omega (arith, c.loop-part-test.false))))
+    c.in_ok-number.ensures.number ∙ ap (λ (f : FormulaTree). Some f) (ap (λ (ids : List ℕ). simplified_join c.args.joined.junction (trees_at (trees c.loop-part.nodes) ids)) c.as_slice.ensures
+    ∙ gather-end c.args.joined.junction (trees c.loop-part.nodes) c.loop-part.answers (map (residual (plain_problem c.args.task.now.problem) c.args.w.now (assignment_in c.args.env.now)) (trees_at (trees c.args.nodes.now) (drop c.loop-part.part-index c.args.parts.now))) (map (residual (plain_problem c.args.task.now.problem) c.args.w.now (assignment_in c.args.env.now)) (trees_at (trees c.args.nodes.now) c.args.parts.now)) c.loop-part.invariant.passed (ids-done (plain_problem c.args.task.now.problem) c.args.w.now (assignment_in c.args.env.now) (trees c.args.nodes.now) c.args.parts.now c.loop-part.part-index (omega (arith, c.loop-part-test.false))))
 
 pub returns-clause-found : goal.returns-clause-found
 returns-clause-found c = residuals-still (plain_problem c.args.task.now.problem) c.args.w.now (trees c.loop-part.nodes) (trees c.join.new.nodes) c.in_ok-number.ensures.kept (found_in c.loop-part.residuals c.args.joined.world) c.loop-part.invariant.found

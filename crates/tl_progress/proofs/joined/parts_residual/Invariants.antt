@@ -16,6 +16,6 @@ invariant-loop-part l = record {
   kept : Keeps (trees l.fn.nodes) (trees l.nodes);
   found : AreResiduals (plain_problem l.task.problem) l.w (trees l.nodes) (found_in l.residuals l.joined.world);
   elsewhere : StaysElsewhere l.joined.world l.fn.residuals l.residuals;
-  passed : Gathered l.joined.junction (trees l.nodes) l.answers.items (map (residual (plain_problem l.task.problem) l.w (assignment_in l.fn.env)) (trees_at (trees l.fn.nodes) (drop l.part-index l.parts)))
+  passed : Gathered l.joined.junction (trees l.nodes) l.answers (map (residual (plain_problem l.task.problem) l.w (assignment_in l.fn.env)) (trees_at (trees l.fn.nodes) (drop l.part-index l.parts)))
       (map (residual (plain_problem l.task.problem) l.w (assignment_in l.fn.env)) (trees_at (trees l.fn.nodes) l.parts));
 }

@@ -4,6 +4,7 @@ use Rattle.tl_eval.specs.Frames.{assignment_in}
 use Rattle.tl_nodes.specs.NodeTrees.{tree_at}
 use Rattle.tl_nodes.specs.Numbers.{trees}
 use Rattle.tl_syntax.specs.Assignment.{Assignment}
+use Rattle.tl_syntax.specs.Signature.{signature_of}
 use Rattle.tl_syntax.specs.StateFormulas.{IsState}
 use Rattle.tl_syntax.specs.Trees.{FormulaTree}
 use Rattle.tl_terms.specs.Operations.{Operation}
@@ -13,13 +14,31 @@ use Rattle.tl_terms.specs.Progression.{constant}
 use Rattle.tl_terms.specs.World.{World}
 use Rattle.tl_progress.specs.declared.fault.ProgressFault.{ProgressFault}
 use Rattle.tl_progress.specs.Answers.{IsCausedBy, idly_true, residual}
+use Rattle.tl_progress.specs.Sentences.{FitsSomewhere}
 use Rattle.tl_progress.proofs.StateFormulas.{constant-next, looked-same}
+use Rattle.tl_progress.proofs.TruthLayers.{shown-Basic, basic-in, idle-Basic, looked-Basic}
 use Rattle.tl_progress.proofs.joined.state_part.Goals as goal
 
 -- the truth is the constant that is left
 leaves : (p : PlainProblem) (w : World) (e : Assignment) (f : FormulaTree) → IsState f → (r : Result Bool ProgressFault) → IfOk r (λ b. b ≡ idly_true p w e f) → IfOk r (λ b. residual p w e f ≡ constant b)
 leaves p w e f state (Ok b) h = sym (constant-next p w e f b state h)
 leaves p w e f state (Err x) h = tt
+
+pub basic_truth-requires-clause-fits : goal.basic_truth-requires-clause-fits
+basic_truth-requires-clause-fits c = subst (FitsSomewhere (signature_of c.args.task.now.problem.domain)) (shown-Basic (trees c.args.nodes.now) c.args.part c.get.result.now c.get.ensures.tree c.in-Basic.f c.in-Basic.is) (record { around = []; fits = c.requires.sentence.fits })
+
+pub basic_truth-requires-clause-basic : goal.basic_truth-requires-clause-basic
+basic_truth-requires-clause-basic c = basic-in (trees c.args.nodes.now) c.args.part c.get.result.now c.get.ensures.tree c.get.ensures.parts c.in-Basic.f c.in-Basic.is
+
+pub returns-in-Basic-clause-truth : goal.returns-in-Basic-clause-truth
+returns-in-Basic-clause-truth c =
+    leaves (plain_problem c.args.task.now.problem) c.args.w.now (assignment_in c.args.env.now) (tree_at (trees c.args.nodes.now) c.args.part) c.requires.state c.basic_truth.result
+    (subst (λ (x : Bool). IfOk c.basic_truth.result (λ b. b ≡ x)) (idle-Basic (trees c.args.nodes.now) c.args.part c.get.result.now c.get.ensures.tree (plain_problem c.args.task.now.problem) c.args.w.now (assignment_in c.args.env.now) c.get.ensures.parts c.in-Basic.f c.in-Basic.is) c.basic_truth.ensures.truth)
+
+pub returns-in-Basic-clause-cause : goal.returns-in-Basic-clause-cause
+returns-in-Basic-clause-cause c =
+    subst (λ (x : List Operation). IfErr c.basic_truth.result (IsCausedBy x))
+    (looked-Basic (trees c.args.nodes.now) c.args.part c.get.result.now c.get.ensures.tree (plain_problem c.args.task.now.problem) c.args.w.now (assignment_in c.args.env.now) c.get.ensures.parts c.in-Basic.f c.in-Basic.is ∙ looked-same (plain_problem c.args.task.now.problem) c.args.w.now (assignment_in c.args.env.now) (tree_at (trees c.args.nodes.now) c.args.part) c.requires.state) c.basic_truth.ensures.cause
 
 pub truth_of-requires-clause-fits : goal.truth_of-requires-clause-fits
 truth_of-requires-clause-fits c = record { around = []; fits = c.requires.sentence.fits }

@@ -264,7 +264,7 @@ layer_residual-quantifier_residual-requires-in-Exists t c =
 -- ---- the parts of a join
 
 pub join_residual-loop-i-init : goal.join_residual-loop-i-init
-join_residual-loop-i-init t c = record { frame = refl; kept = λ i f h. h; passed = gather-begun c.args.junction (trees c.args.nodes.now) _ (map (residual (plain_problem c.args.task.now.problem) c.args.w.now (assignment_in c.args.env.now)) (join_parts (tree_at (trees c.args.nodes.now) c.args.at))) c.new-answers.ensures.items }
+join_residual-loop-i-init t c = record { frame = refl; kept = λ i f h. h; passed = gather-begun c.args.junction (trees c.args.nodes.now) _ (map (residual (plain_problem c.args.task.now.problem) c.args.w.now (assignment_in c.args.env.now)) (join_parts (tree_at (trees c.args.nodes.now) c.args.at))) c.new-answers.ensures }
 
 pub join_residual-part_at-part-requires : goal.join_residual-part_at-part-requires
 join_residual-part_at-part-requires t c = record {
@@ -292,7 +292,7 @@ join_residual-returns-then-decides-clause-number t c =
     let part : c.part_at-part.result < length (trees c.args.nodes.now) = omega (arith, less, c.requires.at) in
     let there = subst (λ (f : FormulaTree). slice_get (join_parts f) c.loop-i.i ≡ Some (tree_at (trees c.loop-i.nodes) c.part_at-part.result)) (stays (trees c.args.nodes.now) (trees c.loop-i.nodes) c.loop-i.invariant.kept c.args.at c.requires.at) c.part_at-part.ensures.tree ∙ ap Some (stays (trees c.args.nodes.now) (trees c.loop-i.nodes) c.loop-i.invariant.kept c.part_at-part.result part) in
     let low = part-among false (trees c.args.nodes.now) c.args.at c.args.junction c.requires.join c.loop-i.i c.part_at-part.result less there in
-    gather-decided c.args.junction (trees c.loop-i.nodes) (trees c.residual_of.new.nodes) c.in-Ok.ensures.kept c.loop-i.answers.items ((residual (plain_problem c.args.task.now.problem) c.args.w.now (assignment_in c.args.env.now)) (tree_at (trees c.args.nodes.now) c.part_at-part.result)) (map (residual (plain_problem c.args.task.now.problem) c.args.w.now (assignment_in c.args.env.now)) (drop (c.loop-i.i + 1) (join_parts (tree_at (trees c.args.nodes.now) c.args.at)))) (map (residual (plain_problem c.args.task.now.problem) c.args.w.now (assignment_in c.args.env.now)) (join_parts (tree_at (trees c.args.nodes.now) c.args.at))) (subst (λ (fs : List FormulaTree). Gathered c.args.junction (trees c.loop-i.nodes) c.loop-i.answers.items fs (map (residual (plain_problem c.args.task.now.problem) c.args.w.now (assignment_in c.args.env.now)) (join_parts (tree_at (trees c.args.nodes.now) c.args.at)))) (part-next (residual (plain_problem c.args.task.now.problem) c.args.w.now (assignment_in c.args.env.now)) (join_parts (tree_at (trees c.args.nodes.now) c.args.at)) c.loop-i.i (tree_at (trees c.args.nodes.now) c.part_at-part.result) there) c.loop-i.invariant.passed) c.in-Ok.answer (subst (λ (f : FormulaTree). slice_get (trees c.residual_of.new.nodes) c.in-Ok.answer ≡ Some (residual (plain_problem c.args.task.now.problem) c.args.w.now (assignment_in c.args.env.now) f)) (stays (trees c.args.nodes.now) (trees c.loop-i.nodes) c.loop-i.invariant.kept c.part_at-part.result part) (subst (λ (v : List (Option Value)). slice_get (trees c.residual_of.new.nodes) c.in-Ok.answer ≡ Some (residual (plain_problem c.args.task.now.problem) c.args.w.now (assignment_in v) (tree_at (trees c.loop-i.nodes) c.part_at-part.result))) c.loop-i.invariant.frame c.in-Ok.ensures.number)) (c.decides.ensures c.if-decides.true) ∙ ap (λ (f : FormulaTree). Some f) (join-next (plain_problem c.args.task.now.problem) c.args.w.now (assignment_in c.args.env.now) c.args.junction (tree_at (trees c.args.nodes.now) c.args.at) c.requires.join)
+    gather-decided c.args.junction (trees c.loop-i.nodes) (trees c.residual_of.new.nodes) c.in-Ok.ensures.kept c.loop-i.answers ((residual (plain_problem c.args.task.now.problem) c.args.w.now (assignment_in c.args.env.now)) (tree_at (trees c.args.nodes.now) c.part_at-part.result)) (map (residual (plain_problem c.args.task.now.problem) c.args.w.now (assignment_in c.args.env.now)) (drop (c.loop-i.i + 1) (join_parts (tree_at (trees c.args.nodes.now) c.args.at)))) (map (residual (plain_problem c.args.task.now.problem) c.args.w.now (assignment_in c.args.env.now)) (join_parts (tree_at (trees c.args.nodes.now) c.args.at))) (subst (λ (fs : List FormulaTree). Gathered c.args.junction (trees c.loop-i.nodes) c.loop-i.answers fs (map (residual (plain_problem c.args.task.now.problem) c.args.w.now (assignment_in c.args.env.now)) (join_parts (tree_at (trees c.args.nodes.now) c.args.at)))) (part-next (residual (plain_problem c.args.task.now.problem) c.args.w.now (assignment_in c.args.env.now)) (join_parts (tree_at (trees c.args.nodes.now) c.args.at)) c.loop-i.i (tree_at (trees c.args.nodes.now) c.part_at-part.result) there) c.loop-i.invariant.passed) c.in-Ok.answer (subst (λ (f : FormulaTree). slice_get (trees c.residual_of.new.nodes) c.in-Ok.answer ≡ Some (residual (plain_problem c.args.task.now.problem) c.args.w.now (assignment_in c.args.env.now) f)) (stays (trees c.args.nodes.now) (trees c.loop-i.nodes) c.loop-i.invariant.kept c.part_at-part.result part) (subst (λ (v : List (Option Value)). slice_get (trees c.residual_of.new.nodes) c.in-Ok.answer ≡ Some (residual (plain_problem c.args.task.now.problem) c.args.w.now (assignment_in v) (tree_at (trees c.loop-i.nodes) c.part_at-part.result))) c.loop-i.invariant.frame c.in-Ok.ensures.number)) (c.decides.ensures c.if-decides.true) ∙ ap (λ (f : FormulaTree). Some f) (join-next (plain_problem c.args.task.now.problem) c.args.w.now (assignment_in c.args.env.now) c.args.junction (tree_at (trees c.args.nodes.now) c.args.at) c.requires.join)
 
 pub join_residual-returns-then-decides-clause-frame : goal.join_residual-returns-then-decides-clause-frame
 join_residual-returns-then-decides-clause-frame t c = c.residual_of.ensures.frame ∙ c.loop-i.invariant.frame
@@ -304,7 +304,7 @@ join_residual-gather-requires t c = record {
       let part : c.part_at-part.result < length (trees c.args.nodes.now) = omega (arith, less, c.requires.at) in
       let there = subst (λ (f : FormulaTree). slice_get (join_parts f) c.loop-i.i ≡ Some (tree_at (trees c.loop-i.nodes) c.part_at-part.result)) (stays (trees c.args.nodes.now) (trees c.loop-i.nodes) c.loop-i.invariant.kept c.args.at c.requires.at) c.part_at-part.ensures.tree ∙ ap Some (stays (trees c.args.nodes.now) (trees c.loop-i.nodes) c.loop-i.invariant.kept c.part_at-part.result part) in
       let low = part-among false (trees c.args.nodes.now) c.args.at c.args.junction c.requires.join c.loop-i.i c.part_at-part.result less there in
-      below-still c.args.junction (trees c.loop-i.nodes) (trees c.residual_of.new.nodes) c.in-Ok.ensures.kept c.loop-i.answers.items ((residual (plain_problem c.args.task.now.problem) c.args.w.now (assignment_in c.args.env.now)) (tree_at (trees c.args.nodes.now) c.part_at-part.result)) (map (residual (plain_problem c.args.task.now.problem) c.args.w.now (assignment_in c.args.env.now)) (drop (c.loop-i.i + 1) (join_parts (tree_at (trees c.args.nodes.now) c.args.at)))) (map (residual (plain_problem c.args.task.now.problem) c.args.w.now (assignment_in c.args.env.now)) (join_parts (tree_at (trees c.args.nodes.now) c.args.at))) (subst (λ (fs : List FormulaTree). Gathered c.args.junction (trees c.loop-i.nodes) c.loop-i.answers.items fs (map (residual (plain_problem c.args.task.now.problem) c.args.w.now (assignment_in c.args.env.now)) (join_parts (tree_at (trees c.args.nodes.now) c.args.at)))) (part-next (residual (plain_problem c.args.task.now.problem) c.args.w.now (assignment_in c.args.env.now)) (join_parts (tree_at (trees c.args.nodes.now) c.args.at)) c.loop-i.i (tree_at (trees c.args.nodes.now) c.part_at-part.result) there) c.loop-i.invariant.passed) c.in-Ok.answer (subst (λ (f : FormulaTree). slice_get (trees c.residual_of.new.nodes) c.in-Ok.answer ≡ Some (residual (plain_problem c.args.task.now.problem) c.args.w.now (assignment_in c.args.env.now) f)) (stays (trees c.args.nodes.now) (trees c.loop-i.nodes) c.loop-i.invariant.kept c.part_at-part.result part) (subst (λ (v : List (Option Value)). slice_get (trees c.residual_of.new.nodes) c.in-Ok.answer ≡ Some (residual (plain_problem c.args.task.now.problem) c.args.w.now (assignment_in v) (tree_at (trees c.loop-i.nodes) c.part_at-part.result))) c.loop-i.invariant.frame c.in-Ok.ensures.number));
+      below-still c.args.junction (trees c.loop-i.nodes) (trees c.residual_of.new.nodes) c.in-Ok.ensures.kept c.loop-i.answers ((residual (plain_problem c.args.task.now.problem) c.args.w.now (assignment_in c.args.env.now)) (tree_at (trees c.args.nodes.now) c.part_at-part.result)) (map (residual (plain_problem c.args.task.now.problem) c.args.w.now (assignment_in c.args.env.now)) (drop (c.loop-i.i + 1) (join_parts (tree_at (trees c.args.nodes.now) c.args.at)))) (map (residual (plain_problem c.args.task.now.problem) c.args.w.now (assignment_in c.args.env.now)) (join_parts (tree_at (trees c.args.nodes.now) c.args.at))) (subst (λ (fs : List FormulaTree). Gathered c.args.junction (trees c.loop-i.nodes) c.loop-i.answers fs (map (residual (plain_problem c.args.task.now.problem) c.args.w.now (assignment_in c.args.env.now)) (join_parts (tree_at (trees c.args.nodes.now) c.args.at)))) (part-next (residual (plain_problem c.args.task.now.problem) c.args.w.now (assignment_in c.args.env.now)) (join_parts (tree_at (trees c.args.nodes.now) c.args.at)) c.loop-i.i (tree_at (trees c.args.nodes.now) c.part_at-part.result) there) c.loop-i.invariant.passed) c.in-Ok.answer (subst (λ (f : FormulaTree). slice_get (trees c.residual_of.new.nodes) c.in-Ok.answer ≡ Some (residual (plain_problem c.args.task.now.problem) c.args.w.now (assignment_in c.args.env.now) f)) (stays (trees c.args.nodes.now) (trees c.loop-i.nodes) c.loop-i.invariant.kept c.part_at-part.result part) (subst (λ (v : List (Option Value)). slice_get (trees c.residual_of.new.nodes) c.in-Ok.answer ≡ Some (residual (plain_problem c.args.task.now.problem) c.args.w.now (assignment_in v) (tree_at (trees c.loop-i.nodes) c.part_at-part.result))) c.loop-i.invariant.frame c.in-Ok.ensures.number));
   part = slice_get_within (trees c.residual_of.new.nodes) c.in-Ok.answer _ c.in-Ok.ensures.number;
 }
 
@@ -317,7 +317,7 @@ join_residual-loop-i-preserved t c =
     record {
       frame = c.residual_of.ensures.frame ∙ c.loop-i.invariant.frame;
       kept = λ i f h. c.in-Ok.ensures.kept i f (c.loop-i.invariant.kept i f h);
-      passed = gather-on c.args.junction (trees c.loop-i.nodes) (trees c.residual_of.new.nodes) c.in-Ok.ensures.kept c.loop-i.answers.items ((residual (plain_problem c.args.task.now.problem) c.args.w.now (assignment_in c.args.env.now)) (tree_at (trees c.args.nodes.now) c.part_at-part.result)) (map (residual (plain_problem c.args.task.now.problem) c.args.w.now (assignment_in c.args.env.now)) (drop (c.loop-i.i + 1) (join_parts (tree_at (trees c.args.nodes.now) c.args.at)))) (map (residual (plain_problem c.args.task.now.problem) c.args.w.now (assignment_in c.args.env.now)) (join_parts (tree_at (trees c.args.nodes.now) c.args.at))) (subst (λ (fs : List FormulaTree). Gathered c.args.junction (trees c.loop-i.nodes) c.loop-i.answers.items fs (map (residual (plain_problem c.args.task.now.problem) c.args.w.now (assignment_in c.args.env.now)) (join_parts (tree_at (trees c.args.nodes.now) c.args.at)))) (part-next (residual (plain_problem c.args.task.now.problem) c.args.w.now (assignment_in c.args.env.now)) (join_parts (tree_at (trees c.args.nodes.now) c.args.at)) c.loop-i.i (tree_at (trees c.args.nodes.now) c.part_at-part.result) there) c.loop-i.invariant.passed) c.in-Ok.answer (subst (λ (f : FormulaTree). slice_get (trees c.residual_of.new.nodes) c.in-Ok.answer ≡ Some (residual (plain_problem c.args.task.now.problem) c.args.w.now (assignment_in c.args.env.now) f)) (stays (trees c.args.nodes.now) (trees c.loop-i.nodes) c.loop-i.invariant.kept c.part_at-part.result part) (subst (λ (v : List (Option Value)). slice_get (trees c.residual_of.new.nodes) c.in-Ok.answer ≡ Some (residual (plain_problem c.args.task.now.problem) c.args.w.now (assignment_in v) (tree_at (trees c.loop-i.nodes) c.part_at-part.result))) c.loop-i.invariant.frame c.in-Ok.ensures.number)) c.gather.new.parts.items c.in_ok-gather-in-Ok.ensures.below c.in_ok-gather-in-Ok.ensures.same;
+      passed = gather-on c.args.junction (trees c.loop-i.nodes) (trees c.residual_of.new.nodes) c.in-Ok.ensures.kept c.loop-i.answers ((residual (plain_problem c.args.task.now.problem) c.args.w.now (assignment_in c.args.env.now)) (tree_at (trees c.args.nodes.now) c.part_at-part.result)) (map (residual (plain_problem c.args.task.now.problem) c.args.w.now (assignment_in c.args.env.now)) (drop (c.loop-i.i + 1) (join_parts (tree_at (trees c.args.nodes.now) c.args.at)))) (map (residual (plain_problem c.args.task.now.problem) c.args.w.now (assignment_in c.args.env.now)) (join_parts (tree_at (trees c.args.nodes.now) c.args.at))) (subst (λ (fs : List FormulaTree). Gathered c.args.junction (trees c.loop-i.nodes) c.loop-i.answers fs (map (residual (plain_problem c.args.task.now.problem) c.args.w.now (assignment_in c.args.env.now)) (join_parts (tree_at (trees c.args.nodes.now) c.args.at)))) (part-next (residual (plain_problem c.args.task.now.problem) c.args.w.now (assignment_in c.args.env.now)) (join_parts (tree_at (trees c.args.nodes.now) c.args.at)) c.loop-i.i (tree_at (trees c.args.nodes.now) c.part_at-part.result) there) c.loop-i.invariant.passed) c.in-Ok.answer (subst (λ (f : FormulaTree). slice_get (trees c.residual_of.new.nodes) c.in-Ok.answer ≡ Some (residual (plain_problem c.args.task.now.problem) c.args.w.now (assignment_in c.args.env.now) f)) (stays (trees c.args.nodes.now) (trees c.loop-i.nodes) c.loop-i.invariant.kept c.part_at-part.result part) (subst (λ (v : List (Option Value)). slice_get (trees c.residual_of.new.nodes) c.in-Ok.answer ≡ Some (residual (plain_problem c.args.task.now.problem) c.args.w.now (assignment_in v) (tree_at (trees c.loop-i.nodes) c.part_at-part.result))) c.loop-i.invariant.frame c.in-Ok.ensures.number)) c.gather.new.parts c.in_ok-gather-in-Ok.ensures.below c.in_ok-gather-in-Ok.ensures.same;
     }
 
 pub join_residual-returns-in_err-gather-in-Ok-clause-kept : goal.join_residual-returns-in_err-gather-in-Ok-clause-kept
@@ -343,7 +343,7 @@ pub join_residual-returns-in-Err-clause-frame : goal.join_residual-returns-in-Er
 join_residual-returns-in-Err-clause-frame t c = c.residual_of.ensures.frame ∙ c.loop-i.invariant.frame
 
 pub join_residual-join-requires : goal.join_residual-join-requires
-join_residual-join-requires t c = subst (λ (ids : List ℕ). all_below (length (trees c.loop-i.nodes)) ids ≡ true) (sym c.as_slice.ensures.value) c.loop-i.invariant.passed.below
+join_residual-join-requires t c = subst (λ (ids : List ℕ). all_below (length (trees c.loop-i.nodes)) ids ≡ true) (sym c.as_slice.ensures) c.loop-i.invariant.passed.below
 
 pub join_residual-returns-clause-kept : goal.join_residual-returns-clause-kept
 join_residual-returns-clause-kept t c = λ i f h. c.in_ok-number.ensures.kept i f (c.loop-i.invariant.kept i f h)
@@ -353,8 +353,8 @@ join_residual-returns-in_err-number-clause-kept t c = λ i f h. c.in_err-number.
 
 pub join_residual-returns-clause-number : goal.join_residual-returns-clause-number
 join_residual-returns-clause-number t c =
-    c.in_ok-number.ensures.number ∙ ap (λ (f : FormulaTree). Some f) (ap (λ (ids : List ℕ). simplified_join c.args.junction (trees_at (trees c.loop-i.nodes) ids)) c.as_slice.ensures.value
-    ∙ (gather-end c.args.junction (trees c.loop-i.nodes) c.loop-i.answers.items (map (residual (plain_problem c.args.task.now.problem) c.args.w.now (assignment_in c.args.env.now)) (drop c.loop-i.i (join_parts (tree_at (trees c.args.nodes.now) c.args.at)))) (map (residual (plain_problem c.args.task.now.problem) c.args.w.now (assignment_in c.args.env.now)) (join_parts (tree_at (trees c.args.nodes.now) c.args.at))) c.loop-i.invariant.passed (parts-done (residual (plain_problem c.args.task.now.problem) c.args.w.now (assignment_in c.args.env.now)) (join_parts (tree_at (trees c.args.nodes.now) c.args.at)) c.loop-i.i (omega (arith, c.loop-i-test.false, c.part_count-i-end.ensures)))
+    c.in_ok-number.ensures.number ∙ ap (λ (f : FormulaTree). Some f) (ap (λ (ids : List ℕ). simplified_join c.args.junction (trees_at (trees c.loop-i.nodes) ids)) c.as_slice.ensures
+    ∙ (gather-end c.args.junction (trees c.loop-i.nodes) c.loop-i.answers (map (residual (plain_problem c.args.task.now.problem) c.args.w.now (assignment_in c.args.env.now)) (drop c.loop-i.i (join_parts (tree_at (trees c.args.nodes.now) c.args.at)))) (map (residual (plain_problem c.args.task.now.problem) c.args.w.now (assignment_in c.args.env.now)) (join_parts (tree_at (trees c.args.nodes.now) c.args.at))) c.loop-i.invariant.passed (parts-done (residual (plain_problem c.args.task.now.problem) c.args.w.now (assignment_in c.args.env.now)) (join_parts (tree_at (trees c.args.nodes.now) c.args.at)) c.loop-i.i (omega (arith, c.loop-i-test.false, c.part_count-i-end.ensures)))
     ∙ join-next (plain_problem c.args.task.now.problem) c.args.w.now (assignment_in c.args.env.now) c.args.junction (tree_at (trees c.args.nodes.now) c.args.at) c.requires.join))
 
 -- ---- the instances of a quantifier
@@ -365,7 +365,7 @@ instances_residual-tuples-init t c =
       kept = λ i f h. h;
       reads = c.requires.reads;
       others = λ u. refl;
-      passed = subst (λ (o : Option (List Value)). Gathered c.args.quantifier.junction (trees c.args.nodes.now) c.new-answers.result.items (next_after (plain_problem c.args.task.now.problem) c.args.w.now (assignment_in c.args.env.now) (node_vars (trees c.args.nodes.now) c.args.quantifier) (node_bound (trees c.args.nodes.now) c.args.quantifier) (tree_at (trees c.args.nodes.now) c.args.quantifier.part) o) (next_of_all (plain_problem c.args.task.now.problem) c.args.w.now (assignment_in c.args.env.now) (node_vars (trees c.args.nodes.now) c.args.quantifier) (node_bound (trees c.args.nodes.now) c.args.quantifier) (tree_at (trees c.args.nodes.now) c.args.quantifier.part))) (sym c.requires.before) (instances-begun (plain_problem c.args.task.now.problem) c.args.w.now (assignment_in c.args.env.now) (node_vars (trees c.args.nodes.now) c.args.quantifier) (node_bound (trees c.args.nodes.now) c.args.quantifier) (tree_at (trees c.args.nodes.now) c.args.quantifier.part) c.args.quantifier.junction (trees c.args.nodes.now) c.new-answers.result.items c.new-answers.ensures.items);
+      passed = subst (λ (o : Option (List Value)). Gathered c.args.quantifier.junction (trees c.args.nodes.now) c.new-answers.result (next_after (plain_problem c.args.task.now.problem) c.args.w.now (assignment_in c.args.env.now) (node_vars (trees c.args.nodes.now) c.args.quantifier) (node_bound (trees c.args.nodes.now) c.args.quantifier) (tree_at (trees c.args.nodes.now) c.args.quantifier.part) o) (next_of_all (plain_problem c.args.task.now.problem) c.args.w.now (assignment_in c.args.env.now) (node_vars (trees c.args.nodes.now) c.args.quantifier) (node_bound (trees c.args.nodes.now) c.args.quantifier) (tree_at (trees c.args.nodes.now) c.args.quantifier.part))) (sym c.requires.before) (instances-begun (plain_problem c.args.task.now.problem) c.args.w.now (assignment_in c.args.env.now) (node_vars (trees c.args.nodes.now) c.args.quantifier) (node_bound (trees c.args.nodes.now) c.args.quantifier) (tree_at (trees c.args.nodes.now) c.args.quantifier.part) c.args.quantifier.junction (trees c.args.nodes.now) c.new-answers.result c.new-answers.ensures);
     }
 
 pub instances_residual-put_next-requires-clause-at : goal.instances_residual-put_next-requires-clause-at
@@ -419,7 +419,7 @@ instances_residual-returns-then-decides-clause-number t c =
     let fit = quantifier-fits c.args.task.now.problem c.args.quantifier.junction (node_vars (trees c.args.nodes.now) c.args.quantifier) (node_bound (trees c.args.nodes.now) c.args.quantifier) (tree_at (trees c.args.nodes.now) c.args.quantifier.part) (subst (FitsSomewhere (signature_of c.args.task.now.problem.domain)) c.requires.stands c.requires.fits) in
     let step = stepped-then (trees c.args.nodes.now) (trees c.tuples.nodes) c.tuples.invariant.kept c.args.quantifier c.requires.at (situation_of (plain_problem c.args.task.now.problem) c.args.w.now) c.tuples.tuples c.put_next.new.tuples c.tuples.env c.put_next.new.env c.put_next.result c.put_next.ensures in
     let come = has-come (plain_problem c.args.task.now.problem) c.args.w.now (assignment_in c.args.env.now) (node_vars (trees c.args.nodes.now) c.args.quantifier) (node_bound (trees c.args.nodes.now) c.args.quantifier) (tree_at (trees c.args.nodes.now) c.args.quantifier.part) c.tuples.tuples c.put_next.new.tuples c.tuples.env c.put_next.new.env c.put_next.result step c.tuples.invariant.reads fit.differ fit.occur c.tuples.invariant.others c.tuples-test.true in
-    instance-decides (plain_problem c.args.task.now.problem) c.args.w.now (assignment_in c.args.env.now) (node_vars (trees c.args.nodes.now) c.args.quantifier) (node_bound (trees c.args.nodes.now) c.args.quantifier) (tree_at (trees c.args.nodes.now) c.args.quantifier.part) c.args.quantifier.junction c.tuples.tuples.tuple c.put_next.new.tuples.tuple c.put_next.new.env come (tree_at (trees c.tuples.nodes) c.args.quantifier.part) (stays (trees c.args.nodes.now) (trees c.tuples.nodes) c.tuples.invariant.kept c.args.quantifier.part c.requires.part) (trees c.tuples.nodes) (trees c.residual_of.new.nodes) c.in-Ok.ensures.kept c.tuples.answers.items c.tuples.invariant.passed c.in-Ok.number c.in-Ok.ensures.number (c.decides.ensures c.if-decides.true) ∙ ap (λ (f : FormulaTree). Some (residual (plain_problem c.args.task.now.problem) c.args.w.now (assignment_in c.args.env.now) f)) (sym c.requires.stands)
+    instance-decides (plain_problem c.args.task.now.problem) c.args.w.now (assignment_in c.args.env.now) (node_vars (trees c.args.nodes.now) c.args.quantifier) (node_bound (trees c.args.nodes.now) c.args.quantifier) (tree_at (trees c.args.nodes.now) c.args.quantifier.part) c.args.quantifier.junction c.tuples.tuples.tuple c.put_next.new.tuples.tuple c.put_next.new.env come (tree_at (trees c.tuples.nodes) c.args.quantifier.part) (stays (trees c.args.nodes.now) (trees c.tuples.nodes) c.tuples.invariant.kept c.args.quantifier.part c.requires.part) (trees c.tuples.nodes) (trees c.residual_of.new.nodes) c.in-Ok.ensures.kept c.tuples.answers c.tuples.invariant.passed c.in-Ok.number c.in-Ok.ensures.number (c.decides.ensures c.if-decides.true) ∙ ap (λ (f : FormulaTree). Some (residual (plain_problem c.args.task.now.problem) c.args.w.now (assignment_in c.args.env.now) f)) (sym c.requires.stands)
 
 pub instances_residual-returns-then-decides-clause-others : goal.instances_residual-returns-then-decides-clause-others
 instances_residual-returns-then-decides-clause-others t c =
@@ -431,7 +431,7 @@ instances_residual-gather-requires t c =
     let fit = quantifier-fits c.args.task.now.problem c.args.quantifier.junction (node_vars (trees c.args.nodes.now) c.args.quantifier) (node_bound (trees c.args.nodes.now) c.args.quantifier) (tree_at (trees c.args.nodes.now) c.args.quantifier.part) (subst (FitsSomewhere (signature_of c.args.task.now.problem.domain)) c.requires.stands c.requires.fits) in
     let step = stepped-then (trees c.args.nodes.now) (trees c.tuples.nodes) c.tuples.invariant.kept c.args.quantifier c.requires.at (situation_of (plain_problem c.args.task.now.problem) c.args.w.now) c.tuples.tuples c.put_next.new.tuples c.tuples.env c.put_next.new.env c.put_next.result c.put_next.ensures in
     let come = has-come (plain_problem c.args.task.now.problem) c.args.w.now (assignment_in c.args.env.now) (node_vars (trees c.args.nodes.now) c.args.quantifier) (node_bound (trees c.args.nodes.now) c.args.quantifier) (tree_at (trees c.args.nodes.now) c.args.quantifier.part) c.tuples.tuples c.put_next.new.tuples c.tuples.env c.put_next.new.env c.put_next.result step c.tuples.invariant.reads fit.differ fit.occur c.tuples.invariant.others c.tuples-test.true in
-    record { parts = instances-below (plain_problem c.args.task.now.problem) c.args.w.now (assignment_in c.args.env.now) (node_vars (trees c.args.nodes.now) c.args.quantifier) (node_bound (trees c.args.nodes.now) c.args.quantifier) (tree_at (trees c.args.nodes.now) c.args.quantifier.part) c.args.quantifier.junction c.tuples.tuples.tuple c.put_next.new.tuples.tuple c.put_next.new.env come (tree_at (trees c.tuples.nodes) c.args.quantifier.part) (stays (trees c.args.nodes.now) (trees c.tuples.nodes) c.tuples.invariant.kept c.args.quantifier.part c.requires.part) (trees c.tuples.nodes) (trees c.residual_of.new.nodes) c.in-Ok.ensures.kept c.tuples.answers.items c.tuples.invariant.passed c.in-Ok.number c.in-Ok.ensures.number; part = slice_get_within (trees c.residual_of.new.nodes) c.in-Ok.number _ c.in-Ok.ensures.number }
+    record { parts = instances-below (plain_problem c.args.task.now.problem) c.args.w.now (assignment_in c.args.env.now) (node_vars (trees c.args.nodes.now) c.args.quantifier) (node_bound (trees c.args.nodes.now) c.args.quantifier) (tree_at (trees c.args.nodes.now) c.args.quantifier.part) c.args.quantifier.junction c.tuples.tuples.tuple c.put_next.new.tuples.tuple c.put_next.new.env come (tree_at (trees c.tuples.nodes) c.args.quantifier.part) (stays (trees c.args.nodes.now) (trees c.tuples.nodes) c.tuples.invariant.kept c.args.quantifier.part c.requires.part) (trees c.tuples.nodes) (trees c.residual_of.new.nodes) c.in-Ok.ensures.kept c.tuples.answers c.tuples.invariant.passed c.in-Ok.number c.in-Ok.ensures.number; part = slice_get_within (trees c.residual_of.new.nodes) c.in-Ok.number _ c.in-Ok.ensures.number }
 
 pub instances_residual-returns-in_err-gather-in-Ok-clause-kept : goal.instances_residual-returns-in_err-gather-in-Ok-clause-kept
 instances_residual-returns-in_err-gather-in-Ok-clause-kept t c =
@@ -458,12 +458,12 @@ instances_residual-tuples-preserved t c =
       kept = λ i f h. c.in-Ok.ensures.kept i f (c.tuples.invariant.kept i f h);
       reads = step.reads (assignment_in c.args.env.now) c.tuples.invariant.reads;
       others = still-others (plain_problem c.args.task.now.problem) c.args.w.now (assignment_in c.args.env.now) (node_vars (trees c.args.nodes.now) c.args.quantifier) (node_bound (trees c.args.nodes.now) c.args.quantifier) (tree_at (trees c.args.nodes.now) c.args.quantifier.part) c.tuples.tuples c.put_next.new.tuples c.tuples.env c.put_next.new.env c.put_next.result step c.tuples.invariant.reads c.tuples.invariant.others c.residual_of.new.env c.residual_of.ensures.frame;
-      passed = instance-gathered (plain_problem c.args.task.now.problem) c.args.w.now (assignment_in c.args.env.now) (node_vars (trees c.args.nodes.now) c.args.quantifier) (node_bound (trees c.args.nodes.now) c.args.quantifier) (tree_at (trees c.args.nodes.now) c.args.quantifier.part) c.args.quantifier.junction c.tuples.tuples.tuple c.put_next.new.tuples.tuple c.put_next.new.env come (tree_at (trees c.tuples.nodes) c.args.quantifier.part) (stays (trees c.args.nodes.now) (trees c.tuples.nodes) c.tuples.invariant.kept c.args.quantifier.part c.requires.part) (trees c.tuples.nodes) (trees c.residual_of.new.nodes) c.in-Ok.ensures.kept c.tuples.answers.items c.tuples.invariant.passed c.in-Ok.number c.in-Ok.ensures.number c.gather.new.parts.items c.in_ok-gather-in-Ok.ensures.below c.in_ok-gather-in-Ok.ensures.same;
+      passed = instance-gathered (plain_problem c.args.task.now.problem) c.args.w.now (assignment_in c.args.env.now) (node_vars (trees c.args.nodes.now) c.args.quantifier) (node_bound (trees c.args.nodes.now) c.args.quantifier) (tree_at (trees c.args.nodes.now) c.args.quantifier.part) c.args.quantifier.junction c.tuples.tuples.tuple c.put_next.new.tuples.tuple c.put_next.new.env come (tree_at (trees c.tuples.nodes) c.args.quantifier.part) (stays (trees c.args.nodes.now) (trees c.tuples.nodes) c.tuples.invariant.kept c.args.quantifier.part c.requires.part) (trees c.tuples.nodes) (trees c.residual_of.new.nodes) c.in-Ok.ensures.kept c.tuples.answers c.tuples.invariant.passed c.in-Ok.number c.in-Ok.ensures.number c.gather.new.parts c.in_ok-gather-in-Ok.ensures.below c.in_ok-gather-in-Ok.ensures.same;
     }
 
 pub instances_residual-join-requires : goal.instances_residual-join-requires
 instances_residual-join-requires t c =
-    subst (λ (ids : List ℕ). all_below (length (trees c.tuples.nodes)) ids ≡ true) (sym c.as_slice.ensures.value) c.tuples.invariant.passed.below
+    subst (λ (ids : List ℕ). all_below (length (trees c.tuples.nodes)) ids ≡ true) (sym c.as_slice.ensures) c.tuples.invariant.passed.below
 
 pub instances_residual-returns-clause-kept : goal.instances_residual-returns-clause-kept
 instances_residual-returns-clause-kept t c =
@@ -477,8 +477,8 @@ pub instances_residual-returns-clause-number : goal.instances_residual-returns-c
 instances_residual-returns-clause-number t c =
     let fit = quantifier-fits c.args.task.now.problem c.args.quantifier.junction (node_vars (trees c.args.nodes.now) c.args.quantifier) (node_bound (trees c.args.nodes.now) c.args.quantifier) (tree_at (trees c.args.nodes.now) c.args.quantifier.part) (subst (FitsSomewhere (signature_of c.args.task.now.problem.domain)) c.requires.stands c.requires.fits) in
     let step = stepped-then (trees c.args.nodes.now) (trees c.tuples.nodes) c.tuples.invariant.kept c.args.quantifier c.requires.at (situation_of (plain_problem c.args.task.now.problem) c.args.w.now) c.tuples.tuples c.put_next.new.tuples c.tuples.env c.put_next.new.env c.put_next.result c.put_next.ensures in
-    c.in_ok-number.ensures.number ∙ ap (λ (f : FormulaTree). Some f) (ap (λ (ids : List ℕ). simplified_join c.args.quantifier.junction (trees_at (trees c.tuples.nodes) ids)) c.as_slice.ensures.value
-    ∙ (gathered-all (plain_problem c.args.task.now.problem) c.args.w.now (assignment_in c.args.env.now) (node_vars (trees c.args.nodes.now) c.args.quantifier) (node_bound (trees c.args.nodes.now) c.args.quantifier) (tree_at (trees c.args.nodes.now) c.args.quantifier.part) c.args.quantifier.junction (trees c.tuples.nodes) c.tuples.answers.items c.tuples.tuples.tuple c.tuples.invariant.passed (none-left (plain_problem c.args.task.now.problem) c.args.w.now (assignment_in c.args.env.now) (node_vars (trees c.args.nodes.now) c.args.quantifier) (node_bound (trees c.args.nodes.now) c.args.quantifier) (tree_at (trees c.args.nodes.now) c.args.quantifier.part) c.tuples.tuples c.put_next.new.tuples c.tuples.env c.put_next.new.env c.put_next.result step c.tuples.invariant.reads fit.differ fit.occur c.tuples-test.false)
+    c.in_ok-number.ensures.number ∙ ap (λ (f : FormulaTree). Some f) (ap (λ (ids : List ℕ). simplified_join c.args.quantifier.junction (trees_at (trees c.tuples.nodes) ids)) c.as_slice.ensures
+    ∙ (gathered-all (plain_problem c.args.task.now.problem) c.args.w.now (assignment_in c.args.env.now) (node_vars (trees c.args.nodes.now) c.args.quantifier) (node_bound (trees c.args.nodes.now) c.args.quantifier) (tree_at (trees c.args.nodes.now) c.args.quantifier.part) c.args.quantifier.junction (trees c.tuples.nodes) c.tuples.answers c.tuples.tuples.tuple c.tuples.invariant.passed (none-left (plain_problem c.args.task.now.problem) c.args.w.now (assignment_in c.args.env.now) (node_vars (trees c.args.nodes.now) c.args.quantifier) (node_bound (trees c.args.nodes.now) c.args.quantifier) (tree_at (trees c.args.nodes.now) c.args.quantifier.part) c.tuples.tuples c.put_next.new.tuples c.tuples.env c.put_next.new.env c.put_next.result step c.tuples.invariant.reads fit.differ fit.occur c.tuples-test.false)
     ∙ ap (residual (plain_problem c.args.task.now.problem) c.args.w.now (assignment_in c.args.env.now)) (sym c.requires.stands)))
 
 pub instances_residual-returns-clause-others : goal.instances_residual-returns-clause-others

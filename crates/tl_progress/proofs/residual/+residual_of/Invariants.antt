@@ -32,7 +32,7 @@ abbrev pub invariant-join_residual-loop-i : goal.invariant-join_residual-loop-i
 invariant-join_residual-loop-i l = record {
   frame : l.env ≡ l.fn.env;
   kept : Keeps (trees l.fn.nodes) (trees l.nodes);
-  passed : Gathered l.junction (trees l.nodes) l.answers.items (map (residual (plain_problem l.task.problem) l.w (assignment_in l.fn.env)) (drop l.i (join_parts (tree_at (trees l.fn.nodes) l.at)))) (map (residual (plain_problem l.task.problem) l.w (assignment_in l.fn.env)) (join_parts (tree_at (trees l.fn.nodes) l.at)));
+  passed : Gathered l.junction (trees l.nodes) l.answers (map (residual (plain_problem l.task.problem) l.w (assignment_in l.fn.env)) (drop l.i (join_parts (tree_at (trees l.fn.nodes) l.at)))) (map (residual (plain_problem l.task.problem) l.w (assignment_in l.fn.env)) (join_parts (tree_at (trees l.fn.nodes) l.at)));
 }
 
 abbrev pub decreases-instances_residual-tuples : goal.decreases-instances_residual-tuples
@@ -43,6 +43,6 @@ invariant-instances_residual-tuples l = record {
   kept : Keeps (trees l.fn.nodes) (trees l.nodes);
   reads : Reads (node_vars (trees l.fn.nodes) l.quantifier) (assignment_in l.fn.env) (node_bound (trees l.fn.nodes) l.quantifier) l.tuples;
   others : AgreeElsewhere (node_vars (trees l.fn.nodes) l.quantifier) (assignment_in l.env) (assignment_in l.fn.env);
-  passed : Gathered l.quantifier.junction (trees l.nodes) l.answers.items (next_after (plain_problem l.task.problem) l.w (assignment_in l.fn.env) (node_vars (trees l.fn.nodes) l.quantifier) (node_bound (trees l.fn.nodes) l.quantifier) (tree_at (trees l.fn.nodes) l.quantifier.part) l.tuples.tuple)
+  passed : Gathered l.quantifier.junction (trees l.nodes) l.answers (next_after (plain_problem l.task.problem) l.w (assignment_in l.fn.env) (node_vars (trees l.fn.nodes) l.quantifier) (node_bound (trees l.fn.nodes) l.quantifier) (tree_at (trees l.fn.nodes) l.quantifier.part) l.tuples.tuple)
       (next_of_all (plain_problem l.task.problem) l.w (assignment_in l.fn.env) (node_vars (trees l.fn.nodes) l.quantifier) (node_bound (trees l.fn.nodes) l.quantifier) (tree_at (trees l.fn.nodes) l.quantifier.part));
 }
