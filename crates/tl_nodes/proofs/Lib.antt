@@ -12,6 +12,7 @@ pub mod FirstOfEqual
 pub mod OpenedJoins
 pub mod JoinWalk
 pub mod LeftNumbers
+pub mod SeenNumbers
 pub mod JoinedNumbers
 pub mod KeptNumbers
 pub mod FormulaLayers

@@ -4,6 +4,7 @@ pub mod Numbering
 pub mod Temporal
 pub mod Joins
 pub mod Left
+pub mod Seen
 pub mod Numbers
 pub mod Opened
 pub mod Examples

@@ -22,6 +22,7 @@ mod negation;
 mod of_tree;
 
 use crate::Node;
+use few::Few;
 use filled::{Filled, PLACES};
 use indexmap::IndexSet;
 pub use marks::fact_mark;
@@ -38,6 +39,7 @@ pub struct Nodes {
     pub(crate) temporal: Vec<bool>,
     pub(crate) marks: Vec<u64>,
     pub(crate) joins: Vec<usize>,
+    pub(crate) few: Few,
     pub(crate) filled: Vec<Filled>,
     ghost below: { EachFits table.keys },
     ghost one_to_one: { OneToOne (trees_of_nodes table.keys) },
@@ -62,6 +64,7 @@ impl Nodes {
         temporal.push(false)?;
         let marks = vec![in alloc; 0; 2]?;
         let joins = vec![in alloc; 0; PLACES]?;
+        let few = Few::with_places(alloc)?;
         let filled = vec![in alloc; Filled::none(); PLACES]?;
         Ok(Nodes {
             alloc,
@@ -69,6 +72,7 @@ impl Nodes {
             temporal,
             marks,
             joins,
+            few,
             filled,
         })
     }

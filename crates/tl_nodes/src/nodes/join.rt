@@ -1,5 +1,5 @@
 // Conjunction and disjunction that simplify.
-ghost use Rattle.std.specs.Prelude.{◌≡◌, true, length, IfOk, IfSome, IsTrue, OnErr};
+ghost use Rattle.std.specs.Prelude.{◌≡◌, [], true, length, IfOk, IfSome, IsTrue, OnErr};
 ghost use Rattle.tl_nodes.specs.Fits.{all_below};
 ghost use Rattle.tl_nodes.specs.Joins.{simplified_join, dropped, decides, join_node};
 ghost use Rattle.tl_nodes.specs.Left.{JoinsLeft, StaysIfJoined};
@@ -13,6 +13,7 @@ use super::few::Few;
 use super::filled::{PLACES, mixed};
 use crate::Node;
 use std::alloc::Global;
+use std::mem;
 use tl_syntax::{Ids, Junction, NoMemory};
 
 impl Nodes {
@@ -60,8 +61,28 @@ impl Nodes {
         ensures kept { Keeps (trees self.old) (trees self.new) }
         ensures refused { OnErr result (trees self.new ≡ trees self.old) }
     {
-        let mut few = Few::new();
-        if self.put_few_left(&mut few, parts, junction) {
+        let mut few = mem::replace(&mut self.few, Few::new(self.alloc));
+        few.clear();
+        let answer = self.join_in(&mut few, parts, junction);
+        self.few = few;
+        answer
+    }
+
+    // The same, where the numbers that are left are put to no others.
+    fn join_in(
+        &mut self,
+        few: &mut Few,
+        parts: &[usize],
+        junction: Junction,
+    ) -> Result<usize, NoMemory>
+        requires below { all_below (length (trees self.old)) parts.now ≡ true }
+        requires none { few.old ≡ [] }
+        ensures number { IfOk result (λ i. Denotes self.new i (simplified_join junction (trees_in self.old parts.now))) }
+        ensures known { StaysIfKnown self.old self.new (simplified_join junction (trees_in self.old parts.now)) }
+        ensures kept { Keeps (trees self.old) (trees self.new) }
+        ensures refused { OnErr result (trees self.new ≡ trees self.old) }
+    {
+        if self.put_few_left(few, parts, junction) {
             return self.join_left(few.as_slice(), junction);
         }
         let left = self.many_left(parts, junction)?;

@@ -43,15 +43,12 @@ impl Nodes {
         Some(&parts[from..to])
     }
 
-    // Puts what is left of the parts to no numbers, where they open to few, and none is nested in a join of a part. False: it is more. It takes no memory.
+    // Puts what is left of the parts to no numbers, where none is nested in a join of a part. False: one is, or there is no memory.
     pub(crate) fn put_few_left(&self, few: &mut Few, parts: &[usize], junction: Junction) -> bool
         requires below { all_below (length (trees self.now)) parts.now ≡ true }
         requires none { few.old ≡ [] }
         ensures { IsTrue result → IsOpened (trees self.now) junction parts.now few.new }
     {
-        if parts.len() > FEW {
-            return false;
-        }
         for part in parts.iter() {
             let goes_on = match self.nested(*part, junction) {
                 Some(ids) => self.keep_all(few, ids.as_slice(), junction),
@@ -64,15 +61,12 @@ impl Nodes {
         true
     }
 
-    // Keeps the parts of a join. False: one of them is a join of the same kind, or they are too many.
+    // Keeps the parts of a join. False: one of them is a join of the same kind, or there is no memory.
     fn keep_all(&self, few: &mut Few, ids: &[usize], junction: Junction) -> bool
         requires { all_below (length (trees self.now)) ids.now ≡ true }
         ensures { IsTrue result → (parts : List ℕ) → IsOpened (trees self.now) junction parts few.old
             → IsOpened (trees self.now) junction (parts ++ ids.now) few.new }
     {
-        if ids.len() > FEW {
-            return false;
-        }
         for id in ids.iter() {
             if !self.keep(few, *id, junction) {
                 return false;
@@ -81,7 +75,7 @@ impl Nodes {
         true
     }
 
-    // Keeps a part. False: it is a join of the same kind, or there is no room.
+    // Keeps a part. False: it is a join of the same kind, or there is no memory.
     fn keep(&self, few: &mut Few, id: usize, junction: Junction) -> bool
         requires { id < length (trees self.now) }
         ensures { IsTrue result → (parts : List ℕ) → IsOpened (trees self.now) junction parts few.old
@@ -115,7 +109,7 @@ fn is_dropped(row: &[usize], id: usize, junction: Junction) -> bool
     id == unit_of(junction) || row.contains(&id)
 }
 
-// Keeps a number, unless it is the constant that is dropped or is there. False: there is no room.
+// Keeps a number, unless it is the constant that is dropped or is there. False: there is no memory.
 fn keep_one(few: &mut Few, id: usize, junction: Junction) -> bool
     ensures { IsTrue result → few.new ≡ cond (nat_eq id (dropped junction)) few.old (insert_key nat_eq few.old id) }
 {

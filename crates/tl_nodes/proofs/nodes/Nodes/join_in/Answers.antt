@@ -3,7 +3,7 @@ use Rattle.tl_nodes.specs.Fits.{all_below}
 use Rattle.tl_nodes.specs.Left.{IsLeft}
 use Rattle.tl_nodes.specs.Numbers.{trees}
 use Rattle.tl_nodes.proofs.LeftNumbers.{below-left, left-opened}
-use Rattle.tl_nodes.proofs.nodes.Nodes.join_opened.Goals as goal
+use Rattle.tl_nodes.proofs.nodes.Nodes.join_in.Goals as goal
 
 pub join_left-requires : goal.join_left-requires
 join_left-requires c =
