@@ -19,7 +19,7 @@ use Rattle.tl_syntax.specs.Lists.{Among}
 use Rattle.tl_syntax.proofs.TotalOrders.{key_total}
 use Rattle.tl_syntax.specs.TreeOfFormula.{tree_of_formula}
 use Rattle.tl_syntax.specs.TreeOfTerm.{tree_of_term, terms_of_list}
-use Rattle.tl_syntax.specs.Trees.{TermTree, variable, value, place, arith, FormulaTree, falsum, atom, conjunction, formulas_of_list}
+use Rattle.tl_syntax.specs.Trees.{TermTree, variable, value, place, arith, FormulaTree, falsum, atom, formulas_of_list}
 use Rattle.tl_syntax.proofs.FormulaTrees.{tree-Atom}
 use Rattle.tl_syntax.proofs.Plain.{both, fact_eq-key, value-tells}
 use Rattle.tl_syntax.proofs.TermTrees.{trees-Terms}

@@ -9,7 +9,7 @@ ghost use Rattle.tl_syntax.specs.StateFormulas.{IsState};
 
 use crate::ProgressFault;
 use crate::early::early_residual;
-use crate::frames::empty_frame;
+use crate::frames::{empty_frame, is_empty_frame};
 use crate::idling::sentence_truth;
 use crate::joined::{Joined, joined_residual, kept_residual};
 use crate::joins::constant_number;
@@ -182,6 +182,38 @@ fn sentence_residual(
     }
 }
 
+// The number of what has to hold next for a number's tree, whatever values the caller's frame has.
+fn lone_residual(
+    nodes: &mut Nodes,
+    task: &Task,
+    w: &World,
+    env: &mut Env,
+    residuals: &mut Residuals,
+    incoming: Incoming,
+) -> Result<usize, ProgressFault>
+    requires at { incoming.formula < length (trees nodes.old) }
+    requires sentence { IsSentenceIn task.now (tree_in nodes.old incoming.formula) }
+    requires found { AreResidualsIn task.now w.now nodes.old (found_in residuals.old incoming.world) }
+    ensures number { IfOk result (λ n. Denotes nodes.new n (progressed_at task.now w.now nodes.old incoming.formula)) }
+    ensures kept { Keeps (trees nodes.old) (trees nodes.new) }
+    ensures found { AreResidualsIn task.now w.now nodes.new (found_in residuals.new incoming.world) }
+    ensures elsewhere { StaysElsewhere incoming.world residuals.old residuals.new }
+    ensures same { IsState (tree_in nodes.old incoming.formula) → trees nodes.new ≡ trees nodes.old }
+    ensures constant { IsState (tree_in nodes.old incoming.formula) → IfOk result (λ n. n < 2) }
+    ensures cause { IfErr result (IsCausedBy (looked_by_progressing_at task.now w.now nodes.old incoming.formula)) }
+    ensures frame { env.new ≡ env.old }
+{
+    let frame = env.saved();
+    if is_empty_frame(&frame) {
+        return sentence_residual(nodes, task, w, env, residuals, incoming);
+    }
+    let empty = empty_frame();
+    env.restore(&empty);
+    let answer = sentence_residual(nodes, task, w, env, residuals, incoming);
+    env.restore(&frame);
+    answer
+}
+
 /// The number of what has to hold from the next position on, for the number's tree to hold in this world and on (progression, Bacchus and Kabanza 2000).
 /// `Range` notes an operation that is looked at and past the 64 bits of an integer. The caller's frame stays as it was.
 /// Where the tree has no temporal word, the answer is 0 or 1, and no node is added. A refused call may have added nodes.
@@ -211,12 +243,7 @@ pub fn progress_kept(
     ensures cause { IfErr result (IsCausedBy (looked_by_progressing_at task.now w.now nodes.old incoming.formula)) }
     ensures frame { env.new ≡ env.old }
 {
-    let frame = env.saved();
-    let empty = empty_frame();
-    env.restore(&empty);
-    let answer = sentence_residual(nodes, task, w, env, residuals, incoming);
-    env.restore(&frame);
-    answer
+    lone_residual(nodes, task, w, env, residuals, incoming)
 }
 
 /// `progress_kept` where nothing is kept.

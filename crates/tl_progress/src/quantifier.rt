@@ -44,6 +44,7 @@ pub(crate) struct Quantifier {
 
 impl Quantifier {
     /// The tuples of its bound under the frame, before the first one.
+    #[inline(always)]
     pub fn open(self, nodes: &Nodes, task: &Task, env: &Env) -> TupleReader
         requires at { self.at < length (trees nodes.now) }
         requires stands { Stands (trees nodes.now) self }
@@ -60,6 +61,7 @@ impl Quantifier {
     }
 
     /// What the slots of its variables have in the frame, for `give_back`.
+    #[inline(always)]
     pub fn kept(self, nodes: &Nodes, env: &Env) -> [Option<Value>; 9]
         requires at { self.at < length (trees nodes.now) }
         requires stands { Stands (trees nodes.now) self }

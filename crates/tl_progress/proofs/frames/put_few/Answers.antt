@@ -1,5 +1,4 @@
-use Rattle.std.proofs.Common.{refl, sym, ◌∙◌, arith}
-use Rattle.std.proofs.lemmas.Bool.{not-false}
+use Rattle.std.proofs.Common.{refl, arith}
 use Rattle.tl_progress.proofs.FrameBindings.{binds-none, binds-next, binds-all, slot-is}
 use Rattle.tl_progress.proofs.frames.put_few.Goals as goal
 

@@ -1,15 +1,13 @@
-use Rattle.std.proofs.Common.{◌≡◌, ◌↔◌, length, ℕ, suc, IfOk, IfErr, Result, Ok, Err, slice_get, Some, List, sym, ap, ◌∙◌, subst}
-use Rattle.tl_eval.specs.Frames.{assignment_in}
+use Rattle.std.proofs.Common.{◌≡◌, ◌↔◌, length, ℕ, suc, IfOk, Result, Ok, Err, slice_get, Some, List, sym, ap, ◌∙◌, subst}
 use Rattle.tl_nodes.specs.NodeTrees.{tree_at}
 use Rattle.tl_nodes.specs.Numbers.{trees}
 use Rattle.tl_nodes.proofs.TreesOfNodes.{at-is}
-use Rattle.tl_syntax.specs.Assignment.{Assignment, no_values}
+use Rattle.tl_syntax.specs.Assignment.{no_values}
 use Rattle.tl_syntax.specs.declared.problem.Problem.{Problem}
 use Rattle.tl_syntax.specs.Named.{IsNamed}
 use Rattle.tl_syntax.specs.Signature.{Signature, signature_of}
 use Rattle.tl_syntax.specs.Trees.{FormulaTree}
 use Rattle.tl_terms.specs.Definitions.{situation_of}
-use Rattle.tl_terms.specs.Looked.{looked_by_progressing}
 use Rattle.tl_terms.specs.Problem.{PlainProblem}
 use Rattle.tl_terms.specs.NamedWorlds.{WorldIsNamed}
 use Rattle.tl_terms.specs.ProblemMeaning.{plain_problem}
@@ -18,7 +16,7 @@ use Rattle.tl_terms.specs.Run.{Run, Satisfies, state_at}
 use Rattle.tl_terms.specs.World.{World}
 use Rattle.tl_terms.proofs.RunLaws.{progression-Satisfies}
 use Rattle.tl_progress.specs.declared.fault.ProgressFault.{ProgressFault}
-use Rattle.tl_progress.specs.Answers.{IsCausedBy, looked_for_residual, residual}
+use Rattle.tl_progress.specs.Answers.{residual}
 use Rattle.tl_progress.specs.Sentences.{IsSentence}
 use Rattle.tl_progress.proofs.NamedResiduals.{residual-named}
 use Rattle.tl_progress.proofs.Sentences.{sentence-next}
@@ -38,24 +36,12 @@ stays-named : (p : Problem) (w : World) (f : FormulaTree) (us : List FormulaTree
 stays-named p w f us (Ok i) h = λ world formula. subst (IsNamed (length p.names)) (sym (at-is us i _ h)) (residual-named p w f world formula)
 stays-named p w f us (Err x) h = tt
 
-by_cause : (p : PlainProblem) (w : World) (f : FormulaTree) (r : Result ℕ ProgressFault) → IfErr r (IsCausedBy (looked_for_residual p w no_values f)) → IfErr r (IsCausedBy (looked_by_progressing p w f))
-unfolding looked_by_progressing
-by_cause p w f r h = h
-
-pub returns-clause-number : goal.returns-clause-number
-returns-clause-number c = (subst (λ (e : Assignment). IfOk c.sentence_residual-answer.result (λ i. slice_get (trees c.sentence_residual-answer.new.nodes) i ≡ Some (residual (plain_problem c.args.task.now.problem) c.args.w.now e (tree_at (trees c.args.nodes.now) c.args.incoming.formula)))) (ap assignment_in c.restore.ensures ∙ c.empty_frame-empty.ensures) c.sentence_residual-answer.ensures.number)
-
 pub returns-clause-lemma : goal.returns-clause-lemma
-returns-clause-lemma c = holds (plain_problem c.args.task.now.problem) c.args.w.now (tree_at (trees c.args.nodes.now) c.args.incoming.formula) (trees c.sentence_residual-answer.new.nodes) c.sentence_residual-answer.result (subst (λ (e : Assignment). IfOk c.sentence_residual-answer.result (λ i. slice_get (trees c.sentence_residual-answer.new.nodes) i ≡ Some (residual (plain_problem c.args.task.now.problem) c.args.w.now e (tree_at (trees c.args.nodes.now) c.args.incoming.formula)))) (ap assignment_in c.restore.ensures ∙ c.empty_frame-empty.ensures) c.sentence_residual-answer.ensures.number)
+returns-clause-lemma c = holds (plain_problem c.args.task.now.problem) c.args.w.now (tree_at (trees c.args.nodes.now) c.args.incoming.formula) (trees c.lone_residual.new.nodes) c.lone_residual.result c.lone_residual.ensures.number
 
 pub returns-clause-sentence : goal.returns-clause-sentence
 returns-clause-sentence c =
-    stands-alone (signature_of c.args.task.now.problem.domain) (plain_problem c.args.task.now.problem) c.args.w.now (tree_at (trees c.args.nodes.now) c.args.incoming.formula) (trees c.sentence_residual-answer.new.nodes) c.sentence_residual-answer.result c.requires.sentence (subst (λ (e : Assignment). IfOk c.sentence_residual-answer.result (λ i. slice_get (trees c.sentence_residual-answer.new.nodes) i ≡ Some (residual (plain_problem c.args.task.now.problem) c.args.w.now e (tree_at (trees c.args.nodes.now) c.args.incoming.formula)))) (ap assignment_in c.restore.ensures ∙ c.empty_frame-empty.ensures) c.sentence_residual-answer.ensures.number)
+    stands-alone (signature_of c.args.task.now.problem.domain) (plain_problem c.args.task.now.problem) c.args.w.now (tree_at (trees c.args.nodes.now) c.args.incoming.formula) (trees c.lone_residual.new.nodes) c.lone_residual.result c.requires.sentence c.lone_residual.ensures.number
 
 pub returns-clause-named : goal.returns-clause-named
-returns-clause-named c = stays-named c.args.task.now.problem c.args.w.now (tree_at (trees c.args.nodes.now) c.args.incoming.formula) (trees c.sentence_residual-answer.new.nodes) c.sentence_residual-answer.result (subst (λ (e : Assignment). IfOk c.sentence_residual-answer.result (λ i. slice_get (trees c.sentence_residual-answer.new.nodes) i ≡ Some (residual (plain_problem c.args.task.now.problem) c.args.w.now e (tree_at (trees c.args.nodes.now) c.args.incoming.formula)))) (ap assignment_in c.restore.ensures ∙ c.empty_frame-empty.ensures) c.sentence_residual-answer.ensures.number)
-
-pub returns-clause-cause : goal.returns-clause-cause
-returns-clause-cause c =
-    by_cause (plain_problem c.args.task.now.problem) c.args.w.now (tree_at (trees c.args.nodes.now) c.args.incoming.formula) c.sentence_residual-answer.result
-    (subst (λ (e : Assignment). IfErr c.sentence_residual-answer.result (IsCausedBy (looked_for_residual (plain_problem c.args.task.now.problem) c.args.w.now e (tree_at (trees c.args.nodes.now) c.args.incoming.formula)))) (ap assignment_in c.restore.ensures ∙ c.empty_frame-empty.ensures) c.sentence_residual-answer.ensures.cause)
+returns-clause-named c = stays-named c.args.task.now.problem c.args.w.now (tree_at (trees c.args.nodes.now) c.args.incoming.formula) (trees c.lone_residual.new.nodes) c.lone_residual.result c.lone_residual.ensures.number

@@ -1,4 +1,4 @@
-use Rattle.std.proofs.Common.{◌≡◌, IfOk, Some, slice_get, ap, ◌∙◌, subst}
+use Rattle.std.proofs.Common.{IfOk, ap, ◌∙◌, subst}
 use Rattle.tl_eval.specs.Frames.{assignment_in}
 use Rattle.tl_nodes.specs.NodeTrees.{tree_at}
 use Rattle.tl_nodes.specs.Numbers.{trees, Denotes}
