@@ -14,7 +14,7 @@ use crate::idling::sentence_truth;
 use crate::joined::{Joined, joined_residual, kept_residual};
 use crate::joins::constant_number;
 use crate::known::Known;
-use crate::order::reached;
+use crate::order::{is_direct, reached};
 use crate::residual::residual_of;
 use crate::residuals::{Incoming, Residuals};
 use crate::truth::truth_of;
@@ -105,6 +105,9 @@ pub(crate) fn temporal_residual(
     ensures frame { env.new ≡ env.old }
 {
     let nothing = Known::new(alloc);
+    if is_direct(nodes, id) {
+        return residual_of(alloc, nodes, task, w, env, &nothing, id);
+    }
     match early_residual(nodes, task, w, env, &nothing.truths, id) {
         Ok(Some(number)) => Ok(number),
         Ok(None) => ordered_residual(alloc, nodes, task, w, env, id),

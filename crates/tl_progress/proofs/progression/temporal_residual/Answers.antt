@@ -6,3 +6,6 @@ pub early_residual-requires-clause-known : goal.early_residual-requires-clause-k
 early_residual-requires-clause-known c =
     let right = c.new-nothing.ensures (plain_problem c.args.task.now.problem) c.args.w.now (trees c.args.nodes.now) in
     right.truths
+
+pub residual_of-requires-clause-known : goal.residual_of-requires-clause-known
+residual_of-requires-clause-known c = c.new-nothing.ensures (plain_problem c.args.task.now.problem) c.args.w.now (trees c.args.nodes.now)
