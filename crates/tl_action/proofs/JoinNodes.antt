@@ -1,12 +1,12 @@
 -- A bound of an operator with its new variables.
 use Rattle.std.proofs.Common.{◌≡◌, ◌↔◌, ◌⊎◌, ◌<◌, ◌≤◌, ◌+◌, ℕ, List, [], ◌∷◌, ◌++◌, filter, take, drop, length, get_or, Bool, true, false, cond, ◌&&◌, not, Result, Ok, Err, inl, inr, refl, sym, ap, ◌∙◌, subst, arith}
+use Rattle.tl_action.specs.declared.arranged.Arranged.{Arranged}
 use Rattle.tl_action.specs.declared.fault.ActFault.{ActFault}
 use Rattle.tl_action.specs.declared.fault.ActFault.TheVariants as fault
-use Rattle.tl_action.specs.declared.join.JoinOrder.{JoinOrder}
-use Rattle.tl_action.specs.Join.{arranged, stands_in_one, is_new, new_from, Known, HasNoCompletion, IsCompletion, IsFound, IsJoinOrder, IsPassed, IsRowFault, Joins}
-use Rattle.tl_action.proofs.Arranged.{keeps-with}
+use Rattle.tl_action.specs.Join.{arranged, bound_count, levels_in, stands_in_one, is_new, new_from, Known, HasNoCompletion, IsCompletion, IsFound, IsPassed, IsRowFault, Joins}
+use Rattle.tl_action.proofs.BoundOrders.{arranged-keeps}
 use Rattle.tl_action.proofs.Completions.{known-before, known-kept, completion-past, completion-none}
-use Rattle.tl_action.proofs.NewVariables.{level-is}
+use Rattle.tl_action.proofs.NewVariables.{level-is, levels-length}
 use Rattle.tl_action.proofs.Operators.{counted-differ, counted-slots}
 use Rattle.tl_action.proofs.Rows.{RowsSoFar, rows-on, rows-end, rows-fault}
 use Rattle.tl_action.proofs.Walks.{drop-opened, take-opened, each-item}
@@ -77,10 +77,14 @@ level-node g n o levels j b vars fp ff keeps h k q r =
       frame = subst (Each (λ (s : Var). s.slot < 32)) (sym is) (kept-each (λ (s : Var). s.slot < 32) (is_new (take j o.bounds) b) o.params (counted-slots o.params keeps.params.counted keeps.params.few));
     }
 
--- a bound in the join order of an operator
-pub node-at : (g : Signature) (n : ℕ) (o : Operator) (order : JoinOrder) (j : ℕ) (b : Bound) (vars : List Var) → AreFew g.predicates → AreFew g.functions → OperatorKeeps g n o → IsJoinOrder o order
-    → j < length (arranged o order).bounds → b ≡ get_or (arranged o order).bounds j b → vars ≡ get_or order.levels.items j vars → Node g (arranged o order) j b vars
-node-at g n o order j b vars fp ff keeps h k q r = level-node g n (arranged o order) order.levels.items j b vars fp ff (keeps-with g n o (arranged o order).bounds h.same keeps) h.levels k q r
+-- there are as many lists of new variables as bounds
+pub levels-count : (a : Arranged) (levels : List (List Var)) → levels ≡ levels_in a → length levels ≡ bound_count a
+levels-count a levels h = ap (λ (ls : List (List Var)). length ls) h ∙ levels-length a.operator.now.params [] (arranged a).bounds
+
+-- a bound of an operator, in the order in which they are joined
+pub node-at : (g : Signature) (n : ℕ) (a : Arranged) (levels : List (List Var)) (j : ℕ) (b : Bound) (vars : List Var) → AreFew g.predicates → AreFew g.functions → OperatorKeeps g n a.operator.now → levels ≡ levels_in a
+    → j < bound_count a → b ≡ get_or (arranged a).bounds j b → vars ≡ get_or levels j vars → Node g (arranged a) j b vars
+node-at g n a levels j b vars fp ff keeps h k q r = level-node g n (arranged a) levels j b vars fp ff (arranged-keeps g n a keeps) h k q r
 
 module _ (g : Signature) (p : PlainProblem) (w : World) (o : Operator) (j : ℕ) (b : Bound) (vars : List Var) (k : j < length o.bounds) (q : b ≡ get_or o.bounds j b) (node : Node g o j b vars) where
   abbrev pub seen : List Bound

@@ -11,9 +11,10 @@ pub mod PlacesAgree
 pub mod Operators
 pub mod AppliedOperators
 pub mod NewVariables
+pub mod FrameRows
 pub mod Completions
 pub mod Rows
-pub mod Arranged
+pub mod BoundOrders
 pub mod JoinNodes
 pub mod JoinReads
 pub mod SureEffects

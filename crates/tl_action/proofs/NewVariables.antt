@@ -1,16 +1,9 @@
 -- The new variables of each bound, worked out in turn.
-use Rattle.std.proofs.Common.{◌≡◌, ◌<◌, ◌≤◌, ◌+◌, ℕ, zero, suc, List, [], ◌∷◌, ◌++◌, map, filter, take, drop, append_assoc, append-nil, length, get_or, Bool, true, false, cond, refl, sym, ap, ◌∙◌, arith}
-use Rattle.std.proofs.lemmas.List.{map-append}
-use Rattle.tl_action.specs.Join.{is_new, new_from, variables}
-use Rattle.tl_action.proofs.Walks.{drop-opened, take-opened, drop-past, take-past}
+use Rattle.std.proofs.Common.{◌≡◌, ◌<◌, ◌≤◌, ◌+◌, ℕ, zero, suc, List, [], ◌∷◌, ◌++◌, filter, take, drop, append_assoc, append-nil, length, get_or, Bool, true, false, cond, refl, sym, ap, ◌∙◌, arith}
+use Rattle.tl_action.specs.Join.{is_new, new_from}
+use Rattle.tl_action.proofs.Walks.{drop-opened, take-opened, drop-past}
 use Rattle.tl_syntax.specs.declared.bound.Bound.{Bound}
-use Rattle.tl_syntax.specs.declared.term.Term.{Term}
-use Rattle.tl_syntax.specs.declared.term.Term.TheVariants as variant
-use Rattle.tl_syntax.specs.declared.term.Terms.{Terms}
 use Rattle.tl_syntax.specs.declared.variable.Var.{Var}
-use Rattle.tl_syntax.specs.TreeOfTerm.{tree_of_term, tree_of_terms, terms_of_list}
-use Rattle.tl_syntax.specs.Trees.{variable, more_terms}
-use Rattle.tl_syntax.proofs.TermTrees.{tree-Var, trees-Terms}
 
 filter-two : {A : Type 0} (p : A → Bool) (xs ys : List A) → filter p (xs ++ ys) ≡ filter p xs ++ filter p ys
 filter-two p [] ys = refl
@@ -53,20 +46,3 @@ level-is ss seen (x ∷ bs) (suc j) b vs h =
 pub levels-length : (ss : List Var) (seen bs : List Bound) → length (new_from ss seen bs) ≡ length bs
 levels-length ss seen [] = refl
 levels-length ss seen (b ∷ bs) = ap suc (levels-length ss (seen ++ b ∷ []) bs)
-
--- ---- the parameters as terms
-
-pub terms-on : (ss : List Var) (i : ℕ) (s : Var) (terms more : List Term) → i < length ss → s ≡ get_or ss i s → more ≡ terms ++ variant.Var s ∷ [] → map tree_of_term terms ≡ map (λ x. variable x) (take i ss) → map tree_of_term more ≡ map (λ x. variable x) (take (i + 1) ss)
-terms-on ss i s terms more h k q so =
-    ap (map tree_of_term) q
-    ∙ (map-append tree_of_term terms (variant.Var s ∷ [])
-    ∙ ((λ j. so j ++ tree-Var s j ∷ [])
-    ∙ sym (ap (map (λ x. variable x)) (take-opened ss i s h k) ∙ map-append (λ x. variable x) (take i ss) (s ∷ []))))
-
-variables-list : (ss : List Var) → terms_of_list (map (λ x. variable x) ss) ≡ variables ss
-variables-list [] = refl
-variables-list (s ∷ ss) = ap (λ ts. more_terms (variable s) ts) (variables-list ss)
-
-pub terms-ended : (ss : List Var) (i : ℕ) (terms : Terms) → length ss ≤ i → map tree_of_term terms.items.items ≡ map (λ x. variable x) (take i ss) → tree_of_terms terms ≡ variables ss
-terms-ended ss i terms h so =
-    trees-Terms terms ∙ (ap terms_of_list (so ∙ ap (map (λ x. variable x)) (take-past ss i h)) ∙ variables-list ss)

@@ -1,5 +1,5 @@
 -- The rows that are found, one by one.
-use Rattle.std.proofs.Common.{◌≡◌, ◌↔◌, ◌⊎◌, ◌<◌, ℕ, suc, List, [], ◌∷◌, ◌++◌, filter, length, Bool, true, false, cond, ◌==◌, Option, Some, None, IsTrue, inl, inr, refl, sym, ap, ◌∙◌, subst, arith, eqb-true}
+use Rattle.std.proofs.Common.{◌≡◌, ◌↔◌, ◌⊎◌, ℕ, suc, List, [], ◌∷◌, ◌++◌, filter, length, Bool, true, false, cond, ◌==◌, Option, Some, None, IsTrue, inl, inr, refl, sym, ap, ◌∙◌, subst, arith, eqb-true}
 use Rattle.std.proofs.lemmas.Bool.{eq-eqb}
 use Rattle.tl_action.specs.declared.fault.ActFault.{ActFault}
 use Rattle.tl_action.specs.declared.fault.ActFault.TheVariants as fault
@@ -16,7 +16,6 @@ use Rattle.tl_syntax.specs.declared.value.Value.{Value}
 use Rattle.tl_syntax.specs.declared.variable.Var.{Var}
 use Rattle.tl_syntax.specs.Assignment.{Assignment, bind, no_values}
 use Rattle.tl_syntax.specs.BoundVariables.{DifferInSlot, OccurIn}
-use Rattle.tl_syntax.specs.Fits.{TermFits, TermsFit}
 use Rattle.tl_syntax.specs.FreeVariables.{slots_of, bound_slots, InScope}
 use Rattle.tl_syntax.specs.Kept.{OperatorKeeps}
 use Rattle.tl_syntax.specs.Lists.{Each, One, Among}
@@ -38,11 +37,6 @@ looked-nothing : (w : World) (e : Assignment) (ss : List Var) → looked_in_each
 unfolding looked_in_each looked_in_term
 looked-nothing w e [] = refl
 looked-nothing w e (s ∷ ss) = looked-nothing w e ss
-
-pub variables-fit : (g : Signature) (ss : List Var) → Each (λ s. s.slot < 32) ss → TermsFit g (variables ss)
-unfolding TermFits
-variables-fit g [] h = tt
-variables-fit g (s ∷ ss) h = (h.0, variables-fit g ss h.1)
 
 -- no range fault comes from variables
 pub no-fault : (w : World) (e : Assignment) (ts : TermTrees) (ss : List Var) (p : PlainProblem) (o : PlainOperator) (seen rest : List Bound) (d : Assignment) (x : ActFault) → ts ≡ variables ss → IsCausedBy (looked_in_each w e ts) x → IsRowFault p w o seen rest d x

@@ -25,11 +25,11 @@ pub record ValuesPassed (g : Signature) (w : World) (e : Assignment) (all rest :
   pub meant : term_values w e all ≡ prefixed values (term_values w e rest)
   pub looked : (o : Operation) → Among o (looked_in_each w e rest) → Among o (looked_in_each w e all)
 
-prefixed-nothing : (o : Option (List Value)) → o ≡ prefixed [] o
+pub prefixed-nothing : (o : Option (List Value)) → o ≡ prefixed [] o
 prefixed-nothing (Some vs) = refl
 prefixed-nothing None = refl
 
-prefixed-more : (vs : List Value) (v : Value) (o : Option (List Value)) → prefixed vs (prepend (Some v) o) ≡ prefixed (vs ++ v ∷ []) o
+pub prefixed-more : (vs : List Value) (v : Value) (o : Option (List Value)) → prefixed vs (prepend (Some v) o) ≡ prefixed (vs ++ v ∷ []) o
 prefixed-more vs v (Some us) = ap (λ (x : List Value). Some x) (sym (append_assoc vs (v ∷ []) us))
 prefixed-more vs v None = refl
 

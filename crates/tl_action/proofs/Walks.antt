@@ -50,3 +50,25 @@ module _ {A : Type 0} (test : A → Bool) (xs : List A) (i : ℕ) (x : A) (h : i
 
 pub all-end : {A : Type 0} (test : A → Bool) (xs : List A) (i : ℕ) → length xs ≤ i → list_all test xs ≡ list_all test (drop i xs) → true ≡ list_all test xs
 all-end test xs i h so = sym (so ∙ ap (list_all test) (drop-past xs i h))
+
+-- ---- the first items of a list
+
+pub length-taken : {A : Type 0} (xs : List A) (j : ℕ) → j ≤ length xs → length (take j xs) ≡ j
+length-taken xs zero h = refl
+length-taken [] (suc j) h = absurd (omega arith)
+length-taken (x ∷ xs) (suc j) h = ap suc (length-taken xs j (omega arith))
+
+get-taken : {A : Type 0} (xs : List A) (j i : ℕ) (x : A) → i < j → get_or (take j xs) i x ≡ get_or xs i x
+get-taken xs zero i x h = absurd (omega arith)
+get-taken [] (suc j) i x h = refl
+get-taken (y ∷ xs) (suc j) zero x h = refl
+get-taken (y ∷ xs) (suc j) (suc i) x h = get-taken xs j i x (omega arith)
+
+-- what is left of them begins with the item at the position
+pub taken-opened : {A : Type 0} (xs : List A) (j i : ℕ) (x : A) → j ≤ length xs → i < j → x ≡ get_or xs i x → drop i (take j xs) ≡ x ∷ drop (i + 1) (take j xs)
+taken-opened xs j i x h l q =
+    let many = length-taken xs j h in
+    drop-opened (take j xs) i x (omega (arith, many, l)) (q ∙ sym (get-taken xs j i x l))
+
+pub taken-past : {A : Type 0} (xs : List A) (j i : ℕ) → j ≤ length xs → j ≤ i → drop i (take j xs) ≡ []
+taken-past xs j i h l = let many = length-taken xs j h in drop-past (take j xs) i (omega (arith, many, l))

@@ -1,12 +1,10 @@
 -- The rows of values that an operator's bounds allow, bound by bound.
-use Rattle.std.specs.Prelude.{◌≡◌, ◌↔◌, ◌⊎◌, ◌≤◌, ◌&&◌, ℕ, List, [], ◌∷◌, ◌++◌, drop, filter, length, take, Bool, true, not, Option, Some, None, Result, Ok, Err}
-use Rattle.std.specs.Global.{Vec}
+use Rattle.std.specs.Prelude.{◌≡◌, ◌↔◌, ◌⊎◌, ◌≤◌, ◌&&◌, ℕ, zero, suc, List, [], ◌∷◌, ◌++◌, drop, filter, length, take, Bool, true, not, Result, Ok, Err}
 use Rattle.std.specs.List.{list_any}
 use Rattle.tl_action.specs.declared.fault.ActFault.{ActFault}
 use Rattle.tl_action.specs.declared.fault.ActFault.TheVariants as fault
-use Rattle.tl_action.specs.declared.join.JoinOrder.{JoinOrder}
+use Rattle.tl_action.specs.declared.arranged.Arranged.{Arranged}
 use Rattle.tl_action.specs.Prepared.{is_prepared, looked_prepared}
-use Rattle.tl_action.specs.Sure.{are_sure}
 use Rattle.tl_eval.specs.Notes.{Tells}
 use Rattle.tl_syntax.specs.declared.bound.Bound.{Bound}
 use Rattle.tl_syntax.specs.declared.operator.Operator.{Operator}
@@ -15,8 +13,6 @@ use Rattle.tl_syntax.specs.declared.variable.Var.{Var}
 use Rattle.tl_syntax.specs.Assignment.{Assignment, bind, no_values}
 use Rattle.tl_syntax.specs.BoundVariables.{stands_in}
 use Rattle.tl_syntax.specs.Lists.{Each, Among}
-use Rattle.tl_syntax.specs.TreeOfEffect.{tree_of_effects}
-use Rattle.tl_syntax.specs.TreeOfTerm.{tree_of_terms}
 use Rattle.tl_syntax.specs.Trees.{TermTrees, variable, no_term, more_terms}
 use Rattle.tl_terms.specs.Bounds.{bound_true}
 use Rattle.tl_terms.specs.Definitions.{situation_of}
@@ -42,10 +38,16 @@ abbrev pub variables : List Var → TermTrees
 variables [] = no_term
 variables (s ∷ ss) = more_terms (variable s) (variables ss)
 
--- the bounds in another order, where one is given
-abbrev pub bounds_in : List Bound → Option (Vec Bound) → List Bound
-bounds_in bs None = bs
-bounds_in bs (Some moved) = moved.items
+-- a bound behind the first of the others
+abbrev pub behind_first : Bound → List Bound → List Bound
+behind_first b [] = b ∷ []
+behind_first b (c ∷ cs) = c ∷ b ∷ cs
+
+-- the bounds with the k-th of them before the others
+abbrev pub moved_first : List Bound → ℕ → List Bound
+moved_first [] k = []
+moved_first (b ∷ bs) zero = b ∷ bs
+moved_first (b ∷ bs) (suc k) = behind_first b (moved_first bs k)
 
 -- the same bounds, whatever their order
 abbrev pub HaveSame : List Bound → List Bound → Type 0
@@ -56,15 +58,20 @@ abbrev pub with_bounds : Operator → List Bound → Operator
 with_bounds o bs = record { name = o.name; params = o.params; bounds = bs; pre = o.pre; effects = o.effects }
 
 -- the operator with its bounds in the order in which they are joined
-abbrev pub arranged : Operator → JoinOrder → Operator
-arranged o order = with_bounds o (bounds_in o.bounds order.moved)
+abbrev pub arranged : Arranged → Operator
+arranged a = with_bounds a.operator.now (moved_first a.operator.now.bounds a.first)
 
--- the join order of an operator: its bounds in some order, the new parameters of each of them, all parameters as terms, and whether no effect can fail
-pub record IsJoinOrder (o : Operator) (order : JoinOrder) : Type 0 where
-  pub same : HaveSame o.bounds (arranged o order).bounds
-  pub levels : order.levels.items ≡ new_from o.params [] (arranged o order).bounds
-  pub terms : tree_of_terms order.terms ≡ variables o.params
-  pub sure : order.sure ≡ are_sure (tree_of_effects o.effects)
+-- the new parameters of each bound, in this order
+abbrev pub levels_in : Arranged → List (List Var)
+levels_in a = new_from a.operator.now.params [] (arranged a).bounds
+
+-- the parameters that stand in the bound and in none of the first j that are joined
+abbrev pub new_at : Arranged → ℕ → Bound → List Var
+new_at a j b = filter (is_new (take j (arranged a).bounds) b) a.operator.now.params
+
+-- how many bounds there are
+abbrev pub bound_count : Arranged → ℕ
+bound_count a = length (arranged a).bounds
 
 -- the two give the variables that stand in a bound of those seen the same values
 abbrev pub Known : List Bound → List Var → Assignment → Assignment → Type 0

@@ -1,12 +1,12 @@
 -- What the parts of the crate say in a world of a task, under the values of a frame.
-use Rattle.std.specs.Prelude.{ℕ, List, [], take, Bool, Option, Result}
+use Rattle.std.specs.Prelude.{ℕ, List, [], length, take, Bool, Option, Result}
+use Rattle.tl_action.specs.declared.arranged.Arranged.{Arranged}
 use Rattle.tl_action.specs.declared.changes.Changes.{Changes}
 use Rattle.tl_action.specs.declared.fault.ActFault.{ActFault}
-use Rattle.tl_action.specs.declared.join.JoinOrder.{JoinOrder}
-use Rattle.tl_action.specs.Agreement.{EffectLeaves, EffectsLeave, EachLeaves}
+use Rattle.tl_action.specs.Agreement.{Agree, EffectLeaves, EffectsLeave, EachLeaves}
 use Rattle.tl_action.specs.Answers.{Answers}
 use Rattle.tl_action.specs.Collected.{Collects, CollectsEach, GivesFact, GivesPlace}
-use Rattle.tl_action.specs.Join.{arranged, HasNoCompletion, IsPassed, IsRowFault, JoinsFrom, JoinsRow, Known}
+use Rattle.tl_action.specs.Join.{arranged, variables, HasNoCompletion, IsPassed, IsRowFault, JoinsFrom, JoinsRow, Known}
 use Rattle.tl_action.specs.Prepared.{CollectsWhole, Prepares, is_prepared, looked_prepared}
 use Rattle.tl_action.specs.RowLists.{AreRowsOf}
 use Rattle.tl_eval.specs.Frames.{assignment_in}
@@ -20,6 +20,8 @@ use Rattle.tl_syntax.specs.declared.term.Term.{Term}
 use Rattle.tl_syntax.specs.declared.term.Terms.{Terms}
 use Rattle.tl_syntax.specs.declared.value.Value.{Value}
 use Rattle.tl_syntax.specs.declared.variable.Var.{Var}
+use Rattle.tl_syntax.specs.FreeVariables.{slots_of}
+use Rattle.tl_syntax.specs.Kept.{OperatorKeeps}
 use Rattle.tl_syntax.specs.Signature.{signature_of}
 use Rattle.tl_syntax.specs.TreeOfEffect.{tree_of_effect, tree_of_effects}
 use Rattle.tl_syntax.specs.TreeOfTerm.{tree_of_term, tree_of_terms}
@@ -36,6 +38,11 @@ use Rattle.tl_world.specs.declared.task.Task.{Task}
 abbrev pub AnswersValues : World → List (Option Value) → Terms → Result (Option (List Value)) ActFault → Type 0
 AnswersValues w frame ts r =
     Answers (term_values w (assignment_in frame) (tree_of_terms ts)) (looked_in_each w (assignment_in frame) (tree_of_terms ts)) r
+
+-- the values of the variables, where all have one; or a fault with its cause
+abbrev pub AnswersRow : World → List (Option Value) → List Var → Result (Option (List Value)) ActFault → Type 0
+AnswersRow w frame ss r =
+    Answers (term_values w (assignment_in frame) (variables ss)) (looked_in_each w (assignment_in frame) (variables ss)) r
 
 -- true where the terms are defined, and the fact with their values is then collected; false where they are not; or a fault with its cause
 abbrev pub FactIsCollected : World → List (Option Value) → ℕ → Terms → List Fact → List Fact → Result Bool ActFault → Type 0
@@ -88,26 +95,34 @@ AnswersPrepared task w o frame r =
     Answers (is_prepared (plain_problem task.problem) w (assignment_in frame) (plain_operator o)) (looked_prepared (plain_problem task.problem) w (assignment_in frame) (plain_operator o)) r
 
 -- the bounds from the j-th to the k-th have no new parameter and are true under the values of the frame
-abbrev pub IsPassedUnder : Task → World → Operator → JoinOrder → List (Option Value) → ℕ → ℕ → Type 0
-IsPassedUnder task w o order frame j k = IsPassed (plain_problem task.problem) w (arranged o order) (assignment_in frame) j k
+abbrev pub IsPassedUnder : Task → World → Arranged → List (Option Value) → ℕ → ℕ → Type 0
+IsPassedUnder task w a frame j k = IsPassed (plain_problem task.problem) w (arranged a) (assignment_in frame) j k
 
 -- no row completes the frame from the j-th bound on
-abbrev pub HasNoneUnder : Task → World → Operator → JoinOrder → List (Option Value) → ℕ → Type 0
-HasNoneUnder task w o order frame j = HasNoCompletion (plain_problem task.problem) w (arranged o order) (assignment_in frame) j
+abbrev pub HasNoneUnder : Task → World → Arranged → List (Option Value) → ℕ → Type 0
+HasNoneUnder task w a frame j = HasNoCompletion (plain_problem task.problem) w (arranged a) (assignment_in frame) j
 
 -- the row of the values in the frame is added, where the operator can be applied with it; or a fault with its cause
-abbrev pub RowIsJoined : Task → World → Operator → JoinOrder → List (Option Value) → List (List Value) → List (List Value) → Result (Unit {0}) ActFault → Type 0
-RowIsJoined task w o order frame before after r =
-    JoinsRow (plain_problem task.problem) w (arranged o order) (assignment_in frame) before after r
+abbrev pub RowIsJoined : Task → World → Arranged → List (Option Value) → List (List Value) → List (List Value) → Result (Unit {0}) ActFault → Type 0
+RowIsJoined task w a frame before after r =
+    JoinsRow (plain_problem task.problem) w (arranged a) (assignment_in frame) before after r
 
 -- the rows that complete the frame from the j-th bound on are added; or a fault with its cause
-abbrev pub RowsAreJoined : Task → World → Operator → JoinOrder → ℕ → List (Option Value) → List (List Value) → List (List Value) → Result (Unit {0}) ActFault → Type 0
-RowsAreJoined task w o order j frame before after r =
-    JoinsFrom (plain_problem task.problem) w (arranged o order) j (assignment_in frame) before after r
+abbrev pub RowsAreJoined : Task → World → Arranged → ℕ → List (Option Value) → List (List Value) → List (List Value) → Result (Unit {0}) ActFault → Type 0
+RowsAreJoined task w a j frame before after r =
+    JoinsFrom (plain_problem task.problem) w (arranged a) j (assignment_in frame) before after r
 
 -- the parameters of the first j bounds keep their values in the frame
-abbrev pub KeepsKnown : Operator → JoinOrder → ℕ → List (Option Value) → List (Option Value) → Type 0
-KeepsKnown o order j old new = Known (take j (arranged o order).bounds) o.params (assignment_in new) (assignment_in old)
+abbrev pub KeepsKnown : Arranged → ℕ → List (Option Value) → List (Option Value) → Type 0
+KeepsKnown a j old new = Known (take j (arranged a).bounds) a.operator.now.params (assignment_in new) (assignment_in old)
+
+-- the parameters keep their values in the frame
+abbrev pub KeepsParameters : Operator → List (Option Value) → List (Option Value) → Type 0
+KeepsParameters o old new = Agree (slots_of o.params) (assignment_in new) (assignment_in old)
+
+-- the operator keeps what those of the task's problem keep
+abbrev pub OperatorIsKept : Task → Operator → Type 0
+OperatorIsKept task o = OperatorKeeps (signature_of task.problem.domain) (length task.problem.names) o
 
 -- the rows with which the operator can be applied, in order, each once
 abbrev pub AreRowsUnder : Task → World → Operator → List (Option Value) → List (List Value) → Type 0

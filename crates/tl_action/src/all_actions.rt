@@ -2,15 +2,14 @@
 ghost use Rattle.std.specs.Prelude.{◌≡◌, ◌++◌, length, map, IfOk, IfErr, OnOk};
 ghost use Rattle.tl_action.specs.Actions.{action_of, ActionsAreNamed, AreActions, HasOperator, IsCausedBySome};
 ghost use Rattle.tl_action.specs.RowLists.{IsRows};
-ghost use Rattle.tl_action.specs.UnderFrames.{AreRowsUnder, IsRowFaultUnder};
-ghost use Rattle.tl_syntax.specs.Kept.{OperatorKeeps};
+ghost use Rattle.tl_action.specs.UnderFrames.{OperatorIsKept, AreRowsUnder, IsRowFaultUnder};
 ghost use Rattle.tl_syntax.specs.Lists.{Each, Rises};
-ghost use Rattle.tl_syntax.specs.Signature.{signature_of};
 ghost use Rattle.tl_terms.specs.Orders.{action_cmp};
 ghost use Rattle.tl_terms.specs.ProblemMeaning.{plain_problem};
 
 use crate::ActFault;
-use crate::join::{JoinOrder, join};
+use crate::join::join;
+use crate::order::JoinOrder;
 use std::alloc::Global;
 use tl_eval::Env;
 use tl_syntax::{Action, Actions, NoMemory, Operator, Values};
@@ -33,13 +32,13 @@ fn rows_of(
     env: &mut Env,
     operator: &Operator,
 ) -> Result<Vec<Values>, ActFault>
-    requires { OperatorKeeps (signature_of task.now.problem.domain) (length task.now.problem.names) operator.now }
+    requires { OperatorIsKept task.now operator.now }
     ensures rows { IfOk result (λ rows. AreRowsUnder task.now w.now operator.now env.old rows.items) }
     ensures cause { IfErr result (IsRowFaultUnder task.now w.now operator.now env.old) }
 {
     let order = JoinOrder::of(alloc, task, w, operator)?;
     let mut rows = Vec::new(alloc);
-    match join(alloc, task, w, env, operator, &order, 0, &mut rows) {
+    match join(alloc, task, w, env, &order, 0, &mut rows) {
         Ok(()) => Ok(in_order(rows)),
         Err(fault) => Err(fault),
     }

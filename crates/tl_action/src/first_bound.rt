@@ -1,10 +1,8 @@
 // Which bound of an operator is joined first.
-ghost use Rattle.std.specs.Prelude.{◌≡◌, IfOk};
-ghost use Rattle.tl_action.specs.Join.{bounds_in, HaveSame};
+ghost use Rattle.std.specs.Prelude.{◌<◌, length};
 
 use crate::levels::stands_in;
-use std::alloc::Global;
-use tl_syntax::{Bound, NoMemory, Operator, Var};
+use tl_syntax::{Bound, Operator, Var};
 use tl_world::{Task, World};
 
 /// How many rows a table has at most for which its bound may come first.
@@ -47,7 +45,10 @@ fn have_common(vars: &[Var], a: &Bound, b: &Bound) -> bool {
 }
 
 /// The place of the bound with the fewest rows, among those with at most 4 that have a parameter in common with the first bound or have no row; 0 where there is none such. It takes no memory.
-fn smallest_bound(task: &Task, w: &World, operator: &Operator) -> usize {
+fn smallest_bound(task: &Task, w: &World, operator: &Operator) -> usize
+    requires { 0 < length operator.now.bounds }
+    ensures { result < length operator.now.bounds }
+{
     let params = operator.params.as_slice();
     let bounds = operator.bounds.as_slice();
     let mut smallest = 0;
@@ -66,50 +67,12 @@ fn smallest_bound(task: &Task, w: &World, operator: &Operator) -> usize {
 ///
 /// The first bound is then read once for each of a few rows, with their values known (the smallest relation first, Selinger et al. 1979).
 /// Any place would do: the rows that are found in the end are the same.
-pub(crate) fn first_bound(task: &Task, w: &World, operator: &Operator) -> usize {
+pub(crate) fn first_bound(task: &Task, w: &World, operator: &Operator) -> usize
+    ensures { 0 < length operator.now.bounds → result < length operator.now.bounds }
+{
     let bounds = operator.bounds.as_slice();
     if bounds.len() < 2 || count_rows(task, w, &bounds[0]) <= SMALL {
         return 0;
     }
     smallest_bound(task, w, operator)
-}
-
-/// A copy of the bounds. It fails for want of memory alone.
-fn copy_bounds(alloc: Global, bounds: &[Bound]) -> Result<Vec<Bound>, NoMemory>
-    ensures { IfOk result (λ copy. copy.items ≡ bounds.now) }
-{
-    let mut out = Vec::with_capacity(alloc, bounds.len())?;
-    for b in bounds {
-        let copy = b.copy(alloc)?;
-        out.push(copy)?;
-    }
-    Ok(out)
-}
-
-/// The bounds with the `k`-th before the others; None where it is the first or there is none such. It fails for want of memory alone.
-pub(crate) fn moved_bounds(
-    alloc: Global,
-    bounds: &[Bound],
-    k: usize,
-) -> Result<Option<Vec<Bound>>, NoMemory>
-    ensures { IfOk result (λ moved. HaveSame bounds.now (bounds_in bounds.now moved)) }
-{
-    if k == 0 || bounds.len() <= k {
-        return Ok(None);
-    }
-    let mut moved = copy_bounds(alloc, bounds)?;
-    let first = moved.remove(k);
-    moved.insert(0, first)?;
-    Ok(Some(moved))
-}
-
-/// The bounds in another order, where one is given.
-#[inline]
-pub(crate) fn bounds_in<'a>(bounds: &'a [Bound], moved: &'a Option<Vec<Bound>>) -> &'a [Bound]
-    ensures { result.now ≡ bounds_in bounds.now moved.now }
-{
-    match moved {
-        Some(other) => other.as_slice(),
-        None => bounds,
-    }
 }

@@ -1,12 +1,12 @@
 // The parts of a join order.
-ghost use Rattle.std.specs.Prelude.{◌≡◌, filter, IfOk, []};
-ghost use Rattle.tl_action.specs.Join.{is_new, new_from, stands_in_one, variables};
-ghost use Rattle.tl_syntax.specs.BoundVariables.{is_variable, stands_in};
-ghost use Rattle.tl_syntax.specs.TreeOfTerm.{tree_of_terms};
 ghost use Rattle.std.specs.List.{list_any};
+ghost use Rattle.std.specs.Prelude.{◌≡◌, ◌≤◌, take, IfOk};
+ghost use Rattle.tl_action.specs.Join.{arranged, bound_count, is_new, levels_in, new_at, stands_in_one};
+ghost use Rattle.tl_syntax.specs.BoundVariables.{is_variable, stands_in};
 
+use crate::arranged::Arranged;
 use std::alloc::Global;
-use tl_syntax::{Arg, Bound, NoMemory, Term, Terms, Var, Vars};
+use tl_syntax::{Arg, Bound, NoMemory, Var, Vars};
 
 /// Whether the argument is the variable. It takes no memory.
 fn is_variable(var: &Var, arg: &Arg) -> bool
@@ -40,56 +40,50 @@ pub(crate) fn stands_in(var: &Var, b: &Bound) -> bool
     }
 }
 
-/// Whether the variable stands in one of the bounds. It takes no memory.
-fn stands_in_one(var: &Var, bounds: &[Bound]) -> bool
-    ensures { result ≡ stands_in_one bounds.now var.now }
+/// Whether the variable stands in one of the first `j` bounds that are joined. It takes no memory.
+fn stands_before(var: &Var, bounds: &Arranged, j: usize) -> bool
+    requires { j ≤ bound_count bounds.now }
+    ensures { result ≡ stands_in_one (take j (arranged bounds.now).bounds) var.now }
 {
-    bounds.iter().any(|b| stands_in(var, b))
+    for k in 0..j {
+        if stands_in(var, bounds.bound(k)) {
+            return true;
+        }
+    }
+    false
 }
 
-/// Whether the variable stands in the bound and in none of those before it. It takes no memory.
-fn is_new(var: &Var, seen: &[Bound], b: &Bound) -> bool
-    ensures { result ≡ is_new seen.now b.now var.now }
+/// Whether the variable stands in the bound and in none of the first `j` that are joined. It takes no memory.
+fn is_new(var: &Var, bounds: &Arranged, j: usize, b: &Bound) -> bool
+    requires { j ≤ bound_count bounds.now }
+    ensures { result ≡ is_new (take j (arranged bounds.now).bounds) b.now var.now }
 {
-    stands_in(var, b) && !stands_in_one(var, seen)
+    stands_in(var, b) && !stands_before(var, bounds, j)
 }
 
-/// The parameters that stand in the bound and in none of those before it. It fails for want of memory alone.
-fn new_variables(alloc: Global, params: &[Var], seen: &[Bound], b: &Bound) -> Result<Vars, NoMemory>
-    ensures { IfOk result (λ vars. vars ≡ filter (is_new seen.now b.now) params.now) }
+/// The parameters that stand in the bound and in none of the first `j` that are joined. It fails for want of memory alone.
+fn new_variables(alloc: Global, bounds: &Arranged, j: usize, b: &Bound) -> Result<Vars, NoMemory>
+    requires { j ≤ bound_count bounds.now }
+    ensures { IfOk result (λ vars. vars ≡ new_at bounds.now j b.now) }
 {
+    let params = bounds.operator.params.as_slice();
     let mut vars = Vars::new(alloc);
     for param in params {
-        if is_new(param, seen, b) {
+        if is_new(param, bounds, j, b) {
             vars.push(*param)?;
         }
     }
     Ok(vars)
 }
 
-/// For each bound the parameters that stand in it and in none before it, in their order. It fails for want of memory alone.
-pub(crate) fn levels_of(
-    alloc: Global,
-    params: &[Var],
-    bounds: &[Bound],
-) -> Result<Vec<Vars>, NoMemory>
-    ensures { IfOk result (λ levels. levels.items ≡ new_from params.now [] bounds.now) }
+/// For each bound, in the order in which they are joined, the parameters that stand in it and in none before it, in their order. It fails for want of memory alone.
+pub(crate) fn levels_of(alloc: Global, bounds: &Arranged) -> Result<Vec<Vars>, NoMemory>
+    ensures { IfOk result (λ levels. levels.items ≡ levels_in bounds.now) }
 {
-    let mut levels = Vec::new(alloc);
-    for (j, bound) in bounds.iter().enumerate() {
-        let vars = new_variables(alloc, params, &bounds[..j], bound)?;
+    let mut levels = Vec::with_capacity(alloc, bounds.len())?;
+    for j in 0..bounds.len() {
+        let vars = new_variables(alloc, bounds, j, bounds.bound(j))?;
         levels.push(vars)?;
     }
     Ok(levels)
-}
-
-/// The variables as terms. It fails for want of memory alone.
-pub(crate) fn terms_of(alloc: Global, params: &[Var]) -> Result<Terms, NoMemory>
-    ensures { IfOk result (λ terms. tree_of_terms terms ≡ variables params.now) }
-{
-    let mut terms = Terms::new(alloc);
-    for param in params {
-        terms.push(Term::Var(*param))?;
-    }
-    Ok(terms)
 }

@@ -11,7 +11,9 @@
 //! - `collect`: the changes that effects make.
 //! - `join`: the rows of values with which an operator can be applied.
 //! - `first_bound`: which bound of an operator is joined first.
-//! - `levels`: the parts of a join order.
+//! - `levels`: the parameters to which each bound gives values.
+//! - `arranged`: the bounds of an operator in the order in which they are joined.
+//! - `order`: the join order of an operator.
 //! - `prepared`: what an operator whose bounds are true changes.
 //! - `sure`: effects that cannot fail.
 //! - `values`: the values of the terms of an effect.
@@ -19,6 +21,7 @@
 #![tactic(auto)]
 
 mod all_actions;
+mod arranged;
 mod bounds;
 mod changes;
 mod check_fault;
@@ -30,6 +33,7 @@ mod join;
 pub mod laws;
 mod levels;
 mod next;
+mod order;
 mod prepared;
 mod step;
 mod sure;

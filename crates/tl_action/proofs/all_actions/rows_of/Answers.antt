@@ -1,7 +1,10 @@
-use Rattle.std.proofs.Common.{◌≡◌, ◌↔◌, ◌⊎◌, List, [], inl, inr, subst}
-use Rattle.tl_action.specs.Join.{arranged, with_bounds, IsFound}
-use Rattle.tl_action.proofs.Arranged.{rows-with, fault-with}
+use Rattle.std.proofs.Common.{◌≡◌, ◌↔◌, ◌⊎◌, List, [], inl, inr, sym, subst}
+use Rattle.tl_action.specs.Join.{arranged, IsFound, IsRowFault}
+use Rattle.tl_action.specs.RowLists.{AreRowsOf}
+use Rattle.tl_action.specs.UnderFrames.{OperatorIsKept}
+use Rattle.tl_action.proofs.BoundOrders.{arranged-same, rows-with, fault-with}
 use Rattle.tl_eval.specs.Frames.{assignment_in}
+use Rattle.tl_syntax.specs.declared.operator.Operator.{Operator}
 use Rattle.tl_syntax.specs.declared.value.Value.{Value}
 use Rattle.tl_syntax.specs.Lists.{Among}
 use Rattle.tl_terms.specs.ProblemMeaning.{plain_operator, plain_problem}
@@ -14,16 +17,25 @@ added P before after kept q h k t = (
   λ p. (k t).1 ((h t).1 (inr p)),
 )
 
+pub join-requires-clause-keeps : goal.join-requires-clause-keeps
+join-requires-clause-keeps c = subst (OperatorIsKept c.args.task.now) (sym c.in_ok-order.ensures) c.requires
+
 pub returns-in-Ok-clause-rows : goal.returns-in-Ok-clause-rows
 returns-in-Ok-clause-rows c =
-    let o = c.args.operator.now in
-    let bs = (arranged o c.in_ok-order.order).bounds in
-    rows-with (plain_problem c.args.task.now.problem) c.args.w.now o bs c.in_ok-order.ensures.same (assignment_in c.args.env.now) c.in_order.result.items (record {
-      all = added (IsFound (plain_problem c.args.task.now.problem) c.args.w.now (plain_operator (with_bounds o bs)) [] bs (assignment_in c.args.env.now)) c.new-rows.result.items c.join.new.rows.items c.in_order.result.items c.new-rows.ensures.items c.in-Ok.ensures.rows c.in_order.ensures.same;
+    let a = c.in_ok-order.order.bounds in
+    let o = arranged a in
+    let p = plain_problem c.args.task.now.problem in
+    let e = assignment_in c.args.env.now in
+    subst (λ (x : Operator). AreRowsOf p c.args.w.now (plain_operator x) e c.in_order.result.items) c.in_ok-order.ensures
+    (rows-with p c.args.w.now a.operator.now o.bounds (arranged-same a) e c.in_order.result.items (record {
+      all = added (IsFound p c.args.w.now (plain_operator o) [] o.bounds e) c.new-rows.result.items c.join.new.rows.items c.in_order.result.items c.new-rows.ensures.items c.in-Ok.ensures.rows c.in_order.ensures.same;
       order = c.in_order.ensures.order;
-    })
+    }))
 
 pub returns-clause-cause : goal.returns-clause-cause
 returns-clause-cause c =
-    let o = c.args.operator.now in
-    fault-with (plain_problem c.args.task.now.problem) c.args.w.now o (arranged o c.in_ok-order.order).bounds c.in_ok-order.ensures.same (assignment_in c.args.env.now) c.in-Err.fault c.in-Err.ensures.rows
+    let a = c.in_ok-order.order.bounds in
+    let p = plain_problem c.args.task.now.problem in
+    let e = assignment_in c.args.env.now in
+    subst (λ (x : Operator). IsRowFault p c.args.w.now (plain_operator x) [] x.bounds e c.in-Err.fault) c.in_ok-order.ensures
+    (fault-with p c.args.w.now a.operator.now (arranged a).bounds (arranged-same a) e c.in-Err.fault c.in-Err.ensures.rows)

@@ -9,10 +9,10 @@ use Rattle.tl_terms.specs.ProblemMeaning.{plain_operator, plain_problem}
 use Rattle.tl_action.proofs.join.+joined.Given as goal
 
 abbrev pub decreases-join_level : goal.decreases-join_level
-decreases-join_level l = 2 * (length (arranged l.operator.now l.order.now).bounds - l.j)
+decreases-join_level l = 2 * (length (arranged l.order.now.bounds).bounds - l.j)
 
 abbrev pub decreases-join : goal.decreases-join
-decreases-join l = 1 + 2 * (length (arranged l.operator.now l.order.now).bounds - l.j)
+decreases-join l = 1 + 2 * (length (arranged l.order.now.bounds).bounds - l.j)
 
 abbrev pub decreases-join_level-loop-vars : goal.decreases-join_level-loop-vars
 decreases-join_level-loop-vars l = length (left (situation_of (plain_problem l.task.problem) l.w) (assignment_in l.fn.env) l.vars l.bound l.tuples.tuple)
@@ -20,6 +20,6 @@ decreases-join_level-loop-vars l = length (left (situation_of (plain_problem l.t
 abbrev pub invariant-join_level-loop-vars : goal.invariant-join_level-loop-vars
 invariant-join_level-loop-vars l = record {
   reads : Reads l.vars (assignment_in l.fn.env) l.bound l.tuples;
-  frame : Known (take l.j (arranged l.operator l.order).bounds) l.operator.params (assignment_in l.env) (assignment_in l.fn.env);
-  found : RowsRead (plain_problem l.task.problem) l.w (plain_operator (arranged l.operator l.order)) (take (l.j + 1) (arranged l.operator l.order).bounds) (drop (l.j + 1) (arranged l.operator l.order).bounds) (assignment_in l.fn.env) l.vars l.bound l.tuples.tuple l.fn.rows.items l.rows.items;
+  frame : Known (take l.j (arranged l.order.bounds).bounds) l.order.bounds.operator.now.params (assignment_in l.env) (assignment_in l.fn.env);
+  found : RowsRead (plain_problem l.task.problem) l.w (plain_operator (arranged l.order.bounds)) (take (l.j + 1) (arranged l.order.bounds).bounds) (drop (l.j + 1) (arranged l.order.bounds).bounds) (assignment_in l.fn.env) l.vars l.bound l.tuples.tuple l.fn.rows.items l.rows.items;
 }

@@ -1,10 +1,8 @@
 use Rattle.std.proofs.Common.{◌≡◌, ◌<◌, suc, List, [], ◌∷◌, length, get_or, true, ◌==◌, refl, sym, ap, ◌∙◌, arith, eqb-true}
-use Rattle.tl_action.specs.Join.{arranged}
-use Rattle.tl_action.proofs.JoinNodes.{Node, node-at, node-past, node-none}
-use Rattle.tl_action.proofs.NewVariables.{levels-length}
+use Rattle.tl_action.specs.Join.{arranged, bound_count}
+use Rattle.tl_action.proofs.JoinNodes.{Node, levels-count, node-at, node-past, node-none}
 use Rattle.tl_eval.specs.Frames.{assignment_in}
 use Rattle.tl_eval.proofs.ArityLaws.{declared-few}
-use Rattle.tl_syntax.specs.declared.bound.Bound.{Bound}
 use Rattle.tl_syntax.specs.declared.variable.Var.{Var}
 use Rattle.tl_syntax.specs.Signature.{signature_of}
 use Rattle.tl_terms.specs.ProblemMeaning.{plain_problem}
@@ -14,42 +12,41 @@ is-empty : (xs : List Var) → (length xs == 0) ≡ true → xs ≡ []
 is-empty [] h = refl
 is-empty (x ∷ xs) h = let none : suc (length xs) ≡ 0 = eqb-true (suc (length xs)) 0 h in absurd (omega (arith, none))
 
-pub bounds-levels-k : goal.bounds-levels-k
-bounds-levels-k c =
-    let many = ap (λ (bs : List Bound). length bs) c.bounds-bounds.ensures in
-    let same = ap (λ (ls : List (List Var)). length ls) (c.as_slice-levels.ensures.value ∙ c.requires.order.levels) ∙ levels-length c.args.operator.now.params [] (arranged c.args.operator.now c.args.order.now).bounds in
-    omega (arith, c.loop-k-test.true, many, same)
+pub bound-requires : goal.bound-requires
+bound-requires c =
+    let many = ap (λ (ls : List (List Var)). length ls) c.as_slice-levels.ensures.value ∙ levels-count c.args.order.now.bounds c.args.order.now.levels.items c.args.order.now.levels_are in
+    omega (arith, c.loop-k-test.true, many)
 
 pub bound_holds-requires : goal.bound_holds-requires
 bound_holds-requires c =
     let keep = c.args.task.now.problem.domain_keeps in
-    let many = ap (λ (bs : List Bound). length bs) c.bounds-bounds.ensures in
-    let below : c.loop-k.k < length (arranged c.args.operator.now c.args.order.now).bounds = omega (arith, c.loop-k-test.true, many) in
-    let b-is = c.index-bounds-k.is ∙ ap (λ (bs : List Bound). get_or bs c.loop-k.k c.index-bounds-k.result) c.bounds-bounds.ensures in
+    let many = ap (λ (ls : List (List Var)). length ls) c.as_slice-levels.ensures.value ∙ levels-count c.args.order.now.bounds c.args.order.now.levels.items c.args.order.now.levels_are in
+    let below : c.loop-k.k < bound_count c.args.order.now.bounds = omega (arith, c.loop-k-test.true, many) in
+    let b-is = c.bound.ensures in
     let vars-is = c.index-levels-k.is ∙ ap (λ (ls : List (List Var)). get_or ls c.loop-k.k c.index-levels-k.result) c.as_slice-levels.ensures.value in
-    let node : Node (signature_of c.args.task.now.problem.domain) (arranged c.args.operator.now c.args.order.now) c.loop-k.k c.index-bounds-k.result c.index-levels-k.result = node-at (signature_of c.args.task.now.problem.domain) (length c.args.task.now.problem.names) c.args.operator.now c.args.order.now c.loop-k.k c.index-bounds-k.result c.index-levels-k.result (declared-few _ _ keep.predicates) (declared-few _ _ keep.functions) c.requires.keeps c.requires.order below b-is vars-is in
+    let node : Node (signature_of c.args.task.now.problem.domain) (arranged c.args.order.now.bounds) c.loop-k.k c.bound.result.now c.index-levels-k.result = node-at (signature_of c.args.task.now.problem.domain) (length c.args.task.now.problem.names) c.args.order.now.bounds c.args.order.now.levels.items c.loop-k.k c.bound.result.now c.index-levels-k.result (declared-few _ _ keep.predicates) (declared-few _ _ keep.functions) c.requires.keeps c.args.order.now.levels_are below b-is vars-is in
     node.fits
 
 pub returns-then-not-bound_holds-clause-none : goal.returns-then-not-bound_holds-clause-none
 returns-then-not-bound_holds-clause-none c =
     let keep = c.args.task.now.problem.domain_keeps in
-    let many = ap (λ (bs : List Bound). length bs) c.bounds-bounds.ensures in
-    let below : c.loop-k.k < length (arranged c.args.operator.now c.args.order.now).bounds = omega (arith, c.loop-k-test.true, many) in
-    let b-is = c.index-bounds-k.is ∙ ap (λ (bs : List Bound). get_or bs c.loop-k.k c.index-bounds-k.result) c.bounds-bounds.ensures in
+    let many = ap (λ (ls : List (List Var)). length ls) c.as_slice-levels.ensures.value ∙ levels-count c.args.order.now.bounds c.args.order.now.levels.items c.args.order.now.levels_are in
+    let below : c.loop-k.k < bound_count c.args.order.now.bounds = omega (arith, c.loop-k-test.true, many) in
+    let b-is = c.bound.ensures in
     let vars-is = c.index-levels-k.is ∙ ap (λ (ls : List (List Var)). get_or ls c.loop-k.k c.index-levels-k.result) c.as_slice-levels.ensures.value in
-    let node : Node (signature_of c.args.task.now.problem.domain) (arranged c.args.operator.now c.args.order.now) c.loop-k.k c.index-bounds-k.result c.index-levels-k.result = node-at (signature_of c.args.task.now.problem.domain) (length c.args.task.now.problem.names) c.args.operator.now c.args.order.now c.loop-k.k c.index-bounds-k.result c.index-levels-k.result (declared-few _ _ keep.predicates) (declared-few _ _ keep.functions) c.requires.keeps c.requires.order below b-is vars-is in
+    let node : Node (signature_of c.args.task.now.problem.domain) (arranged c.args.order.now.bounds) c.loop-k.k c.bound.result.now c.index-levels-k.result = node-at (signature_of c.args.task.now.problem.domain) (length c.args.task.now.problem.names) c.args.order.now.bounds c.args.order.now.levels.items c.loop-k.k c.bound.result.now c.index-levels-k.result (declared-few _ _ keep.predicates) (declared-few _ _ keep.functions) c.requires.keeps c.args.order.now.levels_are below b-is vars-is in
     let none = is-empty c.index-levels-k.result (sym c.is_empty.ensures ∙ c.if-is_empty.true) in
     let is = sym c.bound_holds.ensures ∙ c.if-not-bound_holds.true in
-    node-none (signature_of c.args.task.now.problem.domain) (plain_problem c.args.task.now.problem) c.args.w.now (arranged c.args.operator.now c.args.order.now) c.loop-k.k c.index-bounds-k.result c.index-levels-k.result below b-is node (assignment_in c.args.env.now) none is c.args.j c.loop-k.invariant.passed
+    node-none (signature_of c.args.task.now.problem.domain) (plain_problem c.args.task.now.problem) c.args.w.now (arranged c.args.order.now.bounds) c.loop-k.k c.bound.result.now c.index-levels-k.result below b-is node (assignment_in c.args.env.now) none is c.args.j c.loop-k.invariant.passed
 
 pub loop-k-preserved : goal.loop-k-preserved
 loop-k-preserved c =
     let keep = c.args.task.now.problem.domain_keeps in
-    let many = ap (λ (bs : List Bound). length bs) c.bounds-bounds.ensures in
-    let below : c.loop-k.k < length (arranged c.args.operator.now c.args.order.now).bounds = omega (arith, c.loop-k-test.true, many) in
-    let b-is = c.index-bounds-k.is ∙ ap (λ (bs : List Bound). get_or bs c.loop-k.k c.index-bounds-k.result) c.bounds-bounds.ensures in
+    let many = ap (λ (ls : List (List Var)). length ls) c.as_slice-levels.ensures.value ∙ levels-count c.args.order.now.bounds c.args.order.now.levels.items c.args.order.now.levels_are in
+    let below : c.loop-k.k < bound_count c.args.order.now.bounds = omega (arith, c.loop-k-test.true, many) in
+    let b-is = c.bound.ensures in
     let vars-is = c.index-levels-k.is ∙ ap (λ (ls : List (List Var)). get_or ls c.loop-k.k c.index-levels-k.result) c.as_slice-levels.ensures.value in
-    let node : Node (signature_of c.args.task.now.problem.domain) (arranged c.args.operator.now c.args.order.now) c.loop-k.k c.index-bounds-k.result c.index-levels-k.result = node-at (signature_of c.args.task.now.problem.domain) (length c.args.task.now.problem.names) c.args.operator.now c.args.order.now c.loop-k.k c.index-bounds-k.result c.index-levels-k.result (declared-few _ _ keep.predicates) (declared-few _ _ keep.functions) c.requires.keeps c.requires.order below b-is vars-is in
+    let node : Node (signature_of c.args.task.now.problem.domain) (arranged c.args.order.now.bounds) c.loop-k.k c.bound.result.now c.index-levels-k.result = node-at (signature_of c.args.task.now.problem.domain) (length c.args.task.now.problem.names) c.args.order.now.bounds c.args.order.now.levels.items c.loop-k.k c.bound.result.now c.index-levels-k.result (declared-few _ _ keep.predicates) (declared-few _ _ keep.functions) c.requires.keeps c.args.order.now.levels_are below b-is vars-is in
     let none = is-empty c.index-levels-k.result (sym c.is_empty.ensures ∙ c.if-is_empty.true) in
     let is = sym c.bound_holds.ensures ∙ c.if-not-bound_holds.false in
-    record { passed = node-past (signature_of c.args.task.now.problem.domain) (plain_problem c.args.task.now.problem) c.args.w.now (arranged c.args.operator.now c.args.order.now) c.loop-k.k c.index-bounds-k.result c.index-levels-k.result below b-is node (assignment_in c.args.env.now) none is c.args.j c.loop-k.invariant.passed }
+    record { passed = node-past (signature_of c.args.task.now.problem.domain) (plain_problem c.args.task.now.problem) c.args.w.now (arranged c.args.order.now.bounds) c.loop-k.k c.bound.result.now c.index-levels-k.result below b-is node (assignment_in c.args.env.now) none is c.args.j c.loop-k.invariant.passed }

@@ -5,9 +5,9 @@ use Rattle.tl_terms.specs.ProblemMeaning.{plain_problem}
 use Rattle.tl_action.proofs.join.next_level.Given as goal
 
 abbrev pub decreases-loop-k : goal.decreases-loop-k
-decreases-loop-k l = length l.bounds - l.k
+decreases-loop-k l = length l.levels - l.k
 
 abbrev pub invariant-loop-k : goal.invariant-loop-k
 invariant-loop-k l = record {
-  passed : IsPassed (plain_problem l.task.problem) l.w (arranged l.operator l.order) (assignment_in l.env) l.j l.k;
+  passed : IsPassed (plain_problem l.task.problem) l.w (arranged l.order.bounds) (assignment_in l.env) l.j l.k;
 }

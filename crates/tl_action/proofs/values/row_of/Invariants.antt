@@ -1,0 +1,10 @@
+use Rattle.std.proofs.Common.{◌≡◌, drop}
+use Rattle.tl_action.proofs.FrameRows.{RowPassed}
+use Rattle.tl_eval.specs.Frames.{assignment_in}
+use Rattle.tl_action.proofs.values.row_of.Given as goal
+
+abbrev pub invariant-loop-var : goal.invariant-loop-var
+invariant-loop-var l = record {
+  frame : l.env ≡ l.fn.env;
+  passed : RowPassed l.w (assignment_in l.fn.env) l.vars (drop l.var-index l.vars) l.row;
+}

@@ -1,0 +1,52 @@
+// The order in which the bounds of an operator are joined, and what is worked out before.
+ghost use Rattle.std.specs.Prelude.{◌≡◌};
+ghost use Rattle.tl_action.specs.Join.{levels_in};
+ghost use Rattle.tl_action.specs.Sure.{are_sure};
+ghost use Rattle.tl_syntax.specs.TreeOfEffect.{tree_of_effects};
+
+use crate::arranged::Arranged;
+use crate::first_bound::first_bound;
+use crate::levels::levels_of;
+use crate::sure::are_sure;
+use std::alloc::Global;
+use tl_syntax::{NoMemory, Operator, Vars};
+use tl_world::{Task, World};
+
+/// The join order of an operator: its bounds in the order in which they are joined, and which parameters each of them gives values. It is worked out once for a world, before the bounds are joined.
+#[derive(Drop)]
+pub(crate) struct JoinOrder<'a> {
+    /// The bounds of the operator.
+    pub(crate) bounds: Arranged<'a>,
+    /// For each bound, in this order, the parameters that stand in it and in none before it.
+    pub(crate) levels: Vec<Vars>,
+    /// Whether none of the effects can fail, so that the precondition alone decides.
+    pub(crate) sure: bool,
+    pub(crate) ghost levels_are: { levels.items ≡ levels_in bounds },
+    pub(crate) ghost sure_is: { sure ≡ are_sure (tree_of_effects bounds.operator.now.effects) },
+}
+
+impl<'a> JoinOrder<'a> {
+    ghost use Rattle.std.specs.Prelude.{IfOk};
+
+    /// The join order of an operator in a world: its bounds in their order, or with that of `first_bound` before the others. It fails for want of memory alone.
+    pub(crate) fn of(
+        alloc: Global,
+        task: &Task,
+        w: &World,
+        operator: &'a Operator,
+    ) -> Result<JoinOrder<'a>, NoMemory>
+        ensures { IfOk result (λ order. order.bounds.operator.now ≡ operator.now) }
+    {
+        let bounds = Arranged {
+            operator,
+            first: first_bound(task, w, operator),
+        };
+        let levels = levels_of(alloc, &bounds)?;
+        let sure = are_sure(&operator.effects);
+        Ok(JoinOrder {
+            bounds,
+            levels,
+            sure,
+        })
+    }
+}
