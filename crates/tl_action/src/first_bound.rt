@@ -63,7 +63,7 @@ fn smallest_bound(task: &Task, w: &World, operator: &Operator) -> usize
     smallest
 }
 
-/// The place of the bound that is joined first: 0, unless the table of the first bound has more than 128 rows in the world, and else that of `smallest_bound`. It takes no memory.
+/// The place of the bound that is joined first: that of `smallest_bound` where the table of the first bound has more than 128 rows in the world, and else 0. It takes no memory.
 ///
 /// The first bound is then read once for each of a few rows, with their values known (the smallest relation first, Selinger et al. 1979).
 /// Any place would do: the rows that are found in the end are the same.
