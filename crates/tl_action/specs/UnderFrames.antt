@@ -1,9 +1,13 @@
 -- What the parts of the crate say in a world of a task, under the values of a frame.
+use Rattle.std.specs.List.{list_all}
 use Rattle.std.specs.Prelude.{ℕ, List, [], length, take, Bool, Option, Result}
 use Rattle.tl_action.specs.declared.arranged.Arranged.{Arranged}
 use Rattle.tl_action.specs.declared.changes.Changes.{Changes}
+use Rattle.tl_action.specs.declared.collect.Scope.{Scope}
+use Rattle.tl_action.specs.declared.collect.Setting.{Setting}
 use Rattle.tl_action.specs.declared.fault.ActFault.{ActFault}
-use Rattle.tl_action.specs.Agreement.{Agree, EffectLeaves, EffectsLeave, EachLeaves}
+use Rattle.tl_action.specs.declared.here.Here.{Here}
+use Rattle.tl_action.specs.Agreement.{Agree, EffectReads, EffectsRead, EachReads, EffectLeaves, EffectsLeave, EachLeaves}
 use Rattle.tl_action.specs.Answers.{Answers}
 use Rattle.tl_action.specs.Collected.{Collects, CollectsEach, GivesFact, GivesPlace}
 use Rattle.tl_action.specs.Join.{arranged, variables, HasNoCompletion, IsPassed, IsRowFault, JoinsFrom, JoinsRow, Known}
@@ -20,97 +24,139 @@ use Rattle.tl_syntax.specs.declared.term.Term.{Term}
 use Rattle.tl_syntax.specs.declared.term.Terms.{Terms}
 use Rattle.tl_syntax.specs.declared.value.Value.{Value}
 use Rattle.tl_syntax.specs.declared.variable.Var.{Var}
+use Rattle.tl_syntax.specs.Fits.{BoundFits, TermFits, TermsFit}
 use Rattle.tl_syntax.specs.FreeVariables.{slots_of}
 use Rattle.tl_syntax.specs.Kept.{OperatorKeeps}
-use Rattle.tl_syntax.specs.Signature.{signature_of}
+use Rattle.tl_syntax.specs.Lists.{Each}
+use Rattle.tl_syntax.specs.Signature.{Signature, signature_of}
 use Rattle.tl_syntax.specs.TreeOfEffect.{tree_of_effect, tree_of_effects}
 use Rattle.tl_syntax.specs.TreeOfTerm.{tree_of_term, tree_of_terms}
-use Rattle.tl_terms.specs.Bounds.{tuples}
+use Rattle.tl_terms.specs.Bounds.{bound_true, tuples}
 use Rattle.tl_terms.specs.Definitions.{situation_of}
 use Rattle.tl_terms.specs.Looked.{looked_in_each, looked_in_term, looked_in_effect, looked_in_effects, looks_of}
+use Rattle.tl_terms.specs.Problem.{PlainProblem}
 use Rattle.tl_terms.specs.ProblemMeaning.{plain_operator, plain_problem}
+use Rattle.tl_terms.specs.Situation.{Situation}
 use Rattle.tl_terms.specs.Step.{effect_instances, all_instances}
 use Rattle.tl_terms.specs.Terms.{term_value, term_values}
-use Rattle.tl_terms.specs.World.{World}
-use Rattle.tl_world.specs.declared.task.Task.{Task}
+
+-- the problem of the task
+abbrev pub problem_here : Here → PlainProblem
+problem_here here = plain_problem here.task.now.problem
+
+-- its signature
+abbrev pub signature_here : Here → Signature
+signature_here here = signature_of here.task.now.problem.domain
+
+-- the problem in the world
+abbrev pub situation_here : Here → Situation
+situation_here here = situation_of (problem_here here) here.world.now
+
+-- the terms fit the signature
+abbrev pub TermsFitHere : Here → Terms → Type 0
+TermsFitHere here ts = TermsFit (signature_here here) (tree_of_terms ts)
+
+-- the term does
+abbrev pub TermFitsHere : Here → Term → Type 0
+TermFitsHere here t = TermFits (signature_here here) (tree_of_term t)
+
+-- the bounds do
+abbrev pub BoundsFitHere : Here → List Bound → Type 0
+BoundsFitHere here bs = Each (BoundFits (signature_here here)) bs
+
+-- the effect can be read there
+abbrev pub EffectReadsHere : Here → Effect → Type 0
+EffectReadsHere here x = EffectReads (signature_here here) (tree_of_effect x)
+
+-- the effects can
+abbrev pub EffectsReadHere : Here → Effects → Type 0
+EffectsReadHere here xs = EffectsRead (signature_here here) (tree_of_effects xs)
+
+-- the effects below variables can
+abbrev pub EachReadsHere : Here → List Var → Effects → Type 0
+EachReadsHere here ss xs = EachReads (signature_here here) ss (tree_of_effects xs)
+
+-- all bounds are true in the world under the values of the frame
+abbrev pub bounds_true : Here → List (Option Value) → List Bound → Bool
+bounds_true here frame bs = list_all (bound_true (situation_here here) (assignment_in frame)) bs
 
 -- the values of the terms, where all are defined; or a fault with its cause
-abbrev pub AnswersValues : World → List (Option Value) → Terms → Result (Option (List Value)) ActFault → Type 0
-AnswersValues w frame ts r =
-    Answers (term_values w (assignment_in frame) (tree_of_terms ts)) (looked_in_each w (assignment_in frame) (tree_of_terms ts)) r
+abbrev pub AnswersValues : Here → List (Option Value) → Terms → Result (Option (List Value)) ActFault → Type 0
+AnswersValues here frame ts r =
+    Answers (term_values here.world.now (assignment_in frame) (tree_of_terms ts)) (looked_in_each here.world.now (assignment_in frame) (tree_of_terms ts)) r
 
 -- the values of the variables, where all have one; or a fault with its cause
-abbrev pub AnswersRow : World → List (Option Value) → List Var → Result (Option (List Value)) ActFault → Type 0
-AnswersRow w frame ss r =
-    Answers (term_values w (assignment_in frame) (variables ss)) (looked_in_each w (assignment_in frame) (variables ss)) r
+abbrev pub AnswersRow : Here → List (Option Value) → List Var → Result (Option (List Value)) ActFault → Type 0
+AnswersRow here frame ss r =
+    Answers (term_values here.world.now (assignment_in frame) (variables ss)) (looked_in_each here.world.now (assignment_in frame) (variables ss)) r
 
 -- true where the terms are defined, and the fact with their values is then collected; false where they are not; or a fault with its cause
-abbrev pub FactIsCollected : World → List (Option Value) → ℕ → Terms → List Fact → List Fact → Result Bool ActFault → Type 0
-FactIsCollected w frame pred ts before after r =
-    GivesFact pred (term_values w (assignment_in frame) (tree_of_terms ts)) (looked_in_each w (assignment_in frame) (tree_of_terms ts)) before after r
+abbrev pub FactIsCollected : Here → List (Option Value) → ℕ → Terms → List Fact → List Fact → Result Bool ActFault → Type 0
+FactIsCollected here frame pred ts before after r =
+    GivesFact pred (term_values here.world.now (assignment_in frame) (tree_of_terms ts)) (looked_in_each here.world.now (assignment_in frame) (tree_of_terms ts)) before after r
 
--- and so for a place, whose arguments are the values of the terms, with the value of a term
-abbrev pub PlaceIsCollected : World → List (Option Value) → ℕ → Terms → Term → List PlaceValue → List PlaceValue → Result Bool ActFault → Type 0
-PlaceIsCollected w frame f ts t before after r =
-    GivesPlace f (term_values w (assignment_in frame) (tree_of_terms ts)) (term_value w (assignment_in frame) (tree_of_term t)) (looked_in_each w (assignment_in frame) (tree_of_terms ts)) (looked_in_term w (assignment_in frame) (tree_of_term t)) before after r
+-- and so for a place that an effect sets, with its value
+abbrev pub PlaceIsCollected : Here → List (Option Value) → Setting → List PlaceValue → List PlaceValue → Result Bool ActFault → Type 0
+PlaceIsCollected here frame s before after r =
+    GivesPlace s.fun (term_values here.world.now (assignment_in frame) (tree_of_terms s.args.now)) (term_value here.world.now (assignment_in frame) (tree_of_term s.value.now)) (looked_in_each here.world.now (assignment_in frame) (tree_of_terms s.args.now)) (looked_in_term here.world.now (assignment_in frame) (tree_of_term s.value.now)) before after r
 
 -- true where all instances of the effect are defined, whose changes are then collected; false where some is not; or a fault with its cause
-abbrev pub EffectIsCollected : Task → World → List (Option Value) → Effect → Changes → Changes → Result Bool ActFault → Type 0
-EffectIsCollected task w frame x before after r =
-    Collects (effect_instances (situation_of (plain_problem task.problem) w) (assignment_in frame) (tree_of_effect x)) (looked_in_effect (looks_of (plain_problem task.problem) w) (situation_of (plain_problem task.problem) w) (assignment_in frame) (tree_of_effect x)) before after r
+abbrev pub EffectIsCollected : Here → List (Option Value) → Effect → Changes → Changes → Result Bool ActFault → Type 0
+EffectIsCollected here frame x before after r =
+    Collects (effect_instances (situation_here here) (assignment_in frame) (tree_of_effect x)) (looked_in_effect (looks_of (problem_here here) here.world.now) (situation_here here) (assignment_in frame) (tree_of_effect x)) before after r
 
 -- and so for a list of effects
-abbrev pub EffectsAreCollected : Task → World → List (Option Value) → Effects → Changes → Changes → Result Bool ActFault → Type 0
-EffectsAreCollected task w frame xs before after r =
-    Collects (all_instances (situation_of (plain_problem task.problem) w) (assignment_in frame) (tree_of_effects xs)) (looked_in_effects (looks_of (plain_problem task.problem) w) (situation_of (plain_problem task.problem) w) (assignment_in frame) (tree_of_effects xs)) before after r
+abbrev pub EffectsAreCollected : Here → List (Option Value) → Effects → Changes → Changes → Result Bool ActFault → Type 0
+EffectsAreCollected here frame xs before after r =
+    Collects (all_instances (situation_here here) (assignment_in frame) (tree_of_effects xs)) (looked_in_effects (looks_of (problem_here here) here.world.now) (situation_here here) (assignment_in frame) (tree_of_effects xs)) before after r
 
 -- and for effects below variables, for each tuple of their values that makes the bound true
-abbrev pub EachIsCollected : Task → World → List (Option Value) → List Var → Bound → Effects → Changes → Changes → Result Bool ActFault → Type 0
-EachIsCollected task w frame ss b xs before after r =
-    CollectsEach (plain_problem task.problem) w (assignment_in frame) ss (tree_of_effects xs) (tuples (situation_of (plain_problem task.problem) w) (assignment_in frame) ss b) before after r
+abbrev pub EachIsCollected : Here → List (Option Value) → Scope → Effects → Changes → Changes → Result Bool ActFault → Type 0
+EachIsCollected here frame scope xs before after r =
+    CollectsEach (problem_here here) here.world.now (assignment_in frame) scope.vars.now (tree_of_effects xs) (tuples (situation_here here) (assignment_in frame) scope.vars.now scope.bound.now) before after r
 
 -- only slots of variables that the effect quantifies got other values in the frame
-abbrev pub EffectLeavesFrame : Task → Effect → List (Option Value) → List (Option Value) → Type 0
-EffectLeavesFrame task x old new = EffectLeaves (signature_of task.problem.domain) (tree_of_effect x) (assignment_in old) (assignment_in new)
+abbrev pub EffectLeavesFrame : Here → Effect → List (Option Value) → List (Option Value) → Type 0
+EffectLeavesFrame here x old new = EffectLeaves (signature_here here) (tree_of_effect x) (assignment_in old) (assignment_in new)
 
 -- and so for a list of effects
-abbrev pub EffectsLeaveFrame : Task → Effects → List (Option Value) → List (Option Value) → Type 0
-EffectsLeaveFrame task xs old new = EffectsLeave (signature_of task.problem.domain) (tree_of_effects xs) (assignment_in old) (assignment_in new)
+abbrev pub EffectsLeaveFrame : Here → Effects → List (Option Value) → List (Option Value) → Type 0
+EffectsLeaveFrame here xs old new = EffectsLeave (signature_here here) (tree_of_effects xs) (assignment_in old) (assignment_in new)
 
 -- and for effects below variables
-abbrev pub EachLeavesFrame : Task → List Var → Effects → List (Option Value) → List (Option Value) → Type 0
-EachLeavesFrame task ss xs old new = EachLeaves (signature_of task.problem.domain) ss (tree_of_effects xs) (assignment_in old) (assignment_in new)
+abbrev pub EachLeavesFrame : Here → List Var → Effects → List (Option Value) → List (Option Value) → Type 0
+EachLeavesFrame here ss xs old new = EachLeaves (signature_here here) ss (tree_of_effects xs) (assignment_in old) (assignment_in new)
 
 -- the changes that the operator's effects make; none where an instance is undefined or two clash; or a fault with its cause
-abbrev pub ChangesAreCollected : Task → World → Operator → List (Option Value) → Result (Option Changes) ActFault → Type 0
-ChangesAreCollected task w o frame r = CollectsWhole (plain_problem task.problem) w (assignment_in frame) (plain_operator o) r
+abbrev pub ChangesAreCollected : Here → Operator → List (Option Value) → Result (Option Changes) ActFault → Type 0
+ChangesAreCollected here o frame r = CollectsWhole (problem_here here) here.world.now (assignment_in frame) (plain_operator o) r
 
 -- the changes, where the operator can be applied; none where it cannot; or a fault with its cause
-abbrev pub ChangesArePrepared : Task → World → Operator → List (Option Value) → Result (Option Changes) ActFault → Type 0
-ChangesArePrepared task w o frame r = Prepares (plain_problem task.problem) w (assignment_in frame) (plain_operator o) r
+abbrev pub ChangesArePrepared : Here → Operator → List (Option Value) → Result (Option Changes) ActFault → Type 0
+ChangesArePrepared here o frame r = Prepares (problem_here here) here.world.now (assignment_in frame) (plain_operator o) r
 
 -- whether the operator can be applied with its parameters' values in the frame; or a fault with its cause
-abbrev pub AnswersPrepared : Task → World → Operator → List (Option Value) → Result Bool ActFault → Type 0
-AnswersPrepared task w o frame r =
-    Answers (is_prepared (plain_problem task.problem) w (assignment_in frame) (plain_operator o)) (looked_prepared (plain_problem task.problem) w (assignment_in frame) (plain_operator o)) r
+abbrev pub AnswersPrepared : Here → Operator → List (Option Value) → Result Bool ActFault → Type 0
+AnswersPrepared here o frame r =
+    Answers (is_prepared (problem_here here) here.world.now (assignment_in frame) (plain_operator o)) (looked_prepared (problem_here here) here.world.now (assignment_in frame) (plain_operator o)) r
 
 -- the bounds from the j-th to the k-th have no new parameter and are true under the values of the frame
-abbrev pub IsPassedUnder : Task → World → Arranged → List (Option Value) → ℕ → ℕ → Type 0
-IsPassedUnder task w a frame j k = IsPassed (plain_problem task.problem) w (arranged a) (assignment_in frame) j k
+abbrev pub IsPassedUnder : Here → Arranged → List (Option Value) → ℕ → ℕ → Type 0
+IsPassedUnder here a frame j k = IsPassed (problem_here here) here.world.now (arranged a) (assignment_in frame) j k
 
 -- no row completes the frame from the j-th bound on
-abbrev pub HasNoneUnder : Task → World → Arranged → List (Option Value) → ℕ → Type 0
-HasNoneUnder task w a frame j = HasNoCompletion (plain_problem task.problem) w (arranged a) (assignment_in frame) j
+abbrev pub HasNoneUnder : Here → Arranged → List (Option Value) → ℕ → Type 0
+HasNoneUnder here a frame j = HasNoCompletion (problem_here here) here.world.now (arranged a) (assignment_in frame) j
 
 -- the row of the values in the frame is added, where the operator can be applied with it; or a fault with its cause
-abbrev pub RowIsJoined : Task → World → Arranged → List (Option Value) → List (List Value) → List (List Value) → Result (Unit {0}) ActFault → Type 0
-RowIsJoined task w a frame before after r =
-    JoinsRow (plain_problem task.problem) w (arranged a) (assignment_in frame) before after r
+abbrev pub RowIsJoined : Here → Arranged → List (Option Value) → List (List Value) → List (List Value) → Result (Unit {0}) ActFault → Type 0
+RowIsJoined here a frame before after r =
+    JoinsRow (problem_here here) here.world.now (arranged a) (assignment_in frame) before after r
 
 -- the rows that complete the frame from the j-th bound on are added; or a fault with its cause
-abbrev pub RowsAreJoined : Task → World → Arranged → ℕ → List (Option Value) → List (List Value) → List (List Value) → Result (Unit {0}) ActFault → Type 0
-RowsAreJoined task w a j frame before after r =
-    JoinsFrom (plain_problem task.problem) w (arranged a) j (assignment_in frame) before after r
+abbrev pub RowsAreJoined : Here → Arranged → ℕ → List (Option Value) → List (List Value) → List (List Value) → Result (Unit {0}) ActFault → Type 0
+RowsAreJoined here a j frame before after r =
+    JoinsFrom (problem_here here) here.world.now (arranged a) j (assignment_in frame) before after r
 
 -- the parameters of the first j bounds keep their values in the frame
 abbrev pub KeepsKnown : Arranged → ℕ → List (Option Value) → List (Option Value) → Type 0
@@ -121,13 +167,13 @@ abbrev pub KeepsParameters : Operator → List (Option Value) → List (Option V
 KeepsParameters o old new = Agree (slots_of o.params) (assignment_in new) (assignment_in old)
 
 -- the operator keeps what those of the task's problem keep
-abbrev pub OperatorIsKept : Task → Operator → Type 0
-OperatorIsKept task o = OperatorKeeps (signature_of task.problem.domain) (length task.problem.names) o
+abbrev pub OperatorIsKept : Here → Operator → Type 0
+OperatorIsKept here o = OperatorKeeps (signature_here here) (length here.task.now.problem.names) o
 
 -- the rows with which the operator can be applied, in order, each once
-abbrev pub AreRowsUnder : Task → World → Operator → List (Option Value) → List (List Value) → Type 0
-AreRowsUnder task w o frame rows = AreRowsOf (plain_problem task.problem) w (plain_operator o) (assignment_in frame) rows
+abbrev pub AreRowsUnder : Here → Operator → List (Option Value) → List (List Value) → Type 0
+AreRowsUnder here o frame rows = AreRowsOf (problem_here here) here.world.now (plain_operator o) (assignment_in frame) rows
 
 -- a range fault tells an operation that is looked at with the values of a row that the bounds allow
-abbrev pub IsRowFaultUnder : Task → World → Operator → List (Option Value) → ActFault → Type 0
-IsRowFaultUnder task w o frame fault = IsRowFault (plain_problem task.problem) w (plain_operator o) [] o.bounds (assignment_in frame) fault
+abbrev pub IsRowFaultUnder : Here → Operator → List (Option Value) → ActFault → Type 0
+IsRowFaultUnder here o frame fault = IsRowFault (problem_here here) here.world.now (plain_operator o) [] o.bounds (assignment_in frame) fault

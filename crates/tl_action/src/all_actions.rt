@@ -8,6 +8,7 @@ ghost use Rattle.tl_terms.specs.Orders.{action_cmp};
 ghost use Rattle.tl_terms.specs.ProblemMeaning.{plain_problem};
 
 use crate::ActFault;
+use crate::here::Here;
 use crate::join::join;
 use crate::order::JoinOrder;
 use std::alloc::Global;
@@ -25,20 +26,14 @@ fn in_order(mut rows: Vec<Values>) -> Vec<Values>
 }
 
 /// The rows of values with which the operator can be applied, in lexicographic value order, each once.
-fn rows_of(
-    alloc: Global,
-    task: &Task,
-    w: &World,
-    env: &mut Env,
-    operator: &Operator,
-) -> Result<Vec<Values>, ActFault>
-    requires { OperatorIsKept task.now operator.now }
-    ensures rows { IfOk result (λ rows. AreRowsUnder task.now w.now operator.now env.old rows.items) }
-    ensures cause { IfErr result (IsRowFaultUnder task.now w.now operator.now env.old) }
+fn rows_of(here: &Here, env: &mut Env, operator: &Operator) -> Result<Vec<Values>, ActFault>
+    requires { OperatorIsKept here.now operator.now }
+    ensures rows { IfOk result (λ rows. AreRowsUnder here.now operator.now env.old rows.items) }
+    ensures cause { IfErr result (IsRowFaultUnder here.now operator.now env.old) }
 {
-    let order = JoinOrder::of(alloc, task, w, operator)?;
-    let mut rows = Vec::new(alloc);
-    match join(alloc, task, w, env, &order, 0, &mut rows) {
+    let order = JoinOrder::of(here, operator)?;
+    let mut rows = Vec::new(here.alloc);
+    match join(here, env, &order, 0, &mut rows) {
         Ok(()) => Ok(in_order(rows)),
         Err(fault) => Err(fault),
     }
@@ -66,9 +61,14 @@ pub fn actions(alloc: Global, task: &Task, w: &World, env: &mut Env) -> Result<A
     ensures cause { IfErr result (IsCausedBySome (plain_problem task.now.problem) w.now) }
 {
     let operators = task.problem.domain.operators.as_slice();
+    let here = Here {
+        alloc,
+        task,
+        world: w,
+    };
     let mut found = Actions::new(alloc);
     for (op, operator) in operators.iter().enumerate() {
-        match rows_of(alloc, task, w, env, operator) {
+        match rows_of(&here, env, operator) {
             Ok(rows) => push_rows(op as u32, rows, &mut found)?,
             Err(fault) => return Err(fault),
         }

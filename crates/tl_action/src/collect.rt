@@ -1,36 +1,29 @@
 // The changes that effects make, all read in one world.
 ghost use Rattle.std.specs.Prelude.{◌≡◌};
-ghost use Rattle.tl_action.specs.Agreement.{EffectReads, EffectsRead, EachReads};
-ghost use Rattle.tl_action.specs.UnderFrames.{FactIsCollected, PlaceIsCollected, EffectIsCollected, EffectsAreCollected, EachIsCollected, EffectLeavesFrame, EffectsLeaveFrame, EachLeavesFrame};
+ghost use Rattle.tl_action.specs.UnderFrames.{signature_here, TermFitsHere, TermsFitHere, EffectReadsHere, EffectsReadHere, EachReadsHere, FactIsCollected, PlaceIsCollected, EffectIsCollected, EffectsAreCollected, EachIsCollected, EffectLeavesFrame, EffectsLeaveFrame, EachLeavesFrame};
 ghost use Rattle.tl_syntax.specs.BoundVariables.{DifferInSlot, OccurIn};
-ghost use Rattle.tl_syntax.specs.Fits.{BoundFits, TermFits, TermsFit};
-ghost use Rattle.tl_syntax.specs.Signature.{signature_of};
-ghost use Rattle.tl_syntax.specs.TreeOfEffect.{tree_of_effect, tree_of_effects};
-ghost use Rattle.tl_syntax.specs.TreeOfTerm.{tree_of_term, tree_of_terms};
+ghost use Rattle.tl_syntax.specs.Fits.{BoundFits};
 
 use crate::ActFault;
 use crate::changes::Changes;
+use crate::here::Here;
 use crate::values::values_of;
-use std::alloc::Global;
 use tl_eval::{Env, TupleReader, state, term};
 use tl_syntax::{Bound, Effect, Effects, Fact, Facts, PlaceValue, PlaceValues, Term, Terms, Vars};
-use tl_world::{Task, World};
 
 /// Collects a fact whose arguments are the values of terms: false where one of them is undefined. The frame stays as it was.
 fn collect_fact(
-    alloc: Global,
-    task: &Task,
-    w: &World,
+    here: &Here,
     env: &mut Env,
     pred: u32,
     terms: &Terms,
     facts: &mut Facts,
 ) -> Result<bool, ActFault>
-    requires { TermsFit (signature_of task.now.problem.domain) (tree_of_terms terms.now) }
-    ensures fact { FactIsCollected w.now env.old pred terms.now facts.old facts.new result }
+    requires { TermsFitHere here.now terms.now }
+    ensures fact { FactIsCollected here.now env.old pred terms.now facts.old facts.new result }
     ensures frame { env.new ≡ env.old }
 {
-    match values_of(alloc, task, w, env, terms) {
+    match values_of(here, env, terms) {
         Ok(Some(args)) => {
             facts.push(Fact { pred, args })?;
             Ok(true)
@@ -40,26 +33,37 @@ fn collect_fact(
     }
 }
 
-/// Collects a place, whose arguments are the values of terms, with the value of a term: false where one of them is undefined. The frame stays as it was.
-fn collect_place(
-    alloc: Global,
-    task: &Task,
-    w: &World,
-    env: &mut Env,
+/// What an effect sets: a place, whose arguments are the values of terms, to the value of a term.
+#[derive(Clone, Copy)]
+struct Setting<'a> {
+    /// The function of the place.
     fun: u32,
-    terms: &Terms,
-    value: &Term,
+    /// The terms of its arguments.
+    args: &'a Terms,
+    /// The term of its value.
+    value: &'a Term,
+}
+
+/// Collects a place with its value: false where a term of either is undefined. The frame stays as it was.
+fn collect_place(
+    here: &Here,
+    env: &mut Env,
+    setting: &Setting,
     places: &mut PlaceValues,
 ) -> Result<bool, ActFault>
-    requires args { TermsFit (signature_of task.now.problem.domain) (tree_of_terms terms.now) }
-    requires value { TermFits (signature_of task.now.problem.domain) (tree_of_term value.now) }
-    ensures place { PlaceIsCollected w.now env.old fun terms.now value.now places.old places.new result }
+    requires args { TermsFitHere here.now setting.now.args.now }
+    requires value { TermFitsHere here.now setting.now.value.now }
+    ensures place { PlaceIsCollected here.now env.old setting.now places.old places.new result }
     ensures frame { env.new ≡ env.old }
 {
-    match values_of(alloc, task, w, env, terms) {
-        Ok(Some(args)) => match term(task, w, env, value) {
+    match values_of(here, env, setting.args) {
+        Ok(Some(args)) => match term(here.task, here.world, env, setting.value) {
             Ok(Some(value)) => {
-                places.push(PlaceValue { fun, args, value })?;
+                places.push(PlaceValue {
+                    fun: setting.fun,
+                    args,
+                    value,
+                })?;
                 Ok(true)
             }
             Ok(None) => Ok(false),
@@ -73,34 +77,34 @@ fn collect_place(
 /// Collects the changes of an effect: false where an instance of it has an undefined part. Variables that it quantifies may have other values in the frame afterwards.
 #[cycle(collected)]
 fn collect(
-    alloc: Global,
-    task: &Task,
-    w: &World,
+    here: &Here,
     env: &mut Env,
     effect: &Effect,
     changes: &mut Changes,
 ) -> Result<bool, ActFault>
-    requires { EffectReads (signature_of task.now.problem.domain) (tree_of_effect effect.now) }
-    ensures changes { EffectIsCollected task.now w.now env.old effect.now changes.old changes.new result }
-    ensures frame { EffectLeavesFrame task.now effect.now env.old env.new }
+    requires { EffectReadsHere here.now effect.now }
+    ensures changes { EffectIsCollected here.now env.old effect.now changes.old changes.new result }
+    ensures frame { EffectLeavesFrame here.now effect.now env.old env.new }
 {
     match effect {
-        Effect::Add(pred, args) => {
-            collect_fact(alloc, task, w, env, *pred, args, &mut changes.adds)
-        }
-        Effect::Del(pred, args) => {
-            collect_fact(alloc, task, w, env, *pred, args, &mut changes.dels)
-        }
+        Effect::Add(pred, args) => collect_fact(here, env, *pred, args, &mut changes.adds),
+        Effect::Del(pred, args) => collect_fact(here, env, *pred, args, &mut changes.dels),
         Effect::Assign(fun, args, value) => {
-            collect_place(alloc, task, w, env, *fun, args, value, &mut changes.sets)
+            let setting = Setting {
+                fun: *fun,
+                args,
+                value,
+            };
+            collect_place(here, env, &setting, &mut changes.sets)
         }
-        Effect::When(condition, effects) => match state(task, w, env, condition) {
-            Ok(true) => collect_all(alloc, task, w, env, effects, changes),
+        Effect::When(condition, effects) => match state(here.task, here.world, env, condition) {
+            Ok(true) => collect_all(here, env, effects, changes),
             Ok(false) => Ok(true),
             Err(note) => Err(ActFault::Range(note)),
         },
         Effect::Each(vars, bound, effects) => {
-            collect_each(alloc, task, w, env, vars, bound, effects, changes)
+            let scope = Scope { vars, bound };
+            collect_each(here, env, &scope, effects, changes)
         }
     }
 }
@@ -108,19 +112,17 @@ fn collect(
 /// Collects the changes of effects in their order, up to the first that has an undefined part: false where one has.
 #[cycle(collected)]
 pub(crate) fn collect_all(
-    alloc: Global,
-    task: &Task,
-    w: &World,
+    here: &Here,
     env: &mut Env,
     effects: &Effects,
     changes: &mut Changes,
 ) -> Result<bool, ActFault>
-    requires { EffectsRead (signature_of task.now.problem.domain) (tree_of_effects effects.now) }
-    ensures changes { EffectsAreCollected task.now w.now env.old effects.now changes.old changes.new result }
-    ensures frame { EffectsLeaveFrame task.now effects.now env.old env.new }
+    requires { EffectsReadHere here.now effects.now }
+    ensures changes { EffectsAreCollected here.now env.old effects.now changes.old changes.new result }
+    ensures frame { EffectsLeaveFrame here.now effects.now env.old env.new }
 {
     for effect in effects.as_slice().iter() {
-        match collect(alloc, task, w, env, effect, changes) {
+        match collect(here, env, effect, changes) {
             Ok(true) => {}
             Ok(false) => return Ok(false),
             Err(fault) => return Err(fault),
@@ -129,29 +131,37 @@ pub(crate) fn collect_all(
     Ok(true)
 }
 
+/// What an effect goes over: the tuples of a bound for its variables.
+#[derive(Clone, Copy)]
+struct Scope<'a> {
+    /// The variables.
+    vars: &'a Vars,
+    /// The bound.
+    bound: &'a Bound,
+}
+
 /// Collects the changes of effects for each tuple of the bound, up to the first with an undefined part: false where one has.
 #[cycle(collected)]
 fn collect_each(
-    alloc: Global,
-    task: &Task,
-    w: &World,
+    here: &Here,
     env: &mut Env,
-    vars: &Vars,
-    bound: &Bound,
+    scope: &Scope,
     effects: &Effects,
     changes: &mut Changes,
 ) -> Result<bool, ActFault>
-    requires reads { EachReads (signature_of task.now.problem.domain) vars.now (tree_of_effects effects.now) }
-    requires differ { DifferInSlot vars.now }
-    requires occur { OccurIn vars.now bound.now }
-    requires fits { BoundFits (signature_of task.now.problem.domain) bound.now }
-    ensures changes { EachIsCollected task.now w.now env.old vars.now bound.now effects.now changes.old changes.new result }
-    ensures frame { EachLeavesFrame task.now vars.now effects.now env.old env.new }
+    requires reads { EachReadsHere here.now scope.now.vars.now effects.now }
+    requires differ { DifferInSlot scope.now.vars.now }
+    requires occur { OccurIn scope.now.vars.now scope.now.bound.now }
+    requires fits { BoundFits (signature_here here.now) scope.now.bound.now }
+    ensures changes { EachIsCollected here.now env.old scope.now effects.now changes.old changes.new result }
+    ensures frame { EachLeavesFrame here.now scope.now.vars.now effects.now env.old env.new }
 {
-    let mut tuples = TupleReader::open(task, env, vars, bound);
-    while tuples.next(task, w, bound) {
+    let vars = scope.vars;
+    let bound = scope.bound;
+    let mut tuples = TupleReader::open(here.task, env, vars, bound);
+    while tuples.next(here.task, here.world, bound) {
         env.put_values(vars.as_slice(), tuples.values());
-        match collect_all(alloc, task, w, env, effects, changes) {
+        match collect_all(here, env, effects, changes) {
             Ok(true) => {}
             Ok(false) => return Ok(false),
             Err(fault) => return Err(fault),

@@ -4,31 +4,28 @@ ghost use Rattle.tl_action.specs.Join.{bound_count};
 ghost use Rattle.tl_action.specs.UnderFrames.{OperatorIsKept, IsPassedUnder, HasNoneUnder, RowIsJoined, RowsAreJoined, KeepsKnown, KeepsParameters};
 
 use crate::ActFault;
+use crate::here::Here;
 use crate::order::JoinOrder;
 use crate::prepared::is_prepared;
 use crate::values::row_of;
-use std::alloc::Global;
 use tl_eval::{Env, TupleReader, bound_holds};
 use tl_syntax::Values;
-use tl_world::{Task, World};
 
 /// Adds the row of the parameters' values in the frame, where each has one and the operator can be applied with them. The bounds are not looked at.
 fn find_row(
-    alloc: Global,
-    task: &Task,
-    w: &World,
+    here: &Here,
     env: &mut Env,
     order: &JoinOrder,
     rows: &mut Vec<Values>,
 ) -> Result<(), ActFault>
-    requires { OperatorIsKept task.now order.now.bounds.operator.now }
-    ensures rows { RowIsJoined task.now w.now order.now.bounds env.old rows.old.items rows.new.items result }
+    requires { OperatorIsKept here.now order.now.bounds.operator.now }
+    ensures rows { RowIsJoined here.now order.now.bounds env.old rows.old.items rows.new.items result }
     ensures frame { KeepsParameters order.now.bounds.operator.now env.old env.new }
 {
     let operator = order.bounds.operator;
     let params = operator.params.as_slice();
-    match row_of(alloc, task, w, env, params) {
-        Ok(Some(row)) => match is_prepared(alloc, task, w, env, operator, order.sure) {
+    match row_of(here, env, params) {
+        Ok(Some(row)) => match is_prepared(here, env, operator, order.sure) {
             Ok(true) => {
                 rows.push(row)?;
                 Ok(())
@@ -43,16 +40,16 @@ fn find_row(
 
 /// The first bound from the `j`-th on that gives a parameter its value, or how many bounds there are: None where a bound before it is false. The bounds before it are true, and have no parameter but those that have their values already.
 /// It takes no memory.
-fn next_level(task: &Task, w: &World, env: &Env, order: &JoinOrder, j: usize) -> Option<usize>
-    requires keeps { OperatorIsKept task.now order.now.bounds.operator.now }
+fn next_level(here: &Here, env: &Env, order: &JoinOrder, j: usize) -> Option<usize>
+    requires keeps { OperatorIsKept here.now order.now.bounds.operator.now }
     requires within { j ≤ bound_count order.now.bounds }
-    ensures passed { IfSome result (IsPassedUnder task.now w.now order.now.bounds env.now j) }
-    ensures none { IfNone result (HasNoneUnder task.now w.now order.now.bounds env.now j) }
+    ensures passed { IfSome result (IsPassedUnder here.now order.now.bounds env.now j) }
+    ensures none { IfNone result (HasNoneUnder here.now order.now.bounds env.now j) }
 {
     let levels = order.levels.as_slice();
     let mut k = j;
     while k < levels.len() && levels[k].is_empty() {
-        if !bound_holds(task, w, env, order.bounds.bound(k)) {
+        if !bound_holds(here.task, here.world, env, order.bounds.bound(k)) {
             return None;
         }
         k += 1;
@@ -64,26 +61,24 @@ fn next_level(task: &Task, w: &World, env: &Env, order: &JoinOrder, j: usize) ->
 /// The parameters of the first `j` bounds keep their values in the frame.
 #[cycle(joined)]
 fn join_level(
-    alloc: Global,
-    task: &Task,
-    w: &World,
+    here: &Here,
     env: &mut Env,
     order: &JoinOrder,
     j: usize,
     rows: &mut Vec<Values>,
 ) -> Result<(), ActFault>
-    requires keeps { OperatorIsKept task.now order.now.bounds.operator.now }
+    requires keeps { OperatorIsKept here.now order.now.bounds.operator.now }
     requires within { j < bound_count order.now.bounds }
-    ensures rows { RowsAreJoined task.now w.now order.now.bounds j env.old rows.old.items rows.new.items result }
+    ensures rows { RowsAreJoined here.now order.now.bounds j env.old rows.old.items rows.new.items result }
     ensures frame { KeepsKnown order.now.bounds j env.old env.new }
 {
     let levels = order.levels.as_slice();
     let vars = &levels[j];
     let bound = order.bounds.bound(j);
-    let mut tuples = TupleReader::open(task, env, vars, bound);
-    while tuples.next(task, w, bound) {
+    let mut tuples = TupleReader::open(here.task, env, vars, bound);
+    while tuples.next(here.task, here.world, bound) {
         env.put_values(vars.as_slice(), tuples.values());
-        match join(alloc, task, w, env, order, j + 1, rows) {
+        match join(here, env, order, j + 1, rows) {
             Ok(()) => {}
             Err(fault) => return Err(fault),
         }
@@ -99,25 +94,23 @@ fn join_level(
 /// It goes one level deeper for each bound with new parameters, so never deeper than an operator has parameters.
 #[cycle(joined)]
 pub(crate) fn join(
-    alloc: Global,
-    task: &Task,
-    w: &World,
+    here: &Here,
     env: &mut Env,
     order: &JoinOrder,
     j: usize,
     rows: &mut Vec<Values>,
 ) -> Result<(), ActFault>
-    requires keeps { OperatorIsKept task.now order.now.bounds.operator.now }
+    requires keeps { OperatorIsKept here.now order.now.bounds.operator.now }
     requires within { j ≤ bound_count order.now.bounds }
-    ensures rows { RowsAreJoined task.now w.now order.now.bounds j env.old rows.old.items rows.new.items result }
+    ensures rows { RowsAreJoined here.now order.now.bounds j env.old rows.old.items rows.new.items result }
     ensures frame { KeepsKnown order.now.bounds j env.old env.new }
 {
-    match next_level(task, w, env, order, j) {
+    match next_level(here, env, order, j) {
         Some(k) => {
             if k < order.levels.len() {
-                join_level(alloc, task, w, env, order, k, rows)
+                join_level(here, env, order, k, rows)
             } else {
-                find_row(alloc, task, w, env, order, rows)
+                find_row(here, env, order, rows)
             }
         }
         None => Ok(()),

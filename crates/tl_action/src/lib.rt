@@ -9,6 +9,7 @@
 //! - `check_fault`: what a check of a plan may end with in place of a verdict.
 //! - `clash`: whether places that are set agree with each other.
 //! - `collect`: the changes that effects make.
+//! - `here`: where actions are looked at: a world of a task.
 //! - `join`: the rows of values with which an operator can be applied.
 //! - `first_bound`: which bound of an operator is joined first.
 //! - `levels`: the parameters to which each bound gives values.
@@ -16,7 +17,7 @@
 //! - `order`: the join order of an operator.
 //! - `prepared`: what an operator whose bounds are true changes.
 //! - `sure`: effects that cannot fail.
-//! - `values`: the values of the terms of an effect.
+//! - `values`: the values of terms and of variables.
 //! - `laws`: what is proved of assignments.
 #![tactic(auto)]
 
@@ -29,6 +30,7 @@ mod clash;
 mod collect;
 mod fault;
 mod first_bound;
+mod here;
 mod join;
 pub mod laws;
 mod levels;

@@ -10,6 +10,7 @@ ghost use Rattle.tl_terms.specs.Step.{step};
 use crate::ActFault;
 use crate::changes::Changes;
 use crate::collect::collect_all;
+use crate::here::Here;
 use std::alloc::Global;
 use std::sync::ledger::Ledger;
 use tl_eval::Env;
@@ -39,8 +40,13 @@ pub fn changes_by<L: Ledger>(
     steps.tick();
     let operator = &task.problem.domain.operators.as_slice()[a.op as usize];
     env.put_values(operator.params.as_slice(), a.args.as_slice());
+    let here = Here {
+        alloc,
+        task,
+        world: w,
+    };
     let mut changes = Changes::new(alloc);
-    match collect_all(alloc, task, w, env, &operator.effects, &mut changes) {
+    match collect_all(&here, env, &operator.effects, &mut changes) {
         Ok(_) => Ok(changes),
         Err(fault) => Err(fault),
     }

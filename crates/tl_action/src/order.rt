@@ -6,11 +6,10 @@ ghost use Rattle.tl_syntax.specs.TreeOfEffect.{tree_of_effects};
 
 use crate::arranged::Arranged;
 use crate::first_bound::first_bound;
+use crate::here::Here;
 use crate::levels::levels_of;
 use crate::sure::are_sure;
-use std::alloc::Global;
 use tl_syntax::{NoMemory, Operator, Vars};
-use tl_world::{Task, World};
 
 /// The join order of an operator: its bounds in the order in which they are joined, and which parameters each of them gives values. It is worked out once for a world, before the bounds are joined.
 #[derive(Drop)]
@@ -29,19 +28,14 @@ impl<'a> JoinOrder<'a> {
     ghost use Rattle.std.specs.Prelude.{IfOk};
 
     /// The join order of an operator in a world: its bounds in their order, or with that of `first_bound` before the others. It fails for want of memory alone.
-    pub(crate) fn of(
-        alloc: Global,
-        task: &Task,
-        w: &World,
-        operator: &'a Operator,
-    ) -> Result<JoinOrder<'a>, NoMemory>
+    pub(crate) fn of(here: &Here, operator: &'a Operator) -> Result<JoinOrder<'a>, NoMemory>
         ensures { IfOk result (λ order. order.bounds.operator.now ≡ operator.now) }
     {
         let bounds = Arranged {
             operator,
-            first: first_bound(task, w, operator),
+            first: first_bound(here.task, here.world, operator),
         };
-        let levels = levels_of(alloc, &bounds)?;
+        let levels = levels_of(here.alloc, &bounds)?;
         let sure = are_sure(&operator.effects);
         Ok(JoinOrder {
             bounds,

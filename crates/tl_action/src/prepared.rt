@@ -1,39 +1,33 @@
 // Whether an operator whose bounds are true can be applied, and what it then changes.
-ghost use Rattle.std.specs.Prelude.{◌≡◌, length};
-ghost use Rattle.tl_action.specs.Agreement.{Agree};
+ghost use Rattle.std.specs.Prelude.{◌≡◌};
 ghost use Rattle.tl_action.specs.Prepared.{HaveValues};
 ghost use Rattle.tl_action.specs.Sure.{are_sure};
-ghost use Rattle.tl_action.specs.UnderFrames.{AnswersPrepared, ChangesAreCollected, ChangesArePrepared};
+ghost use Rattle.tl_action.specs.UnderFrames.{OperatorIsKept, KeepsParameters, AnswersPrepared, ChangesAreCollected, ChangesArePrepared};
 ghost use Rattle.tl_eval.specs.Frames.{assignment_in};
 ghost use Rattle.tl_syntax.specs.FreeVariables.{slots_of};
-ghost use Rattle.tl_syntax.specs.Kept.{OperatorKeeps};
-ghost use Rattle.tl_syntax.specs.Signature.{signature_of};
 ghost use Rattle.tl_syntax.specs.TreeOfEffect.{tree_of_effects};
 
 use crate::ActFault;
 use crate::changes::Changes;
 use crate::clash::agree;
 use crate::collect::collect_all;
-use std::alloc::Global;
+use crate::here::Here;
 use tl_eval::{Env, state};
 use tl_syntax::Operator;
-use tl_world::{Task, World};
 
 /// What the operator changes, with its parameters' values in the frame: None where its precondition is false, an instance of its effects has an undefined part, or two set one place to different values.
 /// The bounds are not looked at. The parameters keep their values in the frame.
 pub(crate) fn prepared(
-    alloc: Global,
-    task: &Task,
-    w: &World,
+    here: &Here,
     env: &mut Env,
     operator: &Operator,
 ) -> Result<Option<Changes>, ActFault>
-    requires { OperatorKeeps (signature_of task.now.problem.domain) (length task.now.problem.names) operator.now }
-    ensures changes { ChangesArePrepared task.now w.now operator.now env.old result }
-    ensures frame { Agree (slots_of operator.now.params) (assignment_in env.new) (assignment_in env.old) }
+    requires { OperatorIsKept here.now operator.now }
+    ensures changes { ChangesArePrepared here.now operator.now env.old result }
+    ensures frame { KeepsParameters operator.now env.old env.new }
 {
-    match state(task, w, env, &operator.pre) {
-        Ok(true) => collected(alloc, task, w, env, operator),
+    match state(here.task, here.world, env, &operator.pre) {
+        Ok(true) => collected(here, env, operator),
         Ok(false) => Ok(None),
         Err(note) => Err(ActFault::Range(note)),
     }
@@ -42,26 +36,24 @@ pub(crate) fn prepared(
 /// Whether the operator can be applied, with its parameters' values in the frame. Where its effects are `sure`, none can fail, and they are not looked at.
 /// The bounds are not looked at. The parameters keep their values in the frame.
 pub(crate) fn is_prepared(
-    alloc: Global,
-    task: &Task,
-    w: &World,
+    here: &Here,
     env: &mut Env,
     operator: &Operator,
     sure: bool,
 ) -> Result<bool, ActFault>
-    requires keeps { OperatorKeeps (signature_of task.now.problem.domain) (length task.now.problem.names) operator.now }
+    requires keeps { OperatorIsKept here.now operator.now }
     requires values { HaveValues (slots_of operator.now.params) (assignment_in env.old) }
     requires sure { sure ≡ are_sure (tree_of_effects operator.now.effects) }
-    ensures answer { AnswersPrepared task.now w.now operator.now env.old result }
-    ensures frame { Agree (slots_of operator.now.params) (assignment_in env.new) (assignment_in env.old) }
+    ensures answer { AnswersPrepared here.now operator.now env.old result }
+    ensures frame { KeepsParameters operator.now env.old env.new }
 {
     if sure {
-        return match state(task, w, env, &operator.pre) {
+        return match state(here.task, here.world, env, &operator.pre) {
             Ok(truth) => Ok(truth),
             Err(note) => Err(ActFault::Range(note)),
         };
     }
-    match prepared(alloc, task, w, env, operator) {
+    match prepared(here, env, operator) {
         Ok(Some(_)) => Ok(true),
         Ok(None) => Ok(false),
         Err(fault) => Err(fault),
@@ -69,21 +61,15 @@ pub(crate) fn is_prepared(
 }
 
 /// What the operator's effects change: None where an instance has an undefined part, or two set one place to different values.
-fn collected(
-    alloc: Global,
-    task: &Task,
-    w: &World,
-    env: &mut Env,
-    operator: &Operator,
-) -> Result<Option<Changes>, ActFault>
-    requires { OperatorKeeps (signature_of task.now.problem.domain) (length task.now.problem.names) operator.now }
-    ensures changes { ChangesAreCollected task.now w.now operator.now env.old result }
-    ensures frame { Agree (slots_of operator.now.params) (assignment_in env.new) (assignment_in env.old) }
+fn collected(here: &Here, env: &mut Env, operator: &Operator) -> Result<Option<Changes>, ActFault>
+    requires { OperatorIsKept here.now operator.now }
+    ensures changes { ChangesAreCollected here.now operator.now env.old result }
+    ensures frame { KeepsParameters operator.now env.old env.new }
 {
-    let mut changes = Changes::new(alloc);
-    match collect_all(alloc, task, w, env, &operator.effects, &mut changes) {
+    let mut changes = Changes::new(here.alloc);
+    match collect_all(here, env, &operator.effects, &mut changes) {
         Ok(true) => {
-            if agree(alloc, changes.sets.as_slice())? {
+            if agree(here.alloc, changes.sets.as_slice())? {
                 Ok(Some(changes))
             } else {
                 Ok(None)

@@ -8,6 +8,7 @@ ghost use Rattle.tl_terms.specs.Step.{step};
 
 use crate::ActFault;
 use crate::bounds::bounds_hold;
+use crate::here::Here;
 use crate::prepared::prepared;
 use std::alloc::Global;
 use std::sync::ledger::Ledger;
@@ -38,10 +39,15 @@ pub fn apply<L: Ledger>(
     steps.tick();
     let operator = &task.problem.domain.operators.as_slice()[a.op as usize];
     env.put_values(operator.params.as_slice(), a.args.as_slice());
-    if !bounds_hold(task, w, env, operator.bounds.as_slice()) {
+    let here = Here {
+        alloc,
+        task,
+        world: w,
+    };
+    if !bounds_hold(&here, env, operator.bounds.as_slice()) {
         return Ok(None);
     }
-    match prepared(alloc, task, w, env, operator) {
+    match prepared(&here, env, operator) {
         Ok(Some(changes)) => {
             let next = w.changed(
                 alloc,

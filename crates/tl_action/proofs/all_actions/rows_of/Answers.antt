@@ -18,24 +18,24 @@ added P before after kept q h k t = (
 )
 
 pub join-requires-clause-keeps : goal.join-requires-clause-keeps
-join-requires-clause-keeps c = subst (OperatorIsKept c.args.task.now) (sym c.in_ok-order.ensures) c.requires
+join-requires-clause-keeps c = subst (OperatorIsKept c.args.here.now) (sym c.in_ok-order.ensures) c.requires
 
 pub returns-in-Ok-clause-rows : goal.returns-in-Ok-clause-rows
 returns-in-Ok-clause-rows c =
     let a = c.in_ok-order.order.bounds in
     let o = arranged a in
-    let p = plain_problem c.args.task.now.problem in
+    let p = plain_problem c.args.here.now.task.now.problem in
     let e = assignment_in c.args.env.now in
-    subst (λ (x : Operator). AreRowsOf p c.args.w.now (plain_operator x) e c.in_order.result.items) c.in_ok-order.ensures
-    (rows-with p c.args.w.now a.operator.now o.bounds (arranged-same a) e c.in_order.result.items (record {
-      all = added (IsFound p c.args.w.now (plain_operator o) [] o.bounds e) c.new-rows.result.items c.join.new.rows.items c.in_order.result.items c.new-rows.ensures.items c.in-Ok.ensures.rows c.in_order.ensures.same;
+    subst (λ (x : Operator). AreRowsOf p c.args.here.now.world.now (plain_operator x) e c.in_order.result.items) c.in_ok-order.ensures
+    (rows-with p c.args.here.now.world.now a.operator.now o.bounds (arranged-same a) e c.in_order.result.items (record {
+      all = added (IsFound p c.args.here.now.world.now (plain_operator o) [] o.bounds e) c.new-rows.result.items c.join.new.rows.items c.in_order.result.items c.new-rows.ensures.items c.in-Ok.ensures.rows c.in_order.ensures.same;
       order = c.in_order.ensures.order;
     }))
 
 pub returns-clause-cause : goal.returns-clause-cause
 returns-clause-cause c =
     let a = c.in_ok-order.order.bounds in
-    let p = plain_problem c.args.task.now.problem in
+    let p = plain_problem c.args.here.now.task.now.problem in
     let e = assignment_in c.args.env.now in
-    subst (λ (x : Operator). IsRowFault p c.args.w.now (plain_operator x) [] x.bounds e c.in-Err.fault) c.in_ok-order.ensures
-    (fault-with p c.args.w.now a.operator.now (arranged a).bounds (arranged-same a) e c.in-Err.fault c.in-Err.ensures.rows)
+    subst (λ (x : Operator). IsRowFault p c.args.here.now.world.now (plain_operator x) [] x.bounds e c.in-Err.fault) c.in_ok-order.ensures
+    (fault-with p c.args.here.now.world.now a.operator.now (arranged a).bounds (arranged-same a) e c.in-Err.fault c.in-Err.ensures.rows)

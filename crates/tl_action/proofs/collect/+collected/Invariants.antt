@@ -23,20 +23,20 @@ decreases-collect_each l = 1 + effects_nodes (tree_of_effects l.effects.now)
 
 abbrev pub invariant-collect_all-loop-effect : goal.invariant-collect_all-loop-effect
 invariant-collect_all-loop-effect l = record {
-  frame : EffectsLeave (signature_of l.task.problem.domain) (tree_of_effects l.effects) (assignment_in l.fn.env) (assignment_in l.env);
-  passed : EffectsPassed (signature_of l.task.problem.domain) (plain_problem l.task.problem) l.w (assignment_in l.fn.env) (tree_of_effects l.effects) (effects_of_list (map tree_of_effect (drop l.effect-index l.effect-items))) l.fn.changes l.changes;
+  frame : EffectsLeave (signature_of l.here.task.now.problem.domain) (tree_of_effects l.effects) (assignment_in l.fn.env) (assignment_in l.env);
+  passed : EffectsPassed (signature_of l.here.task.now.problem.domain) (plain_problem l.here.task.now.problem) l.here.world.now (assignment_in l.fn.env) (tree_of_effects l.effects) (effects_of_list (map tree_of_effect (drop l.effect-index l.effect-items))) l.fn.changes l.changes;
 }
 
-abbrev pub decreases-collect_each-loop-alloc : goal.decreases-collect_each-loop-alloc
-decreases-collect_each-loop-alloc l = length (left (situation_of (plain_problem l.task.problem) l.w) (assignment_in l.fn.env) l.vars l.bound l.tuples.tuple)
+abbrev pub decreases-collect_each-loop-vars : goal.decreases-collect_each-loop-vars
+decreases-collect_each-loop-vars l = length (left (situation_of (plain_problem l.here.task.now.problem) l.here.world.now) (assignment_in l.fn.env) l.vars l.bound l.tuples.tuple)
 
-abbrev pub invariant-collect_each-loop-alloc : goal.invariant-collect_each-loop-alloc
-invariant-collect_each-loop-alloc l =
-    let p = plain_problem l.task.problem in
-    let s = situation_of p l.w in
+abbrev pub invariant-collect_each-loop-vars : goal.invariant-collect_each-loop-vars
+invariant-collect_each-loop-vars l =
+    let p = plain_problem l.here.task.now.problem in
+    let s = situation_of p l.here.world.now in
     let e = assignment_in l.fn.env in
     record {
       reads : Reads l.vars e l.bound l.tuples;
-      frame : EachLeaves (signature_of l.task.problem.domain) l.vars (tree_of_effects l.effects) e (assignment_in l.env);
-      passed : TuplesPassed p l.w e l.vars (tree_of_effects l.effects) (all s e l.vars l.bound) (left s e l.vars l.bound l.tuples.tuple) l.fn.changes l.changes;
+      frame : EachLeaves (signature_of l.here.task.now.problem.domain) l.vars (tree_of_effects l.effects) e (assignment_in l.env);
+      passed : TuplesPassed p l.here.world.now e l.vars (tree_of_effects l.effects) (all s e l.vars l.bound) (left s e l.vars l.bound l.tuples.tuple) l.fn.changes l.changes;
     }

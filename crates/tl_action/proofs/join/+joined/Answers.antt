@@ -35,45 +35,45 @@ join_level-overflow_add-j t c =
 
 pub join_level-open-tuples-requires-clause-differ : goal.join_level-open-tuples-requires-clause-differ
 join_level-open-tuples-requires-clause-differ t c =
-    let keep = c.args.task.now.problem.domain_keeps in
+    let keep = c.args.here.now.task.now.problem.domain_keeps in
     let below = c.requires.within in
     let b-is = c.bound-bound.ensures in
     let vars-is = c.index-levels-j.is ∙ ap (λ (ls : List (List Var)). get_or ls c.args.j c.index-levels-j.result) c.as_slice-levels.ensures.value in
-    let node : Node (signature_of c.args.task.now.problem.domain) (arranged c.args.order.now.bounds) c.args.j c.bound-bound.result.now c.index-levels-j.result = node-at (signature_of c.args.task.now.problem.domain) (length c.args.task.now.problem.names) c.args.order.now.bounds c.args.order.now.levels.items c.args.j c.bound-bound.result.now c.index-levels-j.result (declared-few _ _ keep.predicates) (declared-few _ _ keep.functions) c.requires.keeps c.args.order.now.levels_are below b-is vars-is in
+    let node : Node (signature_of c.args.here.now.task.now.problem.domain) (arranged c.args.order.now.bounds) c.args.j c.bound-bound.result.now c.index-levels-j.result = node-at (signature_of c.args.here.now.task.now.problem.domain) (length c.args.here.now.task.now.problem.names) c.args.order.now.bounds c.args.order.now.levels.items c.args.j c.bound-bound.result.now c.index-levels-j.result (declared-few _ _ keep.predicates) (declared-few _ _ keep.functions) c.requires.keeps c.args.order.now.levels_are below b-is vars-is in
     node.differ
 
 pub join_level-open-tuples-requires-clause-occur : goal.join_level-open-tuples-requires-clause-occur
 join_level-open-tuples-requires-clause-occur t c =
-    let keep = c.args.task.now.problem.domain_keeps in
+    let keep = c.args.here.now.task.now.problem.domain_keeps in
     let below = c.requires.within in
     let b-is = c.bound-bound.ensures in
     let vars-is = c.index-levels-j.is ∙ ap (λ (ls : List (List Var)). get_or ls c.args.j c.index-levels-j.result) c.as_slice-levels.ensures.value in
-    let node : Node (signature_of c.args.task.now.problem.domain) (arranged c.args.order.now.bounds) c.args.j c.bound-bound.result.now c.index-levels-j.result = node-at (signature_of c.args.task.now.problem.domain) (length c.args.task.now.problem.names) c.args.order.now.bounds c.args.order.now.levels.items c.args.j c.bound-bound.result.now c.index-levels-j.result (declared-few _ _ keep.predicates) (declared-few _ _ keep.functions) c.requires.keeps c.args.order.now.levels_are below b-is vars-is in
+    let node : Node (signature_of c.args.here.now.task.now.problem.domain) (arranged c.args.order.now.bounds) c.args.j c.bound-bound.result.now c.index-levels-j.result = node-at (signature_of c.args.here.now.task.now.problem.domain) (length c.args.here.now.task.now.problem.names) c.args.order.now.bounds c.args.order.now.levels.items c.args.j c.bound-bound.result.now c.index-levels-j.result (declared-few _ _ keep.predicates) (declared-few _ _ keep.functions) c.requires.keeps c.args.order.now.levels_are below b-is vars-is in
     node.occur
 
 pub join_level-open-tuples-requires-clause-fits : goal.join_level-open-tuples-requires-clause-fits
 join_level-open-tuples-requires-clause-fits t c =
-    let keep = c.args.task.now.problem.domain_keeps in
+    let keep = c.args.here.now.task.now.problem.domain_keeps in
     let below = c.requires.within in
     let b-is = c.bound-bound.ensures in
     let vars-is = c.index-levels-j.is ∙ ap (λ (ls : List (List Var)). get_or ls c.args.j c.index-levels-j.result) c.as_slice-levels.ensures.value in
-    let node : Node (signature_of c.args.task.now.problem.domain) (arranged c.args.order.now.bounds) c.args.j c.bound-bound.result.now c.index-levels-j.result = node-at (signature_of c.args.task.now.problem.domain) (length c.args.task.now.problem.names) c.args.order.now.bounds c.args.order.now.levels.items c.args.j c.bound-bound.result.now c.index-levels-j.result (declared-few _ _ keep.predicates) (declared-few _ _ keep.functions) c.requires.keeps c.args.order.now.levels_are below b-is vars-is in
+    let node : Node (signature_of c.args.here.now.task.now.problem.domain) (arranged c.args.order.now.bounds) c.args.j c.bound-bound.result.now c.index-levels-j.result = node-at (signature_of c.args.here.now.task.now.problem.domain) (length c.args.here.now.task.now.problem.names) c.args.order.now.bounds c.args.order.now.levels.items c.args.j c.bound-bound.result.now c.index-levels-j.result (declared-few _ _ keep.predicates) (declared-few _ _ keep.functions) c.requires.keeps c.args.order.now.levels_are below b-is vars-is in
     node.fits
 
 pub join_level-loop-vars-init : goal.join_level-loop-vars-init
 join_level-loop-vars-init t c = record {
   reads = c.open-tuples.ensures.reads;
   frame = known-agree (take c.args.j (arranged c.args.order.now.bounds).bounds) c.args.order.now.bounds.operator.now.params (assignment_in c.args.env.now) (assignment_in c.args.env.now) (agree-self (slots_of c.args.order.now.bounds.operator.now.params) (assignment_in c.args.env.now));
-  found = read-begun (plain_problem c.args.task.now.problem) c.args.w.now (plain_operator (arranged c.args.order.now.bounds)) (take (c.args.j + 1) (arranged c.args.order.now.bounds).bounds) (drop (c.args.j + 1) (arranged c.args.order.now.bounds).bounds) (assignment_in c.args.env.now) c.index-levels-j.result c.bound-bound.result.now c.open-tuples.result.tuple c.args.rows.now.items c.open-tuples.ensures.before;
+  found = read-begun (plain_problem c.args.here.now.task.now.problem) c.args.here.now.world.now (plain_operator (arranged c.args.order.now.bounds)) (take (c.args.j + 1) (arranged c.args.order.now.bounds).bounds) (drop (c.args.j + 1) (arranged c.args.order.now.bounds).bounds) (assignment_in c.args.env.now) c.index-levels-j.result c.bound-bound.result.now c.open-tuples.result.tuple c.args.rows.now.items c.open-tuples.ensures.before;
 }
 
 pub join_level-put_values-requires-clause-slots : goal.join_level-put_values-requires-clause-slots
 join_level-put_values-requires-clause-slots t c =
-    let keep = c.args.task.now.problem.domain_keeps in
+    let keep = c.args.here.now.task.now.problem.domain_keeps in
     let below = c.requires.within in
     let b-is = c.bound-bound.ensures in
     let vars-is = c.index-levels-j.is ∙ ap (λ (ls : List (List Var)). get_or ls c.args.j c.index-levels-j.result) c.as_slice-levels.ensures.value in
-    let node : Node (signature_of c.args.task.now.problem.domain) (arranged c.args.order.now.bounds) c.args.j c.bound-bound.result.now c.index-levels-j.result = node-at (signature_of c.args.task.now.problem.domain) (length c.args.task.now.problem.names) c.args.order.now.bounds c.args.order.now.levels.items c.args.j c.bound-bound.result.now c.index-levels-j.result (declared-few _ _ keep.predicates) (declared-few _ _ keep.functions) c.requires.keeps c.args.order.now.levels_are below b-is vars-is in
+    let node : Node (signature_of c.args.here.now.task.now.problem.domain) (arranged c.args.order.now.bounds) c.args.j c.bound-bound.result.now c.index-levels-j.result = node-at (signature_of c.args.here.now.task.now.problem.domain) (length c.args.here.now.task.now.problem.names) c.args.order.now.bounds c.args.order.now.levels.items c.args.j c.bound-bound.result.now c.index-levels-j.result (declared-few _ _ keep.predicates) (declared-few _ _ keep.functions) c.requires.keeps c.args.order.now.levels_are below b-is vars-is in
     subst (Each (λ (s : Var). s.slot < 32)) (sym c.as_slice.ensures) node.frame
 
 pub join_level-put_values-requires-clause-same : goal.join_level-put_values-requires-clause-same
@@ -82,66 +82,66 @@ join_level-put_values-requires-clause-same t c =
 
 pub join_level-returns-in-Err-clause-rows : goal.join_level-returns-in-Err-clause-rows
 join_level-returns-in-Err-clause-rows t c =
-    let keep = c.args.task.now.problem.domain_keeps in
+    let keep = c.args.here.now.task.now.problem.domain_keeps in
     let below = c.requires.within in
     let b-is = c.bound-bound.ensures in
     let vars-is = c.index-levels-j.is ∙ ap (λ (ls : List (List Var)). get_or ls c.args.j c.index-levels-j.result) c.as_slice-levels.ensures.value in
-    let node : Node (signature_of c.args.task.now.problem.domain) (arranged c.args.order.now.bounds) c.args.j c.bound-bound.result.now c.index-levels-j.result = node-at (signature_of c.args.task.now.problem.domain) (length c.args.task.now.problem.names) c.args.order.now.bounds c.args.order.now.levels.items c.args.j c.bound-bound.result.now c.index-levels-j.result (declared-few _ _ keep.predicates) (declared-few _ _ keep.functions) c.requires.keeps c.args.order.now.levels_are below b-is vars-is in
+    let node : Node (signature_of c.args.here.now.task.now.problem.domain) (arranged c.args.order.now.bounds) c.args.j c.bound-bound.result.now c.index-levels-j.result = node-at (signature_of c.args.here.now.task.now.problem.domain) (length c.args.here.now.task.now.problem.names) c.args.order.now.bounds c.args.order.now.levels.items c.args.j c.bound-bound.result.now c.index-levels-j.result (declared-few _ _ keep.predicates) (declared-few _ _ keep.functions) c.requires.keeps c.args.order.now.levels_are below b-is vars-is in
     let e = assignment_in c.args.env.now in
     let next = c.next.ensures.next c.index-levels-j.result e c.loop-vars.invariant.reads in
     let d = assignment_in c.put_values.new.self in
     let put : d ≡ bind c.index-levels-j.result c.values.result.now (assignment_in c.loop-vars.env) = c.put_values.ensures.values ∙ ap (λ (ss : List Var). bind ss c.values.result.now (assignment_in c.loop-vars.env)) c.as_slice.ensures in
-    read-fault (signature_of c.args.task.now.problem.domain) (plain_problem c.args.task.now.problem) c.args.w.now (arranged c.args.order.now.bounds) c.args.j c.bound-bound.result.now c.index-levels-j.result below b-is node e c.loop-vars.tuples.tuple c.next.new.self.tuple next c.args.rows.now.items c.loop-vars.rows.items c.loop-vars.invariant.found (assignment_in c.loop-vars.env) d c.values.result.now c.values.ensures.values put c.loop-vars.invariant.frame c.in-Err.fault c.in-Err.ensures.rows
+    read-fault (signature_of c.args.here.now.task.now.problem.domain) (plain_problem c.args.here.now.task.now.problem) c.args.here.now.world.now (arranged c.args.order.now.bounds) c.args.j c.bound-bound.result.now c.index-levels-j.result below b-is node e c.loop-vars.tuples.tuple c.next.new.self.tuple next c.args.rows.now.items c.loop-vars.rows.items c.loop-vars.invariant.found (assignment_in c.loop-vars.env) d c.values.result.now c.values.ensures.values put c.loop-vars.invariant.frame c.in-Err.fault c.in-Err.ensures.rows
 
 pub join_level-returns-in-Err-clause-frame : goal.join_level-returns-in-Err-clause-frame
 join_level-returns-in-Err-clause-frame t c =
-    let keep = c.args.task.now.problem.domain_keeps in
+    let keep = c.args.here.now.task.now.problem.domain_keeps in
     let below = c.requires.within in
     let b-is = c.bound-bound.ensures in
     let vars-is = c.index-levels-j.is ∙ ap (λ (ls : List (List Var)). get_or ls c.args.j c.index-levels-j.result) c.as_slice-levels.ensures.value in
-    let node : Node (signature_of c.args.task.now.problem.domain) (arranged c.args.order.now.bounds) c.args.j c.bound-bound.result.now c.index-levels-j.result = node-at (signature_of c.args.task.now.problem.domain) (length c.args.task.now.problem.names) c.args.order.now.bounds c.args.order.now.levels.items c.args.j c.bound-bound.result.now c.index-levels-j.result (declared-few _ _ keep.predicates) (declared-few _ _ keep.functions) c.requires.keeps c.args.order.now.levels_are below b-is vars-is in
+    let node : Node (signature_of c.args.here.now.task.now.problem.domain) (arranged c.args.order.now.bounds) c.args.j c.bound-bound.result.now c.index-levels-j.result = node-at (signature_of c.args.here.now.task.now.problem.domain) (length c.args.here.now.task.now.problem.names) c.args.order.now.bounds c.args.order.now.levels.items c.args.j c.bound-bound.result.now c.index-levels-j.result (declared-few _ _ keep.predicates) (declared-few _ _ keep.functions) c.requires.keeps c.args.order.now.levels_are below b-is vars-is in
     let d = assignment_in c.put_values.new.self in
     let put : d ≡ bind c.index-levels-j.result c.values.result.now (assignment_in c.loop-vars.env) = c.put_values.ensures.values ∙ ap (λ (ss : List Var). bind ss c.values.result.now (assignment_in c.loop-vars.env)) c.as_slice.ensures in
-    node-frame (signature_of c.args.task.now.problem.domain) (plain_problem c.args.task.now.problem) c.args.w.now (arranged c.args.order.now.bounds) c.args.j c.bound-bound.result.now c.index-levels-j.result below b-is node (assignment_in c.args.env.now) (assignment_in c.loop-vars.env) d (assignment_in c.join.new.env) c.values.result.now put c.loop-vars.invariant.frame c.join.ensures.frame
+    node-frame (signature_of c.args.here.now.task.now.problem.domain) (plain_problem c.args.here.now.task.now.problem) c.args.here.now.world.now (arranged c.args.order.now.bounds) c.args.j c.bound-bound.result.now c.index-levels-j.result below b-is node (assignment_in c.args.env.now) (assignment_in c.loop-vars.env) d (assignment_in c.join.new.env) c.values.result.now put c.loop-vars.invariant.frame c.join.ensures.frame
 
 pub join_level-loop-vars-preserved : goal.join_level-loop-vars-preserved
 join_level-loop-vars-preserved t c =
-    let keep = c.args.task.now.problem.domain_keeps in
+    let keep = c.args.here.now.task.now.problem.domain_keeps in
     let below = c.requires.within in
     let b-is = c.bound-bound.ensures in
     let vars-is = c.index-levels-j.is ∙ ap (λ (ls : List (List Var)). get_or ls c.args.j c.index-levels-j.result) c.as_slice-levels.ensures.value in
-    let node : Node (signature_of c.args.task.now.problem.domain) (arranged c.args.order.now.bounds) c.args.j c.bound-bound.result.now c.index-levels-j.result = node-at (signature_of c.args.task.now.problem.domain) (length c.args.task.now.problem.names) c.args.order.now.bounds c.args.order.now.levels.items c.args.j c.bound-bound.result.now c.index-levels-j.result (declared-few _ _ keep.predicates) (declared-few _ _ keep.functions) c.requires.keeps c.args.order.now.levels_are below b-is vars-is in
+    let node : Node (signature_of c.args.here.now.task.now.problem.domain) (arranged c.args.order.now.bounds) c.args.j c.bound-bound.result.now c.index-levels-j.result = node-at (signature_of c.args.here.now.task.now.problem.domain) (length c.args.here.now.task.now.problem.names) c.args.order.now.bounds c.args.order.now.levels.items c.args.j c.bound-bound.result.now c.index-levels-j.result (declared-few _ _ keep.predicates) (declared-few _ _ keep.functions) c.requires.keeps c.args.order.now.levels_are below b-is vars-is in
     let e = assignment_in c.args.env.now in
     let next = c.next.ensures.next c.index-levels-j.result e c.loop-vars.invariant.reads in
     let d = assignment_in c.put_values.new.self in
     let put : d ≡ bind c.index-levels-j.result c.values.result.now (assignment_in c.loop-vars.env) = c.put_values.ensures.values ∙ ap (λ (ss : List Var). bind ss c.values.result.now (assignment_in c.loop-vars.env)) c.as_slice.ensures in
     record {
       reads = c.next.ensures.reads c.index-levels-j.result e c.loop-vars.invariant.reads;
-      frame = node-frame (signature_of c.args.task.now.problem.domain) (plain_problem c.args.task.now.problem) c.args.w.now (arranged c.args.order.now.bounds) c.args.j c.bound-bound.result.now c.index-levels-j.result below b-is node e (assignment_in c.loop-vars.env) d (assignment_in c.join.new.env) c.values.result.now put c.loop-vars.invariant.frame c.join.ensures.frame;
-      found = read-on (signature_of c.args.task.now.problem.domain) (plain_problem c.args.task.now.problem) c.args.w.now (arranged c.args.order.now.bounds) c.args.j c.bound-bound.result.now c.index-levels-j.result below b-is node e c.loop-vars.tuples.tuple c.next.new.self.tuple next c.args.rows.now.items c.loop-vars.rows.items c.loop-vars.invariant.found (assignment_in c.loop-vars.env) d c.values.result.now c.join.new.rows.items c.values.ensures.values put c.loop-vars.invariant.frame c.in-Ok.ensures.rows;
+      frame = node-frame (signature_of c.args.here.now.task.now.problem.domain) (plain_problem c.args.here.now.task.now.problem) c.args.here.now.world.now (arranged c.args.order.now.bounds) c.args.j c.bound-bound.result.now c.index-levels-j.result below b-is node e (assignment_in c.loop-vars.env) d (assignment_in c.join.new.env) c.values.result.now put c.loop-vars.invariant.frame c.join.ensures.frame;
+      found = read-on (signature_of c.args.here.now.task.now.problem.domain) (plain_problem c.args.here.now.task.now.problem) c.args.here.now.world.now (arranged c.args.order.now.bounds) c.args.j c.bound-bound.result.now c.index-levels-j.result below b-is node e c.loop-vars.tuples.tuple c.next.new.self.tuple next c.args.rows.now.items c.loop-vars.rows.items c.loop-vars.invariant.found (assignment_in c.loop-vars.env) d c.values.result.now c.join.new.rows.items c.values.ensures.values put c.loop-vars.invariant.frame c.in-Ok.ensures.rows;
     }
 
 pub join_level-loop-vars-smaller : goal.join_level-loop-vars-smaller
 join_level-loop-vars-smaller t c =
-    let keep = c.args.task.now.problem.domain_keeps in
+    let keep = c.args.here.now.task.now.problem.domain_keeps in
     let below = c.requires.within in
     let b-is = c.bound-bound.ensures in
     let vars-is = c.index-levels-j.is ∙ ap (λ (ls : List (List Var)). get_or ls c.args.j c.index-levels-j.result) c.as_slice-levels.ensures.value in
-    let node : Node (signature_of c.args.task.now.problem.domain) (arranged c.args.order.now.bounds) c.args.j c.bound-bound.result.now c.index-levels-j.result = node-at (signature_of c.args.task.now.problem.domain) (length c.args.task.now.problem.names) c.args.order.now.bounds c.args.order.now.levels.items c.args.j c.bound-bound.result.now c.index-levels-j.result (declared-few _ _ keep.predicates) (declared-few _ _ keep.functions) c.requires.keeps c.args.order.now.levels_are below b-is vars-is in
+    let node : Node (signature_of c.args.here.now.task.now.problem.domain) (arranged c.args.order.now.bounds) c.args.j c.bound-bound.result.now c.index-levels-j.result = node-at (signature_of c.args.here.now.task.now.problem.domain) (length c.args.here.now.task.now.problem.names) c.args.order.now.bounds c.args.order.now.levels.items c.args.j c.bound-bound.result.now c.index-levels-j.result (declared-few _ _ keep.predicates) (declared-few _ _ keep.functions) c.requires.keeps c.args.order.now.levels_are below b-is vars-is in
     let e = assignment_in c.args.env.now in
     let next = c.next.ensures.next c.index-levels-j.result e c.loop-vars.invariant.reads in
-    read-smaller (signature_of c.args.task.now.problem.domain) (plain_problem c.args.task.now.problem) c.args.w.now (arranged c.args.order.now.bounds) c.args.j c.bound-bound.result.now c.index-levels-j.result below b-is node e c.loop-vars.tuples.tuple c.next.new.self.tuple next c.args.rows.now.items c.loop-vars.rows.items c.loop-vars.invariant.found c.values.result.now c.values.ensures.values
+    read-smaller (signature_of c.args.here.now.task.now.problem.domain) (plain_problem c.args.here.now.task.now.problem) c.args.here.now.world.now (arranged c.args.order.now.bounds) c.args.j c.bound-bound.result.now c.index-levels-j.result below b-is node e c.loop-vars.tuples.tuple c.next.new.self.tuple next c.args.rows.now.items c.loop-vars.rows.items c.loop-vars.invariant.found c.values.result.now c.values.ensures.values
 
 pub join_level-returns-clause-rows : goal.join_level-returns-clause-rows
 join_level-returns-clause-rows t c =
-    let keep = c.args.task.now.problem.domain_keeps in
+    let keep = c.args.here.now.task.now.problem.domain_keeps in
     let below = c.requires.within in
     let b-is = c.bound-bound.ensures in
     let vars-is = c.index-levels-j.is ∙ ap (λ (ls : List (List Var)). get_or ls c.args.j c.index-levels-j.result) c.as_slice-levels.ensures.value in
-    let node : Node (signature_of c.args.task.now.problem.domain) (arranged c.args.order.now.bounds) c.args.j c.bound-bound.result.now c.index-levels-j.result = node-at (signature_of c.args.task.now.problem.domain) (length c.args.task.now.problem.names) c.args.order.now.bounds c.args.order.now.levels.items c.args.j c.bound-bound.result.now c.index-levels-j.result (declared-few _ _ keep.predicates) (declared-few _ _ keep.functions) c.requires.keeps c.args.order.now.levels_are below b-is vars-is in
+    let node : Node (signature_of c.args.here.now.task.now.problem.domain) (arranged c.args.order.now.bounds) c.args.j c.bound-bound.result.now c.index-levels-j.result = node-at (signature_of c.args.here.now.task.now.problem.domain) (length c.args.here.now.task.now.problem.names) c.args.order.now.bounds c.args.order.now.levels.items c.args.j c.bound-bound.result.now c.index-levels-j.result (declared-few _ _ keep.predicates) (declared-few _ _ keep.functions) c.requires.keeps c.args.order.now.levels_are below b-is vars-is in
     let e = assignment_in c.args.env.now in
     let next = c.next.ensures.next c.index-levels-j.result e c.loop-vars.invariant.reads in
-    read-end (signature_of c.args.task.now.problem.domain) (plain_problem c.args.task.now.problem) c.args.w.now (arranged c.args.order.now.bounds) c.args.j c.bound-bound.result.now c.index-levels-j.result below b-is node e c.loop-vars.tuples.tuple c.next.new.self.tuple next c.args.rows.now.items c.loop-vars.rows.items c.loop-vars.invariant.found (c.next.ensures.end c.loop-vars-test.false)
+    read-end (signature_of c.args.here.now.task.now.problem.domain) (plain_problem c.args.here.now.task.now.problem) c.args.here.now.world.now (arranged c.args.order.now.bounds) c.args.j c.bound-bound.result.now c.index-levels-j.result below b-is node e c.loop-vars.tuples.tuple c.next.new.self.tuple next c.args.rows.now.items c.loop-vars.rows.items c.loop-vars.invariant.found (c.next.ensures.end c.loop-vars-test.false)
 
 pub join-join_level-requires : goal.join-join_level-requires
 join-join_level-requires t c =
@@ -151,7 +151,7 @@ join-join_level-requires t c =
 
 pub join-returns-then-k-len-clause-rows : goal.join-returns-then-k-len-clause-rows
 join-returns-then-k-len-clause-rows t c =
-    joins-past (plain_problem c.args.task.now.problem) c.args.w.now (arranged c.args.order.now.bounds) (assignment_in c.args.env.now) c.args.j c.in-Some.k c.in-Some.ensures.passed c.args.rows.now.items c.join_level.new.rows.items c.join_level.result c.join_level.ensures.rows
+    joins-past (plain_problem c.args.here.now.task.now.problem) c.args.here.now.world.now (arranged c.args.order.now.bounds) (assignment_in c.args.env.now) c.args.j c.in-Some.k c.in-Some.ensures.passed c.args.rows.now.items c.join_level.new.rows.items c.join_level.result c.join_level.ensures.rows
 
 pub join-returns-then-k-len-clause-frame : goal.join-returns-then-k-len-clause-frame
 join-returns-then-k-len-clause-frame t c = c.in-Some.ensures.passed.known (assignment_in c.join_level.new.env) (assignment_in c.args.env.now) c.join_level.ensures.frame
@@ -159,9 +159,9 @@ join-returns-then-k-len-clause-frame t c = c.in-Some.ensures.passed.known (assig
 pub join-returns-else-k-len-clause-rows : goal.join-returns-else-k-len-clause-rows
 join-returns-else-k-len-clause-rows t c =
     let past : length (arranged c.args.order.now.bounds).bounds ≤ c.in-Some.k = let many = c.len.ensures in let count = levels-count c.args.order.now.bounds c.args.order.now.levels.items c.args.order.now.levels_are in omega (arith, c.if-k-len.false, many, count) in
-    joins-past (plain_problem c.args.task.now.problem) c.args.w.now (arranged c.args.order.now.bounds) (assignment_in c.args.env.now) c.args.j c.in-Some.k c.in-Some.ensures.passed c.args.rows.now.items c.find_row.new.rows.items c.find_row.result
-    (subst (λ (bs : List Bound). Joins (plain_problem c.args.task.now.problem) c.args.w.now (plain_operator (arranged c.args.order.now.bounds)) bs (drop c.in-Some.k (arranged c.args.order.now.bounds).bounds) (assignment_in c.args.env.now) c.args.rows.now.items c.find_row.new.rows.items c.find_row.result) (sym (take-past (arranged c.args.order.now.bounds).bounds c.in-Some.k past))
-    (subst (λ (bs : List Bound). Joins (plain_problem c.args.task.now.problem) c.args.w.now (plain_operator (arranged c.args.order.now.bounds)) (arranged c.args.order.now.bounds).bounds bs (assignment_in c.args.env.now) c.args.rows.now.items c.find_row.new.rows.items c.find_row.result) (sym (drop-past (arranged c.args.order.now.bounds).bounds c.in-Some.k past)) c.find_row.ensures.rows))
+    joins-past (plain_problem c.args.here.now.task.now.problem) c.args.here.now.world.now (arranged c.args.order.now.bounds) (assignment_in c.args.env.now) c.args.j c.in-Some.k c.in-Some.ensures.passed c.args.rows.now.items c.find_row.new.rows.items c.find_row.result
+    (subst (λ (bs : List Bound). Joins (plain_problem c.args.here.now.task.now.problem) c.args.here.now.world.now (plain_operator (arranged c.args.order.now.bounds)) bs (drop c.in-Some.k (arranged c.args.order.now.bounds).bounds) (assignment_in c.args.env.now) c.args.rows.now.items c.find_row.new.rows.items c.find_row.result) (sym (take-past (arranged c.args.order.now.bounds).bounds c.in-Some.k past))
+    (subst (λ (bs : List Bound). Joins (plain_problem c.args.here.now.task.now.problem) c.args.here.now.world.now (plain_operator (arranged c.args.order.now.bounds)) (arranged c.args.order.now.bounds).bounds bs (assignment_in c.args.env.now) c.args.rows.now.items c.find_row.new.rows.items c.find_row.result) (sym (drop-past (arranged c.args.order.now.bounds).bounds c.in-Some.k past)) c.find_row.ensures.rows))
 
 pub join-returns-else-k-len-clause-frame : goal.join-returns-else-k-len-clause-frame
 join-returns-else-k-len-clause-frame t c = known-agree (take c.args.j (arranged c.args.order.now.bounds).bounds) c.args.order.now.bounds.operator.now.params (assignment_in c.find_row.new.env) (assignment_in c.args.env.now) c.find_row.ensures.frame

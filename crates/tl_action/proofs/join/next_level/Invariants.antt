@@ -9,5 +9,5 @@ decreases-loop-k l = length l.levels - l.k
 
 abbrev pub invariant-loop-k : goal.invariant-loop-k
 invariant-loop-k l = record {
-  passed : IsPassed (plain_problem l.task.problem) l.w (arranged l.order.bounds) (assignment_in l.env) l.j l.k;
+  passed : IsPassed (plain_problem l.here.task.now.problem) l.here.world.now (arranged l.order.bounds) (assignment_in l.env) l.j l.k;
 }

@@ -6,5 +6,5 @@ use Rattle.tl_action.proofs.values.row_of.Given as goal
 abbrev pub invariant-loop-var : goal.invariant-loop-var
 invariant-loop-var l = record {
   frame : l.env ≡ l.fn.env;
-  passed : RowPassed l.w (assignment_in l.fn.env) l.vars (drop l.var-index l.vars) l.row;
+  passed : RowPassed l.here.world.now (assignment_in l.fn.env) l.vars (drop l.var-index l.vars) l.row;
 }
