@@ -49,12 +49,7 @@ pub fn apply<L: Ledger>(
     }
     match prepared(&here, env, operator) {
         Ok(Some(changes)) => {
-            let next = w.changed(
-                alloc,
-                changes.dels.as_slice(),
-                changes.adds.as_slice(),
-                changes.sets.as_slice(),
-            )?;
+            let next = changes.world_after(alloc, w)?;
             Ok(Some(next))
         }
         Ok(None) => Ok(None),

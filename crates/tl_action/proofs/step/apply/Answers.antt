@@ -1,7 +1,8 @@
-use Rattle.std.proofs.Common.{◌≡◌, ◌<◌, List, map, length, Option, Ok, sym, ap, ◌∙◌, subst}
+use Rattle.std.proofs.Common.{◌≡◌, ◌<◌, List, length, Option, Ok, sym, ap, ◌∙◌, subst}
 use Rattle.std.specs.List.{list_all}
 use Rattle.tl_action.specs.declared.changes.Changes.{Changes}
 use Rattle.tl_action.specs.Agreement.{Agree}
+use Rattle.tl_action.specs.ChangedWorlds.{world_after}
 use Rattle.tl_action.specs.Prepared.{Prepares}
 use Rattle.tl_action.proofs.AppliedOperators.{OperatorAt, operator-below, operator-at, step-stopped, step-unprepared, step-made, step-caused}
 use Rattle.tl_action.proofs.NextNamed.{next-named}
@@ -12,13 +13,12 @@ use Rattle.tl_syntax.specs.declared.variable.Var.{Var}
 use Rattle.tl_syntax.specs.Assignment.{Assignment, bind, no_values}
 use Rattle.tl_syntax.specs.Fits.{BoundFits}
 use Rattle.tl_syntax.specs.FreeVariables.{slots_of}
-use Rattle.tl_syntax.specs.Keys.{fact_key, place_entry}
 use Rattle.tl_syntax.specs.Lists.{Each}
 use Rattle.tl_syntax.specs.Signature.{signature_of}
 use Rattle.tl_terms.specs.Bounds.{bound_true}
 use Rattle.tl_terms.specs.Definitions.{situation_of}
 use Rattle.tl_terms.specs.ProblemMeaning.{plain_operator, plain_problem}
-use Rattle.tl_terms.specs.Step.{with_all, without_all, overwritten}
+use Rattle.tl_terms.specs.World.{World}
 use Rattle.tl_action.proofs.step.apply.Goals as goal
 
 pub bounds-as_slice-a : goal.bounds-as_slice-a
@@ -55,6 +55,7 @@ prepared-requires g c =
     at.keeps
 
 pub returns-in_ok-next-in-Ok-Some-clause-world : goal.returns-in_ok-next-in-Ok-Some-clause-world
+unfolding world_after
 returns-in_ok-next-in-Ok-Some-clause-world g c =
     let at : OperatorAt c.args.task.now.problem c.args.a.now c.index-as_slice-a.result = operator-at c.args.task.now.problem c.args.a.now c.as_slice.result.now c.index-as_slice-a.result c.as_slice.ensures c.index-as_slice-a.is c.requires.operator in
     let o = c.index-as_slice-a.result in
@@ -65,9 +66,7 @@ returns-in_ok-next-in-Ok-Some-clause-world g c =
     let x = c.in-Ok-Some.changes in
     step-made c.args.task.now.problem c.args.w.now c.args.a.now o at d agrees (bounds ∙ c.if-not-bounds_hold.false) x
     (subst (λ (r : Option Changes). Prepares (plain_problem c.args.task.now.problem) c.args.w.now d (plain_operator o) (Ok r)) c.in-Ok-Some.field-0-is c.in-Ok-Some.ensures.changes)
-    c.in_ok-next-in-Ok-Some.next
-    (c.in_ok-next-in-Ok-Some.ensures.facts ∙ (λ i. with_all (without_all c.args.w.now.facts (map fact_key (c.as_slice-in-Ok-Some.ensures i))) (map fact_key (c.as_slice-in-Ok-Some-2.ensures i))))
-    (c.in_ok-next-in-Ok-Some.ensures.places ∙ ap (λ sets. overwritten c.args.w.now.places (map place_entry sets)) c.as_slice-in-Ok-Some-3.ensures)
+    c.in_ok-next-in-Ok-Some.next (ap (λ (v : World). v.facts) c.in_ok-next-in-Ok-Some.ensures) (ap (λ (v : World). v.places) c.in_ok-next-in-Ok-Some.ensures)
 
 pub returns-in-Ok-None-clause-world : goal.returns-in-Ok-None-clause-world
 returns-in-Ok-None-clause-world g c =
