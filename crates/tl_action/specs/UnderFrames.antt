@@ -3,7 +3,7 @@ use Rattle.std.specs.List.{list_all}
 use Rattle.std.specs.Prelude.{ℕ, List, [], length, take, Bool, Option, Result}
 use Rattle.tl_action.specs.declared.arranged.Arranged.{Arranged}
 use Rattle.tl_action.specs.declared.changes.Changes.{Changes}
-use Rattle.tl_action.specs.declared.collect.Scope.{Scope}
+use Rattle.tl_action.specs.declared.collect.ForEach.{ForEach}
 use Rattle.tl_action.specs.declared.collect.Setting.{Setting}
 use Rattle.tl_action.specs.declared.fault.ActFault.{ActFault}
 use Rattle.tl_action.specs.declared.here.Here.{Here}
@@ -34,6 +34,7 @@ use Rattle.tl_syntax.specs.TreeOfTerm.{tree_of_term, tree_of_terms}
 use Rattle.tl_terms.specs.Bounds.{bound_true, tuples}
 use Rattle.tl_terms.specs.Definitions.{situation_of}
 use Rattle.tl_terms.specs.Looked.{looked_in_each, looked_in_term, looked_in_effect, looked_in_effects, looks_of}
+use Rattle.tl_terms.specs.Operations.{Operation}
 use Rattle.tl_terms.specs.Problem.{PlainProblem}
 use Rattle.tl_terms.specs.ProblemMeaning.{plain_operator, plain_problem}
 use Rattle.tl_terms.specs.Situation.{Situation}
@@ -73,17 +74,25 @@ abbrev pub EffectsReadHere : Here → Effects → Type 0
 EffectsReadHere here xs = EffectsRead (signature_here here) (tree_of_effects xs)
 
 -- the effects below variables can
-abbrev pub EachReadsHere : Here → List Var → Effects → Type 0
-EachReadsHere here ss xs = EachReads (signature_here here) ss (tree_of_effects xs)
+abbrev pub EachReadsHere : Here → ForEach → Type 0
+EachReadsHere here each = EachReads (signature_here here) each.vars.now (tree_of_effects each.effects.now)
 
 -- all bounds are true in the world under the values of the frame
 abbrev pub bounds_true : Here → List (Option Value) → List Bound → Bool
 bounds_true here frame bs = list_all (bound_true (situation_here here) (assignment_in frame)) bs
 
--- the values of the terms, where all are defined; or a fault with its cause
+-- the values of the terms, where all are defined
+abbrev pub values_here : Here → List (Option Value) → Terms → Option (List Value)
+values_here here frame ts = term_values here.world.now (assignment_in frame) (tree_of_terms ts)
+
+-- what is looked at for them
+abbrev pub looked_for_values : Here → List (Option Value) → Terms → List Operation
+looked_for_values here frame ts = looked_in_each here.world.now (assignment_in frame) (tree_of_terms ts)
+
+-- these values, where all are defined; or a fault with its cause
 abbrev pub AnswersValues : Here → List (Option Value) → Terms → Result (Option (List Value)) ActFault → Type 0
 AnswersValues here frame ts r =
-    Answers (term_values here.world.now (assignment_in frame) (tree_of_terms ts)) (looked_in_each here.world.now (assignment_in frame) (tree_of_terms ts)) r
+    Answers (values_here here frame ts) (looked_for_values here frame ts) r
 
 -- the values of the variables, where all have one; or a fault with its cause
 abbrev pub AnswersRow : Here → List (Option Value) → List Var → Result (Option (List Value)) ActFault → Type 0
@@ -93,27 +102,34 @@ AnswersRow here frame ss r =
 -- true where the terms are defined, and the fact with their values is then collected; false where they are not; or a fault with its cause
 abbrev pub FactIsCollected : Here → List (Option Value) → ℕ → Terms → List Fact → List Fact → Result Bool ActFault → Type 0
 FactIsCollected here frame pred ts before after r =
-    GivesFact pred (term_values here.world.now (assignment_in frame) (tree_of_terms ts)) (looked_in_each here.world.now (assignment_in frame) (tree_of_terms ts)) before after r
+    GivesFact pred (values_here here frame ts) (looked_for_values here frame ts) before after r
 
 -- and so for a place that an effect sets, with its value
 abbrev pub PlaceIsCollected : Here → List (Option Value) → Setting → List PlaceValue → List PlaceValue → Result Bool ActFault → Type 0
 PlaceIsCollected here frame s before after r =
-    GivesPlace s.fun (term_values here.world.now (assignment_in frame) (tree_of_terms s.args.now)) (term_value here.world.now (assignment_in frame) (tree_of_term s.value.now)) (looked_in_each here.world.now (assignment_in frame) (tree_of_terms s.args.now)) (looked_in_term here.world.now (assignment_in frame) (tree_of_term s.value.now)) before after r
+    let value = term_value here.world.now (assignment_in frame) (tree_of_term s.value.now) in
+    let looked = looked_in_term here.world.now (assignment_in frame) (tree_of_term s.value.now) in
+    GivesPlace s.fun (values_here here frame s.args.now) value (looked_for_values here frame s.args.now) looked before after r
 
 -- true where all instances of the effect are defined, whose changes are then collected; false where some is not; or a fault with its cause
 abbrev pub EffectIsCollected : Here → List (Option Value) → Effect → Changes → Changes → Result Bool ActFault → Type 0
 EffectIsCollected here frame x before after r =
-    Collects (effect_instances (situation_here here) (assignment_in frame) (tree_of_effect x)) (looked_in_effect (looks_of (problem_here here) here.world.now) (situation_here here) (assignment_in frame) (tree_of_effect x)) before after r
+    let e = assignment_in frame in
+    let looked = looked_in_effect (looks_of (problem_here here) here.world.now) (situation_here here) e (tree_of_effect x) in
+    Collects (effect_instances (situation_here here) e (tree_of_effect x)) looked before after r
 
 -- and so for a list of effects
 abbrev pub EffectsAreCollected : Here → List (Option Value) → Effects → Changes → Changes → Result Bool ActFault → Type 0
 EffectsAreCollected here frame xs before after r =
-    Collects (all_instances (situation_here here) (assignment_in frame) (tree_of_effects xs)) (looked_in_effects (looks_of (problem_here here) here.world.now) (situation_here here) (assignment_in frame) (tree_of_effects xs)) before after r
+    let e = assignment_in frame in
+    let looked = looked_in_effects (looks_of (problem_here here) here.world.now) (situation_here here) e (tree_of_effects xs) in
+    Collects (all_instances (situation_here here) e (tree_of_effects xs)) looked before after r
 
 -- and for effects below variables, for each tuple of their values that makes the bound true
-abbrev pub EachIsCollected : Here → List (Option Value) → Scope → Effects → Changes → Changes → Result Bool ActFault → Type 0
-EachIsCollected here frame scope xs before after r =
-    CollectsEach (problem_here here) here.world.now (assignment_in frame) scope.vars.now (tree_of_effects xs) (tuples (situation_here here) (assignment_in frame) scope.vars.now scope.bound.now) before after r
+abbrev pub EachIsCollected : Here → List (Option Value) → ForEach → Changes → Changes → Result Bool ActFault → Type 0
+EachIsCollected here frame each before after r =
+    let e = assignment_in frame in
+    CollectsEach (problem_here here) here.world.now e each.vars.now (tree_of_effects each.effects.now) (tuples (situation_here here) e each.vars.now each.bound.now) before after r
 
 -- only slots of variables that the effect quantifies got other values in the frame
 abbrev pub EffectLeavesFrame : Here → Effect → List (Option Value) → List (Option Value) → Type 0
@@ -124,8 +140,9 @@ abbrev pub EffectsLeaveFrame : Here → Effects → List (Option Value) → List
 EffectsLeaveFrame here xs old new = EffectsLeave (signature_here here) (tree_of_effects xs) (assignment_in old) (assignment_in new)
 
 -- and for effects below variables
-abbrev pub EachLeavesFrame : Here → List Var → Effects → List (Option Value) → List (Option Value) → Type 0
-EachLeavesFrame here ss xs old new = EachLeaves (signature_here here) ss (tree_of_effects xs) (assignment_in old) (assignment_in new)
+abbrev pub EachLeavesFrame : Here → ForEach → List (Option Value) → List (Option Value) → Type 0
+EachLeavesFrame here each old new =
+    EachLeaves (signature_here here) each.vars.now (tree_of_effects each.effects.now) (assignment_in old) (assignment_in new)
 
 -- the changes that the operator's effects make; none where an instance is undefined or two clash; or a fault with its cause
 abbrev pub ChangesAreCollected : Here → Operator → List (Option Value) → Result (Option Changes) ActFault → Type 0
@@ -138,7 +155,9 @@ ChangesArePrepared here o frame r = Prepares (problem_here here) here.world.now 
 -- whether the operator can be applied with its parameters' values in the frame; or a fault with its cause
 abbrev pub AnswersPrepared : Here → Operator → List (Option Value) → Result Bool ActFault → Type 0
 AnswersPrepared here o frame r =
-    Answers (is_prepared (problem_here here) here.world.now (assignment_in frame) (plain_operator o)) (looked_prepared (problem_here here) here.world.now (assignment_in frame) (plain_operator o)) r
+    let e = assignment_in frame in
+    let looked = looked_prepared (problem_here here) here.world.now e (plain_operator o) in
+    Answers (is_prepared (problem_here here) here.world.now e (plain_operator o)) looked r
 
 -- the bounds from the j-th to the k-th have no new parameter and are true under the values of the frame
 abbrev pub IsPassedUnder : Here → Arranged → List (Option Value) → ℕ → ℕ → Type 0

@@ -103,8 +103,12 @@ fn collect(
             Err(note) => Err(ActFault::Range(note)),
         },
         Effect::Each(vars, bound, effects) => {
-            let scope = Scope { vars, bound };
-            collect_each(here, env, &scope, effects, changes)
+            let each = ForEach {
+                vars,
+                bound,
+                effects,
+            };
+            collect_each(here, env, &each, changes)
         }
     }
 }
@@ -131,13 +135,15 @@ pub(crate) fn collect_all(
     Ok(true)
 }
 
-/// What an effect goes over: the tuples of a bound for its variables.
+/// Effects below variables, for each tuple of a bound.
 #[derive(Clone, Copy)]
-struct Scope<'a> {
+struct ForEach<'a> {
     /// The variables.
     vars: &'a Vars,
     /// The bound.
     bound: &'a Bound,
+    /// The effects.
+    effects: &'a Effects,
 }
 
 /// Collects the changes of effects for each tuple of the bound, up to the first with an undefined part: false where one has.
@@ -145,23 +151,22 @@ struct Scope<'a> {
 fn collect_each(
     here: &Here,
     env: &mut Env,
-    scope: &Scope,
-    effects: &Effects,
+    each: &ForEach,
     changes: &mut Changes,
 ) -> Result<bool, ActFault>
-    requires reads { EachReadsHere here.now scope.now.vars.now effects.now }
-    requires differ { DifferInSlot scope.now.vars.now }
-    requires occur { OccurIn scope.now.vars.now scope.now.bound.now }
-    requires fits { BoundFits (signature_here here.now) scope.now.bound.now }
-    ensures changes { EachIsCollected here.now env.old scope.now effects.now changes.old changes.new result }
-    ensures frame { EachLeavesFrame here.now scope.now.vars.now effects.now env.old env.new }
+    requires reads { EachReadsHere here.now each.now }
+    requires differ { DifferInSlot each.now.vars.now }
+    requires occur { OccurIn each.now.vars.now each.now.bound.now }
+    requires fits { BoundFits (signature_here here.now) each.now.bound.now }
+    ensures changes { EachIsCollected here.now env.old each.now changes.old changes.new result }
+    ensures frame { EachLeavesFrame here.now each.now env.old env.new }
 {
-    let vars = scope.vars;
-    let bound = scope.bound;
+    let vars = each.vars;
+    let bound = each.bound;
     let mut tuples = TupleReader::open(here.task, env, vars, bound);
     while tuples.next(here.task, here.world, bound) {
         env.put_values(vars.as_slice(), tuples.values());
-        match collect_all(here, env, effects, changes) {
+        match collect_all(here, env, each.effects, changes) {
             Ok(true) => {}
             Ok(false) => return Ok(false),
             Err(fault) => return Err(fault),

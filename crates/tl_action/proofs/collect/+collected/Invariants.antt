@@ -19,7 +19,7 @@ abbrev pub decreases-collect_all : goal.decreases-collect_all
 decreases-collect_all l = effects_nodes (tree_of_effects l.effects.now)
 
 abbrev pub decreases-collect_each : goal.decreases-collect_each
-decreases-collect_each l = 1 + effects_nodes (tree_of_effects l.effects.now)
+decreases-collect_each l = 1 + effects_nodes (tree_of_effects l.each.now.effects.now)
 
 abbrev pub invariant-collect_all-loop-effect : goal.invariant-collect_all-loop-effect
 invariant-collect_all-loop-effect l = record {
@@ -37,6 +37,6 @@ invariant-collect_each-loop-vars l =
     let e = assignment_in l.fn.env in
     record {
       reads : Reads l.vars e l.bound l.tuples;
-      frame : EachLeaves (signature_of l.here.task.now.problem.domain) l.vars (tree_of_effects l.effects) e (assignment_in l.env);
-      passed : TuplesPassed p l.here.world.now e l.vars (tree_of_effects l.effects) (all s e l.vars l.bound) (left s e l.vars l.bound l.tuples.tuple) l.fn.changes l.changes;
+      frame : EachLeaves (signature_of l.here.task.now.problem.domain) l.vars (tree_of_effects l.each.effects.now) e (assignment_in l.env);
+      passed : TuplesPassed p l.here.world.now e l.vars (tree_of_effects l.each.effects.now) (all s e l.vars l.bound) (left s e l.vars l.bound l.tuples.tuple) l.fn.changes l.changes;
     }
