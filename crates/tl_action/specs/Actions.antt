@@ -2,6 +2,7 @@
 use Rattle.std.specs.Prelude.{◌↔◌, ℕ, List, length, map, IsTrue, is_some}
 use Rattle.tl_action.specs.declared.fault.ActFault.{ActFault}
 use Rattle.tl_action.specs.declared.fault.ActFault.TheVariants as fault
+use Rattle.tl_action.specs.Answers.{IsCausedBy}
 use Rattle.tl_eval.specs.Notes.{Tells}
 use Rattle.tl_syntax.specs.declared.action.Action.{Action}
 use Rattle.tl_syntax.specs.declared.value.Value.{Value}
@@ -13,6 +14,7 @@ use Rattle.tl_terms.specs.NamedWorlds.{WorldIsNamed}
 use Rattle.tl_terms.specs.Problem.{PlainProblem}
 use Rattle.tl_terms.specs.Step.{step}
 use Rattle.tl_terms.specs.World.{World}
+use Rattle.tl_world.specs.declared.task.Task.{Task}
 
 -- the action's operator exists and has as many parameters as the action has arguments
 abbrev pub HasOperator : PlainProblem → Action → Type 0
@@ -41,6 +43,14 @@ ActionsAreNamed n w actions = WorldIsNamed n w → Each (ArgumentsAreNamed n) ac
 -- where a world and the arguments of an action are named, so is the world after the action
 abbrev pub StaysNamed : ℕ → World → Action → World → Type 0
 StaysNamed n w a next = WorldIsNamed n w → ArgumentsAreNamed n a → WorldIsNamed n next
+
+-- how many names the problem of the task has
+abbrev pub name_count : Task → ℕ
+name_count task = length task.problem.names
+
+-- the note is of an operation that the action looks at, and which is past range; want of memory has no cause
+abbrev pub IsCausedByAction : PlainProblem → World → Action → ActFault → Type 0
+IsCausedByAction p w a x = IsCausedBy (looked_by_action p w a) x
 
 -- the note is of an operation that some action looks at, and which is past range; want of memory has no cause
 abbrev pub IsCausedBySome : PlainProblem → World → ActFault → Type 0

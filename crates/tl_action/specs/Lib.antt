@@ -2,10 +2,11 @@ pub mod Agreement
 pub mod LawsAgreement
 pub mod Answers
 pub mod Collected
-pub mod ChangedWorlds
 pub mod Sure
 pub mod Prepared
 pub mod Join
 pub mod RowLists
 pub mod UnderFrames
 pub mod Actions
+pub mod ChangedWorlds
+pub mod Places

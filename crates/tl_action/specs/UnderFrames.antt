@@ -1,4 +1,5 @@
 -- What the parts of the crate say in a world of a task, under the values of a frame.
+use Rattle.std.specs.Global.{Vec}
 use Rattle.std.specs.List.{list_all}
 use Rattle.std.specs.Prelude.{ℕ, List, [], length, take, Bool, Option, Result}
 use Rattle.tl_action.specs.declared.arranged.Arranged.{Arranged}
@@ -119,8 +120,8 @@ EffectIsCollected here frame x before after r =
     Collects (effect_instances (situation_here here) e (tree_of_effect x)) looked before after r
 
 -- and so for a list of effects
-abbrev pub EffectsAreCollected : Here → List (Option Value) → Effects → Changes → Changes → Result Bool ActFault → Type 0
-EffectsAreCollected here frame xs before after r =
+abbrev pub AreCollected : Here → List (Option Value) → Effects → Changes → Changes → Result Bool ActFault → Type 0
+AreCollected here frame xs before after r =
     let e = assignment_in frame in
     let looked = looked_in_effects (looks_of (problem_here here) here.world.now) (situation_here here) e (tree_of_effects xs) in
     Collects (all_instances (situation_here here) e (tree_of_effects xs)) looked before after r
@@ -168,14 +169,14 @@ abbrev pub HasNoneUnder : Here → Arranged → List (Option Value) → ℕ → 
 HasNoneUnder here a frame j = HasNoCompletion (problem_here here) here.world.now (arranged a) (assignment_in frame) j
 
 -- the row of the values in the frame is added, where the operator can be applied with it; or a fault with its cause
-abbrev pub RowIsJoined : Here → Arranged → List (Option Value) → List (List Value) → List (List Value) → Result (Unit {0}) ActFault → Type 0
+abbrev pub RowIsJoined : Here → Arranged → List (Option Value) → Vec (List Value) → Vec (List Value) → Result (Unit {0}) ActFault → Type 0
 RowIsJoined here a frame before after r =
-    JoinsRow (problem_here here) here.world.now (arranged a) (assignment_in frame) before after r
+    JoinsRow (problem_here here) here.world.now (arranged a) (assignment_in frame) before.items after.items r
 
 -- the rows that complete the frame from the j-th bound on are added; or a fault with its cause
-abbrev pub RowsAreJoined : Here → Arranged → ℕ → List (Option Value) → List (List Value) → List (List Value) → Result (Unit {0}) ActFault → Type 0
+abbrev pub RowsAreJoined : Here → Arranged → ℕ → List (Option Value) → Vec (List Value) → Vec (List Value) → Result (Unit {0}) ActFault → Type 0
 RowsAreJoined here a j frame before after r =
-    JoinsFrom (problem_here here) here.world.now (arranged a) j (assignment_in frame) before after r
+    JoinsFrom (problem_here here) here.world.now (arranged a) j (assignment_in frame) before.items after.items r
 
 -- the parameters of the first j bounds keep their values in the frame
 abbrev pub KeepsKnown : Arranged → ℕ → List (Option Value) → List (Option Value) → Type 0

@@ -1,6 +1,6 @@
 // All actions that are executable in a world.
-ghost use Rattle.std.specs.Prelude.{◌≡◌, ◌++◌, length, map, IfOk, IfErr, OnOk};
-ghost use Rattle.tl_action.specs.Actions.{action_of, ActionsAreNamed, AreActions, HasOperator, IsCausedBySome};
+ghost use Rattle.std.specs.Prelude.{◌≡◌, ◌++◌, map, IfOk, IfErr, OnOk};
+ghost use Rattle.tl_action.specs.Actions.{action_of, ActionsAreNamed, name_count, AreActions, HasOperator, IsCausedBySome};
 ghost use Rattle.tl_action.specs.RowLists.{IsRows};
 ghost use Rattle.tl_action.specs.UnderFrames.{OperatorIsKept, AreRowsUnder, IsRowFaultUnder};
 ghost use Rattle.tl_syntax.specs.Lists.{Each, Rises};
@@ -57,7 +57,7 @@ pub fn actions(alloc: Global, task: &Task, w: &World, env: &mut Env) -> Result<A
     ensures actions { IfOk result (AreActions (plain_problem task.now.problem) w.now) }
     ensures order { IfOk result (Rises action_cmp) }
     ensures fit { IfOk result (Each (HasOperator (plain_problem task.now.problem))) }
-    ensures named { IfOk result (λ found. ActionsAreNamed (length task.now.problem.names) w.now found) }
+    ensures named { IfOk result (λ found. ActionsAreNamed (name_count task.now) w.now found) }
     ensures cause { IfErr result (IsCausedBySome (plain_problem task.now.problem) w.now) }
 {
     let operators = task.problem.domain.operators.as_slice();

@@ -2,9 +2,8 @@
 ghost use Rattle.std.specs.Cmp.Lexicographic.{slice_cmp};
 ghost use Rattle.std.specs.List.{list_all};
 ghost use Rattle.std.specs.Prelude.{◌≡◌, map, IfOk};
+ghost use Rattle.tl_action.specs.Places.{agrees_with_all, is_given};
 ghost use Rattle.tl_syntax.specs.Keys.{agree, no_clash, place_entry, value_cmp};
-ghost use Rattle.tl_terms.specs.Acceptance.{is_value};
-ghost use Rattle.tl_terms.specs.World.{value_at};
 
 use std::alloc::Global;
 use std::cmp::Ordering;
@@ -16,7 +15,7 @@ const FEW: usize = 8;
 
 /// Whether the world gives each of the places its value. It takes no memory.
 fn gives_each(given: &World, sets: &[PlaceValue]) -> bool
-    ensures { result ≡ list_all (λ s. is_value (value_at given.now (s.fun, s.args)) s.value) sets.now }
+    ensures { result ≡ list_all (is_given given.now) sets.now }
 {
     sets.iter()
         .all(|s| given.value(s.fun, s.args.as_slice()) == Some(s.value))
@@ -39,14 +38,14 @@ fn agree_as_two(a: &PlaceValue, b: &PlaceValue) -> bool
 
 /// Whether none of the places is the one of `a` with another value. It takes no memory.
 fn agrees_with_each(a: &PlaceValue, sets: &[PlaceValue]) -> bool
-    ensures { result ≡ list_all (λ b. agree (place_entry a.now) (place_entry b)) sets.now }
+    ensures { result ≡ agrees_with_all sets.now a.now }
 {
     sets.iter().all(|b| agree_as_two(a, b))
 }
 
 /// Whether no two of them give one place different values. Each is compared with each, and it takes no memory.
 fn each_agrees(sets: &[PlaceValue]) -> bool
-    ensures { result ≡ list_all (λ a. list_all (λ b. agree (place_entry a) (place_entry b)) sets.now) sets.now }
+    ensures { result ≡ list_all (agrees_with_all sets.now) sets.now }
 {
     sets.iter().all(|a| agrees_with_each(a, sets))
 }

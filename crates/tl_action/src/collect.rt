@@ -1,6 +1,6 @@
 // The changes that effects make, all read in one world.
 ghost use Rattle.std.specs.Prelude.{◌≡◌};
-ghost use Rattle.tl_action.specs.UnderFrames.{signature_here, TermFitsHere, TermsFitHere, EffectReadsHere, EffectsReadHere, EachReadsHere, FactIsCollected, PlaceIsCollected, EffectIsCollected, EffectsAreCollected, EachIsCollected, EffectLeavesFrame, EffectsLeaveFrame, EachLeavesFrame};
+ghost use Rattle.tl_action.specs.UnderFrames.{signature_here, TermFitsHere, TermsFitHere, EffectReadsHere, EffectsReadHere, EachReadsHere, FactIsCollected, PlaceIsCollected, EffectIsCollected, AreCollected, EachIsCollected, EffectLeavesFrame, EffectsLeaveFrame, EachLeavesFrame};
 ghost use Rattle.tl_syntax.specs.BoundVariables.{DifferInSlot, OccurIn};
 ghost use Rattle.tl_syntax.specs.Fits.{BoundFits};
 
@@ -122,7 +122,7 @@ pub(crate) fn collect_all(
     changes: &mut Changes,
 ) -> Result<bool, ActFault>
     requires { EffectsReadHere here.now effects.now }
-    ensures changes { EffectsAreCollected here.now env.old effects.now changes.old changes.new result }
+    ensures changes { AreCollected here.now env.old effects.now changes.old changes.new result }
     ensures frame { EffectsLeaveFrame here.now effects.now env.old env.new }
 {
     for effect in effects.as_slice().iter() {

@@ -19,7 +19,7 @@ fn find_row(
     rows: &mut Vec<Values>,
 ) -> Result<(), ActFault>
     requires { OperatorIsKept here.now order.now.bounds.operator.now }
-    ensures rows { RowIsJoined here.now order.now.bounds env.old rows.old.items rows.new.items result }
+    ensures rows { RowIsJoined here.now order.now.bounds env.old rows.old rows.new result }
     ensures frame { KeepsParameters order.now.bounds.operator.now env.old env.new }
 {
     let operator = order.bounds.operator;
@@ -69,7 +69,7 @@ fn join_level(
 ) -> Result<(), ActFault>
     requires keeps { OperatorIsKept here.now order.now.bounds.operator.now }
     requires within { j < bound_count order.now.bounds }
-    ensures rows { RowsAreJoined here.now order.now.bounds j env.old rows.old.items rows.new.items result }
+    ensures rows { RowsAreJoined here.now order.now.bounds j env.old rows.old rows.new result }
     ensures frame { KeepsKnown order.now.bounds j env.old env.new }
 {
     let levels = order.levels.as_slice();
@@ -102,7 +102,7 @@ pub(crate) fn join(
 ) -> Result<(), ActFault>
     requires keeps { OperatorIsKept here.now order.now.bounds.operator.now }
     requires within { j ≤ bound_count order.now.bounds }
-    ensures rows { RowsAreJoined here.now order.now.bounds j env.old rows.old.items rows.new.items result }
+    ensures rows { RowsAreJoined here.now order.now.bounds j env.old rows.old rows.new result }
     ensures frame { KeepsKnown order.now.bounds j env.old env.new }
 {
     match next_level(here, env, order, j) {

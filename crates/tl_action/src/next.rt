@@ -1,11 +1,8 @@
 // The step of an action that is known to be executable.
-ghost use Rattle.std.specs.Prelude.{◌≡◌, ◌+◌, length, Some, IfOk, IfErr};
-ghost use Rattle.tl_action.specs.Actions.{IsExecutable, StaysNamed};
-ghost use Rattle.tl_action.specs.Answers.{IsCausedBy};
-ghost use Rattle.tl_action.specs.ChangedWorlds.{world_after};
-ghost use Rattle.tl_terms.specs.Looked.{looked_by_action};
+ghost use Rattle.std.specs.Prelude.{◌≡◌, ◌+◌, IfOk, IfErr};
+ghost use Rattle.tl_action.specs.Actions.{name_count, IsCausedByAction, IsExecutable, StaysNamed};
+ghost use Rattle.tl_action.specs.ChangedWorlds.{IsNext, LeaveNamed, MakeNext};
 ghost use Rattle.tl_terms.specs.ProblemMeaning.{plain_problem};
-ghost use Rattle.tl_terms.specs.Step.{step};
 
 use crate::ActFault;
 use crate::changes::Changes;
@@ -32,9 +29,9 @@ pub fn changes_by<L: Ledger>(
     steps: &mut Steps<L>,
 ) -> Result<Changes, ActFault>
     requires executable { IsExecutable (plain_problem task.now.problem) w.now a.now }
-    ensures world { IfOk result (λ c. Some (world_after w.now c) ≡ step (plain_problem task.now.problem) w.now a.now) }
-    ensures named { IfOk result (λ c. StaysNamed (length task.now.problem.names) w.now a.now (world_after w.now c)) }
-    ensures cause { IfErr result (IsCausedBy (looked_by_action (plain_problem task.now.problem) w.now a.now)) }
+    ensures world { IfOk result (MakeNext (plain_problem task.now.problem) w.now a.now) }
+    ensures named { IfOk result (LeaveNamed (name_count task.now) w.now a.now) }
+    ensures cause { IfErr result (IsCausedByAction (plain_problem task.now.problem) w.now a.now) }
     ensures ticks { steps.new ≡ steps.old + 1 }
 {
     steps.tick();
@@ -63,9 +60,9 @@ pub fn next_world<L: Ledger>(
     steps: &mut Steps<L>,
 ) -> Result<World, ActFault>
     requires executable { IsExecutable (plain_problem task.now.problem) w.now a.now }
-    ensures world { IfOk result (λ next. Some next ≡ step (plain_problem task.now.problem) w.now a.now) }
-    ensures named { IfOk result (StaysNamed (length task.now.problem.names) w.now a.now) }
-    ensures cause { IfErr result (IsCausedBy (looked_by_action (plain_problem task.now.problem) w.now a.now)) }
+    ensures world { IfOk result (IsNext (plain_problem task.now.problem) w.now a.now) }
+    ensures named { IfOk result (StaysNamed (name_count task.now) w.now a.now) }
+    ensures cause { IfErr result (IsCausedByAction (plain_problem task.now.problem) w.now a.now) }
     ensures ticks { steps.new ≡ steps.old + 1 }
 {
     match changes_by(alloc, task, w, env, a, steps) {

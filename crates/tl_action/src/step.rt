@@ -1,8 +1,6 @@
 // The step of an action.
-ghost use Rattle.std.specs.Prelude.{◌≡◌, ◌+◌, length, IfOk, IfErr, IfSome};
-ghost use Rattle.tl_action.specs.Actions.{HasOperator, StaysNamed};
-ghost use Rattle.tl_action.specs.Answers.{IsCausedBy};
-ghost use Rattle.tl_terms.specs.Looked.{looked_by_action};
+ghost use Rattle.std.specs.Prelude.{◌≡◌, ◌+◌, IfOk, IfErr, IfSome};
+ghost use Rattle.tl_action.specs.Actions.{name_count, HasOperator, IsCausedByAction, StaysNamed};
 ghost use Rattle.tl_terms.specs.ProblemMeaning.{plain_problem};
 ghost use Rattle.tl_terms.specs.Step.{step};
 
@@ -32,8 +30,8 @@ pub fn apply<L: Ledger>(
 ) -> Result<Option<World>, ActFault>
     requires operator { HasOperator (plain_problem task.now.problem) a.now }
     ensures world { IfOk result (λ v. v ≡ step (plain_problem task.now.problem) w.now a.now) }
-    ensures named { IfOk result (λ v. IfSome v (StaysNamed (length task.now.problem.names) w.now a.now)) }
-    ensures cause { IfErr result (IsCausedBy (looked_by_action (plain_problem task.now.problem) w.now a.now)) }
+    ensures named { IfOk result (λ v. IfSome v (StaysNamed (name_count task.now) w.now a.now)) }
+    ensures cause { IfErr result (IsCausedByAction (plain_problem task.now.problem) w.now a.now) }
     ensures ticks { steps.new ≡ steps.old + 1 }
 {
     steps.tick();
