@@ -20,11 +20,9 @@ use Rattle.tl_syntax.specs.FreeVariables.{slots_of, bound_slots, InScope}
 use Rattle.tl_syntax.specs.Kept.{OperatorKeeps}
 use Rattle.tl_syntax.specs.Lists.{Each, One, Among}
 use Rattle.tl_syntax.specs.Signature.{Signature}
-use Rattle.tl_syntax.specs.Trees.{TermTrees}
 use Rattle.tl_syntax.proofs.ListLaws.{Each-over, One-append, one_out, one_in}
 use Rattle.tl_terms.specs.Bounds.{tuples}
 use Rattle.tl_terms.specs.Definitions.{situation_of}
-use Rattle.tl_terms.specs.Looked.{looked_in_term, looked_in_each}
 use Rattle.tl_terms.specs.Operations.{Operation}
 use Rattle.tl_terms.specs.Problem.{PlainOperator, PlainProblem}
 use Rattle.tl_terms.specs.ProblemMeaning.{plain_operator}
@@ -32,16 +30,6 @@ use Rattle.tl_terms.specs.Terms.{prepend, term_values}
 use Rattle.tl_terms.specs.World.{World}
 
 -- ---- the row of a frame
-
-looked-nothing : (w : World) (e : Assignment) (ss : List Var) → looked_in_each w e (variables ss) ≡ []
-unfolding looked_in_each looked_in_term
-looked-nothing w e [] = refl
-looked-nothing w e (s ∷ ss) = looked-nothing w e ss
-
--- no range fault comes from variables
-pub no-fault : (w : World) (e : Assignment) (ts : TermTrees) (ss : List Var) (p : PlainProblem) (o : PlainOperator) (seen rest : List Bound) (d : Assignment) (x : ActFault) → ts ≡ variables ss → IsCausedBy (looked_in_each w e ts) x → IsRowFault p w o seen rest d x
-no-fault w e ts ss p o seen rest d (fault.Range note) q h = absurd (let k : Tells [] note = subst (λ (ls : List Operation). Tells ls note) (ap (looked_in_each w e) q ∙ looked-nothing w e ss) h in k.0)
-no-fault w e ts ss p o seen rest d fault.NoMemory q h = tt
 
 equal-slots : (n : ℕ) → (n == n) ≡ true
 equal-slots n = eq-eqb n n refl

@@ -95,10 +95,9 @@ abbrev pub AnswersValues : Here → List (Option Value) → Terms → Result (Op
 AnswersValues here frame ts r =
     Answers (values_here here frame ts) (looked_for_values here frame ts) r
 
--- the values of the variables, where all have one; or a fault with its cause
-abbrev pub AnswersRow : Here → List (Option Value) → List Var → Result (Option (List Value)) ActFault → Type 0
-AnswersRow here frame ss r =
-    Answers (term_values here.world.now (assignment_in frame) (variables ss)) (looked_in_each here.world.now (assignment_in frame) (variables ss)) r
+-- the values of the variables, where all have one
+abbrev pub row_here : Here → List (Option Value) → List Var → Option (List Value)
+row_here here frame ss = term_values here.world.now (assignment_in frame) (variables ss)
 
 -- true where the terms are defined, and the fact with their values is then collected; false where they are not; or a fault with its cause
 abbrev pub FactIsCollected : Here → List (Option Value) → ℕ → Terms → List Fact → List Fact → Result Bool ActFault → Type 0

@@ -24,8 +24,9 @@ fn find_row(
 {
     let operator = order.bounds.operator;
     let params = operator.params.as_slice();
-    match row_of(here, env, params) {
-        Ok(Some(row)) => match is_prepared(here, env, operator, order.sure) {
+    let found = row_of(here, env, params)?;
+    match found {
+        Some(row) => match is_prepared(here, env, operator, order.sure) {
             Ok(true) => {
                 rows.push(row)?;
                 Ok(())
@@ -33,8 +34,7 @@ fn find_row(
             Ok(false) => Ok(()),
             Err(fault) => Err(fault),
         },
-        Ok(None) => Ok(()),
-        Err(fault) => Err(fault),
+        None => Ok(()),
     }
 }
 

@@ -1,12 +1,13 @@
 // The values of terms and of variables.
-ghost use Rattle.std.specs.Prelude.{◌≡◌, ◌<◌};
-ghost use Rattle.tl_action.specs.UnderFrames.{TermsFitHere, AnswersRow, AnswersValues};
+ghost use Rattle.std.specs.Prelude.{◌≡◌, ◌<◌, IfOk};
+ghost use Rattle.tl_action.specs.UnderFrames.{row_here, TermsFitHere, AnswersValues};
+ghost use Rattle.tl_eval.specs.Frames.{assignment_in};
 ghost use Rattle.tl_syntax.specs.Lists.{Each};
 
 use crate::ActFault;
 use crate::here::Here;
 use tl_eval::{Env, term};
-use tl_syntax::{Term, Terms, Values, Var};
+use tl_syntax::{NoMemory, Term, Terms, Value, Values, Var};
 
 /// The values of terms in a world, under the frame's values, where all are defined; or a fault. The frame stays as it was.
 /// The terms are evaluated from left to right up to the first undefined one.
@@ -30,18 +31,29 @@ pub(crate) fn values_of(
     Ok(Some(values))
 }
 
-/// The values of variables in the frame, in their order, where all have one; or a fault. The frame stays as it was.
-pub(crate) fn row_of(here: &Here, env: &mut Env, vars: &[Var]) -> Result<Option<Values>, ActFault>
+/// The value of the variable in the frame, where it has one. The frame stays as it was. It takes no memory.
+fn value_of_variable(here: &Here, env: &mut Env, var: &Var) -> Option<Value>
+    requires { var.now.slot < 32 }
+    ensures value { result ≡ assignment_in env.old var.now.slot }
+    ensures frame { env.new ≡ env.old }
+{
+    match term(here.task, here.world, env, &Term::Var(*var)) {
+        Ok(value) => value,
+        Err(_) => None,
+    }
+}
+
+/// The values of variables in the frame, in their order, where all have one. The frame stays as it was. It fails for want of memory alone.
+pub(crate) fn row_of(here: &Here, env: &mut Env, vars: &[Var]) -> Result<Option<Values>, NoMemory>
     requires { Each (λ s. s.slot < 32) vars.now }
-    ensures values { AnswersRow here.now env.old vars.now result }
+    ensures row { IfOk result (λ row. row ≡ row_here here.now env.old vars.now) }
     ensures frame { env.new ≡ env.old }
 {
     let mut row = Values::new(here.alloc);
     for var in vars {
-        match term(here.task, here.world, env, &Term::Var(*var)) {
-            Ok(Some(value)) => row.push(value)?,
-            Ok(None) => return Ok(None),
-            Err(note) => return Err(ActFault::Range(note)),
+        match value_of_variable(here, env, var) {
+            Some(value) => row.push(value)?,
+            None => return Ok(None),
         }
     }
     Ok(Some(row))

@@ -6,7 +6,7 @@ use Rattle.tl_action.specs.Prepared.{HaveValues, is_prepared, looked_prepared}
 use Rattle.tl_action.proofs.BoundOrders.{arranged-keeps}
 use Rattle.tl_action.proofs.EffectParts.{agree-self}
 use Rattle.tl_action.proofs.Operators.{counted-differ, counted-slots}
-use Rattle.tl_action.proofs.Rows.{no-fault, row-found, found-row, row-fault, one-row, no-row}
+use Rattle.tl_action.proofs.Rows.{row-found, found-row, row-fault, one-row, no-row}
 use Rattle.tl_action.proofs.SureEffects.{row-valued}
 use Rattle.tl_eval.specs.Frames.{assignment_in}
 use Rattle.tl_syntax.specs.declared.value.Value.{Value}
@@ -34,16 +34,16 @@ row_of-requires c = subst (Each (λ (s : Var). s.slot < 32)) (sym c.as_slice-par
 
 pub is_prepared-requires-clause-values : goal.is_prepared-requires-clause-values
 is_prepared-requires-clause-values c =
-    let row : term_values c.args.here.now.world.now (assignment_in c.args.env.now) (variables c.args.order.now.bounds.operator.now.params) ≡ Some c.in-Ok-Some.row = read-row c.args.here.now.world.now c.args.env.now c.as_slice-params.result.now c.args.order.now.bounds.operator.now.params (Some c.in-Ok-Some.row) c.as_slice-params.ensures (sym c.in-Ok-Some.ensures.values ∙ c.in-Ok-Some.field-0-is) in
-    subst (λ env. HaveValues (slots_of c.args.order.now.bounds.operator.now.params) (assignment_in env)) (sym c.row_of.ensures.frame) (row-valued c.args.here.now.world.now (assignment_in c.args.env.now) c.args.order.now.bounds.operator.now.params c.in-Ok-Some.row row)
+    let row : term_values c.args.here.now.world.now (assignment_in c.args.env.now) (variables c.args.order.now.bounds.operator.now.params) ≡ Some c.in-Some.row = read-row c.args.here.now.world.now c.args.env.now c.as_slice-params.result.now c.args.order.now.bounds.operator.now.params (Some c.in-Some.row) c.as_slice-params.ensures (sym c.in_ok-found.ensures.row ∙ c.in-Some.is) in
+    subst (λ env. HaveValues (slots_of c.args.order.now.bounds.operator.now.params) (assignment_in env)) (sym c.row_of.ensures.frame) (row-valued c.args.here.now.world.now (assignment_in c.args.env.now) c.args.order.now.bounds.operator.now.params c.in-Some.row row)
 
 pub returns-in_ok-push-in-Ok-true-clause-rows : goal.returns-in_ok-push-in-Ok-true-clause-rows
 returns-in_ok-push-in-Ok-true-clause-rows c =
-    let row : term_values c.args.here.now.world.now (assignment_in c.args.env.now) (variables c.args.order.now.bounds.operator.now.params) ≡ Some c.in-Ok-Some.row = read-row c.args.here.now.world.now c.args.env.now c.as_slice-params.result.now c.args.order.now.bounds.operator.now.params (Some c.in-Ok-Some.row) c.as_slice-params.ensures (sym c.in-Ok-Some.ensures.values ∙ c.in-Ok-Some.field-0-is) in
+    let row : term_values c.args.here.now.world.now (assignment_in c.args.env.now) (variables c.args.order.now.bounds.operator.now.params) ≡ Some c.in-Some.row = read-row c.args.here.now.world.now c.args.env.now c.as_slice-params.result.now c.args.order.now.bounds.operator.now.params (Some c.in-Some.row) c.as_slice-params.ensures (sym c.in_ok-found.ensures.row ∙ c.in-Some.is) in
     let ready : is_prepared (plain_problem c.args.here.now.task.now.problem) c.args.here.now.world.now (assignment_in c.args.env.now) (plain_operator (arranged c.args.order.now.bounds)) ≡ true =
     ap (λ env. is_prepared (plain_problem c.args.here.now.task.now.problem) c.args.here.now.world.now (assignment_in env) (plain_operator (arranged c.args.order.now.bounds))) (sym c.row_of.ensures.frame) ∙ sym (sym c.in-Ok-true.field-0-test ∙ c.in-Ok-true.ensures.answer) in
-    one-row (IsFound (plain_problem c.args.here.now.task.now.problem) c.args.here.now.world.now (plain_operator (arranged c.args.order.now.bounds)) (arranged c.args.order.now.bounds).bounds [] (assignment_in c.args.env.now)) c.args.rows.now.items c.push.new.self.items c.in-Ok-Some.row c.in_ok-push-in-Ok-true.ensures.items (row-found (signature_of c.args.here.now.task.now.problem.domain) (length c.args.here.now.task.now.problem.names) (plain_problem c.args.here.now.task.now.problem) c.args.here.now.world.now (arranged c.args.order.now.bounds) (arranged-keeps (signature_of c.args.here.now.task.now.problem.domain) (length c.args.here.now.task.now.problem.names) c.args.order.now.bounds c.requires) (counted-differ c.args.order.now.bounds.operator.now.params c.requires.params.counted) (assignment_in c.args.env.now) c.in-Ok-Some.row row ready)
-    (λ t h. same-row (term_values c.args.here.now.world.now (assignment_in c.args.env.now) (variables c.args.order.now.bounds.operator.now.params)) t c.in-Ok-Some.row (found-row (signature_of c.args.here.now.task.now.problem.domain) (length c.args.here.now.task.now.problem.names) (plain_problem c.args.here.now.task.now.problem) c.args.here.now.world.now (arranged c.args.order.now.bounds) (arranged-keeps (signature_of c.args.here.now.task.now.problem.domain) (length c.args.here.now.task.now.problem.names) c.args.order.now.bounds c.requires) (counted-differ c.args.order.now.bounds.operator.now.params c.requires.params.counted) (assignment_in c.args.env.now) t h).0 row)
+    one-row (IsFound (plain_problem c.args.here.now.task.now.problem) c.args.here.now.world.now (plain_operator (arranged c.args.order.now.bounds)) (arranged c.args.order.now.bounds).bounds [] (assignment_in c.args.env.now)) c.args.rows.now.items c.push.new.self.items c.in-Some.row c.in_ok-push-in-Ok-true.ensures.items (row-found (signature_of c.args.here.now.task.now.problem.domain) (length c.args.here.now.task.now.problem.names) (plain_problem c.args.here.now.task.now.problem) c.args.here.now.world.now (arranged c.args.order.now.bounds) (arranged-keeps (signature_of c.args.here.now.task.now.problem.domain) (length c.args.here.now.task.now.problem.names) c.args.order.now.bounds c.requires) (counted-differ c.args.order.now.bounds.operator.now.params c.requires.params.counted) (assignment_in c.args.env.now) c.in-Some.row row ready)
+    (λ t h. same-row (term_values c.args.here.now.world.now (assignment_in c.args.env.now) (variables c.args.order.now.bounds.operator.now.params)) t c.in-Some.row (found-row (signature_of c.args.here.now.task.now.problem.domain) (length c.args.here.now.task.now.problem.names) (plain_problem c.args.here.now.task.now.problem) c.args.here.now.world.now (arranged c.args.order.now.bounds) (arranged-keeps (signature_of c.args.here.now.task.now.problem.domain) (length c.args.here.now.task.now.problem.names) c.args.order.now.bounds c.requires) (counted-differ c.args.order.now.bounds.operator.now.params c.requires.params.counted) (assignment_in c.args.env.now) t h).0 row)
 
 pub returns-in-Ok-false-clause-rows : goal.returns-in-Ok-false-clause-rows
 returns-in-Ok-false-clause-rows c =
@@ -51,23 +51,16 @@ returns-in-Ok-false-clause-rows c =
     ap (λ env. is_prepared (plain_problem c.args.here.now.task.now.problem) c.args.here.now.world.now (assignment_in env) (plain_operator (arranged c.args.order.now.bounds))) (sym c.row_of.ensures.frame) ∙ sym (sym c.in-Ok-false.field-0-test ∙ c.in-Ok-false.ensures.answer) in
     no-row (IsFound (plain_problem c.args.here.now.task.now.problem) c.args.here.now.world.now (plain_operator (arranged c.args.order.now.bounds)) (arranged c.args.order.now.bounds).bounds [] (assignment_in c.args.env.now)) c.args.rows.now.items (λ t h. true≢false (sym (found-row (signature_of c.args.here.now.task.now.problem.domain) (length c.args.here.now.task.now.problem.names) (plain_problem c.args.here.now.task.now.problem) c.args.here.now.world.now (arranged c.args.order.now.bounds) (arranged-keeps (signature_of c.args.here.now.task.now.problem.domain) (length c.args.here.now.task.now.problem.names) c.args.order.now.bounds c.requires) (counted-differ c.args.order.now.bounds.operator.now.params c.requires.params.counted) (assignment_in c.args.env.now) t h).1 ∙ blocked))
 
-pub returns-in-Err-is_prepared-clause-rows : goal.returns-in-Err-is_prepared-clause-rows
-returns-in-Err-is_prepared-clause-rows c =
-    let row : term_values c.args.here.now.world.now (assignment_in c.args.env.now) (variables c.args.order.now.bounds.operator.now.params) ≡ Some c.in-Ok-Some.row = read-row c.args.here.now.world.now c.args.env.now c.as_slice-params.result.now c.args.order.now.bounds.operator.now.params (Some c.in-Ok-Some.row) c.as_slice-params.ensures (sym c.in-Ok-Some.ensures.values ∙ c.in-Ok-Some.field-0-is) in
-    row-fault (signature_of c.args.here.now.task.now.problem.domain) (length c.args.here.now.task.now.problem.names) (plain_problem c.args.here.now.task.now.problem) c.args.here.now.world.now (arranged c.args.order.now.bounds) (arranged-keeps (signature_of c.args.here.now.task.now.problem.domain) (length c.args.here.now.task.now.problem.names) c.args.order.now.bounds c.requires) (counted-differ c.args.order.now.bounds.operator.now.params c.requires.params.counted) (assignment_in c.args.env.now) c.in-Ok-Some.row c.in-Err-is_prepared.fault row
-    (subst (λ env. IsCausedBy (looked_prepared (plain_problem c.args.here.now.task.now.problem) c.args.here.now.world.now (assignment_in env) (plain_operator (arranged c.args.order.now.bounds))) c.in-Err-is_prepared.fault) c.row_of.ensures.frame c.in-Err-is_prepared.ensures.answer)
-
-pub returns-in-Ok-None-clause-rows : goal.returns-in-Ok-None-clause-rows
-returns-in-Ok-None-clause-rows c =
-    let none : term_values c.args.here.now.world.now (assignment_in c.args.env.now) (variables c.args.order.now.bounds.operator.now.params) ≡ None = read-row c.args.here.now.world.now c.args.env.now c.as_slice-params.result.now c.args.order.now.bounds.operator.now.params None c.as_slice-params.ensures (sym c.in-Ok-None.ensures.values ∙ c.in-Ok-None.field-0-is) in
-    no-row (IsFound (plain_problem c.args.here.now.task.now.problem) c.args.here.now.world.now (plain_operator (arranged c.args.order.now.bounds)) (arranged c.args.order.now.bounds).bounds [] (assignment_in c.args.env.now)) c.args.rows.now.items (λ t h. not-some (term_values c.args.here.now.world.now (assignment_in c.args.env.now) (variables c.args.order.now.bounds.operator.now.params)) t none (found-row (signature_of c.args.here.now.task.now.problem.domain) (length c.args.here.now.task.now.problem.names) (plain_problem c.args.here.now.task.now.problem) c.args.here.now.world.now (arranged c.args.order.now.bounds) (arranged-keeps (signature_of c.args.here.now.task.now.problem.domain) (length c.args.here.now.task.now.problem.names) c.args.order.now.bounds c.requires) (counted-differ c.args.order.now.bounds.operator.now.params c.requires.params.counted) (assignment_in c.args.env.now) t h).0)
-
-pub returns-in-Ok-None-clause-frame : goal.returns-in-Ok-None-clause-frame
-returns-in-Ok-None-clause-frame c = subst (λ env. Agree (slots_of c.args.order.now.bounds.operator.now.params) (assignment_in env) (assignment_in c.args.env.now)) (sym c.row_of.ensures.frame) (agree-self (slots_of c.args.order.now.bounds.operator.now.params) (assignment_in c.args.env.now))
-
 pub returns-in-Err-clause-rows : goal.returns-in-Err-clause-rows
 returns-in-Err-clause-rows c =
-    no-fault c.args.here.now.world.now (assignment_in c.args.env.now) (variables c.as_slice-params.result.now) c.args.order.now.bounds.operator.now.params (plain_problem c.args.here.now.task.now.problem) (plain_operator (arranged c.args.order.now.bounds)) (arranged c.args.order.now.bounds).bounds [] (assignment_in c.args.env.now) c.in-Err.fault (ap (λ (ss : List Var). variables ss) c.as_slice-params.ensures) c.in-Err.ensures.values
+    let row : term_values c.args.here.now.world.now (assignment_in c.args.env.now) (variables c.args.order.now.bounds.operator.now.params) ≡ Some c.in-Some.row = read-row c.args.here.now.world.now c.args.env.now c.as_slice-params.result.now c.args.order.now.bounds.operator.now.params (Some c.in-Some.row) c.as_slice-params.ensures (sym c.in_ok-found.ensures.row ∙ c.in-Some.is) in
+    row-fault (signature_of c.args.here.now.task.now.problem.domain) (length c.args.here.now.task.now.problem.names) (plain_problem c.args.here.now.task.now.problem) c.args.here.now.world.now (arranged c.args.order.now.bounds) (arranged-keeps (signature_of c.args.here.now.task.now.problem.domain) (length c.args.here.now.task.now.problem.names) c.args.order.now.bounds c.requires) (counted-differ c.args.order.now.bounds.operator.now.params c.requires.params.counted) (assignment_in c.args.env.now) c.in-Some.row c.in-Err.fault row
+    (subst (λ env. IsCausedBy (looked_prepared (plain_problem c.args.here.now.task.now.problem) c.args.here.now.world.now (assignment_in env) (plain_operator (arranged c.args.order.now.bounds))) c.in-Err.fault) c.row_of.ensures.frame c.in-Err.ensures.answer)
 
-pub returns-in-Err-clause-frame : goal.returns-in-Err-clause-frame
-returns-in-Err-clause-frame c = subst (λ env. Agree (slots_of c.args.order.now.bounds.operator.now.params) (assignment_in env) (assignment_in c.args.env.now)) (sym c.row_of.ensures.frame) (agree-self (slots_of c.args.order.now.bounds.operator.now.params) (assignment_in c.args.env.now))
+pub returns-in-None-clause-rows : goal.returns-in-None-clause-rows
+returns-in-None-clause-rows c =
+    let none : term_values c.args.here.now.world.now (assignment_in c.args.env.now) (variables c.args.order.now.bounds.operator.now.params) ≡ None = read-row c.args.here.now.world.now c.args.env.now c.as_slice-params.result.now c.args.order.now.bounds.operator.now.params None c.as_slice-params.ensures (sym c.in_ok-found.ensures.row ∙ c.in-None.is) in
+    no-row (IsFound (plain_problem c.args.here.now.task.now.problem) c.args.here.now.world.now (plain_operator (arranged c.args.order.now.bounds)) (arranged c.args.order.now.bounds).bounds [] (assignment_in c.args.env.now)) c.args.rows.now.items (λ t h. not-some (term_values c.args.here.now.world.now (assignment_in c.args.env.now) (variables c.args.order.now.bounds.operator.now.params)) t none (found-row (signature_of c.args.here.now.task.now.problem.domain) (length c.args.here.now.task.now.problem.names) (plain_problem c.args.here.now.task.now.problem) c.args.here.now.world.now (arranged c.args.order.now.bounds) (arranged-keeps (signature_of c.args.here.now.task.now.problem.domain) (length c.args.here.now.task.now.problem.names) c.args.order.now.bounds c.requires) (counted-differ c.args.order.now.bounds.operator.now.params c.requires.params.counted) (assignment_in c.args.env.now) t h).0)
+
+pub returns-in-None-clause-frame : goal.returns-in-None-clause-frame
+returns-in-None-clause-frame c = subst (λ env. Agree (slots_of c.args.order.now.bounds.operator.now.params) (assignment_in env) (assignment_in c.args.env.now)) (sym c.row_of.ensures.frame) (agree-self (slots_of c.args.order.now.bounds.operator.now.params) (assignment_in c.args.env.now))

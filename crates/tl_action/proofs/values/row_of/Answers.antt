@@ -1,9 +1,8 @@
 use Rattle.std.proofs.Common.{◌≡◌, ◌<◌, ℕ, List, length, get_or, refl, sym, ap, ◌∙◌}
-use Rattle.tl_action.proofs.FrameRows.{variable-value, variable-fits, variable-noted, row-begun, row-on, row-undefined, row-ended}
+use Rattle.tl_action.proofs.FrameRows.{row-begun, row-on, row-undefined, row-ended}
 use Rattle.tl_action.proofs.Walks.{each-item, get-itself}
 use Rattle.tl_eval.specs.Frames.{assignment_in}
 use Rattle.tl_syntax.specs.declared.variable.Var.{Var}
-use Rattle.tl_syntax.specs.Signature.{signature_of}
 use Rattle.tl_action.proofs.values.row_of.Goals as goal
 
 -- the variable at a place
@@ -19,23 +18,25 @@ loop-var-init c = record {
   passed = row-begun c.args.here.now.world.now (assignment_in c.args.env.now) c.args.vars.now c.new-row.result c.new-row.ensures;
 }
 
-pub term-requires : goal.term-requires
-term-requires c = record { fits = variable-fits (signature_of c.args.here.now.task.now.problem.domain) (item c.args.vars.now c.loop-var.var-index) (each-item (λ (s : Var). s.slot < 32) c.args.vars.now c.loop-var.var-index (item c.args.vars.now c.loop-var.var-index) c.requires c.loop-var-test.true (item-is c.args.vars.now c.loop-var.var-index c.loop-var-test.true)) }
+pub value_of_variable-requires : goal.value_of_variable-requires
+value_of_variable-requires c = each-item (λ (s : Var). s.slot < 32) c.args.vars.now c.loop-var.var-index (item c.args.vars.now c.loop-var.var-index) c.requires c.loop-var-test.true (item-is c.args.vars.now c.loop-var.var-index c.loop-var-test.true)
 
-pub returns-in-Ok-None-clause-values : goal.returns-in-Ok-None-clause-values
-returns-in-Ok-None-clause-values c =
-    row-undefined c.args.here.now.world.now (assignment_in c.args.env.now) c.args.vars.now c.args.vars.now c.loop-var.var-index (item c.args.vars.now c.loop-var.var-index) c.loop-var.row c.loop-var-test.true (item-is c.args.vars.now c.loop-var.var-index c.loop-var-test.true) c.loop-var.invariant.passed
-    (sym c.in-Ok-None.field-0-is ∙ (c.in-Ok-None.ensures.value ∙ (variable-value c.args.here.now.world.now (assignment_in c.loop-var.env) (item c.args.vars.now c.loop-var.var-index) ∙ ap (λ env. assignment_in env (item c.args.vars.now c.loop-var.var-index).slot) c.loop-var.invariant.frame)))
-
-pub returns-in-Err-clause-values : goal.returns-in-Err-clause-values
-returns-in-Err-clause-values c = absurd (variable-noted c.args.here.now.world.now (assignment_in c.loop-var.env) (item c.args.vars.now c.loop-var.var-index) c.in-Err.note c.in-Err.ensures.note)
+pub returns-in-None-clause-row : goal.returns-in-None-clause-row
+returns-in-None-clause-row c =
+    let ss = c.args.vars.now in
+    let i = c.loop-var.var-index in
+    row-undefined c.args.here.now.world.now (assignment_in c.args.env.now) ss ss i (item ss i) c.loop-var.row c.loop-var-test.true (item-is ss i c.loop-var-test.true) c.loop-var.invariant.passed
+    (sym c.in-None.is ∙ (c.value_of_variable.ensures.value ∙ ap (λ env. assignment_in env (item ss i).slot) c.loop-var.invariant.frame))
 
 pub loop-var-preserved : goal.loop-var-preserved
-loop-var-preserved c = record {
-  frame = c.term.ensures.frame ∙ c.loop-var.invariant.frame;
-  passed = row-on c.args.here.now.world.now (assignment_in c.args.env.now) c.args.vars.now c.args.vars.now c.loop-var.var-index (item c.args.vars.now c.loop-var.var-index) c.loop-var.row c.loop-var-test.true (item-is c.args.vars.now c.loop-var.var-index c.loop-var-test.true) c.loop-var.invariant.passed c.push.new.self c.in-Ok-Some.value
-      (sym c.in-Ok-Some.field-0-is ∙ (c.in-Ok-Some.ensures.value ∙ (variable-value c.args.here.now.world.now (assignment_in c.loop-var.env) (item c.args.vars.now c.loop-var.var-index) ∙ ap (λ env. assignment_in env (item c.args.vars.now c.loop-var.var-index).slot) c.loop-var.invariant.frame))) c.in_ok-push-in-Ok-Some.ensures;
-}
+loop-var-preserved c =
+    let ss = c.args.vars.now in
+    let i = c.loop-var.var-index in
+    record {
+      frame = c.value_of_variable.ensures.frame ∙ c.loop-var.invariant.frame;
+      passed = row-on c.args.here.now.world.now (assignment_in c.args.env.now) ss ss i (item ss i) c.loop-var.row c.loop-var-test.true (item-is ss i c.loop-var-test.true) c.loop-var.invariant.passed c.push.new.self c.in-Some.value
+          (sym c.in-Some.is ∙ (c.value_of_variable.ensures.value ∙ ap (λ env. assignment_in env (item ss i).slot) c.loop-var.invariant.frame)) c.in_ok-push-in-Some.ensures;
+    }
 
-pub returns-clause-values : goal.returns-clause-values
-returns-clause-values c = row-ended c.args.here.now.world.now (assignment_in c.args.env.now) c.args.vars.now c.args.vars.now c.loop-var.var-index c.loop-var.row c.loop-var-test.false c.loop-var.invariant.passed
+pub returns-clause-row : goal.returns-clause-row
+returns-clause-row c = row-ended c.args.here.now.world.now (assignment_in c.args.env.now) c.args.vars.now c.args.vars.now c.loop-var.var-index c.loop-var.row c.loop-var-test.false c.loop-var.invariant.passed
