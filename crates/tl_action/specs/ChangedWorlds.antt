@@ -16,12 +16,12 @@ world_after w c = record {
 }
 
 -- the world is the one after the action
-abbrev pub IsNext : PlainProblem → World → Action → World → Type 0
-IsNext p w a next = Some next ≡ step p w a
+abbrev pub IsWorldAfter : PlainProblem → World → Action → World → Type 0
+IsWorldAfter p w a next = Some next ≡ step p w a
 
 -- the changes make the world after the action
-abbrev pub MakeNext : PlainProblem → World → Action → Changes → Type 0
-MakeNext p w a c = Some (world_after w c) ≡ step p w a
+abbrev pub MakeWorldAfter : PlainProblem → World → Action → Changes → Type 0
+MakeWorldAfter p w a c = Some (world_after w c) ≡ step p w a
 
 -- where a world and the arguments of an action are named, so is the world that the changes make
 abbrev pub LeaveNamed : ℕ → World → Action → Changes → Type 0

@@ -37,7 +37,10 @@ Collects cs looked before after (Err fault) = IsCausedBy looked fault
 
 -- and so for the instances of effects below variables, for each of some tuples of their values
 abbrev pub CollectsEach : PlainProblem → World → Assignment → List Var → EffectTrees → List (List Value) → Changes → Changes → Result Bool ActFault → Type 0
-CollectsEach p w e ss xs ts before after r = Collects (flat_map (λ t. all_instances (situation_of p w) (bind ss t e) xs) ts) (flat_map (λ t. looked_in_effects (looks_of p w) (situation_of p w) (bind ss t e) xs) ts) before after r
+CollectsEach p w e ss xs ts before after r =
+    let s = situation_of p w in
+    let looked = flat_map (λ t. looked_in_effects (looks_of p w) s (bind ss t e) xs) ts in
+    Collects (flat_map (λ t. all_instances s (bind ss t e) xs) ts) looked before after r
 
 -- true where the arguments are defined, and the fact is then there; false where they are not; or a fault with its cause
 abbrev pub GivesFact : ℕ → Option (List Value) → List Operation → List Fact → List Fact → Result Bool ActFault → Type 0

@@ -30,7 +30,10 @@ is_prepared p w e o = state_true (situation_of p w) e o.pre && (list_all is_defi
 
 -- what the precondition looks at and, where it is true, the effects
 abbrev pub looked_prepared : PlainProblem → World → Assignment → PlainOperator → List Operation
-looked_prepared p w e o = followed_if (state_true (situation_of p w) e o.pre) (looked_in_state (looks_of p w) (situation_of p w) e o.pre) (looked_in_effects (looks_of p w) (situation_of p w) e o.effects)
+looked_prepared p w e o =
+    let s = situation_of p w in
+    let before = looked_in_state (looks_of p w) s e o.pre in
+    followed_if (state_true s e o.pre) before (looked_in_effects (looks_of p w) s e o.effects)
 
 -- the changes that the effects make; none where an instance is undefined or two clash; or a fault with its cause
 abbrev pub CollectsWhole : PlainProblem → World → Assignment → PlainOperator → Result (Option Changes) ActFault → Type 0

@@ -1,7 +1,7 @@
 // The step of an action that is known to be executable.
 ghost use Rattle.std.specs.Prelude.{◌≡◌, ◌+◌, IfOk, IfErr};
 ghost use Rattle.tl_action.specs.Actions.{name_count, IsCausedByAction, IsExecutable, StaysNamed};
-ghost use Rattle.tl_action.specs.ChangedWorlds.{IsNext, LeaveNamed, MakeNext};
+ghost use Rattle.tl_action.specs.ChangedWorlds.{IsWorldAfter, LeaveNamed, MakeWorldAfter};
 ghost use Rattle.tl_terms.specs.ProblemMeaning.{plain_problem};
 
 use crate::ActFault;
@@ -29,7 +29,7 @@ pub fn changes_by<L: Ledger>(
     steps: &mut Steps<L>,
 ) -> Result<Changes, ActFault>
     requires executable { IsExecutable (plain_problem task.now.problem) w.now a.now }
-    ensures world { IfOk result (MakeNext (plain_problem task.now.problem) w.now a.now) }
+    ensures world { IfOk result (MakeWorldAfter (plain_problem task.now.problem) w.now a.now) }
     ensures named { IfOk result (LeaveNamed (name_count task.now) w.now a.now) }
     ensures cause { IfErr result (IsCausedByAction (plain_problem task.now.problem) w.now a.now) }
     ensures ticks { steps.new ≡ steps.old + 1 }
@@ -60,7 +60,7 @@ pub fn next_world<L: Ledger>(
     steps: &mut Steps<L>,
 ) -> Result<World, ActFault>
     requires executable { IsExecutable (plain_problem task.now.problem) w.now a.now }
-    ensures world { IfOk result (IsNext (plain_problem task.now.problem) w.now a.now) }
+    ensures world { IfOk result (IsWorldAfter (plain_problem task.now.problem) w.now a.now) }
     ensures named { IfOk result (StaysNamed (name_count task.now) w.now a.now) }
     ensures cause { IfErr result (IsCausedByAction (plain_problem task.now.problem) w.now a.now) }
     ensures ticks { steps.new ≡ steps.old + 1 }
