@@ -15,7 +15,7 @@ use Rattle.tl_rules.proofs.OneForm.{second_form-order}
 use Rattle.tl_rules.proofs.Order.{IsInOrder, from, up_to, both, none, one, tested, either, first-least}
 use Rattle.tl_problem.specs.declared.elements.Section.{Section}
 use Rattle.tl_problem.specs.declared.elements.Section.TheVariants as section
-use Rattle.tl_problem.specs.Calls.{CallTree}
+use Rattle.tl_rules.specs.Calls.{CallTree}
 use Rattle.tl_problem.specs.ElementWords.{ElementWord, element_word}
 use Rattle.tl_problem.specs.ElementWords as word
 use Rattle.tl_problem.specs.Literals.{Literals, no_literal, has_other_value}

@@ -9,7 +9,7 @@ use Rattle.tl_rules.specs.Parts.{offset_of, count, rest_of}
 use Rattle.tl_rules.specs.Rules.{breaks_if}
 use Rattle.tl_problem.specs.declared.elements.Section.{Section}
 use Rattle.tl_problem.specs.declared.elements.Section.TheVariants as section
-use Rattle.tl_problem.specs.Calls.{CallTree, call_in}
+use Rattle.tl_rules.specs.Calls.{CallTree, call_in}
 use Rattle.tl_problem.specs.ElementWords.{ElementWord, element_word}
 use Rattle.tl_problem.specs.ElementWords as word
 use Rattle.tl_problem.specs.Literals.{Literals, no_literal, and_fact, and_value, and_not, fact_denied, fact_said, value_differs}

@@ -1,6 +1,5 @@
 pub mod Rulesets
 pub mod Counts
-pub mod AfterFirst
 pub mod OrElse
 pub mod PlaceLookups
 pub mod FileOrder

@@ -32,7 +32,7 @@ use Rattle.tl_renumber.specs.Numbers as table
 use Rattle.tl_renumber.specs.Renumbered.{renumbered_value, renumbered_values, renumbered_fact, renumbered_place}
 use Rattle.tl_renumber.specs.RenumberedDomain.{renumbered_declaration}
 use Rattle.tl_renumber.proofs.SettledNumbers.{numbers-differ, texts-stay}
-use Rattle.tl_problem.specs.Calls.{CallTree}
+use Rattle.tl_rules.specs.Calls.{CallTree}
 use Rattle.tl_problem.specs.Declarations.{position_of, position_meant, has_arity, call_breaks_at}
 use Rattle.tl_problem.specs.Facts.{ground_breaks, fact_meant, equality_breaks, equality_meant, negation_breaks, negation_meant}
 use Rattle.tl_problem.specs.Literals.{with_fact, same_place, value_at, with_value, has_other_value}

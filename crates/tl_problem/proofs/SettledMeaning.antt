@@ -24,7 +24,7 @@ use Rattle.tl_renumber.specs.RenumberedDomain.{renumbered_declaration}
 use Rattle.tl_renumber.specs.RenumberingKeeps.{IsRenumbered}
 use Rattle.tl_problem.specs.declared.elements.Section.{Section}
 use Rattle.tl_problem.specs.declared.elements.Section.TheVariants as section
-use Rattle.tl_problem.specs.Calls.{CallTree}
+use Rattle.tl_rules.specs.Calls.{CallTree}
 use Rattle.tl_problem.specs.ElementWords.{ElementWord, element_word}
 use Rattle.tl_problem.specs.ElementWords as word
 use Rattle.tl_problem.specs.Literals.{Literals, no_literal, with_fact, with_value, has_other_value}

@@ -7,7 +7,7 @@ use Rattle.tl_rules.specs.declared.rule.Rule.TheVariants.{Unknown, Arity}
 use Rattle.tl_rules.specs.Parts.{count}
 use Rattle.tl_rules.specs.Rules.{Break, breaks_if}
 use Rattle.tl_rules.specs.Symbols.{number_in}
-use Rattle.tl_problem.specs.Calls.{CallTree}
+use Rattle.tl_rules.specs.Calls.{CallTree}
 
 -- the position of the declaration with this text as its name; no two texts have one number
 abbrev pub position_of : List (List ℕ) → List Declared → List ℕ → Option ℕ

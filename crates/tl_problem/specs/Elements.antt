@@ -9,7 +9,7 @@ use Rattle.tl_rules.specs.declared.rule.Rule.TheVariants.{Shape}
 use Rattle.tl_rules.specs.Parts.{offset_of}
 use Rattle.tl_rules.specs.Rules.{Break}
 use Rattle.tl_problem.specs.declared.elements.Section.{Section}
-use Rattle.tl_problem.specs.Calls.{CallTree, call_in}
+use Rattle.tl_rules.specs.Calls.{CallTree, call_in}
 use Rattle.tl_problem.specs.ElementWords.{ElementWord, element_word}
 use Rattle.tl_problem.specs.ElementWords as word
 use Rattle.tl_problem.specs.Facts.{ground_breaks, fact_meant, equality_breaks, equality_meant, negation_breaks, negation_meant}

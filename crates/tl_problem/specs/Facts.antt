@@ -10,7 +10,7 @@ use Rattle.tl_syntax.specs.declared.value.Value.TheVariants.{Int}
 use Rattle.tl_rules.specs.declared.rule.Rule.TheVariants.{Shape}
 use Rattle.tl_rules.specs.Rules.{Break}
 use Rattle.tl_rules.specs.Values.{value_meant, values_meant}
-use Rattle.tl_problem.specs.Calls.{CallTree, call_in}
+use Rattle.tl_rules.specs.Calls.{CallTree, call_in}
 use Rattle.tl_problem.specs.Declarations.{call_breaks, position_meant}
 use Rattle.tl_problem.specs.Values.{value_breaks, values_breaks}
 

@@ -1,6 +1,5 @@
 pub mod PlaceEntries
 pub mod Values
-pub mod Calls
 pub mod Declarations
 pub mod Facts
 pub mod Literals

@@ -8,7 +8,7 @@ use Rattle.tl_rules.specs.Rules.{Break, breaks_if}
 use Rattle.tl_rules.specs.Parts.{offset_of, count, is_name, is_word, rest_of}
 use Rattle.tl_problem.specs.declared.elements.Section.{Section}
 use Rattle.tl_problem.specs.declared.elements.Section.TheVariants as section
-use Rattle.tl_problem.specs.Calls.{begins_with}
+use Rattle.tl_rules.specs.Parts.{begins_with}
 use Rattle.tl_problem.specs.Elements.{elements_breaks, with_elements}
 use Rattle.tl_problem.specs.Literals.{Literals, no_literal}
 use Rattle.tl_problem.specs.Sections.{Sections, no_sections}

@@ -2,11 +2,10 @@
 ghost use Rattle.std.specs.Prelude.{◌≡◌, ◌==◌, ◌<◌, ℕ, IfSome, length, unwrap_or};
 ghost use Rattle.std.specs.List.{position};
 ghost use Rattle.tl_rules.specs.Reads.{Reads};
-ghost use Rattle.tl_problem.specs.Calls.{call_tree};
+ghost use Rattle.tl_rules.specs.Calls.{call_tree};
 ghost use Rattle.tl_problem.specs.Declarations.{call_breaks_at, position_meant, call_breaks};
 
-use crate::calls::Call;
-use tl_rules::{FormFault, Rule, breaks, number_of};
+use tl_rules::{Call, FormFault, Rule, breaks, number_of};
 use tl_syntax::{Declared, Names};
 
 /// The position of the declaration with a name.

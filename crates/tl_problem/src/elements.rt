@@ -1,18 +1,17 @@
 // The elements of `init` and of `goal`.
 ghost use Rattle.tl_sexpr.specs.Tree.{tree_of};
 ghost use Rattle.tl_rules.specs.Reads.{trees_in};
-ghost use Rattle.tl_problem.specs.Calls.{call_tree};
+ghost use Rattle.tl_rules.specs.Calls.{call_tree};
 ghost use Rattle.tl_problem.specs.ElementWords as word;
 ghost use Rattle.tl_problem.specs.ElementWords.{element_word};
 ghost use Rattle.tl_problem.specs.Readers.{AddsCall, AddsElement, AddsElements};
 
-use crate::calls::{Call, call_in};
 use crate::facts::{equality, fact, negation};
 use crate::literals::LiteralTables;
-use crate::vocabulary::Vocabulary;
 use tl_rules::parts::offset;
-use tl_rules::{FormFault, Rule, breaks};
+use tl_rules::{Call, FormFault, Rule, Vocabulary, breaks, call_in};
 use tl_sexpr::Form;
+use tl_syntax::Domain;
 
 /// Where the elements of a problem file stand.
 #[derive(Clone, Copy)]
@@ -26,13 +25,13 @@ pub enum Section {
 /// Reads a fact `(p c*)`.
 #[tactic(auto, using(crate::proofs::OrElse::in_turn))]
 fn read_fact(
-    vocabulary: &Vocabulary<'_>,
+    vocabulary: &Vocabulary<'_, Domain>,
     literals: &mut LiteralTables,
     call: Call<'_>,
 ) -> Result<(), FormFault>
     ensures { AddsCall result vocabulary.now word.Fact (call_tree call.entry) literals.old literals.new }
 {
-    let predicates = vocabulary.domain.predicates.as_slice();
+    let predicates = vocabulary.declared.predicates.as_slice();
     let fact = fact(vocabulary.alloc, vocabulary.names, predicates, call)?;
     literals.add_fact(fact, call.at)
 }
@@ -40,13 +39,13 @@ fn read_fact(
 /// Reads a negated fact `(not X)`.
 #[tactic(auto, using(crate::proofs::OrElse::in_turn))]
 fn read_negation(
-    vocabulary: &Vocabulary<'_>,
+    vocabulary: &Vocabulary<'_, Domain>,
     literals: &mut LiteralTables,
     call: Call<'_>,
 ) -> Result<(), FormFault>
     ensures { AddsCall result vocabulary.now word.Negation (call_tree call.entry) literals.old literals.new }
 {
-    let predicates = vocabulary.domain.predicates.as_slice();
+    let predicates = vocabulary.declared.predicates.as_slice();
     let fact = negation(vocabulary.alloc, vocabulary.names, predicates, call)?;
     literals.add_not(fact, call.at)
 }
@@ -54,20 +53,20 @@ fn read_negation(
 /// Reads an equality `(= X c)`.
 #[tactic(auto, using(crate::proofs::OrElse::in_turn))]
 fn read_equality(
-    vocabulary: &Vocabulary<'_>,
+    vocabulary: &Vocabulary<'_, Domain>,
     literals: &mut LiteralTables,
     call: Call<'_>,
 ) -> Result<(), FormFault>
     ensures { AddsCall result vocabulary.now word.Equality (call_tree call.entry) literals.old literals.new }
 {
-    let functions = vocabulary.domain.functions.as_slice();
+    let functions = vocabulary.declared.functions.as_slice();
     let entry = equality(vocabulary.alloc, vocabulary.names, functions, call)?;
     literals.add_value(entry, call.at)
 }
 
 /// Reads an element that begins with a symbol.
 fn read_call(
-    vocabulary: &Vocabulary<'_>,
+    vocabulary: &Vocabulary<'_, Domain>,
     section: Section,
     literals: &mut LiteralTables,
     call: Call<'_>,
@@ -83,7 +82,7 @@ fn read_call(
 
 /// Reads an element.
 fn read_element(
-    vocabulary: &Vocabulary<'_>,
+    vocabulary: &Vocabulary<'_, Domain>,
     section: Section,
     literals: &mut LiteralTables,
     form: &Form,
@@ -99,7 +98,7 @@ fn read_element(
 /// Reads elements one after the other.
 #[tactic(auto, using(crate::proofs::Rulesets::composed))]
 pub(crate) fn read_elements(
-    vocabulary: &Vocabulary<'_>,
+    vocabulary: &Vocabulary<'_, Domain>,
     section: Section,
     literals: &mut LiteralTables,
     forms: &[Form],

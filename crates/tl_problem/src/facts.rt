@@ -5,16 +5,15 @@ ghost use Rattle.tl_syntax.specs.declared.place_value.PlaceValue.{PlaceValue};
 ghost use Rattle.tl_syntax.specs.declared.value.Value.{Value};
 ghost use Rattle.tl_rules.specs.Reads.{Reads, trees_in};
 ghost use Rattle.tl_rules.specs.Values.{values_meant};
-ghost use Rattle.tl_problem.specs.Calls.{call_tree};
+ghost use Rattle.tl_rules.specs.Calls.{call_tree};
 ghost use Rattle.tl_problem.specs.Declarations.{position_meant};
 ghost use Rattle.tl_problem.specs.Facts.{ground_breaks, fact_meant, equality_breaks, equality_meant, negation_breaks, negation_meant};
 
-use crate::calls::{Call, call_in};
 use crate::declarations::called;
 use crate::values::{value, values};
 use std::alloc::Global;
 use tl_rules::parts::{one, two};
-use tl_rules::{FormFault, Rule, breaks};
+use tl_rules::{Call, FormFault, Rule, breaks, call_in};
 use tl_syntax::{Declared, Fact, Names, PlaceValue, Values};
 
 /// The position of what a list calls, and the values after it.

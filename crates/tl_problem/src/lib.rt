@@ -1,7 +1,6 @@
 //! Problem files: the forms that stand for a problem of a domain, and the rules that other forms break.
 //!
-//! - `calls`: lists that begin with a symbol.
-//! - `vocabulary`, `declarations`: the names and what the domain declares, by the texts of the names.
+//! - `declarations`: what the domain declares, by the texts of the names.
 //! - `values`, `facts`: values, facts, equalities and negated facts, each by itself.
 //! - `fact_set`, `place_map`, `literals`: what elements say together; facts and places are looked up by their hashes.
 //! - `elements`: the elements of `init` and of `goal`.
@@ -11,7 +10,6 @@
 //! - `laws`: what is proved of the definitions.
 #![tactic(auto)]
 
-pub mod calls;
 mod declarations;
 mod elements;
 mod fact_set;
@@ -23,7 +21,6 @@ mod problem;
 mod sections;
 mod settled;
 mod values;
-mod vocabulary;
 
 pub use elements::Section;
 pub use problem::problem_of;

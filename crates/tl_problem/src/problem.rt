@@ -1,18 +1,17 @@
 // The problem that the forms of a file stand for.
-ghost use Rattle.std.specs.Prelude.{◌≡◌, ◌+◌, ◌<◌, ◌^◌, [], length, IfOk, IfErr, OnOk};
+ghost use Rattle.std.specs.Prelude.{◌≡◌, [], length, IfOk, IfErr, OnOk};
 ghost use Rattle.tl_sexpr.specs.Offsets.{AreAsRead};
-ghost use Rattle.tl_sexpr.specs.Spelling.{symbols_in_all};
 ghost use Rattle.tl_sexpr.specs.Tree.{trees_of};
 ghost use Rattle.tl_syntax.specs.Kept.{DomainKeeps};
 ghost use Rattle.tl_rules.specs.Reads.{IsFirst, IsLeastFault, Reads};
+ghost use Rattle.tl_rules.specs.Symbols.{HaveRoom};
 ghost use Rattle.tl_problem.specs.Readers.{sections_in};
 ghost use Rattle.tl_problem.specs.Problems.{IsProblemOf, all_names, breaks_of, said_by};
 
 use crate::sections::{SectionTables, problem_file};
 use crate::settled::settled;
-use crate::vocabulary::Vocabulary;
 use std::alloc::Global;
-use tl_rules::{FormFault, add_forms};
+use tl_rules::{FormFault, Vocabulary, add_forms};
 use tl_sexpr::Forms;
 use tl_syntax::{Domain, Names, Problem};
 
@@ -24,7 +23,7 @@ fn said(
     names: &mut Names,
     forms: &Forms,
 ) -> Result<SectionTables, FormFault>
-    requires { length names.old + symbols_in_all (trees_of forms.now) < 2 ^ 32 }
+    requires { HaveRoom names.old (trees_of forms.now) }
     ensures read { Reads sections_in result (breaks_of names.old domain.now (trees_of forms.now))
         (said_by names.old domain.now (trees_of forms.now)) }
     ensures names { OnOk result (names.new ≡ all_names names.old (trees_of forms.now)) }
@@ -33,7 +32,7 @@ fn said(
     let vocabulary = Vocabulary {
         alloc,
         names,
-        domain,
+        declared: domain,
     };
     problem_file(&vocabulary, forms.as_slice())
 }
@@ -49,7 +48,7 @@ pub fn problem_of(
     domain: Domain,
     names: Names,
 ) -> Result<Problem, FormFault>
-    requires room { length names + symbols_in_all (trees_of forms.now) < 2 ^ 32 }
+    requires room { HaveRoom names (trees_of forms.now) }
     requires domain { DomainKeeps (length names) domain }
     ensures problem { IfOk result (IsProblemOf names domain (trees_of forms.now)) }
     ensures lawful { OnOk result (breaks_of names domain (trees_of forms.now) ≡ []) }

@@ -1,17 +1,14 @@
 // The problem form and its two sections.
-ghost use Rattle.std.specs.Prelude.{◌≡◌, ◌==◌, false, MatchOption};
-ghost use Rattle.tl_sexpr.specs.Tree.{list, no_form, more_forms, tree_of};
-ghost use Rattle.tl_rules.specs.Parts.{count};
+ghost use Rattle.tl_sexpr.specs.Tree.{list, tree_of};
 ghost use Rattle.tl_rules.specs.Reads.{trees_in};
 ghost use Rattle.tl_problem.specs.Readers.{ReadsSection, ReadsSections, ReadsProblemForm, ReadsProblemFile};
 
-use crate::calls::{begins_with, rest_of};
 use crate::elements::{Section, read_elements};
 use crate::literals::LiteralTables;
-use crate::vocabulary::Vocabulary;
-use tl_rules::parts::{is_name, is_word, offset, split_first};
-use tl_rules::{FormFault, Rule, breaks, check_last};
+use tl_rules::parts::{begins_with, four, is_name, is_word, offset, rest_of, split_first};
+use tl_rules::{FormFault, Rule, Vocabulary, breaks, check_last};
 use tl_sexpr::Form;
+use tl_syntax::Domain;
 
 /// What the two sections of a problem form say, in tables.
 #[derive(Drop)]
@@ -25,7 +22,7 @@ pub(crate) struct SectionTables {
 /// An `init` or a `goal` form.
 #[tactic(auto, using(crate::proofs::Rulesets::composed))]
 fn section(
-    vocabulary: &Vocabulary<'_>,
+    vocabulary: &Vocabulary<'_, Domain>,
     section: Section,
     form: &Form,
 ) -> Result<LiteralTables, FormFault>
@@ -43,7 +40,7 @@ fn section(
 /// The two sections of a problem form.
 #[tactic(auto, using(crate::proofs::Rulesets::composed))]
 fn both_sections(
-    vocabulary: &Vocabulary<'_>,
+    vocabulary: &Vocabulary<'_, Domain>,
     init: &Form,
     goal: &Form,
 ) -> Result<SectionTables, FormFault>
@@ -54,23 +51,10 @@ fn both_sections(
     Ok(SectionTables { init, goal })
 }
 
-/// The four forms, where there are four.
-#[tactic(auto, using(crate::proofs::Rulesets::composed))]
-fn four(forms: &[Form]) -> Option<(&Form, &Form, &Form, &Form)>
-    ensures { MatchOption result ((count (trees_in forms.now) == 4) ≡ false)
-        (λ found. trees_in forms.now ≡ more_forms (tree_of found.0.now) (more_forms (tree_of found.1.now)
-        (more_forms (tree_of found.2.now) (more_forms (tree_of found.3.now) no_form)))) }
-{
-    match forms {
-        [first, second, third, fourth] => Some((first, second, third, fourth)),
-        _ => None,
-    }
-}
-
 /// The problem form, by its elements and its offset.
 #[tactic(auto, using(crate::proofs::Counts::problem_count))]
 fn problem_list(
-    vocabulary: &Vocabulary<'_>,
+    vocabulary: &Vocabulary<'_, Domain>,
     forms: &[Form],
     at: u32,
 ) -> Result<SectionTables, FormFault>
@@ -92,7 +76,7 @@ fn problem_list(
 
 /// The problem form.
 #[tactic(auto, using(crate::proofs::Rulesets::form_trees))]
-fn problem_form(vocabulary: &Vocabulary<'_>, form: &Form) -> Result<SectionTables, FormFault>
+fn problem_form(vocabulary: &Vocabulary<'_, Domain>, form: &Form) -> Result<SectionTables, FormFault>
     ensures { ReadsProblemForm result vocabulary.now (tree_of form.now) }
 {
     match form {
@@ -104,7 +88,7 @@ fn problem_form(vocabulary: &Vocabulary<'_>, form: &Form) -> Result<SectionTable
 /// The forms of a problem file.
 #[tactic(auto, using(crate::proofs::Rulesets::composed))]
 pub(crate) fn problem_file(
-    vocabulary: &Vocabulary<'_>,
+    vocabulary: &Vocabulary<'_, Domain>,
     forms: &[Form],
 ) -> Result<SectionTables, FormFault>
     ensures { ReadsProblemFile result vocabulary.now (trees_in forms.now) }

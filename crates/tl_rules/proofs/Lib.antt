@@ -1,4 +1,5 @@
 pub mod FormTrees
+pub mod AfterFirst
 pub mod Composed
 pub mod Loops
 pub mod NamesWith

@@ -1,5 +1,6 @@
 pub mod Rules
 pub mod Parts
+pub mod Calls
 pub mod Symbols
 pub mod Reads
 pub mod Named

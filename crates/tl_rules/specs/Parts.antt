@@ -96,6 +96,15 @@ abbrev pub rest_of : FormTree → FormTrees
 rest_of (list (more_forms f fs) at) = fs
 rest_of _ = no_form
 
+-- the first of the forms is this word
+abbrev pub is_led_by : List ℕ → FormTrees → Bool
+is_led_by word no_form = false
+is_led_by word (more_forms f fs) = is_word word f
+
+-- the form is a list that begins with this word
+abbrev pub begins_with : List ℕ → FormTree → Bool
+begins_with word f = is_led_by word (elements_of f)
+
 -- the number of a lawful count; an integer below 0 is none
 abbrev pub natural : ℤ → ℕ
 natural (pos n) = n

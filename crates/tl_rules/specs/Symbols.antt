@@ -1,5 +1,6 @@
 -- The symbols of a file, which become names, and the numbers of names.
-use Rattle.std.specs.Prelude.{◌≡◌, ℕ, List, ◌++◌, length, unwrap_or}
+use Rattle.std.specs.Prelude.{◌≡◌, ◌<◌, ◌+◌, ◌^◌, ℕ, List, ◌++◌, length, unwrap_or}
+use Rattle.tl_sexpr.specs.Spelling.{symbols_in_all}
 use Rattle.tl_sexpr.specs.Tree.{FormTree, FormTrees, symbol, integer, list, no_form, more_forms}
 use Rattle.tl_syntax.specs.Texts.{with_text, number_of}
 
@@ -13,6 +14,10 @@ abbrev mutual
   pub names_with_all : List (List ℕ) → FormTrees → List (List ℕ)
   names_with_all names no_form = names
   names_with_all names (more_forms f fs) = names_with_all (names_with names f) fs
+
+-- the names and the symbols of forms together have numbers of 32 bits
+abbrev pub HaveRoom : List (List ℕ) → FormTrees → Type 0
+HaveRoom names forms = length names + symbols_in_all forms < 2 ^ 32
 
 -- the number of a text, or the one that it would get if it is not there yet
 abbrev pub number_in : List (List ℕ) → List ℕ → ℕ

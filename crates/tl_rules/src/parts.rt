@@ -1,7 +1,7 @@
 // The parts of forms.
 ghost use Rattle.std.specs.Prelude.{◌≡◌, ◌<◌, ◌^◌, ◌+◌, ◌==◌, false, option_map, IfSome, MatchOption};
 ghost use Rattle.tl_sexpr.specs.Tree.{tree_of, no_form, more_forms};
-ghost use Rattle.tl_rules.specs.Parts.{is_variable, elements_of, is_integer, is_name, offset_of, is_list, any_list, count, is_word, size, sizes, text_of, call_of};
+ghost use Rattle.tl_rules.specs.Parts.{is_variable, elements_of, is_integer, is_name, offset_of, is_list, any_list, count, is_word, size, sizes, text_of, call_of, rest_of, begins_with};
 ghost use Rattle.tl_rules.specs.Reads.{trees_in};
 
 use tl_sexpr::Form;
@@ -142,10 +142,24 @@ pub fn list_len(form: &Form) -> usize
 #[tactic(auto, using(crate::proofs::Composed::composed))]
 pub fn three(forms: &[Form]) -> Option<(&Form, &Form, &Form)>
     ensures found { MatchOption result ((count (trees_in forms.now) == 3) ≡ false)
-        (λ found. trees_in forms.now ≡ more_forms (tree_of found.0.now) (more_forms (tree_of found.1.now) (more_forms (tree_of found.2.now) no_form))) }
+        (λ found. trees_in forms.now ≡ more_forms (tree_of found.0.now)
+        (more_forms (tree_of found.1.now) (more_forms (tree_of found.2.now) no_form))) }
 {
     match forms {
         [first, second, third] => Some((first, second, third)),
+        _ => None,
+    }
+}
+
+/// The four forms, where there are four.
+#[tactic(auto, using(crate::proofs::Composed::composed))]
+pub fn four(forms: &[Form]) -> Option<(&Form, &Form, &Form, &Form)>
+    ensures found { MatchOption result ((count (trees_in forms.now) == 4) ≡ false)
+        (λ found. trees_in forms.now ≡ more_forms (tree_of found.0.now) (more_forms (tree_of found.1.now)
+        (more_forms (tree_of found.2.now) (more_forms (tree_of found.3.now) no_form)))) }
+{
+    match forms {
+        [first, second, third, fourth] => Some((first, second, third, fourth)),
         _ => None,
     }
 }
@@ -166,5 +180,37 @@ pub fn is_name(form: &Form) -> bool
         Form::Sym(text, _) => !is_variable(text.as_str()),
         Form::Int(_, _) => false,
         Form::List(_, _) => false,
+    }
+}
+
+/// The elements of a list.
+#[tactic(auto, using(crate::proofs::FormTrees::form_trees))]
+fn elements(form: &Form) -> &[Form]
+    ensures { trees_in result.now ≡ elements_of (tree_of form.now) }
+{
+    match form {
+        Form::Sym(_, _) | Form::Int(_, _) => &[],
+        Form::List(forms, _) => forms.as_slice(),
+    }
+}
+
+/// The elements of a list after the first.
+#[tactic(auto, using(crate::proofs::AfterFirst::after_first))]
+pub fn rest_of(form: &Form) -> &[Form]
+    ensures { trees_in result.now ≡ rest_of (tree_of form.now) }
+{
+    match split_first(elements(form)) {
+        Some((_, rest)) => rest,
+        None => &[],
+    }
+}
+
+/// Whether a form is a list that begins with this word.
+pub fn begins_with(word: &str, form: &Form) -> bool
+    ensures { result ≡ begins_with word.now (tree_of form.now) }
+{
+    match split_first(elements(form)) {
+        Some((first, _)) => is_word(word, first),
+        None => false,
     }
 }

@@ -1,9 +1,9 @@
 // The symbols of a file, and the numbers of names.
 ghost use Rattle.std.specs.Prelude.{◌≡◌, ◌+◌, ◌<◌, ◌^◌, length, OnOk};
-ghost use Rattle.tl_sexpr.specs.Spelling.{symbols_in, symbols_in_all};
+ghost use Rattle.tl_sexpr.specs.Spelling.{symbols_in};
 ghost use Rattle.tl_sexpr.specs.Tree.{tree_of};
 ghost use Rattle.tl_rules.specs.Reads.{trees_in};
-ghost use Rattle.tl_rules.specs.Symbols.{names_with, names_with_all, number_in, BeginsWith};
+ghost use Rattle.tl_rules.specs.Symbols.{names_with, names_with_all, number_in, BeginsWith, HaveRoom};
 
 use tl_sexpr::Form;
 use tl_syntax::{Names, NoMemory};
@@ -41,7 +41,7 @@ pub fn add_form(form: &Form, names: &mut Names) -> Result<(), NoMemory>
 #[cycle(add_symbols)]
 #[tactic(auto, using(crate::proofs::Beginnings::beginnings))]
 pub fn add_forms(forms: &[Form], names: &mut Names) -> Result<(), NoMemory>
-    requires room { length names.old + symbols_in_all (trees_in forms.now) < 2 ^ 32 }
+    requires room { HaveRoom names.old (trees_in forms.now) }
     ensures added { OnOk result (names.new ≡ names_with_all names.old (trees_in forms.now)) }
     ensures kept { BeginsWith names.new names.old }
     ensures no_other { BeginsWith (names_with_all names.old (trees_in forms.now)) names.new }
