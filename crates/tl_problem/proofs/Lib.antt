@@ -1,5 +1,6 @@
 pub mod Rulesets
 pub mod Counts
+pub mod CalledNames
 pub mod OrElse
 pub mod PlaceLookups
 pub mod FileOrder

@@ -1,10 +1,8 @@
 -- What a lawful file gives the problem that is made of it.
-use Rattle.std.proofs.Common.{◌≡◌, ℕ, List, [], length, Result, Ok, Err, sym, subst}
-use Rattle.std.specs.Prelude.{IfErr, IsErrAnd}
+use Rattle.std.proofs.Common.{◌≡◌, ℕ, List, [], length, sym, subst}
 use Rattle.tl_sexpr.specs.Offsets.{AreAsRead}
 use Rattle.tl_sexpr.specs.Tree.{FormTrees}
 use Rattle.tl_syntax.specs.declared.domain.Domain.{Domain}
-use Rattle.tl_syntax.specs.declared.problem.Problem.{Problem}
 use Rattle.tl_syntax.specs.Kept.{DomainKeeps}
 use Rattle.tl_syntax.specs.Signature.{signature_of}
 use Rattle.tl_rules.specs.declared.rule.FormFault.{FormFault}
@@ -35,8 +33,3 @@ said-read names new d forms said is none meant =
 pub least-read : (names : List (List ℕ)) (d : Domain) (forms : FormTrees) (e : FormFault) → IsFirst (breaks_of names d forms) e → AreAsRead forms → IsLeastFault (breaks_of names d forms) e
 least-read names d forms (Breaks broken at) first read = first-break-least (all_names names forms) d forms (broken, at) read first
 least-read names d forms NoMemory first read = tt
-
--- also where the fault is handed on
-pub least-told : (result : Result Problem FormFault) (fault : FormFault) (names : List (List ℕ)) (d : Domain) (forms : FormTrees) → IsErrAnd result (λ told. told ≡ fault) → IsFirst (breaks_of names d forms) fault → AreAsRead forms → IfErr result (IsLeastFault (breaks_of names d forms))
-least-told (Ok p) fault names d forms same first read = tt
-least-told (Err told) fault names d forms same first read = subst (IsLeastFault (breaks_of names d forms)) (sym same) (least-read names d forms fault first read)

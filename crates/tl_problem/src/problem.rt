@@ -56,6 +56,12 @@ pub fn problem_of(
     ensures least { AreAsRead (trees_of forms.now) → IfErr result (IsLeastFault (breaks_of names domain (trees_of forms.now))) }
 {
     let mut all_names = names;
-    let said = said(alloc, &domain, &mut all_names, forms)?;
-    Ok(settled(alloc, domain, all_names, said)?)
+    match said(alloc, &domain, &mut all_names, forms) {
+        Ok(said) => Ok(settled(alloc, domain, all_names, said)?),
+        Err(fault) => {
+            drop(domain);
+            drop(all_names);
+            Err(fault)
+        }
+    }
 }

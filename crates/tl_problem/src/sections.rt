@@ -33,8 +33,13 @@ fn section(
         return Err(breaks(Rule::Limit, offset(form)));
     }
     let mut literals = LiteralTables::new(vocabulary.alloc);
-    read_elements(vocabulary, section, &mut literals, elements)?;
-    Ok(literals)
+    match read_elements(vocabulary, section, &mut literals, elements) {
+        Ok(()) => Ok(literals),
+        Err(fault) => {
+            drop(literals);
+            Err(fault)
+        }
+    }
 }
 
 /// The two sections of a problem form.
@@ -47,8 +52,13 @@ fn both_sections(
     ensures { ReadsSections result vocabulary.now (tree_of init.now) (tree_of goal.now) }
 {
     let init = section(vocabulary, Section::Init, init)?;
-    let goal = section(vocabulary, Section::Goal, goal)?;
-    Ok(SectionTables { init, goal })
+    match section(vocabulary, Section::Goal, goal) {
+        Ok(goal) => Ok(SectionTables { init, goal }),
+        Err(fault) => {
+            drop(init);
+            Err(fault)
+        }
+    }
 }
 
 /// The problem form, by its elements and its offset.
@@ -76,7 +86,10 @@ fn problem_list(
 
 /// The problem form.
 #[tactic(auto, using(crate::proofs::Rulesets::form_trees))]
-fn problem_form(vocabulary: &Vocabulary<'_, Domain>, form: &Form) -> Result<SectionTables, FormFault>
+fn problem_form(
+    vocabulary: &Vocabulary<'_, Domain>,
+    form: &Form,
+) -> Result<SectionTables, FormFault>
     ensures { ReadsProblemForm result vocabulary.now (tree_of form.now) }
 {
     match form {

@@ -58,9 +58,21 @@ fn settled_lists(alloc: Global, literals: LiteralTables, numbers: &[u32]) -> Res
         values,
         nots,
     } = literals;
-    let facts = settled_facts(alloc, facts, numbers)?;
-    let values = settled_values(alloc, values, numbers)?;
-    let nots = settled_facts(alloc, nots, numbers)?;
+    let Ok(facts) = settled_facts(alloc, facts, numbers) else {
+        drop(values);
+        drop(nots);
+        return Err(NoMemory);
+    };
+    let Ok(values) = settled_values(alloc, values, numbers) else {
+        drop(facts);
+        drop(nots);
+        return Err(NoMemory);
+    };
+    let Ok(nots) = settled_facts(alloc, nots, numbers) else {
+        drop(facts);
+        drop(values);
+        return Err(NoMemory);
+    };
     Ok(Lists {
         facts,
         values,
@@ -77,8 +89,14 @@ fn settled_sections(
     ensures { IfOk result (AreSettledSections numbers.now (sections_in said)) }
 {
     let SectionTables { init, goal } = said;
-    let init = settled_lists(alloc, init, numbers)?;
-    let goal = settled_lists(alloc, goal, numbers)?;
+    let Ok(init) = settled_lists(alloc, init, numbers) else {
+        drop(goal);
+        return Err(NoMemory);
+    };
+    let Ok(goal) = settled_lists(alloc, goal, numbers) else {
+        drop(init);
+        return Err(NoMemory);
+    };
     Ok(SectionLists { init, goal })
 }
 
@@ -92,8 +110,14 @@ fn settled_parts(
     ensures { IfOk result (λ parts. IsRenumbered (number_in numbers.now) domain parts.0
         × AreSettledSections numbers.now (sections_in said) parts.1) }
 {
-    let lists = settled_sections(alloc, said, numbers)?;
-    let domain = renumber_domain(alloc, domain, numbers)?;
+    let Ok(lists) = settled_sections(alloc, said, numbers) else {
+        drop(domain);
+        return Err(NoMemory);
+    };
+    let Ok(domain) = renumber_domain(alloc, domain, numbers) else {
+        drop(lists);
+        return Err(NoMemory);
+    };
     Ok((domain, lists))
 }
 
@@ -108,8 +132,15 @@ pub(crate) fn settled(
     requires said { SectionsKeep (signature_of domain) (length names) (sections_in said) }
     ensures { IfOk result (λ p. (numbers : List ℕ) × IsSettledProblem numbers names domain (sections_in said) p) }
 {
-    let (names, numbers) = names.settled(alloc)?;
-    let (domain, lists) = settled_parts(alloc, domain, said, numbers.as_slice())?;
+    let Ok((names, numbers)) = names.settled(alloc) else {
+        drop(domain);
+        drop(said);
+        return Err(NoMemory);
+    };
+    let Ok((domain, lists)) = settled_parts(alloc, domain, said, numbers.as_slice()) else {
+        drop(names);
+        return Err(NoMemory);
+    };
     let SectionLists { init, goal } = lists;
     Ok(Problem {
         domain,

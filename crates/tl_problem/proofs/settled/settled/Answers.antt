@@ -5,13 +5,13 @@ use Rattle.tl_problem.proofs.settled.settled.Goals as goal
 
 pub invariant_of-result : goal.invariant_of-result
 invariant_of-result c =
-    let parts = c.in_ok-domain.ensures in
-    let lists = c.in_ok-domain.lists in
-    let numbers = c.in_ok-names.numbers in
-    let names = c.in_ok-names.names in
-    let e = c.in_ok-names.ensures in
+    let parts = c.in-Ok-settled_parts.ensures in
+    let lists = c.in-Ok-settled_parts.lists in
+    let numbers = c.in-Ok.numbers in
+    let names = c.in-Ok.names in
+    let e = c.in-Ok.ensures in
     let table : IsSettled numbers c.args.names names = record { permutation = e.permutation; order = e.order; count = e.count; renumbered = e.renumbered } in
-    let k = parts-settled c.args.domain c.in_ok-domain.domain numbers c.as_slice.result.now c.args.names names (sections_in c.args.said) lists.init lists.goal c.as_slice.ensures table parts.0 parts.1.init parts.1.goal c.requires.domain c.requires.said in
+    let k = parts-settled c.args.domain c.in-Ok-settled_parts.domain numbers c.as_slice.result.now c.args.names names (sections_in c.args.said) lists.init lists.goal c.as_slice.ensures table parts.0 parts.1.init parts.1.goal c.requires.domain c.requires.said in
     record {
       settled = e.order;
       domain_keeps = k.domain;
@@ -27,10 +27,10 @@ invariant_of-result c =
 
 pub returns : goal.returns
 returns c =
-    let parts = c.in_ok-domain.ensures in
-    let numbers = c.in_ok-names.numbers in
-    let names = c.in_ok-names.names in
-    let e = c.in_ok-names.ensures in
+    let parts = c.in-Ok-settled_parts.ensures in
+    let numbers = c.in-Ok.numbers in
+    let names = c.in-Ok.names in
+    let e = c.in-Ok.ensures in
     let table : IsSettled numbers c.args.names names = record { permutation = e.permutation; order = e.order; count = e.count; renumbered = e.renumbered } in (
       c.as_slice.result.now,
       record {
