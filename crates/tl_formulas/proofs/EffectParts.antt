@@ -1,5 +1,5 @@
 -- What effects break and stand for, by the parts of their lists.
-use Rattle.std.proofs.Common.{◌≡◌, ℕ, List, [], ◌∷◌, ◌++◌, false, refl}
+use Rattle.std.proofs.Common.{◌≡◌, ℕ, List, [], ◌∷◌, ◌++◌, false, refl, sym, append_assoc}
 use Rattle.tl_sexpr.specs.Tree.{FormTree, FormTrees, symbol, integer, list, no_form, more_forms}
 use Rattle.tl_syntax.specs.Effects.{add, del, assign, when, each}
 use Rattle.tl_rules.specs.declared.rule.Rule.TheVariants.{Shape}
@@ -12,7 +12,7 @@ use Rattle.tl_formulas.specs.Signatures.{Scope}
 use Rattle.tl_formulas.specs.Terms.{term_breaks}
 use Rattle.tl_formulas.specs.Bounds.{bound_breaks}
 use Rattle.tl_formulas.specs.Variables.{variables_breaks, with_variables}
-use Rattle.tl_formulas.specs.Formulas.{formula_breaks}
+use Rattle.tl_formulas.specs.Formulas.{binding_breaks, formula_breaks}
 use Rattle.tl_formulas.specs.Effects.{target_breaks, effect_list_breaks, effect_breaks, effect_parts_breaks, effects_breaks}
 use Rattle.tl_formulas.specs.MeaningOfTerms.{term_meant, terms_meant}
 use Rattle.tl_formulas.specs.MeaningOfBounds.{call_place, bound_meant}
@@ -74,9 +74,9 @@ unfolding effect_meant
 parts-when-meant names g s condition es = refl
 
 pub parts-each : (g : Signature) (s : Scope) (vs b : FormTree) (es : FormTrees)
-    → effect_parts_breaks g s effect.Each (more_forms vs (more_forms b es)) ≡ variables_breaks [] s b (elements_of vs) ++ (bound_breaks g (with_variables s vs) b ++ effects_breaks g (with_variables s vs) es)
+    → effect_parts_breaks g s effect.Each (more_forms vs (more_forms b es)) ≡ binding_breaks g s vs b ++ effects_breaks g (with_variables s vs) es
 unfolding effect_breaks
-parts-each g s vs b es = refl
+parts-each g s vs b es = sym (append_assoc (variables_breaks [] s b (elements_of vs)) (bound_breaks g (with_variables s vs) b) (effects_breaks g (with_variables s vs) es))
 
 pub parts-each-meant : (names : List (List ℕ)) (g : Signature) (s : Scope) (vs b : FormTree) (es : FormTrees)
     → effect_list_meant names g s effect.Each (more_forms vs (more_forms b es)) ≡ each (variables_meant names s vs) (bound_meant names g (with_variables s vs) b) (effects_meant names g (with_variables s vs) es)

@@ -1,5 +1,5 @@
 -- What formulas break and stand for, by the parts of their lists.
-use Rattle.std.proofs.Common.{◌≡◌, ℕ, List, [], ◌∷◌, ◌++◌, false, refl}
+use Rattle.std.proofs.Common.{◌≡◌, ℕ, List, [], ◌∷◌, ◌++◌, false, refl, sym, append_assoc}
 use Rattle.std.specs.Prelude.{ℤ, not}
 use Rattle.tl_sexpr.specs.Tree.{FormTree, FormTrees, symbol, integer, list, no_form, more_forms}
 use Rattle.tl_syntax.specs.Trees.{compare, no_formula, more_formulas}
@@ -21,10 +21,10 @@ use Rattle.tl_formulas.specs.Signatures.{Scope}
 use Rattle.tl_formulas.specs.Terms.{term_breaks, terms_breaks}
 use Rattle.tl_formulas.specs.Bounds.{bound_breaks}
 use Rattle.tl_formulas.specs.Variables.{variables_breaks, with_variables}
-use Rattle.tl_formulas.specs.Formulas.{is_constant, role_below, formula_list_breaks, goals_breaks, steps_breaks, formula_breaks, formula_parts_breaks, formulas_breaks}
+use Rattle.tl_formulas.specs.Formulas.{is_constant, role_below, formula_list_breaks, binding_breaks, goals_breaks, steps_breaks, formula_breaks, formula_parts_breaks, formulas_breaks}
 use Rattle.tl_formulas.specs.MeaningOfTerms.{term_meant, terms_meant}
-use Rattle.tl_formulas.specs.MeaningOfBounds.{goal_meant}
-use Rattle.tl_formulas.specs.MeaningOfFormulas.{constant_meant, formula_of_goal, joined, atom_meant, steps_meant, formula_meant, formula_list_meant, formulas_meant, quantifier_meant}
+use Rattle.tl_formulas.specs.MeaningOfBounds.{goal_meant, bound_meant}
+use Rattle.tl_formulas.specs.MeaningOfFormulas.{constant_meant, formula_of_goal, joined, atom_meant, steps_meant, formula_meant, formula_list_meant, formulas_meant, variables_meant}
 use Rattle.tl_formulas.specs.Readers.{quantifier_tree, counted_tree}
 use Rattle.tl_formulas.specs.Shapes.{unary_word, binary_word, many_word, quantifier_word, counted_word}
 
@@ -135,12 +135,12 @@ parts-quantifier junction.All r g s vs b f = refl
 parts-quantifier junction.Any r g s vs b f = refl
 
 pub parts-for_all : (r : FormulaRole) (g : Signature) (s : Scope) (vs b f : FormTree)
-    → formula_parts_breaks r g s word.ForAll (more_forms vs (more_forms b (more_forms f no_form))) ≡ variables_breaks [] s b (elements_of vs) ++ (bound_breaks g (with_variables s vs) b ++ (formula_breaks r g (with_variables s vs) f ++ []))
+    → formula_parts_breaks r g s word.ForAll (more_forms vs (more_forms b (more_forms f no_form))) ≡ binding_breaks g s vs b ++ (formula_breaks r g (with_variables s vs) f ++ [])
 unfolding formula_breaks
-parts-for_all r g s vs b f = refl
+parts-for_all r g s vs b f = sym (append_assoc (variables_breaks [] s b (elements_of vs)) (bound_breaks g (with_variables s vs) b) (formula_breaks r g (with_variables s vs) f ++ []))
 
 pub parts-quantifier-meant : (j : Junction) (names : List (List ℕ)) (g : Signature) (s : Scope) (text : List ℕ) (vs b f : FormTree)
-    → let fs = more_forms vs (more_forms b (more_forms f no_form)) in formula_list_meant names g s (quantifier_word j) text fs ≡ quantifier_tree j (quantifier_meant names g s fs).0 (quantifier_meant names g s fs).1 (quantifier_meant names g s fs).2
+    → formula_list_meant names g s (quantifier_word j) text (more_forms vs (more_forms b (more_forms f no_form))) ≡ quantifier_tree j (variables_meant names s vs) (bound_meant names g (with_variables s vs) b) (formula_meant names g (with_variables s vs) f)
 unfolding formula_meant
 parts-quantifier-meant junction.All names g s text vs b f = refl
 parts-quantifier-meant junction.Any names g s text vs b f = refl

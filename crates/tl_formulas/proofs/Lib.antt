@@ -5,6 +5,7 @@ pub mod TermTrees
 pub mod OtherGoals
 pub mod Counts
 pub mod VariableLists
+pub mod AtomNames
 pub mod FormulaTrees
 pub mod FormulaParts
 pub mod EffectTrees

@@ -119,6 +119,11 @@ abbrev pub goals_breaks : Signature → Scope → FormTrees → List Break
 goals_breaks g scope no_form = []
 goals_breaks g scope (more_forms f fs) = goal_breaks g scope f ++ goals_breaks g scope fs
 
+-- what variables and their bound break
+abbrev pub binding_breaks : Signature → Scope → FormTree → FormTree → List Break
+binding_breaks g scope vs b =
+    variables_breaks [] scope b (elements_of vs) ++ bound_breaks g (with_variables scope vs) b
+
 unfoldable mutual
   -- what a formula breaks, with its parts
   pub formula_breaks : FormulaRole → Signature → Scope → FormTree → List Break

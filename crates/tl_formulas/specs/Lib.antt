@@ -4,12 +4,12 @@ pub mod Terms
 pub mod Goals
 pub mod Bounds
 pub mod Variables
+pub mod Atoms
 pub mod Formulas
 pub mod Effects
 pub mod MeaningOfTerms
 pub mod MeaningOfBounds
 pub mod MeaningOfFormulas
 pub mod MeaningOfEffects
-pub mod Calls
 pub mod Shapes
 pub mod Readers

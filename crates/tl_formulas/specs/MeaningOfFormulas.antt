@@ -136,17 +136,3 @@ unfoldable mutual
   pub formulas_meant : List (List ℕ) → Signature → Scope → FormTrees → FormulaTrees
   formulas_meant names g scope no_form = no_formula
   formulas_meant names g scope (more_forms f fs) = more_formulas (formula_meant names g scope f) (formulas_meant names g scope fs)
-
--- the variables, the bound and the formula of a quantifier, by the elements after its first
-abbrev pub quantifier_meant : List (List ℕ) → Signature → Scope → FormTrees → List Var × Bound × FormulaTree
-quantifier_meant names g scope (more_forms vs (more_forms b fs)) = (
-  variables_meant names scope vs,
-  bound_meant names g (with_variables scope vs) b,
-  first_formula (formulas_meant names g (with_variables scope vs) fs),
-)
-quantifier_meant names g scope _ = ([], bound.Fact 0 [], verum)
-
--- the number of steps and the formula of `within` and `for`, by the elements after the first
-abbrev pub counted_meant : List (List ℕ) → Signature → Scope → FormTrees → ℕ × FormulaTree
-counted_meant names g scope (more_forms k fs) = (steps_meant k, first_formula (formulas_meant names g scope fs))
-counted_meant names g scope no_form = (0, verum)

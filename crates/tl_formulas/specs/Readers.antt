@@ -1,7 +1,8 @@
 -- What the readers of this crate answer: what a form stands for, or the first of the rules that it breaks.
 --
 -- The first argument is what forms are read by, and the last is the answer.
-use Rattle.std.specs.Prelude.{◌≡◌, ℕ, List, [], true, false, ◌++◌, Option, Result, unwrap_or}
+use Rattle.std.specs.Prelude.{◌≡◌, ℕ, List, [], true, false, ◌++◌, Option, Result, Box, unwrap_or}
+use Rattle.std.specs.declared.alloc.Global.{Global}
 use Rattle.tl_sexpr.specs.Tree.{FormTree, FormTrees, no_form, more_forms, tree_of}
 use Rattle.tl_syntax.specs.declared.value.Op.{Op}
 use Rattle.tl_syntax.specs.declared.value.Cmp.{Cmp}
@@ -24,58 +25,61 @@ use Rattle.tl_syntax.specs.TreeOfEffect.{tree_of_effect, tree_of_effects}
 use Rattle.tl_rules.specs.declared.rule.FormFault.{FormFault}
 use Rattle.tl_rules.specs.Parts.{rest_of, any_list}
 use Rattle.tl_rules.specs.Reads.{Reads, trees_in}
-use Rattle.tl_formulas.specs.declared.calls.Call.{Call}
+use Rattle.tl_rules.specs.declared.calls.Call.{Call}
 use Rattle.tl_formulas.specs.declared.goals.GoalArgument.{GoalArgument}
 use Rattle.tl_formulas.specs.declared.goals.GoalArgument.TheVariants as goal
 use Rattle.tl_formulas.specs.declared.goals.Flat.{Flat}
 use Rattle.tl_formulas.specs.declared.roles.FormulaRole.{FormulaRole}
 use Rattle.tl_formulas.specs.declared.shapes.Pair.{Pair}
-use Rattle.tl_formulas.specs.declared.shapes.Quantified.{Quantified}
+use Rattle.tl_formulas.specs.declared.signature.Signature.{Signature}
+use Rattle.tl_formulas.specs.declared.shapes.Binding.{Binding}
+use Rattle.tl_formulas.specs.declared.bindings.BoundVariables.{BoundVariables}
 use Rattle.tl_formulas.specs.declared.shapes.FormulaParts.{FormulaParts}
 use Rattle.tl_formulas.specs.declared.shapes.FormulaParts.TheVariants as parts
 use Rattle.tl_formulas.specs.declared.shapes.EffectParts.{EffectParts}
-use Rattle.tl_formulas.specs.declared.vocabulary.Vocabulary.{Vocabulary}
+use Rattle.tl_rules.specs.declared.vocabulary.Vocabulary.{Vocabulary}
 use Rattle.tl_formulas.specs.declared.words.FormulaWord.{FormulaWord}
 use Rattle.tl_formulas.specs.declared.words.FormulaWord.TheVariants as word
 use Rattle.tl_formulas.specs.Words.{formula_word, effect_word}
-use Rattle.tl_formulas.specs.Calls.{call_tree}
-use Rattle.tl_formulas.specs.Shapes.{pair_trees, word_of_parts, elements_of_parts, word_of_change, elements_of_change}
+use Rattle.tl_rules.specs.Calls.{list_of}
+use Rattle.tl_formulas.specs.Shapes.{pair_trees, word_of_parts, elements_of_parts, variables_tree, word_of_change, elements_of_change}
 use Rattle.tl_formulas.specs.Signatures.{Table, Scope, place_of, unbound_breaks}
 use Rattle.tl_formulas.specs.Terms.{term_call_breaks, term_breaks, terms_breaks}
 use Rattle.tl_formulas.specs.Goals.{arguments_breaks, is_flat, miscounted_breaks, other_goal_breaks, goal_breaks}
 use Rattle.tl_formulas.specs.Bounds.{flat_breaks, equality_breaks, bound_call_breaks, bound_breaks, bounds_breaks}
-use Rattle.tl_formulas.specs.Formulas.{role_below, goals_breaks, formula_list_breaks, formula_breaks, formula_parts_breaks, formulas_breaks}
+use Rattle.tl_formulas.specs.Variables.{with_variables}
+use Rattle.tl_formulas.specs.Formulas.{binding_breaks, role_below, goals_breaks, formula_list_breaks, formula_breaks, formula_parts_breaks, formulas_breaks}
 use Rattle.tl_formulas.specs.Effects.{target_breaks, effect_list_breaks, effect_breaks, effect_parts_breaks, effects_breaks}
 use Rattle.tl_formulas.specs.MeaningOfTerms.{argument_meant, arguments_meant, call_meant, term_meant, terms_meant}
 use Rattle.tl_formulas.specs.MeaningOfBounds.{call_place, other_goal_meant, goal_meant, equality_meant}
 use Rattle.tl_formulas.specs.MeaningOfBounds.{bound_call_meant, bound_meant, bounds_meant}
 use Rattle.tl_formulas.specs.MeaningOfFormulas.{formula_of_goal, atom_meant, joined}
-use Rattle.tl_formulas.specs.MeaningOfFormulas.{formula_meant, formula_list_meant, formulas_meant, quantifier_meant}
+use Rattle.tl_formulas.specs.MeaningOfFormulas.{formula_meant, formula_list_meant, formulas_meant, variables_meant}
 use Rattle.tl_formulas.specs.MeaningOfEffects.{target_meant, effect_meant, effect_list_meant, effects_meant}
 
 -- an argument, and arguments
-abbrev pub ReadsArgument : Vocabulary → Scope → FormTree → Result Arg FormFault → Type 0
+abbrev pub ReadsArgument : Vocabulary Signature → Scope → FormTree → Result Arg FormFault → Type 0
 ReadsArgument v scope f result = Reads (λ (x : Arg). x) result (unbound_breaks scope f) (argument_meant v.names.now scope f)
 
-abbrev pub ReadsArguments : Vocabulary → Scope → FormTrees → Result (List Arg) FormFault → Type 0
+abbrev pub ReadsArguments : Vocabulary Signature → Scope → FormTrees → Result (List Arg) FormFault → Type 0
 ReadsArguments v scope fs result =
     Reads (λ (xs : List Arg). xs) result (arguments_breaks scope fs) (arguments_meant v.names.now scope fs)
 
 -- a term, and terms
-abbrev pub ReadsTerm : Vocabulary → Scope → FormTree → Result Term FormFault → Type 0
+abbrev pub ReadsTerm : Vocabulary Signature → Scope → FormTree → Result Term FormFault → Type 0
 ReadsTerm v scope f result =
-    Reads tree_of_term result (term_breaks v.signature.now.functions scope f) (term_meant v.names.now v.signature.now.functions scope f)
+    Reads tree_of_term result (term_breaks v.declared.now.functions scope f) (term_meant v.names.now v.declared.now.functions scope f)
 
-abbrev pub ReadsTerms : Vocabulary → Scope → FormTrees → Result Terms FormFault → Type 0
+abbrev pub ReadsTerms : Vocabulary Signature → Scope → FormTrees → Result Terms FormFault → Type 0
 ReadsTerms v scope fs result =
     Reads tree_of_terms result
-    (terms_breaks v.signature.now.functions scope fs)
-    (terms_meant v.names.now v.signature.now.functions scope fs)
+    (terms_breaks v.declared.now.functions scope fs)
+    (terms_meant v.names.now v.declared.now.functions scope fs)
 
 -- the term of a list whose first word names this operation, or a function
-abbrev pub ReadsTermCall : Vocabulary → Scope → Option Op → Call → Result Term FormFault → Type 0
+abbrev pub ReadsTermCall : Vocabulary Signature → Scope → Option Op → Call → Result Term FormFault → Type 0
 ReadsTermCall v scope op call result =
-    let functions = v.signature.now.functions in
+    let functions = v.declared.now.functions in
     let rest = trees_in call.rest.now in
     Reads tree_of_term result
     (term_call_breaks functions op call.word.now rest call.at ++ terms_breaks functions scope rest)
@@ -95,55 +99,55 @@ pub record IsFlat (table : Table) (f : FormTree) (parts : Flat) : Type 0 where
   pub plain : any_list (trees_in parts.rest.now) ≡ false
 
 -- an argument `(= (f a*) a)` of `goal`, by the place and the value
-abbrev pub ReadsGoalPlace : Vocabulary → Scope → FormTree → FormTree → Result GoalArgument FormFault → Type 0
+abbrev pub ReadsGoalPlace : Vocabulary Signature → Scope → FormTree → FormTree → Result GoalArgument FormFault → Type 0
 ReadsGoalPlace v scope place value result =
-    let functions = v.signature.now.functions in
+    let functions = v.declared.now.functions in
     Reads bound_of_goal result
     (miscounted_breaks functions place ++ (arguments_breaks scope (rest_of place) ++ unbound_breaks scope value))
     (bound.GoalPlace (call_place functions place) (arguments_meant v.names.now scope (rest_of place))
     (argument_meant v.names.now scope value))
 
 -- an argument `(not (p a*))` of `goal`, by the fact
-abbrev pub ReadsGoalNot : Vocabulary → Scope → FormTree → Result GoalArgument FormFault → Type 0
+abbrev pub ReadsGoalNot : Vocabulary Signature → Scope → FormTree → Result GoalArgument FormFault → Type 0
 ReadsGoalNot v scope fact result =
-    let predicates = v.signature.now.predicates in
+    let predicates = v.declared.now.predicates in
     Reads bound_of_goal result
     (miscounted_breaks predicates fact ++ arguments_breaks scope (rest_of fact))
     (bound.GoalNot (call_place predicates fact) (arguments_meant v.names.now scope (rest_of fact)))
 
 -- an argument of `goal`, and one that is no fact, by its elements and its offset
-abbrev pub ReadsGoal : Vocabulary → Scope → FormTree → Result GoalArgument FormFault → Type 0
+abbrev pub ReadsGoal : Vocabulary Signature → Scope → FormTree → Result GoalArgument FormFault → Type 0
 ReadsGoal v scope f result =
-    Reads bound_of_goal result (goal_breaks v.signature.now scope f) (goal_meant v.names.now v.signature.now scope f)
+    Reads bound_of_goal result (goal_breaks v.declared.now scope f) (goal_meant v.names.now v.declared.now scope f)
 
-abbrev pub ReadsOtherGoal : Vocabulary → Scope → FormTrees → ℕ → Result GoalArgument FormFault → Type 0
+abbrev pub ReadsOtherGoal : Vocabulary Signature → Scope → FormTrees → ℕ → Result GoalArgument FormFault → Type 0
 ReadsOtherGoal v scope fs at result =
-    Reads bound_of_goal result (other_goal_breaks v.signature.now scope fs at) (other_goal_meant v.names.now v.signature.now scope fs)
+    Reads bound_of_goal result (other_goal_breaks v.declared.now scope fs at) (other_goal_meant v.names.now v.declared.now scope fs)
 
 -- a bound, bounds, and the bound of a list with this first word
-abbrev pub ReadsBound : Vocabulary → Scope → FormTree → Result Bound FormFault → Type 0
+abbrev pub ReadsBound : Vocabulary Signature → Scope → FormTree → Result Bound FormFault → Type 0
 ReadsBound v scope f result =
-    Reads (λ (x : Bound). x) result (bound_breaks v.signature.now scope f) (bound_meant v.names.now v.signature.now scope f)
+    Reads (λ (x : Bound). x) result (bound_breaks v.declared.now scope f) (bound_meant v.names.now v.declared.now scope f)
 
-abbrev pub ReadsBounds : Vocabulary → Scope → FormTrees → Result (List Bound) FormFault → Type 0
+abbrev pub ReadsBounds : Vocabulary Signature → Scope → FormTrees → Result (List Bound) FormFault → Type 0
 ReadsBounds v scope fs result =
-    Reads (λ (xs : List Bound). xs) result (bounds_breaks v.signature.now scope fs) (bounds_meant v.names.now v.signature.now scope fs)
+    Reads (λ (xs : List Bound). xs) result (bounds_breaks v.declared.now scope fs) (bounds_meant v.names.now v.declared.now scope fs)
 
-abbrev pub ReadsBoundCall : Vocabulary → Scope → FormulaWord → Call → Result Bound FormFault → Type 0
+abbrev pub ReadsBoundCall : Vocabulary Signature → Scope → FormulaWord → Call → Result Bound FormFault → Type 0
 ReadsBoundCall v scope word call result =
     let rest = trees_in call.rest.now in
     Reads (λ (x : Bound). x) result
-    (bound_call_breaks v.signature.now scope word call.word.now rest call.at)
-    (bound_call_meant v.names.now v.signature.now scope word call.word.now rest)
+    (bound_call_breaks v.declared.now scope word call.word.now rest call.at)
+    (bound_call_meant v.names.now v.declared.now scope word call.word.now rest)
 
 -- the bound `(= X a)`, by X and a and the offset
-abbrev pub ReadsPlaceBound : Vocabulary → Scope → FormTree → FormTree → ℕ → Result Bound FormFault → Type 0
+abbrev pub ReadsPlaceBound : Vocabulary Signature → Scope → FormTree → FormTree → ℕ → Result Bound FormFault → Type 0
 ReadsPlaceBound v scope place value at result =
     let rest = more_forms place (more_forms value no_form) in
-    Reads (λ (x : Bound). x) result (equality_breaks v.signature.now scope rest at) (equality_meant v.names.now v.signature.now scope rest)
+    Reads (λ (x : Bound). x) result (equality_breaks v.declared.now scope rest at) (equality_meant v.names.now v.declared.now scope rest)
 
 -- the place in a table of a list's first word, and the arguments after it, none of which is a list
-abbrev pub ReadsFlat : Vocabulary → Scope → Table → Call → Result (ℕ × List Arg) FormFault → Type 0
+abbrev pub ReadsFlat : Vocabulary Signature → Scope → Table → Call → Result (ℕ × List Arg) FormFault → Type 0
 ReadsFlat v scope table call result =
     let rest = trees_in call.rest.now in
     Reads (λ (x : ℕ × List Arg). x) result
@@ -151,18 +155,25 @@ ReadsFlat v scope table call result =
     (unwrap_or (place_of table call.word.now) 0, arguments_meant v.names.now scope rest)
 
 -- a formula in this role, and formulas
-abbrev pub ReadsFormula : Vocabulary → FormulaRole → Scope → FormTree → Result Formula FormFault → Type 0
+abbrev pub ReadsFormula : Vocabulary Signature → FormulaRole → Scope → FormTree → Result Formula FormFault → Type 0
 ReadsFormula v role scope f result =
-    Reads tree_of_formula result (formula_breaks role v.signature.now scope f) (formula_meant v.names.now v.signature.now scope f)
+    Reads tree_of_formula result (formula_breaks role v.declared.now scope f) (formula_meant v.names.now v.declared.now scope f)
 
-abbrev pub ReadsFormulas : Vocabulary → FormulaRole → Scope → FormTrees → Result Formulas FormFault → Type 0
+abbrev pub ReadsFormulas : Vocabulary Signature → FormulaRole → Scope → FormTrees → Result Formulas FormFault → Type 0
 ReadsFormulas v role scope fs result =
-    Reads tree_of_formulas result (formulas_breaks role v.signature.now scope fs) (formulas_meant v.names.now v.signature.now scope fs)
+    Reads tree_of_formulas result (formulas_breaks role v.declared.now scope fs) (formulas_meant v.names.now v.declared.now scope fs)
+
+-- a formula in a box
+abbrev pub ReadsBoxed : Vocabulary Signature → FormulaRole → Scope → FormTree → Result (Box Formula Global) FormFault → Type 0
+ReadsBoxed v role scope f result =
+    Reads (λ (x : Box Formula Global). tree_of_formula x.value) result
+    (formula_breaks role v.declared.now scope f)
+    (formula_meant v.names.now v.declared.now scope f)
 
 -- the formula of a list that begins with a word, with what the list breaks itself
-abbrev pub ReadsFormulaCall : Vocabulary → FormulaRole → Scope → Call → Result Formula FormFault → Type 0
+abbrev pub ReadsFormulaCall : Vocabulary Signature → FormulaRole → Scope → Call → Result Formula FormFault → Type 0
 ReadsFormulaCall v role scope call result =
-    let g = v.signature.now in
+    let g = v.declared.now in
     let word = formula_word call.word.now in
     let rest = trees_in call.rest.now in
     Reads tree_of_formula result
@@ -170,49 +181,52 @@ ReadsFormulaCall v role scope call result =
     (formula_list_meant v.names.now g scope word call.word.now rest)
 
 -- the formula of these parts of a list with this first word
-abbrev pub ReadsFormulaParts : Vocabulary → FormulaRole → Scope → List ℕ → FormulaParts → Result Formula FormFault → Type 0
+abbrev pub ReadsFormulaParts : Vocabulary Signature → FormulaRole → Scope → List ℕ → FormulaParts → Result Formula FormFault → Type 0
 ReadsFormulaParts v role scope text p result =
     Reads tree_of_formula result
-    (formula_parts_breaks role v.signature.now scope (word_of_parts p) (elements_of_parts p))
-    (formula_list_meant v.names.now v.signature.now scope (word_of_parts p) text (elements_of_parts p))
+    (formula_parts_breaks role v.declared.now scope (word_of_parts p) (elements_of_parts p))
+    (formula_list_meant v.names.now v.declared.now scope (word_of_parts p) text (elements_of_parts p))
 
 -- these formulas under a word
-abbrev pub ReadsJoined : Vocabulary → FormulaRole → Scope → FormulaWord → FormTrees → Result Formula FormFault → Type 0
+abbrev pub ReadsJoined : Vocabulary Signature → FormulaRole → Scope → FormulaWord → FormTrees → Result Formula FormFault → Type 0
 ReadsJoined v role scope word fs result =
     Reads tree_of_formula result
-    (formulas_breaks role v.signature.now scope fs)
-    (joined word (formulas_meant v.names.now v.signature.now scope fs))
+    (formulas_breaks role v.declared.now scope fs)
+    (joined word (formulas_meant v.names.now v.declared.now scope fs))
 
 -- the formula `(goal A)`, by A
-abbrev pub ReadsGoalFormula : Vocabulary → Scope → FormTree → Result Formula FormFault → Type 0
+abbrev pub ReadsGoalFormula : Vocabulary Signature → Scope → FormTree → Result Formula FormFault → Type 0
 ReadsGoalFormula v scope f result =
     Reads tree_of_formula result
-    (goals_breaks v.signature.now scope (more_forms f no_form))
-    (formula_of_goal (goal_meant v.names.now v.signature.now scope f))
+    (goals_breaks v.declared.now scope (more_forms f no_form))
+    (formula_of_goal (goal_meant v.names.now v.declared.now scope f))
 
 -- the comparison of two terms
-abbrev pub ReadsComparison : Vocabulary → Scope → Cmp → Pair → Result Formula FormFault → Type 0
+abbrev pub ReadsComparison : Vocabulary Signature → Scope → Cmp → Pair → Result Formula FormFault → Type 0
 ReadsComparison v scope c p result =
-    let functions = v.signature.now.functions in
+    let functions = v.declared.now.functions in
     Reads tree_of_formula result
     (terms_breaks functions scope (pair_trees p))
     (compare c (term_meant v.names.now functions scope (tree_of p.first.now))
     (term_meant v.names.now functions scope (tree_of p.second.now)))
 
 -- the atom of this name with these arguments
-abbrev pub ReadsAtom : Vocabulary → Scope → List ℕ → FormTrees → Result Formula FormFault → Type 0
+abbrev pub ReadsAtom : Vocabulary Signature → Scope → List ℕ → FormTrees → Result Formula FormFault → Type 0
 ReadsAtom v scope text fs result =
-    let functions = v.signature.now.functions in
+    let functions = v.declared.now.functions in
     Reads tree_of_formula result
     (terms_breaks functions scope fs)
-    (atom_meant v.signature.now text (terms_meant v.names.now functions scope fs))
+    (atom_meant v.declared.now text (terms_meant v.names.now functions scope fs))
 
--- the variables, the bound and the formula of a quantifier
-abbrev pub ReadsQuantified : Vocabulary → FormulaRole → Scope → Quantified → Result (List Var × Bound × Formula) FormFault → Type 0
-ReadsQuantified v role scope q result =
-    Reads (λ (x : List Var × Bound × Formula). (x.0, x.1, tree_of_formula x.2)) result
-    (formula_parts_breaks role v.signature.now scope word.ForAll (elements_of_parts (parts.Quantified q)))
-    (quantifier_meant v.names.now v.signature.now scope (elements_of_parts (parts.Quantified q)))
+-- variables with their bound, and what is in scope with them
+abbrev pub ReadsBinding : Vocabulary Signature → Scope → Binding → Result BoundVariables FormFault → Type 0
+ReadsBinding v scope b result =
+    let vs = variables_tree b.list in
+    let f = tree_of b.bound.now in
+    Reads {Y = Scope × List Var × Bound} (λ (x : BoundVariables). (x.inner, x.vars, x.bound)) result
+    (binding_breaks v.declared.now scope vs f)
+    (with_variables scope vs, variables_meant v.names.now scope vs,
+    bound_meant v.names.now v.declared.now (with_variables scope vs) f)
 
 -- what is made of formulas is this formula; only memory may fail
 abbrev pub Makes : FormulaTree → Result Formula FormFault → Type 0
@@ -232,34 +246,34 @@ counted_tree junction.All k f = during k f
 counted_tree junction.Any k f = within k f
 
 -- an effect, and effects
-abbrev pub ReadsEffect : Vocabulary → Scope → FormTree → Result Effect FormFault → Type 0
+abbrev pub ReadsEffect : Vocabulary Signature → Scope → FormTree → Result Effect FormFault → Type 0
 ReadsEffect v scope f result =
-    Reads tree_of_effect result (effect_breaks v.signature.now scope f) (effect_meant v.names.now v.signature.now scope f)
+    Reads tree_of_effect result (effect_breaks v.declared.now scope f) (effect_meant v.names.now v.declared.now scope f)
 
-abbrev pub ReadsEffects : Vocabulary → Scope → FormTrees → Result Effects FormFault → Type 0
+abbrev pub ReadsEffects : Vocabulary Signature → Scope → FormTrees → Result Effects FormFault → Type 0
 ReadsEffects v scope fs result =
-    Reads tree_of_effects result (effects_breaks v.signature.now scope fs) (effects_meant v.names.now v.signature.now scope fs)
+    Reads tree_of_effects result (effects_breaks v.declared.now scope fs) (effects_meant v.names.now v.declared.now scope fs)
 
 -- the effect of a list that begins with a word, with what the list breaks itself
-abbrev pub ReadsEffectCall : Vocabulary → Scope → Call → Result Effect FormFault → Type 0
+abbrev pub ReadsEffectCall : Vocabulary Signature → Scope → Call → Result Effect FormFault → Type 0
 ReadsEffectCall v scope call result =
     let word = effect_word call.word.now in
     let rest = trees_in call.rest.now in
     Reads tree_of_effect result
-    (effect_list_breaks scope word rest call.at ++ effect_parts_breaks v.signature.now scope word rest)
-    (effect_list_meant v.names.now v.signature.now scope word rest)
+    (effect_list_breaks scope word rest call.at ++ effect_parts_breaks v.declared.now scope word rest)
+    (effect_list_meant v.names.now v.declared.now scope word rest)
 
 -- the effect of these parts of a list
-abbrev pub ReadsEffectParts : Vocabulary → Scope → EffectParts → Result Effect FormFault → Type 0
+abbrev pub ReadsEffectParts : Vocabulary Signature → Scope → EffectParts → Result Effect FormFault → Type 0
 ReadsEffectParts v scope p result =
     Reads tree_of_effect result
-    (effect_parts_breaks v.signature.now scope (word_of_change p) (elements_of_change p))
-    (effect_list_meant v.names.now v.signature.now scope (word_of_change p) (elements_of_change p))
+    (effect_parts_breaks v.declared.now scope (word_of_change p) (elements_of_change p))
+    (effect_list_meant v.names.now v.declared.now scope (word_of_change p) (elements_of_change p))
 
 -- the place in a table of a list's first word, and the terms after it
-abbrev pub ReadsTarget : Vocabulary → Scope → Table → Call → Result (ℕ × Terms) FormFault → Type 0
+abbrev pub ReadsTarget : Vocabulary Signature → Scope → Table → Call → Result (ℕ × Terms) FormFault → Type 0
 ReadsTarget v scope table call result =
-    let functions = v.signature.now.functions in
+    let functions = v.declared.now.functions in
     Reads (λ (x : ℕ × Terms). (x.0, tree_of_terms x.1)) result
-    (target_breaks table functions scope (call_tree call))
-    (target_meant v.names.now table functions scope (call_tree call))
+    (target_breaks table functions scope (list_of call))
+    (target_meant v.names.now table functions scope (list_of call))

@@ -1,10 +1,12 @@
 -- What the parts of formulas' and effects' lists are read from.
 use Rattle.std.specs.Prelude.{◌≡◌, List, Bool, true, false, Option, MatchOption}
-use Rattle.tl_sexpr.specs.Tree.{FormTree, FormTrees, integer, list, no_form, more_forms, tree_of}
+use Rattle.tl_sexpr.specs.Tree.{FormTree, FormTrees, symbol, integer, list, no_form, more_forms, tree_of}
 use Rattle.tl_syntax.specs.declared.junction.Junction.{Junction}
 use Rattle.tl_syntax.specs.declared.junction.Junction.TheVariants as junction
-use Rattle.tl_rules.specs.Parts.{is_variable_list}
+use Rattle.tl_rules.specs.Parts.{is_list, is_variable_list}
 use Rattle.tl_rules.specs.Reads.{trees_in}
+use Rattle.tl_formulas.specs.declared.shapes.Leaf.{Leaf}
+use Rattle.tl_formulas.specs.declared.shapes.Leaf.TheVariants as leaf
 use Rattle.tl_formulas.specs.declared.shapes.Unary.{Unary}
 use Rattle.tl_formulas.specs.declared.shapes.Unary.TheVariants as unary
 use Rattle.tl_formulas.specs.declared.shapes.Binary.{Binary}
@@ -15,7 +17,7 @@ use Rattle.tl_formulas.specs.declared.shapes.FormulaParts.{FormulaParts}
 use Rattle.tl_formulas.specs.declared.shapes.FormulaParts.TheVariants as parts
 use Rattle.tl_formulas.specs.declared.shapes.EffectParts.{EffectParts}
 use Rattle.tl_formulas.specs.declared.shapes.EffectParts.TheVariants as change
-use Rattle.tl_formulas.specs.declared.calls.Call.{Call}
+use Rattle.tl_rules.specs.declared.calls.Call.{Call}
 use Rattle.tl_formulas.specs.declared.roles.FormulaRole.{FormulaRole}
 use Rattle.tl_formulas.specs.declared.signature.Signature.{Signature}
 use Rattle.tl_rules.specs.Rules.{Break}
@@ -24,9 +26,17 @@ use Rattle.tl_formulas.specs.declared.words.FormulaWord.{FormulaWord}
 use Rattle.tl_formulas.specs.declared.words.FormulaWord.TheVariants as word
 use Rattle.tl_formulas.specs.declared.words.EffectWord.{EffectWord}
 use Rattle.tl_formulas.specs.declared.words.EffectWord.TheVariants as effect
-use Rattle.tl_formulas.specs.Calls.{call_tree}
+use Rattle.tl_rules.specs.Calls.{list_of}
 use Rattle.tl_formulas.specs.Formulas.{has_formula_shape, name_breaks, shaped_list_breaks, is_crowded_by}
 use Rattle.tl_formulas.specs.Effects.{has_target_shape, has_effect_shape}
+
+-- a form that is no list
+abbrev pub leaf_tree : Leaf → FormTree
+leaf_tree (leaf.Symbol text at) = symbol text.now at
+leaf_tree (leaf.Integer z at) = integer z at
+
+abbrev pub FindsLeaf : FormTree → Option Leaf → Type 0
+FindsLeaf f found = MatchOption found (is_list f ≡ true) (λ x. f ≡ leaf_tree x)
 
 -- the words before one formula, and before two
 abbrev pub unary_word : Unary → FormulaWord
@@ -121,16 +131,16 @@ word_of_change (change.When condition effects) = effect.When
 word_of_change (change.Each binding effects) = effect.Each
 
 abbrev pub elements_of_change : EffectParts → FormTrees
-elements_of_change (change.Add fact) = more_forms (call_tree fact) no_form
-elements_of_change (change.Del fact) = more_forms (call_tree fact) no_form
-elements_of_change (change.Set place value) = more_forms (call_tree place) (more_forms (tree_of value.now) no_form)
+elements_of_change (change.Add fact) = more_forms (list_of fact) no_form
+elements_of_change (change.Del fact) = more_forms (list_of fact) no_form
+elements_of_change (change.Set place value) = more_forms (list_of place) (more_forms (tree_of value.now) no_form)
 elements_of_change (change.When condition effects) = more_forms (tree_of condition.now) (trees_in effects.now)
 elements_of_change (change.Each binding effects) =
     more_forms (variables_tree binding.list) (more_forms (tree_of binding.bound.now) (trees_in effects.now))
 
 -- the fact that the elements are, as `add` and `del` ask for
 abbrev pub FindsFact : FormTrees → Option Call → Type 0
-FindsFact fs found = MatchOption found (has_target_shape fs ≡ false) (λ fact. fs ≡ more_forms (call_tree fact) no_form)
+FindsFact fs found = MatchOption found (has_target_shape fs ≡ false) (λ fact. fs ≡ more_forms (list_of fact) no_form)
 
 -- these are the parts of an effect's list with this first word and these elements after it
 pub record AreEffectParts (w : EffectWord) (fs : FormTrees) (p : EffectParts) : Type 0 where

@@ -2,10 +2,12 @@
 ghost use Rattle.std.specs.Prelude.{◌≡◌, false};
 ghost use Rattle.tl_sexpr.specs.Tree.{symbol, tree_of};
 ghost use Rattle.tl_formulas.specs.Readers.{ReadsArgument, ReadsArguments};
-ghost use Rattle.tl_rules.specs.Parts.{is_list, any_list};
+ghost use Rattle.tl_formulas.specs.Shapes.{FindsLeaf, leaf_tree};
+ghost use Rattle.tl_rules.specs.Parts.{any_list};
 ghost use Rattle.tl_rules.specs.Reads.{trees_in};
 
 use crate::scope::Scope;
+use crate::shapes::Leaf;
 use crate::vocabulary::Vocabulary;
 use tl_rules::parts::is_variable;
 use tl_rules::{FormFault, Rule, breaks, number_of};
@@ -31,20 +33,29 @@ pub(crate) fn symbol(
     }
 }
 
-/// An argument that is no list.
+/// A form that is no list, where it is none.
 #[tactic(auto, using(crate::proofs::Rulesets::form_trees))]
+pub(crate) fn leaf_in(form: &Form) -> Option<Leaf<'_>>
+    ensures { FindsLeaf (tree_of form.now) result }
+{
+    match form {
+        Form::Sym(text, at) => Some(Leaf::Symbol(text.as_str(), *at)),
+        Form::Int(value, at) => Some(Leaf::Integer(*value, *at)),
+        Form::List(_, _) => None,
+    }
+}
+
+/// An argument, which is no list.
 pub(crate) fn argument(
     vocabulary: &Vocabulary<'_>,
     scope: &Scope<'_>,
-    form: &Form,
+    leaf: Leaf<'_>,
 ) -> Result<Arg, FormFault>
-    requires { is_list (tree_of form.now) ≡ false }
-    ensures { ReadsArgument vocabulary.now scope.now (tree_of form.now) result }
+    ensures { ReadsArgument vocabulary.now scope.now (leaf_tree leaf.entry) result }
 {
-    match form {
-        Form::Sym(text, at) => symbol(vocabulary, scope, text.as_str(), *at),
-        Form::Int(value, _) => Ok(Arg::Val(Value::Int(*value))),
-        Form::List(_, _) => unreachable!(),
+    match leaf {
+        Leaf::Symbol(text, at) => symbol(vocabulary, scope, text, at),
+        Leaf::Integer(value, _) => Ok(Arg::Val(Value::Int(value))),
     }
 }
 
@@ -59,7 +70,9 @@ pub(crate) fn arguments(
 {
     let mut args = Args::new(vocabulary.alloc);
     for form in forms {
-        args.push(argument(vocabulary, scope, form)?)?;
+        if let Some(leaf) = leaf_in(form) {
+            args.push(argument(vocabulary, scope, leaf)?)?;
+        }
     }
     Ok(args)
 }

@@ -6,16 +6,15 @@ ghost use Rattle.tl_formulas.specs.Readers.{ReadsFlat, ReadsPlaceBound, ReadsBou
 ghost use Rattle.tl_formulas.specs.Words.{formula_word};
 ghost use Rattle.tl_rules.specs.Reads.{trees_in};
 
-use crate::arguments::{argument, arguments};
-use crate::calls::{Call, call_in};
+use crate::arguments::{argument, arguments, leaf_in};
 use crate::goals::{bound_of, goal};
 use crate::scope::Scope;
 use crate::signature::Table;
 use crate::terms::called;
 use crate::vocabulary::Vocabulary;
 use crate::words::{FormulaWord, formula_word};
-use tl_rules::parts::{any_list, is_list, offset, one, two};
-use tl_rules::{FormFault, Rule, breaks};
+use tl_rules::parts::{any_list, offset, one, two};
+use tl_rules::{Call, FormFault, Rule, breaks, call_in};
 use tl_sexpr::Form;
 use tl_syntax::{Args, Bound, Bounds, Cmp};
 
@@ -52,10 +51,10 @@ fn place_bound(
     let Some(call) = call_in(place) else {
         return Err(breaks(Rule::Shape, at));
     };
-    if is_list(value) {
+    let Some(value) = leaf_in(value) else {
         return Err(breaks(Rule::Shape, at));
-    }
-    let (function, args) = flat(vocabulary, scope, &vocabulary.signature.functions, call)?;
+    };
+    let (function, args) = flat(vocabulary, scope, &vocabulary.declared.functions, call)?;
     let value = argument(vocabulary, scope, value)?;
     Ok(Bound::Place(function, args, value))
 }
@@ -99,7 +98,7 @@ fn fact_bound(
 ) -> Result<Bound, FormFault>
     ensures { ReadsBoundCall vocabulary.now scope.now word.Name call.entry result }
 {
-    let (predicate, args) = flat(vocabulary, scope, &vocabulary.signature.predicates, call)?;
+    let (predicate, args) = flat(vocabulary, scope, &vocabulary.declared.predicates, call)?;
     Ok(Bound::Fact(predicate, args))
 }
 

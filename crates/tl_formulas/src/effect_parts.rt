@@ -3,11 +3,11 @@ ghost use Rattle.tl_formulas.specs.Shapes.{FindsFact, FindsEffectParts};
 ghost use Rattle.tl_formulas.specs.declared.words.EffectWord.TheVariants as effect;
 ghost use Rattle.tl_rules.specs.Reads.{trees_in};
 
-use crate::calls::{Call, call_in};
 use crate::shapes::{Binding, EffectParts};
 use crate::variables::variable_list;
 use crate::words::EffectWord;
 use tl_rules::parts::{one, split_first, two};
+use tl_rules::{Call, call_in};
 use tl_sexpr::Form;
 
 /// The fact that `add` and `del` ask for.

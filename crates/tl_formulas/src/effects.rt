@@ -10,9 +10,7 @@ ghost use Rattle.tl_formulas.specs.Variables.{is_crowded};
 ghost use Rattle.tl_formulas.specs.declared.shapes.EffectParts.TheVariants as change;
 ghost use Rattle.tl_rules.specs.Reads.{trees_in};
 
-use crate::bindings::is_crowded;
-use crate::bounds::bound;
-use crate::calls::{Call, call_in};
+use crate::bindings::{BoundVariables, bound_variables, is_crowded};
 use crate::effect_parts::effect_parts;
 use crate::formulas::formula;
 use crate::roles::FormulaRole;
@@ -20,11 +18,10 @@ use crate::scope::Scope;
 use crate::shapes::{Binding, EffectParts};
 use crate::signature::Table;
 use crate::terms::{called, term, terms};
-use crate::variables::{check_variables, variables, with_variables};
 use crate::vocabulary::Vocabulary;
 use crate::words::effect_word;
 use tl_rules::parts::offset;
-use tl_rules::{FormFault, Rule, breaks};
+use tl_rules::{Call, FormFault, Rule, breaks, call_in};
 use tl_sexpr::Form;
 use tl_syntax::{Effect, Effects, Terms};
 
@@ -46,7 +43,7 @@ fn target(
 fn add(vocabulary: &Vocabulary<'_>, scope: &Scope<'_>, fact: Call<'_>) -> Result<Effect, FormFault>
     ensures { ReadsEffectParts vocabulary.now scope.now (change.Add fact.entry) result }
 {
-    let (predicate, terms) = target(vocabulary, scope, &vocabulary.signature.predicates, fact)?;
+    let (predicate, terms) = target(vocabulary, scope, &vocabulary.declared.predicates, fact)?;
     Ok(Effect::Add(predicate, terms))
 }
 
@@ -54,7 +51,7 @@ fn add(vocabulary: &Vocabulary<'_>, scope: &Scope<'_>, fact: Call<'_>) -> Result
 fn del(vocabulary: &Vocabulary<'_>, scope: &Scope<'_>, fact: Call<'_>) -> Result<Effect, FormFault>
     ensures { ReadsEffectParts vocabulary.now scope.now (change.Del fact.entry) result }
 {
-    let (predicate, terms) = target(vocabulary, scope, &vocabulary.signature.predicates, fact)?;
+    let (predicate, terms) = target(vocabulary, scope, &vocabulary.declared.predicates, fact)?;
     Ok(Effect::Del(predicate, terms))
 }
 
@@ -68,7 +65,7 @@ fn set(
     ensures { ReadsEffectParts vocabulary.now scope.now (change.Set place.entry value.entry)
         result }
 {
-    let (function, args) = target(vocabulary, scope, &vocabulary.signature.functions, place)?;
+    let (function, args) = target(vocabulary, scope, &vocabulary.declared.functions, place)?;
     let value = term(vocabulary, scope, value)?;
     Ok(Effect::Assign(function, args, value))
 }
@@ -161,18 +158,16 @@ fn each(
     ensures { ReadsEffectParts vocabulary.now scope.now (change.Each binding.entry forms.entry)
         result }
 {
-    let list = binding.list;
-    check_variables(vocabulary.alloc, scope, list.variables, binding.bound)?;
-    let inner = with_variables(vocabulary.alloc, &*scope, list.variables)?;
-    let bound = bound(vocabulary, &inner, binding.bound)?;
-    let effects = effects(vocabulary, &inner, forms)?;
-    let vars = variables(
-        vocabulary.alloc,
-        vocabulary.names,
-        scope.len(),
-        list.variables,
-    )?;
-    Ok(Effect::Each(vars, bound, effects))
+    let found = bound_variables(vocabulary, &*scope, binding)?;
+    let BoundVariables { inner, vars, bound } = found;
+    match effects(vocabulary, &inner, forms) {
+        Ok(effects) => Ok(Effect::Each(vars, bound, effects)),
+        Err(fault) => {
+            drop(vars);
+            drop(bound);
+            Err(fault)
+        }
+    }
 }
 
 /// Effects.

@@ -1,19 +1,18 @@
 // What a formula's list breaks itself, where it has the shape that its first word asks for.
 ghost use Rattle.std.specs.Prelude.{◌≡◌, [], false, OnOk};
 ghost use Rattle.tl_sexpr.specs.Tree.{tree_of};
-ghost use Rattle.tl_formulas.specs.Formulas.{is_temporal, may_be_temporal, role_below, is_too_deep, atom_breaks};
+ghost use Rattle.tl_formulas.specs.Formulas.{is_temporal, may_be_temporal, role_below, is_too_deep};
 ghost use Rattle.tl_formulas.specs.Shapes.{word_of_parts, elements_of_parts, name_breaks_of, own_breaks_of, crowds};
 ghost use Rattle.tl_rules.specs.Parts.{is_deeper, is_any_deeper};
 ghost use Rattle.tl_rules.specs.Reads.{Checks, trees_in};
 
+use crate::atoms::atom_name;
 use crate::bindings::is_crowded;
-use crate::calls::Call;
 use crate::roles::FormulaRole;
 use crate::scope::Scope;
 use crate::shapes::{Binary, FormulaParts, Unary};
 use crate::signature::Signature;
-use crate::terms::called;
-use tl_rules::{FormFault, Rule, breaks};
+use tl_rules::{Call, FormFault, Rule, breaks};
 use tl_sexpr::Form;
 
 /// Whether more lists than this number lie within one another in a form.
@@ -94,25 +93,6 @@ fn is_too_deep(role: FormulaRole, forms: &[Form]) -> bool
     }
 }
 
-/// Checks an atom of this name with so many arguments.
-fn check_atom(signature: &Signature<'_>, text: &str, count: usize, at: u32) -> Result<(), FormFault>
-    ensures { Checks result (atom_breaks signature.now text.now count at) }
-{
-    match signature.predicates.place(text) {
-        Some(place) => {
-            if signature.predicates.has_arity(place, count) {
-                Ok(())
-            } else {
-                Err(breaks(Rule::Arity, at))
-            }
-        }
-        None => match called(&signature.definitions, text, count, at) {
-            Ok(_) => Ok(()),
-            Err(fault) => Err(fault),
-        },
-    }
-}
-
 /// Checks the name of an atom, and its number of arguments.
 #[tactic(auto, using(crate::proofs::Rulesets::composed, crate::proofs::FormulaParts::formula_parts))]
 fn check_name(
@@ -123,7 +103,10 @@ fn check_name(
     ensures { Checks result (name_breaks_of signature.now parts.entry call.entry) }
 {
     match parts {
-        FormulaParts::Atom(args) => check_atom(signature, call.word, args.len(), call.at),
+        FormulaParts::Atom(args) => match atom_name(signature, call.word, args.len(), call.at) {
+            Ok(_) => Ok(()),
+            Err(fault) => Err(fault),
+        },
         _ => Ok(()),
     }
 }

@@ -1,23 +1,22 @@
 // Formulas without formulas in them, and formulas made of others.
-ghost use Rattle.std.specs.Prelude.{◌≡◌, [], not};
+ghost use Rattle.std.specs.Prelude.{◌≡◌, not};
 ghost use Rattle.tl_sexpr.specs.Tree.{tree_of};
 ghost use Rattle.tl_syntax.specs.TreeOfFormula.{tree_of_formula, tree_of_formulas};
 ghost use Rattle.tl_syntax.specs.Trees.{no_formula, more_formulas};
-ghost use Rattle.tl_formulas.specs.Formulas.{is_constant, name_breaks};
+ghost use Rattle.tl_formulas.specs.Formulas.{is_constant};
 ghost use Rattle.tl_formulas.specs.MeaningOfFormulas.{constant_meant, formula_of_goal, joined};
 ghost use Rattle.tl_formulas.specs.Readers.{bound_of_goal, formula_pair, quantifier_tree, counted_tree};
-ghost use Rattle.tl_formulas.specs.Readers.{Makes, ReadsGoalFormula, ReadsComparison, ReadsAtom};
+ghost use Rattle.tl_formulas.specs.Readers.{Makes, ReadsGoalFormula, ReadsComparison};
 ghost use Rattle.tl_formulas.specs.Shapes.{unary_word, binary_word, many_word};
-ghost use Rattle.tl_rules.specs.Reads.{Reads, trees_in};
+ghost use Rattle.tl_rules.specs.Reads.{Reads};
 ghost use Rattle.tl_rules.specs.Rules.{breaks_if};
 ghost use Rattle.tl_rules.specs.declared.rule.Rule.TheVariants.{Shape};
 ghost use Rattle.tl_formulas.specs.declared.words.FormulaWord.TheVariants as word;
 
-use crate::calls::Call;
 use crate::goals::{GoalArgument, goal};
 use crate::scope::Scope;
 use crate::shapes::{Binary, Pair, Unary};
-use crate::terms::{term, terms};
+use crate::terms::term;
 use crate::vocabulary::Vocabulary;
 use std::alloc::Global;
 use tl_rules::{FormFault, Rule, breaks};
@@ -77,40 +76,17 @@ pub(crate) fn comparison(
     Ok(Formula::Compare(cmp, left, right))
 }
 
-/// An atom of a declared or a defined predicate.
-#[tactic(auto, using(crate::proofs::Rulesets::formulas))]
-pub(crate) fn atom(
-    vocabulary: &Vocabulary<'_>,
-    scope: &Scope<'_>,
-    call: Call<'_>,
-) -> Result<Formula, FormFault>
-    requires { name_breaks vocabulary.now.signature.now word.Name call.word.now
-        (trees_in call.rest.now) call.at ≡ [] }
-    ensures { ReadsAtom vocabulary.now scope.now call.entry.word.now
-        (trees_in call.entry.rest.now) result }
-{
-    let terms = terms(vocabulary, scope, call.rest)?;
-    if let Some(predicate) = vocabulary.signature.predicates.place(call.word) {
-        return Ok(Formula::Atom(predicate, terms));
-    }
-    let Some(definition) = vocabulary.signature.definitions.place(call.word) else {
-        unreachable!()
-    };
-    Ok(Formula::Defined(definition, terms))
-}
-
 /// A formula under a word that stands before one.
 #[tactic(auto, using(crate::proofs::Rulesets::formulas))]
-pub(crate) fn under_unary(alloc: Global, word: Unary, f: Formula) -> Result<Formula, FormFault>
-    ensures { Makes (joined (unary_word word) (more_formulas (tree_of_formula f) no_formula))
-        result }
+pub(crate) fn under_unary(word: Unary, f: Box<Formula>) -> Formula
+    ensures { tree_of_formula result
+        ≡ joined (unary_word word) (more_formulas (tree_of_formula f.value) no_formula) }
 {
-    let f = Box::new(alloc, f)?;
     match word {
-        Unary::Not => Ok(Formula::Not(f)),
-        Unary::Next => Ok(Formula::Next(f)),
-        Unary::Always => Ok(Formula::Always(f)),
-        Unary::Eventually => Ok(Formula::Eventually(f)),
+        Unary::Not => Formula::Not(f),
+        Unary::Next => Formula::Next(f),
+        Unary::Always => Formula::Always(f),
+        Unary::Eventually => Formula::Eventually(f),
     }
 }
 
@@ -125,22 +101,30 @@ fn either(alloc: Global, f: Formula, g: Formula) -> Result<Formula, FormFault>
     Ok(Formula::Or(parts))
 }
 
+/// The first formula until the second.
+#[tactic(auto, using(crate::proofs::Rulesets::formulas))]
+fn until(alloc: Global, f: Box<Formula>, g: Formula) -> Result<Formula, FormFault>
+    ensures { Makes (joined word.Until (formula_pair f.value g)) result }
+{
+    let Ok(g) = Box::new(alloc, g) else {
+        drop(f);
+        return Err(FormFault::NoMemory);
+    };
+    Ok(Formula::Until(f, g))
+}
+
 /// Two formulas under a word that stands before two; an implication is read as a disjunction.
 #[tactic(auto, using(crate::proofs::Rulesets::formulas))]
 pub(crate) fn under_binary(
     alloc: Global,
     word: Binary,
-    f: Formula,
+    f: Box<Formula>,
     g: Formula,
 ) -> Result<Formula, FormFault>
-    ensures { Makes (joined (binary_word word) (formula_pair f g)) result }
+    ensures { Makes (joined (binary_word word) (formula_pair f.value g)) result }
 {
-    let f = Box::new(alloc, f)?;
     match word {
-        Binary::Until => {
-            let g = Box::new(alloc, g)?;
-            Ok(Formula::Until(f, g))
-        }
+        Binary::Until => until(alloc, f, g),
         Binary::Implies => either(alloc, Formula::Not(f), g),
     }
 }
@@ -159,34 +143,26 @@ pub(crate) fn under_many(junction: Junction, parts: Formulas) -> Formula
 /// A formula under a quantifier: for all values of the variables in the bound, or for any.
 #[tactic(auto, using(crate::proofs::Rulesets::formulas))]
 pub(crate) fn under_quantifier(
-    alloc: Global,
     junction: Junction,
     vars: Vars,
     bound: Bound,
-    f: Formula,
-) -> Result<Formula, FormFault>
-    ensures { Makes (quantifier_tree junction vars bound (tree_of_formula f)) result }
+    f: Box<Formula>,
+) -> Formula
+    ensures { tree_of_formula result ≡ quantifier_tree junction vars bound (tree_of_formula f.value) }
 {
-    let f = Box::new(alloc, f)?;
     match junction {
-        Junction::All => Ok(Formula::ForAll(vars, bound, f)),
-        Junction::Any => Ok(Formula::Exists(vars, bound, f)),
+        Junction::All => Formula::ForAll(vars, bound, f),
+        Junction::Any => Formula::Exists(vars, bound, f),
     }
 }
 
 /// A formula over a number of steps: for all of them, or for any.
 #[tactic(auto, using(crate::proofs::Rulesets::formulas))]
-pub(crate) fn under_steps(
-    alloc: Global,
-    junction: Junction,
-    steps: u32,
-    f: Formula,
-) -> Result<Formula, FormFault>
-    ensures { Makes (counted_tree junction steps (tree_of_formula f)) result }
+pub(crate) fn under_steps(junction: Junction, steps: u32, f: Box<Formula>) -> Formula
+    ensures { tree_of_formula result ≡ counted_tree junction steps (tree_of_formula f.value) }
 {
-    let f = Box::new(alloc, f)?;
     match junction {
-        Junction::All => Ok(Formula::During(steps, f)),
-        Junction::Any => Ok(Formula::Within(steps, f)),
+        Junction::All => Formula::During(steps, f),
+        Junction::Any => Formula::Within(steps, f),
     }
 }

@@ -3,14 +3,14 @@
 
 ghost use Rattle.std.specs.Prelude.{◌≡◌, [], false};
 ghost use Rattle.tl_sexpr.specs.Tree.{no_form, more_forms, tree_of};
-ghost use Rattle.tl_formulas.specs.Readers.{ReadsFormula, ReadsFormulaCall, ReadsFormulaParts, ReadsFormulas, ReadsJoined};
+ghost use Rattle.tl_formulas.specs.Readers.{ReadsFormula, ReadsBoxed, ReadsFormulaCall, ReadsFormulaParts, ReadsFormulas, ReadsJoined};
 ghost use Rattle.tl_formulas.specs.Shapes.{unary_word, binary_word, many_word, pair_trees, elements_of_parts, name_breaks_of, crowds};
 ghost use Rattle.tl_rules.specs.Reads.{trees_in};
 
-use crate::calls::{Call, call_in};
+use crate::atoms::atom;
 use crate::formula_checks::{check_formula_list, role_below};
 use crate::formula_leaves::{
-    atom, comparison, constant, goal_formula, under_binary, under_many, under_unary,
+    comparison, constant, goal_formula, under_binary, under_many, under_unary,
 };
 use crate::formula_parts::formula_parts;
 use crate::quantifiers::{over_steps, quantifier};
@@ -19,7 +19,7 @@ use crate::scope::Scope;
 use crate::shapes::{Binary, FormulaParts, Pair, Unary};
 use crate::vocabulary::Vocabulary;
 use crate::words::formula_word;
-use tl_rules::{FormFault, Rule, breaks};
+use tl_rules::{Call, FormFault, Rule, breaks, call_in};
 use tl_sexpr::Form;
 use tl_syntax::{Formula, Formulas, Junction};
 
@@ -56,7 +56,7 @@ fn formula_call(
     let Some(parts) = formula_parts(formula_word(call.word), call.rest) else {
         return Err(breaks(Rule::Shape, call.at));
     };
-    check_formula_list(vocabulary.signature, scope, role, parts, call)?;
+    check_formula_list(vocabulary.declared, scope, role, parts, call)?;
     let f = shaped_formula(vocabulary, scope, role_below(role), parts, call)?;
     Ok(f)
 }
@@ -71,7 +71,7 @@ fn shaped_formula(
     call: Call<'_>,
 ) -> Result<Formula, FormFault>
     requires elements { trees_in call.rest.now ≡ elements_of_parts parts }
-    requires name { name_breaks_of vocabulary.now.signature.now parts call ≡ [] }
+    requires name { name_breaks_of vocabulary.now.declared.now parts call ≡ [] }
     requires room { crowds scope.now parts ≡ false }
     ensures { ReadsFormulaParts vocabulary.now role scope.now call.entry.word.now parts.entry
         result }
@@ -88,6 +88,20 @@ fn shaped_formula(
     }
 }
 
+/// A formula in a box.
+#[cycle(formula)]
+pub(crate) fn boxed(
+    vocabulary: &Vocabulary<'_>,
+    scope: &Scope<'_>,
+    role: FormulaRole,
+    form: &Form,
+) -> Result<Box<Formula>, FormFault>
+    ensures { ReadsBoxed vocabulary.now role scope.now (tree_of form.now) result }
+{
+    let f = formula(vocabulary, scope, role, form)?;
+    Ok(Box::new(vocabulary.alloc, f)?)
+}
+
 /// A word before one formula.
 #[cycle(formula)]
 fn unary(
@@ -100,9 +114,8 @@ fn unary(
     ensures { ReadsJoined vocabulary.now role scope.now (unary_word word)
         (more_forms (tree_of form.now) no_form) result }
 {
-    let f = formula(vocabulary, scope, role, form)?;
-    let made = under_unary(vocabulary.alloc, word, f)?;
-    Ok(made)
+    let f = boxed(vocabulary, scope, role, form)?;
+    Ok(under_unary(word, f))
 }
 
 /// A word before two formulas.
@@ -117,10 +130,14 @@ fn binary(
     ensures { ReadsJoined vocabulary.now role scope.now (binary_word word) (pair_trees pair.entry)
         result }
 {
-    let f = formula(vocabulary, scope, role, pair.first)?;
-    let g = formula(vocabulary, scope, role, pair.second)?;
-    let made = under_binary(vocabulary.alloc, word, f, g)?;
-    Ok(made)
+    let f = boxed(vocabulary, scope, role, pair.first)?;
+    match formula(vocabulary, scope, role, pair.second) {
+        Ok(g) => under_binary(vocabulary.alloc, word, f, g),
+        Err(fault) => {
+            drop(f);
+            Err(fault)
+        }
+    }
 }
 
 /// All of the formulas, or any of them.

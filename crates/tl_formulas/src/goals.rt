@@ -3,16 +3,16 @@ ghost use Rattle.std.specs.Prelude.{◌≡◌, false, MatchOption};
 ghost use Rattle.tl_sexpr.specs.Tree.{tree_of};
 ghost use Rattle.tl_formulas.specs.Goals.{is_flat, miscounted_breaks};
 ghost use Rattle.tl_formulas.specs.Readers.{bound_of_goal, IsFlat, ReadsGoal, ReadsGoalPlace, ReadsGoalNot, ReadsOtherGoal};
-ghost use Rattle.tl_rules.specs.Parts.{is_list};
+ghost use Rattle.tl_formulas.specs.Shapes.{leaf_tree};
 ghost use Rattle.tl_rules.specs.Reads.{Checks, trees_in};
 
-use crate::arguments::{argument, arguments};
-use crate::calls::call_in;
+use crate::arguments::{argument, arguments, leaf_in};
 use crate::scope::Scope;
+use crate::shapes::Leaf;
 use crate::signature::Table;
 use crate::vocabulary::Vocabulary;
-use tl_rules::parts::{any_list, is_list, is_word};
-use tl_rules::{FormFault, Rule, breaks};
+use tl_rules::parts::{any_list, is_word};
+use tl_rules::{FormFault, Rule, breaks, call_in};
 use tl_sexpr::Form;
 use tl_syntax::{Arg, Args, Bound};
 
@@ -92,14 +92,13 @@ fn goal_place(
     scope: &Scope<'_>,
     place: &Form,
     parts: Flat<'_>,
-    value: &Form,
+    value: Leaf<'_>,
 ) -> Result<GoalArgument, FormFault>
-    requires parts { IsFlat vocabulary.now.signature.now.functions (tree_of place.now) parts }
-    requires value { is_list (tree_of value.now) ≡ false }
-    ensures { ReadsGoalPlace vocabulary.now scope.now (tree_of place.now) (tree_of value.now)
+    requires parts { IsFlat vocabulary.now.declared.now.functions (tree_of place.now) parts }
+    ensures { ReadsGoalPlace vocabulary.now scope.now (tree_of place.now) (leaf_tree value.entry)
         result }
 {
-    check_count(&vocabulary.signature.functions, place)?;
+    check_count(&vocabulary.declared.functions, place)?;
     let args = arguments(vocabulary, scope, parts.rest)?;
     let value = argument(vocabulary, scope, value)?;
     Ok(GoalArgument::Place(parts.place, args, value))
@@ -113,10 +112,10 @@ fn goal_not(
     fact: &Form,
     parts: Flat<'_>,
 ) -> Result<GoalArgument, FormFault>
-    requires { IsFlat vocabulary.now.signature.now.predicates (tree_of fact.now) parts }
+    requires { IsFlat vocabulary.now.declared.now.predicates (tree_of fact.now) parts }
     ensures { ReadsGoalNot vocabulary.now scope.now (tree_of fact.now) result }
 {
-    check_count(&vocabulary.signature.predicates, fact)?;
+    check_count(&vocabulary.declared.predicates, fact)?;
     let args = arguments(vocabulary, scope, parts.rest)?;
     Ok(GoalArgument::Not(parts.place, args))
 }
@@ -133,10 +132,13 @@ fn other_goal(
 {
     match forms {
         [word, place, value] => {
-            if !is_word("=", word) || is_list(value) {
+            if !is_word("=", word) {
                 return Err(breaks(Rule::GoalArg, at));
             }
-            match flat_parts(&vocabulary.signature.functions, place) {
+            let Some(value) = leaf_in(value) else {
+                return Err(breaks(Rule::GoalArg, at));
+            };
+            match flat_parts(&vocabulary.declared.functions, place) {
                 Some(parts) => goal_place(vocabulary, scope, place, parts, value),
                 None => Err(breaks(Rule::GoalArg, at)),
             }
@@ -145,7 +147,7 @@ fn other_goal(
             if !is_word("not", word) {
                 return Err(breaks(Rule::GoalArg, at));
             }
-            match flat_parts(&vocabulary.signature.predicates, fact) {
+            match flat_parts(&vocabulary.declared.predicates, fact) {
                 Some(parts) => goal_not(vocabulary, scope, fact, parts),
                 None => Err(breaks(Rule::GoalArg, at)),
             }
@@ -163,7 +165,7 @@ pub(crate) fn goal(
 ) -> Result<GoalArgument, FormFault>
     ensures { ReadsGoal vocabulary.now scope.now (tree_of form.now) result }
 {
-    let predicates = &vocabulary.signature.predicates;
+    let predicates = &vocabulary.declared.predicates;
     check_count(predicates, form)?;
     if let Some(fact) = flat_parts(predicates, form) {
         let args = arguments(vocabulary, scope, fact.rest)?;

@@ -3,17 +3,17 @@
 //! The definitions stand in `specs/`: for each kind of form the rules that it breaks, and what it stands for.
 //!
 //! - `vocabulary`, `signature`, `scope`: what forms are read by, what is declared so far, and the variables in scope.
-//! - `words`: the words of formulas and effects; `roles`: where a formula stands; `calls`: lists that begin with a word.
-//! - `terms`, `arguments`, `goals`, `bounds`, `variables`: the parts of formulas.
+//! - `words`: the words of formulas and effects; `roles`: where a formula stands.
+//! - `terms`, `arguments`, `atoms`, `goals`, `bounds`, `variables`: the parts of formulas.
 //! - `shapes`: the parts of formulas' and effects' lists; `bindings`: variables and their bound.
 //! - `formulas`, `formula_parts`, `formula_checks`, `formula_leaves`, `quantifiers`, `steps`: formulas.
 //! - `effects`, `effect_parts`: effects.
 #![tactic(auto)]
 
 mod arguments;
+mod atoms;
 mod bindings;
 pub mod bounds;
-mod calls;
 mod effect_parts;
 pub mod effects;
 mod formula_checks;

@@ -2,43 +2,21 @@
 #![tactic(auto, using(crate::proofs::Rulesets::formulas, crate::proofs::FormulaParts::formula_parts))]
 
 ghost use Rattle.std.specs.Prelude.{◌≡◌, [], false};
-ghost use Rattle.tl_formulas.specs.Readers.{ReadsQuantified, ReadsFormulaParts};
+ghost use Rattle.tl_formulas.specs.Readers.{ReadsFormulaParts};
 ghost use Rattle.tl_formulas.specs.Shapes.{variables_tree};
 ghost use Rattle.tl_formulas.specs.Variables.{is_crowded};
 ghost use Rattle.tl_formulas.specs.declared.shapes.FormulaParts.TheVariants as parts;
 
-use crate::bounds::bound;
+use crate::bindings::{BoundVariables, bound_variables};
 use crate::formula_leaves::{under_quantifier, under_steps};
-use crate::formulas::formula;
+use crate::formulas::boxed;
 use crate::roles::FormulaRole;
 use crate::scope::Scope;
 use crate::shapes::{Counted, Quantified};
 use crate::steps::steps;
-use crate::variables::{check_variables, variables, with_variables};
 use crate::vocabulary::Vocabulary;
 use tl_rules::FormFault;
-use tl_syntax::{Bound, Formula, Vars};
-
-/// The variables, the bound and the formula of a quantifier.
-#[cycle(formula)]
-fn quantified_parts(
-    vocabulary: &Vocabulary<'_>,
-    scope: &Scope<'_>,
-    role: FormulaRole,
-    quantified: Quantified<'_>,
-) -> Result<(Vars, Bound, Formula), FormFault>
-    requires room { is_crowded scope.now (variables_tree quantified.binding.list) ≡ false }
-    ensures { ReadsQuantified vocabulary.now role scope.now quantified.entry result }
-{
-    let forms = quantified.binding.list.variables;
-    let bound_form = quantified.binding.bound;
-    check_variables(vocabulary.alloc, scope, forms, bound_form)?;
-    let inner = with_variables(vocabulary.alloc, &*scope, forms)?;
-    let bound = bound(vocabulary, &inner, bound_form)?;
-    let f = formula(vocabulary, &inner, role, quantified.form)?;
-    let vars = variables(vocabulary.alloc, vocabulary.names, scope.len(), forms)?;
-    Ok((vars, bound, f))
-}
+use tl_syntax::Formula;
 
 /// A formula `(forall (V*) B F)` or `(exists (V*) B F)`.
 #[cycle(formula)]
@@ -52,9 +30,16 @@ pub(crate) fn quantifier(
     ensures { ReadsFormulaParts vocabulary.now role scope.now []
         (parts.Quantified quantified.entry) result }
 {
-    let (vars, bound, f) = quantified_parts(vocabulary, scope, role, quantified)?;
-    let made = under_quantifier(vocabulary.alloc, quantified.junction, vars, bound, f)?;
-    Ok(made)
+    let found = bound_variables(vocabulary, &*scope, quantified.binding)?;
+    let BoundVariables { inner, vars, bound } = found;
+    match boxed(vocabulary, &inner, role, quantified.form) {
+        Ok(f) => Ok(under_quantifier(quantified.junction, vars, bound, f)),
+        Err(fault) => {
+            drop(vars);
+            drop(bound);
+            Err(fault)
+        }
+    }
 }
 
 /// A formula `(for K F)` or `(within K F)`.
@@ -69,7 +54,6 @@ pub(crate) fn over_steps(
         result }
 {
     let number = steps(counted.steps, counted.steps_at)?;
-    let f = formula(vocabulary, scope, role, counted.form)?;
-    let made = under_steps(vocabulary.alloc, counted.junction, number, f)?;
-    Ok(made)
+    let f = boxed(vocabulary, scope, role, counted.form)?;
+    Ok(under_steps(counted.junction, number, f))
 }

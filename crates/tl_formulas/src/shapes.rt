@@ -1,8 +1,17 @@
 // The parts of formulas' and effects' lists.
 
-use crate::calls::Call;
+use tl_rules::Call;
 use tl_sexpr::Form;
 use tl_syntax::{Cmp, Junction};
+
+/// A form that is no list.
+#[derive(Clone, Copy)]
+pub(crate) enum Leaf<'a> {
+    /// A symbol: its text and its offset.
+    Symbol(&'a str, u32),
+    /// An integer and its offset.
+    Integer(i64, u32),
+}
 
 /// A word before one formula.
 #[derive(Clone, Copy)]

@@ -9,13 +9,12 @@ ghost use Rattle.tl_formulas.specs.Words.{operation_of};
 ghost use Rattle.tl_rules.specs.Reads.{Reads, trees_in};
 
 use crate::arguments::symbol;
-use crate::calls::{Call, call_in};
 use crate::scope::Scope;
 use crate::signature::Table;
 use crate::vocabulary::Vocabulary;
 use crate::words::operation;
 use tl_rules::parts::two;
-use tl_rules::{FormFault, Rule, breaks};
+use tl_rules::{Call, FormFault, Rule, breaks, call_in};
 use tl_sexpr::Form;
 use tl_syntax::{Arg, Op, Term, Terms, Value};
 
@@ -90,7 +89,7 @@ fn term_call(
 fn fluent(vocabulary: &Vocabulary<'_>, scope: &Scope<'_>, call: Call<'_>) -> Result<Term, FormFault>
     ensures { ReadsTermCall vocabulary.now scope.now None call.entry result }
 {
-    let functions = &vocabulary.signature.functions;
+    let functions = &vocabulary.declared.functions;
     let function = called(functions, call.word, call.rest.len(), call.at)?;
     let args = terms(vocabulary, scope, call.rest)?;
     Ok(Term::Place(function, args))

@@ -1,16 +1,6 @@
 // What forms are read by.
 
 use crate::signature::Signature;
-use std::alloc::Global;
-use tl_syntax::Names;
 
-/// What forms are read by: the numbers of the names, and what is declared so far.
-#[derive(Clone, Copy)]
-pub struct Vocabulary<'a> {
-    /// Where memory comes from.
-    pub alloc: Global,
-    /// The numbers of the names.
-    pub names: &'a Names,
-    /// What is declared so far.
-    pub signature: &'a Signature<'a>,
-}
+/// What forms are read by, with what is declared so far.
+pub type Vocabulary<'a> = tl_rules::Vocabulary<'a, Signature<'a>>;

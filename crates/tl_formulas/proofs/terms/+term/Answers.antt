@@ -17,13 +17,13 @@ unfolding term_breaks term_meant
 terms-loop-form-preserved t c =
     let next = trees-next c.args.forms.now c.loop-form.form-index c.form-item.result c.loop-form-test.true c.form-item.is in
     let later = trees_in (drop (c.loop-form.form-index + 1) c.args.forms.now) in
-    let read : (term_breaks c.args.vocabulary.now.signature.now.functions c.args.scope.now (tree_of c.form-item.result) ≡ []) × (tree_of_term c.in_ok-one.one ≡ term_meant c.args.vocabulary.now.names.now c.args.vocabulary.now.signature.now.functions c.args.scope.now (tree_of c.form-item.result)) = c.in_ok-one.ensures in
+    let read : (term_breaks c.args.vocabulary.now.declared.now.functions c.args.scope.now (tree_of c.form-item.result) ≡ []) × (tree_of_term c.in_ok-one.one ≡ term_meant c.args.vocabulary.now.names.now c.args.vocabulary.now.declared.now.functions c.args.scope.now (tree_of c.form-item.result)) = c.in_ok-one.ensures in
     record {
-      breaks = c.loop-form.invariant.breaks ∙ ap (terms_breaks c.args.vocabulary.now.signature.now.functions c.args.scope.now) next ∙ ap (λ bs. bs ++ terms_breaks c.args.vocabulary.now.signature.now.functions c.args.scope.now later) read.0;
+      breaks = c.loop-form.invariant.breaks ∙ ap (terms_breaks c.args.vocabulary.now.declared.now.functions c.args.scope.now) next ∙ ap (λ bs. bs ++ terms_breaks c.args.vocabulary.now.declared.now.functions c.args.scope.now later) read.0;
       meant = c.loop-form.invariant.meant
-          ∙ ap (λ fs. after_terms (map tree_of_term c.loop-form.terms.items.items) (terms_meant c.args.vocabulary.now.names.now c.args.vocabulary.now.signature.now.functions c.args.scope.now fs)) next
-          ∙ ap (λ u. after_terms (map tree_of_term c.loop-form.terms.items.items) (more_terms u (terms_meant c.args.vocabulary.now.names.now c.args.vocabulary.now.signature.now.functions c.args.scope.now later))) (sym read.1)
-          ∙ sym (terms-more c.loop-form.terms.items.items c.push.new.self.items.items c.in_ok-one.one (terms_meant c.args.vocabulary.now.names.now c.args.vocabulary.now.signature.now.functions c.args.scope.now later) c.in_ok-push.ensures.added);
+          ∙ ap (λ fs. after_terms (map tree_of_term c.loop-form.terms.items.items) (terms_meant c.args.vocabulary.now.names.now c.args.vocabulary.now.declared.now.functions c.args.scope.now fs)) next
+          ∙ ap (λ u. after_terms (map tree_of_term c.loop-form.terms.items.items) (more_terms u (terms_meant c.args.vocabulary.now.names.now c.args.vocabulary.now.declared.now.functions c.args.scope.now later))) (sym read.1)
+          ∙ sym (terms-more c.loop-form.terms.items.items c.push.new.self.items.items c.in_ok-one.one (terms_meant c.args.vocabulary.now.names.now c.args.vocabulary.now.declared.now.functions c.args.scope.now later) c.in_ok-push.ensures.added);
       fewer = omega (arith, ap sizes next, c.loop-form.invariant.fewer);
     }
 
@@ -31,14 +31,14 @@ pub terms-returns : goal.terms-returns
 unfolding term_breaks term_meant
 terms-returns t c =
     let end = trees-end c.args.forms.now c.loop-form.form-index c.loop-form-test.false in (
-      c.loop-form.invariant.breaks ∙ ap (terms_breaks c.args.vocabulary.now.signature.now.functions c.args.scope.now) end,
-      terms-whole c.loop-form.terms ∙ sym (c.loop-form.invariant.meant ∙ ap (λ fs. after_terms (map tree_of_term c.loop-form.terms.items.items) (terms_meant c.args.vocabulary.now.names.now c.args.vocabulary.now.signature.now.functions c.args.scope.now fs)) end),
+      c.loop-form.invariant.breaks ∙ ap (terms_breaks c.args.vocabulary.now.declared.now.functions c.args.scope.now) end,
+      terms-whole c.loop-form.terms ∙ sym (c.loop-form.invariant.meant ∙ ap (λ fs. after_terms (map tree_of_term c.loop-form.terms.items.items) (terms_meant c.args.vocabulary.now.names.now c.args.vocabulary.now.declared.now.functions c.args.scope.now fs)) end),
     )
 
 pub terms-returns-in_err-one : goal.terms-returns-in_err-one
 unfolding term_breaks term_meant
 terms-returns-in_err-one t c =
-    let functions = c.args.vocabulary.now.signature.now.functions in
+    let functions = c.args.vocabulary.now.declared.now.functions in
     let scope = c.args.scope.now in
     let next = trees-next c.args.forms.now c.loop-form.form-index c.form-item.result c.loop-form-test.true c.form-item.is in
     let later = trees_in (drop (c.loop-form.form-index + 1) c.args.forms.now) in
