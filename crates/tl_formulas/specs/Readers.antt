@@ -224,9 +224,11 @@ ReadsBinding v scope b result =
     let vs = variables_tree b.list in
     let f = tree_of b.bound.now in
     Reads {Y = Scope × List Var × Bound} (λ (x : BoundVariables). (x.inner, x.vars, x.bound)) result
-    (binding_breaks v.declared.now scope vs f)
-    (with_variables scope vs, variables_meant v.names.now scope vs,
-    bound_meant v.names.now v.declared.now (with_variables scope vs) f)
+    (binding_breaks v.declared.now scope vs f) (
+      with_variables scope vs,
+      variables_meant v.names.now scope vs,
+      bound_meant v.names.now v.declared.now (with_variables scope vs) f,
+    )
 
 -- what is made of formulas is this formula; only memory may fail
 abbrev pub Makes : FormulaTree → Result Formula FormFault → Type 0

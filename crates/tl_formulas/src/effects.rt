@@ -142,8 +142,13 @@ fn when(
         result }
 {
     let condition = formula(vocabulary, scope, FormulaRole::State, condition)?;
-    let effects = effects(vocabulary, scope, forms)?;
-    Ok(Effect::When(condition, effects))
+    match effects(vocabulary, scope, forms) {
+        Ok(effects) => Ok(Effect::When(condition, effects)),
+        Err(fault) => {
+            drop(condition);
+            Err(fault)
+        }
+    }
 }
 
 /// An effect `(each (V*) B E*)`, by its variables, their bound and its effects.

@@ -1,7 +1,9 @@
 // Formulas without formulas in them, and formulas made of others.
-ghost use Rattle.std.specs.Prelude.{◌≡◌, not};
+ghost use Rattle.std.specs.Prelude.{◌≡◌, [], ◌∷◌, Box, not};
+ghost use Rattle.std.specs.declared.alloc.Global.{Global};
 ghost use Rattle.tl_sexpr.specs.Tree.{tree_of};
-ghost use Rattle.tl_syntax.specs.TreeOfFormula.{tree_of_formula, tree_of_formulas};
+ghost use Rattle.tl_syntax.specs.declared.formula.Formula.{Formula};
+ghost use Rattle.tl_syntax.specs.TreeOfFormula.{formulas_in, tree_of_formula, tree_of_formulas};
 ghost use Rattle.tl_syntax.specs.Trees.{no_formula, more_formulas};
 ghost use Rattle.tl_formulas.specs.Formulas.{is_constant};
 ghost use Rattle.tl_formulas.specs.MeaningOfFormulas.{constant_meant, formula_of_goal, joined};
@@ -90,13 +92,31 @@ pub(crate) fn under_unary(word: Unary, f: Box<Formula>) -> Formula
     }
 }
 
+/// A formula in a box.
+pub(crate) fn in_box(alloc: Global, f: Formula) -> Result<Box<Formula>, FormFault>
+    ensures { Reads (λ (x : Box Formula Global). x.value) result [] f }
+{
+    Ok(Box::new(alloc, f)?)
+}
+
+/// A list of one formula.
+fn list_of_one(alloc: Global, f: Formula) -> Result<Formulas, FormFault>
+    ensures { Reads formulas_in result [] (f ∷ []) }
+{
+    let mut parts = Formulas::new(alloc);
+    parts.push(f)?;
+    Ok(parts)
+}
+
 /// The disjunction of two formulas.
 #[tactic(auto, using(crate::proofs::Rulesets::formulas))]
 fn either(alloc: Global, f: Formula, g: Formula) -> Result<Formula, FormFault>
     ensures { Makes (joined word.Or (formula_pair f g)) result }
 {
-    let mut parts = Formulas::new(alloc);
-    parts.push(f)?;
+    let Ok(mut parts) = list_of_one(alloc, f) else {
+        drop(g);
+        return Err(FormFault::NoMemory);
+    };
     parts.push(g)?;
     Ok(Formula::Or(parts))
 }
@@ -106,11 +126,13 @@ fn either(alloc: Global, f: Formula, g: Formula) -> Result<Formula, FormFault>
 fn until(alloc: Global, f: Box<Formula>, g: Formula) -> Result<Formula, FormFault>
     ensures { Makes (joined word.Until (formula_pair f.value g)) result }
 {
-    let Ok(g) = Box::new(alloc, g) else {
-        drop(f);
-        return Err(FormFault::NoMemory);
-    };
-    Ok(Formula::Until(f, g))
+    match in_box(alloc, g) {
+        Ok(g) => Ok(Formula::Until(f, g)),
+        Err(fault) => {
+            drop(f);
+            Err(fault)
+        }
+    }
 }
 
 /// Two formulas under a word that stands before two; an implication is read as a disjunction.

@@ -10,7 +10,7 @@ ghost use Rattle.tl_rules.specs.Reads.{trees_in};
 use crate::atoms::atom;
 use crate::formula_checks::{check_formula_list, role_below};
 use crate::formula_leaves::{
-    comparison, constant, goal_formula, under_binary, under_many, under_unary,
+    comparison, constant, goal_formula, in_box, under_binary, under_many, under_unary,
 };
 use crate::formula_parts::formula_parts;
 use crate::quantifiers::{over_steps, quantifier};
@@ -99,7 +99,8 @@ pub(crate) fn boxed(
     ensures { ReadsBoxed vocabulary.now role scope.now (tree_of form.now) result }
 {
     let f = formula(vocabulary, scope, role, form)?;
-    Ok(Box::new(vocabulary.alloc, f)?)
+    let boxed = in_box(vocabulary.alloc, f)?;
+    Ok(boxed)
 }
 
 /// A word before one formula.
