@@ -12,7 +12,7 @@ use Rattle.tl_rules.specs.Rules.{Break, first_break, IsLeastBreak}
 use Rattle.tl_domain.specs.Words.{ItemWord, item_word}
 use Rattle.tl_rules.specs.Parts.{offset_of, is_within, natural, rest_of}
 use Rattle.tl_formulas.specs.Signatures.{Scope, slot_of, is_taken}
-use Rattle.tl_problem.specs.Calls.{begins_with}
+use Rattle.tl_rules.specs.Parts.{begins_with}
 use Rattle.tl_domain.specs.Operators.{has_head_shape, has_more, parameters_breaks, head_name_breaks, head_parts_breaks, head_list_breaks, head_breaks, parameters_of, leading, after_leading, bounds_clause, pre_clause, effects_clause, occurs_in_bounds, pre_breaks, bounds_clause_breaks, pre_clause_breaks, effects_clause_breaks, clauses_breaks, operator_breaks}
 use Rattle.tl_domain.specs.Declarations.{Declarations, nothing_declared}
 use Rattle.tl_domain.specs.Items.{has_item_shape, is_second_control, is_full, arity_breaks, declaration_breaks, levels_breaks, with_head, item_list_breaks, item_parts_breaks, item_breaks, declared_after, items_breaks}

@@ -33,7 +33,7 @@ use Rattle.tl_formulas.proofs.KeepsFormulas.{FormulaKeeps, IsPlace, constant-kee
 use Rattle.tl_formulas.proofs.KeepsState.{formula-state}
 use Rattle.tl_formulas.proofs.KeepsEffects.{EffectsKeep, nothing-keeps, effects-keep}
 use Rattle.tl_domain.specs.DomainTrees.{OperatorTree}
-use Rattle.tl_problem.specs.Calls.{begins_with}
+use Rattle.tl_rules.specs.Parts.{begins_with}
 use Rattle.tl_domain.specs.Operators.{head_breaks, parameters_of, name_in_head, leading, after_leading, bounds_clause, pre_clause, effects_clause, occurs_in_bounds, pre_breaks, bounds_clause_breaks, pre_clause_breaks, effects_clause_breaks, clauses_breaks, operator_breaks}
 use Rattle.tl_domain.specs.MeaningOfItems.{bounds_clause_meant, pre_clause_meant, effects_clause_meant, operator_meant}
 use Rattle.tl_domain.proofs.KeepsHeads.{head-keeps, parameters-keep, head-place, in-scope, parameters-occur}

@@ -11,7 +11,7 @@ use Rattle.tl_domain.specs.Words.{ItemWord, item_word}
 use Rattle.tl_rules.specs.Parts.{count, is_list, is_integer, is_name, natural, is_within, offset_of, rest_of}
 use Rattle.tl_formulas.specs.Signatures.{is_taken}
 use Rattle.tl_formulas.specs.Formulas.{formula_breaks}
-use Rattle.tl_problem.specs.Calls.{CallTree, call_in}
+use Rattle.tl_rules.specs.Calls.{CallTree, call_in}
 use Rattle.tl_domain.specs.Operators.{head_breaks, head_name_breaks, parameters_of, name_in_head, are_clauses, operator_breaks}
 
 -- the elements are a name and an integer, as `predicate` and `function` ask for
@@ -68,6 +68,12 @@ arity_breaks _ = []
 abbrev pub declaration_breaks : Signature → FormTrees → List Break
 declaration_breaks g (more_forms name (more_forms arity no_form)) = head_name_breaks (is_taken g) name ++ arity_breaks arity
 declaration_breaks g _ = []
+
+-- what the elements of a declaration break, with what its list breaks at an offset, before which there are so many of its kind
+abbrev pub new_declaration_breaks : Signature → ℕ → FormTrees → ℕ → List Break
+new_declaration_breaks g before rest at =
+    (breaks_if (not (has_declaration_shape rest)) Shape at ++ breaks_if (not (nat_lt before 256)) Limit at)
+    ++ declaration_breaks g rest
 
 -- what a number of levels breaks, which is added to those before
 abbrev pub levels_breaks : ℕ → FormTree → List Break

@@ -12,7 +12,7 @@ use Rattle.tl_rules.specs.Parts.{rest_of, elements_of}
 use Rattle.tl_formulas.specs.Signatures.{Scope}
 use Rattle.tl_rules.specs.Symbols.{number_in}
 use Rattle.tl_domain.specs.Operators.{ClauseTrees, clause_trees, parameters_of, name_in_head}
-use Rattle.tl_problem.specs.Calls.{CallTree, call_in}
+use Rattle.tl_rules.specs.Calls.{CallTree, call_in}
 use Rattle.tl_domain.specs.Items.{declaration_of, natural_of, with_head, declared_after}
 use Rattle.tl_domain.specs.Declarations.{Declarations, nothing_declared}
 use Rattle.tl_formulas.specs.MeaningOfBounds.{bounds_meant}

@@ -10,7 +10,7 @@ use Rattle.tl_rules.specs.declared.rule.Rule.TheVariants.{Shape, Twice, NotInBou
 use Rattle.tl_formulas.specs.declared.signature.Signature.{Signature}
 use Rattle.tl_rules.specs.Rules.{Break, breaks_if}
 use Rattle.tl_rules.specs.Parts.{offset_of, count, is_name, are_variables, texts_of, elements_of, rest_of, occurs_in}
-use Rattle.tl_problem.specs.Calls.{begins_with}
+use Rattle.tl_rules.specs.Parts.{begins_with}
 use Rattle.tl_formulas.specs.Signatures.{Scope, slot_of}
 use Rattle.tl_formulas.specs.Bounds.{bounds_breaks}
 use Rattle.tl_formulas.specs.Formulas.{formula_breaks}

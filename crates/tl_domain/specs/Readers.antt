@@ -23,14 +23,14 @@ use Rattle.tl_formulas.specs.declared.signature.Signature.{Signature}
 use Rattle.tl_formulas.specs.Formulas.{formula_breaks}
 use Rattle.tl_formulas.specs.MeaningOfFormulas.{first_formula, formulas_meant}
 use Rattle.tl_formulas.specs.Signatures.{Scope, is_taken}
-use Rattle.tl_problem.specs.Calls.{CallTree}
+use Rattle.tl_rules.specs.Calls.{CallTree}
 use Rattle.tl_domain.specs.declared.clauses.Clauses.{Clauses}
 use Rattle.tl_domain.specs.declared.draft.Draft.{Draft}
 use Rattle.tl_domain.specs.declared.heads.Head.{Head}
 use Rattle.tl_domain.specs.declared.heads.Within.{Within}
 use Rattle.tl_domain.specs.declared.heads.Within.TheVariants as within
 use Rattle.tl_domain.specs.declared.item_shapes.Declaration.{Declaration}
-use Rattle.tl_formulas.specs.declared.vocabulary.Vocabulary.{Vocabulary}
+use Rattle.tl_rules.specs.declared.vocabulary.Vocabulary.{Vocabulary}
 use Rattle.tl_domain.specs.Declarations.{Declarations}
 use Rattle.tl_domain.specs.DomainTrees.{DomainTree, definition_tree, domain_tree, operator_tree}
 use Rattle.tl_domain.specs.Items.{arity_breaks, natural_of, declared_with, declared_after, item_breaks, items_breaks, item_list_breaks}
@@ -87,43 +87,43 @@ ReadsArity result g x =
     (natural_of (integer_tree x.arity))
 
 -- a definition is read, of a head, so many levels and a body
-abbrev pub ReadsDefinition : Result Definition FormFault → Vocabulary → Head → ℕ → FormTree → Type 0
+abbrev pub ReadsDefinition : Result Definition FormFault → Vocabulary Signature → Head → ℕ → FormTree → Type 0
 ReadsDefinition result v h levels body =
     Reads definition_tree result
-    (formula_breaks role.Body v.signature.now (head_scope h) body)
-    (definition_named v.names.now v.signature.now levels h.name.text.now (head_scope h) body)
+    (formula_breaks role.Body v.declared.now (head_scope h) body)
+    (definition_named v.names.now v.declared.now levels h.name.text.now (head_scope h) body)
 
 -- the bounds, the precondition and the effects of an operator are read, by their clauses
-abbrev pub ReadsBoundsClause : Result (List Bound) FormFault → Vocabulary → Scope → Option FormTree → Type 0
+abbrev pub ReadsBoundsClause : Result (List Bound) FormFault → Vocabulary Signature → Scope → Option FormTree → Type 0
 ReadsBoundsClause result v scope clause =
     Reads (λ (xs : List Bound). xs) result
-    (bounds_clause_breaks v.signature.now scope clause)
-    (bounds_clause_meant v.names.now v.signature.now scope clause)
+    (bounds_clause_breaks v.declared.now scope clause)
+    (bounds_clause_meant v.names.now v.declared.now scope clause)
 
-abbrev pub ReadsPrecondition : Result Formula FormFault → Vocabulary → Scope → FormTrees → ℕ → Type 0
+abbrev pub ReadsPrecondition : Result Formula FormFault → Vocabulary Signature → Scope → FormTrees → ℕ → Type 0
 ReadsPrecondition result v scope fs at =
     Reads tree_of_formula result
-    (pre_breaks v.signature.now scope fs at)
-    (first_formula (formulas_meant v.names.now v.signature.now scope fs))
+    (pre_breaks v.declared.now scope fs at)
+    (first_formula (formulas_meant v.names.now v.declared.now scope fs))
 
-abbrev pub ReadsPreClause : Result Formula FormFault → Vocabulary → Scope → Option FormTree → Type 0
+abbrev pub ReadsPreClause : Result Formula FormFault → Vocabulary Signature → Scope → Option FormTree → Type 0
 ReadsPreClause result v scope clause =
     Reads tree_of_formula result
-    (pre_clause_breaks v.signature.now scope clause)
-    (pre_clause_meant v.names.now v.signature.now scope clause)
+    (pre_clause_breaks v.declared.now scope clause)
+    (pre_clause_meant v.names.now v.declared.now scope clause)
 
-abbrev pub ReadsEffectsClause : Result Effects FormFault → Vocabulary → Scope → Option FormTree → Type 0
+abbrev pub ReadsEffectsClause : Result Effects FormFault → Vocabulary Signature → Scope → Option FormTree → Type 0
 ReadsEffectsClause result v scope clause =
     Reads tree_of_effects result
-    (effects_clause_breaks v.signature.now scope clause)
-    (effects_clause_meant v.names.now v.signature.now scope clause)
+    (effects_clause_breaks v.declared.now scope clause)
+    (effects_clause_meant v.names.now v.declared.now scope clause)
 
 -- an operator is read, of a head and clauses
-abbrev pub ReadsOperator : Result Operator FormFault → Vocabulary → Head → ClauseTrees → Type 0
+abbrev pub ReadsOperator : Result Operator FormFault → Vocabulary Signature → Head → ClauseTrees → Type 0
 ReadsOperator result v h c =
     Reads operator_tree result
-    (clause_trees_breaks v.signature.now (head_scope h) c)
-    (operator_with v.names.now v.signature.now h.name.text.now (head_scope h) c)
+    (clause_trees_breaks v.declared.now (head_scope h) c)
+    (operator_with v.names.now v.declared.now h.name.text.now (head_scope h) c)
 
 -- what the items so far declare, and with it what they stand for
 abbrev pub declared_by : Draft → Declarations

@@ -5,8 +5,7 @@ ghost use Rattle.tl_domain.specs.Operators.{leading, after_leading, are_clauses}
 ghost use Rattle.tl_domain.specs.Clauses.{AreClauses};
 ghost use Rattle.tl_rules.specs.Reads.{trees_in};
 
-use tl_problem::calls::begins_with;
-use tl_rules::parts::split_first;
+use tl_rules::parts::{begins_with, split_first};
 use tl_sexpr::Form;
 
 /// The clauses of an operator, of which each may be wanting.

@@ -13,8 +13,8 @@ use crate::heads::{Head, Within, check_parameters, read_head};
 use crate::parts::{Integer, List, Name};
 use std::alloc::Global;
 use tl_formulas::variables::{variables, with_variables};
-use tl_formulas::{FormulaRole, Scope, Signature, Vocabulary, formula, is_reserved};
-use tl_rules::{FormFault, Rule, breaks, number_of};
+use tl_formulas::{FormulaRole, Scope, Signature, formula, is_reserved};
+use tl_rules::{FormFault, Rule, Vocabulary, breaks, number_of};
 use tl_sexpr::Form;
 use tl_syntax::Definition;
 
@@ -79,7 +79,7 @@ pub(crate) fn definition_head<'a>(
 /// A definition of so many levels, by its head and the form of its body.
 #[tactic(auto, using(crate::proofs::Rulesets::composed))]
 pub(crate) fn definition(
-    vocabulary: &Vocabulary<'_>,
+    vocabulary: &Vocabulary<'_, Signature<'_>>,
     head: &Head<'_>,
     levels: u32,
     body: &Form,

@@ -1,8 +1,10 @@
 // Items by their first word: what the elements after it declare, and what they stand for.
-ghost use Rattle.std.specs.Prelude.{◌≤◌, OnOk};
+ghost use Rattle.std.specs.Prelude.{◌≤◌, ◌<◌, ℕ, List, OnOk};
+ghost use Rattle.tl_rules.specs.Calls.{call_tree};
+ghost use Rattle.tl_rules.specs.Reads.{Reads, trees_in};
+ghost use Rattle.tl_domain.specs.Items.{declaration_of, new_declaration_breaks};
 ghost use Rattle.tl_domain.specs.Readers.{AddsItem, ReadsArity};
 ghost use Rattle.tl_domain.specs.Words as item;
-ghost use Rattle.tl_problem.specs.Calls.{call_tree};
 
 use crate::clauses::clauses_in;
 use crate::definitions::{arity, check_free, definition, definition_head, levels};
@@ -11,10 +13,9 @@ use crate::item_shapes::{Declaration, declaration_in, define_in, defined_in};
 use crate::operators::{operator, operator_head};
 use crate::parts::list_in;
 use std::alloc::Global;
-use tl_formulas::{FormulaRole, Scope, Signature, Vocabulary, formula};
-use tl_problem::calls::Call;
+use tl_formulas::{FormulaRole, Scope, Signature, formula};
 use tl_rules::parts::{one, split_first};
-use tl_rules::{FormFault, Rule, breaks, number_of};
+use tl_rules::{Call, FormFault, Rule, Vocabulary, breaks, number_of};
 use tl_syntax::{Declared, Names};
 
 /// The number of arguments of a declaration, whose name is new.
@@ -26,6 +27,28 @@ fn declared_arity(signature: &Signature<'_>, declaration: Declaration<'_>) -> Re
     arity(declaration.arity)
 }
 
+/// The name and the number of arguments of a declaration, before which there are so many of its kind.
+#[tactic(auto, using(crate::proofs::Rulesets::items))]
+fn declared<'a>(
+    signature: &Signature<'_>,
+    before: usize,
+    call: Call<'a>,
+) -> Result<(&'a str, u32), FormFault>
+    ensures read { Reads {Y = List ℕ × ℕ} (λ x. (x.0.now, x.1)) result
+        (new_declaration_breaks signature.now before (trees_in call.entry.rest.now) call.entry.at)
+        (declaration_of (trees_in call.entry.rest.now)) }
+    ensures few { OnOk result (before < 256) }
+{
+    let Some(declaration) = declaration_in(call.rest) else {
+        return Err(breaks(Rule::Shape, call.at));
+    };
+    if before >= 256 {
+        return Err(breaks(Rule::Limit, call.at));
+    }
+    let arity = declared_arity(signature, declaration)?;
+    Ok((declaration.name.text, arity))
+}
+
 /// An item `(predicate NAME ARITY)`.
 #[tactic(auto, using(crate::proofs::Rulesets::items))]
 pub(crate) fn predicate<'a>(
@@ -35,14 +58,8 @@ pub(crate) fn predicate<'a>(
 ) -> Result<(), FormFault>
     ensures { AddsItem result names.now item.Predicate (call_tree call.entry) draft.old draft.new }
 {
-    let Some(declaration) = declaration_in(call.rest) else {
-        return Err(breaks(Rule::Shape, call.at));
-    };
-    if draft.signature.predicates.len() >= 256 {
-        return Err(breaks(Rule::Limit, call.at));
-    }
-    let text = declaration.name.text;
-    let arity = declared_arity(&draft.signature, declaration)?;
+    let before = draft.signature.predicates.len();
+    let (text, arity) = declared(&draft.signature, before, call)?;
     draft.signature.predicates.push(text, arity)?;
     let name = number_of(names, text);
     draft.domain.predicates.push(Declared { name, arity })?;
@@ -58,14 +75,8 @@ pub(crate) fn function<'a>(
 ) -> Result<(), FormFault>
     ensures { AddsItem result names.now item.Function (call_tree call.entry) draft.old draft.new }
 {
-    let Some(declaration) = declaration_in(call.rest) else {
-        return Err(breaks(Rule::Shape, call.at));
-    };
-    if draft.signature.functions.len() >= 256 {
-        return Err(breaks(Rule::Limit, call.at));
-    }
-    let text = declaration.name.text;
-    let arity = declared_arity(&draft.signature, declaration)?;
+    let before = draft.signature.functions.len();
+    let (text, arity) = declared(&draft.signature, before, call)?;
     draft.signature.functions.push(text, arity)?;
     let name = number_of(names, text);
     draft.domain.functions.push(Declared { name, arity })?;
@@ -92,7 +103,7 @@ pub(crate) fn define<'a>(
     let vocabulary = Vocabulary {
         alloc,
         names,
-        signature: &draft.signature,
+        declared: &draft.signature,
     };
     let definition = definition(&vocabulary, &head, 1, parts.body)?;
     let count = head.variables.len() as u32;
@@ -126,7 +137,7 @@ pub(crate) fn defined<'a>(
     let vocabulary = Vocabulary {
         alloc,
         names,
-        signature: &draft.signature,
+        declared: &draft.signature,
     };
     let definition = definition(&vocabulary, &head, levels, parts.body)?;
     draft.domain.definitions.push(definition)?;
@@ -160,7 +171,7 @@ pub(crate) fn operator_item<'a>(
     let vocabulary = Vocabulary {
         alloc,
         names,
-        signature: &draft.signature,
+        declared: &draft.signature,
     };
     let operator = operator(&vocabulary, &head, clauses)?;
     draft.operators.push(head.name.text)?;
@@ -188,7 +199,7 @@ pub(crate) fn control<'a>(
     let vocabulary = Vocabulary {
         alloc,
         names,
-        signature: &draft.signature,
+        declared: &draft.signature,
     };
     draft.domain.control = formula(&vocabulary, &empty, FormulaRole::Control, form)?;
     draft.controlled = true;

@@ -4,14 +4,13 @@ ghost use Rattle.tl_sexpr.specs.Tree.{tree_of};
 ghost use Rattle.tl_rules.specs.Reads.{trees_in};
 ghost use Rattle.tl_domain.specs.Readers.{AddsItem, AddsForm, AddsItems};
 ghost use Rattle.tl_domain.specs.Words.{item_word};
-ghost use Rattle.tl_problem.specs.Calls.{call_tree};
+ghost use Rattle.tl_rules.specs.Calls.{call_tree};
 
 use crate::draft::Draft;
 use crate::item_parts::{control, define, defined, function, operator_item, predicate};
 use std::alloc::Global;
-use tl_problem::calls::{Call, call_in};
 use tl_rules::parts::offset;
-use tl_rules::{FormFault, Rule, breaks};
+use tl_rules::{Call, FormFault, Rule, breaks, call_in};
 use tl_sexpr::Form;
 use tl_syntax::Names;
 

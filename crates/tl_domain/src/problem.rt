@@ -1,9 +1,9 @@
 // The problem that a domain file and a problem file stand for.
-ghost use Rattle.std.specs.Prelude.{◌+◌, ◌<◌, ◌^◌, length, IfOk, IfErr};
+ghost use Rattle.std.specs.Prelude.{length, IfOk, IfErr};
 ghost use Rattle.tl_sexpr.specs.Offsets.{AreAsRead};
-ghost use Rattle.tl_sexpr.specs.Spelling.{symbols_in_all};
 ghost use Rattle.tl_sexpr.specs.Tree.{trees_of};
 ghost use Rattle.tl_syntax.specs.Kept.{DomainKeeps};
+ghost use Rattle.tl_rules.specs.Symbols.{HaveRoom};
 ghost use Rattle.tl_domain.specs.Files.{CompleteToProblem, IsFirstAfterDomain, IsLeastAfterDomain};
 
 use std::alloc::Global;
@@ -23,7 +23,7 @@ pub fn problem_of(
     domain: Domain,
     names: Names,
 ) -> Result<Problem, FormFault>
-    requires room { length names + symbols_in_all (trees_of forms.now) < 2 ^ 32 }
+    requires room { HaveRoom names (trees_of forms.now) }
     requires domain { DomainKeeps (length names) domain }
     ensures problem { IfOk result (CompleteToProblem names domain (trees_of forms.now)) }
     ensures fault { IfErr result (IsFirstAfterDomain names domain (trees_of forms.now)) }

@@ -1,11 +1,10 @@
 // The domain that a file stands for.
-ghost use Rattle.std.specs.Prelude.{◌≡◌, ◌+◌, ◌<◌, ◌^◌, [], length, IfErr, IfOk, OnOk};
+ghost use Rattle.std.specs.Prelude.{◌≡◌, [], length, IfErr, IfOk, OnOk};
 ghost use Rattle.tl_sexpr.specs.Offsets.{AreAsRead};
-ghost use Rattle.tl_sexpr.specs.Spelling.{symbols_in_all};
 ghost use Rattle.tl_sexpr.specs.Tree.{trees_of};
 ghost use Rattle.tl_syntax.specs.Kept.{DomainKeeps};
 ghost use Rattle.tl_rules.specs.Reads.{Reads, IsLeastFault};
-ghost use Rattle.tl_rules.specs.Symbols.{names_with_all, BeginsWith};
+ghost use Rattle.tl_rules.specs.Symbols.{names_with_all, BeginsWith, HaveRoom};
 ghost use Rattle.tl_domain.specs.DomainFiles.{domain_file_breaks};
 ghost use Rattle.tl_domain.specs.DomainTrees.{domain_tree};
 ghost use Rattle.tl_domain.specs.Files.{IsDomainOf};
@@ -26,7 +25,7 @@ use tl_syntax::{Domain, Names};
 /// Where there were no names before, `problem_of` takes the domain and the names on to the problem.
 #[tactic(auto, using(crate::proofs::Rulesets::files))]
 pub fn domain_of(alloc: Global, forms: &Forms, names: &mut Names) -> Result<Domain, FormFault>
-    requires room { length names.old + symbols_in_all (trees_of forms.now) < 2 ^ 32 }
+    requires room { HaveRoom names.old (trees_of forms.now) }
     ensures read { Reads domain_tree result (domain_file_breaks (trees_of forms.now))
         (domain_file_meant names.new (trees_of forms.now)) }
     ensures least { AreAsRead (trees_of forms.now) → IfErr result (IsLeastFault (domain_file_breaks (trees_of forms.now))) }

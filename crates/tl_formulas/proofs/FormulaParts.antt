@@ -24,7 +24,7 @@ use Rattle.tl_formulas.specs.Variables.{variables_breaks, with_variables}
 use Rattle.tl_formulas.specs.Formulas.{is_constant, role_below, formula_list_breaks, binding_breaks, goals_breaks, steps_breaks, formula_breaks, formula_parts_breaks, formulas_breaks}
 use Rattle.tl_formulas.specs.MeaningOfTerms.{term_meant, terms_meant}
 use Rattle.tl_formulas.specs.MeaningOfBounds.{goal_meant, bound_meant}
-use Rattle.tl_formulas.specs.MeaningOfFormulas.{constant_meant, formula_of_goal, joined, atom_meant, steps_meant, formula_meant, formula_list_meant, formulas_meant, variables_meant}
+use Rattle.tl_formulas.specs.MeaningOfFormulas.{constant_meant, formula_of_goal, under_word, atom_meant, steps_meant, formula_meant, formula_list_meant, formulas_meant, variables_meant}
 use Rattle.tl_formulas.specs.Readers.{quantifier_tree, counted_tree}
 use Rattle.tl_formulas.specs.Shapes.{unary_word, binary_word, many_word, quantifier_word, counted_word}
 
@@ -88,7 +88,7 @@ parts-unary unary.Always r g s (more_forms f fs) = refl
 parts-unary unary.Eventually r g s no_form = refl
 parts-unary unary.Eventually r g s (more_forms f fs) = refl
 
-pub parts-unary-meant : (w : Unary) (names : List (List ℕ)) (g : Signature) (s : Scope) (text : List ℕ) (fs : FormTrees) → formula_list_meant names g s (unary_word w) text fs ≡ joined (unary_word w) (formulas_meant names g s fs)
+pub parts-unary-meant : (w : Unary) (names : List (List ℕ)) (g : Signature) (s : Scope) (text : List ℕ) (fs : FormTrees) → formula_list_meant names g s (unary_word w) text fs ≡ under_word (unary_word w) (formulas_meant names g s fs)
 unfolding formula_meant
 parts-unary-meant unary.Not names g s text no_form = refl
 parts-unary-meant unary.Not names g s text (more_forms f fs) = refl
@@ -106,7 +106,7 @@ parts-binary binary.Implies r g s (more_forms f fs) = refl
 parts-binary binary.Until r g s no_form = refl
 parts-binary binary.Until r g s (more_forms f fs) = refl
 
-pub parts-binary-meant : (w : Binary) (names : List (List ℕ)) (g : Signature) (s : Scope) (text : List ℕ) (fs : FormTrees) → formula_list_meant names g s (binary_word w) text fs ≡ joined (binary_word w) (formulas_meant names g s fs)
+pub parts-binary-meant : (w : Binary) (names : List (List ℕ)) (g : Signature) (s : Scope) (text : List ℕ) (fs : FormTrees) → formula_list_meant names g s (binary_word w) text fs ≡ under_word (binary_word w) (formulas_meant names g s fs)
 unfolding formula_meant
 parts-binary-meant binary.Implies names g s text no_form = refl
 parts-binary-meant binary.Implies names g s text (more_forms f fs) = refl
@@ -120,7 +120,7 @@ parts-many junction.All r g s (more_forms f fs) = refl
 parts-many junction.Any r g s no_form = refl
 parts-many junction.Any r g s (more_forms f fs) = refl
 
-pub parts-many-meant : (j : Junction) (names : List (List ℕ)) (g : Signature) (s : Scope) (text : List ℕ) (fs : FormTrees) → formula_list_meant names g s (many_word j) text fs ≡ joined (many_word j) (formulas_meant names g s fs)
+pub parts-many-meant : (j : Junction) (names : List (List ℕ)) (g : Signature) (s : Scope) (text : List ℕ) (fs : FormTrees) → formula_list_meant names g s (many_word j) text fs ≡ under_word (many_word j) (formulas_meant names g s fs)
 unfolding formula_meant
 parts-many-meant junction.All names g s text no_form = refl
 parts-many-meant junction.All names g s text (more_forms f fs) = refl

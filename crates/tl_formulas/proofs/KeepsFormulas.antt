@@ -32,7 +32,7 @@ use Rattle.tl_formulas.specs.Variables.{variables_breaks, with_variables, is_cro
 use Rattle.tl_formulas.specs.Formulas.{has_quantifier_shape, has_formula_shape, is_temporal, may_be_temporal, role_below, is_too_deep, atom_breaks, name_breaks, is_crowded_by, steps_breaks, formula_list_breaks, goals_breaks, formula_breaks, formula_parts_breaks, formulas_breaks}
 use Rattle.tl_formulas.specs.MeaningOfTerms.{first_term, second_term, terms_meant}
 use Rattle.tl_formulas.specs.MeaningOfBounds.{bound_meant}
-use Rattle.tl_formulas.specs.MeaningOfFormulas.{variables_meant, steps_meant, formula_of_goal, atom_at, atom_meant, first_formula, second_formula, joined, constant_meant, formula_meant, formula_list_meant, formulas_meant}
+use Rattle.tl_formulas.specs.MeaningOfFormulas.{variables_meant, steps_meant, formula_of_goal, atom_at, atom_meant, first_formula, second_formula, under_word, constant_meant, formula_meant, formula_list_meant, formulas_meant}
 use Rattle.tl_formulas.proofs.KeepsLists.{none-parts, test-fails, test-passes, Each-both, Each-parts, below-without}
 use Rattle.tl_formulas.proofs.KeepsCalls.{arities, seen, NamesOnly, called-takes, called-at-takes}
 use Rattle.tl_formulas.proofs.KeepsTerms.{TermsKeep, first-keeps, second-keeps, terms-count, terms-keep}
@@ -80,12 +80,12 @@ second_formula-keeps g n around k no_formula h = constant-keeps g n around k
 second_formula-keeps g n around k (more_formulas f fs) h = first_formula-keeps g n around k fs (record { fits = h.fits.1; below = (Each-parts (λ q. q < k) (free_slots f) (all_free_slots fs) h.below).1; named = h.named.1 })
 
 -- formulas under a word
-joined-keeps : (g : domain.Signature) (n : ℕ) (around : List ℕ) (k : ℕ) (w : FormulaWord) (fs : FormulaTrees) → FormulasKeep g n around k fs → FormulaKeeps g n around k (joined w fs)
+under_word-keeps : (g : domain.Signature) (n : ℕ) (around : List ℕ) (k : ℕ) (w : FormulaWord) (fs : FormulaTrees) → FormulasKeep g n around k fs → FormulaKeeps g n around k (under_word w fs)
 unfolding Fits free_slots IsNamed
-joined-keeps g n around k word.Not fs h = let first = first_formula-keeps g n around k fs h in record { fits = first.fits; below = first.below; named = first.named }
-joined-keeps g n around k word.And fs h = record { fits = h.fits; below = h.below; named = h.named }
-joined-keeps g n around k word.Or fs h = record { fits = h.fits; below = h.below; named = h.named }
-joined-keeps g n around k word.Implies fs h =
+under_word-keeps g n around k word.Not fs h = let first = first_formula-keeps g n around k fs h in record { fits = first.fits; below = first.below; named = first.named }
+under_word-keeps g n around k word.And fs h = record { fits = h.fits; below = h.below; named = h.named }
+under_word-keeps g n around k word.Or fs h = record { fits = h.fits; below = h.below; named = h.named }
+under_word-keeps g n around k word.Implies fs h =
     let first = first_formula-keeps g n around k fs h in
     let second = second_formula-keeps g n around k fs h in
     record {
@@ -93,14 +93,14 @@ joined-keeps g n around k word.Implies fs h =
       below = Each-both (λ q. q < k) (free_slots (first_formula fs)) (free_slots (second_formula fs) ++ []) first.below (Each-both (λ q. q < k) (free_slots (second_formula fs)) [] second.below tt);
       named = (first.named, (second.named, tt));
     }
-joined-keeps g n around k word.Next fs h = let first = first_formula-keeps g n around k fs h in record { fits = first.fits; below = first.below; named = first.named }
-joined-keeps g n around k word.Always fs h = let first = first_formula-keeps g n around k fs h in record { fits = first.fits; below = first.below; named = first.named }
-joined-keeps g n around k word.Eventually fs h = let first = first_formula-keeps g n around k fs h in record { fits = first.fits; below = first.below; named = first.named }
-joined-keeps g n around k word.Until fs h =
+under_word-keeps g n around k word.Next fs h = let first = first_formula-keeps g n around k fs h in record { fits = first.fits; below = first.below; named = first.named }
+under_word-keeps g n around k word.Always fs h = let first = first_formula-keeps g n around k fs h in record { fits = first.fits; below = first.below; named = first.named }
+under_word-keeps g n around k word.Eventually fs h = let first = first_formula-keeps g n around k fs h in record { fits = first.fits; below = first.below; named = first.named }
+under_word-keeps g n around k word.Until fs h =
     let first = first_formula-keeps g n around k fs h in
     let second = second_formula-keeps g n around k fs h in
     record { fits = (first.fits, second.fits); below = Each-both (λ q. q < k) (free_slots (first_formula fs)) (free_slots (second_formula fs)) first.below second.below; named = (first.named, second.named) }
-joined-keeps g n around k _ fs h = constant-keeps g n around k
+under_word-keeps g n around k _ fs h = constant-keeps g n around k
 
 -- the formula of a bound under `goal`
 goal_formula-keeps : (g : domain.Signature) (n : ℕ) (around : List ℕ) (k : ℕ) (b : Bound) → BoundKeeps g n k b → FormulaKeeps g n around k (formula_of_goal b)
@@ -263,10 +263,10 @@ mutual
   formula_list-keeps names r g around scope word.During text no_form place has own none = constant-keeps (seen g) (length names) around (length scope)
   formula_list-keeps names r g around scope word.During text (more_forms n fs) place has own none =
       during-keeps (seen g) (length names) around (length scope) (steps_meant n) (formulas_meant names g scope fs) (formulas-keep names r g around scope fs place has.1 (none-parts (steps_breaks n) (formulas_breaks r g scope fs) none).1)
-  formula_list-keeps names r g around scope w text no_form place has own none = joined-keeps (seen g) (length names) around (length scope) w no_formula (record { fits = tt; below = tt; named = tt })
+  formula_list-keeps names r g around scope w text no_form place has own none = under_word-keeps (seen g) (length names) around (length scope) w no_formula (record { fits = tt; below = tt; named = tt })
   formula_list-keeps names r g around scope w text (more_forms f fs) place has own none =
       let parts = none-parts (formula_breaks r g scope f) (formulas_breaks r g scope fs) none in
-      joined-keeps (seen g) (length names) around (length scope) w _ (both-keep (seen g) (length names) around (length scope) _ _ (formula-keeps names r g around scope f place has.0 parts.0) (formulas-keep names r g around scope fs place has.1 parts.1))
+      under_word-keeps (seen g) (length names) around (length scope) w _ (both-keep (seen g) (length names) around (length scope) _ _ (formula-keeps names r g around scope f place has.0 parts.0) (formulas-keep names r g around scope fs place has.1 parts.1))
 
   pub formulas-keep : (names : List (List ℕ)) (r : FormulaRole) (g : Signature) (around : List ℕ) (scope : Scope) (fs : FormTrees) → IsPlace g around scope → HaveNames names fs → formulas_breaks r g scope fs ≡ [] → FormulasKeep (seen g) (length names) around (length scope) (formulas_meant names g scope fs)
   formulas-keep names r g around scope no_form place has none = record { fits = tt; below = tt; named = tt }

@@ -22,7 +22,7 @@ use Rattle.tl_formulas.specs.Variables.{variables_breaks, with_variables}
 use Rattle.tl_formulas.specs.Formulas.{has_formula_shape, is_temporal, may_be_temporal, role_below, name_breaks, formula_list_breaks, formula_breaks, formula_parts_breaks, formulas_breaks}
 use Rattle.tl_formulas.specs.MeaningOfBounds.{goal_meant}
 use Rattle.tl_formulas.specs.MeaningOfTerms.{terms_meant}
-use Rattle.tl_formulas.specs.MeaningOfFormulas.{formula_of_goal, atom_at, atom_meant, first_formula, second_formula, joined, constant_meant, formula_meant, formula_list_meant, formulas_meant}
+use Rattle.tl_formulas.specs.MeaningOfFormulas.{formula_of_goal, atom_at, atom_meant, first_formula, second_formula, under_word, constant_meant, formula_meant, formula_list_meant, formulas_meant}
 use Rattle.tl_formulas.proofs.KeepsLists.{none-parts, test-fails}
 
 constant-state : (text : List ℕ) → IsState (constant_meant text)
@@ -54,7 +54,7 @@ second-state : (fs : FormulaTrees) → AreState fs → IsState (second_formula f
 second-state no_formula h = tt
 second-state (more_formulas f fs) h = first-state fs h.1
 
-joined-state : (w : FormulaWord) (fs : FormulaTrees) → is_temporal w ≡ false → AreState fs → IsState (joined w fs)
+joined-state : (w : FormulaWord) (fs : FormulaTrees) → is_temporal w ≡ false → AreState fs → IsState (under_word w fs)
 joined-state word.Not fs plain h = first-state fs h
 joined-state word.And fs plain h = h
 joined-state word.Or fs plain h = h

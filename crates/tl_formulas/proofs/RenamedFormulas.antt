@@ -23,7 +23,7 @@ use Rattle.tl_formulas.specs.Signatures.{Scope, place_of}
 use Rattle.tl_formulas.specs.Variables.{with_variables}
 use Rattle.tl_formulas.specs.MeaningOfTerms.{first_term, second_term, terms_meant}
 use Rattle.tl_formulas.specs.MeaningOfBounds.{call_place, goal_meant, bound_meant}
-use Rattle.tl_formulas.specs.MeaningOfFormulas.{variables_from, variables_meant, steps_meant, formula_of_goal, atom_at, atom_meant, first_formula, second_formula, joined, constant_meant, formula_meant, formula_list_meant, formulas_meant}
+use Rattle.tl_formulas.specs.MeaningOfFormulas.{variables_from, variables_meant, steps_meant, formula_of_goal, atom_at, atom_meant, first_formula, second_formula, under_word, constant_meant, formula_meant, formula_list_meant, formulas_meant}
 use Rattle.tl_formulas.specs.MeaningOfEffects.{no_change, effect_meant, effect_list_meant, effects_meant}
 use Rattle.tl_formulas.proofs.KeepsGoals.{rest-has, elements-have}
 use Rattle.tl_formulas.proofs.KeepsVariables.{texts-have}
@@ -53,16 +53,16 @@ implied-renamed : (m : Renaming) (f h : FormulaTree) → disjunction (more_formu
 implied-renamed m f h =
     ap disjunction (ap₂ more_formulas (m.formula_negation f) (ap (more_formulas (m.of_formula h)) m.formulas_none ∙ m.formulas_more h no_formula) ∙ m.formulas_more (negation f) (more_formulas h no_formula)) ∙ m.formula_disjunction (more_formulas (negation f) (more_formulas h no_formula))
 
-joined-renamed : (m : Renaming) (w : FormulaWord) (fs : FormulaTrees) → joined w (m.of_formulas fs) ≡ m.of_formula (joined w fs)
-joined-renamed m word.Not fs = ap negation (first_formula-renamed m fs) ∙ m.formula_negation (first_formula fs)
-joined-renamed m word.And fs = m.formula_conjunction fs
-joined-renamed m word.Or fs = m.formula_disjunction fs
-joined-renamed m word.Implies fs = ap₂ (λ (f h : FormulaTree). disjunction (more_formulas (negation f) (more_formulas h no_formula))) (first_formula-renamed m fs) (second_formula-renamed m fs) ∙ implied-renamed m (first_formula fs) (second_formula fs)
-joined-renamed m word.Next fs = ap next (first_formula-renamed m fs) ∙ m.formula_next (first_formula fs)
-joined-renamed m word.Always fs = ap always (first_formula-renamed m fs) ∙ m.formula_always (first_formula fs)
-joined-renamed m word.Eventually fs = ap eventually (first_formula-renamed m fs) ∙ m.formula_eventually (first_formula fs)
-joined-renamed m word.Until fs = ap₂ until (first_formula-renamed m fs) (second_formula-renamed m fs) ∙ m.formula_until (first_formula fs) (second_formula fs)
-joined-renamed m _ fs = m.formula_verum
+under_word-renamed : (m : Renaming) (w : FormulaWord) (fs : FormulaTrees) → under_word w (m.of_formulas fs) ≡ m.of_formula (under_word w fs)
+under_word-renamed m word.Not fs = ap negation (first_formula-renamed m fs) ∙ m.formula_negation (first_formula fs)
+under_word-renamed m word.And fs = m.formula_conjunction fs
+under_word-renamed m word.Or fs = m.formula_disjunction fs
+under_word-renamed m word.Implies fs = ap₂ (λ (f h : FormulaTree). disjunction (more_formulas (negation f) (more_formulas h no_formula))) (first_formula-renamed m fs) (second_formula-renamed m fs) ∙ implied-renamed m (first_formula fs) (second_formula fs)
+under_word-renamed m word.Next fs = ap next (first_formula-renamed m fs) ∙ m.formula_next (first_formula fs)
+under_word-renamed m word.Always fs = ap always (first_formula-renamed m fs) ∙ m.formula_always (first_formula fs)
+under_word-renamed m word.Eventually fs = ap eventually (first_formula-renamed m fs) ∙ m.formula_eventually (first_formula fs)
+under_word-renamed m word.Until fs = ap₂ until (first_formula-renamed m fs) (second_formula-renamed m fs) ∙ m.formula_until (first_formula fs) (second_formula fs)
+under_word-renamed m _ fs = m.formula_verum
 
 goal_formula-renamed : (m : Renaming) (b : Bound) → formula_of_goal (m.of_bound b) ≡ m.of_formula (formula_of_goal b)
 goal_formula-renamed m (bound.Fact p xs) = ap formula_of_goal (sym (m.bound_fact p xs)) ∙ m.formula_verum
@@ -136,9 +136,9 @@ module _ (old new : List (List ℕ)) (m : Renaming) (agrees : Agrees old new m) 
     formula_list-renamed g scope word.Within text (more_forms n fs) has = ap (λ (hs : FormulaTrees). within (steps_meant n) (first_formula hs)) (formulas-renamed g scope fs has.1) ∙ within-renamed m (steps_meant n) (formulas_meant old g scope fs)
     formula_list-renamed g scope word.During text no_form has = m.formula_verum
     formula_list-renamed g scope word.During text (more_forms n fs) has = ap (λ (hs : FormulaTrees). during (steps_meant n) (first_formula hs)) (formulas-renamed g scope fs has.1) ∙ during-renamed m (steps_meant n) (formulas_meant old g scope fs)
-    formula_list-renamed g scope w text no_form has = ap (joined w) m.formulas_none ∙ joined-renamed m w no_formula
+    formula_list-renamed g scope w text no_form has = ap (under_word w) m.formulas_none ∙ under_word-renamed m w no_formula
     formula_list-renamed g scope w text (more_forms f fs) has =
-        ap (joined w) (ap₂ more_formulas (formula-renamed g scope f has.0) (formulas-renamed g scope fs has.1) ∙ m.formulas_more (formula_meant old g scope f) (formulas_meant old g scope fs)) ∙ joined-renamed m w (more_formulas (formula_meant old g scope f) (formulas_meant old g scope fs))
+        ap (under_word w) (ap₂ more_formulas (formula-renamed g scope f has.0) (formulas-renamed g scope fs has.1) ∙ m.formulas_more (formula_meant old g scope f) (formulas_meant old g scope fs)) ∙ under_word-renamed m w (more_formulas (formula_meant old g scope f) (formulas_meant old g scope fs))
 
     pub formulas-renamed : (g : Signature) (scope : Scope) (fs : FormTrees) → HaveNames old fs → formulas_meant new g scope fs ≡ m.of_formulas (formulas_meant old g scope fs)
     formulas-renamed g scope no_form has = m.formulas_none

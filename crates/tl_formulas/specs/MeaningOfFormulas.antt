@@ -58,16 +58,16 @@ second_formula no_formula = verum
 second_formula (more_formulas f fs) = first_formula fs
 
 -- formulas under a word; an implication is read as a disjunction
-abbrev pub joined : FormulaWord → FormulaTrees → FormulaTree
-joined word.Not fs = negation (first_formula fs)
-joined word.And fs = conjunction fs
-joined word.Or fs = disjunction fs
-joined word.Implies fs = disjunction (more_formulas (negation (first_formula fs)) (more_formulas (second_formula fs) no_formula))
-joined word.Next fs = next (first_formula fs)
-joined word.Always fs = always (first_formula fs)
-joined word.Eventually fs = eventually (first_formula fs)
-joined word.Until fs = until (first_formula fs) (second_formula fs)
-joined _ fs = verum
+abbrev pub under_word : FormulaWord → FormulaTrees → FormulaTree
+under_word word.Not fs = negation (first_formula fs)
+under_word word.And fs = conjunction fs
+under_word word.Or fs = disjunction fs
+under_word word.Implies fs = disjunction (more_formulas (negation (first_formula fs)) (more_formulas (second_formula fs) no_formula))
+under_word word.Next fs = next (first_formula fs)
+under_word word.Always fs = always (first_formula fs)
+under_word word.Eventually fs = eventually (first_formula fs)
+under_word word.Until fs = until (first_formula fs) (second_formula fs)
+under_word _ fs = verum
 
 -- the word stands before one formula, before two, and before any number
 abbrev pub is_single : FormulaWord → Bool
@@ -128,9 +128,9 @@ unfoldable mutual
   formula_list_meant names g scope word.During text no_form = verum
   formula_list_meant names g scope word.During text (more_forms k fs) =
       during (steps_meant k) (first_formula (formulas_meant names g scope fs))
-  formula_list_meant names g scope w text no_form = joined w no_formula
+  formula_list_meant names g scope w text no_form = under_word w no_formula
   formula_list_meant names g scope w text (more_forms f fs) =
-      joined w (more_formulas (formula_meant names g scope f) (formulas_meant names g scope fs))
+      under_word w (more_formulas (formula_meant names g scope f) (formulas_meant names g scope fs))
 
   -- formulas
   pub formulas_meant : List (List ℕ) → Signature → Scope → FormTrees → FormulaTrees

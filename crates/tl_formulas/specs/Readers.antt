@@ -53,7 +53,7 @@ use Rattle.tl_formulas.specs.Effects.{target_breaks, effect_list_breaks, effect_
 use Rattle.tl_formulas.specs.MeaningOfTerms.{argument_meant, arguments_meant, call_meant, term_meant, terms_meant}
 use Rattle.tl_formulas.specs.MeaningOfBounds.{call_place, other_goal_meant, goal_meant, equality_meant}
 use Rattle.tl_formulas.specs.MeaningOfBounds.{bound_call_meant, bound_meant, bounds_meant}
-use Rattle.tl_formulas.specs.MeaningOfFormulas.{formula_of_goal, atom_meant, joined}
+use Rattle.tl_formulas.specs.MeaningOfFormulas.{formula_of_goal, atom_meant, under_word}
 use Rattle.tl_formulas.specs.MeaningOfFormulas.{formula_meant, formula_list_meant, formulas_meant, variables_meant}
 use Rattle.tl_formulas.specs.MeaningOfEffects.{target_meant, effect_meant, effect_list_meant, effects_meant}
 
@@ -188,11 +188,11 @@ ReadsFormulaParts v role scope text p result =
     (formula_list_meant v.names.now v.declared.now scope (word_of_parts p) text (elements_of_parts p))
 
 -- these formulas under a word
-abbrev pub ReadsJoined : Vocabulary Signature → FormulaRole → Scope → FormulaWord → FormTrees → Result Formula FormFault → Type 0
-ReadsJoined v role scope word fs result =
+abbrev pub ReadsUnderWord : Vocabulary Signature → FormulaRole → Scope → FormulaWord → FormTrees → Result Formula FormFault → Type 0
+ReadsUnderWord v role scope word fs result =
     Reads tree_of_formula result
     (formulas_breaks role v.declared.now scope fs)
-    (joined word (formulas_meant v.names.now v.declared.now scope fs))
+    (under_word word (formulas_meant v.names.now v.declared.now scope fs))
 
 -- the formula `(goal A)`, by A
 abbrev pub ReadsGoalFormula : Vocabulary Signature → Scope → FormTree → Result Formula FormFault → Type 0

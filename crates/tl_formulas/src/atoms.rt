@@ -10,8 +10,7 @@ ghost use Rattle.tl_rules.specs.Reads.{Reads, trees_in};
 use crate::scope::Scope;
 use crate::signature::Signature;
 use crate::terms::{called, terms};
-use crate::vocabulary::Vocabulary;
-use tl_rules::{Call, FormFault, Rule, breaks};
+use tl_rules::{Call, FormFault, Rule, Vocabulary, breaks};
 use tl_syntax::Formula;
 
 /// What the first word of an atom names.
@@ -46,7 +45,7 @@ pub(crate) fn atom_name(
 /// An atom of a declared or a defined predicate.
 #[tactic(auto, using(crate::proofs::Rulesets::formulas, crate::proofs::AtomNames::atom_names))]
 pub(crate) fn atom(
-    vocabulary: &Vocabulary<'_>,
+    vocabulary: &Vocabulary<'_, Signature<'_>>,
     scope: &Scope<'_>,
     call: Call<'_>,
 ) -> Result<Formula, FormFault>

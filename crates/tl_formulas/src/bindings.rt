@@ -7,9 +7,9 @@ ghost use Rattle.tl_formulas.specs.Variables.{is_crowded};
 use crate::bounds::bound;
 use crate::scope::Scope;
 use crate::shapes::{Binding, VariableList};
+use crate::signature::Signature;
 use crate::variables::{check_variables, variables, with_variables};
-use crate::vocabulary::Vocabulary;
-use tl_rules::FormFault;
+use tl_rules::{FormFault, Vocabulary};
 use tl_syntax::{Bound, Vars};
 
 /// Whether with the variables of a list more than 32 are in scope.
@@ -34,7 +34,7 @@ pub(crate) struct BoundVariables<'a> {
 /// Variables with their bound.
 #[tactic(auto, using(crate::proofs::Rulesets::composed))]
 pub(crate) fn bound_variables<'a>(
-    vocabulary: &Vocabulary<'_>,
+    vocabulary: &Vocabulary<'_, Signature<'_>>,
     scope: &Scope<'a>,
     binding: Binding<'a>,
 ) -> Result<BoundVariables<'a>, FormFault>

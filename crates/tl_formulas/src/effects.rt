@@ -16,18 +16,17 @@ use crate::formulas::formula;
 use crate::roles::FormulaRole;
 use crate::scope::Scope;
 use crate::shapes::{Binding, EffectParts};
-use crate::signature::Table;
+use crate::signature::{Signature, Table};
 use crate::terms::{called, term, terms};
-use crate::vocabulary::Vocabulary;
 use crate::words::effect_word;
 use tl_rules::parts::offset;
-use tl_rules::{Call, FormFault, Rule, breaks, call_in};
+use tl_rules::{Call, FormFault, Rule, Vocabulary, breaks, call_in};
 use tl_sexpr::Form;
 use tl_syntax::{Effect, Effects, Terms};
 
 /// The place in a table of a list's first word, and the terms after the word.
 fn target(
-    vocabulary: &Vocabulary<'_>,
+    vocabulary: &Vocabulary<'_, Signature<'_>>,
     scope: &Scope<'_>,
     table: &Table<'_>,
     call: Call<'_>,
@@ -40,7 +39,11 @@ fn target(
 }
 
 /// An effect `(add A)`, by the fact.
-fn add(vocabulary: &Vocabulary<'_>, scope: &Scope<'_>, fact: Call<'_>) -> Result<Effect, FormFault>
+fn add(
+    vocabulary: &Vocabulary<'_, Signature<'_>>,
+    scope: &Scope<'_>,
+    fact: Call<'_>,
+) -> Result<Effect, FormFault>
     ensures { ReadsEffectParts vocabulary.now scope.now (change.Add fact.entry) result }
 {
     let (predicate, terms) = target(vocabulary, scope, &vocabulary.declared.predicates, fact)?;
@@ -48,7 +51,11 @@ fn add(vocabulary: &Vocabulary<'_>, scope: &Scope<'_>, fact: Call<'_>) -> Result
 }
 
 /// An effect `(del A)`, by the fact.
-fn del(vocabulary: &Vocabulary<'_>, scope: &Scope<'_>, fact: Call<'_>) -> Result<Effect, FormFault>
+fn del(
+    vocabulary: &Vocabulary<'_, Signature<'_>>,
+    scope: &Scope<'_>,
+    fact: Call<'_>,
+) -> Result<Effect, FormFault>
     ensures { ReadsEffectParts vocabulary.now scope.now (change.Del fact.entry) result }
 {
     let (predicate, terms) = target(vocabulary, scope, &vocabulary.declared.predicates, fact)?;
@@ -57,7 +64,7 @@ fn del(vocabulary: &Vocabulary<'_>, scope: &Scope<'_>, fact: Call<'_>) -> Result
 
 /// An effect `(set X T)`, by the place and its new value.
 fn set(
-    vocabulary: &Vocabulary<'_>,
+    vocabulary: &Vocabulary<'_, Signature<'_>>,
     scope: &Scope<'_>,
     place: Call<'_>,
     value: &Form,
@@ -72,7 +79,11 @@ fn set(
 
 /// An effect.
 #[cycle(effect)]
-fn effect(vocabulary: &Vocabulary<'_>, scope: &Scope<'_>, form: &Form) -> Result<Effect, FormFault>
+fn effect(
+    vocabulary: &Vocabulary<'_, Signature<'_>>,
+    scope: &Scope<'_>,
+    form: &Form,
+) -> Result<Effect, FormFault>
     ensures { ReadsEffect vocabulary.now scope.now (tree_of form.now) result }
 {
     match call_in(form) {
@@ -84,7 +95,7 @@ fn effect(vocabulary: &Vocabulary<'_>, scope: &Scope<'_>, form: &Form) -> Result
 /// The effect of a list that begins with a word.
 #[cycle(effect)]
 fn effect_call(
-    vocabulary: &Vocabulary<'_>,
+    vocabulary: &Vocabulary<'_, Signature<'_>>,
     scope: &Scope<'_>,
     call: Call<'_>,
 ) -> Result<Effect, FormFault>
@@ -114,7 +125,7 @@ fn is_crowded_by(scope: &Scope<'_>, parts: EffectParts<'_>) -> bool
 /// The effect of these parts of a list that breaks nothing itself.
 #[cycle(effect)]
 fn shaped_effect(
-    vocabulary: &Vocabulary<'_>,
+    vocabulary: &Vocabulary<'_, Signature<'_>>,
     scope: &Scope<'_>,
     parts: EffectParts<'_>,
 ) -> Result<Effect, FormFault>
@@ -133,7 +144,7 @@ fn shaped_effect(
 /// An effect `(when F E*)`, by its condition and its effects.
 #[cycle(effect)]
 fn when(
-    vocabulary: &Vocabulary<'_>,
+    vocabulary: &Vocabulary<'_, Signature<'_>>,
     scope: &Scope<'_>,
     condition: &Form,
     forms: &[Form],
@@ -154,7 +165,7 @@ fn when(
 /// An effect `(each (V*) B E*)`, by its variables, their bound and its effects.
 #[cycle(effect)]
 fn each(
-    vocabulary: &Vocabulary<'_>,
+    vocabulary: &Vocabulary<'_, Signature<'_>>,
     scope: &Scope<'_>,
     binding: Binding<'_>,
     forms: &[Form],
@@ -178,7 +189,7 @@ fn each(
 /// Effects.
 #[cycle(effect)]
 pub fn effects(
-    vocabulary: &Vocabulary<'_>,
+    vocabulary: &Vocabulary<'_, Signature<'_>>,
     scope: &Scope<'_>,
     forms: &[Form],
 ) -> Result<Effects, FormFault>

@@ -6,7 +6,7 @@ ghost use Rattle.tl_syntax.specs.declared.formula.Formula.{Formula};
 ghost use Rattle.tl_syntax.specs.TreeOfFormula.{formulas_in, tree_of_formula, tree_of_formulas};
 ghost use Rattle.tl_syntax.specs.Trees.{no_formula, more_formulas};
 ghost use Rattle.tl_formulas.specs.Formulas.{is_constant};
-ghost use Rattle.tl_formulas.specs.MeaningOfFormulas.{constant_meant, formula_of_goal, joined};
+ghost use Rattle.tl_formulas.specs.MeaningOfFormulas.{constant_meant, formula_of_goal, under_word};
 ghost use Rattle.tl_formulas.specs.Readers.{bound_of_goal, formula_pair, quantifier_tree, counted_tree};
 ghost use Rattle.tl_formulas.specs.Readers.{Makes, ReadsGoalFormula, ReadsComparison};
 ghost use Rattle.tl_formulas.specs.Shapes.{unary_word, binary_word, many_word};
@@ -18,10 +18,10 @@ ghost use Rattle.tl_formulas.specs.declared.words.FormulaWord.TheVariants as wor
 use crate::goals::{GoalArgument, goal};
 use crate::scope::Scope;
 use crate::shapes::{Binary, Pair, Unary};
+use crate::signature::Signature;
 use crate::terms::term;
-use crate::vocabulary::Vocabulary;
 use std::alloc::Global;
-use tl_rules::{FormFault, Rule, breaks};
+use tl_rules::{FormFault, Rule, Vocabulary, breaks};
 use tl_sexpr::Form;
 use tl_syntax::{Bound, Cmp, Formula, Formulas, Junction, Vars};
 
@@ -53,7 +53,7 @@ fn under_goal(goal: GoalArgument) -> Formula
 /// A formula `(goal A)`.
 #[tactic(auto, using(crate::proofs::Rulesets::formulas))]
 pub(crate) fn goal_formula(
-    vocabulary: &Vocabulary<'_>,
+    vocabulary: &Vocabulary<'_, Signature<'_>>,
     scope: &Scope<'_>,
     form: &Form,
 ) -> Result<Formula, FormFault>
@@ -66,7 +66,7 @@ pub(crate) fn goal_formula(
 /// A comparison of two terms.
 #[tactic(auto, using(crate::proofs::Rulesets::formulas, crate::proofs::Called::term_pairs))]
 pub(crate) fn comparison(
-    vocabulary: &Vocabulary<'_>,
+    vocabulary: &Vocabulary<'_, Signature<'_>>,
     scope: &Scope<'_>,
     cmp: Cmp,
     pair: Pair<'_>,
@@ -82,7 +82,7 @@ pub(crate) fn comparison(
 #[tactic(auto, using(crate::proofs::Rulesets::formulas))]
 pub(crate) fn under_unary(word: Unary, f: Box<Formula>) -> Formula
     ensures { tree_of_formula result
-        ≡ joined (unary_word word) (more_formulas (tree_of_formula f.value) no_formula) }
+        ≡ under_word (unary_word word) (more_formulas (tree_of_formula f.value) no_formula) }
 {
     match word {
         Unary::Not => Formula::Not(f),
@@ -111,7 +111,7 @@ fn list_of_one(alloc: Global, f: Formula) -> Result<Formulas, FormFault>
 /// The disjunction of two formulas.
 #[tactic(auto, using(crate::proofs::Rulesets::formulas))]
 fn either(alloc: Global, f: Formula, g: Formula) -> Result<Formula, FormFault>
-    ensures { Makes (joined word.Or (formula_pair f g)) result }
+    ensures { Makes (under_word word.Or (formula_pair f g)) result }
 {
     let Ok(mut parts) = list_of_one(alloc, f) else {
         drop(g);
@@ -124,7 +124,7 @@ fn either(alloc: Global, f: Formula, g: Formula) -> Result<Formula, FormFault>
 /// The first formula until the second.
 #[tactic(auto, using(crate::proofs::Rulesets::formulas))]
 fn until(alloc: Global, f: Box<Formula>, g: Formula) -> Result<Formula, FormFault>
-    ensures { Makes (joined word.Until (formula_pair f.value g)) result }
+    ensures { Makes (under_word word.Until (formula_pair f.value g)) result }
 {
     match in_box(alloc, g) {
         Ok(g) => Ok(Formula::Until(f, g)),
@@ -143,7 +143,7 @@ pub(crate) fn under_binary(
     f: Box<Formula>,
     g: Formula,
 ) -> Result<Formula, FormFault>
-    ensures { Makes (joined (binary_word word) (formula_pair f.value g)) result }
+    ensures { Makes (under_word (binary_word word) (formula_pair f.value g)) result }
 {
     match word {
         Binary::Until => until(alloc, f, g),
@@ -154,7 +154,7 @@ pub(crate) fn under_binary(
 /// All of the formulas, or any of them.
 #[tactic(auto, using(crate::proofs::Rulesets::formulas))]
 pub(crate) fn under_many(junction: Junction, parts: Formulas) -> Formula
-    ensures { tree_of_formula result ≡ joined (many_word junction) (tree_of_formulas parts) }
+    ensures { tree_of_formula result ≡ under_word (many_word junction) (tree_of_formulas parts) }
 {
     match junction {
         Junction::All => Formula::And(parts),

@@ -3,7 +3,7 @@
 
 ghost use Rattle.std.specs.Prelude.{◌≡◌, [], false};
 ghost use Rattle.tl_sexpr.specs.Tree.{no_form, more_forms, tree_of};
-ghost use Rattle.tl_formulas.specs.Readers.{ReadsFormula, ReadsBoxed, ReadsFormulaCall, ReadsFormulaParts, ReadsFormulas, ReadsJoined};
+ghost use Rattle.tl_formulas.specs.Readers.{ReadsFormula, ReadsBoxed, ReadsFormulaCall, ReadsFormulaParts, ReadsFormulas, ReadsUnderWord};
 ghost use Rattle.tl_formulas.specs.Shapes.{unary_word, binary_word, many_word, pair_trees, elements_of_parts, name_breaks_of, crowds};
 ghost use Rattle.tl_rules.specs.Reads.{trees_in};
 
@@ -17,16 +17,16 @@ use crate::quantifiers::{over_steps, quantifier};
 use crate::roles::FormulaRole;
 use crate::scope::Scope;
 use crate::shapes::{Binary, FormulaParts, Pair, Unary};
-use crate::vocabulary::Vocabulary;
+use crate::signature::Signature;
 use crate::words::formula_word;
-use tl_rules::{Call, FormFault, Rule, breaks, call_in};
+use tl_rules::{Call, FormFault, Rule, Vocabulary, breaks, call_in};
 use tl_sexpr::Form;
 use tl_syntax::{Formula, Formulas, Junction};
 
 /// A formula.
 #[cycle(formula)]
 pub fn formula(
-    vocabulary: &Vocabulary<'_>,
+    vocabulary: &Vocabulary<'_, Signature<'_>>,
     scope: &Scope<'_>,
     role: FormulaRole,
     form: &Form,
@@ -46,7 +46,7 @@ pub fn formula(
 /// The formula of a list that begins with a word.
 #[cycle(formula)]
 fn formula_call(
-    vocabulary: &Vocabulary<'_>,
+    vocabulary: &Vocabulary<'_, Signature<'_>>,
     scope: &Scope<'_>,
     role: FormulaRole,
     call: Call<'_>,
@@ -64,7 +64,7 @@ fn formula_call(
 /// The formula of these parts of a list that breaks nothing itself.
 #[cycle(formula)]
 fn shaped_formula(
-    vocabulary: &Vocabulary<'_>,
+    vocabulary: &Vocabulary<'_, Signature<'_>>,
     scope: &Scope<'_>,
     role: FormulaRole,
     parts: FormulaParts<'_>,
@@ -91,7 +91,7 @@ fn shaped_formula(
 /// A formula in a box.
 #[cycle(formula)]
 pub(crate) fn boxed(
-    vocabulary: &Vocabulary<'_>,
+    vocabulary: &Vocabulary<'_, Signature<'_>>,
     scope: &Scope<'_>,
     role: FormulaRole,
     form: &Form,
@@ -106,13 +106,13 @@ pub(crate) fn boxed(
 /// A word before one formula.
 #[cycle(formula)]
 fn unary(
-    vocabulary: &Vocabulary<'_>,
+    vocabulary: &Vocabulary<'_, Signature<'_>>,
     scope: &Scope<'_>,
     role: FormulaRole,
     word: Unary,
     form: &Form,
 ) -> Result<Formula, FormFault>
-    ensures { ReadsJoined vocabulary.now role scope.now (unary_word word)
+    ensures { ReadsUnderWord vocabulary.now role scope.now (unary_word word)
         (more_forms (tree_of form.now) no_form) result }
 {
     let f = boxed(vocabulary, scope, role, form)?;
@@ -122,13 +122,13 @@ fn unary(
 /// A word before two formulas.
 #[cycle(formula)]
 fn binary(
-    vocabulary: &Vocabulary<'_>,
+    vocabulary: &Vocabulary<'_, Signature<'_>>,
     scope: &Scope<'_>,
     role: FormulaRole,
     word: Binary,
     pair: Pair<'_>,
 ) -> Result<Formula, FormFault>
-    ensures { ReadsJoined vocabulary.now role scope.now (binary_word word) (pair_trees pair.entry)
+    ensures { ReadsUnderWord vocabulary.now role scope.now (binary_word word) (pair_trees pair.entry)
         result }
 {
     let f = boxed(vocabulary, scope, role, pair.first)?;
@@ -144,13 +144,13 @@ fn binary(
 /// All of the formulas, or any of them.
 #[cycle(formula)]
 fn many(
-    vocabulary: &Vocabulary<'_>,
+    vocabulary: &Vocabulary<'_, Signature<'_>>,
     scope: &Scope<'_>,
     role: FormulaRole,
     junction: Junction,
     forms: &[Form],
 ) -> Result<Formula, FormFault>
-    ensures { ReadsJoined vocabulary.now role scope.now (many_word junction) (trees_in forms.now)
+    ensures { ReadsUnderWord vocabulary.now role scope.now (many_word junction) (trees_in forms.now)
         result }
 {
     let parts = formulas(vocabulary, scope, role, forms)?;
@@ -160,7 +160,7 @@ fn many(
 /// Formulas.
 #[cycle(formula)]
 fn formulas(
-    vocabulary: &Vocabulary<'_>,
+    vocabulary: &Vocabulary<'_, Signature<'_>>,
     scope: &Scope<'_>,
     role: FormulaRole,
     forms: &[Form],

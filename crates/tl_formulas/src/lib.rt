@@ -2,7 +2,7 @@
 //!
 //! The definitions stand in `specs/`: for each kind of form the rules that it breaks, and what it stands for.
 //!
-//! - `vocabulary`, `signature`, `scope`: what forms are read by, what is declared so far, and the variables in scope.
+//! - `signature`, `scope`: what is declared so far, and the variables in scope.
 //! - `words`: the words of formulas and effects; `roles`: where a formula stands.
 //! - `terms`, `arguments`, `atoms`, `goals`, `bounds`, `variables`: the parts of formulas.
 //! - `shapes`: the parts of formulas' and effects' lists; `bindings`: variables and their bound.
@@ -29,12 +29,10 @@ mod signature;
 mod steps;
 mod terms;
 pub mod variables;
-mod vocabulary;
 mod words;
 
 pub use formulas::formula;
 pub use roles::FormulaRole;
 pub use scope::Scope;
 pub use signature::{Signature, Table};
-pub use vocabulary::Vocabulary;
 pub use words::{EffectWord, FormulaWord, is_reserved};

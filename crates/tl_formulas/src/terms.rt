@@ -10,11 +10,10 @@ ghost use Rattle.tl_rules.specs.Reads.{Reads, trees_in};
 
 use crate::arguments::symbol;
 use crate::scope::Scope;
-use crate::signature::Table;
-use crate::vocabulary::Vocabulary;
+use crate::signature::{Signature, Table};
 use crate::words::operation;
 use tl_rules::parts::two;
-use tl_rules::{Call, FormFault, Rule, breaks, call_in};
+use tl_rules::{Call, FormFault, Rule, Vocabulary, breaks, call_in};
 use tl_sexpr::Form;
 use tl_syntax::{Arg, Op, Term, Terms, Value};
 
@@ -47,7 +46,7 @@ pub(crate) fn called(table: &Table<'_>, text: &str, count: usize, at: u32) -> Re
 #[cycle(term)]
 #[tactic(auto, using(crate::proofs::Rulesets::terms))]
 pub(crate) fn term(
-    vocabulary: &Vocabulary<'_>,
+    vocabulary: &Vocabulary<'_, Signature<'_>>,
     scope: &Scope<'_>,
     form: &Form,
 ) -> Result<Term, FormFault>
@@ -70,7 +69,7 @@ pub(crate) fn term(
 #[cycle(term)]
 #[tactic(auto, using(crate::proofs::Rulesets::terms))]
 fn term_call(
-    vocabulary: &Vocabulary<'_>,
+    vocabulary: &Vocabulary<'_, Signature<'_>>,
     scope: &Scope<'_>,
     call: Call<'_>,
 ) -> Result<Term, FormFault>
@@ -86,7 +85,11 @@ fn term_call(
 /// A place of the function of this name.
 #[cycle(term)]
 #[tactic(auto, using(crate::proofs::Rulesets::terms))]
-fn fluent(vocabulary: &Vocabulary<'_>, scope: &Scope<'_>, call: Call<'_>) -> Result<Term, FormFault>
+fn fluent(
+    vocabulary: &Vocabulary<'_, Signature<'_>>,
+    scope: &Scope<'_>,
+    call: Call<'_>,
+) -> Result<Term, FormFault>
     ensures { ReadsTermCall vocabulary.now scope.now None call.entry result }
 {
     let functions = &vocabulary.declared.functions;
@@ -99,7 +102,7 @@ fn fluent(vocabulary: &Vocabulary<'_>, scope: &Scope<'_>, call: Call<'_>) -> Res
 #[cycle(term)]
 #[tactic(auto, using(crate::proofs::Rulesets::terms))]
 fn arithmetic(
-    vocabulary: &Vocabulary<'_>,
+    vocabulary: &Vocabulary<'_, Signature<'_>>,
     scope: &Scope<'_>,
     op: Op,
     call: Call<'_>,
@@ -118,7 +121,7 @@ fn arithmetic(
 #[cycle(term)]
 #[tactic(auto, using(crate::proofs::Rulesets::terms, crate::proofs::TermTrees::term_steps))]
 pub(crate) fn terms(
-    vocabulary: &Vocabulary<'_>,
+    vocabulary: &Vocabulary<'_, Signature<'_>>,
     scope: &Scope<'_>,
     forms: &[Form],
 ) -> Result<Terms, FormFault>
