@@ -2,7 +2,7 @@
 ghost use Rattle.std.specs.Prelude.{◌≡◌, ◌<◌, ◌≤◌, ℕ, List, Option, length, not, option_map, IfErr, IfOk};
 ghost use Rattle.tl_sexpr.specs.Offsets.{AreAsRead};
 ghost use Rattle.tl_sexpr.specs.Tree.{tree_of, trees_of};
-ghost use Rattle.tl_rules.specs.Parts.{is_call, is_within, natural};
+ghost use Rattle.tl_rules.specs.Parts.{is_within, natural};
 ghost use Rattle.tl_rules.specs.Reads.{Reads, IsLeastFault, trees_in};
 ghost use Rattle.tl_rules.specs.Rules.{breaks_if};
 ghost use Rattle.tl_line.specs.NamedActions.{ActionIsNamed};
@@ -15,25 +15,13 @@ ghost use Rattle.tl_cert.specs.ProofTexts.{LinksAreNamed};
 use crate::proof::{Link, Links, Proof};
 use std::alloc::Global;
 use tl_line::action_of;
-use tl_rules::parts::{call, is_word, offset, one, split_first, three, two};
+use tl_rules::parts::{is_call, is_word, offset, one, split_first, three, two};
 use tl_rules::{FormFault, Rule, breaks};
 use tl_sexpr::{Form, Forms};
 use tl_syntax::Problem;
 
 /// How many links a proof file may have.
 const MOST_LINKS: usize = 100_000;
-
-/// Whether a form is a list that begins with a symbol.
-#[tactic(auto, using(crate::proofs::Rulesets::form_trees))]
-fn is_call(form: &Form) -> bool
-    ensures { result ≡ is_call (tree_of form.now) }
-{
-    match form {
-        Form::Sym(_, _) => false,
-        Form::Int(_, _) => false,
-        Form::List(forms, _) => call(forms.as_slice()).is_some(),
-    }
-}
 
 /// The integer, where it is from 0 to `most`; else the form at this offset breaks this rule.
 fn number_within(number: i64, most: u32, broken: Rule, at: u32) -> Result<u32, FormFault>

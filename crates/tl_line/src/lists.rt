@@ -2,32 +2,19 @@
 ghost use Rattle.std.specs.Prelude.{◌≡◌, ◌+◌, ◌<◌, ◌≤◌, length, IfOk};
 ghost use Rattle.tl_sexpr.specs.Tree.{tree_of};
 ghost use Rattle.tl_syntax.specs.Lists.{Each};
-ghost use Rattle.tl_rules.specs.Parts.{is_call};
 ghost use Rattle.tl_rules.specs.Reads.{trees_in};
 ghost use Rattle.tl_line.specs.NamedActions.{ActionIsNamed};
 ghost use Rattle.tl_line.specs.ReadActions.{ReadsPlacedAction, ReadsActions};
 
 use crate::read::action_of;
 use std::alloc::Global;
-use tl_rules::parts::{call, offset};
+use tl_rules::parts::{is_call, offset};
 use tl_rules::{FormFault, Rule, breaks};
 use tl_sexpr::Form;
 use tl_syntax::{Action, Actions, Problem};
 
 /// How many actions a plan may have.
 const MOST_ACTIONS: usize = 100_000;
-
-/// Whether a form is a list that begins with a symbol.
-#[tactic(auto, using(crate::proofs::Rulesets::form_trees))]
-fn is_call(form: &Form) -> bool
-    ensures { result ≡ is_call (tree_of form.now) }
-{
-    match form {
-        Form::Sym(_, _) => false,
-        Form::Int(_, _) => false,
-        Form::List(forms, _) => call(forms.as_slice()).is_some(),
-    }
-}
 
 /// An action with so many actions before it.
 #[tactic(auto, using(crate::proofs::Placed::placed))]

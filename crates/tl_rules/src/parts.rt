@@ -1,7 +1,7 @@
 // The parts of forms.
 ghost use Rattle.std.specs.Prelude.{◌≡◌, ◌<◌, ◌^◌, ◌+◌, ◌==◌, false, option_map, IfSome, MatchOption};
 ghost use Rattle.tl_sexpr.specs.Tree.{tree_of, no_form, more_forms};
-ghost use Rattle.tl_rules.specs.Parts.{is_variable, elements_of, is_integer, is_name, offset_of, is_list, any_list, count, is_word, size, sizes, text_of, call_of, rest_of, begins_with};
+ghost use Rattle.tl_rules.specs.Parts.{is_variable, elements_of, is_integer, is_name, offset_of, is_list, any_list, count, is_word, size, sizes, text_of, call_of, is_call, rest_of, begins_with};
 ghost use Rattle.tl_rules.specs.Reads.{trees_in};
 
 use tl_sexpr::Form;
@@ -53,6 +53,18 @@ pub fn call(forms: &[Form]) -> Option<(&str, &[Form])>
     match symbol_text(first) {
         Some(text) => Some((text, rest)),
         None => None,
+    }
+}
+
+/// Whether a form is a list that begins with a symbol.
+#[tactic(auto, using(crate::proofs::FormTrees::form_trees))]
+pub fn is_call(form: &Form) -> bool
+    ensures { result ≡ is_call (tree_of form.now) }
+{
+    match form {
+        Form::Sym(_, _) => false,
+        Form::Int(_, _) => false,
+        Form::List(forms, _) => call(forms.as_slice()).is_some(),
     }
 }
 
