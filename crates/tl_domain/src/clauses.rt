@@ -21,7 +21,8 @@ pub(crate) struct Clauses<'a> {
 
 /// The first form, where it is a clause with this word, and the forms after it; else all.
 fn leading<'a>(word: &str, forms: &'a [Form]) -> (Option<&'a Form>, &'a [Form])
-    ensures clause { option_map (λ clause. tree_of clause.now) result.0 ≡ leading word.now (trees_in forms.now) }
+    ensures clause { option_map (λ clause. tree_of clause.now) result.0
+        ≡ leading word.now (trees_in forms.now) }
     ensures later { trees_in result.1.now ≡ after_leading word.now (trees_in forms.now) }
 {
     let Some((first, later)) = split_first(forms) else {

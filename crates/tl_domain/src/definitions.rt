@@ -30,7 +30,8 @@ pub(crate) fn is_taken(signature: &Signature<'_>, text: &str) -> bool
 
 /// Checks that the name of a predicate, a function or a definition is new.
 pub(crate) fn check_free(signature: &Signature<'_>, name: Name<'_>) -> Result<(), FormFault>
-    ensures { Checks result (breaks_if (is_taken signature.now name.entry.text.now) Twice name.entry.at) }
+    ensures { Checks result (breaks_if (is_taken signature.now name.entry.text.now) Twice
+        name.entry.at) }
 {
     if is_taken(signature, name.text) {
         return Err(breaks(Rule::Twice, name.at));
@@ -40,7 +41,8 @@ pub(crate) fn check_free(signature: &Signature<'_>, name: Name<'_>) -> Result<()
 
 /// The number of arguments of a declaration, from 0 to 8.
 pub(crate) fn arity(number: Integer) -> Result<u32, FormFault>
-    ensures { Reads (λ (x : ℕ). x) result (arity_breaks (integer_tree number)) (natural_of (integer_tree number)) }
+    ensures { Reads (λ (x : ℕ). x) result (arity_breaks (integer_tree number))
+        (natural_of (integer_tree number)) }
 {
     if number.value < 0 || number.value > 8 {
         return Err(breaks(Rule::Limit, number.at));
@@ -51,7 +53,8 @@ pub(crate) fn arity(number: Integer) -> Result<u32, FormFault>
 /// The number of levels of a definition, at least 1, which together with those before is at most 64.
 pub(crate) fn levels(before: u32, number: Integer) -> Result<u32, FormFault>
     requires few { before ≤ 64 }
-    ensures read { Reads (λ (x : ℕ). x) result (levels_breaks before (integer_tree number)) (natural_of (integer_tree number)) }
+    ensures read { Reads (λ (x : ℕ). x) result (levels_breaks before (integer_tree number))
+        (natural_of (integer_tree number)) }
     ensures few { IfOk result (λ x. before + x ≤ 64) }
 {
     if number.value < 1 || number.value > 64 - before as i64 {

@@ -27,7 +27,8 @@ fn named_domain(
     forms: &[Form],
 ) -> Result<Domain, FormFault>
     ensures { Reads domain_tree result (items_breaks nothing_declared (trees_in forms.now))
-        (with_items names.now nothing_declared (empty_domain (number_in names.now text.now)) (trees_in forms.now)) }
+        (with_items names.now nothing_declared (empty_domain (number_in names.now text.now))
+        (trees_in forms.now)) }
 {
     let mut draft = empty_draft(alloc, number_of(names, text));
     match items(alloc, names, &mut draft, forms) {

@@ -43,7 +43,8 @@ fn occurs_within(within: Within<'_>, text: &str) -> bool
 /// A head, which has at most so many variables.
 #[tactic(auto, using(crate::proofs::Rulesets::composed))]
 pub(crate) fn read_head(most: usize, list: List<'_>) -> Result<Head<'_>, FormFault>
-    ensures read { Reads head_elements result (head_list_breaks most (list_tree list.entry)) (trees_in list.entry.elements.now) }
+    ensures read { Reads head_elements result (head_list_breaks most (list_tree list.entry))
+        (trees_in list.entry.elements.now) }
     ensures few { IfOk result (λ x. length x.variables.now ≤ most) }
 {
     let Some((first, variables)) = split_first(list.elements) else {
@@ -68,7 +69,8 @@ fn check_parameter(
     text: &str,
     at: u32,
 ) -> Result<(), FormFault>
-    ensures { Checks result (parameter_breaks (occurs_within within.entry) earlier.now text.now at) }
+    ensures { Checks result (parameter_breaks (occurs_within within.entry) earlier.now text.now
+        at) }
 {
     if earlier.slot(text).is_some() {
         return Err(breaks(Rule::Twice, at));
@@ -87,7 +89,8 @@ pub(crate) fn check_parameters(
     variables: &[Form],
 ) -> Result<(), FormFault>
     requires { length variables.now ≤ 32 }
-    ensures { Checks result (parameters_breaks (occurs_within within.entry) [] (trees_in variables.now)) }
+    ensures { Checks result (parameters_breaks (occurs_within within.entry) []
+        (trees_in variables.now)) }
 {
     let mut earlier = Scope::new(alloc);
     for form in variables {

@@ -121,7 +121,8 @@ pub(crate) fn defined<'a>(
     call: Call<'a>,
 ) -> Result<(), FormFault>
     requires few { draft.old.levels ≤ 64 }
-    ensures read { AddsItem result names.now item.Defined (call_tree call.entry) draft.old draft.new }
+    ensures read { AddsItem result names.now item.Defined (call_tree call.entry) draft.old
+        draft.new }
     ensures few { OnOk result (draft.new.levels ≤ 64) }
 {
     let Some(parts) = defined_in(call.rest) else {

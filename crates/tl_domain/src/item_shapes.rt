@@ -33,7 +33,8 @@ pub(crate) struct Defined<'a> {
 /// The elements as a declaration, where they are one.
 #[tactic(auto, using(crate::proofs::ItemParts::shapes))]
 pub(crate) fn declaration_in(rest: &[Form]) -> Option<Declaration<'_>>
-    ensures { MatchOption result (has_declaration_shape (trees_in rest.now) ≡ false) (IsDeclaration (trees_in rest.now)) }
+    ensures { MatchOption result (has_declaration_shape (trees_in rest.now) ≡ false)
+        (IsDeclaration (trees_in rest.now)) }
 {
     let Some((name, arity)) = two(rest) else {
         return None;
@@ -50,7 +51,8 @@ pub(crate) fn declaration_in(rest: &[Form]) -> Option<Declaration<'_>>
 /// The elements as a head and a body, where they are that.
 #[tactic(auto, using(crate::proofs::ItemParts::shapes))]
 pub(crate) fn define_in(rest: &[Form]) -> Option<Define<'_>>
-    ensures { MatchOption result (has_define_shape (trees_in rest.now) ≡ false) (IsDefine (trees_in rest.now)) }
+    ensures { MatchOption result (has_define_shape (trees_in rest.now) ≡ false)
+        (IsDefine (trees_in rest.now)) }
 {
     let Some((head, body)) = two(rest) else {
         return None;
@@ -64,7 +66,8 @@ pub(crate) fn define_in(rest: &[Form]) -> Option<Define<'_>>
 /// The elements as a number of levels, a head and a body, where they are that.
 #[tactic(auto, using(crate::proofs::ItemParts::shapes))]
 pub(crate) fn defined_in(rest: &[Form]) -> Option<Defined<'_>>
-    ensures { MatchOption result (has_defined_shape (trees_in rest.now) ≡ false) (IsDefined (trees_in rest.now)) }
+    ensures { MatchOption result (has_defined_shape (trees_in rest.now) ≡ false)
+        (IsDefined (trees_in rest.now)) }
 {
     let Some((levels, head, body)) = three(rest) else {
         return None;

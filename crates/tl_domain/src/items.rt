@@ -23,7 +23,8 @@ fn called_item<'a>(
     call: Call<'a>,
 ) -> Result<(), FormFault>
     requires few { draft.old.levels ≤ 64 }
-    ensures read { AddsItem result names.now (item_word call.entry.word.now) (call_tree call.entry) draft.old draft.new }
+    ensures read { AddsItem result names.now (item_word call.entry.word.now) (call_tree call.entry)
+        draft.old draft.new }
     ensures few { OnOk result (draft.new.levels ≤ 64) }
 {
     match call.word {

@@ -85,7 +85,8 @@ fn effects_of(
 
 /// Checks that an operator's name is new.
 fn check_new(operators: &OperatorNames<'_>, name: Name<'_>) -> Result<(), FormFault>
-    ensures { Checks result (breaks_if (list_any (bytes_eq name.entry.text.now) operators.now) Twice name.entry.at) }
+    ensures { Checks result (breaks_if (list_any (bytes_eq name.entry.text.now) operators.now) Twice
+        name.entry.at) }
 {
     if operators.contains(name.text) {
         return Err(breaks(Rule::Twice, name.at));
@@ -101,7 +102,8 @@ pub(crate) fn operator_head<'a>(
     bounds: Option<&Form>,
     list: List<'a>,
 ) -> Result<Head<'a>, FormFault>
-    ensures read { ReadsOperatorHead result operators.now (clause_tree bounds.entry) (list_tree list.entry) }
+    ensures read { ReadsOperatorHead result operators.now (clause_tree bounds.entry)
+        (list_tree list.entry) }
     ensures few { IfOk result (λ x. length x.variables.now ≤ 16) }
 {
     let head = read_head(16, list)?;

@@ -69,7 +69,8 @@ pub(crate) fn integer_in(form: &Form) -> Option<Integer>
 /// A form as a list, where it is one.
 #[tactic(auto, using(crate::proofs::Rulesets::form_trees))]
 pub(crate) fn list_in(form: &Form) -> Option<List<'_>>
-    ensures { MatchOption result (is_list (tree_of form.now) ≡ false) (λ x. tree_of form.now ≡ list_tree x) }
+    ensures { MatchOption result (is_list (tree_of form.now) ≡ false)
+        (λ x. tree_of form.now ≡ list_tree x) }
 {
     match form {
         Form::List(forms, at) => Some(List {

@@ -27,7 +27,8 @@ pub fn problem_of(
     requires domain { DomainKeeps (length names) domain }
     ensures problem { IfOk result (CompleteToProblem names domain (trees_of forms.now)) }
     ensures fault { IfErr result (IsFirstAfterDomain names domain (trees_of forms.now)) }
-    ensures least { AreAsRead (trees_of forms.now) → IfErr result (IsLeastAfterDomain names domain (trees_of forms.now)) }
+    ensures least { AreAsRead (trees_of forms.now)
+        → IfErr result (IsLeastAfterDomain names domain (trees_of forms.now)) }
 {
     tl_problem::problem_of(alloc, forms, domain, names)
 }

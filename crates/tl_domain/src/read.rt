@@ -28,7 +28,8 @@ pub fn domain_of(alloc: Global, forms: &Forms, names: &mut Names) -> Result<Doma
     requires room { HaveRoom names.old (trees_of forms.now) }
     ensures read { Reads domain_tree result (domain_file_breaks (trees_of forms.now))
         (domain_file_meant names.new (trees_of forms.now)) }
-    ensures least { AreAsRead (trees_of forms.now) → IfErr result (IsLeastFault (domain_file_breaks (trees_of forms.now))) }
+    ensures least { AreAsRead (trees_of forms.now)
+        → IfErr result (IsLeastFault (domain_file_breaks (trees_of forms.now))) }
     ensures keeps { IfOk result (DomainKeeps (length names.new)) }
     ensures added { OnOk result (names.new ≡ names_with_all names.old (trees_of forms.now)) }
     ensures kept { BeginsWith names.new names.old }

@@ -170,7 +170,8 @@ pub(crate) fn under_quantifier(
     bound: Bound,
     f: Box<Formula>,
 ) -> Formula
-    ensures { tree_of_formula result ≡ quantifier_tree junction vars bound (tree_of_formula f.value) }
+    ensures { tree_of_formula result ≡ quantifier_tree junction vars bound
+        (tree_of_formula f.value) }
 {
     match junction {
         Junction::All => Formula::ForAll(vars, bound, f),

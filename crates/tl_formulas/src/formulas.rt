@@ -128,7 +128,8 @@ fn binary(
     word: Binary,
     pair: Pair<'_>,
 ) -> Result<Formula, FormFault>
-    ensures { ReadsUnderWord vocabulary.now role scope.now (binary_word word) (pair_trees pair.entry)
+    ensures { ReadsUnderWord vocabulary.now role scope.now (binary_word word)
+        (pair_trees pair.entry)
         result }
 {
     let f = boxed(vocabulary, scope, role, pair.first)?;

@@ -25,7 +25,8 @@ fn placed_action(
     before: usize,
 ) -> Result<Action, FormFault>
     ensures read { ReadsPlacedAction problem.now before (tree_of form.now) result }
-    ensures named { IfOk result (λ action. ActionIsNamed problem.now.names problem.now.domain.operators action) }
+    ensures named { IfOk result (λ action. ActionIsNamed problem.now.names
+        problem.now.domain.operators action) }
     ensures few { IfOk result (λ _. before < 100000) }
 {
     if before < MOST_ACTIONS {
@@ -50,7 +51,8 @@ pub fn actions_of(
     requires { before ≤ 100000 }
     ensures read { ReadsActions problem.now before (trees_in forms.now) result }
     ensures few { IfOk result (λ plan. before + length plan ≤ 100000) }
-    ensures named { IfOk result (λ plan. Each (ActionIsNamed problem.now.names problem.now.domain.operators) plan) }
+    ensures named { IfOk result (λ plan. Each (ActionIsNamed problem.now.names
+        problem.now.domain.operators) plan) }
 {
     let mut actions = Actions::new(alloc);
     for form in forms {

@@ -43,7 +43,8 @@ fn operator(
     at: u32,
 ) -> Result<u32, FormFault>
     requires { length operators.now ≤ 256 }
-    ensures { Reads (λ (x : ℕ). x) result (operator_breaks names.now operators.now text.now arguments at)
+    ensures { Reads (λ (x : ℕ). x) result (operator_breaks names.now operators.now text.now
+        arguments at)
         (unwrap_or (operator_at names.now operators.now text.now) 0) }
 {
     let Some(place) = operator_of(names, operators, text) else {
@@ -101,7 +102,8 @@ pub fn action_of(alloc: Global, form: &Form, problem: &Problem) -> Result<Action
     ensures read { ReadsAction problem.now (tree_of form.now) result }
     ensures least { (low next : ℕ) → RisesFrom low (tree_of form.now) next
         → IfErr result (IsLeastFault (action_breaks_in problem.now (tree_of form.now))) }
-    ensures named { IfOk result (λ action. ActionIsNamed problem.now.names problem.now.domain.operators action) }
+    ensures named { IfOk result (λ action. ActionIsNamed problem.now.names
+        problem.now.domain.operators action) }
 {
     action(
         alloc,

@@ -51,7 +51,8 @@ fn operator_name(problem: &Problem, op: u32) -> &str
 pub fn put_action(problem: &Problem, a: &Action, out: &mut Bytes) -> Result<(), NoMemory>
     requires operator { a.now.op < length problem.now.domain.operators }
     requires named { Each (ValueIsNamed (length problem.now.names)) a.now.args }
-    ensures { Puts result out.old out.new (action_text problem.now.names problem.now.domain.operators a.now) }
+    ensures { Puts result out.old out.new (action_text problem.now.names
+        problem.now.domain.operators a.now) }
 {
     out.extend(b"(")?;
     out.extend(operator_name(problem, a.op).as_bytes())?;

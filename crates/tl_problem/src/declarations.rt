@@ -19,7 +19,8 @@ fn position_among(declared: &[Declared], name: u32) -> Option<usize>
 /// The position of the declaration of a name, which is called with so many arguments by the form at an offset.
 /// A domain declares far less than what 32 bits can number; past them the answer is want of memory.
 fn position_with(declared: &[Declared], name: u32, count: usize, at: u32) -> Result<u32, FormFault>
-    ensures { Reads (λ (x : ℕ). x) result (call_breaks_at declared.now (position (λ d. d.name == name) declared.now) count at)
+    ensures { Reads (λ (x : ℕ). x) result (call_breaks_at declared.now
+        (position (λ d. d.name == name) declared.now) count at)
         (unwrap_or (position (λ d. d.name == name) declared.now) 0) }
 {
     let Some(position) = position_among(declared, name) else {
@@ -37,7 +38,8 @@ fn position_with(declared: &[Declared], name: u32, count: usize, at: u32) -> Res
 /// The position of what a list calls.
 #[tactic(auto, using(crate::proofs::Rulesets::composed))]
 pub(crate) fn called(names: &Names, declared: &[Declared], call: Call<'_>) -> Result<u32, FormFault>
-    ensures { Reads (λ (x : ℕ). x) result (call_breaks names.now declared.now (call_tree call.entry))
+    ensures { Reads (λ (x : ℕ). x) result (call_breaks names.now declared.now
+        (call_tree call.entry))
         (position_meant names.now declared.now call.entry.word.now) }
 {
     let name = number_of(names, call.word);

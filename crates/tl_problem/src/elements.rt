@@ -29,7 +29,8 @@ fn read_fact(
     literals: &mut LiteralTables,
     call: Call<'_>,
 ) -> Result<(), FormFault>
-    ensures { AddsCall result vocabulary.now word.Fact (call_tree call.entry) literals.old literals.new }
+    ensures { AddsCall result vocabulary.now word.Fact (call_tree call.entry) literals.old
+        literals.new }
 {
     let predicates = vocabulary.declared.predicates.as_slice();
     let fact = fact(vocabulary.alloc, vocabulary.names, predicates, call)?;
@@ -43,7 +44,8 @@ fn read_negation(
     literals: &mut LiteralTables,
     call: Call<'_>,
 ) -> Result<(), FormFault>
-    ensures { AddsCall result vocabulary.now word.Negation (call_tree call.entry) literals.old literals.new }
+    ensures { AddsCall result vocabulary.now word.Negation (call_tree call.entry) literals.old
+        literals.new }
 {
     let predicates = vocabulary.declared.predicates.as_slice();
     let fact = negation(vocabulary.alloc, vocabulary.names, predicates, call)?;
@@ -57,7 +59,8 @@ fn read_equality(
     literals: &mut LiteralTables,
     call: Call<'_>,
 ) -> Result<(), FormFault>
-    ensures { AddsCall result vocabulary.now word.Equality (call_tree call.entry) literals.old literals.new }
+    ensures { AddsCall result vocabulary.now word.Equality (call_tree call.entry) literals.old
+        literals.new }
 {
     let functions = vocabulary.declared.functions.as_slice();
     let entry = equality(vocabulary.alloc, vocabulary.names, functions, call)?;
@@ -71,7 +74,8 @@ fn read_call(
     literals: &mut LiteralTables,
     call: Call<'_>,
 ) -> Result<(), FormFault>
-    ensures { AddsCall result vocabulary.now (element_word section call.entry.word.now) (call_tree call.entry) literals.old literals.new }
+    ensures { AddsCall result vocabulary.now (element_word section call.entry.word.now)
+        (call_tree call.entry) literals.old literals.new }
 {
     match (section, call.word) {
         (_, "=") => read_equality(vocabulary, literals, call),
@@ -87,7 +91,8 @@ fn read_element(
     literals: &mut LiteralTables,
     form: &Form,
 ) -> Result<(), FormFault>
-    ensures { AddsElement result vocabulary.now section (tree_of form.now) literals.old literals.new }
+    ensures { AddsElement result vocabulary.now section (tree_of form.now) literals.old
+        literals.new }
 {
     match call_in(form) {
         Some(call) => read_call(vocabulary, section, literals, call),
@@ -103,7 +108,8 @@ pub(crate) fn read_elements(
     literals: &mut LiteralTables,
     forms: &[Form],
 ) -> Result<(), FormFault>
-    ensures { AddsElements result vocabulary.now section (trees_in forms.now) literals.old literals.new }
+    ensures { AddsElements result vocabulary.now section (trees_in forms.now) literals.old
+        literals.new }
 {
     for form in forms {
         read_element(vocabulary, section, literals, form)?;

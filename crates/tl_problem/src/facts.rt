@@ -24,8 +24,12 @@ fn ground(
     declared: &[Declared],
     call: Call<'_>,
 ) -> Result<(u32, Values), FormFault>
-    ensures { Reads (λ (x : ℕ × List Value). x) result (ground_breaks names.now declared.now (call_tree call.entry))
-        (position_meant names.now declared.now call.entry.word.now, values_meant names.now (trees_in call.entry.rest.now)) }
+    ensures { Reads (λ (x : ℕ × List Value). x) result
+        (ground_breaks names.now declared.now (call_tree call.entry)) (
+          position_meant names.now declared.now call.entry.word.now,
+          values_meant names.now
+              (trees_in call.entry.rest.now),
+        ) }
 {
     let position = called(names, declared, call)?;
     let values = values(alloc, names, call.rest)?;
@@ -39,7 +43,8 @@ pub(crate) fn fact(
     predicates: &[Declared],
     call: Call<'_>,
 ) -> Result<Fact, FormFault>
-    ensures { Reads (λ (x : Fact). x) result (ground_breaks names.now predicates.now (call_tree call.entry))
+    ensures { Reads (λ (x : Fact). x) result (ground_breaks names.now predicates.now
+        (call_tree call.entry))
         (fact_meant names.now predicates.now (call_tree call.entry)) }
 {
     let (pred, args) = ground(alloc, names, predicates, call)?;

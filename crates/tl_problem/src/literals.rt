@@ -34,7 +34,8 @@ impl LiteralTables {
 
     /// Adds the fact of an element at this offset, which no element may negate.
     pub(crate) fn add_fact(&mut self, fact: Fact, at: u32) -> Result<(), FormFault>
-        ensures { Adds result self.new (fact_denied (literals_in self.old) fact at) (and_fact (literals_in self.old) fact) }
+        ensures { Adds result self.new (fact_denied (literals_in self.old) fact at)
+            (and_fact (literals_in self.old) fact) }
     {
         if self.nots.contains(&fact) {
             return Err(breaks(Rule::TwoValues, at));
@@ -45,7 +46,8 @@ impl LiteralTables {
 
     /// Adds the negated fact of an element at this offset, which no element may say.
     pub(crate) fn add_not(&mut self, fact: Fact, at: u32) -> Result<(), FormFault>
-        ensures { Adds result self.new (fact_said (literals_in self.old) fact at) (and_not (literals_in self.old) fact) }
+        ensures { Adds result self.new (fact_said (literals_in self.old) fact at)
+            (and_not (literals_in self.old) fact) }
     {
         if self.facts.contains(&fact) {
             return Err(breaks(Rule::TwoValues, at));
@@ -56,7 +58,8 @@ impl LiteralTables {
 
     /// Adds the place with its value of an element at this offset, to which no element may give another value.
     pub(crate) fn add_value(&mut self, entry: PlaceValue, at: u32) -> Result<(), FormFault>
-        ensures { Adds result self.new (value_differs (literals_in self.old) entry at) (and_value (literals_in self.old) entry) }
+        ensures { Adds result self.new (value_differs (literals_in self.old) entry at)
+            (and_value (literals_in self.old) entry) }
     {
         let PlaceValue { fun, args, value } = entry;
         let place = Place { fun, args };

@@ -50,7 +50,8 @@ impl PlaceMap {
 
     /// Adds a place with a value at the end, where the place has none.
     pub(crate) fn insert(&mut self, place: Place, value: Value) -> Result<(), NoMemory>
-        ensures { OnOk result (self.new ≡ with_value self.old (record { fun = place.fun; args = place.args; value = value })) }
+        ensures { OnOk result (self.new ≡ with_value self.old
+            (record { fun = place.fun; args = place.args; value = value })) }
     {
         if self.value(&place).is_none() {
             self.values.insert(place, value)?;

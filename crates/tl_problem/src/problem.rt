@@ -53,7 +53,8 @@ pub fn problem_of(
     ensures problem { IfOk result (IsProblemOf names domain (trees_of forms.now)) }
     ensures lawful { OnOk result (breaks_of names domain (trees_of forms.now) ≡ []) }
     ensures fault { IfErr result (IsFirst (breaks_of names domain (trees_of forms.now))) }
-    ensures least { AreAsRead (trees_of forms.now) → IfErr result (IsLeastFault (breaks_of names domain (trees_of forms.now))) }
+    ensures least { AreAsRead (trees_of forms.now)
+        → IfErr result (IsLeastFault (breaks_of names domain (trees_of forms.now))) }
 {
     let mut all_names = names;
     match said(alloc, &domain, &mut all_names, forms) {

@@ -130,7 +130,8 @@ pub(crate) fn settled(
 ) -> Result<Problem, NoMemory>
     requires domain { DomainKeeps (length names) domain }
     requires said { SectionsKeep (signature_of domain) (length names) (sections_in said) }
-    ensures { IfOk result (λ p. (numbers : List ℕ) × IsSettledProblem numbers names domain (sections_in said) p) }
+    ensures { IfOk result (λ p. (numbers : List ℕ)
+        × IsSettledProblem numbers names domain (sections_in said) p) }
 {
     let Ok((names, numbers)) = names.settled(alloc) else {
         drop(domain);

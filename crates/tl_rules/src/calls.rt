@@ -26,7 +26,8 @@ pub struct Call<'a> {
 pub fn call_in(form: &Form) -> Option<Call<'_>>
     ensures found { FindsCall (tree_of form.now) result }
     ensures parts { option_map call_tree result ≡ call_in (tree_of form.now) }
-    ensures smaller { IfSome result (λ call. sizes (trees_in call.rest.now) < size (tree_of form.now)) }
+    ensures smaller { IfSome result (λ call. sizes (trees_in call.rest.now)
+        < size (tree_of form.now)) }
 {
     match form {
         Form::Sym(_, _) => None,
@@ -39,7 +40,8 @@ pub fn call_in(form: &Form) -> Option<Call<'_>>
 fn call_among(forms: &[Form], at: u32) -> Option<Call<'_>>
     ensures found { FindsCall (list (trees_in forms.now) at) result }
     ensures parts { option_map call_tree result ≡ call_with (trees_in forms.now) at }
-    ensures smaller { IfSome result (λ call. sizes (trees_in call.rest.now) < sizes (trees_in forms.now)) }
+    ensures smaller { IfSome result (λ call. sizes (trees_in call.rest.now)
+        < sizes (trees_in forms.now)) }
 {
     match split_first(forms) {
         Some((first, rest)) => call_of(first, rest, at),
@@ -50,8 +52,10 @@ fn call_among(forms: &[Form], at: u32) -> Option<Call<'_>>
 /// The list of this first element and these after it, where the first is a symbol.
 #[tactic(auto, using(crate::proofs::FormTrees::form_trees))]
 fn call_of<'a>(first: &'a Form, rest: &'a [Form], at: u32) -> Option<Call<'a>>
-    ensures found { FindsCall (list (more_forms (tree_of first.now) (trees_in rest.now)) at) result }
-    ensures parts { option_map call_tree result ≡ call_with (more_forms (tree_of first.now) (trees_in rest.now)) at }
+    ensures found { FindsCall (list (more_forms (tree_of first.now) (trees_in rest.now)) at)
+        result }
+    ensures parts { option_map call_tree result ≡ call_with
+        (more_forms (tree_of first.now) (trees_in rest.now)) at }
     ensures rest { IfSome result (λ call. trees_in call.rest.now ≡ trees_in rest.now) }
 {
     match first {

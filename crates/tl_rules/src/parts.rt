@@ -44,8 +44,10 @@ pub fn symbol_text(form: &Form) -> Option<&str>
 
 /// The first word and the forms after it, where the first form is a symbol.
 pub fn call(forms: &[Form]) -> Option<(&str, &[Form])>
-    ensures found { option_map (λ found. (found.0.now, trees_in found.1.now)) result ≡ call_of (trees_in forms.now) }
-    ensures smaller { IfSome result (λ found. sizes (trees_in found.1.now) < sizes (trees_in forms.now)) }
+    ensures found { option_map (λ found. (found.0.now, trees_in found.1.now)) result
+        ≡ call_of (trees_in forms.now) }
+    ensures smaller { IfSome result (λ found. sizes (trees_in found.1.now)
+        < sizes (trees_in forms.now)) }
 {
     let [first, rest @ ..] = forms else {
         return None;
@@ -95,7 +97,8 @@ pub fn one(forms: &[Form]) -> Option<&Form>
 #[tactic(auto, using(crate::proofs::Composed::composed))]
 pub fn two(forms: &[Form]) -> Option<(&Form, &Form)>
     ensures found { MatchOption result ((count (trees_in forms.now) == 2) ≡ false)
-        (λ found. trees_in forms.now ≡ more_forms (tree_of found.0.now) (more_forms (tree_of found.1.now) no_form)) }
+        (λ found. trees_in forms.now ≡ more_forms (tree_of found.0.now)
+        (more_forms (tree_of found.1.now) no_form)) }
 {
     match forms {
         [first, second] => Some((first, second)),
@@ -167,7 +170,8 @@ pub fn three(forms: &[Form]) -> Option<(&Form, &Form, &Form)>
 #[tactic(auto, using(crate::proofs::Composed::composed))]
 pub fn four(forms: &[Form]) -> Option<(&Form, &Form, &Form, &Form)>
     ensures found { MatchOption result ((count (trees_in forms.now) == 4) ≡ false)
-        (λ found. trees_in forms.now ≡ more_forms (tree_of found.0.now) (more_forms (tree_of found.1.now)
+        (λ found. trees_in forms.now ≡ more_forms (tree_of found.0.now)
+        (more_forms (tree_of found.1.now)
         (more_forms (tree_of found.2.now) (more_forms (tree_of found.3.now) no_form)))) }
 {
     match forms {
