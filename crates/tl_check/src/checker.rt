@@ -36,7 +36,7 @@ pub fn execution_of<L: Ledger>(
     requires some { 0 < blank.parts }
     ensures { IsExecution (plain_problem task.now.problem) plan.now result }
 {
-    let mut env = Env::new(alloc)?;
+    let mut env = Env::for_task(alloc, task)?;
     let mut steps: Steps<L> = Steps::new(blank);
     executed(alloc, task, plan, &mut env, &mut steps)
 }
@@ -59,7 +59,7 @@ fn judged(alloc: Global, task: &Task, worlds: &[World]) -> Result<Verdict, Check
         histories: histories.as_slice(),
     };
     let first = Span { from: 0, to: 1 };
-    let mut env = Env::new(alloc)?;
+    let mut env = Env::for_task(alloc, task)?;
     let labels = labels_of(&task.problem.domain.control, &along, first, &mut env)?;
     if labels.at(0) {
         Ok(Verdict::Valid)

@@ -45,7 +45,7 @@ impl Explanation {
     pub(crate) fn start(alloc: Global, task: &Task) -> Result<Explanation, NoMemory>
         ensures { IfOk result (AwaitsFirst task.now.problem) }
     {
-        let env = Env::new(alloc)?;
+        let env = Env::for_task(alloc, task)?;
         let world = first_of(alloc, task)?;
         let mut nodes = Nodes::new(alloc)?;
         let label = nodes.of_tree(&task.problem.domain.control)?;

@@ -52,7 +52,7 @@ fn obeys(lasso: &Lasso) -> Result<bool, CheckFault>
     requires { IsLasso lasso.now }
     ensures { Obeys (plain_problem lasso.now.task.now.problem) lasso.now.stem lasso.now.worlds.now result }
 {
-    let mut env = Env::new(lasso.alloc)?;
+    let mut env = Env::for_task(lasso.alloc, lasso.task)?;
     let labels = labels_of(&lasso.task.problem.domain.control, lasso, &mut env)?;
     Ok(labels.at(0))
 }

@@ -53,8 +53,8 @@ pub struct Space {
 }
 
 /// A frame without values, and the two constants.
-fn begun(alloc: Global) -> Result<(Env, Nodes), NoMemory> {
-    let env = Env::new(alloc)?;
+fn begun(alloc: Global, task: &Task) -> Result<(Env, Nodes), NoMemory> {
+    let env = Env::for_task(alloc, task)?;
     let nodes = Nodes::new(alloc)?;
     Ok((env, nodes))
 }
@@ -67,7 +67,7 @@ impl Space {
         ensures task { IfOk result (λ s. task_of s ≡ task) }
         ensures empty { IfOk result (λ s. kept_of s ≡ []) }
     {
-        match begun(alloc) {
+        match begun(alloc, &task) {
             Ok((env, nodes)) => Ok(Space::of(alloc, task, env, nodes)),
             Err(fault) => {
                 drop(task);
