@@ -21,33 +21,33 @@ abbrev pub situations_along : Lasso → Situations
 situations_along lasso = situations_round (plain_problem lasso.task.now.problem) lasso.stem lasso.worlds.now
 
 -- the formula fits the signature of the problem whose states they are
-abbrev pub FitsAlong : Lasso → FormulaTree → Type 0
-FitsAlong lasso f = Fits (signature_of lasso.task.now.problem.domain) [] f
+abbrev pub FitsOnLasso : Lasso → FormulaTree → Type 0
+FitsOnLasso lasso f = Fits (signature_of lasso.task.now.problem.domain) [] f
 
 -- the labels of the formula at the positions, or a note of an operation that it looks at
-abbrev pub AreLabelsAlong : Lasso → List (Option Value) → FormulaTree → Result (List Bool) CheckFault → Type 0
-AreLabelsAlong lasso frame f r = AreLabels (plain_problem lasso.task.now.problem) lasso.stem lasso.worlds.now (assignment_in frame) f r
+abbrev pub AreLabelsOnLasso : Lasso → List (Option Value) → FormulaTree → Result (List Bool) CheckFault → Type 0
+AreLabelsOnLasso lasso frame f r = AreLabels (plain_problem lasso.task.now.problem) lasso.stem lasso.worlds.now (assignment_in frame) f r
 
 -- the label at each position tells whether the bound is true there
-abbrev pub BoundLabelsAlong : Lasso → List (Option Value) → Bound → List Bool → Type 0
-BoundLabelsAlong lasso frame b bs = BoundLabels (situations_along lasso) (length lasso.worlds.now) (assignment_in frame) b bs
+abbrev pub BoundLabelsOnLasso : Lasso → List (Option Value) → Bound → List Bool → Type 0
+BoundLabelsOnLasso lasso frame b bs = BoundLabels (situations_along lasso) (length lasso.worlds.now) (assignment_in frame) b bs
 
 -- the bound is true at a position before this one
-abbrev pub WasTrueAlong : Lasso → List (Option Value) → Bound → ℕ → Type 0
-WasTrueAlong lasso frame b i = WasTrue (situations_along lasso) (assignment_in frame) b i
+abbrev pub WasTrueOnLasso : Lasso → List (Option Value) → Bound → ℕ → Type 0
+WasTrueOnLasso lasso frame b i = WasTrue (situations_along lasso) (assignment_in frame) b i
 
 -- the labels have the instances of the first i positions, and no others
-abbrev pub GathersAlong : Lasso → List (Option Value) → Quantifier → ℕ → List Bool → Type 0
-GathersAlong lasso frame q i bs = Gathers (situations_along lasso) (length lasso.worlds.now) (assignment_in frame) q i bs
+abbrev pub GathersOnLasso : Lasso → List (Option Value) → Quantifier → ℕ → List Bool → Type 0
+GathersOnLasso lasso frame q i bs = Gathers (situations_along lasso) (length lasso.worlds.now) (assignment_in frame) q i bs
 
 -- those of position i are in the labels too, or an operation that one of them looks at is noted
-abbrev pub GathersNextAlong : Lasso → List (Option Value) → Quantifier → ℕ → List Bool → Result (Unit {0}) CheckFault → Type 0
-GathersNextAlong lasso frame q i new r = GathersNext (plain_problem lasso.task.now.problem) lasso.stem lasso.worlds.now (assignment_in frame) q i new r
+abbrev pub GathersNextOnLasso : Lasso → List (Option Value) → Quantifier → ℕ → List Bool → Result (Unit {0}) CheckFault → Type 0
+GathersNextOnLasso lasso frame q i new r = GathersNext (plain_problem lasso.task.now.problem) lasso.stem lasso.worlds.now (assignment_in frame) q i new r
 
 -- the instance under the frame's values is joined, or an operation that it looks at is noted
-abbrev pub JoinsAlong : Lasso → List (Option Value) → Quantifier → List Bool → List Bool → Result (Unit {0}) CheckFault → Type 0
-JoinsAlong lasso frame q old new r = JoinsInstance (plain_problem lasso.task.now.problem) lasso.stem lasso.worlds.now (assignment_in frame) q old new r
+abbrev pub JoinsOnLasso : Lasso → List (Option Value) → Quantifier → List Bool → List Bool → Result (Unit {0}) CheckFault → Type 0
+JoinsOnLasso lasso frame q old new r = JoinsInstance (plain_problem lasso.task.now.problem) lasso.stem lasso.worlds.now (assignment_in frame) q old new r
 
 -- so it is, or its bound was true before position i, and the labels stay
-abbrev pub JoinsNewAlong : Lasso → List (Option Value) → Quantifier → ℕ → List Bool → List Bool → Result (Unit {0}) CheckFault → Type 0
-JoinsNewAlong lasso frame q i old new r = JoinsIfNew (plain_problem lasso.task.now.problem) lasso.stem lasso.worlds.now (assignment_in frame) q i old new r
+abbrev pub JoinsNewOnLasso : Lasso → List (Option Value) → Quantifier → ℕ → List Bool → List Bool → Result (Unit {0}) CheckFault → Type 0
+JoinsNewOnLasso lasso frame q i old new r = JoinsIfNew (plain_problem lasso.task.now.problem) lasso.stem lasso.worlds.now (assignment_in frame) q i old new r

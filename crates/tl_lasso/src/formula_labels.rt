@@ -2,7 +2,7 @@
 ghost use Rattle.std.specs.Prelude.{◌≡◌, ◌<◌, length, OnOk};
 ghost use Rattle.tl_check.specs.Later.{later_tree};
 ghost use Rattle.tl_check.specs.PartTrees.{until_tree, quantifier_of, quantified_tree};
-ghost use Rattle.tl_lasso.specs.AlongLasso.{FitsAlong, AreLabelsAlong, GathersAlong, GathersNextAlong, JoinsAlong, JoinsNewAlong};
+ghost use Rattle.tl_lasso.specs.AlongLasso.{FitsOnLasso, AreLabelsOnLasso, GathersOnLasso, GathersNextOnLasso, JoinsOnLasso, JoinsNewOnLasso};
 ghost use Rattle.tl_lasso.specs.Lassos.{IsLasso};
 ghost use Rattle.tl_syntax.specs.Junctions.{joined};
 ghost use Rattle.tl_syntax.specs.TreeOfFormula.{tree_of_formula, tree_of_formulas};
@@ -23,8 +23,8 @@ use tl_syntax::{Formula, Formulas, Junction};
 pub(crate) fn labels_of(f: &Formula, lasso: &Lasso, env: &mut Env) -> Result<Labels, CheckFault>
     requires lasso { IsLasso lasso.now }
     requires frame { length env.old ≡ 32 }
-    requires fits { FitsAlong lasso.now (tree_of_formula f.now) }
-    ensures labels { AreLabelsAlong lasso.now env.old (tree_of_formula f.now) result }
+    requires fits { FitsOnLasso lasso.now (tree_of_formula f.now) }
+    ensures labels { AreLabelsOnLasso lasso.now env.old (tree_of_formula f.now) result }
     ensures frame { OnOk result (env.new ≡ env.old) }
 {
     if is_state(f) {
@@ -72,8 +72,8 @@ pub(crate) fn labels_of(f: &Formula, lasso: &Lasso, env: &mut Env) -> Result<Lab
 fn negated_labels(part: &Formula, lasso: &Lasso, env: &mut Env) -> Result<Labels, CheckFault>
     requires lasso { IsLasso lasso.now }
     requires frame { length env.old ≡ 32 }
-    requires fits { FitsAlong lasso.now (negation (tree_of_formula part.now)) }
-    ensures labels { AreLabelsAlong lasso.now env.old (negation (tree_of_formula part.now)) result }
+    requires fits { FitsOnLasso lasso.now (negation (tree_of_formula part.now)) }
+    ensures labels { AreLabelsOnLasso lasso.now env.old (negation (tree_of_formula part.now)) result }
     ensures frame { OnOk result (env.new ≡ env.old) }
 {
     let mut found = labels_of(part, lasso, env)?;
@@ -86,8 +86,8 @@ fn negated_labels(part: &Formula, lasso: &Lasso, env: &mut Env) -> Result<Labels
 fn next_labels(part: &Formula, lasso: &Lasso, env: &mut Env) -> Result<Labels, CheckFault>
     requires lasso { IsLasso lasso.now }
     requires frame { length env.old ≡ 32 }
-    requires fits { FitsAlong lasso.now (next (tree_of_formula part.now)) }
-    ensures labels { AreLabelsAlong lasso.now env.old (next (tree_of_formula part.now)) result }
+    requires fits { FitsOnLasso lasso.now (next (tree_of_formula part.now)) }
+    ensures labels { AreLabelsOnLasso lasso.now env.old (next (tree_of_formula part.now)) result }
     ensures frame { OnOk result (env.new ≡ env.old) }
 {
     let mut found = labels_of(part, lasso, env)?;
@@ -107,8 +107,8 @@ fn later_labels(
 ) -> Result<Labels, CheckFault>
     requires lasso { IsLasso lasso.now }
     requires frame { length env.old ≡ 32 }
-    requires fits { FitsAlong lasso.now (later_tree word (tree_of_formula part.now)) }
-    ensures labels { AreLabelsAlong lasso.now env.old (later_tree word (tree_of_formula part.now)) result }
+    requires fits { FitsOnLasso lasso.now (later_tree word (tree_of_formula part.now)) }
+    ensures labels { AreLabelsOnLasso lasso.now env.old (later_tree word (tree_of_formula part.now)) result }
     ensures frame { OnOk result (env.new ≡ env.old) }
 {
     let mut found = labels_of(part, lasso, env)?;
@@ -128,8 +128,8 @@ fn until_labels(
 ) -> Result<Labels, CheckFault>
     requires lasso { IsLasso lasso.now }
     requires frame { length env.old ≡ 32 }
-    requires fits { FitsAlong lasso.now (until_tree first.now second.now) }
-    ensures labels { AreLabelsAlong lasso.now env.old (until_tree first.now second.now) result }
+    requires fits { FitsOnLasso lasso.now (until_tree first.now second.now) }
+    ensures labels { AreLabelsOnLasso lasso.now env.old (until_tree first.now second.now) result }
     ensures frame { OnOk result (env.new ≡ env.old) }
 {
     let mut found = labels_of(first, lasso, env)?;
@@ -151,8 +151,8 @@ fn parts_labels(
 ) -> Result<Labels, CheckFault>
     requires lasso { IsLasso lasso.now }
     requires frame { length env.old ≡ 32 }
-    requires fits { FitsAlong lasso.now (joined junction (tree_of_formulas parts.now)) }
-    ensures labels { AreLabelsAlong lasso.now env.old (joined junction (tree_of_formulas parts.now)) result }
+    requires fits { FitsOnLasso lasso.now (joined junction (tree_of_formulas parts.now)) }
+    ensures labels { AreLabelsOnLasso lasso.now env.old (joined junction (tree_of_formulas parts.now)) result }
     ensures frame { OnOk result (env.new ≡ env.old) }
 {
     let mut all = Labels::all(lasso.alloc, lasso.worlds.len(), !junction.deciding_truth())?;
@@ -173,8 +173,8 @@ fn quantified_labels(
 ) -> Result<Labels, CheckFault>
     requires lasso { IsLasso lasso.now }
     requires frame { length env.old ≡ 32 }
-    requires fits { FitsAlong lasso.now (quantified_tree binder.now part.now) }
-    ensures labels { AreLabelsAlong lasso.now env.old (quantified_tree binder.now part.now) result }
+    requires fits { FitsOnLasso lasso.now (quantified_tree binder.now part.now) }
+    ensures labels { AreLabelsOnLasso lasso.now env.old (quantified_tree binder.now part.now) result }
     ensures frame { OnOk result (env.new ≡ env.old) }
 {
     let mut all = Labels::all(
@@ -201,9 +201,9 @@ fn join_new_instances(
     requires lasso { IsLasso lasso.now }
     requires within { i < length lasso.now.worlds.now }
     requires frame { length env.old ≡ 32 }
-    requires fits { FitsAlong lasso.now (quantified_tree binder.now part.now) }
-    requires so_far { GathersAlong lasso.now env.old (quantifier_of binder.now part.now) i all.old }
-    ensures gathered { GathersNextAlong lasso.now env.old (quantifier_of binder.now part.now) i all.new result }
+    requires fits { FitsOnLasso lasso.now (quantified_tree binder.now part.now) }
+    requires so_far { GathersOnLasso lasso.now env.old (quantifier_of binder.now part.now) i all.old }
+    ensures gathered { GathersNextOnLasso lasso.now env.old (quantifier_of binder.now part.now) i all.new result }
     ensures frame { OnOk result (env.new ≡ env.old) }
 {
     let world = &lasso.worlds[i];
@@ -230,9 +230,9 @@ fn join_if_new(
     requires lasso { IsLasso lasso.now }
     requires within { i < length lasso.now.worlds.now }
     requires frame { length env.old ≡ 32 }
-    requires fits { FitsAlong lasso.now (quantified_tree binder.now part.now) }
+    requires fits { FitsOnLasso lasso.now (quantified_tree binder.now part.now) }
     requires size { length all.old ≡ length lasso.now.worlds.now }
-    ensures joined { JoinsNewAlong lasso.now env.old (quantifier_of binder.now part.now) i all.old all.new result }
+    ensures joined { JoinsNewOnLasso lasso.now env.old (quantifier_of binder.now part.now) i all.old all.new result }
     ensures frame { OnOk result (env.new ≡ env.old) }
 {
     if was_true(binder.bound, lasso, i, env) {
@@ -252,9 +252,9 @@ fn join_instance(
 ) -> Result<(), CheckFault>
     requires lasso { IsLasso lasso.now }
     requires frame { length env.old ≡ 32 }
-    requires fits { FitsAlong lasso.now (quantified_tree binder.now part.now) }
+    requires fits { FitsOnLasso lasso.now (quantified_tree binder.now part.now) }
     requires size { length all.old ≡ length lasso.now.worlds.now }
-    ensures joined { JoinsAlong lasso.now env.old (quantifier_of binder.now part.now) all.old all.new result }
+    ensures joined { JoinsOnLasso lasso.now env.old (quantifier_of binder.now part.now) all.old all.new result }
     ensures frame { OnOk result (env.new ≡ env.old) }
 {
     let there = bound_labels(binder.bound, lasso, env)?;

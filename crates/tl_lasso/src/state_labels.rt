@@ -1,6 +1,6 @@
 // The labels of what is read in each state.
 ghost use Rattle.std.specs.Prelude.{◌≡◌, ◌↔◌, ◌≤◌, length, true, IfOk, OnOk};
-ghost use Rattle.tl_lasso.specs.AlongLasso.{FitsAlong, AreLabelsAlong, BoundLabelsAlong, WasTrueAlong};
+ghost use Rattle.tl_lasso.specs.AlongLasso.{FitsOnLasso, AreLabelsOnLasso, BoundLabelsOnLasso, WasTrueOnLasso};
 ghost use Rattle.tl_lasso.specs.Lassos.{IsLasso};
 ghost use Rattle.tl_syntax.specs.Fits.{BoundFits};
 ghost use Rattle.tl_syntax.specs.Signature.{signature_of};
@@ -16,9 +16,9 @@ use tl_syntax::{Bound, Formula, NoMemory};
 /// The truth of a formula without temporal words at each position.
 pub(crate) fn state_labels(f: &Formula, lasso: &Lasso, env: &mut Env) -> Result<Labels, CheckFault>
     requires lasso { IsLasso lasso.now }
-    requires fits { FitsAlong lasso.now (tree_of_formula f.now) }
+    requires fits { FitsOnLasso lasso.now (tree_of_formula f.now) }
     requires state { IsState (tree_of_formula f.now) }
-    ensures labels { AreLabelsAlong lasso.now env.old (tree_of_formula f.now) result }
+    ensures labels { AreLabelsOnLasso lasso.now env.old (tree_of_formula f.now) result }
     ensures frame { OnOk result (env.new ≡ env.old) }
 {
     let worlds = lasso.worlds;
@@ -41,7 +41,7 @@ pub(crate) fn state_labels(f: &Formula, lasso: &Lasso, env: &mut Env) -> Result<
 pub(crate) fn bound_labels(bound: &Bound, lasso: &Lasso, env: &Env) -> Result<Labels, NoMemory>
     requires lasso { IsLasso lasso.now }
     requires fits { BoundFits (signature_of lasso.now.task.now.problem.domain) bound.now }
-    ensures { IfOk result (BoundLabelsAlong lasso.now env.now bound.now) }
+    ensures { IfOk result (BoundLabelsOnLasso lasso.now env.now bound.now) }
 {
     let worlds = lasso.worlds;
     let mut labels = Labels::new(lasso.alloc);
@@ -56,7 +56,7 @@ pub(crate) fn was_true(bound: &Bound, lasso: &Lasso, i: usize, env: &Env) -> boo
     requires lasso { IsLasso lasso.now }
     requires within { i ≤ length lasso.now.worlds.now }
     requires fits { BoundFits (signature_of lasso.now.task.now.problem.domain) bound.now }
-    ensures { (result ≡ true) ↔ WasTrueAlong lasso.now env.now bound.now i }
+    ensures { (result ≡ true) ↔ WasTrueOnLasso lasso.now env.now bound.now i }
 {
     let worlds = lasso.worlds;
     let mut j = i;
