@@ -12,10 +12,10 @@ use std::rc::Rc;
 use tl_syntax::{NoMemory, Value};
 
 /// How many rows a run has at most, and so how many a table has that is not cut into runs.
-pub(crate) const MOST: usize = 64;
+pub(crate) const MOST: usize = 48;
 
 /// How many rows a run has at least that is shared. One with fewer is copied, and so joined to the next.
-pub(crate) const FEWEST: usize = 16;
+pub(crate) const FEWEST: usize = 12;
 
 /// One more than the greatest place that is counted.
 const COUNTED: usize = 9223372036854775808;

@@ -197,7 +197,7 @@ impl World {
     /// This world stays as it is, and tables that do not change are shared. It fails for want of memory alone.
     ///
     /// A table is copied for each fact that is deleted, and one fact that is added to it comes in with the same copy. The first fact that is added to another table of this world copies it, and later ones are put into the copies.
-    /// A copy of a table of facts takes its rows where they are at most 64. Of a larger one it takes the runs in which rows change and the last rows, some 200 rows at most, and a step for each of the other runs, which the worlds share: a table of n rows has some n / 64 to n / 16 of them. A copy of a table of places takes all its rows.
+    /// A copy of a table of facts takes its rows where they are at most 48. Of a larger one it takes the runs in which rows change and the last rows, some 150 rows at most, and a step for each of the other runs, which the worlds share: a table of n rows has some n / 48 to n / 12 of them. A copy of a table of places takes all its rows.
     /// A table of facts that grows past 128 rows is sorted by the second value once, and its rows by the second value are copied with it from then on, so that a copy takes about twice the steps.
     pub fn changed(
         &self,
