@@ -32,8 +32,8 @@ use Rattle.tl_terms.specs.World.{World}
 use Rattle.tl_world.specs.declared.task.Task.{Task}
 
 -- the formula fits below some quantifiers of the task
-abbrev pub FitsIn : Task → FormulaTree → Type 0
-FitsIn task f = FitsSomewhere (signature_of task.problem.domain) f
+abbrev pub FitsTask : Task → FormulaTree → Type 0
+FitsTask task f = FitsSomewhere (signature_of task.problem.domain) f
 
 -- the formula is a sentence of the task
 abbrev pub IsSentenceIn : Task → FormulaTree → Type 0

@@ -3,7 +3,7 @@ ghost use Rattle.std.specs.Prelude.{◌≡◌, ◌<◌, length, IfOk, IfErr, IfS
 ghost use Rattle.indexmap.specs.IndexMap.{get};
 ghost use Rattle.tl_nodes.specs.Numbers.{trees, Denotes, tree_in};
 ghost use Rattle.tl_progress.specs.Answers.{IsCausedBy};
-ghost use Rattle.tl_progress.specs.Calls.{FitsIn, AreTruthsIn, residual_at, looked_for_residual_at};
+ghost use Rattle.tl_progress.specs.Calls.{FitsTask, AreTruthsIn, residual_at, looked_for_residual_at};
 ghost use Rattle.tl_progress.specs.Parts.{IsJoin};
 
 use crate::ProgressFault;
@@ -29,7 +29,7 @@ fn early_join(
 ) -> Result<Option<usize>, ProgressFault>
     requires at { at < length (trees nodes.now) }
     requires join { IsJoin junction (tree_in nodes.now at) }
-    requires fits { FitsIn task.now (tree_in nodes.now at) }
+    requires fits { FitsTask task.now (tree_in nodes.now at) }
     requires known { AreTruthsIn task.now w.now nodes.now (get nat_eq known.now) }
     ensures number { IfOk result (λ o. IfSome o (λ i. Denotes nodes.now i (residual_at task.now w.now env.old nodes.now at))) }
     ensures cause { IfErr result (IsCausedBy (looked_for_residual_at task.now w.now env.old nodes.now at)) }
@@ -62,7 +62,7 @@ pub(crate) fn early_residual(
     at: usize,
 ) -> Result<Option<usize>, ProgressFault>
     requires at { at < length (trees nodes.now) }
-    requires fits { FitsIn task.now (tree_in nodes.now at) }
+    requires fits { FitsTask task.now (tree_in nodes.now at) }
     requires known { AreTruthsIn task.now w.now nodes.now (get nat_eq known.now) }
     ensures number { IfOk result (λ o. IfSome o (λ i. Denotes nodes.now i (residual_at task.now w.now env.old nodes.now at))) }
     ensures cause { IfErr result (IsCausedBy (looked_for_residual_at task.now w.now env.old nodes.now at)) }

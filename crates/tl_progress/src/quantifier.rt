@@ -2,7 +2,7 @@
 ghost use Rattle.std.specs.Prelude.{◌≡◌, ◌<◌, ◌≤◌, length, None};
 ghost use Rattle.tl_eval.specs.Frames.{AreKept};
 ghost use Rattle.tl_nodes.specs.Numbers.{trees, tree_in};
-ghost use Rattle.tl_progress.specs.Calls.{FitsIn};
+ghost use Rattle.tl_progress.specs.Calls.{FitsTask};
 ghost use Rattle.tl_progress.specs.Quantifiers.{IsReader, Stands, vars_at, bound_at, ReadsAt, HasSteppedIn, HasSteppedAt, GivesBack};
 ghost use Rattle.tl_syntax.specs.Lists.{Each};
 
@@ -48,7 +48,7 @@ impl Quantifier {
     pub fn open(self, nodes: &Nodes, task: &Task, env: &Env) -> TupleReader
         requires at { self.at < length (trees nodes.now) }
         requires stands { Stands (trees nodes.now) self }
-        requires fits { FitsIn task.now (tree_in nodes.now self.at) }
+        requires fits { FitsTask task.now (tree_in nodes.now self.at) }
         ensures reads { ReadsAt nodes.now self env.now result }
         ensures before { result.tuple ≡ None }
         ensures few { length (vars_at nodes.now self) ≤ 9 }

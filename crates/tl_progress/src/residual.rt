@@ -5,7 +5,7 @@ ghost use Rattle.tl_eval.specs.Frames.{assignment_in, AgreeElsewhere};
 ghost use Rattle.tl_nodes.specs.Numbering.{Keeps};
 ghost use Rattle.tl_nodes.specs.Numbers.{trees, Denotes, tree_in};
 ghost use Rattle.tl_progress.specs.Answers.{IsCausedBy};
-ghost use Rattle.tl_progress.specs.Calls.{FitsIn, AreTruthsIn, IsRightIn, residual_at, looked_for_residual_at};
+ghost use Rattle.tl_progress.specs.Calls.{FitsTask, AreTruthsIn, IsRightIn, residual_at, looked_for_residual_at};
 ghost use Rattle.tl_progress.specs.Parts.{IsJoin};
 ghost use Rattle.tl_progress.specs.Quantifiers.{Stands, vars_at, ReadsAt};
 ghost use Rattle.tl_syntax.specs.StateFormulas.{IsState};
@@ -35,7 +35,7 @@ pub(crate) fn state_residual(
     at: usize,
 ) -> Result<usize, ProgressFault>
     requires at { at < length (trees nodes.now) }
-    requires fits { FitsIn task.now (tree_in nodes.now at) }
+    requires fits { FitsTask task.now (tree_in nodes.now at) }
     requires state { IsState (tree_in nodes.now at) }
     requires known { AreTruthsIn task.now w.now nodes.now (get nat_eq known.now) }
     ensures number { IfOk result (λ i. Denotes nodes.now i (residual_at task.now w.now env.old nodes.now at)) }
@@ -61,7 +61,7 @@ pub(crate) fn residual_of(
     at: usize,
 ) -> Result<usize, ProgressFault>
     requires at { at < length (trees nodes.old) }
-    requires fits { FitsIn task.now (tree_in nodes.old at) }
+    requires fits { FitsTask task.now (tree_in nodes.old at) }
     requires known { IsRightIn task.now w.now nodes.old known.now }
     ensures kept { Keeps (trees nodes.old) (trees nodes.new) }
     ensures number { IfOk result (λ i. Denotes nodes.new i (residual_at task.now w.now env.old nodes.old at)) }
@@ -92,7 +92,7 @@ fn layer_residual(
     at: usize,
 ) -> Result<usize, ProgressFault>
     requires at { at < length (trees nodes.old) }
-    requires fits { FitsIn task.now (tree_in nodes.old at) }
+    requires fits { FitsTask task.now (tree_in nodes.old at) }
     requires known { IsRightIn task.now w.now nodes.old known.now }
     ensures kept { Keeps (trees nodes.old) (trees nodes.new) }
     ensures number { IfOk result (λ i. Denotes nodes.new i (residual_at task.now w.now env.old nodes.old at)) }
@@ -186,7 +186,7 @@ fn join_residual(
 ) -> Result<usize, ProgressFault>
     requires at { at < length (trees nodes.old) }
     requires join { IsJoin junction (tree_in nodes.old at) }
-    requires fits { FitsIn task.now (tree_in nodes.old at) }
+    requires fits { FitsTask task.now (tree_in nodes.old at) }
     requires known { IsRightIn task.now w.now nodes.old known.now }
     ensures kept { Keeps (trees nodes.old) (trees nodes.new) }
     ensures number { IfOk result (λ i. Denotes nodes.new i (residual_at task.now w.now env.old nodes.old at)) }
@@ -223,7 +223,7 @@ fn quantifier_residual(
     requires at { quantifier.at < length (trees nodes.old) }
     requires part { quantifier.part < length (trees nodes.old) }
     requires stands { Stands (trees nodes.old) quantifier }
-    requires fits { FitsIn task.now (tree_in nodes.old quantifier.at) }
+    requires fits { FitsTask task.now (tree_in nodes.old quantifier.at) }
     ensures kept { Keeps (trees nodes.old) (trees nodes.new) }
     ensures number { IfOk result (λ i. Denotes nodes.new i (residual_at task.now w.now env.old nodes.old quantifier.at)) }
     ensures cause { IfErr result (IsCausedBy (looked_for_residual_at task.now w.now env.old nodes.old quantifier.at)) }
@@ -252,7 +252,7 @@ fn instances_residual(
     requires at { quantifier.at < length (trees nodes.old) }
     requires part { quantifier.part < length (trees nodes.old) }
     requires stands { Stands (trees nodes.old) quantifier }
-    requires fits { FitsIn task.now (tree_in nodes.old quantifier.at) }
+    requires fits { FitsTask task.now (tree_in nodes.old quantifier.at) }
     requires known { IsRightIn task.now w.now nodes.old known.now }
     requires reads { ReadsAt nodes.old quantifier env.old tuples.old }
     requires before { tuples.old.tuple ≡ None }

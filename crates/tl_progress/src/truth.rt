@@ -6,7 +6,7 @@ ghost use Rattle.tl_eval.specs.Reader.{Reads};
 ghost use Rattle.tl_nodes.specs.Fits.{all_below};
 ghost use Rattle.tl_nodes.specs.Numbers.{trees, tree_in};
 ghost use Rattle.tl_progress.specs.Answers.{IsCausedBy};
-ghost use Rattle.tl_progress.specs.Calls.{FitsIn, AreTruthsIn, state_true_in, looked_in_world, idly_true_at, looked_idly_at, join_at, idly_true_join, looked_idly_join, quantified_at, idly_true_over, looked_idly_over};
+ghost use Rattle.tl_progress.specs.Calls.{FitsTask, AreTruthsIn, state_true_in, looked_in_world, idly_true_at, looked_idly_at, join_at, idly_true_join, looked_idly_join, quantified_at, idly_true_over, looked_idly_over};
 ghost use Rattle.tl_syntax.specs.Basic.{is_basic};
 ghost use Rattle.tl_syntax.specs.TreeOfFormula.{tree_of_formula};
 
@@ -25,7 +25,7 @@ pub(crate) fn basic_truth(
     env: &mut Env,
     f: &Formula,
 ) -> Result<bool, ProgressFault>
-    requires fits { FitsIn task.now (tree_of_formula f.now) }
+    requires fits { FitsTask task.now (tree_of_formula f.now) }
     requires basic { is_basic (tree_of_formula f.now) ≡ true }
     ensures truth { IfOk result (λ b. b ≡ state_true_in task.now w.now env.old (tree_of_formula f.now)) }
     ensures cause { IfErr result (IsCausedBy (looked_in_world task.now w.now env.old (tree_of_formula f.now))) }
@@ -48,7 +48,7 @@ pub(crate) fn truth_of(
     at: usize,
 ) -> Result<bool, ProgressFault>
     requires at { at < length (trees nodes.now) }
-    requires fits { FitsIn task.now (tree_in nodes.now at) }
+    requires fits { FitsTask task.now (tree_in nodes.now at) }
     requires known { AreTruthsIn task.now w.now nodes.now (get nat_eq known.now) }
     ensures truth { IfOk result (λ b. b ≡ idly_true_at task.now w.now env.old nodes.now at) }
     ensures cause { IfErr result (IsCausedBy (looked_idly_at task.now w.now env.old nodes.now at)) }
@@ -74,7 +74,7 @@ fn layer_truth(
     at: usize,
 ) -> Result<bool, ProgressFault>
     requires at { at < length (trees nodes.now) }
-    requires fits { FitsIn task.now (tree_in nodes.now at) }
+    requires fits { FitsTask task.now (tree_in nodes.now at) }
     requires known { AreTruthsIn task.now w.now nodes.now (get nat_eq known.now) }
     ensures truth { IfOk result (λ b. b ≡ idly_true_at task.now w.now env.old nodes.now at) }
     ensures cause { IfErr result (IsCausedBy (looked_idly_at task.now w.now env.old nodes.now at)) }
@@ -139,7 +139,7 @@ fn join_truth(
 ) -> Result<bool, ProgressFault>
     requires at { at < length (trees nodes.now) }
     requires below { all_below at parts.now ≡ true }
-    requires fits { FitsIn task.now (join_at nodes.now junction parts.now) }
+    requires fits { FitsTask task.now (join_at nodes.now junction parts.now) }
     requires known { AreTruthsIn task.now w.now nodes.now (get nat_eq known.now) }
     ensures truth { IfOk result (λ b. b ≡ idly_true_join task.now w.now env.old nodes.now junction parts.now) }
     ensures cause { IfErr result (IsCausedBy (looked_idly_join task.now w.now env.old nodes.now junction parts.now)) }
@@ -173,7 +173,7 @@ fn quantifier_truth(
     junction: Junction,
 ) -> Result<bool, ProgressFault>
     requires part { part < length (trees nodes.now) }
-    requires fits { FitsIn task.now (quantified_at nodes.now junction vars.now bound.now part) }
+    requires fits { FitsTask task.now (quantified_at nodes.now junction vars.now bound.now part) }
     requires known { AreTruthsIn task.now w.now nodes.now (get nat_eq known.now) }
     ensures truth { IfOk result (λ b. b ≡ idly_true_over task.now w.now env.old nodes.now junction vars.now bound.now part) }
     ensures cause { IfErr result (IsCausedBy (looked_idly_over task.now w.now env.old nodes.now junction vars.now bound.now part)) }
@@ -212,7 +212,7 @@ fn instances_truth(
     tuples: &mut TupleReader,
 ) -> Result<bool, ProgressFault>
     requires part { part < length (trees nodes.now) }
-    requires fits { FitsIn task.now (quantified_at nodes.now junction vars.now bound.now part) }
+    requires fits { FitsTask task.now (quantified_at nodes.now junction vars.now bound.now part) }
     requires known { AreTruthsIn task.now w.now nodes.now (get nat_eq known.now) }
     requires reads { Reads vars.now (assignment_in env.old) bound.now tuples.old }
     requires before { tuples.old.tuple ≡ None }
