@@ -2,10 +2,11 @@
 #                 done is printed line by line, and kept in bin/build.log
 # make test       the gate: every proof, every test, every must-fail edit, every stored run
 # make examples   runs every example and compares what comes with what is expected
-# make install    puts the program and its manual page below PREFIX (/usr/local)
+# make install    puts the program, its manual page and its documents below PREFIX (/usr/local)
 # make clean      removes what was built
 
 PREFIX ?= /usr/local
+DOC = $(DESTDIR)$(PREFIX)/share/doc/tlplan
 
 # The run of the program that proves and builds it, crate by crate.
 BUILD = cd crates/tl_main && rt run -- sample 6
@@ -35,6 +36,9 @@ examples: bin/tlplan
 install: bin/tlplan
 	install -D -m 755 bin/tlplan $(DESTDIR)$(PREFIX)/bin/tlplan
 	install -D -m 644 tlplan.1 $(DESTDIR)$(PREFIX)/share/man/man1/tlplan.1
+	install -d $(DOC)/docs $(DOC)/examples
+	install -m 644 docs/* $(DOC)/docs
+	install -m 644 examples/README.md $(DOC)/examples
 
 clean:
 	rm -rf bin crates/*/out
