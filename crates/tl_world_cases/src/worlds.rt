@@ -71,9 +71,9 @@ fn call_of(alloc: Global, names: &Names, form: &Form) -> Result<(u32, Values), F
 
 /// What a text says: facts, and places with their values.
 #[derive(Drop)]
-struct Said {
-    facts: Facts,
-    places: PlaceValues,
+pub(crate) struct Said {
+    pub facts: Facts,
+    pub places: PlaceValues,
 }
 
 /// Adds what a form says: a place with its value, where its second part is a list, and else a fact.
@@ -93,7 +93,7 @@ fn add_said(alloc: Global, names: &Names, form: &Form, said: &mut Said) -> Resul
 }
 
 /// What a text says.
-fn said_in(alloc: Global, names: &Names, text: &str) -> Result<Said, Fail> {
+pub(crate) fn said_in(alloc: Global, names: &Names, text: &str) -> Result<Said, Fail> {
     let mut said = Said {
         facts: Facts::new(alloc),
         places: PlaceValues::new(alloc),

@@ -1,0 +1,111 @@
+// Known worlds that changes make of others, found without making them.
+
+use crate::checks::{is_text, is_true};
+use crate::worlds::{Said, all_names, said_in, world_in};
+use std::alloc::Global;
+use std::process::Abort;
+use std::test::Fail;
+use tl_syntax::Names;
+use tl_tables::{column, is_row};
+use tl_world::{World, Worlds};
+
+/// Rows of a world, facts that are deleted, facts that are added and places that are set, another world, whether that is the world after the changes, and its number, 1, or that of the first world, 0, where it is found by the changes.
+///
+/// None is found where a deleted fact is not there or an added one is: such a world is made, and then found.
+const AFTER: &str = "
+(p a) (edge a b) | (p a) | (p b) | (p b) (edge a b) | true | 1
+(p a) (edge a b) | (p a) | (p b) | (p b) (edge a b) (edge b a) | false | none
+(p a) (edge a b) | (p a) | (p b) | (p b) | false | none
+(p a) (edge a b) | (p a) | (p b) | (p a) (p b) (edge a b) | false | none
+(p a) (edge a b) | (p a) | (p b) | (edge a b) | false | none
+(edge a a) (edge a c) (edge b b) | (edge a c) | (edge b a) | (edge a a) (edge b a) (edge b b) | true | 1
+(edge a a) (edge a c) (edge b b) | (edge a c) | (edge b a) | (edge a a) (edge b a) (edge b c) | false | none
+(p a) | (p a) (p b) | (p b) | (p b) | true | 1
+(p a) | (p a) | (q a) | (q a) | true | 1
+(p a) (r c) | (p a) | (q b) | (q b) (r c) | true | 1
+(p a) | - | (q b) | (p a) (q b) (r c) | false | none
+(p a) | (p a) | (p a) | (p a) | true | none
+(p a) | - | (p a) | (p a) | true | none
+(p a) | (p b) | - | (p a) | true | none
+(p a) | - | - | (p a) | true | 0
+(p a) (= (n) 10) | - | (= (n) -1) | (p a) (= (n) -1) | true | 1
+(p a) (= (n) 10) | - | (= (n) -1) | (p a) (= (n) 10) | false | none
+(p a) (= (n) 10) | - | (= (f a) b) | (p a) (= (n) 10) (= (f a) b) | true | 1
+(p a) (= (n) 10) | - | (= (f a) b) | (p a) (= (f a) b) | false | none
+(= (f a) a) (= (f c) c) | - | (= (f b) b) | (= (f a) a) (= (f b) b) (= (f c) c) | true | 1
+(= (f a) a) (= (f c) c) | - | (= (f b) b) | (= (f a) a) (= (f b) b) (= (f c) b) | false | none
+";
+
+/// Whether a world is found to be the one after the changes.
+fn is_after(w: &World, old: &World, less: &Said, more: &Said) -> bool {
+    w.is_after(
+        old,
+        less.facts.as_slice(),
+        more.facts.as_slice(),
+        more.places.as_slice(),
+    )
+}
+
+/// The number by which the world after the changes is found.
+fn found_in(worlds: &Worlds, first: usize, less: &Said, more: &Said) -> Option<usize> {
+    if first >= worlds.len() {
+        return None;
+    }
+    worlds.find_after(
+        first,
+        less.facts.as_slice(),
+        more.facts.as_slice(),
+        more.places.as_slice(),
+    )
+}
+
+/// The number as a text.
+fn text_of(alloc: Global, number: Option<usize>) -> Result<String, Fail> {
+    match number {
+        Some(number) => Ok(format!(in alloc; "{number}")?),
+        None => Ok(format!(in alloc; "none")?),
+    }
+}
+
+/// The number of the world after the changes among the two worlds of a row, as a text.
+fn number_found(
+    alloc: Global,
+    old: World,
+    other: World,
+    less: &Said,
+    more: &Said,
+) -> Result<String, Fail> {
+    let mut worlds = Worlds::new(alloc);
+    let first = worlds.number(old)?;
+    worlds.number(other)?;
+    text_of(alloc, found_in(&worlds, first, less, more))
+}
+
+/// Compares what is found of the worlds of a row.
+fn is_found<R: Abort>(rt: &R, alloc: Global, names: &Names, row: &str) -> Result<(), Fail> {
+    let less = said_in(alloc, names, column(row, 1))?;
+    let more = said_in(alloc, names, column(row, 2))?;
+    let old = world_in(alloc, names, column(row, 0))?;
+    let other = world_in(alloc, names, column(row, 3))?;
+    let wanted = column(row, 4) == "true";
+    is_true(rt, is_after(&other, &old, &less, &more) == wanted, row);
+    let found = number_found(alloc, old, other, &less, &more)?;
+    is_text(rt, found.as_str(), column(row, 5), row);
+    Ok(())
+}
+
+/// Goes over the rows.
+fn are_found<R: Abort>(rt: &R, alloc: Global, names: &Names) -> Result<(), Fail> {
+    for row in AFTER.lines() {
+        if is_row(row) {
+            is_found(rt, alloc, names, row)?;
+        }
+    }
+    Ok(())
+}
+
+#[test]
+fn known_worlds_are_found_by_the_changes(rt: HostRuntime) -> Result<(), Fail> {
+    let names = all_names(rt.alloc())?;
+    are_found(&rt, rt.alloc(), &names)
+}
