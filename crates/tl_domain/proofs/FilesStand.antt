@@ -16,7 +16,7 @@ use Rattle.tl_problem.specs.ProblemFiles.{problem_file_meant}
 use Rattle.tl_problem.specs.Problems.{IsProblemOf, breaks_of}
 use Rattle.tl_problem.proofs.GoByDeclarations.{go_by_declarations}
 use Rattle.tl_problem.proofs.SettledMeaning.{problem-says}
-use Rattle.tl_renumber.specs.Numbers.{number_in, IsSettled}
+use Rattle.tl_renumber.specs.Numbers.{new_number, IsSettled}
 use Rattle.tl_renumber.specs.RenumberedDomain.{renumbered_domain}
 use Rattle.tl_domain.specs.DomainFiles.{domain_file_breaks}
 use Rattle.tl_domain.specs.DomainTrees.{DomainTree, domain_tree}
@@ -47,7 +47,7 @@ files-stand first second names d p kept is lawful of =
       domain_lawful = is.lawful;
       problem_lawful = sym (breaks-after first second names d is) ∙ lawful;
       names = names-stand first second p.names own.permutation own.order;
-      domain = of.1.domain ∙ ap (renumbered_domain (number_in of.0)) is.means ∙ sym domain;
+      domain = of.1.domain ∙ ap (renumbered_domain (new_number of.0)) is.means ∙ sym domain;
       said = sym says.1;
     }
 

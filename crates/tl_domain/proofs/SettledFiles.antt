@@ -33,15 +33,15 @@ use Rattle.tl_domain.proofs.KeepsDeclarations.{is-lawful}
 use Rattle.tl_domain.proofs.SettledItems.{renaming, item-settled}
 
 -- settled names give each old name the number that the list has for its old one
-settled-agrees : (numbers : List ℕ) (old new : List (List ℕ)) (more : FormTrees) → IsSettled numbers (names_with_all old more) new → Agrees old new (renaming (settled.number_in numbers))
+settled-agrees : (numbers : List ℕ) (old new : List (List ℕ)) (more : FormTrees) → IsSettled numbers (names_with_all old more) new → Agrees old new (renaming (settled.new_number numbers))
 unfolding renaming
 settled-agrees numbers old new more is = record { number = λ text has. by_number text (number_of old text) refl has }
   where
-    by_number : (text : List ℕ) (found : Option ℕ) → number_of old text ≡ found → IsTrue (list_any (bytes_eq text) old) → number_in new text ≡ settled.number_in numbers (number_in old text)
+    by_number : (text : List ℕ) (found : Option ℕ) → number_of old text ≡ found → IsTrue (list_any (bytes_eq text) old) → number_in new text ≡ settled.new_number numbers (number_in old text)
     by_number text None at has = absurd (true≢false (sym has ∙ list_any-from_no_number old text at))
     by_number text (Some k) at has =
-        let stays : number_of new text ≡ Some (settled.number_in numbers k) = texts-stay numbers (names_with_all old more) new is text ∙ ap (option_map (settled.number_in numbers)) (forms-number old more text k at) in
-        ap (λ (o : Option ℕ). unwrap_or o (length new)) stays ∙ ap (λ (o : Option ℕ). settled.number_in numbers (unwrap_or o (length old))) (sym at)
+        let stays : number_of new text ≡ Some (settled.new_number numbers k) = texts-stay numbers (names_with_all old more) new is text ∙ ap (option_map (settled.new_number numbers)) (forms-number old more text k at) in
+        ap (λ (o : Option ℕ). unwrap_or o (length new)) stays ∙ ap (λ (o : Option ℕ). settled.new_number numbers (unwrap_or o (length old))) (sym at)
 
 module _ (old new : List (List ℕ)) (r : Renumbering) (agrees : Agrees old new (renaming r)) where
   form-settled : (k : Declarations) (d : DomainTree) (f : FormTree) → HasNames old f → item_breaks k f ≡ [] → with_item_form new k.signature (renumbered_domain r d) f ≡ renumbered_domain r (with_item_form old k.signature d f)
@@ -82,4 +82,4 @@ module _ (old new : List (List ℕ)) (r : Renumbering) (agrees : Agrees old new 
   file-settled (more_forms f fs) has none = domain-settled f has.0 (none-parts (domain_form_breaks f) (second_form_breaks fs) none).0
 
 pub settled-file-means : SettledFileMeans
-settled-file-means numbers old new forms more none has is = file-settled old new (settled.number_in numbers) (settled-agrees numbers old new more is) forms has none
+settled-file-means numbers old new forms more none has is = file-settled old new (settled.new_number numbers) (settled-agrees numbers old new more is) forms has none

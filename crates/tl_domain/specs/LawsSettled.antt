@@ -3,7 +3,7 @@ use Rattle.std.specs.Prelude.{◌≡◌, ℕ, List, []}
 use Rattle.tl_sexpr.specs.Tree.{FormTrees}
 use Rattle.tl_rules.specs.Named.{HaveNames}
 use Rattle.tl_rules.specs.Symbols.{names_with_all}
-use Rattle.tl_renumber.specs.Numbers.{number_in, IsSettled}
+use Rattle.tl_renumber.specs.Numbers.{new_number, IsSettled}
 use Rattle.tl_renumber.specs.RenumberedDomain.{renumbered_domain}
 use Rattle.tl_domain.specs.DomainFiles.{domain_file_breaks}
 use Rattle.tl_domain.specs.MeaningOfItems.{domain_file_meant}
@@ -14,4 +14,4 @@ abbrev pub SettledFileMeans : Type 0
 SettledFileMeans =
     (numbers : List ℕ) (old new : List (List ℕ)) (forms more : FormTrees)
     → domain_file_breaks forms ≡ [] → HaveNames old forms → IsSettled numbers (names_with_all old more) new
-    → domain_file_meant new forms ≡ renumbered_domain (number_in numbers) (domain_file_meant old forms)
+    → domain_file_meant new forms ≡ renumbered_domain (new_number numbers) (domain_file_meant old forms)

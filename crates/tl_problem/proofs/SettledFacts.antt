@@ -45,13 +45,13 @@ pub record Renames (r : Renumbering) (old new : List (List ℕ)) : Type 0 where
   pub texts : (text : List ℕ) → list_any (bytes_eq text) old ≡ true → number_in new text ≡ r (number_in old text)
   pub differ : (j k : ℕ) → j < length old → k < length old → r j ≡ r k → j ≡ k
 
-pub settled-renames : (numbers : List ℕ) (old new : List (List ℕ)) → IsSettled numbers old new → Renames (table.number_in numbers) old new
+pub settled-renames : (numbers : List ℕ) (old new : List (List ℕ)) → IsSettled numbers old new → Renames (table.new_number numbers) old new
 settled-renames numbers old new settled = record { texts = texts; differ = numbers-differ numbers old new settled }
   where
-    texts : (text : List ℕ) → list_any (bytes_eq text) old ≡ true → number_in new text ≡ table.number_in numbers (number_in old text)
+    texts : (text : List ℕ) → list_any (bytes_eq text) old ≡ true → number_in new text ≡ table.new_number numbers (number_in old text)
     texts text has = ap (λ (found : Option ℕ). unwrap_or found (length new)) (texts-stay numbers old new settled text) ∙ by_old (number_of old text) refl
       where
-        by_old : (found : Option ℕ) → number_of old text ≡ found → unwrap_or (option_map (table.number_in numbers) found) (length new) ≡ table.number_in numbers (unwrap_or found (length old))
+        by_old : (found : Option ℕ) → number_of old text ≡ found → unwrap_or (option_map (table.new_number numbers) found) (length new) ≡ table.new_number numbers (unwrap_or found (length old))
         by_old None absent = absurd (true≢false (sym has ∙ list_any-from_no_number old text absent))
         by_old (Some k) is = refl
 

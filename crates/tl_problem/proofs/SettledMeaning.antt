@@ -18,7 +18,7 @@ use Rattle.tl_rules.specs.Parts.{offset_of, count, rest_of}
 use Rattle.tl_rules.specs.Rules.{Break, breaks_if}
 use Rattle.tl_rules.proofs.NamesHave.{forms-have}
 use Rattle.tl_renumber.specs.DomainTrees.{DomainTree}
-use Rattle.tl_renumber.specs.Numbers.{Renumbering, number_in, IsSettled}
+use Rattle.tl_renumber.specs.Numbers.{Renumbering, new_number, IsSettled}
 use Rattle.tl_renumber.specs.Renumbered.{renumbered_fact, renumbered_place}
 use Rattle.tl_renumber.specs.RenumberedDomain.{renumbered_declaration}
 use Rattle.tl_renumber.specs.RenumberingKeeps.{IsRenumbered}
@@ -168,9 +168,9 @@ module _ (r : Renumbering) (old new : List (List ℕ)) (renames : Renames r old 
       (ap (λ (bs : List Break). bs ++ second_form_breaks fs) first.0, first.1)
 
 -- with settled names
-pub settled-same : (numbers : List ℕ) (old new : List (List ℕ)) (d e : Domain) (forms : FormTrees) → IsSettled numbers old new → IsRenumbered (number_in numbers) d e → DomainKeeps (length old) d → HaveNames old forms → (problem_file_breaks new e forms ≡ problem_file_breaks old d forms) × (problem_file_meant new e forms ≡ renumbered_sections (number_in numbers) (problem_file_meant old d forms))
+pub settled-same : (numbers : List ℕ) (old new : List (List ℕ)) (d e : Domain) (forms : FormTrees) → IsSettled numbers old new → IsRenumbered (new_number numbers) d e → DomainKeeps (length old) d → HaveNames old forms → (problem_file_breaks new e forms ≡ problem_file_breaks old d forms) × (problem_file_meant new e forms ≡ renumbered_sections (new_number numbers) (problem_file_meant old d forms))
 settled-same numbers old new d e forms settled same kept have =
-    file-same (number_in numbers) old new (settled-renames numbers old new settled) d e (declares (number_in numbers) (length old) d e same kept) forms have
+    file-same (new_number numbers) old new (settled-renames numbers old new settled) d e (declares (new_number numbers) (length old) d e same kept) forms have
 
 -- ---- nothing is negated at first
 
@@ -209,12 +209,12 @@ problem-says names d forms p kept is =
     let settled = is.1 in
     let more = domain-more (length names) (length all) (names-longer names forms) d kept in
     let same = settled-same is.0 all p.names d p.domain forms settled.settled settled.domain more (forms-have names forms) in
-    let none = ap (map (renumbered_fact (number_in is.0))) (init-file all d forms) in
+    let none = ap (map (renumbered_fact (new_number is.0))) (init-file all d forms) in
     let a = sym settled.init_facts in
     let b = sym settled.init_values in
     let f = sym settled.goal_facts in
     let g = sym settled.goal_values in
     let h = sym settled.goal_nots in
-    let joined : renumbered_sections (number_in is.0) (said_by names d forms) ≡ sections_of p =
+    let joined : renumbered_sections (new_number is.0) (said_by names d forms) ≡ sections_of p =
     λ i. record { init = record { facts = a i; values = b i; nots = none i }; goal = record { facts = f i; values = g i; nots = h i } } in
     (same.0, same.1 ∙ joined)

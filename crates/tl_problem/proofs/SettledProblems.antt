@@ -7,7 +7,7 @@ use Rattle.tl_syntax.specs.Kept.{DomainKeeps, FactKeeps, PlaceKeeps}
 use Rattle.tl_syntax.specs.Keys.{fact_key, place_entry, no_clash, share_key}
 use Rattle.tl_syntax.specs.Lists.{Each}
 use Rattle.tl_syntax.specs.Signature.{Signature, signature_of}
-use Rattle.tl_renumber.specs.Numbers.{number_in, IsSettled}
+use Rattle.tl_renumber.specs.Numbers.{new_number, IsSettled}
 use Rattle.tl_renumber.specs.Renumbered.{renumbered_fact, renumbered_place}
 use Rattle.tl_renumber.specs.RenumberingKeeps.{IsRenumbered}
 use Rattle.tl_renumber.proofs.Keeping.{signature-stays, domain-keeps}
@@ -28,24 +28,24 @@ pub record ListsKeep (g : Signature) (n : ℕ) (l : Lists) : Type 0 where
   pub consistent : share_key (map fact_key l.facts) (map fact_key l.nots) ≡ false
 
 -- the facts of a settled list
-facts-settled : (d e : Domain) (numbers : List ℕ) (old new : List (List ℕ)) (fs gs : List Fact) → IsSettled numbers old new → IsRenumbered (number_in numbers) d e → gs ≡ map (renumbered_fact (number_in numbers)) fs → Each (FactKeeps (signature_of d) (length old)) fs → Each (FactKeeps (signature_of e) (length new)) gs
+facts-settled : (d e : Domain) (numbers : List ℕ) (old new : List (List ℕ)) (fs gs : List Fact) → IsSettled numbers old new → IsRenumbered (new_number numbers) d e → gs ≡ map (renumbered_fact (new_number numbers)) fs → Each (FactKeeps (signature_of d) (length old)) fs → Each (FactKeeps (signature_of e) (length new)) gs
 facts-settled d e numbers old new fs gs settled same is kept =
-    let r = number_in numbers in
+    let r = new_number numbers in
     let P : Signature → Type 0 = λ g. Each (FactKeeps g (length new)) gs in
     let Q : List Fact → Type 0 = λ xs. Each (FactKeeps (signature_of d) (length new)) xs in
     subst P (sym (signature-stays r d e same)) (subst Q (sym is) (facts-keep r (length old) (length new) (numbers-stay numbers old new settled) (signature_of d) fs kept))
 
-places-settled : (d e : Domain) (numbers : List ℕ) (old new : List (List ℕ)) (xs ys : List PlaceValue) → IsSettled numbers old new → IsRenumbered (number_in numbers) d e → ys ≡ map (renumbered_place (number_in numbers)) xs → Each (PlaceKeeps (signature_of d) (length old)) xs → Each (PlaceKeeps (signature_of e) (length new)) ys
+places-settled : (d e : Domain) (numbers : List ℕ) (old new : List (List ℕ)) (xs ys : List PlaceValue) → IsSettled numbers old new → IsRenumbered (new_number numbers) d e → ys ≡ map (renumbered_place (new_number numbers)) xs → Each (PlaceKeeps (signature_of d) (length old)) xs → Each (PlaceKeeps (signature_of e) (length new)) ys
 places-settled d e numbers old new xs ys settled same is kept =
-    let r = number_in numbers in
+    let r = new_number numbers in
     let P : Signature → Type 0 = λ g. Each (PlaceKeeps g (length new)) ys in
     let Q : List PlaceValue → Type 0 = λ zs. Each (PlaceKeeps (signature_of d) (length new)) zs in
     subst P (sym (signature-stays r d e same)) (subst Q (sym is) (places-keep r (length old) (length new) (numbers-stay numbers old new settled) (signature_of d) xs kept))
 
 -- the lists of a settled section
-pub lists-settled : (d e : Domain) (numbers : List ℕ) (old new : List (List ℕ)) (l : Literals) (lists : Lists) → IsSettled numbers old new → IsRenumbered (number_in numbers) d e → AreSettled numbers l lists → LiteralsKeep (signature_of d) (length old) l → ListsKeep (signature_of e) (length new) lists
+pub lists-settled : (d e : Domain) (numbers : List ℕ) (old new : List (List ℕ)) (l : Literals) (lists : Lists) → IsSettled numbers old new → IsRenumbered (new_number numbers) d e → AreSettled numbers l lists → LiteralsKeep (signature_of d) (length old) l → ListsKeep (signature_of e) (length new) lists
 lists-settled d e numbers old new l lists settled same is kept =
-    let r = number_in numbers in
+    let r = new_number numbers in
     let differ = numbers-differ numbers old new settled in
     record {
       facts = facts-settled d e numbers old new l.facts lists.facts settled same is.facts kept.facts;
@@ -58,8 +58,8 @@ lists-settled d e numbers old new l lists settled same is kept =
     }
 
 -- the domain
-pub domain-settled : (d e : Domain) (numbers : List ℕ) (old new : List (List ℕ)) → IsSettled numbers old new → IsRenumbered (number_in numbers) d e → DomainKeeps (length old) d → DomainKeeps (length new) e
-domain-settled d e numbers old new settled same kept = domain-keeps (number_in numbers) (length old) (length new) (numbers-stay numbers old new settled) d e same kept
+pub domain-settled : (d e : Domain) (numbers : List ℕ) (old new : List (List ℕ)) → IsSettled numbers old new → IsRenumbered (new_number numbers) d e → DomainKeeps (length old) d → DomainKeeps (length new) e
+domain-settled d e numbers old new settled same kept = domain-keeps (new_number numbers) (length old) (length new) (numbers-stay numbers old new settled) d e same kept
 
 -- all that a problem keeps
 pub record PartsKeep (n : ℕ) (e : Domain) (init goal : Lists) : Type 0 where
@@ -67,7 +67,7 @@ pub record PartsKeep (n : ℕ) (e : Domain) (init goal : Lists) : Type 0 where
   pub first : ListsKeep (signature_of e) n init
   pub wanted : ListsKeep (signature_of e) n goal
 
-pub parts-settled : (d e : Domain) (numbers list : List ℕ) (old new : List (List ℕ)) (said : Sections) (init goal : Lists) → list ≡ numbers → IsSettled numbers old new → IsRenumbered (number_in list) d e → AreSettled list said.init init → AreSettled list said.goal goal → DomainKeeps (length old) d → SectionsKeep (signature_of d) (length old) said → PartsKeep (length new) e init goal
+pub parts-settled : (d e : Domain) (numbers list : List ℕ) (old new : List (List ℕ)) (said : Sections) (init goal : Lists) → list ≡ numbers → IsSettled numbers old new → IsRenumbered (new_number list) d e → AreSettled list said.init init → AreSettled list said.goal goal → DomainKeeps (length old) d → SectionsKeep (signature_of d) (length old) said → PartsKeep (length new) e init goal
 parts-settled d e numbers list old new said init goal is settled same first wanted domain kept =
     let P : List ℕ → Type 0 = λ xs. IsSettled xs old new in
     let here = subst P (sym is) settled in

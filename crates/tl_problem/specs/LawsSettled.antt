@@ -9,16 +9,16 @@ use Rattle.tl_problem.specs.ProblemFiles.{problem_file_breaks, problem_file_mean
 use Rattle.tl_problem.specs.Problems.{IsProblemOf, breaks_of}
 use Rattle.tl_problem.specs.Sections.{sections_of}
 use Rattle.tl_problem.specs.SettledSections.{renumbered_sections}
-use Rattle.tl_renumber.specs.Numbers.{number_in, IsSettled}
+use Rattle.tl_renumber.specs.Numbers.{new_number, IsSettled}
 use Rattle.tl_renumber.specs.RenumberingKeeps.{IsRenumbered}
 
 -- the forms break the same rules, and say the same with the new numbers
 abbrev pub SettledFileSaysTheSame : Type 0
 SettledFileSaysTheSame =
     (numbers : List ℕ) (old new : List (List ℕ)) (d e : Domain) (forms : FormTrees)
-    → IsSettled numbers old new → IsRenumbered (number_in numbers) d e → DomainKeeps (length old) d → HaveNames old forms
+    → IsSettled numbers old new → IsRenumbered (new_number numbers) d e → DomainKeeps (length old) d → HaveNames old forms
     → (problem_file_breaks new e forms ≡ problem_file_breaks old d forms)
-    × (problem_file_meant new e forms ≡ renumbered_sections (number_in numbers) (problem_file_meant old d forms))
+    × (problem_file_meant new e forms ≡ renumbered_sections (new_number numbers) (problem_file_meant old d forms))
 
 -- a problem of a file is just what the file says with the problem's own domain and names
 abbrev pub ProblemSaysItsFile : Type 0

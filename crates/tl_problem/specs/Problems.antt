@@ -7,19 +7,19 @@ use Rattle.tl_rules.specs.Rules.{Break}
 use Rattle.tl_rules.specs.Symbols.{names_with_all}
 use Rattle.tl_problem.specs.Sections.{Sections}
 use Rattle.tl_problem.specs.ProblemFiles.{problem_file_breaks, problem_file_meant}
-use Rattle.tl_renumber.specs.Numbers.{number_in, IsSettled}
+use Rattle.tl_renumber.specs.Numbers.{new_number, IsSettled}
 use Rattle.tl_renumber.specs.Renumbered.{renumbered_fact, renumbered_place}
 use Rattle.tl_renumber.specs.RenumberingKeeps.{IsRenumbered}
 
 -- the problem of a domain and of what a file says, where the names get these numbers, which are those of their order by bytes
 pub record IsSettledProblem (numbers : List ℕ) (names : List (List ℕ)) (d : Domain) (said : Sections) (p : Problem) : Type 0 where
   pub settled : IsSettled numbers names p.names
-  pub domain : IsRenumbered (number_in numbers) d p.domain
-  pub init_facts : p.init_facts ≡ map (renumbered_fact (number_in numbers)) said.init.facts
-  pub init_values : p.init_values ≡ map (renumbered_place (number_in numbers)) said.init.values
-  pub goal_facts : p.goal_facts ≡ map (renumbered_fact (number_in numbers)) said.goal.facts
-  pub goal_values : p.goal_values ≡ map (renumbered_place (number_in numbers)) said.goal.values
-  pub goal_nots : p.goal_nots ≡ map (renumbered_fact (number_in numbers)) said.goal.nots
+  pub domain : IsRenumbered (new_number numbers) d p.domain
+  pub init_facts : p.init_facts ≡ map (renumbered_fact (new_number numbers)) said.init.facts
+  pub init_values : p.init_values ≡ map (renumbered_place (new_number numbers)) said.init.values
+  pub goal_facts : p.goal_facts ≡ map (renumbered_fact (new_number numbers)) said.goal.facts
+  pub goal_values : p.goal_values ≡ map (renumbered_place (new_number numbers)) said.goal.values
+  pub goal_nots : p.goal_nots ≡ map (renumbered_fact (new_number numbers)) said.goal.nots
 
 -- the names of a domain and of the forms of a problem file
 abbrev pub all_names : List (List ℕ) → FormTrees → List (List ℕ)

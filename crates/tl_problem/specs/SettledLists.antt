@@ -1,6 +1,6 @@
 -- What the problem's lists say, when the names get their last numbers.
 use Rattle.std.specs.Prelude.{◌≡◌, ℕ, List, map}
-use Rattle.tl_renumber.specs.Numbers.{number_in}
+use Rattle.tl_renumber.specs.Numbers.{new_number}
 use Rattle.tl_renumber.specs.Renumbered.{renumbered_fact, renumbered_place}
 use Rattle.tl_problem.specs.declared.settled.Lists.{Lists}
 use Rattle.tl_problem.specs.declared.settled.SectionLists.{SectionLists}
@@ -9,9 +9,9 @@ use Rattle.tl_problem.specs.Sections.{Sections}
 
 -- the lists of what a section says, where the names get these numbers
 pub record AreSettled (numbers : List ℕ) (l : Literals) (lists : Lists) : Type 0 where
-  pub facts : lists.facts ≡ map (renumbered_fact (number_in numbers)) l.facts
-  pub values : lists.values ≡ map (renumbered_place (number_in numbers)) l.values
-  pub nots : lists.nots ≡ map (renumbered_fact (number_in numbers)) l.nots
+  pub facts : lists.facts ≡ map (renumbered_fact (new_number numbers)) l.facts
+  pub values : lists.values ≡ map (renumbered_place (new_number numbers)) l.values
+  pub nots : lists.nots ≡ map (renumbered_fact (new_number numbers)) l.nots
 
 -- and those of both sections
 pub record AreSettledSections (numbers : List ℕ) (said : Sections) (lists : SectionLists) : Type 0 where

@@ -2,7 +2,7 @@
 ghost use Rattle.std.specs.Prelude.{◌≡◌, ℕ, List, length, map, IfOk};
 ghost use Rattle.tl_syntax.specs.Kept.{DomainKeeps};
 ghost use Rattle.tl_syntax.specs.Signature.{signature_of};
-ghost use Rattle.tl_renumber.specs.Numbers.{number_in};
+ghost use Rattle.tl_renumber.specs.Numbers.{new_number};
 ghost use Rattle.tl_renumber.specs.Renumbered.{renumbered_fact, renumbered_place};
 ghost use Rattle.tl_renumber.specs.RenumberingKeeps.{IsRenumbered};
 ghost use Rattle.tl_problem.specs.Keeps.{SectionsKeep};
@@ -35,7 +35,7 @@ pub(crate) struct SectionLists {
 
 /// The list of facts with other numbers for the names.
 fn settled_facts(alloc: Global, facts: FactSet, numbers: &[u32]) -> Result<Facts, NoMemory>
-    ensures { IfOk result (λ list. list ≡ map (renumbered_fact (number_in numbers.now)) facts) }
+    ensures { IfOk result (λ list. list ≡ map (renumbered_fact (new_number numbers.now)) facts) }
 {
     let list = facts.into_facts(alloc)?;
     renumber_facts(alloc, list, numbers)
@@ -43,7 +43,7 @@ fn settled_facts(alloc: Global, facts: FactSet, numbers: &[u32]) -> Result<Facts
 
 /// The list of places and their values with other numbers for the names.
 fn settled_values(alloc: Global, values: PlaceMap, numbers: &[u32]) -> Result<PlaceValues, NoMemory>
-    ensures { IfOk result (λ list. list ≡ map (renumbered_place (number_in numbers.now)) values) }
+    ensures { IfOk result (λ list. list ≡ map (renumbered_place (new_number numbers.now)) values) }
 {
     let list = values.into_values(alloc)?;
     renumber_places(alloc, list, numbers)
@@ -107,7 +107,7 @@ fn settled_parts(
     said: SectionTables,
     numbers: &[u32],
 ) -> Result<(Domain, SectionLists), NoMemory>
-    ensures { IfOk result (λ parts. IsRenumbered (number_in numbers.now) domain parts.0
+    ensures { IfOk result (λ parts. IsRenumbered (new_number numbers.now) domain parts.0
         × AreSettledSections numbers.now (sections_in said) parts.1) }
 {
     let Ok(lists) = settled_sections(alloc, said, numbers) else {

@@ -12,18 +12,18 @@ use Rattle.tl_syntax.specs.Settled.{IsInOrder, Differ}
 use Rattle.tl_syntax.specs.Texts.{number_of}
 use Rattle.tl_syntax.proofs.Places.{Differ-permutation, place_in}
 use Rattle.tl_syntax.proofs.Texts.{number_of-Some, number_of-at_place}
-use Rattle.tl_renumber.specs.Numbers.{number_in, IsSettled}
+use Rattle.tl_renumber.specs.Numbers.{new_number, IsSettled}
 
 -- the text of an old number, with its new one
-renumbered_at : (numbers : List ℕ) (old new : List (List ℕ)) → IsSettled numbers old new → (k : ℕ) → k < length old → (slice_get old k ≡ Some (get_or old k [])) × (slice_get new (number_in numbers k) ≡ Some (get_or old k []))
+renumbered_at : (numbers : List ℕ) (old new : List (List ℕ)) → IsSettled numbers old new → (k : ℕ) → k < length old → (slice_get old k ≡ Some (get_or old k [])) × (slice_get new (new_number numbers k) ≡ Some (get_or old k []))
 renumbered_at numbers old new settled k below =
     let at : slice_get old k ≡ Some (get_or old k []) = slice_get-get_or old k [] below in
     let found = settled.renumbered k (get_or old k []) at in
-    let same : number_in numbers k ≡ found.0 = get_or_from_slice_get numbers k found.0 k found.1 in
+    let same : new_number numbers k ≡ found.0 = get_or_from_slice_get numbers k found.0 k found.1 in
     (at, subst (λ (n : ℕ). slice_get new n ≡ Some (get_or old k [])) (sym same) found.2)
 
-pub numbers-stay : (numbers : List ℕ) (old new : List (List ℕ)) → IsSettled numbers old new → (k : ℕ) → k < length old → number_in numbers k < length new
-numbers-stay numbers old new settled k below = slice_get_within new (number_in numbers k) (get_or old k []) (renumbered_at numbers old new settled k below).1
+pub numbers-stay : (numbers : List ℕ) (old new : List (List ℕ)) → IsSettled numbers old new → (k : ℕ) → k < length old → new_number numbers k < length new
+numbers-stay numbers old new settled k below = slice_get_within new (new_number numbers k) (get_or old k []) (renumbered_at numbers old new settled k below).1
 
 -- texts in order differ
 Differ-in_order : (names : List (List ℕ)) → IsInOrder names → Differ names
@@ -41,7 +41,7 @@ Differ-in_order names order = λ i j x at_i at_j. elim (cases i j) [
         let tie : slice_cmp nat_cmp x x ≡ Equal = tied_itself (lists_total nat_cmp_total) x in
         cc
 
-pub numbers-differ : (numbers : List ℕ) (old new : List (List ℕ)) → IsSettled numbers old new → (j k : ℕ) → j < length old → k < length old → number_in numbers j ≡ number_in numbers k → j ≡ k
+pub numbers-differ : (numbers : List ℕ) (old new : List (List ℕ)) → IsSettled numbers old new → (j k : ℕ) → j < length old → k < length old → new_number numbers j ≡ new_number numbers k → j ≡ k
 numbers-differ numbers old new settled j k in_j in_k same =
     let at_j = renumbered_at numbers old new settled j in_j in
     let at_k = renumbered_at numbers old new settled k in_k in
@@ -49,14 +49,14 @@ numbers-differ numbers old new settled j k in_j in_k same =
     Differ-permutation new old (IsPermutation-sym old new settled.permutation) (Differ-in_order new settled.order) j k (get_or old j []) at_j.0 (at_k.0 ∙ ap (λ (x : List ℕ). Some x) (sym text))
 
 -- a text has the new number of its old one
-pub texts-stay : (numbers : List ℕ) (old new : List (List ℕ)) → IsSettled numbers old new → (text : List ℕ) → number_of new text ≡ option_map (number_in numbers) (number_of old text)
+pub texts-stay : (numbers : List ℕ) (old new : List (List ℕ)) → IsSettled numbers old new → (text : List ℕ) → number_of new text ≡ option_map (new_number numbers) (number_of old text)
 texts-stay numbers old new settled text = by_old (number_of old text) refl
   where
-    in_new : (k : ℕ) → slice_get old k ≡ Some text → number_of new text ≡ Some (number_in numbers k)
+    in_new : (k : ℕ) → slice_get old k ≡ Some text → number_of new text ≡ Some (new_number numbers k)
     in_new k at =
         let found = settled.renumbered k text at in
-        let same : found.0 ≡ number_in numbers k = sym (get_or_from_slice_get numbers k found.0 k found.1) in
-        number_of-at_place new text (number_in numbers k) (Differ-in_order new settled.order) (subst (λ (n : ℕ). slice_get new n ≡ Some text) same found.2)
+        let same : found.0 ≡ new_number numbers k = sym (get_or_from_slice_get numbers k found.0 k found.1) in
+        number_of-at_place new text (new_number numbers k) (Differ-in_order new settled.order) (subst (λ (n : ℕ). slice_get new n ≡ Some text) same found.2)
 
     -- a text of the new list was one of the old list
     by_new : (answer : Option ℕ) → number_of new text ≡ answer → number_of old text ≡ None → number_of new text ≡ None
@@ -66,6 +66,6 @@ texts-stay numbers old new settled text = by_old (number_of old text) refl
         let old_number : number_of old text ≡ Some place.0 = number_of-at_place old text place.0 (Differ-permutation new old (IsPermutation-sym old new settled.permutation) (Differ-in_order new settled.order)) place.2 in
         absurd (none-some place.0 (sym absent ∙ old_number))
 
-    by_old : (answer : Option ℕ) → number_of old text ≡ answer → number_of new text ≡ option_map (number_in numbers) answer
+    by_old : (answer : Option ℕ) → number_of old text ≡ answer → number_of new text ≡ option_map (new_number numbers) answer
     by_old None here = by_new (number_of new text) refl here
     by_old (Some k) here = in_new k (number_of-Some old text k here)

@@ -7,8 +7,8 @@ abbrev pub Renumbering : Type 0
 Renumbering = ℕ → ℕ
 
 -- the number that the list has at the old one, and past the list the old one itself
-abbrev pub number_in : List ℕ → Renumbering
-number_in numbers = λ k. get_or numbers k k
+abbrev pub new_number : List ℕ → Renumbering
+new_number numbers = λ k. get_or numbers k k
 
 -- what is known of a table of names that is settled: the same texts, in the order of their bytes, and the list that gives each old number its new one
 pub record IsSettled (numbers : List ℕ) (old new : List (List ℕ)) : Type 0 where

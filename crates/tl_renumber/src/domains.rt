@@ -1,7 +1,7 @@
 // Declarations, definitions, operators and domains with other numbers for their names.
 ghost use Rattle.std.specs.Prelude.{◌≡◌, IfOk, map};
 ghost use Rattle.tl_renumber.specs.DomainTrees.{definition_tree, operator_tree, domain_tree};
-ghost use Rattle.tl_renumber.specs.Numbers.{number_in};
+ghost use Rattle.tl_renumber.specs.Numbers.{new_number};
 ghost use Rattle.tl_renumber.specs.Renumbered.{renumbered_bound};
 ghost use Rattle.tl_renumber.specs.RenumberedDomain.{renumbered_declaration, renumbered_definition, renumbered_operator, renumbered_domain};
 
@@ -17,7 +17,7 @@ use tl_syntax::{
 /// Positions, slots and offsets stay. It fails for want of memory alone, and the old domain is gone then too.
 pub fn renumber_domain(alloc: Global, domain: Domain, numbers: &[u32]) -> Result<Domain, NoMemory>
     ensures renumbered { IfOk result (λ out. domain_tree out
-        ≡ renumbered_domain (number_in numbers.now) (domain_tree domain)) }
+        ≡ renumbered_domain (new_number numbers.now) (domain_tree domain)) }
 {
     renumber_parts(alloc, &domain, numbers)
 }
@@ -25,7 +25,7 @@ pub fn renumber_domain(alloc: Global, domain: Domain, numbers: &[u32]) -> Result
 // A new domain with the new numbers.
 fn renumber_parts(alloc: Global, domain: &Domain, numbers: &[u32]) -> Result<Domain, NoMemory>
     ensures { IfOk result (λ out. domain_tree out
-        ≡ renumbered_domain (number_in numbers.now) (domain_tree domain.now)) }
+        ≡ renumbered_domain (new_number numbers.now) (domain_tree domain.now)) }
 {
     let predicates = renumber_declarations(alloc, &domain.predicates, numbers)?;
     let functions = renumber_declarations(alloc, &domain.functions, numbers)?;
@@ -48,7 +48,7 @@ fn renumber_declarations(
     declarations: &Declareds,
     numbers: &[u32],
 ) -> Result<Declareds, NoMemory>
-    ensures { IfOk result (λ out. out ≡ map (renumbered_declaration (number_in numbers.now)) declarations.now) }
+    ensures { IfOk result (λ out. out ≡ map (renumbered_declaration (new_number numbers.now)) declarations.now) }
 {
     let mut out = Declareds::new(alloc);
     for declaration in declarations.as_slice().iter() {
@@ -67,7 +67,7 @@ fn renumber_definitions(
     numbers: &[u32],
 ) -> Result<Definitions, NoMemory>
     ensures { IfOk result (λ out. map definition_tree out
-        ≡ map (λ d. renumbered_definition (number_in numbers.now) (definition_tree d)) definitions.now) }
+        ≡ map (λ d. renumbered_definition (new_number numbers.now) (definition_tree d)) definitions.now) }
 {
     let mut out = Definitions::new(alloc);
     for definition in definitions.as_slice().iter() {
@@ -83,7 +83,7 @@ fn renumber_definition(
     numbers: &[u32],
 ) -> Result<Definition, NoMemory>
     ensures { IfOk result (λ out. definition_tree out
-        ≡ renumbered_definition (number_in numbers.now) (definition_tree definition.now)) }
+        ≡ renumbered_definition (new_number numbers.now) (definition_tree definition.now)) }
 {
     let params = renumber_variables(alloc, &definition.params, numbers)?;
     let body = renumber_formula(alloc, &definition.body, numbers)?;
@@ -102,7 +102,7 @@ fn renumber_operators(
     numbers: &[u32],
 ) -> Result<Operators, NoMemory>
     ensures { IfOk result (λ out. map operator_tree out
-        ≡ map (λ o. renumbered_operator (number_in numbers.now) (operator_tree o)) operators.now) }
+        ≡ map (λ o. renumbered_operator (new_number numbers.now) (operator_tree o)) operators.now) }
 {
     let mut out = Operators::new(alloc);
     for operator in operators.as_slice().iter() {
@@ -118,7 +118,7 @@ fn renumber_operator(
     numbers: &[u32],
 ) -> Result<Operator, NoMemory>
     ensures { IfOk result (λ out. operator_tree out
-        ≡ renumbered_operator (number_in numbers.now) (operator_tree operator.now)) }
+        ≡ renumbered_operator (new_number numbers.now) (operator_tree operator.now)) }
 {
     let params = renumber_variables(alloc, &operator.params, numbers)?;
     let bounds = renumber_bounds(alloc, &operator.bounds, numbers)?;
@@ -135,7 +135,8 @@ fn renumber_operator(
 
 // Bounds with the new numbers of their names.
 fn renumber_bounds(alloc: Global, bounds: &Bounds, numbers: &[u32]) -> Result<Bounds, NoMemory>
-    ensures { IfOk result (λ out. out ≡ map (renumbered_bound (number_in numbers.now)) bounds.now) }
+    ensures { IfOk result (λ out. out
+        ≡ map (renumbered_bound (new_number numbers.now)) bounds.now) }
 {
     let mut out = Bounds::new(alloc);
     for bound in bounds.as_slice().iter() {

@@ -1,6 +1,6 @@
 // Effects with other numbers for their names.
 ghost use Rattle.std.specs.Prelude.{◌≡◌, IfOk};
-ghost use Rattle.tl_renumber.specs.Numbers.{number_in};
+ghost use Rattle.tl_renumber.specs.Numbers.{new_number};
 ghost use Rattle.tl_renumber.specs.Renumbered.{renumbered, renumbered_effect, renumbered_effects};
 ghost use Rattle.tl_renumber.specs.RenumberedParts.{renumbered_assignment, renumbered_repetition};
 ghost use Rattle.tl_syntax.specs.Effects.{when};
@@ -21,7 +21,7 @@ pub fn renumber_effects(
     numbers: &[u32],
 ) -> Result<Effects, NoMemory>
     ensures renumbered { IfOk result (λ out. tree_of_effects out
-        ≡ renumbered_effects (number_in numbers.now) (tree_of_effects effects.now)) }
+        ≡ renumbered_effects (new_number numbers.now) (tree_of_effects effects.now)) }
 {
     let mut out = Effects::new(alloc);
     for effect in effects.as_slice().iter() {
@@ -36,7 +36,7 @@ pub fn renumber_effects(
 #[tactic(auto, using(crate::proofs::Trees::effect_trees), unfolding(crate::specs::Renumbered::renumbered_effect))]
 pub fn renumber_effect(alloc: Global, effect: &Effect, numbers: &[u32]) -> Result<Effect, NoMemory>
     ensures renumbered { IfOk result (λ out. tree_of_effect out
-        ≡ renumbered_effect (number_in numbers.now) (tree_of_effect effect.now)) }
+        ≡ renumbered_effect (new_number numbers.now) (tree_of_effect effect.now)) }
 {
     match effect {
         Effect::Add(p, args) => Ok(Effect::Add(*p, renumber_terms(alloc, args, numbers)?)),
@@ -79,7 +79,7 @@ fn renumber_condition(
     numbers: &[u32],
 ) -> Result<Effect, NoMemory>
     ensures { IfOk result (λ out. tree_of_effect out
-        ≡ when (renumbered (number_in numbers.now) (tree_of_formula condition.now)) (tree_of_effects effects)) }
+        ≡ when (renumbered (new_number numbers.now) (tree_of_formula condition.now)) (tree_of_effects effects)) }
 {
     let condition = renumber_formula(alloc, condition, numbers)?;
     Ok(Effect::When(condition, effects))

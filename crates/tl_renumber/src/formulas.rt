@@ -1,6 +1,6 @@
 // Formulas with other numbers for their names.
 ghost use Rattle.std.specs.Prelude.{◌≡◌, IfOk};
-ghost use Rattle.tl_renumber.specs.Numbers.{number_in};
+ghost use Rattle.tl_renumber.specs.Numbers.{new_number};
 ghost use Rattle.tl_renumber.specs.Renumbered.{renumbered, renumbered_all};
 ghost use Rattle.tl_renumber.specs.RenumberedParts.{renumbered_quantified};
 ghost use Rattle.tl_syntax.specs.TreeOfFormula.{tree_of_formula, tree_of_formulas};
@@ -22,7 +22,7 @@ pub fn renumber_formulas(
     numbers: &[u32],
 ) -> Result<Formulas, NoMemory>
     ensures renumbered { IfOk result (λ out. tree_of_formulas out
-        ≡ renumbered_all (number_in numbers.now) (tree_of_formulas formulas.now)) }
+        ≡ renumbered_all (new_number numbers.now) (tree_of_formulas formulas.now)) }
 {
     let mut out = Formulas::new(alloc);
     for formula in formulas.as_slice().iter() {
@@ -41,7 +41,7 @@ pub fn renumber_formula(
     numbers: &[u32],
 ) -> Result<Formula, NoMemory>
     ensures renumbered { IfOk result (λ out. tree_of_formula out
-        ≡ renumbered (number_in numbers.now) (tree_of_formula formula.now)) }
+        ≡ renumbered (new_number numbers.now) (tree_of_formula formula.now)) }
 {
     match formula {
         Formula::True => Ok(Formula::True),
@@ -84,7 +84,7 @@ fn renumber_until(
     numbers: &[u32],
 ) -> Result<Formula, NoMemory>
     ensures { IfOk result (λ out. tree_of_formula out
-        ≡ until (renumbered (number_in numbers.now) (tree_of_formula f.now)) (tree_of_formula g)) }
+        ≡ until (renumbered (new_number numbers.now) (tree_of_formula f.now)) (tree_of_formula g)) }
 {
     let f = renumber_formula(alloc, f, numbers)?;
     Formula::until(alloc, f, g)

@@ -1,6 +1,6 @@
 // Formulas that have no formula below them, with other numbers for their names.
 ghost use Rattle.std.specs.Prelude.{◌≡◌, IfOk};
-ghost use Rattle.tl_renumber.specs.Numbers.{number_in};
+ghost use Rattle.tl_renumber.specs.Numbers.{new_number};
 ghost use Rattle.tl_renumber.specs.Renumbered.{renumbered_args, renumbered_terms};
 ghost use Rattle.tl_renumber.specs.RenumberedParts.{renumbered_comparison, renumbered_goal_place};
 ghost use Rattle.tl_syntax.specs.TreeOfFormula.{tree_of_formula};
@@ -21,7 +21,7 @@ pub(crate) fn renumber_atom(
     numbers: &[u32],
 ) -> Result<Formula, NoMemory>
     ensures { IfOk result (λ out. tree_of_formula out
-        ≡ atom pred (renumbered_terms (number_in numbers.now) (tree_of_terms args.now))) }
+        ≡ atom pred (renumbered_terms (new_number numbers.now) (tree_of_terms args.now))) }
 {
     Ok(Formula::Atom(pred, renumber_terms(alloc, args, numbers)?))
 }
@@ -35,7 +35,7 @@ pub(crate) fn renumber_defined(
     numbers: &[u32],
 ) -> Result<Formula, NoMemory>
     ensures { IfOk result (λ out. tree_of_formula out
-        ≡ defined number (renumbered_terms (number_in numbers.now) (tree_of_terms args.now))) }
+        ≡ defined number (renumbered_terms (new_number numbers.now) (tree_of_terms args.now))) }
 {
     Ok(Formula::Defined(number, renumber_terms(alloc, args, numbers)?))
 }
@@ -66,7 +66,7 @@ pub(crate) fn renumber_goal_fact(
     numbers: &[u32],
 ) -> Result<Formula, NoMemory>
     ensures { IfOk result (λ out. tree_of_formula out
-        ≡ goal_fact pred (renumbered_args (number_in numbers.now) args.now)) }
+        ≡ goal_fact pred (renumbered_args (new_number numbers.now) args.now)) }
 {
     Ok(Formula::GoalFact(pred, renumber_args(alloc, args, numbers)?))
 }
@@ -96,7 +96,7 @@ pub(crate) fn renumber_goal_not(
     numbers: &[u32],
 ) -> Result<Formula, NoMemory>
     ensures { IfOk result (λ out. tree_of_formula out
-        ≡ goal_not pred (renumbered_args (number_in numbers.now) args.now)) }
+        ≡ goal_not pred (renumbered_args (new_number numbers.now) args.now)) }
 {
     Ok(Formula::GoalNot(pred, renumber_args(alloc, args, numbers)?))
 }

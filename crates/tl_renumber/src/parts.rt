@@ -1,6 +1,6 @@
 // Numbers, values, variables, arguments and bounds with other numbers for their names.
 ghost use Rattle.std.specs.Prelude.{◌≡◌, IfOk, map};
-ghost use Rattle.tl_renumber.specs.Numbers.{number_in};
+ghost use Rattle.tl_renumber.specs.Numbers.{new_number};
 ghost use Rattle.tl_renumber.specs.Renumbered.{renumbered_arg, renumbered_args, renumbered_bound, renumbered_value, renumbered_values, renumbered_variable, renumbered_variables};
 
 use std::alloc::Global;
@@ -8,7 +8,7 @@ use tl_syntax::{Arg, Args, Bound, NoMemory, Value, Values, Var, Vars};
 
 /// The number that the list has at the old one, and past the list the old one itself. It takes no memory.
 pub fn new_number(numbers: &[u32], number: u32) -> u32
-    ensures { result ≡ number_in numbers.now number }
+    ensures { result ≡ new_number numbers.now number }
 {
     match numbers.get(number as usize) {
         Some(new) => *new,
@@ -18,7 +18,7 @@ pub fn new_number(numbers: &[u32], number: u32) -> u32
 
 /// A value with the new number of its name. It takes no memory.
 pub fn renumber_value(value: Value, numbers: &[u32]) -> Value
-    ensures { result ≡ renumbered_value (number_in numbers.now) value }
+    ensures { result ≡ renumbered_value (new_number numbers.now) value }
 {
     match value {
         Value::Int(integer) => Value::Int(integer),
@@ -28,7 +28,7 @@ pub fn renumber_value(value: Value, numbers: &[u32]) -> Value
 
 /// A variable with the new number of its name. It takes no memory.
 pub fn renumber_variable(var: Var, numbers: &[u32]) -> Var
-    ensures { result ≡ renumbered_variable (number_in numbers.now) var }
+    ensures { result ≡ renumbered_variable (new_number numbers.now) var }
 {
     Var {
         slot: var.slot,
@@ -38,7 +38,7 @@ pub fn renumber_variable(var: Var, numbers: &[u32]) -> Var
 
 /// An argument with the new number of its name. It takes no memory.
 pub fn renumber_arg(arg: Arg, numbers: &[u32]) -> Arg
-    ensures { result ≡ renumbered_arg (number_in numbers.now) arg }
+    ensures { result ≡ renumbered_arg (new_number numbers.now) arg }
 {
     match arg {
         Arg::Var(var) => Arg::Var(renumber_variable(var, numbers)),
@@ -48,7 +48,7 @@ pub fn renumber_arg(arg: Arg, numbers: &[u32]) -> Arg
 
 /// Values with the new numbers of their names. It fails for want of memory alone.
 pub fn renumber_values(alloc: Global, values: &Values, numbers: &[u32]) -> Result<Values, NoMemory>
-    ensures { IfOk result (λ out. out ≡ renumbered_values (number_in numbers.now) values.now) }
+    ensures { IfOk result (λ out. out ≡ renumbered_values (new_number numbers.now) values.now) }
 {
     let mut out = Values::new(alloc);
     for value in values.as_slice().iter() {
@@ -59,7 +59,7 @@ pub fn renumber_values(alloc: Global, values: &Values, numbers: &[u32]) -> Resul
 
 /// Variables with the new numbers of their names. It fails for want of memory alone.
 pub fn renumber_variables(alloc: Global, vars: &Vars, numbers: &[u32]) -> Result<Vars, NoMemory>
-    ensures { IfOk result (λ out. out ≡ renumbered_variables (number_in numbers.now) vars.now) }
+    ensures { IfOk result (λ out. out ≡ renumbered_variables (new_number numbers.now) vars.now) }
 {
     let mut out = Vars::new(alloc);
     for var in vars.as_slice().iter() {
@@ -70,7 +70,7 @@ pub fn renumber_variables(alloc: Global, vars: &Vars, numbers: &[u32]) -> Result
 
 /// Arguments with the new numbers of their names. It fails for want of memory alone.
 pub fn renumber_args(alloc: Global, args: &Args, numbers: &[u32]) -> Result<Args, NoMemory>
-    ensures { IfOk result (λ out. out ≡ renumbered_args (number_in numbers.now) args.now) }
+    ensures { IfOk result (λ out. out ≡ renumbered_args (new_number numbers.now) args.now) }
 {
     let mut out = Args::new(alloc);
     for arg in args.as_slice().iter() {
@@ -81,7 +81,7 @@ pub fn renumber_args(alloc: Global, args: &Args, numbers: &[u32]) -> Result<Args
 
 /// A bound with the new numbers of its names. It fails for want of memory alone.
 pub fn renumber_bound(alloc: Global, bound: &Bound, numbers: &[u32]) -> Result<Bound, NoMemory>
-    ensures { IfOk result (λ out. out ≡ renumbered_bound (number_in numbers.now) bound.now) }
+    ensures { IfOk result (λ out. out ≡ renumbered_bound (new_number numbers.now) bound.now) }
 {
     match bound {
         Bound::Fact(pred, args) => {
@@ -116,8 +116,8 @@ pub(crate) fn renumber_scope(
     bound: &Bound,
     numbers: &[u32],
 ) -> Result<(Vars, Bound), NoMemory>
-    ensures vars { IfOk result (λ scope. scope.0 ≡ renumbered_variables (number_in numbers.now) vars.now) }
-    ensures bound { IfOk result (λ scope. scope.1 ≡ renumbered_bound (number_in numbers.now) bound.now) }
+    ensures vars { IfOk result (λ scope. scope.0 ≡ renumbered_variables (new_number numbers.now) vars.now) }
+    ensures bound { IfOk result (λ scope. scope.1 ≡ renumbered_bound (new_number numbers.now) bound.now) }
 {
     let vars = renumber_variables(alloc, vars, numbers)?;
     let bound = renumber_bound(alloc, bound, numbers)?;

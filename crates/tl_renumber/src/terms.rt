@@ -1,6 +1,6 @@
 // Terms with other numbers for their names.
 ghost use Rattle.std.specs.Prelude.{◌≡◌, IfOk};
-ghost use Rattle.tl_renumber.specs.Numbers.{number_in};
+ghost use Rattle.tl_renumber.specs.Numbers.{new_number};
 ghost use Rattle.tl_renumber.specs.Renumbered.{renumbered_term, renumbered_terms};
 ghost use Rattle.tl_syntax.specs.TreeOfTerm.{tree_of_term, tree_of_terms};
 
@@ -12,7 +12,7 @@ use tl_syntax::{NoMemory, Term, Terms};
 #[cycle(renumber_term)]
 pub fn renumber_terms(alloc: Global, terms: &Terms, numbers: &[u32]) -> Result<Terms, NoMemory>
     ensures renumbered { IfOk result (λ out. tree_of_terms out
-        ≡ renumbered_terms (number_in numbers.now) (tree_of_terms terms.now)) }
+        ≡ renumbered_terms (new_number numbers.now) (tree_of_terms terms.now)) }
 {
     let mut out = Terms::new(alloc);
     for term in terms.as_slice().iter() {
@@ -27,7 +27,7 @@ pub fn renumber_terms(alloc: Global, terms: &Terms, numbers: &[u32]) -> Result<T
 #[tactic(auto, using(crate::proofs::Trees::term_trees), unfolding(crate::specs::Renumbered::renumbered_term))]
 pub fn renumber_term(alloc: Global, term: &Term, numbers: &[u32]) -> Result<Term, NoMemory>
     ensures renumbered { IfOk result (λ out. tree_of_term out
-        ≡ renumbered_term (number_in numbers.now) (tree_of_term term.now)) }
+        ≡ renumbered_term (new_number numbers.now) (tree_of_term term.now)) }
 {
     match term {
         Term::Var(var) => Ok(Term::Var(renumber_variable(*var, numbers))),

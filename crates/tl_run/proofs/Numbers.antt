@@ -9,14 +9,14 @@ use Rattle.std.specs.Str.Parse.{digits_value, ParsesUnsigned}
 use Rattle.std.proofs.lemmas.Bool.{cases_lt}
 use Rattle.std.proofs.lemmas.Bool.Decides.{nat_tests}
 use Rattle.std.proofs.lemmas.Str.Parse.{numerals_by_value, tells_all_ascii_digits, parse_digits}
-use Rattle.tl_run.specs.Searches.{number_in}
+use Rattle.tl_run.specs.Searches.{number_between}
 
 pub digits_all : (bs : List ℕ) → list_all is_ascii_digit bs ≡ all_ascii_digits bs
 digits_all [] = refl
 digits_all (c ∷ cs) = ap (λ (b : Bool). is_ascii_digit c && b) (digits_all cs)
 
 -- a word that has more than digits writes no number
-pub no_number : (least most : ℕ) (w : List ℕ) → all_ascii_digits w ≡ false → number_in least most w ≡ None
+pub no_number : (least most : ℕ) (w : List ℕ) → all_ascii_digits w ≡ false → number_between least most w ≡ None
 no_number least most [] e = refl
 no_number least most (c ∷ cs) e = λ i. if (e i) && (nat_le least (digits_value 10 (c ∷ cs)) && nat_le (digits_value 10 (c ∷ cs)) most) then Some (digits_value 10 (c ∷ cs)) else None
 
@@ -32,7 +32,7 @@ and_false : (b : Bool) → b && false ≡ false
 and_false true = refl
 and_false false = refl
 
-number_is : {E : Type 0} (least most : ℕ) (w : List ℕ) (r : Result ℕ E) → most < 2 ^ 32 → all_ascii_digits w ≡ true → OkIff r ((0 < length w) × (digits_value 10 w < 2 ^ 32)) (digits_value 10 w) → number_in least most w ≡ within least most r
+number_is : {E : Type 0} (least most : ℕ) (w : List ℕ) (r : Result ℕ E) → most < 2 ^ 32 → all_ascii_digits w ≡ true → OkIff r ((0 < length w) × (digits_value 10 w < 2 ^ 32)) (digits_value 10 w) → number_between least most w ≡ within least most r
 number_is least most [] (Ok n) few digits h = let first = h.0 in absurd (omega (arith, first.0))
 number_is least most [] (Err e) few digits h = refl
 number_is least most (c ∷ cs) (Ok n) few digits h =
@@ -44,7 +44,7 @@ number_is least most (c ∷ cs) (Err e) few digits h =
     λ i. if (digits i) && (out i) then Some v else None
 
 -- a word of digits writes the number that is read from it
-pub number_read : {E : Type 0} (least most : ℕ) (w : List ℕ) (r : Result ℕ E) → most < 2 ^ 32 → all_ascii_digits w ≡ true → ParsesUnsigned 32 10 w r → number_in least most w ≡ within least most r
+pub number_read : {E : Type 0} (least most : ℕ) (w : List ℕ) (r : Result ℕ E) → most < 2 ^ 32 → all_ascii_digits w ≡ true → ParsesUnsigned 32 10 w r → number_between least most w ≡ within least most r
 number_read least most w r few digits h =
     number_is least most w r few digits (parse_digits (numerals_by_value (λ ds. all_ascii_digits ds ≡ true) tells_all_ascii_digits) 32 w r h digits)
 
@@ -58,14 +58,14 @@ above_most : (least most n : ℕ) → most < n → (if nat_le least n && nat_le 
 above_most least most n high = grind (arith, nat_tests)
 
 module _ {E : Type 0} (least most : ℕ) (w : List ℕ) (r : Result ℕ E) (few : most < 2 ^ 32) (digits : all_ascii_digits w ≡ true) (parsed : ParsesUnsigned 32 10 w r) where
-  pub writes_within : (n : ℕ) → r ≡ Ok n → least ≤ n → n ≤ most → Some n ≡ number_in least most w
+  pub writes_within : (n : ℕ) → r ≡ Ok n → least ≤ n → n ≤ most → Some n ≡ number_between least most w
   writes_within n is low high = sym (number_read least most w r few digits parsed ∙ ap (within least most) is ∙ within_both least most n low high)
 
-  pub writes_below : (n : ℕ) → r ≡ Ok n → n < least → None ≡ number_in least most w
+  pub writes_below : (n : ℕ) → r ≡ Ok n → n < least → None ≡ number_between least most w
   writes_below n is low = sym (number_read least most w r few digits parsed ∙ ap (within least most) is ∙ below_least least most n low)
 
-  pub writes_above : (n : ℕ) → r ≡ Ok n → most < n → None ≡ number_in least most w
+  pub writes_above : (n : ℕ) → r ≡ Ok n → most < n → None ≡ number_between least most w
   writes_above n is high = sym (number_read least most w r few digits parsed ∙ ap (within least most) is ∙ above_most least most n high)
 
-  pub writes_none : (e : E) → r ≡ Err e → None ≡ number_in least most w
+  pub writes_none : (e : E) → r ≡ Err e → None ≡ number_between least most w
   writes_none e is = sym (number_read least most w r few digits parsed ∙ ap (within least most) is)

@@ -6,7 +6,7 @@ use Rattle.tl_run.specs.declared.search.Search.{Search}
 use Rattle.tl_run.specs.declared.words.Role.{Role}
 use Rattle.tl_run.specs.declared.words.Role.TheVariants as role
 use Rattle.tl_run.specs.declared.search.Mode.TheVariants.{Breadth}
-use Rattle.tl_run.specs.Searches.{breadth_in, number_in, search_in, IsWithinLimits}
+use Rattle.tl_run.specs.Searches.{breadth_in, number_between, search_in, IsWithinLimits}
 
 -- a command, with the names of its files: `check`, `plan` and `trace` with their search, `explain`, `prove-none` with its search, and `check-none`; `sample` with its number of balls; `cheapest`, again with files, and with the most search nodes that it keeps; and `check-loop`, whose plan has a repeated part
 pub data Command : Type 0 where
@@ -34,7 +34,7 @@ files_of (check_loop domain problem plan) = (role.Domain, domain) ∷ ((role.Pro
 
 -- the command on a sample that a word names
 abbrev pub sample_command : List ℕ → List ℕ → Option Command
-sample_command word balls = if bytes_eq word (codes "sample") then option_map sample (number_in 1 100 balls) else None
+sample_command word balls = if bytes_eq word (codes "sample") then option_map sample (number_between 1 100 balls) else None
 
 -- the command on a plan, or on a proof, that a word names
 abbrev pub plan_command : List ℕ → List ℕ → List ℕ → List ℕ → Option Command
@@ -56,7 +56,7 @@ none_command word domain problem s = if bytes_eq word (codes "prove-none") then 
 
 -- the command on a costs file
 abbrev pub cheapest_command : List ℕ → List ℕ → List ℕ → List ℕ → Option Command
-cheapest_command nodes domain problem costs = option_map (λ (b : ℕ). cheapest b domain problem costs) (number_in 1 100000 nodes)
+cheapest_command nodes domain problem costs = option_map (λ (b : ℕ). cheapest b domain problem costs) (number_between 1 100000 nodes)
 
 -- the command of five words: on a costs file, or with a search breadth-first
 abbrev pub five_words_command : List ℕ → List ℕ → List ℕ → List ℕ → List ℕ → Option Command

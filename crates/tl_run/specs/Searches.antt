@@ -7,9 +7,9 @@ use Rattle.tl_run.specs.declared.search.Mode.TheVariants.{Breadth, Depth}
 use Rattle.tl_run.specs.declared.search.Search.{Search}
 
 -- the number that a word writes in decimal digits, which zeros may precede, where it is from the first to the second one
-abbrev pub number_in : ℕ → ℕ → List ℕ → Option ℕ
-number_in least most [] = None
-number_in least most (c ∷ cs) =
+abbrev pub number_between : ℕ → ℕ → List ℕ → Option ℕ
+number_between least most [] = None
+number_between least most (c ∷ cs) =
     if all_ascii_digits (c ∷ cs) && (nat_le least (digits_value 10 (c ∷ cs)) && nat_le (digits_value 10 (c ∷ cs)) most) then Some (digits_value 10 (c ∷ cs)) else None
 
 -- the mode that a word names
@@ -23,11 +23,11 @@ search_with mode within nodes = None
 
 -- the search that three words write: its mode, the most actions of a plan, and the most search nodes
 abbrev pub search_in : List ℕ → List ℕ → List ℕ → Option Search
-search_in mode within nodes = search_with (mode_in mode) (number_in 0 100000 within) (number_in 1 100000 nodes)
+search_in mode within nodes = search_with (mode_in mode) (number_between 0 100000 within) (number_between 1 100000 nodes)
 
 -- the search breadth-first that two words write: the most actions of a plan, and the most search nodes
 abbrev pub breadth_in : List ℕ → List ℕ → Option Search
-breadth_in within nodes = search_with (Some Breadth) (number_in 0 100000 within) (number_in 1 100000 nodes)
+breadth_in within nodes = search_with (Some Breadth) (number_between 0 100000 within) (number_between 1 100000 nodes)
 
 -- the numbers of a search are within their limits
 pub record IsWithinLimits (s : Search) : Type 0 where

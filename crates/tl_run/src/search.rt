@@ -1,7 +1,7 @@
 // A search, as words write it.
 ghost use Rattle.std.specs.Prelude.{◌≡◌, ◌≤◌, Some, IfSome};
 ghost use Rattle.std.specs.Str.{all_ascii_digits};
-ghost use Rattle.tl_run.specs.Searches.{breadth_in, mode_in, number_in, search_in, search_with, IsWithinLimits};
+ghost use Rattle.tl_run.specs.Searches.{breadth_in, mode_in, number_between, search_in, search_with, IsWithinLimits};
 
 /// The order in which a search goes over search nodes.
 #[derive(Clone, Copy)]
@@ -32,7 +32,7 @@ fn is_digits(word: &str) -> bool
 
 /// The number that the word writes in decimal digits, where it is from `least` to `most`. Zeros may stand before it. It takes no memory.
 pub(crate) fn number_of(word: &str, least: u32, most: u32) -> Option<u32>
-    ensures number { result ≡ number_in least most word.now }
+    ensures number { result ≡ number_between least most word.now }
     ensures least { IfSome result (λ number. least ≤ number) }
     ensures most { IfSome result (λ number. number ≤ most) }
 {
@@ -58,7 +58,7 @@ fn mode_of(word: &str) -> Option<Mode>
 
 /// The search in this mode whose most actions and most search nodes the words write. It takes no memory.
 fn search_with(mode: Mode, within: &str, nodes: &str) -> Option<Search>
-    ensures search { result ≡ search_with (Some mode) (number_in 0 100000 within.now) (number_in 1 100000 nodes.now) }
+    ensures search { result ≡ search_with (Some mode) (number_between 0 100000 within.now) (number_between 1 100000 nodes.now) }
     ensures mode { IfSome result (λ search. search.mode ≡ mode) }
     ensures limits { IfSome result IsWithinLimits }
 {

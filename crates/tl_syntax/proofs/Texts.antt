@@ -85,8 +85,8 @@ abbrev pub is_text : {K : Type 0} → (K → List ℕ) → List ℕ → K → Bo
 is_text bytes text key = bytes_eq text (bytes key)
 
 -- the numbers of a map whose keys are texts
-abbrev pub number_in : {K S : Type 0} → (K → List ℕ) → HashMap K ℕ S → List ℕ → Option ℕ
-number_in bytes numbers text = hash.get_by (is_text bytes text) numbers
+abbrev pub mapped_number : {K S : Type 0} → (K → List ℕ) → HashMap K ℕ S → List ℕ → Option ℕ
+mapped_number bytes numbers text = hash.get_by (is_text bytes text) numbers
 
 -- `KeepsOthers`, opened
 other_entries : {K X : Type 0} (eq : K → K → Bool) (test other : K → Bool) (old new : List (K × X)) → KeepsOthers eq test old new → IsKeyTest eq other → AreApart test other → lookup other new ≡ lookup other old
@@ -94,16 +94,16 @@ unfolding KeepsOthers
 other_entries eq test other old new keeps = keeps other
 
 -- after a change at one text, a map gives every other text its old number
-pub number_in-updated : {K S : Type 0} (bytes : K → List ℕ) (text : List ℕ) (old new : HashMap K ℕ S) (n : ℕ)
+pub mapped_number-updated : {K S : Type 0} (bytes : K → List ℕ) (text : List ℕ) (old new : HashMap K ℕ S) (n : ℕ)
     → hash.UpdatesBy (λ x y. bytes_eq (bytes x) (bytes y)) (is_text bytes text) old new (Some n)
-    → (q : List ℕ) → number_in bytes new q ≡ cond (bytes_eq text q) (Some n) (number_in bytes old q)
-number_in-updated {K} bytes text old new n updates q = by_test (bytes_eq text q) refl
+    → (q : List ℕ) → mapped_number bytes new q ≡ cond (bytes_eq text q) (Some n) (mapped_number bytes old q)
+mapped_number-updated {K} bytes text old new n updates q = by_test (bytes_eq text q) refl
   where
     apart : bytes_eq text q ≡ false → (key : K) → bytes_eq text (bytes key) ≡ true → bytes_eq q (bytes key) ≡ false
     apart differs key same = nat_list_eq_equiv.symm q (bytes key) ∙ sym (nat_list_eq_equiv.congr text (bytes key) q same) ∙ differs
 
-    by_test : (b : Bool) → bytes_eq text q ≡ b → number_in bytes new q ≡ cond b (Some n) (number_in bytes old q)
-    by_test true same = subst (λ (t : List ℕ). number_in bytes new t ≡ Some n) ((bytes_eq-Decides text q).0 same) updates.1
+    by_test : (b : Bool) → bytes_eq text q ≡ b → mapped_number bytes new q ≡ cond b (Some n) (mapped_number bytes old q)
+    by_test true same = subst (λ (t : List ℕ). mapped_number bytes new t ≡ Some n) ((bytes_eq-Decides text q).0 same) updates.1
     by_test false differs =
         other_entries _ _ _ old.entries new.entries updates.3 (λ x y. nat_list_eq_equiv.congr q (bytes x) (bytes y)) (apart differs)
 
@@ -133,11 +133,11 @@ number_of-at_place names text n distinct at = by_answer (number_of names text) r
 
 -- the table after a new text gets the next number
 pub IsNumbered-push : {K S : Type 0} (bytes : K → List ℕ) (names : List (List ℕ)) (text : List ℕ) (old new : HashMap K ℕ S) (n : ℕ)
-    → IsNumbered names (number_in bytes old) → number_of names text ≡ None → length names < 2 ^ 32 - 1 → n ≡ length names
+    → IsNumbered names (mapped_number bytes old) → number_of names text ≡ None → length names < 2 ^ 32 - 1 → n ≡ length names
     → hash.UpdatesBy (λ x y. bytes_eq (bytes x) (bytes y)) (is_text bytes text) old new (Some n)
-    → IsNumbered (names ++ text ∷ []) (number_in bytes new)
+    → IsNumbered (names ++ text ∷ []) (mapped_number bytes new)
 IsNumbered-push bytes names text old new n table absent room next updates = record {
-  numbered = λ q. number_in-updated bytes text old new n updates q ∙ ap (λ (m : ℕ). cond (bytes_eq text q) (Some m) (number_in bytes old q)) next ∙ ap (cond (bytes_eq text q) (Some (length names))) (table.numbered q) ∙ sym (number_of-push names text q absent);
+  numbered = λ q. mapped_number-updated bytes text old new n updates q ∙ ap (λ (m : ℕ). cond (bytes_eq text q) (Some m) (mapped_number bytes old q)) next ∙ ap (cond (bytes_eq text q) (Some (length names))) (table.numbered q) ∙ sym (number_of-push names text q absent);
   distinct = AreDistinct-push names text table.distinct absent;
   few = rw length-append (omega arith);
 }

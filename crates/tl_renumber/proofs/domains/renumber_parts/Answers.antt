@@ -1,10 +1,10 @@
-use Rattle.tl_renumber.specs.Numbers.{number_in}
+use Rattle.tl_renumber.specs.Numbers.{new_number}
 use Rattle.tl_renumber.proofs.WholeDomain.{renumbered-Domain}
 use Rattle.tl_renumber.proofs.domains.renumber_parts.Goals as goal
 
 pub returns : goal.returns
 returns c =
-    renumbered-Domain (number_in c.args.numbers.now) c.args.domain.now (record {
+    renumbered-Domain (new_number c.args.numbers.now) c.args.domain.now (record {
       name = c.new_number.result;
       predicates = c.in_ok-predicates.predicates;
       functions = c.in_ok-functions.functions;

@@ -1,5 +1,5 @@
 use Rattle.std.proofs.Common.{map, ap, ◌∙◌, take_all}
-use Rattle.tl_renumber.specs.Numbers.{number_in}
+use Rattle.tl_renumber.specs.Numbers.{new_number}
 use Rattle.tl_renumber.specs.Renumbered.{renumbered}
 use Rattle.tl_syntax.specs.declared.formula.Formula.{Formula}
 use Rattle.tl_syntax.specs.TreeOfFormula.{tree_of_formula}
@@ -8,7 +8,7 @@ use Rattle.tl_renumber.proofs.formulas.+renumber_formula.Goals as goal
 
 pub renumber_formulas-returns : goal.renumber_formulas-returns
 renumber_formulas-returns t c =
-    let r = number_in c.args.numbers.now in
+    let r = new_number c.args.numbers.now in
     record {
       renumbered =
           renumbered-Formulas r c.args.formulas.now c.loop-formula.out (c.loop-formula.invariant
