@@ -7,7 +7,7 @@ use Rattle.std.specs.Ordering.{nat_cmp, ordering_then}
 use Rattle.tl_action.specs.declared.fault.ActFault.{ActFault}
 use Rattle.tl_action.specs.declared.fault.ActFault.TheVariants as fault
 use Rattle.tl_action.specs.Actions.{action_of, AreActions, HasOperator, IsCausedBySome}
-use Rattle.tl_action.specs.Join.{Known, given, IsFound, IsRowFault}
+use Rattle.tl_action.specs.Join.{Known, row_assignment, IsFound, IsRowFault}
 use Rattle.tl_action.specs.Prepared.{is_prepared, instances_of, looked_prepared}
 use Rattle.tl_action.specs.RowLists.{AreRowsOf}
 use Rattle.tl_action.proofs.AppliedOperators.{looked-is}
@@ -47,12 +47,12 @@ some-of false x = refl
 -- ---- an action by its operator
 
 module _ (p : PlainProblem) (w : World) (o : PlainOperator) (op : ℕ) (there : slice_get p.operators op ≡ Some o) where
-  some-is : (t : List Value) → is_some (step p w (action_of op t)) ≡ ((length t == length o.params) && (list_all (bound_true (situation_of p w) (given o t)) o.bounds && is_prepared p w (given o t) o))
+  some-is : (t : List Value) → is_some (step p w (action_of op t)) ≡ ((length t == length o.params) && (list_all (bound_true (situation_of p w) (row_assignment o t)) o.bounds && is_prepared p w (row_assignment o t) o))
   unfolding step applied
-  some-is t = ap (λ (x : Option PlainOperator). is_some (applied_if p w t x)) there ∙ some-of ((length t == length o.params) && (list_all (bound_true (situation_of p w) (given o t)) o.bounds && is_prepared p w (given o t) o)) (changed w (instances_of p w (given o t) o))
+  some-is t = ap (λ (x : Option PlainOperator). is_some (applied_if p w t x)) there ∙ some-of ((length t == length o.params) && (list_all (bound_true (situation_of p w) (row_assignment o t)) o.bounds && is_prepared p w (row_assignment o t) o)) (changed w (instances_of p w (row_assignment o t) o))
 
-  bounds-iff : (t : List Value) → Each (λ b. bound_true (situation_of p w) (given o t) b ≡ true) o.bounds ↔ (list_all (bound_true (situation_of p w) (given o t)) o.bounds ≡ true)
-  bounds-iff t = all-iff (λ b. bound_true (situation_of p w) (given o t) b ≡ true) (bound_true (situation_of p w) (given o t)) (λ b. (λ h. h, λ h. h)) o.bounds
+  bounds-iff : (t : List Value) → Each (λ b. bound_true (situation_of p w) (row_assignment o t) b ≡ true) o.bounds ↔ (list_all (bound_true (situation_of p w) (row_assignment o t)) o.bounds ≡ true)
+  bounds-iff t = all-iff (λ b. bound_true (situation_of p w) (row_assignment o t) b ≡ true) (bound_true (situation_of p w) (row_assignment o t)) (λ b. (λ h. h, λ h. h)) o.bounds
 
   pub found-step : (e : Assignment) (t : List Value) → IsFound p w o [] o.bounds e t → is_some (step p w (action_of op t)) ≡ true
   found-step e t h = some-is t ∙ with-both _ _ (eq-eqb (length t) (length o.params) h.completes.arity) (with-both _ _ ((bounds-iff t).0 h.completes.bounds) h.prepared)
@@ -62,13 +62,13 @@ module _ (p : PlainProblem) (w : World) (o : PlainOperator) (op : ℕ) (there : 
       let first = both _ _ (sym (some-is t) ∙ h) in
       let second = both _ _ first.1 in
       record {
-        completes = record { arity = eqb-true (length t) (length o.params) first.0; agrees = nothing-known o.params (given o t) e; bounds = (bounds-iff t).1 second.0 };
+        completes = record { arity = eqb-true (length t) (length o.params) first.0; agrees = nothing-known o.params (row_assignment o t) e; bounds = (bounds-iff t).1 second.0 };
         prepared = second.1;
       }
 
   pub row-cause : (e : Assignment) (x : ActFault) → IsRowFault p w o [] o.bounds e x → IsCausedBySome p w x
   row-cause e (fault.Range note) h =
-      (action_of op h.0, subst (λ (ls : List Operation). Tells ls note) (sym (looked-is p w (action_of op h.0) o there h.1.arity ∙ ap (λ (b : Bool). cond b (looked_prepared p w (given o h.0) o) []) ((bounds-iff h.0).0 h.1.bounds))) h.2)
+      (action_of op h.0, subst (λ (ls : List Operation). Tells ls note) (sym (looked-is p w (action_of op h.0) o there h.1.arity ∙ ap (λ (b : Bool). cond b (looked_prepared p w (row_assignment o h.0) o) []) ((bounds-iff h.0).0 h.1.bounds))) h.2)
   row-cause e fault.NoMemory h = tt
 
 -- ---- order

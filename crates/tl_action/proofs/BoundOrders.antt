@@ -4,7 +4,7 @@ use Rattle.std.specs.List.{list_any}
 use Rattle.tl_action.specs.declared.arranged.Arranged.{Arranged}
 use Rattle.tl_action.specs.declared.fault.ActFault.{ActFault}
 use Rattle.tl_action.specs.declared.fault.ActFault.TheVariants as fault
-use Rattle.tl_action.specs.Join.{arranged, bound_count, behind_first, moved_first, HaveSame, with_bounds, given, IsCompletion, IsRowFault}
+use Rattle.tl_action.specs.Join.{arranged, bound_count, behind_first, moved_first, HaveSame, with_bounds, row_assignment, IsCompletion, IsRowFault}
 use Rattle.tl_action.specs.RowLists.{AreRowsOf}
 use Rattle.tl_syntax.specs.declared.bound.Bound.{Bound}
 use Rattle.tl_syntax.specs.declared.operator.Operator.{Operator}
@@ -168,14 +168,14 @@ module _ (p : PlainProblem) (w : World) (o : Operator) (bs : List Bound) (same :
   back t h = record {
     arity = h.arity;
     agrees = h.agrees;
-    bounds = each-with (λ b. bound_true (situation_of p w) (given (plain_operator o) t) b ≡ true) bs o.bounds (λ b. ((same b).1, (same b).0)) h.bounds;
+    bounds = each-with (λ b. bound_true (situation_of p w) (row_assignment (plain_operator o) t) b ≡ true) bs o.bounds (λ b. ((same b).1, (same b).0)) h.bounds;
   }
 
   there : (t : List Value) → IsCompletion p w (plain_operator o) [] o.bounds e t → IsCompletion p w (plain_operator (with_bounds o bs)) [] bs e t
   there t h = record {
     arity = h.arity;
     agrees = h.agrees;
-    bounds = each-with (λ b. bound_true (situation_of p w) (given (plain_operator o) t) b ≡ true) o.bounds bs same h.bounds;
+    bounds = each-with (λ b. bound_true (situation_of p w) (row_assignment (plain_operator o) t) b ≡ true) o.bounds bs same h.bounds;
   }
 
   pub rows-with : (rows : List (List Value)) → AreRowsOf p w (plain_operator (with_bounds o bs)) e rows → AreRowsOf p w (plain_operator o) e rows

@@ -3,7 +3,7 @@ use Rattle.std.proofs.Common.{◌≡◌, ◌↔◌, ◌⊎◌, ℕ, List, [], �
 use Rattle.std.specs.List.{list_any}
 use Rattle.std.proofs.lemmas.Bool.{eq-eqb}
 use Rattle.std.proofs.lemmas.List.{length-map}
-use Rattle.tl_action.specs.Join.{stands_in_one, is_new, Known, given, IsCompletion}
+use Rattle.tl_action.specs.Join.{stands_in_one, is_new, Known, row_assignment, IsCompletion}
 use Rattle.tl_action.proofs.Agreement.{bind-kept, bind-past, bound-agrees}
 use Rattle.tl_syntax.specs.declared.bound.Bound.{Bound}
 use Rattle.tl_syntax.specs.declared.value.Value.{Value}
@@ -184,22 +184,22 @@ module _ (p : PlainProblem) (w : World) (o : PlainOperator) (seen : List Bound) 
       ((Each-Among (λ (x : Var). stands_in_one (seen ++ b ∷ []) x ≡ true → d x.slot ≡ e x.slot) o.params).0 k s.0 s.1 (stands-next seen b s.0 (stands-at (args_of b) q s.0 s.2 m)))))
 
   -- the values of the new variables in a row
-  new-values : (t : List Value) (e : Assignment) → length t ≡ length o.params → Known seen o.params (given o t) e → Known (seen ++ b ∷ []) o.params (given o t) (bind fresh (copied fresh (given o t)) e)
-  new-values t e n k = (Each-Among (λ (s : Var). stands_in_one (seen ++ b ∷ []) s ≡ true → given o t s.slot ≡ bind fresh (copied fresh (given o t)) e s.slot) o.params).1 (λ s m h.
-      (elim (is_new seen b s) as (λ x. is_new seen b s ≡ x → given o t s.slot ≡ bind fresh (copied fresh (given o t)) e s.slot) [
-        | true ↦ λ z. sym (copy-at fresh (given o t) e s.slot (bound-some o.params t no_values s.slot n (slot-in o.params s m)) (new-slot seen b o.params s m ∙ z))
-        | false ↦ λ z. (Each-Among (λ (x : Var). stands_in_one seen x ≡ true → given o t x.slot ≡ e x.slot) o.params).0 k s m (new-or-known seen b s h z)
-            ∙ sym (bind-past fresh (copied fresh (given o t)) e s.slot (new-slot seen b o.params s m ∙ z))
+  new-values : (t : List Value) (e : Assignment) → length t ≡ length o.params → Known seen o.params (row_assignment o t) e → Known (seen ++ b ∷ []) o.params (row_assignment o t) (bind fresh (copied fresh (row_assignment o t)) e)
+  new-values t e n k = (Each-Among (λ (s : Var). stands_in_one (seen ++ b ∷ []) s ≡ true → row_assignment o t s.slot ≡ bind fresh (copied fresh (row_assignment o t)) e s.slot) o.params).1 (λ s m h.
+      (elim (is_new seen b s) as (λ x. is_new seen b s ≡ x → row_assignment o t s.slot ≡ bind fresh (copied fresh (row_assignment o t)) e s.slot) [
+        | true ↦ λ z. sym (copy-at fresh (row_assignment o t) e s.slot (bound-some o.params t no_values s.slot n (slot-in o.params s m)) (new-slot seen b o.params s m ∙ z))
+        | false ↦ λ z. (Each-Among (λ (x : Var). stands_in_one seen x ≡ true → row_assignment o t x.slot ≡ e x.slot) o.params).0 k s m (new-or-known seen b s h z)
+            ∙ sym (bind-past fresh (copied fresh (row_assignment o t)) e s.slot (new-slot seen b o.params s m ∙ z))
       ]) refl)
 
   -- a row completes the frame exactly where it completes it with a tuple of the bound put in
   pub completion-out : DifferInSlot fresh → OccurIn fresh b → (e : Assignment) (t : List Value) → IsCompletion p w o seen (b ∷ rest) e t → One (λ u. IsCompletion p w o (seen ++ b ∷ []) rest (bind fresh u e) t) (tuples (situation_of p w) e fresh b)
   completion-out d c e t h =
-      let u = copied fresh (given o t) in
+      let u = copied fresh (row_assignment o t) in
       let k = new-values t e h.arity h.agrees in
-      let is : bound_true (situation_of p w) (bind fresh u e) b ≡ true = sym (bound-alike (given o t) (bind fresh u e) k) ∙ h.bounds.0 in
+      let is : bound_true (situation_of p w) (bind fresh u e) b ≡ true = sym (bound-alike (row_assignment o t) (bind fresh u e) k) ∙ h.bounds.0 in
       one_in (λ v. IsCompletion p w o (seen ++ b ∷ []) rest (bind fresh v e) t) u (tuples (situation_of p w) e fresh b)
-      ((all-tuples (situation_of p w) e fresh b d c u).1 (length-map fresh (λ (s : Var). value_or (given o t s.slot)), is))
+      ((all-tuples (situation_of p w) e fresh b d c u).1 (length-map fresh (λ (s : Var). value_or (row_assignment o t s.slot)), is))
       (record { arity = h.arity; agrees = k; bounds = h.bounds.1 })
 
   pub completion-in : DifferInSlot fresh → OccurIn fresh b → (e : Assignment) (t u : List Value) → Among u (tuples (situation_of p w) e fresh b) → IsCompletion p w o (seen ++ b ∷ []) rest (bind fresh u e) t → IsCompletion p w o seen (b ∷ rest) e t
@@ -207,34 +207,34 @@ module _ (p : PlainProblem) (w : World) (o : PlainOperator) (seen : List Bound) 
       let is = ((all-tuples (situation_of p w) e fresh b d c u).0 m).1 in
       record {
         arity = h.arity;
-        agrees = (Each-Among (λ (s : Var). stands_in_one seen s ≡ true → given o t s.slot ≡ e s.slot) o.params).1 (λ s n k.
-            (Each-Among (λ (x : Var). stands_in_one seen x ≡ true → given o t x.slot ≡ bind fresh u e x.slot) o.params).0 (known-before (given o t) (bind fresh u e) h.agrees) s n k
+        agrees = (Each-Among (λ (s : Var). stands_in_one seen s ≡ true → row_assignment o t s.slot ≡ e s.slot) o.params).1 (λ s n k.
+            (Each-Among (λ (x : Var). stands_in_one seen x ≡ true → row_assignment o t x.slot ≡ bind fresh u e x.slot) o.params).0 (known-before (row_assignment o t) (bind fresh u e) h.agrees) s n k
             ∙ (Each-Among (λ (x : Var). stands_in_one seen x ≡ true → bind fresh u e x.slot ≡ e x.slot) o.params).0 (known-kept u e) s n k);
-        bounds = (bound-alike (given o t) (bind fresh u e) h.agrees ∙ is, h.bounds);
+        bounds = (bound-alike (row_assignment o t) (bind fresh u e) h.agrees ∙ is, h.bounds);
       }
 
   -- a bound without a new variable that is true of the frame is passed by the same rows
   pub completion-past : fresh ≡ [] → (e : Assignment) → bound_true (situation_of p w) e b ≡ true → (t : List Value) → IsCompletion p w o seen (b ∷ rest) e t ↔ IsCompletion p w o (seen ++ b ∷ []) rest e t
   completion-past z e is t = (
     λ h. record { arity = h.arity; agrees = old-values t e z h.arity h.agrees; bounds = h.bounds.1 },
-    λ h. record { arity = h.arity; agrees = known-before (given o t) e h.agrees; bounds = (bound-alike (given o t) e h.agrees ∙ is, h.bounds) },
+    λ h. record { arity = h.arity; agrees = known-before (row_assignment o t) e h.agrees; bounds = (bound-alike (row_assignment o t) e h.agrees ∙ is, h.bounds) },
   )
     where
-      old-values : (t : List Value) (e : Assignment) → fresh ≡ [] → length t ≡ length o.params → Known seen o.params (given o t) e → Known (seen ++ b ∷ []) o.params (given o t) e
-      old-values t e z n k = subst (λ (ss : List Var). Known (seen ++ b ∷ []) o.params (given o t) (bind ss (copied ss (given o t)) e)) z (new-values t e n k)
+      old-values : (t : List Value) (e : Assignment) → fresh ≡ [] → length t ≡ length o.params → Known seen o.params (row_assignment o t) e → Known (seen ++ b ∷ []) o.params (row_assignment o t) e
+      old-values t e z n k = subst (λ (ss : List Var). Known (seen ++ b ∷ []) o.params (row_assignment o t) (bind ss (copied ss (row_assignment o t)) e)) z (new-values t e n k)
 
   -- and one that is false of it by none
   pub completion-none : fresh ≡ [] → (e : Assignment) → bound_true (situation_of p w) e b ≡ false → (t : List Value) → ¬ IsCompletion p w o seen (b ∷ rest) e t
   completion-none z e is t h =
-      let k = subst (λ (ss : List Var). Known (seen ++ b ∷ []) o.params (given o t) (bind ss (copied ss (given o t)) e)) z (new-values t e h.arity h.agrees) in
-      true≢false (sym h.bounds.0 ∙ (bound-alike (given o t) e k ∙ is))
+      let k = subst (λ (ss : List Var). Known (seen ++ b ∷ []) o.params (row_assignment o t) (bind ss (copied ss (row_assignment o t)) e)) z (new-values t e h.arity h.agrees) in
+      true≢false (sym h.bounds.0 ∙ (bound-alike (row_assignment o t) e k ∙ is))
 
 -- frames that agree on what is known are completed by the same rows
 pub completion-alike : (p : PlainProblem) (w : World) (o : PlainOperator) (seen rest : List Bound) (d e : Assignment) (t : List Value) → Known seen o.params d e → IsCompletion p w o seen rest d t → IsCompletion p w o seen rest e t
 completion-alike p w o seen rest d e t k h = record {
   arity = h.arity;
-  agrees = (Each-Among (λ (s : Var). stands_in_one seen s ≡ true → given o t s.slot ≡ e s.slot) o.params).1 (λ s m z.
-      (Each-Among (λ (x : Var). stands_in_one seen x ≡ true → given o t x.slot ≡ d x.slot) o.params).0 h.agrees s m z
+  agrees = (Each-Among (λ (s : Var). stands_in_one seen s ≡ true → row_assignment o t s.slot ≡ e s.slot) o.params).1 (λ s m z.
+      (Each-Among (λ (x : Var). stands_in_one seen x ≡ true → row_assignment o t x.slot ≡ d x.slot) o.params).0 h.agrees s m z
       ∙ (Each-Among (λ (x : Var). stands_in_one seen x ≡ true → d x.slot ≡ e x.slot) o.params).0 k s m z);
   bounds = h.bounds;
 }

@@ -1,7 +1,7 @@
 -- The values of actions are those of worlds.
 use Rattle.std.proofs.Common.{◌≡◌, ℕ, zero, suc, List, [], ◌∷◌, map, length, slice_get, true, false, true≢false, ◌==◌, ◌||◌, Some, None, is_some, IsTrue, refl, sym, ap, ◌∙◌, subst, eqb-true}
 use Rattle.std.specs.List.{list_any}
-use Rattle.tl_action.specs.Join.{given, variables, IsFound}
+use Rattle.tl_action.specs.Join.{row_assignment, variables, IsFound}
 use Rattle.tl_action.specs.Actions.{ArgumentsAreNamed}
 use Rattle.tl_action.proofs.ActionLists.{ActionsSoFar, step-operator, step-found}
 use Rattle.tl_action.proofs.Operators.{counted-differ}
@@ -109,7 +109,7 @@ module _ (problem : Problem) (w : World) (named : WorldIsNamed (length problem.n
 
   found-named : (o : Operator) (d : Assignment) (t : List Value) → OperatorKeeps (signature_of problem.domain) count o → IsFound (plain_problem problem) w (plain_operator o) [] o.bounds d t → Each (ValueIsNamed count) t
   found-named o d t keeps h =
-      let e = given (plain_operator o) t in
+      let e = row_assignment (plain_operator o) t in
       row-named count w e o.params t (values-of-row w e no_values o.params t (counted-differ o.params keeps.params.counted) h.completes.arity (itself e o.params))
       ((Each-Among (Has count e) o.params).1 (λ s m.
       let some = (Each-Among (λ (x : Var). IsTrue (list_any (stands_in x) o.bounds)) o.params).0 keeps.bounded s m in

@@ -5,7 +5,7 @@ use Rattle.tl_action.specs.declared.fault.ActFault.{ActFault}
 use Rattle.tl_action.specs.declared.fault.ActFault.TheVariants as fault
 use Rattle.tl_action.specs.Agreement.{Agree}
 use Rattle.tl_action.specs.Answers.{IsCausedBy}
-use Rattle.tl_action.specs.Join.{stands_in_one, is_new, variables, Known, given, IsCompletion, IsFound, IsRowFault}
+use Rattle.tl_action.specs.Join.{stands_in_one, is_new, variables, Known, row_assignment, IsCompletion, IsFound, IsRowFault}
 use Rattle.tl_action.specs.Prepared.{is_prepared, looked_prepared}
 use Rattle.tl_action.proofs.Completions.{known-through, completion-out, completion-in, completion-alike}
 use Rattle.tl_action.proofs.Operators.{operator-agrees}
@@ -96,26 +96,26 @@ module _ (g : Signature) (n : ℕ) (p : PlainProblem) (w : World) (o : Operator)
   all = o.bounds
 
   pub completion-row : (t : List Value) → IsCompletion p w (plain_operator o) all [] e t → term_values w e (variables o.params) ≡ Some t
-  completion-row t h = values-of-row w e no_values o.params t differ h.arity (known-all all o.params (given (plain_operator o) t) e keeps.bounded h.agrees)
+  completion-row t h = values-of-row w e no_values o.params t differ h.arity (known-all all o.params (row_assignment (plain_operator o) t) e keeps.bounded h.agrees)
 
   pub row-completion : (t : List Value) → term_values w e (variables o.params) ≡ Some t → IsCompletion p w (plain_operator o) all [] e t
-  row-completion t h = let k = row-agrees w e no_values o.params t differ h in record { arity = k.arity; agrees = all-known all o.params (given (plain_operator o) t) e k.agrees; bounds = tt }
+  row-completion t h = let k = row-agrees w e no_values o.params t differ h in record { arity = k.arity; agrees = all-known all o.params (row_assignment (plain_operator o) t) e k.agrees; bounds = tt }
 
-  row-frame : (t : List Value) → term_values w e (variables o.params) ≡ Some t → Agree (slots_of o.params) e (given (plain_operator o) t)
-  row-frame t h = let k = row-agrees w e no_values o.params t differ h in (Each-over (λ (q : ℕ). e q ≡ given (plain_operator o) t q) (λ (s : Var). s.slot) o.params).1 (turned o.params k.agrees)
+  row-frame : (t : List Value) → term_values w e (variables o.params) ≡ Some t → Agree (slots_of o.params) e (row_assignment (plain_operator o) t)
+  row-frame t h = let k = row-agrees w e no_values o.params t differ h in (Each-over (λ (q : ℕ). e q ≡ row_assignment (plain_operator o) t q) (λ (s : Var). s.slot) o.params).1 (turned o.params k.agrees)
     where
-      turned : (ss : List Var) → Each (λ s. given (plain_operator o) t s.slot ≡ e s.slot) ss → Each (λ s. e s.slot ≡ given (plain_operator o) t s.slot) ss
+      turned : (ss : List Var) → Each (λ s. row_assignment (plain_operator o) t s.slot ≡ e s.slot) ss → Each (λ s. e s.slot ≡ row_assignment (plain_operator o) t s.slot) ss
       turned [] h = tt
       turned (s ∷ ss) h = (sym h.0, turned ss h.1)
 
   pub row-found : (t : List Value) → term_values w e (variables o.params) ≡ Some t → is_prepared p w e (plain_operator o) ≡ true → IsFound p w (plain_operator o) all [] e t
-  row-found t h k = record { completes = row-completion t h; prepared = sym (operator-agrees g n p w o e (given (plain_operator o) t) keeps (row-frame t h)).prepared ∙ k }
+  row-found t h k = record { completes = row-completion t h; prepared = sym (operator-agrees g n p w o e (row_assignment (plain_operator o) t) keeps (row-frame t h)).prepared ∙ k }
 
   pub found-row : (t : List Value) → IsFound p w (plain_operator o) all [] e t → (term_values w e (variables o.params) ≡ Some t) × (is_prepared p w e (plain_operator o) ≡ true)
-  found-row t h = let r = completion-row t h.completes in (r, (operator-agrees g n p w o e (given (plain_operator o) t) keeps (row-frame t r)).prepared ∙ h.prepared)
+  found-row t h = let r = completion-row t h.completes in (r, (operator-agrees g n p w o e (row_assignment (plain_operator o) t) keeps (row-frame t r)).prepared ∙ h.prepared)
 
   pub row-fault : (t : List Value) (x : ActFault) → term_values w e (variables o.params) ≡ Some t → IsCausedBy (looked_prepared p w e (plain_operator o)) x → IsRowFault p w (plain_operator o) all [] e x
-  row-fault t (fault.Range note) h k = (t, row-completion t h, subst (λ (ls : List Operation). Tells ls note) (operator-agrees g n p w o e (given (plain_operator o) t) keeps (row-frame t h)).looked k)
+  row-fault t (fault.Range note) h k = (t, row-completion t h, subst (λ (ls : List Operation). Tells ls note) (operator-agrees g n p w o e (row_assignment (plain_operator o) t) keeps (row-frame t h)).looked k)
   row-fault t fault.NoMemory h k = tt
 
 -- one row more

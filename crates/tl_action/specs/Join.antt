@@ -78,14 +78,14 @@ abbrev pub Known : List Bound → List Var → Assignment → Assignment → Typ
 Known seen ss d e = Each (λ s. stands_in_one seen s ≡ true → d s.slot ≡ e s.slot) ss
 
 -- the operator's parameters with these values
-abbrev pub given : PlainOperator → List Value → Assignment
-given o t = bind o.params t no_values
+abbrev pub row_assignment : PlainOperator → List Value → Assignment
+row_assignment o t = bind o.params t no_values
 
 -- the row has a value for each parameter, agrees with the frame on those that stand in a bound that was seen, and makes the other bounds true
 pub record IsCompletion (p : PlainProblem) (w : World) (o : PlainOperator) (seen rest : List Bound) (e : Assignment) (t : List Value) : Type 0 where
   pub arity : length t ≡ length o.params
-  pub agrees : Known seen o.params (given o t) e
-  pub bounds : Each (λ b. bound_true (situation_of p w) (given o t) b ≡ true) rest
+  pub agrees : Known seen o.params (row_assignment o t) e
+  pub bounds : Each (λ b. bound_true (situation_of p w) (row_assignment o t) b ≡ true) rest
 
 -- whether a row completes the frame from the k-th bound on
 abbrev pub CompletesFrom : PlainProblem → World → Operator → Assignment → ℕ → List Value → Type 0
@@ -105,11 +105,11 @@ pub record IsPassed (p : PlainProblem) (w : World) (o : Operator) (e : Assignmen
 -- and the operator can be applied with these values
 pub record IsFound (p : PlainProblem) (w : World) (o : PlainOperator) (seen rest : List Bound) (e : Assignment) (t : List Value) : Type 0 where
   pub completes : IsCompletion p w o seen rest e t
-  pub prepared : is_prepared p w (given o t) o ≡ true
+  pub prepared : is_prepared p w (row_assignment o t) o ≡ true
 
 -- a range fault tells an operation that is looked at with the values of such a row
 abbrev pub IsRowFault : PlainProblem → World → PlainOperator → List Bound → List Bound → Assignment → ActFault → Type 0
-IsRowFault p w o seen rest e (fault.Range note) = (t : List Value) × IsCompletion p w o seen rest e t × Tells (looked_prepared p w (given o t) o) note
+IsRowFault p w o seen rest e (fault.Range note) = (t : List Value) × IsCompletion p w o seen rest e t × Tells (looked_prepared p w (row_assignment o t) o) note
 IsRowFault p w o seen rest e fault.NoMemory = Unit {0}
 
 -- the rows that were found are added; or a fault with its cause
