@@ -11,7 +11,7 @@ use Rattle.tl_nodes.specs.NodeTrees.{tree_at, tree_of_node}
 use Rattle.tl_nodes.specs.Numbers.{trees, Denotes}
 use Rattle.tl_nodes.proofs.TreesOfNodes.{at-is}
 use Rattle.tl_label.specs.declared.rests.Rest.{Rest}
-use Rattle.tl_label.specs.Heads.{part_ids, is_open, head_text, HasBasic, parts_of}
+use Rattle.tl_label.specs.Heads.{part_ids, is_open, head_text, HasBasic, subformulas}
 use Rattle.tl_label.specs.Labels.{formula_text, most_bytes, label_of}
 use Rattle.tl_label.specs.Lines.{Written, after}
 use Rattle.tl_label.specs.Parts.{after_spaces}
@@ -65,27 +65,27 @@ module _ (p : Problem) (s : Nodes) where
 
   -- ---- a part more
 
-  parts-of-node : (id k : ℕ) (n : Node) → Denotes s id (tree_of_node (trees s) n) → HasBasic n → parts_of (tree_at (trees s) id) ≡ map (tree_at (trees s)) (part_ids n)
-  parts-of-node id k n h b = ap parts_of (at-is (trees s) id (tree_of_node (trees s) n) h) ∙ parts-at (trees s) n b
+  parts-of-node : (id k : ℕ) (n : Node) → Denotes s id (tree_of_node (trees s) n) → HasBasic n → subformulas (tree_at (trees s) id) ≡ map (tree_at (trees s)) (part_ids n)
+  parts-of-node id k n h b = ap subformulas (at-is (trees s) id (tree_of_node (trees s) n) h) ∙ parts-at (trees s) n b
 
   pub rest-more : (r : Rest) (n : Node) (q : ℕ) → Denotes s r.id (tree_of_node (trees s) n) → HasBasic n → slice_get (part_ids n) r.part ≡ Some q → rest_text p s r ≡ codes " " ++ (text_at p s q ++ rest_text p s (record { id = r.id; part = r.part + 1 }))
   unfolding rest_from after_spaces
   rest-more r n q h b e =
       let at = parts-of-node r.id r.part n h b in
       let f = formula_text p.names p.domain in
-      let there : slice_get (parts_of (tree_at (trees s) r.id)) r.part ≡ Some (tree_at (trees s) q) =
+      let there : slice_get (subformulas (tree_at (trees s) r.id)) r.part ≡ Some (tree_at (trees s) q) =
       ap (λ fs. slice_get fs r.part) at ∙ slice_get-map (tree_at (trees s)) (part_ids n) r.part ∙ ap (λ o. option_map (tree_at (trees s)) o) e in
-      ap (λ fs. after_spaces (map f fs) ++ codes ")") (drop-at (parts_of (tree_at (trees s) r.id)) r.part (tree_at (trees s) q) there)
-      ∙ ap (λ t. codes " " ++ t) (append_assoc (f (tree_at (trees s) q)) (after_spaces (map f (drop (r.part + 1) (parts_of (tree_at (trees s) r.id))))) (codes ")"))
+      ap (λ fs. after_spaces (map f fs) ++ codes ")") (drop-at (subformulas (tree_at (trees s) r.id)) r.part (tree_at (trees s) q) there)
+      ∙ ap (λ t. codes " " ++ t) (append_assoc (f (tree_at (trees s) q)) (after_spaces (map f (drop (r.part + 1) (subformulas (tree_at (trees s) r.id))))) (codes ")"))
 
   pub rest-none : (r : Rest) (n : Node) → Denotes s r.id (tree_of_node (trees s) n) → HasBasic n → slice_get (part_ids n) r.part ≡ None → rest_text p s r ≡ codes ")"
   unfolding rest_from after_spaces
   rest-none r n h b e =
       let at = parts-of-node r.id r.part n h b in
       let f = formula_text p.names p.domain in
-      let there : slice_get (parts_of (tree_at (trees s) r.id)) r.part ≡ None =
+      let there : slice_get (subformulas (tree_at (trees s) r.id)) r.part ≡ None =
       ap (λ fs. slice_get fs r.part) at ∙ slice_get-map (tree_at (trees s)) (part_ids n) r.part ∙ ap (λ o. option_map (tree_at (trees s)) o) e in
-      ap (λ fs. after_spaces (map f fs) ++ codes ")") (drop-none (parts_of (tree_at (trees s) r.id)) r.part there)
+      ap (λ fs. after_spaces (map f fs) ++ codes ")") (drop-none (subformulas (tree_at (trees s) r.id)) r.part there)
 
   pub gone-on : (r : Rest) (n : Node) (q : ℕ) (l m k : Written) (rests more : List Rest) → Denotes s r.id (tree_of_node (trees s) n) → HasBasic n → slice_get (part_ids n) r.part ≡ Some q → m ≡ after l (codes " ") → more ≡ rests ++ record { id = r.id; part = r.part + 1 } ∷ [] → k ≡ after m (text_at p s q ++ left_text p s more) → k ≡ after l (rest_text p s r ++ left_text p s rests)
   gone-on r n q l m k rests more h b e sp at begun =

@@ -14,7 +14,7 @@ use Rattle.tl_nodes.specs.declared.node.Node.{Node}
 use Rattle.tl_nodes.specs.declared.node.Node.TheVariants as node
 use Rattle.tl_nodes.specs.Fits.{all_below, fits}
 use Rattle.tl_nodes.specs.NodeTrees.{tree_at, tree_of_node}
-use Rattle.tl_label.specs.Heads.{part_ids, is_open, head_text, HasBasic, formulas_in, parts_of}
+use Rattle.tl_label.specs.Heads.{part_ids, is_open, head_text, HasBasic, formulas_in, subformulas}
 use Rattle.tl_label.specs.Labels.{formula_text, formula_texts, variables_text}
 use Rattle.tl_label.specs.Parts.{after_spaces, in_parentheses}
 use Rattle.tl_label.specs.Rests.{rest_from}
@@ -27,8 +27,8 @@ unfolding formulas_in
 formulas-back [] = refl
 formulas-back (f ∷ fs) = ap (λ gs. f ∷ gs) (formulas-back fs)
 
-basic-parts : (f : FormulaTree) → is_basic f ≡ true → parts_of f ≡ []
-unfolding parts_of
+basic-parts : (f : FormulaTree) → is_basic f ≡ true → subformulas f ≡ []
+unfolding subformulas
 basic-parts (atom p ts) h = refl
 basic-parts (defined p ts) h = refl
 basic-parts (compare c s t) h = refl
@@ -49,8 +49,8 @@ basic-parts (until f g) h = absurd (true≢false (sym h))
 basic-parts (within k f) h = absurd (true≢false (sym h))
 basic-parts (during k f) h = absurd (true≢false (sym h))
 
-pub parts-at : (ts : List FormulaTree) (n : Node) → HasBasic n → parts_of (tree_of_node ts n) ≡ map (tree_at ts) (part_ids n)
-unfolding parts_of tree_of_node
+pub parts-at : (ts : List FormulaTree) (n : Node) → HasBasic n → subformulas (tree_of_node ts n) ≡ map (tree_at ts) (part_ids n)
+unfolding subformulas tree_of_node
 parts-at ts node.True h = refl
 parts-at ts node.False h = refl
 parts-at ts (node.Basic f) h = basic-parts (tree_of_formula f) h
@@ -131,7 +131,7 @@ abbrev pub tail_text : Problem → List FormulaTree → Node → List ℕ
 tail_text p ts n = cond (is_open n) (rest_from p (tree_of_node ts n) 0) []
 
 pub node-text : (p : Problem) (ts : List FormulaTree) (n : Node) → formula_text p.names p.domain (tree_of_node ts n) ≡ head_text p.names p.domain n ++ tail_text p ts n
-unfolding formula_text in_parentheses tree_of_node parts_of rest_from
+unfolding formula_text in_parentheses tree_of_node subformulas rest_from
 node-text p ts node.True = refl
 node-text p ts node.False = refl
 node-text p ts (node.Basic f) = sym (append-nil (formula_text p.names p.domain (tree_of_formula f)))

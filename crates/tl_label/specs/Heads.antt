@@ -62,24 +62,24 @@ unfoldable pub formulas_in : FormulaTrees → List FormulaTree
 formulas_in no_formula = []
 formulas_in (more_formulas f fs) = f ∷ formulas_in fs
 
--- the parts of a formula
-unfoldable pub parts_of : FormulaTree → List FormulaTree
-parts_of verum = []
-parts_of falsum = []
-parts_of (atom p ts) = []
-parts_of (defined p ts) = []
-parts_of (compare c s t) = []
-parts_of (goal_fact p xs) = []
-parts_of (goal_place f xs x) = []
-parts_of (goal_not p xs) = []
-parts_of (negation f) = f ∷ []
-parts_of (conjunction fs) = formulas_in fs
-parts_of (disjunction fs) = formulas_in fs
-parts_of (for_all xs b f) = f ∷ []
-parts_of (for_some xs b f) = f ∷ []
-parts_of (next f) = f ∷ []
-parts_of (always f) = f ∷ []
-parts_of (eventually f) = f ∷ []
-parts_of (until f g) = f ∷ g ∷ []
-parts_of (within k f) = f ∷ []
-parts_of (during k f) = f ∷ []
+-- the formulas of which a formula is made
+unfoldable pub subformulas : FormulaTree → List FormulaTree
+subformulas verum = []
+subformulas falsum = []
+subformulas (atom p ts) = []
+subformulas (defined p ts) = []
+subformulas (compare c s t) = []
+subformulas (goal_fact p xs) = []
+subformulas (goal_place f xs x) = []
+subformulas (goal_not p xs) = []
+subformulas (negation f) = f ∷ []
+subformulas (conjunction fs) = formulas_in fs
+subformulas (disjunction fs) = formulas_in fs
+subformulas (for_all xs b f) = f ∷ []
+subformulas (for_some xs b f) = f ∷ []
+subformulas (next f) = f ∷ []
+subformulas (always f) = f ∷ []
+subformulas (eventually f) = f ∷ []
+subformulas (until f g) = f ∷ g ∷ []
+subformulas (within k f) = f ∷ []
+subformulas (during k f) = f ∷ []

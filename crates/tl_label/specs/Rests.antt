@@ -7,7 +7,7 @@ use Rattle.tl_nodes.specs.declared.nodes.Nodes.{Nodes}
 use Rattle.tl_nodes.specs.NodeTrees.{tree_at}
 use Rattle.tl_nodes.specs.Numbers.{trees}
 use Rattle.tl_label.specs.declared.rests.Rest.{Rest}
-use Rattle.tl_label.specs.Heads.{parts_of}
+use Rattle.tl_label.specs.Heads.{subformulas}
 use Rattle.tl_label.specs.Labels.{formula_text}
 use Rattle.tl_label.specs.Lines.{Written, after}
 use Rattle.tl_label.specs.Parts.{after_spaces}
@@ -18,7 +18,7 @@ text_at p s id = formula_text p.names p.domain (tree_at (trees s) id)
 
 -- the rest of the text of a formula, from its part k on: each part after a space, and the closing parenthesis
 unfoldable pub rest_from : Problem → FormulaTree → ℕ → List ℕ
-rest_from p f k = after_spaces (map (formula_text p.names p.domain) (drop k (parts_of f))) ++ codes ")"
+rest_from p f k = after_spaces (map (formula_text p.names p.domain) (drop k (subformulas f))) ++ codes ")"
 
 -- the rest of a formula that is begun
 abbrev pub rest_text : Problem → Nodes → Rest → List ℕ

@@ -11,7 +11,7 @@ use Rattle.tl_syntax.specs.Trees.{FormulaTree}
 use Rattle.tl_syntax.proofs.Plain.{both, with_both}
 use Rattle.tl_terms.specs.Simplification.{without_repeats}
 use Rattle.tl_nodes.specs.Fits.{all_below}
-use Rattle.tl_nodes.specs.Joins.{parts_of, breadth}
+use Rattle.tl_nodes.specs.Joins.{junction_parts, breadth}
 use Rattle.tl_nodes.specs.NodeTrees.{tree_at, trees_at}
 use Rattle.tl_nodes.proofs.NestedJoins.{all-reverse, less-without, breadth-pos}
 use Rattle.tl_nodes.proofs.OpenedJoins.{leaves, EachFound, again-found, again-same, part-found, part-same, opened-found, opened-same, popped, turned-twice, pushed-turned, sum-turned, all-trans}
@@ -61,7 +61,7 @@ module _ (ts : List FormulaTree) (junction : Junction) (parts : List ℕ) where
     was-same = ap (λ is. without_repeats (trees_at ts flat ++ leaves ts junction is)) (sym (popped xs old j e)) ∙ w.same
 
     -- a part that is no join of this word
-    take : parts_of junction (tree_at ts j) ≡ tree_at ts j ∷ [] → Walk ts junction parts xs opened (flat ++ j ∷ [])
+    take : junction_parts junction (tree_at ts j) ≡ tree_at ts j ∷ [] → Walk ts junction parts xs opened (flat ++ j ∷ [])
     take single = record {
       waiting = left-below;
       done = below-append (length ts) flat (j ∷ []) w.done (with_both top-below refl);
@@ -69,7 +69,7 @@ module _ (ts : List FormulaTree) (junction : Junction) (parts : List ℕ) where
       found = part-found ts junction opened (reverse xs) j flat single was-found;
     }
 
-    pub taken-walk : (new : List ℕ) → new ≡ flat ++ j ∷ [] → parts_of junction (tree_at ts j) ≡ tree_at ts j ∷ [] → Walk ts junction parts xs opened new
+    pub taken-walk : (new : List ℕ) → new ≡ flat ++ j ∷ [] → junction_parts junction (tree_at ts j) ≡ tree_at ts j ∷ [] → Walk ts junction parts xs opened new
     taken-walk new g single = subst (λ x. Walk ts junction parts xs opened x) (sym g) (take single)
 
     -- a join that was opened before
@@ -88,7 +88,7 @@ module _ (ts : List FormulaTree) (junction : Junction) (parts : List ℕ) where
           subst (λ x. Walk ts junction parts xs x flat) (sym (keys ∙ ap (λ b. if b then opened else opened ++ j ∷ []) k)) (skip k)
 
       -- a join that is opened now
-      pub opened-walk : (ids todo : List ℕ) → is_new ≡ true → parts_of junction (tree_at ts j) ≡ leaves ts junction ids → all_below j ids ≡ true → todo ≡ xs ++ reverse ids → Walk ts junction parts todo now flat
+      pub opened-walk : (ids todo : List ℕ) → is_new ≡ true → junction_parts junction (tree_at ts j) ≡ leaves ts junction ids → all_below j ids ≡ true → todo ≡ xs ++ reverse ids → Walk ts junction parts todo now flat
       opened-walk ids todo h nested below t =
           let k = not-true (list_any (nat_eq j) opened) (sym added ∙ h) in
           subst (λ x. Walk ts junction parts todo x flat) (sym keys) (record {

@@ -10,7 +10,7 @@ use Rattle.tl_syntax.proofs.Plain.{both}
 use Rattle.tl_terms.specs.Simplification.{same_formula, is_verum, is_falsum, without_repeats, conjunction_of, disjunction_of, and_parts, or_parts, simplified_and, simplified_or}
 use Rattle.tl_terms.proofs.Simplification.{same_formula-is}
 use Rattle.tl_nodes.specs.Fits.{all_below, fits}
-use Rattle.tl_nodes.specs.Joins.{parts_of, simplified_join, dropped, decides, join_node}
+use Rattle.tl_nodes.specs.Joins.{junction_parts, simplified_join, dropped, decides, join_node}
 use Rattle.tl_nodes.specs.NodeTrees.{tree_at, trees_at, tree_of_node}
 use Rattle.tl_nodes.specs.Numbering.{OneToOne}
 use Rattle.tl_nodes.proofs.FirstOfEqual.{same-of, same-any, same-filtered}
@@ -46,8 +46,8 @@ abbrev pub list_join : Junction → List FormulaTree → FormulaTree
 list_join All fs = conjunction_of fs
 list_join Any fs = disjunction_of fs
 
-joined-zero : (junction : Junction) (fs ps : List FormulaTree) → without_repeats ps ≡ without_repeats (flat_map (parts_of junction) fs) → list_any (is_zero junction) ps ≡ true → simplified_join junction fs ≡ zero_tree junction
-unfolding simplified_join parts_of simplified_and simplified_or
+joined-zero : (junction : Junction) (fs ps : List FormulaTree) → without_repeats ps ≡ without_repeats (flat_map (junction_parts junction) fs) → list_any (is_zero junction) ps ≡ true → simplified_join junction fs ≡ zero_tree junction
+unfolding simplified_join junction_parts simplified_and simplified_or
 joined-zero All fs ps e h =
     let xs = flat_map and_parts fs in
     ap (λ b. cond b falsum (conjunction_of (without_repeats (filter (λ f. not (is_verum f)) xs)))) (sym (same-any ps xs e is_falsum) ∙ h)
@@ -55,8 +55,8 @@ joined-zero Any fs ps e h =
     let xs = flat_map or_parts fs in
     ap (λ b. cond b verum (disjunction_of (without_repeats (filter (λ f. not (is_falsum f)) xs)))) (sym (same-any ps xs e is_verum) ∙ h)
 
-joined-rest : (junction : Junction) (fs ps : List FormulaTree) → without_repeats ps ≡ without_repeats (flat_map (parts_of junction) fs) → list_any (is_zero junction) ps ≡ false → simplified_join junction fs ≡ list_join junction (without_repeats (filter (λ f. not (is_unit junction f)) ps))
-unfolding simplified_join parts_of simplified_and simplified_or
+joined-rest : (junction : Junction) (fs ps : List FormulaTree) → without_repeats ps ≡ without_repeats (flat_map (junction_parts junction) fs) → list_any (is_zero junction) ps ≡ false → simplified_join junction fs ≡ list_join junction (without_repeats (filter (λ f. not (is_unit junction f)) ps))
+unfolding simplified_join junction_parts simplified_and simplified_or
 joined-rest All fs ps e h =
     let xs = flat_map and_parts fs in
     ap (λ b. cond b falsum (conjunction_of (without_repeats (filter (λ f. not (is_verum f)) xs)))) (sym (same-any ps xs e is_falsum) ∙ h)
@@ -112,12 +112,12 @@ module _ (ts : List FormulaTree) (one : OneToOne ts) (z : slice_get ts 0 ≡ Som
   unit-there All = z
   unit-there Any = f
 
-  pub decided : (junction : Junction) (xs : List ℕ) (fs : List FormulaTree) → all_below (length ts) xs ≡ true → without_repeats (trees_at ts xs) ≡ without_repeats (flat_map (parts_of junction) fs)
+  pub decided : (junction : Junction) (xs : List ℕ) (fs : List FormulaTree) → all_below (length ts) xs ≡ true → without_repeats (trees_at ts xs) ≡ without_repeats (flat_map (junction_parts junction) fs)
       → list_any (λ y. nat_eq y (decides junction)) xs ≡ true → slice_get ts (decides junction) ≡ Some (simplified_join junction fs)
   decided junction xs fs below e h =
       zero-there junction ∙ ap Some (sym (joined-zero junction fs (trees_at ts xs) e (any-map (tree_at ts) (length ts) (is_zero junction) (λ y. nat_eq y (decides junction)) (zero-at junction) xs below ∙ h)))
 
-  module _ (junction : Junction) (xs : List ℕ) (fs : List FormulaTree) (below : all_below (length ts) xs ≡ true) (e : without_repeats (trees_at ts xs) ≡ without_repeats (flat_map (parts_of junction) fs))
+  module _ (junction : Junction) (xs : List ℕ) (fs : List FormulaTree) (below : all_below (length ts) xs ≡ true) (e : without_repeats (trees_at ts xs) ≡ without_repeats (flat_map (junction_parts junction) fs))
       (h : list_any (λ y. nat_eq y (decides junction)) xs ≡ false) (ks : List ℕ) (k : ks ≡ insert_all nat_eq [] (filter (λ i. not (nat_eq i (dropped junction))) xs)) where
     rest : List ℕ
     rest = filter (λ i. not (nat_eq i (dropped junction))) xs

@@ -12,7 +12,7 @@ use Rattle.tl_syntax.specs.Trees.{FormulaTree}
 use Rattle.tl_syntax.proofs.Plain.{both, with_both}
 use Rattle.tl_terms.specs.Simplification.{without_repeats}
 use Rattle.tl_nodes.specs.Fits.{all_below}
-use Rattle.tl_nodes.specs.Joins.{parts_of, dropped, decides}
+use Rattle.tl_nodes.specs.Joins.{junction_parts, dropped, decides}
 use Rattle.tl_nodes.specs.Left.{left_of, IsOpened, IsLeft}
 use Rattle.tl_nodes.specs.NodeTrees.{tree_at}
 use Rattle.tl_nodes.proofs.JoinWalk.{below-append}
@@ -50,7 +50,7 @@ opened-none ts junction few e = record { flat = []; below = refl; same = refl; l
 
 module _ (ts : List FormulaTree) (junction : Junction) (parts : List ℕ) where
   -- a part that is no join of this kind
-  pub opened-one : (old new : List ℕ) (i : ℕ) → nat_lt i (length ts) ≡ true → parts_of junction (tree_at ts i) ≡ tree_at ts i ∷ [] → new ≡ kept_with junction old i
+  pub opened-one : (old new : List ℕ) (i : ℕ) → nat_lt i (length ts) ≡ true → junction_parts junction (tree_at ts i) ≡ tree_at ts i ∷ [] → new ≡ kept_with junction old i
       → IsOpened ts junction parts old → IsOpened ts junction (parts ++ i ∷ []) new
   opened-one old new i h single e w = record {
     flat = w.flat ++ i ∷ [];
@@ -60,11 +60,11 @@ module _ (ts : List FormulaTree) (junction : Junction) (parts : List ℕ) where
   }
 
   -- the parts of a join stand for the join
-  pub opened-join : (few ids : List ℕ) (i : ℕ) → parts_of junction (tree_at ts i) ≡ leaves ts junction ids → IsOpened ts junction (parts ++ ids) few → IsOpened ts junction (parts ++ i ∷ []) few
+  pub opened-join : (few ids : List ℕ) (i : ℕ) → junction_parts junction (tree_at ts i) ≡ leaves ts junction ids → IsOpened ts junction (parts ++ ids) few → IsOpened ts junction (parts ++ i ∷ []) few
   opened-join few ids i nested w = record {
     flat = w.flat;
     below = w.below;
-    same = w.same ∙ (leaves-append ts junction parts ids ∙ (ap (λ l. leaves ts junction parts ++ l) (sym nested ∙ sym (append-nil (parts_of junction (tree_at ts i)))) ∙ sym (leaves-append ts junction parts (i ∷ []))));
+    same = w.same ∙ (leaves-append ts junction parts ids ∙ (ap (λ l. leaves ts junction parts ++ l) (sym nested ∙ sym (append-nil (junction_parts junction (tree_at ts i)))) ∙ sym (leaves-append ts junction parts (i ∷ []))));
     left = w.left;
   }
 
@@ -129,7 +129,7 @@ row-none xs from to e = let n : to - from ≡ 0 = omega arith in ap (λ n. take 
 
 -- one more part that is no join of this kind, and what is kept with it
 pub opened-more : (ts : List FormulaTree) (junction : Junction) (xs : List ℕ) (i : ℕ) (old new : List ℕ) → i < length xs → all_below (length ts) xs ≡ true
-    → parts_of junction (tree_at ts (slice_index_or xs i 0)) ≡ tree_at ts (slice_index_or xs i 0) ∷ [] → new ≡ kept_with junction old (slice_index_or xs i 0)
+    → junction_parts junction (tree_at ts (slice_index_or xs i 0)) ≡ tree_at ts (slice_index_or xs i 0) ∷ [] → new ≡ kept_with junction old (slice_index_or xs i 0)
     → IsOpened ts junction (take i xs) old → IsOpened ts junction (take (i + 1) xs) new
 opened-more ts junction xs i old new h below single e w =
     opened-next ts junction xs i new h (opened-one ts junction (take i xs) old new (slice_index_or xs i 0) (each-below (length ts) xs i h below) single e w)

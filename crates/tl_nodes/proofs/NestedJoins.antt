@@ -15,7 +15,7 @@ use Rattle.tl_syntax.specs.Trees.{FormulaTree, conjunction, disjunction, formula
 use Rattle.tl_syntax.proofs.Plain.{both, with_both}
 use Rattle.tl_terms.specs.Simplification.{and_parts, and_parts_all, or_parts, or_parts_all}
 use Rattle.tl_nodes.specs.Fits.{all_below, fits}
-use Rattle.tl_nodes.specs.Joins.{parts_of, join_node, breadth, breadth_all}
+use Rattle.tl_nodes.specs.Joins.{junction_parts, join_node, breadth, breadth_all}
 use Rattle.tl_nodes.specs.NodeTrees.{tree_at, trees_at, tree_of_node}
 use Rattle.tl_nodes.proofs.TreesOfNodes.{at-is}
 
@@ -29,8 +29,8 @@ unfolding or_parts
 or-list [] = refl
 or-list (x ∷ xs) = ap (λ ys. or_parts x ++ ys) (or-list xs)
 
-pub parts-list : (junction : Junction) (xs : List FormulaTree) → parts_of junction (joined junction (formulas_of_list xs)) ≡ flat_map (parts_of junction) xs
-unfolding parts_of and_parts or_parts
+pub parts-list : (junction : Junction) (xs : List FormulaTree) → junction_parts junction (joined junction (formulas_of_list xs)) ≡ flat_map (junction_parts junction) xs
+unfolding junction_parts and_parts or_parts
 parts-list All xs = and-list xs
 parts-list Any xs = or-list xs
 
@@ -64,8 +64,8 @@ module _ (ts : List FormulaTree) (id : ℕ) (n : Node) (is_it : slice_get ts id 
   shown : tree_at ts id ≡ joined junction (formulas_of_list (map (tree_at ts) ids))
   shown = at-is ts id (tree_of_node ts n) is_it ∙ (ap (tree_of_node ts) e ∙ node-join ts junction ids)
 
-  pub nested-parts : parts_of junction (tree_at ts id) ≡ flat_map (parts_of junction) (trees_at ts ids)
-  nested-parts = ap (parts_of junction) shown ∙ parts-list junction (map (tree_at ts) ids)
+  pub nested-parts : junction_parts junction (tree_at ts id) ≡ flat_map (junction_parts junction) (trees_at ts ids)
+  nested-parts = ap (junction_parts junction) shown ∙ parts-list junction (map (tree_at ts) ids)
 
   pub nested-smaller : sum_by (λ i. breadth (tree_at ts i)) ids < breadth (tree_at ts id)
   nested-smaller =
@@ -97,15 +97,15 @@ other-or ts k (node.Or ids) w h = absurd (h ids refl)
 other-or ts k (node.Basic f) w h = basic-or (tree_of_formula f) w
 other-or ts k n w h = refl
 
-other-parts : (junction : Junction) (ts : List FormulaTree) (k : ℕ) (n : Node) → fits k n ≡ true → ((ids : List ℕ) → n ≡ join_node junction ids → ⊥) → parts_of junction (tree_of_node ts n) ≡ tree_of_node ts n ∷ []
-unfolding parts_of
+other-parts : (junction : Junction) (ts : List FormulaTree) (k : ℕ) (n : Node) → fits k n ≡ true → ((ids : List ℕ) → n ≡ join_node junction ids → ⊥) → junction_parts junction (tree_of_node ts n) ≡ tree_of_node ts n ∷ []
+unfolding junction_parts
 other-parts All ts k n w h = other-and ts k n w h
 other-parts Any ts k n w h = other-or ts k n w h
 
 pub single-parts : (junction : Junction) (ts : List FormulaTree) (id : ℕ) (n : Node) → slice_get ts id ≡ Some (tree_of_node ts n) → fits id n ≡ true → ((ids : List ℕ) → n ≡ join_node junction ids → ⊥)
-    → parts_of junction (tree_at ts id) ≡ tree_at ts id ∷ []
+    → junction_parts junction (tree_at ts id) ≡ tree_at ts id ∷ []
 single-parts junction ts id n is_it w h =
-    subst (λ t. parts_of junction t ≡ t ∷ []) (sym (at-is ts id (tree_of_node ts n) is_it)) (other-parts junction ts id n w h)
+    subst (λ t. junction_parts junction t ≡ t ∷ []) (sym (at-is ts id (tree_of_node ts n) is_it)) (other-parts junction ts id n w h)
 
 pub and-not-or : (n : Node) (junction : Junction) (is : List ℕ) → n ≡ node.And is → junction ≡ Any → (ids : List ℕ) → n ≡ join_node junction ids → ⊥
 and-not-or n junction is e f ids g = let k : node.And is ≡ node.Or ids = sym e ∙ (g ∙ ap (λ b. join_node b ids) f) in cc

@@ -5,7 +5,7 @@ use Rattle.tl_syntax.specs.Trees.{verum, falsum, negation, conjunction, until, w
 use Rattle.tl_terms.specs.Simplification.{and_parts, or_parts}
 use Rattle.tl_nodes.specs.declared.node.Node.TheVariants as node
 use Rattle.tl_nodes.specs.Fits.{fits, begins_with_constants}
-use Rattle.tl_nodes.specs.Joins.{parts_of, breadth}
+use Rattle.tl_nodes.specs.Joins.{junction_parts, breadth}
 use Rattle.tl_nodes.specs.NodeTrees.{tree_of_node, trees_of_nodes}
 use Rattle.tl_nodes.specs.Temporal.{has_temporal, node_temporal}
 
@@ -49,12 +49,12 @@ stored_example : node_temporal (false ∷ false ∷ true ∷ []) (node.And (0 �
 stored_example = refl
 
 -- inner conjunctions are opened at any depth, disjunctions not
-parts_example : parts_of All (conjunction (more_formulas (conjunction (more_formulas verum no_formula)) (more_formulas falsum no_formula))) ≡ verum ∷ falsum ∷ []
-unfolding parts_of and_parts
+parts_example : junction_parts All (conjunction (more_formulas (conjunction (more_formulas verum no_formula)) (more_formulas falsum no_formula))) ≡ verum ∷ falsum ∷ []
+unfolding junction_parts and_parts
 parts_example = refl
 
-other_parts_example : parts_of Any (conjunction (more_formulas verum no_formula)) ≡ conjunction (more_formulas verum no_formula) ∷ []
-unfolding parts_of or_parts
+other_parts_example : junction_parts Any (conjunction (more_formulas verum no_formula)) ≡ conjunction (more_formulas verum no_formula) ∷ []
+unfolding junction_parts or_parts
 other_parts_example = refl
 
 breadth_example : breadth (conjunction (more_formulas verum (more_formulas falsum no_formula))) ≡ 3

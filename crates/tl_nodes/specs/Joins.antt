@@ -8,9 +8,9 @@ use Rattle.tl_nodes.specs.declared.node.Node.{Node}
 use Rattle.tl_nodes.specs.declared.node.Node.TheVariants as node
 
 -- the parts of a tree, at any depth of conjunctions or of disjunctions
-unfoldable pub parts_of : Junction → FormulaTree → List FormulaTree
-parts_of All f = and_parts f
-parts_of Any f = or_parts f
+unfoldable pub junction_parts : Junction → FormulaTree → List FormulaTree
+junction_parts All f = and_parts f
+junction_parts Any f = or_parts f
 
 -- the simplified join of the trees
 unfoldable pub simplified_join : Junction → List FormulaTree → FormulaTree

@@ -7,7 +7,7 @@ use Rattle.tl_syntax.specs.Trees.{FormulaTree}
 use Rattle.tl_terms.specs.Simplification.{without_repeats}
 use Rattle.tl_nodes.specs.declared.nodes.Nodes.{Nodes}
 use Rattle.tl_nodes.specs.Fits.{all_below}
-use Rattle.tl_nodes.specs.Joins.{parts_of, dropped, simplified_join}
+use Rattle.tl_nodes.specs.Joins.{junction_parts, dropped, simplified_join}
 use Rattle.tl_nodes.specs.NodeTrees.{trees_at}
 use Rattle.tl_nodes.specs.Numbers.{trees, Denotes}
 
@@ -19,14 +19,14 @@ left_of junction flat = insert_all nat_eq [] (filter (λ i. not (nat_eq i (dropp
 pub record IsOpened (ts : List FormulaTree) (junction : Junction) (parts ids : List ℕ) : Type 0 where
   pub flat : List ℕ
   pub below : all_below (length ts) flat ≡ true
-  pub same : trees_at ts flat ≡ flat_map (parts_of junction) (trees_at ts parts)
+  pub same : trees_at ts flat ≡ flat_map (junction_parts junction) (trees_at ts parts)
   pub left : ids ≡ left_of junction flat
 
 -- the same, where the parts that come again may be missing before
 pub record IsLeft (ts : List FormulaTree) (junction : Junction) (parts ids : List ℕ) : Type 0 where
   pub flat : List ℕ
   pub below : all_below (length ts) flat ≡ true
-  pub same : without_repeats (trees_at ts flat) ≡ without_repeats (flat_map (parts_of junction) (trees_at ts parts))
+  pub same : without_repeats (trees_at ts flat) ≡ without_repeats (flat_map (junction_parts junction) (trees_at ts parts))
   pub left : ids ≡ left_of junction flat
 
 -- of whatever parts the numbers are left, a number that is given denotes the join of these
