@@ -7,7 +7,7 @@ use Rattle.std.specs.Ordering.{nat_cmp, ordering_then}
 use Rattle.tl_action.specs.declared.fault.ActFault.{ActFault}
 use Rattle.tl_action.specs.declared.fault.ActFault.TheVariants as fault
 use Rattle.tl_action.specs.Actions.{action_of, AreActions, HasOperator, IsCausedBySome}
-use Rattle.tl_action.specs.Join.{Known, row_assignment, IsFound, IsRowFault}
+use Rattle.tl_action.specs.Join.{AgreeOnSeen, row_assignment, IsFound, IsRowFault}
 use Rattle.tl_action.specs.Prepared.{is_prepared, instances_of, looked_prepared}
 use Rattle.tl_action.specs.RowLists.{AreRowsOf}
 use Rattle.tl_action.proofs.AppliedOperators.{looked-is}
@@ -36,7 +36,7 @@ with-both : (a b : Bool) → a ≡ true → b ≡ true → (a && b) ≡ true
 with-both true b p q = q
 with-both false b p q = p
 
-nothing-known : (ss : List Var) (d e : Assignment) → Known [] ss d e
+nothing-known : (ss : List Var) (d e : Assignment) → AgreeOnSeen [] ss d e
 nothing-known [] d e = tt
 nothing-known (s ∷ ss) d e = (λ z. absurd (true≢false (sym z)), nothing-known ss d e)
 

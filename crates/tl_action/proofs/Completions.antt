@@ -3,7 +3,7 @@ use Rattle.std.proofs.Common.{◌≡◌, ◌↔◌, ◌⊎◌, ℕ, List, [], �
 use Rattle.std.specs.List.{list_any}
 use Rattle.std.proofs.lemmas.Bool.{eq-eqb}
 use Rattle.std.proofs.lemmas.List.{length-map}
-use Rattle.tl_action.specs.Join.{stands_in_one, is_new, Known, row_assignment, IsCompletion}
+use Rattle.tl_action.specs.Join.{stands_in_one, is_new, AgreeOnSeen, row_assignment, IsCompletion}
 use Rattle.tl_action.proofs.Agreement.{bind-kept, bind-past, bound-agrees}
 use Rattle.tl_syntax.specs.declared.bound.Bound.{Bound}
 use Rattle.tl_syntax.specs.declared.value.Value.{Value}
@@ -162,29 +162,29 @@ module _ (p : PlainProblem) (w : World) (o : PlainOperator) (seen : List Bound) 
   fresh = filter (is_new seen b) o.params
 
   -- a frame that gives the known variables what another gives them does so with the new ones, too
-  pub known-through : (u : List Value) (d e : Assignment) → Known seen o.params d e → Known (seen ++ b ∷ []) o.params (bind fresh u d) (bind fresh u e)
+  pub known-through : (u : List Value) (d e : Assignment) → AgreeOnSeen seen o.params d e → AgreeOnSeen (seen ++ b ∷ []) o.params (bind fresh u d) (bind fresh u e)
   known-through u d e k = (Each-Among (λ (s : Var). stands_in_one (seen ++ b ∷ []) s ≡ true → bind fresh u d s.slot ≡ bind fresh u e s.slot) o.params).1 (λ s m h.
       bind-kept fresh u d e s.slot (λ z. (Each-Among (λ (x : Var). stands_in_one seen x ≡ true → d x.slot ≡ e x.slot) o.params).0 k s m (new-or-known seen b s h (sym (new-slot seen b o.params s m) ∙ z))))
 
   -- the known variables keep their values
-  pub known-kept : (u : List Value) (e : Assignment) → Known seen o.params (bind fresh u e) e
+  pub known-kept : (u : List Value) (e : Assignment) → AgreeOnSeen seen o.params (bind fresh u e) e
   known-kept u e = (Each-Among (λ (s : Var). stands_in_one seen s ≡ true → bind fresh u e s.slot ≡ e s.slot) o.params).1 (λ s m h.
       bind-past fresh u e s.slot (new-slot seen b o.params s m ∙ known-not-new seen b s h))
 
   -- what is known after the bound was known before it
-  pub known-before : (d e : Assignment) → Known (seen ++ b ∷ []) o.params d e → Known seen o.params d e
+  pub known-before : (d e : Assignment) → AgreeOnSeen (seen ++ b ∷ []) o.params d e → AgreeOnSeen seen o.params d e
   known-before d e k = (Each-Among (λ (s : Var). stands_in_one seen s ≡ true → d s.slot ≡ e s.slot) o.params).1 (λ s m h.
       (Each-Among (λ (x : Var). stands_in_one (seen ++ b ∷ []) x ≡ true → d x.slot ≡ e x.slot) o.params).0 k s m (known-next seen b s h))
 
   -- where the two agree on the variables so far, the bound is as true of both
-  bound-alike : (d e : Assignment) → Known (seen ++ b ∷ []) o.params d e → bound_true (situation_of p w) d b ≡ bound_true (situation_of p w) e b
+  bound-alike : (d e : Assignment) → AgreeOnSeen (seen ++ b ∷ []) o.params d e → bound_true (situation_of p w) d b ≡ bound_true (situation_of p w) e b
   bound-alike d e k = bound-agrees (situation_of p w) b d e ((Each-Among (λ q. d q ≡ e q) (bound_slots b)).1 (λ q m.
       let s = slot-out o.params q ((Each-Among (λ x. IsTrue (is_slot_in (slots_of o.params) x)) (bound_slots b)).0 scope q m) in
       subst (λ (n : ℕ). d n ≡ e n) s.2
       ((Each-Among (λ (x : Var). stands_in_one (seen ++ b ∷ []) x ≡ true → d x.slot ≡ e x.slot) o.params).0 k s.0 s.1 (stands-next seen b s.0 (stands-at (args_of b) q s.0 s.2 m)))))
 
   -- the values of the new variables in a row
-  new-values : (t : List Value) (e : Assignment) → length t ≡ length o.params → Known seen o.params (row_assignment o t) e → Known (seen ++ b ∷ []) o.params (row_assignment o t) (bind fresh (copied fresh (row_assignment o t)) e)
+  new-values : (t : List Value) (e : Assignment) → length t ≡ length o.params → AgreeOnSeen seen o.params (row_assignment o t) e → AgreeOnSeen (seen ++ b ∷ []) o.params (row_assignment o t) (bind fresh (copied fresh (row_assignment o t)) e)
   new-values t e n k = (Each-Among (λ (s : Var). stands_in_one (seen ++ b ∷ []) s ≡ true → row_assignment o t s.slot ≡ bind fresh (copied fresh (row_assignment o t)) e s.slot) o.params).1 (λ s m h.
       (elim (is_new seen b s) as (λ x. is_new seen b s ≡ x → row_assignment o t s.slot ≡ bind fresh (copied fresh (row_assignment o t)) e s.slot) [
         | true ↦ λ z. sym (copy-at fresh (row_assignment o t) e s.slot (bound-some o.params t no_values s.slot n (slot-in o.params s m)) (new-slot seen b o.params s m ∙ z))
@@ -220,17 +220,17 @@ module _ (p : PlainProblem) (w : World) (o : PlainOperator) (seen : List Bound) 
     λ h. record { arity = h.arity; agrees = known-before (row_assignment o t) e h.agrees; bounds = (bound-alike (row_assignment o t) e h.agrees ∙ is, h.bounds) },
   )
     where
-      old-values : (t : List Value) (e : Assignment) → fresh ≡ [] → length t ≡ length o.params → Known seen o.params (row_assignment o t) e → Known (seen ++ b ∷ []) o.params (row_assignment o t) e
-      old-values t e z n k = subst (λ (ss : List Var). Known (seen ++ b ∷ []) o.params (row_assignment o t) (bind ss (copied ss (row_assignment o t)) e)) z (new-values t e n k)
+      old-values : (t : List Value) (e : Assignment) → fresh ≡ [] → length t ≡ length o.params → AgreeOnSeen seen o.params (row_assignment o t) e → AgreeOnSeen (seen ++ b ∷ []) o.params (row_assignment o t) e
+      old-values t e z n k = subst (λ (ss : List Var). AgreeOnSeen (seen ++ b ∷ []) o.params (row_assignment o t) (bind ss (copied ss (row_assignment o t)) e)) z (new-values t e n k)
 
   -- and one that is false of it by none
   pub completion-none : fresh ≡ [] → (e : Assignment) → bound_true (situation_of p w) e b ≡ false → (t : List Value) → ¬ IsCompletion p w o seen (b ∷ rest) e t
   completion-none z e is t h =
-      let k = subst (λ (ss : List Var). Known (seen ++ b ∷ []) o.params (row_assignment o t) (bind ss (copied ss (row_assignment o t)) e)) z (new-values t e h.arity h.agrees) in
+      let k = subst (λ (ss : List Var). AgreeOnSeen (seen ++ b ∷ []) o.params (row_assignment o t) (bind ss (copied ss (row_assignment o t)) e)) z (new-values t e h.arity h.agrees) in
       true≢false (sym h.bounds.0 ∙ (bound-alike (row_assignment o t) e k ∙ is))
 
 -- frames that agree on what is known are completed by the same rows
-pub completion-alike : (p : PlainProblem) (w : World) (o : PlainOperator) (seen rest : List Bound) (d e : Assignment) (t : List Value) → Known seen o.params d e → IsCompletion p w o seen rest d t → IsCompletion p w o seen rest e t
+pub completion-alike : (p : PlainProblem) (w : World) (o : PlainOperator) (seen rest : List Bound) (d e : Assignment) (t : List Value) → AgreeOnSeen seen o.params d e → IsCompletion p w o seen rest d t → IsCompletion p w o seen rest e t
 completion-alike p w o seen rest d e t k h = record {
   arity = h.arity;
   agrees = (Each-Among (λ (s : Var). stands_in_one seen s ≡ true → row_assignment o t s.slot ≡ e s.slot) o.params).1 (λ s m z.

@@ -3,7 +3,7 @@ use Rattle.std.proofs.Common.{◌≡◌, ◌↔◌, ◌⊎◌, ◌<◌, ◌≤�
 use Rattle.tl_action.specs.declared.arranged.Arranged.{Arranged}
 use Rattle.tl_action.specs.declared.fault.ActFault.{ActFault}
 use Rattle.tl_action.specs.declared.fault.ActFault.TheVariants as fault
-use Rattle.tl_action.specs.Join.{arranged, bound_count, levels_in, stands_in_one, is_new, new_from, Known, HasNoCompletion, IsCompletion, IsFound, IsPassed, IsRowFault, Joins}
+use Rattle.tl_action.specs.Join.{arranged, bound_count, levels_in, stands_in_one, is_new, new_from, AgreeOnSeen, HasNoCompletion, IsCompletion, IsFound, IsPassed, IsRowFault, Joins}
 use Rattle.tl_action.proofs.BoundOrders.{arranged-keeps}
 use Rattle.tl_action.proofs.Completions.{known-before, known-kept, completion-past, completion-none}
 use Rattle.tl_action.proofs.NewVariables.{level-is, levels-length}
@@ -96,19 +96,19 @@ module _ (g : Signature) (p : PlainProblem) (w : World) (o : Operator) (j : ℕ)
   abbrev pub SoFar : List Bound → Assignment → List Var → List (List Value) → List (List Value) → List (List Value) → Type 0
   SoFar bs e ss us before now = RowsSoFar p w (plain_operator o) bs rest e ss us before now
 
-  known-trans : (bs : List Bound) (ss : List Var) (a d e : Assignment) → Known bs ss a d → Known bs ss d e → Known bs ss a e
+  known-trans : (bs : List Bound) (ss : List Var) (a d e : Assignment) → AgreeOnSeen bs ss a d → AgreeOnSeen bs ss d e → AgreeOnSeen bs ss a e
   known-trans bs [] a d e h l = tt
   known-trans bs (s ∷ ss) a d e h l = (λ z. h.0 z ∙ l.0 z, known-trans bs ss a d e h.1 l.1)
 
   -- the frame after a tuple
-  pub node-frame : (e c d a : Assignment) (u : List Value) → d ≡ bind vars u c → Known seen o.params c e → Known (take (j + 1) o.bounds) o.params a d → Known seen o.params a e
+  pub node-frame : (e c d a : Assignment) (u : List Value) → d ≡ bind vars u c → AgreeOnSeen seen o.params c e → AgreeOnSeen (take (j + 1) o.bounds) o.params a d → AgreeOnSeen seen o.params a e
   node-frame e c d a u z l m =
       let ends = take-opened o.bounds j b k q in
-      let before = known-before p w (plain_operator o) seen b rest node.scope a d (subst (λ (bs : List Bound). Known bs o.params a d) ends m) in
-      let put = subst (λ (x : Assignment). Known seen o.params x c) (sym (z ∙ ap (λ (ss : List Var). bind ss u c) node.is)) (known-kept p w (plain_operator o) seen b rest node.scope u c) in
+      let before = known-before p w (plain_operator o) seen b rest node.scope a d (subst (λ (bs : List Bound). AgreeOnSeen bs o.params a d) ends m) in
+      let put = subst (λ (x : Assignment). AgreeOnSeen seen o.params x c) (sym (z ∙ ap (λ (ss : List Var). bind ss u c) node.is)) (known-kept p w (plain_operator o) seen b rest node.scope u c) in
       known-trans seen o.params a d e before (known-trans seen o.params d c e put l)
 
-  pub node-on : (e c d : Assignment) (u : List Value) (us before now then : List (List Value)) → d ≡ bind vars u c → Known seen o.params c e → SoFar (take (j + 1) o.bounds) e vars us before now
+  pub node-on : (e c d : Assignment) (u : List Value) (us before now then : List (List Value)) → d ≡ bind vars u c → AgreeOnSeen seen o.params c e → SoFar (take (j + 1) o.bounds) e vars us before now
       → ((t : List Value) → Among t then ↔ (Among t now ⊎ IsFound p w (plain_operator o) (take (j + 1) o.bounds) rest d t)) → SoFar (take (j + 1) o.bounds) e vars (us ++ u ∷ []) before then
   node-on e c d u us before now then z l r f =
       let ends = take-opened o.bounds j b k q in
@@ -127,7 +127,7 @@ module _ (g : Signature) (p : PlainProblem) (w : World) (o : Operator) (j : ℕ)
       (subst (λ (vs : List (List Value)). SoFar (seen ++ b ∷ []) e (filter (is_new seen b) o.params) vs before now) (z ∙ ap (λ (ss : List Var). tuples (situation_of p w) e ss b) node.is)
       (subst (λ (ss : List Var). SoFar (seen ++ b ∷ []) e ss us before now) node.is (subst (λ (bs : List Bound). SoFar bs e vars us before now) ends r))))
 
-  pub node-fault : (e c d : Assignment) (u : List Value) → d ≡ bind vars u c → Known seen o.params c e → Among u (tuples (situation_of p w) e vars b) → (x : ActFault) → IsRowFault p w (plain_operator o) (take (j + 1) o.bounds) rest d x
+  pub node-fault : (e c d : Assignment) (u : List Value) → d ≡ bind vars u c → AgreeOnSeen seen o.params c e → Among u (tuples (situation_of p w) e vars b) → (x : ActFault) → IsRowFault p w (plain_operator o) (take (j + 1) o.bounds) rest d x
       → IsRowFault p w (plain_operator o) seen (drop j o.bounds) e x
   node-fault e c d u z l m x f =
       let ends = take-opened o.bounds j b k q in
@@ -148,7 +148,7 @@ module _ (g : Signature) (p : PlainProblem) (w : World) (o : Operator) (j : ℕ)
           λ c. subst (λ (bs : List Bound). IsCompletion p w (plain_operator o) bs rest e t) (sym ends) ((past t).0 (subst (λ (bs : List Bound). IsCompletion p w (plain_operator o) seen bs e t) opens ((h.same t).0 c))),
           λ c. (h.same t).1 (subst (λ (bs : List Bound). IsCompletion p w (plain_operator o) seen bs e t) (sym opens) ((past t).1 (subst (λ (bs : List Bound). IsCompletion p w (plain_operator o) bs rest e t) ends c))),
         );
-        known = λ d a m. h.known d a (known-before p w (plain_operator o) seen b rest node.scope d a (subst (λ (bs : List Bound). Known bs o.params d a) ends m));
+        known = λ d a m. h.known d a (known-before p w (plain_operator o) seen b rest node.scope d a (subst (λ (bs : List Bound). AgreeOnSeen bs o.params d a) ends m));
       }
 
   -- and one that is false of it by no row

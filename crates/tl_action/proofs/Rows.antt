@@ -5,7 +5,7 @@ use Rattle.tl_action.specs.declared.fault.ActFault.{ActFault}
 use Rattle.tl_action.specs.declared.fault.ActFault.TheVariants as fault
 use Rattle.tl_action.specs.Agreement.{Agree}
 use Rattle.tl_action.specs.Answers.{IsCausedBy}
-use Rattle.tl_action.specs.Join.{stands_in_one, is_new, variables, Known, row_assignment, IsCompletion, IsFound, IsRowFault}
+use Rattle.tl_action.specs.Join.{stands_in_one, is_new, variables, AgreeOnSeen, row_assignment, IsCompletion, IsFound, IsRowFault}
 use Rattle.tl_action.specs.Prepared.{is_prepared, looked_prepared}
 use Rattle.tl_action.proofs.Completions.{known-through, completion-out, completion-in, completion-alike}
 use Rattle.tl_action.proofs.Operators.{operator-agrees}
@@ -78,15 +78,15 @@ row-agrees w e d (s ∷ ss) t q h =
       agrees = (ap (λ (b : Bool). cond b (Some v) (bind ss us d s.slot)) (equal-slots s.slot) ∙ sym parts.2, (behind s v ss ss us d e q.0).1 others.agrees);
     })
 
-known-all : (bounds : List Bound) (ss : List Var) (d e : Assignment) → Each (λ s. IsTrue (stands_in_one bounds s)) ss → Known bounds ss d e → Each (λ s. d s.slot ≡ e s.slot) ss
+known-all : (bounds : List Bound) (ss : List Var) (d e : Assignment) → Each (λ s. IsTrue (stands_in_one bounds s)) ss → AgreeOnSeen bounds ss d e → Each (λ s. d s.slot ≡ e s.slot) ss
 known-all bounds [] d e h k = tt
 known-all bounds (s ∷ ss) d e h k = (k.0 h.0, known-all bounds ss d e h.1 k.1)
 
-pub all-known : (bounds : List Bound) (ss : List Var) (d e : Assignment) → Each (λ s. d s.slot ≡ e s.slot) ss → Known bounds ss d e
+pub all-known : (bounds : List Bound) (ss : List Var) (d e : Assignment) → Each (λ s. d s.slot ≡ e s.slot) ss → AgreeOnSeen bounds ss d e
 all-known bounds [] d e h = tt
 all-known bounds (s ∷ ss) d e h = (λ z. h.0, all-known bounds ss d e h.1)
 
-pub known-agree : (bounds : List Bound) (ss : List Var) (d e : Assignment) → Agree (slots_of ss) d e → Known bounds ss d e
+pub known-agree : (bounds : List Bound) (ss : List Var) (d e : Assignment) → Agree (slots_of ss) d e → AgreeOnSeen bounds ss d e
 known-agree bounds ss d e h = all-known bounds ss d e ((Each-over (λ (q : ℕ). d q ≡ e q) (λ (s : Var). s.slot) ss).0 h)
 
 -- ---- no bound is left
@@ -139,10 +139,10 @@ module _ (p : PlainProblem) (w : World) (o : PlainOperator) (seen : List Bound) 
   abbrev pub fresh : List Var
   fresh = filter (is_new seen b) o.params
 
-  found-alike : (d e : Assignment) (t : List Value) → Known (seen ++ b ∷ []) o.params d e → IsFound p w o (seen ++ b ∷ []) rest d t → IsFound p w o (seen ++ b ∷ []) rest e t
+  found-alike : (d e : Assignment) (t : List Value) → AgreeOnSeen (seen ++ b ∷ []) o.params d e → IsFound p w o (seen ++ b ∷ []) rest d t → IsFound p w o (seen ++ b ∷ []) rest e t
   found-alike d e t k h = record { completes = completion-alike p w o (seen ++ b ∷ []) rest d e t k h.completes; prepared = h.prepared }
 
-  known-sym : (ss : List Var) (d e : Assignment) → Known seen ss d e → Known seen ss e d
+  known-sym : (ss : List Var) (d e : Assignment) → AgreeOnSeen seen ss d e → AgreeOnSeen seen ss e d
   known-sym [] d e h = tt
   known-sym (s ∷ ss) d e h = (λ z. sym (h.0 z), known-sym ss d e h.1)
 
@@ -150,7 +150,7 @@ module _ (p : PlainProblem) (w : World) (o : PlainOperator) (seen : List Bound) 
   after = seen ++ b ∷ []
 
   -- one more tuple
-  pub rows-on : (e c d : Assignment) (u : List Value) (us before now then : List (List Value)) → d ≡ bind fresh u c → Known seen o.params c e → RowsSoFar p w o after rest e fresh us before now
+  pub rows-on : (e c d : Assignment) (u : List Value) (us before now then : List (List Value)) → d ≡ bind fresh u c → AgreeOnSeen seen o.params c e → RowsSoFar p w o after rest e fresh us before now
       → ((t : List Value) → Among t then ↔ (Among t now ⊎ IsFound p w o after rest d t)) → RowsSoFar p w o after rest e fresh (us ++ u ∷ []) before then
   rows-on e c d u us before now then q k r j t =
       let there = λ (h : IsFound p w o after rest d t). found-alike (bind fresh u c) (bind fresh u e) t (known-through p w o seen b rest scope u c e k) (subst (λ (a : Assignment). IsFound p w o after rest a t) q h) in
@@ -186,7 +186,7 @@ module _ (p : PlainProblem) (w : World) (o : PlainOperator) (seen : List Bound) 
       )
 
   -- a fault for a tuple
-  pub rows-fault : DifferInSlot fresh → OccurIn fresh b → (e c d : Assignment) (u : List Value) → d ≡ bind fresh u c → Known seen o.params c e → Among u (tuples (situation_of p w) e fresh b) → (x : ActFault) → IsRowFault p w o after rest d x → IsRowFault p w o seen (b ∷ rest) e x
+  pub rows-fault : DifferInSlot fresh → OccurIn fresh b → (e c d : Assignment) (u : List Value) → d ≡ bind fresh u c → AgreeOnSeen seen o.params c e → Among u (tuples (situation_of p w) e fresh b) → (x : ActFault) → IsRowFault p w o after rest d x → IsRowFault p w o seen (b ∷ rest) e x
   rows-fault differ occur e c d u q k m (fault.Range note) h =
       let there = completion-alike p w o after rest (bind fresh u c) (bind fresh u e) h.0 (known-through p w o seen b rest scope u c e k) (subst (λ (a : Assignment). IsCompletion p w o after rest a h.0) q h.1) in
       (h.0, completion-in p w o seen b rest scope differ occur e h.0 u m there, h.2)

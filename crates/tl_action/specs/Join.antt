@@ -74,8 +74,8 @@ abbrev pub bound_count : Arranged → ℕ
 bound_count a = length (arranged a).bounds
 
 -- the two give the variables that stand in a bound of those seen the same values
-abbrev pub Known : List Bound → List Var → Assignment → Assignment → Type 0
-Known seen ss d e = Each (λ s. stands_in_one seen s ≡ true → d s.slot ≡ e s.slot) ss
+abbrev pub AgreeOnSeen : List Bound → List Var → Assignment → Assignment → Type 0
+AgreeOnSeen seen ss d e = Each (λ s. stands_in_one seen s ≡ true → d s.slot ≡ e s.slot) ss
 
 -- the operator's parameters with these values
 abbrev pub row_assignment : PlainOperator → List Value → Assignment
@@ -84,7 +84,7 @@ row_assignment o t = bind o.params t no_values
 -- the row has a value for each parameter, agrees with the frame on those that stand in a bound that was seen, and makes the other bounds true
 pub record IsCompletion (p : PlainProblem) (w : World) (o : PlainOperator) (seen rest : List Bound) (e : Assignment) (t : List Value) : Type 0 where
   pub arity : length t ≡ length o.params
-  pub agrees : Known seen o.params (row_assignment o t) e
+  pub agrees : AgreeOnSeen seen o.params (row_assignment o t) e
   pub bounds : Each (λ b. bound_true (situation_of p w) (row_assignment o t) b ≡ true) rest
 
 -- whether a row completes the frame from the k-th bound on
@@ -100,7 +100,7 @@ pub record IsPassed (p : PlainProblem) (w : World) (o : Operator) (e : Assignmen
   pub later : j ≤ k
   pub inside : k ≤ length o.bounds
   pub same : (t : List Value) → CompletesFrom p w o e j t ↔ CompletesFrom p w o e k t
-  pub known : (d a : Assignment) → Known (take k o.bounds) o.params d a → Known (take j o.bounds) o.params d a
+  pub known : (d a : Assignment) → AgreeOnSeen (take k o.bounds) o.params d a → AgreeOnSeen (take j o.bounds) o.params d a
 
 -- and the operator can be applied with these values
 pub record IsFound (p : PlainProblem) (w : World) (o : PlainOperator) (seen rest : List Bound) (e : Assignment) (t : List Value) : Type 0 where

@@ -11,7 +11,7 @@ use Rattle.tl_action.specs.declared.here.Here.{Here}
 use Rattle.tl_action.specs.Agreement.{Agree, EffectReads, EffectsRead, EachReads, EffectLeaves, EffectsLeave, EachLeaves}
 use Rattle.tl_action.specs.Answers.{Answers}
 use Rattle.tl_action.specs.Collected.{Collects, CollectsEach, GivesFact, GivesPlace}
-use Rattle.tl_action.specs.Join.{arranged, variables, HasNoCompletion, IsPassed, IsRowFault, JoinsFrom, JoinsRow, Known}
+use Rattle.tl_action.specs.Join.{arranged, variables, HasNoCompletion, IsPassed, IsRowFault, JoinsFrom, JoinsRow, AgreeOnSeen}
 use Rattle.tl_action.specs.Prepared.{CollectsWhole, Prepares, is_prepared, looked_prepared}
 use Rattle.tl_action.specs.RowLists.{AreRowsOf}
 use Rattle.tl_eval.specs.Frames.{assignment_in}
@@ -179,7 +179,7 @@ RowsAreJoined here a j frame before after r =
 
 -- the parameters of the first j bounds keep their values in the frame
 abbrev pub KeepsKnown : Arranged → ℕ → List (Option Value) → List (Option Value) → Type 0
-KeepsKnown a j old new = Known (take j (arranged a).bounds) a.operator.now.params (assignment_in new) (assignment_in old)
+KeepsKnown a j old new = AgreeOnSeen (take j (arranged a).bounds) a.operator.now.params (assignment_in new) (assignment_in old)
 
 -- the parameters keep their values in the frame
 abbrev pub KeepsParameters : Operator → List (Option Value) → List (Option Value) → Type 0

@@ -32,7 +32,7 @@ use Rattle.tl_cert.specs.Covers.{IsListedNear, IsNoFarther, StaysInside}
 use Rattle.tl_cert.specs.Links.{IsGood, IsWithin, ListsRoot}
 use Rattle.tl_cert.specs.Verdicts.{LeadsOut}
 use Rattle.tl_cert.specs.declared.checking.Checking.{Checking}
-use Rattle.tl_cert.specs.declared.known.Known.{Known}
+use Rattle.tl_cert.specs.declared.known.NodeActions.{NodeActions}
 use Rattle.tl_cert.specs.declared.proof.Link.{Link}
 use Rattle.tl_cert.proofs.Depths.{depth-kept, depth-some, depths-more, goes-within, stops-within, near-test, far-test}
 use Rattle.tl_cert.proofs.GoodLinks.{short-more}
@@ -189,7 +189,7 @@ pub arrives-over : (p q : PlainProblem) (old kept new : List KeptPair) (at : ℕ
 arrives-over p q old kept new at a r e f h = subst (λ s. ChildArrives s old new at a r) e (subst (λ zs. ChildArrives q zs new at a r) f h)
 
 -- what is known of a node stays so where a node is added
-pub known-more : (task : Task) (p : PlainProblem) (old new : List KeptPair) (x : KeptPair) (known : Option Known) → new ≡ old ++ x ∷ [] → IsKnown task p old known → IsKnown task p new known
+pub known-more : (task : Task) (p : PlainProblem) (old new : List KeptPair) (x : KeptPair) (known : Option NodeActions) → new ≡ old ++ x ∷ [] → IsKnown task p old known → IsKnown task p new known
 known-more task p old new x None e h = tt
 known-more task p old new x (Some known) e h = record {
   inside = omega (arith, h.inside, ap length e, length-snoc old x);

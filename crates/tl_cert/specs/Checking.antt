@@ -18,7 +18,7 @@ use Rattle.tl_cert.specs.Covers.{IsRight, MustBeClosed, StaysInside}
 use Rattle.tl_cert.specs.Links.{IsGood, Lists}
 use Rattle.tl_cert.specs.Verdicts.{ComesTo, IsFirstBad, IsFirstOut, IsOpenBy, LeadsOut}
 use Rattle.tl_cert.specs.declared.checking.Checking.{Checking}
-use Rattle.tl_cert.specs.declared.known.Known.{Known}
+use Rattle.tl_cert.specs.declared.known.NodeActions.{NodeActions}
 use Rattle.tl_cert.specs.declared.proof.Link.{Link}
 use Rattle.tl_cert.specs.declared.verdict.NoneVerdict.{NoneVerdict}
 use Rattle.tl_cert.specs.declared.verdict.NoneVerdict.TheVariants.{Proved, BadLink, Accepts, Open}
@@ -102,13 +102,13 @@ abbrev pub AreShort : List KeptPair → Type 0
 AreShort listed = (i : ℕ) (x : KeptPair) → slice_get listed i ≡ Some x → length x.path ≤ i
 
 -- these are the actions of the node of their number, with named arguments
-pub record AreActionsAt (task : Task) (p : PlainProblem) (kept : List KeptPair) (known : Known) : Type 0 where
+pub record AreActionsAt (task : Task) (p : PlainProblem) (kept : List KeptPair) (known : NodeActions) : Type 0 where
   pub inside : known.at < length kept
   pub actions : ListsActionsAt p kept known.at known.actions
   pub named : AreNamedIn task known.actions
 
 -- so they are, where some are known
-abbrev pub IsKnown : Task → PlainProblem → List KeptPair → Option Known → Type 0
+abbrev pub IsKnown : Task → PlainProblem → List KeptPair → Option NodeActions → Type 0
 IsKnown task p kept None = Unit {0}
 IsKnown task p kept (Some known) = AreActionsAt task p kept known
 

@@ -4,7 +4,7 @@ ghost use Rattle.tl_search.specs.NamedAnswers.{FaultIsNamed};
 ghost use Rattle.tl_cert.specs.Checking.{depths_of, AreShort, IsRootCause};
 ghost use Rattle.tl_cert.specs.Links.{ListsRoot};
 
-use crate::known::Known;
+use crate::known::NodeActions;
 use std::alloc::{AllocError, Global};
 use tl_search::{Arrival, Pairs, SearchFault, SpaceFault};
 use tl_terms::{Actions, Numbers32};
@@ -19,7 +19,7 @@ pub(crate) struct Checking {
     /// How many actions the links take to each listed node.
     pub(crate) depths: Numbers32,
     /// The actions of the node that the last link starts from.
-    pub(crate) known: Option<Known>,
+    pub(crate) known: Option<NodeActions>,
 }
 
 /// The depth of the node of the empty path alone.

@@ -12,7 +12,7 @@ use tl_terms::{Action, Actions};
 
 /// The executable actions of a node, which stay known while links that start from it come one after another.
 #[derive(Drop)]
-pub(crate) struct Known {
+pub(crate) struct NodeActions {
     /// The number of the node.
     pub(crate) at: usize,
     /// Its actions, in action order.
@@ -36,7 +36,7 @@ pub(crate) fn listed<S: Pairs>(
     alloc: Global,
     space: &mut S,
     at: usize,
-) -> Result<Known, SearchFault>
+) -> Result<NodeActions, SearchFault>
     requires at { at < length (S.kept space.old) }
     ensures task { S.task space.new ≡ S.task space.old }
     ensures problem { S.problem space.new ≡ S.problem space.old }
@@ -47,7 +47,7 @@ pub(crate) fn listed<S: Pairs>(
     ensures named { IfErr result (FaultIsNamed (S.task space.old)) }
 {
     match space.actions(at) {
-        Ok(actions) => Ok(Known { at, actions }),
+        Ok(actions) => Ok(NodeActions { at, actions }),
         Err(SpaceFault::RangeHere(note)) => Err(fault_at(alloc, space, at, note)),
         Err(SpaceFault::RangeAfter(_)) => unreachable!(),
         Err(SpaceFault::NoMemory) => Err(SearchFault::NoMemory),
@@ -59,8 +59,8 @@ pub(crate) fn known_at<S: Pairs>(
     alloc: Global,
     space: &mut S,
     at: usize,
-    last: Option<Known>,
-) -> Result<Known, SearchFault>
+    last: Option<NodeActions>,
+) -> Result<NodeActions, SearchFault>
     requires at { at < length (S.kept space.old) }
     requires last { IsKnown (S.task space.old) (S.problem space.old) (S.kept space.old) last }
     ensures task { S.task space.new ≡ S.task space.old }
@@ -90,7 +90,7 @@ pub(crate) fn has_step<S: Pairs>(
     space: &mut S,
     at: usize,
     a: &Action,
-    known: &mut Option<Known>,
+    known: &mut Option<NodeActions>,
 ) -> Result<bool, SearchFault>
     requires at { at < length (S.kept space.old) }
     requires known { IsKnown (S.task space.old) (S.problem space.old) (S.kept space.old) known.old }

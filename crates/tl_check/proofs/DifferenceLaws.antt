@@ -63,16 +63,16 @@ from-head es (s ∷ rows) zero r h = (ap Some (let d : s ≡ r = cc in d), (let 
 from-head es (s ∷ rows) (suc x) r h = from-head es rows x r h
 
 module _ (q at : ℕ) (rows later : List (List Value)) (w : World) (old : Fact → List Change) where
-  abbrev pub Known : List Value → Type 0
-  Known a = AreBefore at (old (fact_with q a)) × (Among a rows ↔ (truth_from false (old (fact_with q a)) at ≡ true))
+  abbrev pub IsToldSoFar : List Value → Type 0
+  IsToldSoFar a = AreBefore at (old (fact_with q a)) × (Among a rows ↔ (truth_from false (old (fact_with q a)) at ≡ true))
 
   -- the rows before x and y are told
   pub record Passed (x y : ℕ) (new : Fact → List Change) : Type 0 where
     pub earlier : (a : List Value) (j : ℕ) → j < at → truth_from false (new (fact_with q a)) j ≡ truth_from false (old (fact_with q a)) j
     pub bounded : (a : List Value) → AreBefore at (old (fact_with q a)) → AreBefore (at + 1) (new (fact_with q a))
-    pub either : (a : List Value) → Known a → (truth_from false (new (fact_with q a)) at ≡ has_fact w (q, a)) ⊎ (truth_from false (new (fact_with q a)) at ≡ truth_from false (old (fact_with q a)) at)
-    pub left : (a : List Value) → Known a → Among a (take x rows) → truth_from false (new (fact_with q a)) at ≡ has_fact w (q, a)
-    pub right : (a : List Value) → Known a → Among a (take y later) → truth_from false (new (fact_with q a)) at ≡ has_fact w (q, a)
+    pub either : (a : List Value) → IsToldSoFar a → (truth_from false (new (fact_with q a)) at ≡ has_fact w (q, a)) ⊎ (truth_from false (new (fact_with q a)) at ≡ truth_from false (old (fact_with q a)) at)
+    pub left : (a : List Value) → IsToldSoFar a → Among a (take x rows) → truth_from false (new (fact_with q a)) at ≡ has_fact w (q, a)
+    pub right : (a : List Value) → IsToldSoFar a → Among a (take y later) → truth_from false (new (fact_with q a)) at ≡ has_fact w (q, a)
 
   pub passed-begun : Passed 0 0 old
   passed-begun = record {
@@ -99,7 +99,7 @@ module _ (q at : ℕ) (rows later : List (List Value)) (w : World) (old : Fact �
     right = λ a k m. elim (taken-more later y r a l m) [ inl n ↦ p.right a k n | inr e ↦ same a k e ];
   }
     where
-      same : (a : List Value) → Known q at rows later w old a → r ≡ a → truth_from false (new (fact_with q a)) at ≡ has_fact w (q, a)
+      same : (a : List Value) → IsToldSoFar q at rows later w old a → r ≡ a → truth_from false (new (fact_with q a)) at ≡ has_fact w (q, a)
       same a k e =
           let was : truth_from false (old (fact_with q a)) at ≡ true = k.1.0 (subst (λ (b : List Value). Among b rows) e (among-at rows x r h)) in
           let is : has_fact w (q, a) ≡ true = (is_later a).0 (subst (λ (b : List Value). Among b later) e (among-at later y r l)) in
@@ -143,7 +143,7 @@ module _ (q at : ℕ) (rows later : List (List Value)) (w : World) (old : Fact �
         by true h = inl (ap (λ (g : Fact). g.args) ((fact-tells (fact_with q r) (fact_with q a)).0 h))
         by false h = inr (noted (fact_with q a) ∙ ap (λ (b : Bool). cond b (new (fact_with q a) ++ change ∷ []) (new (fact_with q a))) h)
 
-    here : (a : List Value) → Known q at rows later w old a → r ≡ a → truth_from false (next (fact_with q a)) at ≡ has_fact w (q, a)
+    here : (a : List Value) → IsToldSoFar q at rows later w old a → r ≡ a → truth_from false (next (fact_with q a)) at ≡ has_fact w (q, a)
     here a k e =
         ap (λ (cs : List Change). truth_from false cs at) (added a e)
         ∙ (truth-at_change false (new (fact_with q a)) change at (p.bounded a k.0) refl ∙ ap (λ (b : List Value). has_fact w (q, b)) e)
@@ -202,7 +202,7 @@ module _ (q at : ℕ) (rows later : List (List Value)) (w : World) (old : Fact �
     told = λ a b among. by a (b, among) (truth_from false (old (fact_with q a)) at) (has_fact w (q, a)) refl refl;
   }
     where
-      by : (a : List Value) → Known q at rows later w old a → (was is : Bool) → truth_from false (old (fact_with q a)) at ≡ was → has_fact w (q, a) ≡ is → truth_from false (new (fact_with q a)) at ≡ has_fact w (q, a)
+      by : (a : List Value) → IsToldSoFar q at rows later w old a → (was is : Bool) → truth_from false (old (fact_with q a)) at ≡ was → has_fact w (q, a) ≡ is → truth_from false (new (fact_with q a)) at ≡ has_fact w (q, a)
       by a k true is s t = p.left a k (subst (Among a) (sym (taken-all rows x h)) (k.1.1 s))
       by a k false true s t = p.right a k (subst (Among a) (sym (taken-all later y l)) ((is_later a).1 t))
       by a k false false s t = elim (p.either a k) [ inl done ↦ done | inr stays ↦ stays ∙ (s ∙ sym t) ]

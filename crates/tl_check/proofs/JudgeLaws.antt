@@ -48,16 +48,16 @@ pub valid-tells : (p : PlainProblem) (plan : List Action) (v : Verdict) → IsVe
 valid-tells p plan v h = (λ q. subst (IsVerdict p plan) q h, λ a. one-verdict p plan v verdict.Valid h a)
 
 module _ (p : PlainProblem) (plan : List Action) (ws : List World) (u : World) (some : 0 < length ws) (s : u ≡ get_or ws (length ws - 1) u) (e : states p plan ≡ Some ws) where
-  pub record Known : Type 0 where
+  pub record HasLast : Type 0 where
     pub from : World
     pub after : List World
     pub all : ws ≡ from ∷ after
     pub last : last_of from after ≡ u
 
-  known : Known
+  known : HasLast
   known = by ws some s refl
     where
-      by : (vs : List World) → 0 < length vs → u ≡ get_or vs (length vs - 1) u → ws ≡ vs → Known
+      by : (vs : List World) → 0 < length vs → u ≡ get_or vs (length vs - 1) u → ws ≡ vs → HasLast
       by [] l r q = absurd (omega arith)
       by (v ∷ vs) l r q = record { from = v; after = vs; all = q; last = last-is v vs u ∙ (ap (λ (i : ℕ). get_or (v ∷ vs) i u) (let m : length vs ≡ suc (length vs) - 1 = omega arith in m) ∙ sym r) }
 

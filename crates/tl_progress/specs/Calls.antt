@@ -6,7 +6,7 @@ use Rattle.tl_nodes.specs.Joins.{join_node, simplified_join}
 use Rattle.tl_nodes.specs.NodeTrees.{tree_at, trees_at, tree_of_node}
 use Rattle.tl_nodes.specs.Numbers.{trees}
 use Rattle.tl_progress.specs.declared.joined.Joined.{Joined}
-use Rattle.tl_progress.specs.declared.known.Known.{Known}
+use Rattle.tl_progress.specs.declared.known.WorkedOut.{WorkedOut}
 use Rattle.tl_progress.specs.Answers.{idly_true, looked_idly, residual, looked_for_residual}
 use Rattle.tl_progress.specs.KeptResiduals.{AreOpen}
 use Rattle.tl_progress.specs.Known.{AreTruths, AreResiduals, IsRight}
@@ -48,7 +48,7 @@ abbrev pub AreResidualsIn : Task → World → Nodes → (ℕ → Option ℕ) �
 AreResidualsIn task w nodes found = AreResiduals (plain_problem task.problem) w (trees nodes) found
 
 -- what is known is right of the task's world
-abbrev pub IsRightIn : Task → World → Nodes → Known → Type 0
+abbrev pub IsRightIn : Task → World → Nodes → WorkedOut → Type 0
 IsRightIn task w nodes known = IsRight (plain_problem task.problem) w (trees nodes) known
 
 -- truth of a formula without temporal words in the world, under the values of the frame

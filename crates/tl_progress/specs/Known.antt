@@ -2,7 +2,7 @@
 use Rattle.std.specs.Prelude.{◌≡◌, ◌<◌, ℕ, length, slice_get, List, Bool, Option, Some, nat_eq}
 use Rattle.indexmap.specs.IndexMap.{get}
 use Rattle.tl_nodes.specs.NodeTrees.{tree_at}
-use Rattle.tl_progress.specs.declared.known.Known.{Known}
+use Rattle.tl_progress.specs.declared.known.WorkedOut.{WorkedOut}
 use Rattle.tl_progress.specs.Answers.{idly_true, residual}
 use Rattle.tl_syntax.specs.Assignment.{Assignment}
 use Rattle.tl_syntax.specs.Trees.{FormulaTree}
@@ -18,6 +18,6 @@ abbrev pub AreResiduals : PlainProblem → World → List FormulaTree → (ℕ �
 AreResiduals p w ts found = (k i : ℕ) → found k ≡ Some i → (k < length ts) × ((e : Assignment) → slice_get ts i ≡ Some (residual p w e (tree_at ts k)))
 
 -- what is known is right
-pub record IsRight (p : PlainProblem) (w : World) (ts : List FormulaTree) (known : Known) : Type 0 where
+pub record IsRight (p : PlainProblem) (w : World) (ts : List FormulaTree) (known : WorkedOut) : Type 0 where
   pub truths : AreTruths p w ts (get nat_eq known.truths)
   pub residuals : AreResiduals p w ts (get nat_eq known.residuals)

@@ -11,19 +11,19 @@ use std::alloc::Global;
 
 /// What was worked out for numbers whose trees have no free variable.
 #[derive(Drop)]
-pub(crate) struct Known {
+pub(crate) struct WorkedOut {
     /// The truth of a number's tree where the world is repeated for ever.
     pub truths: IndexMap<usize, bool>,
     /// The number of what has to hold next for a number's tree.
     pub residuals: IndexMap<usize, usize>,
 }
 
-impl Known {
+impl WorkedOut {
     /// Nothing is known yet. It takes no memory.
-    pub fn new(alloc: Global) -> Known
+    pub fn new(alloc: Global) -> WorkedOut
         ensures { (p : PlainProblem) (w : World) (ts : List FormulaTree) → IsRight p w ts result }
     {
-        Known {
+        WorkedOut {
             truths: IndexMap::new(alloc),
             residuals: IndexMap::new(alloc),
         }

@@ -13,7 +13,7 @@ use crate::frames::{empty_frame, is_empty_frame};
 use crate::idling::sentence_truth;
 use crate::joined::{Joined, joined_residual, kept_residual};
 use crate::joins::constant_number;
-use crate::known::Known;
+use crate::known::WorkedOut;
 use crate::order::{is_direct, reached};
 use crate::residual::residual_of;
 use crate::residuals::{Incoming, Residuals};
@@ -31,7 +31,7 @@ fn learn(
     task: &Task,
     w: &World,
     env: &mut Env,
-    known: &mut Known,
+    known: &mut WorkedOut,
     at: usize,
 ) -> Result<(), ProgressFault>
     requires at { at < length (trees nodes.old) }
@@ -78,7 +78,7 @@ fn ordered_residual(
     ensures frame { env.new ≡ env.old }
 {
     let mut order = reached(alloc, nodes, id, false)?;
-    let mut known = Known::new(alloc);
+    let mut known = WorkedOut::new(alloc);
     while let Some(at) = order.pop() {
         match learn(alloc, nodes, task, w, env, &mut known, at) {
             Ok(()) => {}
@@ -104,7 +104,7 @@ pub(crate) fn temporal_residual(
     ensures cause { IfErr result (IsCausedBy (looked_for_residual_at task.now w.now env.old nodes.old id)) }
     ensures frame { env.new ≡ env.old }
 {
-    let nothing = Known::new(alloc);
+    let nothing = WorkedOut::new(alloc);
     if is_direct(nodes, id) {
         return residual_of(alloc, nodes, task, w, env, &nothing, id);
     }

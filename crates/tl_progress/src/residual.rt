@@ -12,7 +12,7 @@ ghost use Rattle.tl_syntax.specs.StateFormulas.{IsState};
 
 use crate::ProgressFault;
 use crate::joins::{constant_number, decides, gather, join};
-use crate::known::Known;
+use crate::known::WorkedOut;
 use crate::numbers::Numbers;
 use crate::parts::{part_at, part_count};
 use crate::quantifier::Quantifier;
@@ -57,7 +57,7 @@ pub(crate) fn residual_of(
     task: &Task,
     w: &World,
     env: &mut Env,
-    known: &Known,
+    known: &WorkedOut,
     at: usize,
 ) -> Result<usize, ProgressFault>
     requires at { at < length (trees nodes.old) }
@@ -88,7 +88,7 @@ fn layer_residual(
     task: &Task,
     w: &World,
     env: &mut Env,
-    known: &Known,
+    known: &WorkedOut,
     at: usize,
 ) -> Result<usize, ProgressFault>
     requires at { at < length (trees nodes.old) }
@@ -180,7 +180,7 @@ fn join_residual(
     task: &Task,
     w: &World,
     env: &mut Env,
-    known: &Known,
+    known: &WorkedOut,
     at: usize,
     junction: Junction,
 ) -> Result<usize, ProgressFault>
@@ -231,7 +231,7 @@ fn quantifier_residual(
 {
     let mut tuples = quantifier.open(nodes, task, env);
     let outer = quantifier.kept(nodes, env);
-    let known = Known::new(alloc);
+    let known = WorkedOut::new(alloc);
     let answer = instances_residual(alloc, nodes, task, w, env, &known, quantifier, &mut tuples);
     quantifier.give_back(nodes, env, &outer);
     answer
@@ -245,7 +245,7 @@ fn instances_residual(
     task: &Task,
     w: &World,
     env: &mut Env,
-    known: &Known,
+    known: &WorkedOut,
     quantifier: Quantifier,
     tuples: &mut TupleReader,
 ) -> Result<usize, ProgressFault>

@@ -1,5 +1,5 @@
 use Rattle.std.proofs.Common.{◌+◌, ◌-◌, ◌*◌, length, take, drop}
-use Rattle.tl_action.specs.Join.{arranged, Known}
+use Rattle.tl_action.specs.Join.{arranged, AgreeOnSeen}
 use Rattle.tl_action.proofs.BoundTuples.{left}
 use Rattle.tl_action.proofs.JoinReads.{RowsRead}
 use Rattle.tl_eval.specs.Frames.{assignment_in}
@@ -20,6 +20,6 @@ decreases-join_level-loop-vars l = length (left (situation_of (plain_problem l.h
 abbrev pub invariant-join_level-loop-vars : goal.invariant-join_level-loop-vars
 invariant-join_level-loop-vars l = record {
   reads : Reads l.vars (assignment_in l.fn.env) l.bound l.tuples;
-  frame : Known (take l.j (arranged l.order.bounds).bounds) l.order.bounds.operator.now.params (assignment_in l.env) (assignment_in l.fn.env);
+  frame : AgreeOnSeen (take l.j (arranged l.order.bounds).bounds) l.order.bounds.operator.now.params (assignment_in l.env) (assignment_in l.fn.env);
   found : RowsRead (plain_problem l.here.task.now.problem) l.here.world.now (plain_operator (arranged l.order.bounds)) (take (l.j + 1) (arranged l.order.bounds).bounds) (drop (l.j + 1) (arranged l.order.bounds).bounds) (assignment_in l.fn.env) l.vars l.bound l.tuples.tuple l.fn.rows.items l.rows.items;
 }
