@@ -59,7 +59,11 @@ pub(crate) fn cuts_of(alloc: Global, left: &[Run], right: &[Run]) -> Result<Vec<
 }
 
 /// The labels of the conjunction or the disjunction of both. It fails for want of memory alone.
-pub(crate) fn joined(alloc: Global, cuts: &[Cut], junction: Junction) -> Result<Vec<Run>, NoMemory>
+pub(crate) fn join_cuts(
+    alloc: Global,
+    cuts: &[Cut],
+    junction: Junction,
+) -> Result<Vec<Run>, NoMemory>
     ensures { IfOk result (λ runs. spread runs.items ≡ joined_labels junction (lefts cuts.now) (rights cuts.now)) }
 {
     let mut runs = Vec::new(alloc);

@@ -5,7 +5,7 @@ ghost use Rattle.tl_check.specs.Later.{later_labels};
 ghost use Rattle.tl_check.specs.Rests.{rest_labels};
 ghost use Rattle.tl_check.specs.Spans.{IsHull, JoinsWhere};
 
-use crate::cuts::{cuts_of, joined};
+use crate::cuts::{cuts_of, join_cuts};
 use crate::ends::{before_true, up_to_true};
 use crate::later::Later;
 use crate::picked::picked;
@@ -163,7 +163,7 @@ impl Labels {
     {
         let alloc = *self.runs.allocator();
         let cuts = cuts_of(alloc, self.runs.as_slice(), other.runs.as_slice())?;
-        self.runs = joined(alloc, cuts.as_slice(), junction)?;
+        self.runs = join_cuts(alloc, cuts.as_slice(), junction)?;
         Ok(())
     }
 
@@ -216,7 +216,7 @@ impl Labels {
             elsewhere,
         )?;
         let cuts = cuts_of(alloc, self.runs.as_slice(), labels.as_slice())?;
-        self.runs = joined(alloc, cuts.as_slice(), junction)?;
+        self.runs = join_cuts(alloc, cuts.as_slice(), junction)?;
         Ok(())
     }
 }

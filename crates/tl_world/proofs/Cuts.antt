@@ -60,9 +60,9 @@ module _ {X : Type 0} where
       λ i. same-row from e xs row h.0 (within e es (length xs) h.1) i ∷ push-between e n es xs row h.1 is i
 
 -- the rows one after another, and where they end
-abbrev joined : {X : Type 0} → List (List X) → List X
-joined [] = []
-joined (r ∷ rs) = r ++ joined rs
+abbrev flattened : {X : Type 0} → List (List X) → List X
+flattened [] = []
+flattened (r ∷ rs) = r ++ flattened rs
 
 abbrev ends_of : {X : Type 0} → ℕ → List (List X) → List ℕ
 ends_of from [] = []
@@ -75,7 +75,7 @@ module _ {X : Type 0} where
   drop-more (suc from) n (suc e) [] is = drop_all n [] (let p : 0 ≤ n = omega arith in p)
   drop-more (suc from) n (suc e) (x ∷ xs) is = drop-more from n e xs (omega (arith, is))
 
-  values-back : (from : ℕ) (es : List ℕ) (xs : List X) → AreEnds from es (length xs) → joined (rows_between from es xs) ≡ drop from xs
+  values-back : (from : ℕ) (es : List ℕ) (xs : List X) → AreEnds from es (length xs) → flattened (rows_between from es xs) ≡ drop from xs
   values-back from [] xs h = sym (drop_all from xs (let p : length xs ≤ from = omega (arith, h) in p))
   values-back from (e ∷ es) xs h =
       ap (λ ys. take (e - from) (drop from xs) ++ ys) (values-back e es xs h.1 ∙ sym (drop-more from (e - from) e xs (let p : e ≡ from + (e - from) = omega (arith, h.0) in p)))
@@ -92,7 +92,7 @@ module _ {X : Type 0} where
 
   -- the list and the ends are those of the rows
   pub cuts-back : (es fs : List ℕ) (xs ys : List X) → AreEnds 0 es (length xs) → AreEnds 0 fs (length ys) → rows_between 0 es xs ≡ rows_between 0 fs ys → (es ≡ fs) × (xs ≡ ys)
-  cuts-back es fs xs ys h k e = (sym (ends-back 0 es xs h) ∙ (ap (ends_of 0) e ∙ ends-back 0 fs ys k), sym (values-back 0 es xs h) ∙ (ap joined e ∙ values-back 0 fs ys k))
+  cuts-back es fs xs ys h k e = (sym (ends-back 0 es xs h) ∙ (ap (ends_of 0) e ∙ ends-back 0 fs ys k), sym (values-back 0 es xs h) ∙ (ap flattened e ∙ values-back 0 fs ys k))
 
 -- ends that are moved
 abbrev pub moved : ℕ → ℕ → List ℕ → List ℕ

@@ -10,17 +10,17 @@ abbrev pub between : {X : Type 0} → List X → ℕ → ℕ → List X
 between xs from to = take (to - from) (drop from xs)
 
 -- the rows of the runs one after another
-abbrev pub joined : List Run → List (List Value)
-joined [] = []
-joined (r ∷ rs) = r.rows.value ++ joined rs
+abbrev pub rows_in : List Run → List (List Value)
+rows_in [] = []
+rows_in (r ∷ rs) = r.rows.value ++ rows_in rs
 
 -- the place at which run i begins
 abbrev pub run_place : List Run → ℕ → ℕ
-run_place rs i = length (joined (take i rs))
+run_place rs i = length (rows_in (take i rs))
 
 -- the first row of run i
 abbrev pub first_row : List Run → ℕ → List Value
-first_row rs i = slice_index_or (joined rs) (run_place rs i) []
+first_row rs i = slice_index_or (rows_in rs) (run_place rs i) []
 
 -- each run has rows, and ends where the rows up to its last are counted from n on
 abbrev pub AreCounted : ℕ → List Run → Type 0

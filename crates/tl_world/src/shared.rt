@@ -1,7 +1,7 @@
 // Runs of rows that tables share.
 ghost use Rattle.std.specs.Prelude.{◌≡◌, ◌≢◌, ◌<◌, ◌≤◌, ◌+◌, ◌^◌, [], ◌++◌, length, true, IfOk, OnOk};
 ghost use Rattle.std.specs.declared.cmp.Ordering.TheVariants.{Greater};
-ghost use Rattle.tl_world.specs.Runs.{between, first_row, joined, run_place, AreCounted, IsPart, IsPartFor};
+ghost use Rattle.tl_world.specs.Runs.{between, first_row, rows_in, run_place, AreCounted, IsPart, IsPartFor};
 ghost use Rattle.tl_world.specs.Tables.{row_cmp};
 
 use crate::flat::Flat;
@@ -36,11 +36,11 @@ pub(crate) struct Shared {
 impl Model for Shared {
     ghost use Rattle.std.specs.Prelude.{List};
     ghost use Rattle.tl_syntax.specs.declared.value.Value.{Value as PlainValue};
-    ghost use Rattle.tl_world.specs.Runs.{joined, AreCounted};
+    ghost use Rattle.tl_world.specs.Runs.{rows_in, AreCounted};
 
     ghost Value = { List (List PlainValue) };
 
-    ghost view = { λ s. joined s.runs.items };
+    ghost view = { λ s. rows_in s.runs.items };
 
     ghost invariant = { λ s. AreCounted 0 s.runs.items };
 }
@@ -60,7 +60,7 @@ fn begin(runs: &[Run], i: usize) -> usize
 #[inline(never)]
 fn halve_runs(runs: &[Run], k: usize) -> usize
     requires counted { AreCounted 0 runs.now }
-    requires bound { k < length (joined runs.now) }
+    requires bound { k < length (rows_in runs.now) }
     ensures bound { result < length runs.now }
     ensures from { run_place runs.now result ≤ k }
     ensures to { k < run_place runs.now (result + 1) }
@@ -82,7 +82,7 @@ fn halve_runs(runs: &[Run], k: usize) -> usize
 #[inline]
 fn find_run(runs: &[Run], k: usize, guess: usize) -> usize
     requires counted { AreCounted 0 runs.now }
-    requires bound { k < length (joined runs.now) }
+    requires bound { k < length (rows_in runs.now) }
     ensures bound { result < length runs.now }
     ensures from { run_place runs.now result ≤ k }
     ensures to { k < run_place runs.now (result + 1) }

@@ -1,6 +1,6 @@
 use Rattle.std.proofs.Common.{◌≡◌, ◌<◌, ◌+◌, ◌-◌, ◌/◌, [], length, get_or, refl, sym, ap, ◌∙◌, subst, arith, Greater}
 use Rattle.tl_world.specs.Plain.{row_cmp}
-use Rattle.tl_world.specs.Runs.{joined, run_place}
+use Rattle.tl_world.specs.Runs.{rows_in, run_place}
 use Rattle.tl_world.proofs.Joined.{found-some, first-of-run}
 use Rattle.tl_world.proofs.PartSearch.{is-after, not-after}
 use Rattle.tl_world.proofs.shared.find_run_for.Goals as goal
@@ -16,7 +16,7 @@ loop-low-preserved-then-begins_after c =
     let middle = c.loop-low.low + (c.loop-low.high - c.loop-low.low) / 2 in
     let inside : middle < length c.args.runs.now = omega (arith, c.loop-low.invariant.within, c.loop-low-test.true) in
     let some = found-some c.args.runs.now c.args.runs.now middle c.index-runs-middle.result refl c.requires.counted inside in
-    let first : get_or (joined c.args.runs.now) (run_place c.args.runs.now middle) [] ≡ get_or c.as_ref.result.now 0 [] =
+    let first : get_or (rows_in c.args.runs.now) (run_place c.args.runs.now middle) [] ≡ get_or c.as_ref.result.now 0 [] =
     first-of-run c.args.runs.now middle c.index-runs-middle.result [] inside some ∙ ap (λ rs. get_or rs 0 []) (sym c.as_ref.ensures) in
     record {
       order = omega (arith, c.loop-low-test.true);
@@ -30,7 +30,7 @@ loop-low-preserved c =
     let middle = c.loop-low.low + (c.loop-low.high - c.loop-low.low) / 2 in
     let inside : middle < length c.args.runs.now = omega (arith, c.loop-low.invariant.within, c.loop-low-test.true) in
     let some = found-some c.args.runs.now c.args.runs.now middle c.index-runs-middle.result refl c.requires.counted inside in
-    let first : get_or (joined c.args.runs.now) (run_place c.args.runs.now middle) [] ≡ get_or c.as_ref.result.now 0 [] =
+    let first : get_or (rows_in c.args.runs.now) (run_place c.args.runs.now middle) [] ≡ get_or c.as_ref.result.now 0 [] =
     first-of-run c.args.runs.now middle c.index-runs-middle.result [] inside some ∙ ap (λ rs. get_or rs 0 []) (sym c.as_ref.ensures) in
     record {
       order = omega (arith, c.loop-low-test.true, c.loop-low.invariant.order);

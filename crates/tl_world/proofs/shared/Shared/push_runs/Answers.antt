@@ -1,6 +1,6 @@
 use Rattle.std.proofs.Common.{◌≡◌, ◌+◌, ◌<◌, ◌≤◌, ◌++◌, length, get_or, refl, sym, ap, ◌∙◌, subst, arith, rules}
 use Rattle.tl_world.specs.declared.shared.Run.{Run}
-use Rattle.tl_world.specs.Runs.{between, joined, run_place, AreCounted}
+use Rattle.tl_world.specs.Runs.{between, rows_in, run_place, AreCounted}
 use Rattle.tl_world.proofs.Joined.{run-part, end-is-place, found-end}
 use Rattle.tl_world.proofs.Parts.{grown-between}
 use Rattle.tl_world.proofs.shared.Shared.push_runs.Goals as goal
@@ -12,13 +12,13 @@ returns-then-not-is_whole-clause-range c =
     let low : c.args.k ≤ run_place runs c.loop-i.i = c.loop-i.invariant.low in
     let high : run_place runs c.loop-i.i ≤ c.args.to = c.loop-i.invariant.high in
     let within = (run-part runs c.loop-i.i c.index-runs-i.result c.loop-i-test.true).within in
-    let all : length (joined runs) ≡ length c.args.other.now = ap (λ rs. length (joined rs)) c.as_slice-runs.ensures.value ∙ ap length c.other.view_is in
+    let all : length (rows_in runs) ≡ length c.args.other.now = ap (λ rs. length (rows_in rs)) c.as_slice-runs.ensures.value ∙ ap length c.other.view_is in
     (omega (arith, place, low), omega (arith, place, high), omega (arith, place, within, all))
 
 pub loop-i-preserved : goal.loop-i-preserved
 loop-i-preserved c =
     let runs = c.as_slice-runs.result.now in
-    let all = joined runs in
+    let all = rows_in runs in
     let i = c.loop-i.i in
     let r : Run = c.index-runs-i-in-loop-i.result in
     let below : i < length runs = c.loop-i-test.true in

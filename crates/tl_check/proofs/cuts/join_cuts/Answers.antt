@@ -4,7 +4,7 @@ use Rattle.tl_check.proofs.WaitLaws.{joined-run, step-on}
 use Rattle.tl_check.specs.Cuts.{lefts, rights}
 use Rattle.tl_check.specs.Passes.{joined_labels}
 use Rattle.tl_check.specs.Runs.{spread}
-use Rattle.tl_check.proofs.cuts.joined.Goals as goal
+use Rattle.tl_check.proofs.cuts.join_cuts.Goals as goal
 
 pub loop-cut-preserved : goal.loop-cut-preserved
 loop-cut-preserved c =
