@@ -10,7 +10,7 @@ use Rattle.tl_terms.specs.Definitions.{Tests, asked, table_of, situation_under, 
 use Rattle.tl_terms.specs.LawsDefinitions.{own_or_outer, body_at_level}
 use Rattle.tl_syntax.specs.DefinitionNames.{IsNamingBelow, AreNamingBelow}
 use Rattle.tl_terms.specs.Problem.{PlainDefinition, PlainProblem}
-use Rattle.tl_terms.specs.Situation.{Table}
+use Rattle.tl_terms.specs.Situation.{DefinitionTruths}
 use Rattle.tl_terms.specs.Terms.{term_values}
 use Rattle.tl_syntax.specs.Trees.{FormulaTree, verum, falsum, atom, defined, compare, goal_fact, goal_place, goal_not, negation, conjunction, disjunction, for_all, for_some, next, always, eventually, until, within, during, FormulaTrees, no_formula, more_formulas}
 use Rattle.tl_terms.specs.Truth.{defined_true, state_true, all_true, one_true}
@@ -21,7 +21,7 @@ use Rattle.tl_syntax.specs.declared.bound.Bound.{Bound}
 use Rattle.tl_syntax.specs.declared.bound.Bound.TheVariants as bound
 
 -- bounds do not see the table
-bound-table : (w g a : World) (s t : Table) (e : Assignment) (b : Bound)
+bound-table : (w g a : World) (s t : DefinitionTruths) (e : Assignment) (b : Bound)
     → bound_true (record { world = w; goal = g; avoid = a; table = s }) e b ≡ bound_true (record { world = w; goal = g; avoid = a; table = t }) e b
 unfolding bound_true
 bound-table w g a s t e (bound.Fact p xs) = refl
@@ -30,7 +30,7 @@ bound-table w g a s t e (bound.GoalFact p xs) = refl
 bound-table w g a s t e (bound.GoalPlace f xs x) = refl
 bound-table w g a s t e (bound.GoalNot p xs) = refl
 
-tuples-table : (w g a : World) (s t : Table) (e : Assignment) (ss : List Var) (b : Bound)
+tuples-table : (w g a : World) (s t : DefinitionTruths) (e : Assignment) (ss : List Var) (b : Bound)
     → tuples (record { world = w; goal = g; avoid = a; table = s }) e ss b ≡ tuples (record { world = w; goal = g; avoid = a; table = t }) e ss b
 unfolding tuples
 tuples-table w g a s t e ss b =
@@ -41,7 +41,7 @@ tuples-table w g a s t e ss b =
 mutual
   unfolding state_true
 
-  agrees : (w g a : World) (s t : Table) (n : ℕ) → ((k : ℕ) → k < n → s k ≡ t k) → (e : Assignment) (f : FormulaTree) → IsNamingBelow n f
+  agrees : (w g a : World) (s t : DefinitionTruths) (n : ℕ) → ((k : ℕ) → k < n → s k ≡ t k) → (e : Assignment) (f : FormulaTree) → IsNamingBelow n f
       → state_true (record { world = w; goal = g; avoid = a; table = s }) e f ≡ state_true (record { world = w; goal = g; avoid = a; table = t }) e f
   agrees w g a s t n same e verum h = refl
   agrees w g a s t n same e falsum h = refl
@@ -67,12 +67,12 @@ mutual
   agrees w g a s t n same e (within k f) h = refl
   agrees w g a s t n same e (during k f) h = refl
 
-  all_agree : (w g a : World) (s t : Table) (n : ℕ) → ((k : ℕ) → k < n → s k ≡ t k) → (e : Assignment) (fs : FormulaTrees) → AreNamingBelow n fs
+  all_agree : (w g a : World) (s t : DefinitionTruths) (n : ℕ) → ((k : ℕ) → k < n → s k ≡ t k) → (e : Assignment) (fs : FormulaTrees) → AreNamingBelow n fs
       → all_true (record { world = w; goal = g; avoid = a; table = s }) e fs ≡ all_true (record { world = w; goal = g; avoid = a; table = t }) e fs
   all_agree w g a s t n same e no_formula h = refl
   all_agree w g a s t n same e (more_formulas f fs) h = ap₂ ◌&&◌ (agrees w g a s t n same e f h.0) (all_agree w g a s t n same e fs h.1)
 
-  one_agree : (w g a : World) (s t : Table) (n : ℕ) → ((k : ℕ) → k < n → s k ≡ t k) → (e : Assignment) (fs : FormulaTrees) → AreNamingBelow n fs
+  one_agree : (w g a : World) (s t : DefinitionTruths) (n : ℕ) → ((k : ℕ) → k < n → s k ≡ t k) → (e : Assignment) (fs : FormulaTrees) → AreNamingBelow n fs
       → one_true (record { world = w; goal = g; avoid = a; table = s }) e fs ≡ one_true (record { world = w; goal = g; avoid = a; table = t }) e fs
   one_agree w g a s t n same e no_formula h = refl
   one_agree w g a s t n same e (more_formulas f fs) h = ap₂ ◌||◌ (agrees w g a s t n same e f h.0) (one_agree w g a s t n same e fs h.1)

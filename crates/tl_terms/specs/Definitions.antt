@@ -3,7 +3,7 @@ use Rattle.std.specs.Prelude.{ℕ, zero, suc, List, [], ◌∷◌, ◌++◌, fol
 use Rattle.tl_syntax.specs.declared.value.Value.{Value}
 use Rattle.tl_terms.specs.Problem.{PlainDefinition, PlainProblem}
 use Rattle.tl_terms.specs.World.{World}
-use Rattle.tl_terms.specs.Situation.{Situation, Table}
+use Rattle.tl_terms.specs.Situation.{Situation, DefinitionTruths}
 use Rattle.tl_syntax.specs.Assignment.{no_values, bind}
 use Rattle.tl_terms.specs.Truth.{state_true}
 
@@ -17,7 +17,7 @@ asked (Some test) vs = test vs
 asked None vs = false
 
 -- the tests by the numbers of their definitions
-abbrev pub table_of : Tests → Table
+abbrev pub table_of : Tests → DefinitionTruths
 table_of ts n vs = asked (slice_get ts n) vs
 
 -- a world of the problem, with these tests for its definitions

@@ -3,14 +3,14 @@ use Rattle.std.specs.Prelude.{◌≡◌, ◌<◌, ℕ, zero, suc, List, cond, �
 use Rattle.tl_syntax.specs.declared.value.Value.{Value}
 use Rattle.tl_terms.specs.Problem.{PlainDefinition, PlainProblem}
 use Rattle.tl_terms.specs.World.{World}
-use Rattle.tl_terms.specs.Situation.{Table}
+use Rattle.tl_terms.specs.Situation.{DefinitionTruths}
 use Rattle.tl_syntax.specs.Assignment.{no_values, bind}
 use Rattle.tl_terms.specs.Truth.{state_true}
 use Rattle.tl_syntax.specs.DefinitionNames.{IsNamingBelow}
 use Rattle.tl_terms.specs.Definitions.{situation_of}
 
 -- definition n means this, and every other one what it means elsewhere
-abbrev pub own_or_outer : ℕ → (List Value → Bool) → Table → Table
+abbrev pub own_or_outer : ℕ → (List Value → Bool) → DefinitionTruths → DefinitionTruths
 own_or_outer n own outer m vs = cond (m == n) (own vs) (outer m vs)
 
 -- the body of definition n at level k is true of the values; in it an atom of n is the body at level k - 1, and false where k is 1

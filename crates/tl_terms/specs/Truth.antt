@@ -6,13 +6,13 @@ use Rattle.tl_syntax.specs.declared.value.Value.TheVariants.{Int}
 use Rattle.tl_syntax.specs.declared.value.Cmp.{Cmp}
 use Rattle.tl_syntax.specs.declared.value.Cmp.TheVariants as cmp
 use Rattle.tl_syntax.specs.Trees.{FormulaTree, FormulaTrees, verum, falsum, atom, defined, compare, goal_fact, goal_place, goal_not, negation, conjunction, disjunction, for_all, for_some, next, always, eventually, until, within, during, no_formula, more_formulas}
-use Rattle.tl_terms.specs.Situation.{Situation, Table}
+use Rattle.tl_terms.specs.Situation.{Situation, DefinitionTruths}
 use Rattle.tl_syntax.specs.Assignment.{Assignment, bind}
 use Rattle.tl_terms.specs.Terms.{term_value, term_values, place_value}
 use Rattle.tl_terms.specs.Bounds.{arg_value, arg_values, fact_in, same_value, tuples}
 
 -- the arguments are defined, and the definition holds of them
-abbrev pub defined_true : Table → ℕ → Option (List Value) → Bool
+abbrev pub defined_true : DefinitionTruths → ℕ → Option (List Value) → Bool
 defined_true d p None = false
 defined_true d p (Some vs) = d p vs
 
