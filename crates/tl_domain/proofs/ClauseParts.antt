@@ -8,7 +8,7 @@ use Rattle.tl_syntax.specs.declared.effect.Effects.{Effects}
 use Rattle.tl_syntax.proofs.EffectTrees.{trees-Effects}
 use Rattle.tl_rules.specs.declared.rule.Rule.TheVariants.{Shape}
 use Rattle.tl_rules.specs.Parts.{count}
-use Rattle.tl_formulas.specs.declared.signature.Signature.{Signature}
+use Rattle.tl_formulas.specs.declared.signature.NameSignature.{NameSignature}
 use Rattle.tl_formulas.specs.Signatures.{Scope}
 use Rattle.tl_formulas.specs.Effects.{effect_breaks, effects_breaks}
 use Rattle.tl_formulas.specs.MeaningOfEffects.{effect_meant, effects_meant}
@@ -16,24 +16,24 @@ use Rattle.tl_formulas.specs.MeaningOfFormulas.{formula_meant, formulas_meant, f
 use Rattle.tl_domain.specs.Operators.{pre_breaks}
 
 -- `pre` has one element after it
-pub pre-count : (g : Signature) (scope : Scope) (fs : FormTrees) (at : ℕ) → (count fs == 1) ≡ false → pre_breaks g scope fs at ≡ (Shape, at) ∷ []
+pub pre-count : (g : NameSignature) (scope : Scope) (fs : FormTrees) (at : ℕ) → (count fs == 1) ≡ false → pre_breaks g scope fs at ≡ (Shape, at) ∷ []
 pre-count g scope no_form at other = refl
 pre-count g scope (more_forms f no_form) at other = absurd (true≢false other)
 pre-count g scope (more_forms f (more_forms h fs)) at other = refl
 
 -- the precondition is the first of the formulas after `pre`
-pub pre-meant : (names : List (List ℕ)) (g : Signature) (scope : Scope) (f : FormTree) (fs : FormTrees) → first_formula (formulas_meant names g scope (more_forms f fs)) ≡ formula_meant names g scope f
+pub pre-meant : (names : List (List ℕ)) (g : NameSignature) (scope : Scope) (f : FormTree) (fs : FormTrees) → first_formula (formulas_meant names g scope (more_forms f fs)) ≡ formula_meant names g scope f
 unfolding formula_meant
 pre-meant names g scope f fs = refl
 
 pub ruleset pre_parts = (pre-count, pre-meant)
 
 -- a clause without effects breaks nothing and changes nothing
-pub breaks-none : (g : Signature) (scope : Scope) → effects_breaks g scope no_form ≡ []
+pub breaks-none : (g : NameSignature) (scope : Scope) → effects_breaks g scope no_form ≡ []
 unfolding effect_breaks
 breaks-none g scope = refl
 
-pub meant-none : (names : List (List ℕ)) (g : Signature) (scope : Scope) → effects_meant names g scope no_form ≡ no_effect
+pub meant-none : (names : List (List ℕ)) (g : NameSignature) (scope : Scope) → effects_meant names g scope no_form ≡ no_effect
 unfolding effect_meant
 meant-none names g scope = refl
 

@@ -12,7 +12,7 @@ use Rattle.tl_rules.proofs.Composed.{none-both}
 use Rattle.tl_formulas.specs.Formulas.{formula_breaks}
 use Rattle.tl_formulas.specs.Signatures.{Table, is_taken}
 use Rattle.tl_formulas.specs.declared.roles.FormulaRole.TheVariants as role
-use Rattle.tl_formulas.specs.declared.signature.Signature.{Signature}
+use Rattle.tl_formulas.specs.declared.signature.NameSignature.{NameSignature}
 use Rattle.tl_domain.specs.DomainTrees.{DefinitionTree, DomainTree, definition_tree, domain_tree}
 use Rattle.tl_domain.specs.Items.{levels_breaks, natural_of, with_head, is_full, item_list_breaks, item_parts_breaks, declared_with}
 use Rattle.tl_domain.specs.MeaningOfItems.{definition_named, definition_meant, with_item}
@@ -33,7 +33,7 @@ more-definitions : (ds : List Definition) (d : Definition) (t : DefinitionTree) 
 more-definitions ds d t e = map-append definition_tree ds (d ∷ []) ∙ ap (λ u. map definition_tree ds ++ u ∷ []) e
 
 -- the definition that was read is the one that is meant
-same-definition : (names : List (List ℕ)) (g : Signature) (levels : ℕ) (head body : FormTree) (name : List ℕ) (variables : FormTrees) → AreOf head name variables → definition_named names g levels name (texts_of variables) body ≡ definition_meant names g levels head body
+same-definition : (names : List (List ℕ)) (g : NameSignature) (levels : ℕ) (head body : FormTree) (name : List ℕ) (variables : FormTrees) → AreOf head name variables → definition_named names g levels name (texts_of variables) body ≡ definition_meant names g levels head body
 same-definition names g levels head body name variables of =
     ap (λ text. definition_named names g levels text (texts_of variables) body) of.named ∙ ap (λ fs. definition_named names g levels (name_in_head head) (texts_of fs) body) of.rest
 
@@ -62,24 +62,24 @@ define-gives names k d fs head body name variables n table definition definition
     ∙ ap (λ (ts : List DefinitionTree). (declared_with k item.Define (more_forms head (more_forms body no_form)), record (domain_tree d) { definitions = ts })) trees
     ∙ ap (λ (t : DomainTree). (declared_with k item.Define (more_forms head (more_forms body no_form)), t)) (only-definitions (domain_tree d) _))
 
-pub defined-none : (k : Declarations) (fs : FormTrees) (number head body : FormTree) (name : List ℕ) (variables : FormTrees) (g : Signature) → fs ≡ more_forms number (more_forms head (more_forms body no_form)) → AreOf head name variables → g ≡ with_head k.signature head → levels_breaks k.levels number ≡ [] → head_breaks 8 (is_taken k.signature) (λ _. true) head ≡ [] → formula_breaks role.Body g (texts_of variables) body ≡ [] → item_parts_breaks k item.Defined fs ≡ []
+pub defined-none : (k : Declarations) (fs : FormTrees) (number head body : FormTree) (name : List ℕ) (variables : FormTrees) (g : NameSignature) → fs ≡ more_forms number (more_forms head (more_forms body no_form)) → AreOf head name variables → g ≡ with_head k.signature head → levels_breaks k.levels number ≡ [] → head_breaks 8 (is_taken k.signature) (λ _. true) head ≡ [] → formula_breaks role.Body g (texts_of variables) body ≡ [] → item_parts_breaks k item.Defined fs ≡ []
 defined-none k fs number head body name variables g shape of later levels none h =
     rw shape (none-both _ _ levels (none-both _ _ none
     (ap (λ fs. formula_breaks role.Body (with_head k.signature head) (texts_of fs) body) (sym of.rest) ∙ (ap (λ g. formula_breaks role.Body g (texts_of variables) body) (sym later) ∙ h))))
 
 -- the signature with a definition
-pub head-known : (g : Signature) (head : FormTree) (name : List ℕ) (variables : FormTrees) (n : ℕ) (table : Table) → AreOf head name variables → n ≡ count variables → table ≡ g.definitions ++ (name, n) ∷ [] → record g { definitions = table } ≡ with_head g head
+pub head-known : (g : NameSignature) (head : FormTree) (name : List ℕ) (variables : FormTrees) (n : ℕ) (table : Table) → AreOf head name variables → n ≡ count variables → table ≡ g.definitions ++ (name, n) ∷ [] → record g { definitions = table } ≡ with_head g head
 head-known g head name variables n table of counted added =
     ap (λ (t : Table). record g { definitions = t }) (added ∙ same-entry g.definitions head name variables n of counted)
 
-pub defined-gives : (names : List (List ℕ)) (k : Declarations) (d : Domain) (fs : FormTrees) (number head body : FormTree) (name : List ℕ) (variables : FormTrees) (levels : ℕ) (g : Signature) (definition : Definition) (definitions : List Definition) → fs ≡ more_forms number (more_forms head (more_forms body no_form)) → AreOf head name variables → g ≡ with_head k.signature head → levels ≡ natural_of number → definition_tree definition ≡ definition_named names g levels name (texts_of variables) body → definitions ≡ d.definitions ++ definition ∷ [] → ◌≡◌ {A = Declarations × DomainTree} (record k { signature = g; levels = k.levels + levels }, domain_tree (record d { definitions = definitions })) (declared_with k item.Defined fs, with_item names k.signature (domain_tree d) item.Defined fs)
+pub defined-gives : (names : List (List ℕ)) (k : Declarations) (d : Domain) (fs : FormTrees) (number head body : FormTree) (name : List ℕ) (variables : FormTrees) (levels : ℕ) (g : NameSignature) (definition : Definition) (definitions : List Definition) → fs ≡ more_forms number (more_forms head (more_forms body no_form)) → AreOf head name variables → g ≡ with_head k.signature head → levels ≡ natural_of number → definition_tree definition ≡ definition_named names g levels name (texts_of variables) body → definitions ≡ d.definitions ++ definition ∷ [] → ◌≡◌ {A = Declarations × DomainTree} (record k { signature = g; levels = k.levels + levels }, domain_tree (record d { definitions = definitions })) (declared_with k item.Defined fs, with_item names k.signature (domain_tree d) item.Defined fs)
 defined-gives names k d fs number head body name variables levels g definition definitions shape of later is tree more =
     let meant : definition_tree definition ≡ definition_meant names (with_head k.signature head) (natural_of number) head body =
     tree ∙ same-definition names g levels head body name variables of ∙ ap (λ g. definition_meant names g levels head body) later ∙ ap (λ n. definition_meant names (with_head k.signature head) n head body) is in
     let trees : map definition_tree definitions ≡ map definition_tree d.definitions ++ definition_meant names (with_head k.signature head) (natural_of number) head body ∷ [] =
     ap (map definition_tree) more ∙ more-definitions d.definitions definition _ meant in
     rw shape
-    (ap (λ (h : Signature). (record k { signature = h; levels = k.levels + levels }, domain_tree (record d { definitions = definitions }))) later
+    (ap (λ (h : NameSignature). (record k { signature = h; levels = k.levels + levels }, domain_tree (record d { definitions = definitions }))) later
     ∙ ap (λ n. (record k { signature = with_head k.signature head; levels = k.levels + n }, domain_tree (record d { definitions = definitions }))) is
     ∙ ap (λ (ts : List DefinitionTree). (declared_with k item.Defined (more_forms number (more_forms head (more_forms body no_form))), record (domain_tree d) { definitions = ts })) trees
     ∙ ap (λ (t : DomainTree). (declared_with k item.Defined (more_forms number (more_forms head (more_forms body no_form))), t)) (only-definitions (domain_tree d) _))

@@ -6,7 +6,7 @@ use Rattle.std.specs.Str.{bytes_eq}
 use Rattle.tl_sexpr.specs.Tree.{FormTree, FormTrees, symbol, integer, list, no_form, more_forms}
 use Rattle.tl_formulas.specs.declared.roles.FormulaRole.TheVariants as role
 use Rattle.tl_rules.specs.declared.rule.Rule.TheVariants.{Shape, Twice, NotInBound, Limit}
-use Rattle.tl_formulas.specs.declared.signature.Signature.{Signature}
+use Rattle.tl_formulas.specs.declared.signature.NameSignature.{NameSignature}
 use Rattle.tl_domain.specs.Words as item
 use Rattle.tl_rules.specs.Rules.{Break, first_break, IsLeastBreak}
 use Rattle.tl_domain.specs.Words.{ItemWord, item_word}
@@ -63,7 +63,7 @@ head-order most is_old occurs (list fs at) low next h =
     from (64 * low) (64 * at) (64 * next) _ (omega (arith, h.0))
     (both (64 * at) (64 * (at + 1)) (64 * next) _ _ (head_list-order most fs at) (head_parts-order is_old occurs fs (at + 1) next h.1))
 
-pre-order : (g : Signature) (scope : Scope) (fs : FormTrees) (at low next : ℕ) → at + 1 ≤ low → RiseFrom low fs next → IsInOrder (64 * at) (pre_breaks g scope fs at) (64 * next)
+pre-order : (g : NameSignature) (scope : Scope) (fs : FormTrees) (at low next : ℕ) → at + 1 ≤ low → RiseFrom low fs next → IsInOrder (64 * at) (pre_breaks g scope fs at) (64 * next)
 pre-order g scope no_form at low next le h = one Shape at (64 * at) (64 * next) (omega arith) (omega arith)
 pre-order g scope (more_forms f no_form) at low next le h =
     from (64 * at) (64 * low) (64 * next) _ (omega arith) (up_to (64 * low) (64 * h.0) (64 * next) _ (omega (arith, h.2)) (formula-order role.State g scope f low h.0 h.1))
@@ -83,25 +83,25 @@ leading-rises word (more_forms f fs) low next h = taken (begins_with word f)
     taken true = (h.0, h.1, h.2)
     taken false = (low, omega arith, h)
 
-bounds_clause-order : (g : Signature) (scope : Scope) (clause : Option FormTree) (low next : ℕ) → LiesWithin low clause next → IsInOrder (64 * low) (bounds_clause_breaks g scope clause) (64 * next)
+bounds_clause-order : (g : NameSignature) (scope : Scope) (clause : Option FormTree) (low next : ℕ) → LiesWithin low clause next → IsInOrder (64 * low) (bounds_clause_breaks g scope clause) (64 * next)
 bounds_clause-order g scope None low next h = none (64 * low) (64 * next) (omega arith)
 bounds_clause-order g scope (Some f) low next h =
     let within = form-within f low next h in
     from (64 * low) (64 * (offset_of f + 1)) (64 * next) _ (omega (arith, within.0)) (bounds-order g scope (rest_of f) (offset_of f + 1) next (rest-rises f low next h))
 
-pre_clause-order : (g : Signature) (scope : Scope) (clause : Option FormTree) (low next : ℕ) → LiesWithin low clause next → IsInOrder (64 * low) (pre_clause_breaks g scope clause) (64 * next)
+pre_clause-order : (g : NameSignature) (scope : Scope) (clause : Option FormTree) (low next : ℕ) → LiesWithin low clause next → IsInOrder (64 * low) (pre_clause_breaks g scope clause) (64 * next)
 pre_clause-order g scope None low next h = none (64 * low) (64 * next) (omega arith)
 pre_clause-order g scope (Some f) low next h =
     let within = form-within f low next h in
     from (64 * low) (64 * offset_of f) (64 * next) _ (omega (arith, within.0)) (pre-order g scope (rest_of f) (offset_of f) (offset_of f + 1) next (omega arith) (rest-rises f low next h))
 
-effects_clause-order : (g : Signature) (scope : Scope) (clause : Option FormTree) (low next : ℕ) → LiesWithin low clause next → IsInOrder (64 * low) (effects_clause_breaks g scope clause) (64 * next)
+effects_clause-order : (g : NameSignature) (scope : Scope) (clause : Option FormTree) (low next : ℕ) → LiesWithin low clause next → IsInOrder (64 * low) (effects_clause_breaks g scope clause) (64 * next)
 effects_clause-order g scope None low next h = none (64 * low) (64 * next) (omega arith)
 effects_clause-order g scope (Some f) low next h =
     let within = form-within f low next h in
     from (64 * low) (64 * (offset_of f + 1)) (64 * next) _ (omega (arith, within.0)) (effects-order g scope (rest_of f) (offset_of f + 1) next (rest-rises f low next h))
 
-clauses-order : (g : Signature) (scope : Scope) (fs : FormTrees) (low next : ℕ) → RiseFrom low fs next → IsInOrder (64 * low) (clauses_breaks g scope fs) (64 * next)
+clauses-order : (g : NameSignature) (scope : Scope) (fs : FormTrees) (low next : ℕ) → RiseFrom low fs next → IsInOrder (64 * low) (clauses_breaks g scope fs) (64 * next)
 clauses-order g scope fs low next h =
     let after_bounds = after_leading (codes "bounds") fs in
     let after_pre = after_leading (codes "pre") after_bounds in
@@ -115,7 +115,7 @@ clauses-order g scope fs low next h =
     (pre_clause-order g scope (pre_clause fs) first.0 second.0 second.1)
     (up_to (64 * second.0) (64 * third.0) (64 * next) _ (omega (arith, later)) (effects_clause-order g scope (effects_clause fs) second.0 third.0 third.1)))
 
-operator-order : (g : Signature) (operators : List (List ℕ)) (fs : FormTrees) (low next : ℕ) → RiseFrom low fs next → IsInOrder (64 * low) (operator_breaks g operators fs) (64 * next)
+operator-order : (g : NameSignature) (operators : List (List ℕ)) (fs : FormTrees) (low next : ℕ) → RiseFrom low fs next → IsInOrder (64 * low) (operator_breaks g operators fs) (64 * next)
 operator-order g operators no_form low next h = none (64 * low) (64 * next) (omega arith)
 operator-order g operators (more_forms head clauses) low next h =
     both (64 * low) (64 * h.0) (64 * next) _ _
@@ -130,7 +130,7 @@ levels-order : (before : ℕ) (f : FormTree) (low next : ℕ) → RisesFrom low 
 levels-order before (integer z at) low next h = tested (not (is_within 1 64 z) || nat_lt 64 (before + natural z)) Limit at (64 * low) (64 * next) (omega (arith, h.0)) (omega (arith, h.1))
 levels-order before f low next h = let within = form-within f low next h in none (64 * low) (64 * next) (omega (arith, within.0, within.1))
 
-declaration-order : (g : Signature) (fs : FormTrees) (low next : ℕ) → RiseFrom low fs next → IsInOrder (64 * low) (declaration_breaks g fs) (64 * next)
+declaration-order : (g : NameSignature) (fs : FormTrees) (low next : ℕ) → RiseFrom low fs next → IsInOrder (64 * low) (declaration_breaks g fs) (64 * next)
 declaration-order g (more_forms name (more_forms arity no_form)) low next h =
     let later = h.2 in
     both (64 * low) (64 * h.0) (64 * next) _ _

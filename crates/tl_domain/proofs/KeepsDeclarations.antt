@@ -15,7 +15,7 @@ use Rattle.tl_rules.specs.Named.{HaveNames}
 use Rattle.tl_rules.specs.Parts.{is_variable, is_name, natural, is_within}
 use Rattle.tl_rules.specs.Rules.{breaks_if}
 use Rattle.tl_rules.proofs.NamesHave.{number-below}
-use Rattle.tl_formulas.specs.declared.signature.Signature.{Signature}
+use Rattle.tl_formulas.specs.declared.signature.NameSignature.{NameSignature}
 use Rattle.tl_formulas.specs.Signatures.{Table, place_of, is_in, is_taken}
 use Rattle.tl_formulas.proofs.KeepsLists.{none-parts, test-fails, test-passes}
 use Rattle.tl_formulas.proofs.KeepsCalls.{NamesOnly}
@@ -52,7 +52,7 @@ pub record DeclaredKeeps (names : List (List ℕ)) (rest : FormTrees) : Type 0 w
   pub keeps : Each (DeclarationKeeps (length names)) (declared_meant names rest)
   pub plain : is_variable (declaration_of rest).0 ≡ false
 
-declaration-keeps : (names : List (List ℕ)) (g : Signature) (rest : FormTrees) → HaveNames names rest → has_declaration_shape rest ≡ true → declaration_breaks g rest ≡ [] → DeclaredKeeps names rest
+declaration-keeps : (names : List (List ℕ)) (g : NameSignature) (rest : FormTrees) → HaveNames names rest → has_declaration_shape rest ≡ true → declaration_breaks g rest ≡ [] → DeclaredKeeps names rest
 declaration-keeps names g no_form has shape none = cc
 declaration-keeps names g (more_forms f no_form) has shape none = cc
 declaration-keeps names g (more_forms f (more_forms n (more_forms i fs))) has shape none = cc
@@ -87,7 +87,7 @@ not-in table text none = by_place (place_of table text) refl
         let at = position-Some (λ (e : List ℕ × ℕ). bytes_eq text e.0) table n ([], 0) is in
         absurd (true≢false (sym (list_any_at (λ (e : List ℕ × ℕ). bytes_eq text e.0) table n ([], 0) at.0 at.1) ∙ none))
 
-pub names-only : (g : Signature) → HasNoVariables g.predicates → HasNoVariables g.functions → NamesOnly g
+pub names-only : (g : NameSignature) → HasNoVariables g.predicates → HasNoVariables g.functions → NamesOnly g
 names-only g p f = record { predicates = λ text variable. not-in g.predicates text (p.absent text variable); functions = λ text variable. not-in g.functions text (f.absent text variable) }
 
 pushed : (table : Table) (text : List ℕ) (n : ℕ) → is_variable text ≡ false → HasNoVariables table → HasNoVariables (table ++ (text, n) ∷ [])

@@ -16,7 +16,7 @@ use Rattle.tl_rules.specs.Named.{HasNames, HaveNames}
 use Rattle.tl_rules.specs.Parts.{is_variable, count, is_list, is_name, are_variables, texts_of, rest_of}
 use Rattle.tl_rules.specs.Rules.{breaks_if}
 use Rattle.tl_rules.specs.Symbols.{number_in}
-use Rattle.tl_formulas.specs.declared.signature.Signature.{Signature}
+use Rattle.tl_formulas.specs.declared.signature.NameSignature.{NameSignature}
 use Rattle.tl_formulas.specs.Signatures.{Scope, slot_of}
 use Rattle.tl_formulas.specs.MeaningOfFormulas.{variables_from}
 use Rattle.tl_formulas.proofs.KeepsLists.{none-parts, test-fails, test-passes, Each-implies}
@@ -73,7 +73,7 @@ parameters-keep names most is_old occurs head h = record {
 }
 
 -- the place of what stands below a head
-pub head-place : (names : List (List ℕ)) (most : ℕ) (is_old occurs : List ℕ → Bool) (g : Signature) (head : FormTree) → most ≤ 32 → NamesOnly g → HeadKeeps names most is_old occurs head → IsPlace g (slots_of (variables_from names 0 (parameters_of head))) (parameters_of head)
+pub head-place : (names : List (List ℕ)) (most : ℕ) (is_old occurs : List ℕ → Bool) (g : NameSignature) (head : FormTree) → most ≤ 32 → NamesOnly g → HeadKeeps names most is_old occurs head → IsPlace g (slots_of (variables_from names 0 (parameters_of head))) (parameters_of head)
 head-place names most is_old occurs g head le only h = record {
   few = omega (arith, texts-count (rest_of head) h.variables, h.few);
   inside = (Each-over (λ q. q < length (parameters_of head)) (λ v. v.slot) (variables_from names 0 (parameters_of head))).1 (slots-below names (parameters_of head) 0 (length (parameters_of head)) (omega arith));

@@ -14,7 +14,7 @@ use Rattle.tl_rules.specs.Named.{HasNames}
 use Rattle.tl_rules.specs.Parts.{count, is_list, natural, is_within, rest_of}
 use Rattle.tl_rules.proofs.NamesHave.{number-below}
 use Rattle.tl_formulas.specs.declared.roles.FormulaRole.TheVariants as role
-use Rattle.tl_formulas.specs.declared.signature.Signature.{Signature}
+use Rattle.tl_formulas.specs.declared.signature.NameSignature.{NameSignature}
 use Rattle.tl_formulas.specs.Signatures.{Table, is_taken}
 use Rattle.tl_formulas.specs.Formulas.{formula_breaks}
 use Rattle.tl_formulas.specs.MeaningOfFormulas.{variables_from}
@@ -44,7 +44,7 @@ count-parameters names most is_old occurs head h = length-variables names (param
 arities-pushed : (table : Table) (text : List ℕ) (n : ℕ) → arities (table ++ (text, n) ∷ []) ≡ arities table ++ n ∷ []
 arities-pushed table text n = map-append (λ e. e.1) table ((text, n) ∷ [])
 
-pub predicates-grow : (names : List (List ℕ)) (g : Signature) (w : ItemWord) (rest : FormTrees) → arities (signature_after g w rest).predicates ≡ arities g.predicates ++ map (λ x. x.arity) (predicates_in names w rest)
+pub predicates-grow : (names : List (List ℕ)) (g : NameSignature) (w : ItemWord) (rest : FormTrees) → arities (signature_after g w rest).predicates ≡ arities g.predicates ++ map (λ x. x.arity) (predicates_in names w rest)
 predicates-grow names g item.Predicate rest = arities-pushed g.predicates (declaration_of rest).0 (declaration_of rest).1
 predicates-grow names g item.Function rest = sym (append-nil (arities g.predicates))
 predicates-grow names g item.Define no_form = sym (append-nil (arities g.predicates))
@@ -56,7 +56,7 @@ predicates-grow names g item.Operator rest = sym (append-nil (arities g.predicat
 predicates-grow names g item.Control rest = sym (append-nil (arities g.predicates))
 predicates-grow names g item.Other rest = sym (append-nil (arities g.predicates))
 
-pub functions-grow : (names : List (List ℕ)) (g : Signature) (w : ItemWord) (rest : FormTrees) → arities (signature_after g w rest).functions ≡ arities g.functions ++ map (λ x. x.arity) (functions_in names w rest)
+pub functions-grow : (names : List (List ℕ)) (g : NameSignature) (w : ItemWord) (rest : FormTrees) → arities (signature_after g w rest).functions ≡ arities g.functions ++ map (λ x. x.arity) (functions_in names w rest)
 functions-grow names g item.Predicate rest = sym (append-nil (arities g.functions))
 functions-grow names g item.Function rest = arities-pushed g.functions (declaration_of rest).0 (declaration_of rest).1
 functions-grow names g item.Define no_form = sym (append-nil (arities g.functions))
@@ -99,7 +99,7 @@ pub record AddsDefinitions (names : List (List ℕ)) (k : Declarations) (w : Ite
   pub few : k.levels ≤ 64 → levels_after k.levels w rest ≤ 64
 
 -- the definition of a head and a body that break nothing, read where these things are declared
-definition-keeps : (names : List (List ℕ)) (g h : Signature) (levels : ℕ) (is_old occurs : List ℕ → Bool) (head body : FormTree) → NamesOnly g → HasNames names body → HeadKeeps names 8 is_old occurs head → 1 ≤ levels → formula_breaks role.Body g (parameters_of head) body ≡ []
+definition-keeps : (names : List (List ℕ)) (g h : NameSignature) (levels : ℕ) (is_old occurs : List ℕ → Bool) (head body : FormTree) → NamesOnly g → HasNames names body → HeadKeeps names 8 is_old occurs head → 1 ≤ levels → formula_breaks role.Body g (parameters_of head) body ≡ []
     → ((f : FormulaTree) → Fits (seen g) (slots_of (variables_from names 0 (parameters_of head))) f → Fits (with_definitions_below (length h.definitions + 1) (seen (with_head h head))) (slots_of (variables_from names 0 (parameters_of head))) f)
     → DefinitionTreeKeeps (seen (with_head h head)) (length names) (length h.definitions) (definition_meant names g levels head body)
 definition-keeps names g h levels is_old occurs head body only has kept positive none more =
@@ -116,7 +116,7 @@ definition-keeps names g h levels is_old occurs head body only has kept positive
     }
 
 -- the signature with a definition, and its definitions up to this one
-head-grows : (g : Signature) (head : FormTree) → Grows (seen g) (seen (with_head g head))
+head-grows : (g : NameSignature) (head : FormTree) → Grows (seen g) (seen (with_head g head))
 head-grows g head = record {
   more_predicates = [];
   more_functions = [];
@@ -126,7 +126,7 @@ head-grows g head = record {
   definitions = arities-pushed g.definitions (name_in_head head) (count (rest_of head));
 }
 
-head-length : (g : Signature) (head : FormTree) → length (arities (with_head g head).definitions) ≤ length g.definitions + 1
+head-length : (g : NameSignature) (head : FormTree) → length (arities (with_head g head).definitions) ≤ length g.definitions + 1
 head-length g head = omega (arith, length-map (with_head g head).definitions (λ (e : List ℕ × ℕ). e.1), length-append g.definitions ((name_in_head head, count (rest_of head)) ∷ []))
 
 none-added : (names : List (List ℕ)) (k : Declarations) (w : ItemWord) (rest : FormTrees) → definitions_in names k.signature w rest ≡ [] → arities (signature_after k.signature w rest).definitions ≡ arities k.signature.definitions → levels_after k.levels w rest ≡ k.levels → AddsDefinitions names k w rest

@@ -21,7 +21,7 @@ use Rattle.tl_rules.specs.Named.{HasNames, HaveNames}
 use Rattle.tl_rules.specs.Parts.{offset_of, is_list, rest_of, occurs_in, occurs_in_any}
 use Rattle.tl_rules.proofs.NamesHave.{number-below}
 use Rattle.tl_formulas.specs.declared.roles.FormulaRole.TheVariants as role
-use Rattle.tl_formulas.specs.declared.signature.Signature.{Signature}
+use Rattle.tl_formulas.specs.declared.signature.NameSignature.{NameSignature}
 use Rattle.tl_formulas.specs.Signatures.{Scope}
 use Rattle.tl_formulas.specs.MeaningOfFormulas.{formulas_meant, first_formula, variables_from}
 use Rattle.tl_formulas.proofs.KeepsLists.{none-parts, Each-implies}
@@ -84,12 +84,12 @@ leading-clause word (more_forms f fs) clause is = by_test (begins_with word f) r
     by_test true test same = ap (begins_with word) (sym (same_Some f clause same)) ∙ test
     by_test false test same = absurd (none-some clause same)
 
-bounds-clause-keeps : (names : List (List ℕ)) (g : Signature) (scope : Scope) (clause : Option FormTree) → length scope ≤ 32 → ClauseHas names clause → bounds_clause_breaks g scope clause ≡ [] → Each (BoundKeeps (seen g) (length names) (length scope)) (bounds_clause_meant names g scope clause)
+bounds-clause-keeps : (names : List (List ℕ)) (g : NameSignature) (scope : Scope) (clause : Option FormTree) → length scope ≤ 32 → ClauseHas names clause → bounds_clause_breaks g scope clause ≡ [] → Each (BoundKeeps (seen g) (length names) (length scope)) (bounds_clause_meant names g scope clause)
 bounds-clause-keeps names g scope None few has none = tt
 bounds-clause-keeps names g scope (Some clause) few has none = bounds-keep names g scope (rest_of clause) few (rest-has names clause has) none
 
 -- a variable that occurs in the clause of bounds stands in one of them
-clause-stands : (names : List (List ℕ)) (g : Signature) (scope : Scope) (fs : FormTrees) (text : List ℕ) (v : Var) → NamesOnly g → bounds_clause_breaks g scope (bounds_clause fs) ≡ [] → IsVariable scope text v → occurs_in_bounds fs text ≡ true → list_any (stands_in v) (bounds_clause_meant names g scope (bounds_clause fs)) ≡ true
+clause-stands : (names : List (List ℕ)) (g : NameSignature) (scope : Scope) (fs : FormTrees) (text : List ℕ) (v : Var) → NamesOnly g → bounds_clause_breaks g scope (bounds_clause fs) ≡ [] → IsVariable scope text v → occurs_in_bounds fs text ≡ true → list_any (stands_in v) (bounds_clause_meant names g scope (bounds_clause fs)) ≡ true
 clause-stands names g scope fs text v only none is occurs = by_clause (bounds_clause fs) refl none occurs
   where
     after-word : (clause : FormTree) → begins_with (codes "bounds") clause ≡ true → occurs_in text clause ≡ true → occurs_in_any text (rest_of clause) ≡ true
@@ -110,7 +110,7 @@ record ConditionKeeps (g : domain.Signature) (n : ℕ) (around : List ℕ) (k : 
   pub formula : FormulaKeeps g n around k f
   pub state : IsState f
 
-pre-clause-keeps : (names : List (List ℕ)) (g : Signature) (around : List ℕ) (scope : Scope) (clause : Option FormTree) → IsPlace g around scope → ClauseHas names clause → pre_clause_breaks g scope clause ≡ [] → ConditionKeeps (seen g) (length names) around (length scope) (pre_clause_meant names g scope clause)
+pre-clause-keeps : (names : List (List ℕ)) (g : NameSignature) (around : List ℕ) (scope : Scope) (clause : Option FormTree) → IsPlace g around scope → ClauseHas names clause → pre_clause_breaks g scope clause ≡ [] → ConditionKeeps (seen g) (length names) around (length scope) (pre_clause_meant names g scope clause)
 unfolding formulas_meant
 pre-clause-keeps names g around scope None place has none = record { formula = constant-keeps (seen g) (length names) around (length scope); state = tt }
 pre-clause-keeps names g around scope (Some clause) place has none = elements (rest_of clause) (rest-has names clause has) none
@@ -120,11 +120,11 @@ pre-clause-keeps names g around scope (Some clause) place has none = elements (r
     elements (more_forms f no_form) own later = record { formula = formula-keeps names role.State g around scope f place own.0 later; state = formula-state names role.State g scope f refl later }
     elements (more_forms f (more_forms h fs)) own later = cc
 
-effects-clause-keeps : (names : List (List ℕ)) (g : Signature) (around : List ℕ) (scope : Scope) (clause : Option FormTree) → IsPlace g around scope → ClauseHas names clause → effects_clause_breaks g scope clause ≡ [] → EffectsKeep (seen g) (length names) around (length scope) (effects_clause_meant names g scope clause)
+effects-clause-keeps : (names : List (List ℕ)) (g : NameSignature) (around : List ℕ) (scope : Scope) (clause : Option FormTree) → IsPlace g around scope → ClauseHas names clause → effects_clause_breaks g scope clause ≡ [] → EffectsKeep (seen g) (length names) around (length scope) (effects_clause_meant names g scope clause)
 effects-clause-keeps names g around scope None place has none = nothing-keeps (seen g) (length names) around (length scope)
 effects-clause-keeps names g around scope (Some clause) place has none = effects-keep names g around scope (rest_of clause) place (rest-has names clause has) none
 
-pub operator-keeps : (names : List (List ℕ)) (g : Signature) (operators : List (List ℕ)) (head : FormTree) (clauses : FormTrees) → NamesOnly g → is_list head ≡ true → HasNames names head → HaveNames names clauses → operator_breaks g operators (more_forms head clauses) ≡ [] → OperatorTreeKeeps (seen g) (length names) (operator_meant names g head clauses)
+pub operator-keeps : (names : List (List ℕ)) (g : NameSignature) (operators : List (List ℕ)) (head : FormTree) (clauses : FormTrees) → NamesOnly g → is_list head ≡ true → HasNames names head → HaveNames names clauses → operator_breaks g operators (more_forms head clauses) ≡ [] → OperatorTreeKeeps (seen g) (length names) (operator_meant names g head clauses)
 operator-keeps names g operators head clauses only shape has_head has none =
     let old = λ (text : List ℕ). list_any (bytes_eq text) operators in
     let scope = parameters_of head in

@@ -15,7 +15,7 @@ use Rattle.tl_rules.specs.Named.{HasNames, HaveNames}
 use Rattle.tl_rules.specs.Parts.{is_list, is_integer, is_name, natural, rest_of}
 use Rattle.tl_rules.specs.Symbols.{number_in}
 use Rattle.tl_formulas.specs.declared.roles.FormulaRole.TheVariants as role
-use Rattle.tl_formulas.specs.declared.signature.Signature.{Signature}
+use Rattle.tl_formulas.specs.declared.signature.NameSignature.{NameSignature}
 use Rattle.tl_formulas.specs.Signatures.{Scope, is_taken}
 use Rattle.tl_formulas.specs.Formulas.{formula_breaks}
 use Rattle.tl_formulas.specs.MeaningOfFormulas.{first_formula, formula_meant, formulas_meant, variables_from}
@@ -119,29 +119,29 @@ module _ (old new : List (List ℕ)) (r : Renumbering) (agrees : Agrees old new 
   unfolding renaming
   name-settled text has = agrees.number text has
 
-  formula-settled : (g : Signature) (scope : Scope) (f : FormTree) → HasNames old f → formula_meant new g scope f ≡ renumbered r (formula_meant old g scope f)
+  formula-settled : (g : NameSignature) (scope : Scope) (f : FormTree) → HasNames old f → formula_meant new g scope f ≡ renumbered r (formula_meant old g scope f)
   unfolding renaming
   formula-settled g scope f has = formula-renamed old new (renaming r) agrees g scope f has
 
-  definition-settled : (g : Signature) (levels : ℕ) (head body : FormTree) → HasNames old head → IsTrue (list_any (bytes_eq (name_in_head head)) old) → HasNames old body → definition_meant new g levels head body ≡ renumbered_definition r (definition_meant old g levels head body)
+  definition-settled : (g : NameSignature) (levels : ℕ) (head body : FormTree) → HasNames old head → IsTrue (list_any (bytes_eq (name_in_head head)) old) → HasNames old body → definition_meant new g levels head body ≡ renumbered_definition r (definition_meant old g levels head body)
   definition-settled g levels head body has_head has_name has_body = same-definition (name-settled (name_in_head head) has_name) (parameters-settled head has_head) (formula-settled g (parameters_of head) body has_body)
 
-  bounds_clause-settled : (g : Signature) (scope : Scope) (clause : Option FormTree) → ClauseHas old clause → bounds_clause_meant new g scope clause ≡ map (renumbered_bound r) (bounds_clause_meant old g scope clause)
+  bounds_clause-settled : (g : NameSignature) (scope : Scope) (clause : Option FormTree) → ClauseHas old clause → bounds_clause_meant new g scope clause ≡ map (renumbered_bound r) (bounds_clause_meant old g scope clause)
   unfolding renaming
   bounds_clause-settled g scope None has = refl
   bounds_clause-settled g scope (Some clause) has = bounds-renamed old new (renaming r) agrees g scope (rest_of clause) (rest-has old clause has)
 
-  pre_clause-settled : (g : Signature) (scope : Scope) (clause : Option FormTree) → ClauseHas old clause → pre_clause_meant new g scope clause ≡ renumbered r (pre_clause_meant old g scope clause)
+  pre_clause-settled : (g : NameSignature) (scope : Scope) (clause : Option FormTree) → ClauseHas old clause → pre_clause_meant new g scope clause ≡ renumbered r (pre_clause_meant old g scope clause)
   unfolding renaming renumbered
   pre_clause-settled g scope None has = refl
   pre_clause-settled g scope (Some clause) has = ap first_formula (formulas-renamed old new (renaming r) agrees g scope (rest_of clause) (rest-has old clause has)) ∙ first_formula-renamed (renaming r) (formulas_meant old g scope (rest_of clause))
 
-  effects_clause-settled : (g : Signature) (scope : Scope) (clause : Option FormTree) → ClauseHas old clause → effects_clause_meant new g scope clause ≡ renumbered_effects r (effects_clause_meant old g scope clause)
+  effects_clause-settled : (g : NameSignature) (scope : Scope) (clause : Option FormTree) → ClauseHas old clause → effects_clause_meant new g scope clause ≡ renumbered_effects r (effects_clause_meant old g scope clause)
   unfolding renaming renumbered_effect
   effects_clause-settled g scope None has = refl
   effects_clause-settled g scope (Some clause) has = effects-renamed old new (renaming r) agrees g scope (rest_of clause) (rest-has old clause has)
 
-  operator-settled : (g : Signature) (head : FormTree) (clauses : FormTrees) → HasNames old head → IsTrue (list_any (bytes_eq (name_in_head head)) old) → HaveNames old clauses → operator_meant new g head clauses ≡ renumbered_operator r (operator_meant old g head clauses)
+  operator-settled : (g : NameSignature) (head : FormTree) (clauses : FormTrees) → HasNames old head → IsTrue (list_any (bytes_eq (name_in_head head)) old) → HaveNames old clauses → operator_meant new g head clauses ≡ renumbered_operator r (operator_meant old g head clauses)
   operator-settled g head clauses has_head has_name has =
       let after_bounds = after-has old (codes "bounds") clauses has in
       let after_pre = after-has old (codes "pre") (after_leading (codes "bounds") clauses) after_bounds in

@@ -4,7 +4,7 @@ use Rattle.tl_sexpr.specs.Tree.{FormTree, FormTrees, symbol, integer, list, no_f
 use Rattle.tl_domain.specs.Words as item
 use Rattle.tl_formulas.specs.declared.roles.FormulaRole.TheVariants as role
 use Rattle.tl_rules.specs.declared.rule.Rule.TheVariants.{Shape, Twice, Limit}
-use Rattle.tl_formulas.specs.declared.signature.Signature.{Signature}
+use Rattle.tl_formulas.specs.declared.signature.NameSignature.{NameSignature}
 use Rattle.tl_domain.specs.Declarations.{Declarations}
 use Rattle.tl_rules.specs.Rules.{Break, breaks_if}
 use Rattle.tl_domain.specs.Words.{ItemWord, item_word}
@@ -65,12 +65,12 @@ arity_breaks (integer z at) = breaks_if (not (is_within 0 8 z)) Limit at
 arity_breaks _ = []
 
 -- what the elements of a declaration break, where these things are declared before it
-abbrev pub declaration_breaks : Signature → FormTrees → List Break
+abbrev pub declaration_breaks : NameSignature → FormTrees → List Break
 declaration_breaks g (more_forms name (more_forms arity no_form)) = head_name_breaks (is_taken g) name ++ arity_breaks arity
 declaration_breaks g _ = []
 
 -- what the elements of a declaration break, with what its list breaks at an offset, before which there are so many of its kind
-abbrev pub new_declaration_breaks : Signature → ℕ → FormTrees → ℕ → List Break
+abbrev pub new_declaration_breaks : NameSignature → ℕ → FormTrees → ℕ → List Break
 new_declaration_breaks g before rest at =
     (breaks_if (not (has_declaration_shape rest)) Shape at ++ breaks_if (not (nat_lt before 256)) Limit at)
     ++ declaration_breaks g rest
@@ -81,13 +81,13 @@ levels_breaks before (integer z at) = breaks_if (not (is_within 1 64 z) || nat_l
 levels_breaks before _ = []
 
 -- a name with a number of arguments, at the end of the predicates, of the functions and of the definitions
-abbrev pub with_predicate : Signature → List ℕ × ℕ → Signature
+abbrev pub with_predicate : NameSignature → List ℕ × ℕ → NameSignature
 with_predicate g e = record { predicates = g.predicates ++ e ∷ []; functions = g.functions; definitions = g.definitions }
 
-abbrev pub with_function : Signature → List ℕ × ℕ → Signature
+abbrev pub with_function : NameSignature → List ℕ × ℕ → NameSignature
 with_function g e = record { predicates = g.predicates; functions = g.functions ++ e ∷ []; definitions = g.definitions }
 
-abbrev pub with_definition : Signature → List ℕ × ℕ → Signature
+abbrev pub with_definition : NameSignature → List ℕ × ℕ → NameSignature
 with_definition g e = record { predicates = g.predicates; functions = g.functions; definitions = g.definitions ++ e ∷ [] }
 
 -- the name and the number of arguments that the elements of a declaration give
@@ -101,11 +101,11 @@ natural_of (integer z at) = natural z
 natural_of _ = 0
 
 -- with the definition of a head
-abbrev pub with_head : Signature → FormTree → Signature
+abbrev pub with_head : NameSignature → FormTree → NameSignature
 with_head g head = with_definition g (name_in_head head, count (rest_of head))
 
 -- what a head and a body break after what the first signature has, where the body may use what the second has
-abbrev pub definition_breaks : Signature → Signature → FormTree → FormTree → List Break
+abbrev pub definition_breaks : NameSignature → NameSignature → FormTree → FormTree → List Break
 definition_breaks g h head f =
     head_breaks 8 (is_taken g) (λ text. true) head ++ formula_breaks role.Body h (parameters_of head) f
 
@@ -137,7 +137,7 @@ abbrev pub item_breaks : Declarations → FormTree → List Break
 item_breaks k f = called_breaks k (call_in f) (offset_of f)
 
 -- the signature with what an item declares
-abbrev pub signature_after : Signature → ItemWord → FormTrees → Signature
+abbrev pub signature_after : NameSignature → ItemWord → FormTrees → NameSignature
 signature_after g item.Predicate rest = with_predicate g (declaration_of rest)
 signature_after g item.Function rest = with_function g (declaration_of rest)
 signature_after g item.Define (more_forms head rest) = with_head g head

@@ -6,7 +6,7 @@ use Rattle.tl_syntax.specs.declared.declared.Declared.{Declared}
 use Rattle.tl_syntax.specs.Trees.{FormulaTree, verum}
 use Rattle.tl_syntax.specs.Effects.{EffectTrees, no_effect}
 use Rattle.tl_domain.specs.Words as item
-use Rattle.tl_formulas.specs.declared.signature.Signature.{Signature}
+use Rattle.tl_formulas.specs.declared.signature.NameSignature.{NameSignature}
 use Rattle.tl_domain.specs.Words.{ItemWord, item_word}
 use Rattle.tl_rules.specs.Parts.{rest_of, elements_of}
 use Rattle.tl_formulas.specs.Signatures.{Scope}
@@ -25,7 +25,7 @@ abbrev pub declared_meant : List (List ℕ) → FormTrees → List Declared
 declared_meant names rest = record { name = number_in names (declaration_of rest).0; arity = (declaration_of rest).1 } ∷ []
 
 -- the definition of a name and parameters, with a body of so many levels
-abbrev pub definition_named : List (List ℕ) → Signature → ℕ → List ℕ → Scope → FormTree → DefinitionTree
+abbrev pub definition_named : List (List ℕ) → NameSignature → ℕ → List ℕ → Scope → FormTree → DefinitionTree
 definition_named names g levels name scope body = record {
   name = number_in names name;
   params = variables_from names 0 scope;
@@ -34,24 +34,24 @@ definition_named names g levels name scope body = record {
 }
 
 -- the definition of a head and a body, with so many levels
-abbrev pub definition_meant : List (List ℕ) → Signature → ℕ → FormTree → FormTree → DefinitionTree
+abbrev pub definition_meant : List (List ℕ) → NameSignature → ℕ → FormTree → FormTree → DefinitionTree
 definition_meant names g levels head body = definition_named names g levels (name_in_head head) (parameters_of head) body
 
 -- the bounds of a clause, the precondition of one, and the effects of one, or what stands for them where there is none
-abbrev pub bounds_clause_meant : List (List ℕ) → Signature → Scope → Option FormTree → List Bound
+abbrev pub bounds_clause_meant : List (List ℕ) → NameSignature → Scope → Option FormTree → List Bound
 bounds_clause_meant names g scope (Some clause) = bounds_meant names g scope (rest_of clause)
 bounds_clause_meant names g scope None = []
 
-abbrev pub pre_clause_meant : List (List ℕ) → Signature → Scope → Option FormTree → FormulaTree
+abbrev pub pre_clause_meant : List (List ℕ) → NameSignature → Scope → Option FormTree → FormulaTree
 pre_clause_meant names g scope (Some clause) = first_formula (formulas_meant names g scope (rest_of clause))
 pre_clause_meant names g scope None = verum
 
-abbrev pub effects_clause_meant : List (List ℕ) → Signature → Scope → Option FormTree → EffectTrees
+abbrev pub effects_clause_meant : List (List ℕ) → NameSignature → Scope → Option FormTree → EffectTrees
 effects_clause_meant names g scope (Some clause) = effects_meant names g scope (rest_of clause)
 effects_clause_meant names g scope None = no_effect
 
 -- the operator of a name and parameters, with clauses
-abbrev pub operator_with : List (List ℕ) → Signature → List ℕ → Scope → ClauseTrees → OperatorTree
+abbrev pub operator_with : List (List ℕ) → NameSignature → List ℕ → Scope → ClauseTrees → OperatorTree
 operator_with names g name scope c = record {
   name = number_in names name;
   params = variables_from names 0 scope;
@@ -61,7 +61,7 @@ operator_with names g name scope c = record {
 }
 
 -- the operator of a head and clauses
-abbrev pub operator_meant : List (List ℕ) → Signature → FormTree → FormTrees → OperatorTree
+abbrev pub operator_meant : List (List ℕ) → NameSignature → FormTree → FormTrees → OperatorTree
 operator_meant names g head clauses =
     operator_with names g (name_in_head head) (parameters_of head) (clause_trees clauses)
 
@@ -74,23 +74,23 @@ abbrev pub functions_in : List (List ℕ) → ItemWord → FormTrees → List De
 functions_in names item.Function rest = declared_meant names rest
 functions_in names _ rest = []
 
-abbrev pub definitions_in : List (List ℕ) → Signature → ItemWord → FormTrees → List DefinitionTree
+abbrev pub definitions_in : List (List ℕ) → NameSignature → ItemWord → FormTrees → List DefinitionTree
 definitions_in names g item.Define (more_forms head (more_forms body no_form)) = definition_meant names g 1 head body ∷ []
 definitions_in names g item.Defined (more_forms n (more_forms head (more_forms body no_form))) =
     definition_meant names (with_head g head) (natural_of n) head body ∷ []
 definitions_in names g _ _ = []
 
-abbrev pub operators_in : List (List ℕ) → Signature → ItemWord → FormTrees → List OperatorTree
+abbrev pub operators_in : List (List ℕ) → NameSignature → ItemWord → FormTrees → List OperatorTree
 operators_in names g item.Operator (more_forms head clauses) = operator_meant names g head clauses ∷ []
 operators_in names g _ _ = []
 
 -- the control formula with that of an item
-abbrev pub control_with : List (List ℕ) → Signature → FormulaTree → ItemWord → FormTrees → FormulaTree
+abbrev pub control_with : List (List ℕ) → NameSignature → FormulaTree → ItemWord → FormTrees → FormulaTree
 control_with names g control item.Control (more_forms f no_form) = formula_meant names g [] f
 control_with names g control _ _ = control
 
 -- a domain with what an item adds, by its first word and the elements after it, where these things are declared before it
-abbrev pub with_item : List (List ℕ) → Signature → DomainTree → ItemWord → FormTrees → DomainTree
+abbrev pub with_item : List (List ℕ) → NameSignature → DomainTree → ItemWord → FormTrees → DomainTree
 with_item names g d w rest = record {
   name = d.name;
   predicates = d.predicates ++ predicates_in names w rest;
@@ -101,11 +101,11 @@ with_item names g d w rest = record {
 }
 
 -- a domain with an item
-abbrev pub with_called : List (List ℕ) → Signature → DomainTree → Option CallTree → DomainTree
+abbrev pub with_called : List (List ℕ) → NameSignature → DomainTree → Option CallTree → DomainTree
 with_called names g d (Some c) = with_item names g d (item_word c.word) c.rest
 with_called names g d None = d
 
-abbrev pub with_item_form : List (List ℕ) → Signature → DomainTree → FormTree → DomainTree
+abbrev pub with_item_form : List (List ℕ) → NameSignature → DomainTree → FormTree → DomainTree
 with_item_form names g d f = with_called names g d (call_in f)
 
 -- a domain with items, of which each may use what those before it declare

@@ -7,7 +7,7 @@ use Rattle.std.specs.Str.{bytes_eq}
 use Rattle.tl_sexpr.specs.Tree.{FormTree, FormTrees, symbol, integer, list, no_form, more_forms}
 use Rattle.tl_formulas.specs.declared.roles.FormulaRole.TheVariants as role
 use Rattle.tl_rules.specs.declared.rule.Rule.TheVariants.{Shape, Twice, NotInBound, Limit}
-use Rattle.tl_formulas.specs.declared.signature.Signature.{Signature}
+use Rattle.tl_formulas.specs.declared.signature.NameSignature.{NameSignature}
 use Rattle.tl_rules.specs.Rules.{Break, breaks_if}
 use Rattle.tl_rules.specs.Parts.{offset_of, count, is_name, are_variables, texts_of, elements_of, rest_of, occurs_in}
 use Rattle.tl_rules.specs.Parts.{begins_with}
@@ -116,34 +116,34 @@ abbrev pub occurs_in_bounds : FormTrees → List ℕ → Bool
 occurs_in_bounds clauses = occurs_in_clause (bounds_clause clauses)
 
 -- what the precondition breaks, by the elements after `pre`
-abbrev pub pre_breaks : Signature → Scope → FormTrees → ℕ → List Break
+abbrev pub pre_breaks : NameSignature → Scope → FormTrees → ℕ → List Break
 pre_breaks g scope (more_forms f no_form) at = formula_breaks role.State g scope f
 pre_breaks g scope _ at = (Shape, at) ∷ []
 
 -- what each clause breaks, where there is one
-abbrev pub bounds_clause_breaks : Signature → Scope → Option FormTree → List Break
+abbrev pub bounds_clause_breaks : NameSignature → Scope → Option FormTree → List Break
 bounds_clause_breaks g scope None = []
 bounds_clause_breaks g scope (Some clause) = bounds_breaks g scope (rest_of clause)
 
-abbrev pub pre_clause_breaks : Signature → Scope → Option FormTree → List Break
+abbrev pub pre_clause_breaks : NameSignature → Scope → Option FormTree → List Break
 pre_clause_breaks g scope None = []
 pre_clause_breaks g scope (Some clause) = pre_breaks g scope (rest_of clause) (offset_of clause)
 
-abbrev pub effects_clause_breaks : Signature → Scope → Option FormTree → List Break
+abbrev pub effects_clause_breaks : NameSignature → Scope → Option FormTree → List Break
 effects_clause_breaks g scope None = []
 effects_clause_breaks g scope (Some clause) = effects_breaks g scope (rest_of clause)
 
 -- what clauses break
-abbrev pub clause_trees_breaks : Signature → Scope → ClauseTrees → List Break
+abbrev pub clause_trees_breaks : NameSignature → Scope → ClauseTrees → List Break
 clause_trees_breaks g scope c =
     bounds_clause_breaks g scope c.bounds
     ++ (pre_clause_breaks g scope c.pre ++ effects_clause_breaks g scope c.effects)
 
-abbrev pub clauses_breaks : Signature → Scope → FormTrees → List Break
+abbrev pub clauses_breaks : NameSignature → Scope → FormTrees → List Break
 clauses_breaks g scope fs = clause_trees_breaks g scope (clause_trees fs)
 
 -- what an operator breaks that stands after operators with these names, by its elements after the first
-abbrev pub operator_breaks : Signature → List (List ℕ) → FormTrees → List Break
+abbrev pub operator_breaks : NameSignature → List (List ℕ) → FormTrees → List Break
 operator_breaks g operators no_form = []
 operator_breaks g operators (more_forms head clauses) =
     head_breaks 16 (λ text. list_any (bytes_eq text) operators) (occurs_in_bounds clauses) head

@@ -19,7 +19,7 @@ use Rattle.tl_rules.specs.Parts.{rest_of, texts_of}
 use Rattle.tl_rules.specs.Reads.{Reads, trees_in}
 use Rattle.tl_rules.specs.Rules.{breaks_if}
 use Rattle.tl_formulas.specs.declared.roles.FormulaRole.TheVariants as role
-use Rattle.tl_formulas.specs.declared.signature.Signature.{Signature}
+use Rattle.tl_formulas.specs.declared.signature.NameSignature.{NameSignature}
 use Rattle.tl_formulas.specs.Formulas.{formula_breaks}
 use Rattle.tl_formulas.specs.MeaningOfFormulas.{first_formula, formulas_meant}
 use Rattle.tl_formulas.specs.Signatures.{Scope, is_taken}
@@ -72,7 +72,7 @@ ReadsHead result most is_old occurs f =
     (head_breaks most is_old occurs f) (name_in_head f, rest_of f)
 
 -- the head of a definition, and the head of an operator
-abbrev pub ReadsDefinitionHead : Result Head FormFault → Signature → FormTree → Type 0
+abbrev pub ReadsDefinitionHead : Result Head FormFault → NameSignature → FormTree → Type 0
 ReadsDefinitionHead result g f = ReadsHead result 8 (is_taken g) (λ _. true) f
 
 abbrev pub ReadsOperatorHead : Result Head FormFault → List (List ℕ) → Option FormTree → FormTree → Type 0
@@ -80,46 +80,46 @@ ReadsOperatorHead result operators bounds f =
     ReadsHead result 16 (λ text. list_any (bytes_eq text) operators) (occurs_in_clause bounds) f
 
 -- the number of arguments of a declaration is read, of which the name is new
-abbrev pub ReadsArity : Result ℕ FormFault → Signature → Declaration → Type 0
+abbrev pub ReadsArity : Result ℕ FormFault → NameSignature → Declaration → Type 0
 ReadsArity result g x =
     Reads (λ (n : ℕ). n) result
     (breaks_if (is_taken g x.name.text.now) Twice x.name.at ++ arity_breaks (integer_tree x.arity))
     (natural_of (integer_tree x.arity))
 
 -- a definition is read, of a head, so many levels and a body
-abbrev pub ReadsDefinition : Result Definition FormFault → Vocabulary Signature → Head → ℕ → FormTree → Type 0
+abbrev pub ReadsDefinition : Result Definition FormFault → Vocabulary NameSignature → Head → ℕ → FormTree → Type 0
 ReadsDefinition result v h levels body =
     Reads definition_tree result
     (formula_breaks role.Body v.declared.now (head_scope h) body)
     (definition_named v.names.now v.declared.now levels h.name.text.now (head_scope h) body)
 
 -- the bounds, the precondition and the effects of an operator are read, by their clauses
-abbrev pub ReadsBoundsClause : Result (List Bound) FormFault → Vocabulary Signature → Scope → Option FormTree → Type 0
+abbrev pub ReadsBoundsClause : Result (List Bound) FormFault → Vocabulary NameSignature → Scope → Option FormTree → Type 0
 ReadsBoundsClause result v scope clause =
     Reads (λ (xs : List Bound). xs) result
     (bounds_clause_breaks v.declared.now scope clause)
     (bounds_clause_meant v.names.now v.declared.now scope clause)
 
-abbrev pub ReadsPrecondition : Result Formula FormFault → Vocabulary Signature → Scope → FormTrees → ℕ → Type 0
+abbrev pub ReadsPrecondition : Result Formula FormFault → Vocabulary NameSignature → Scope → FormTrees → ℕ → Type 0
 ReadsPrecondition result v scope fs at =
     Reads tree_of_formula result
     (pre_breaks v.declared.now scope fs at)
     (first_formula (formulas_meant v.names.now v.declared.now scope fs))
 
-abbrev pub ReadsPreClause : Result Formula FormFault → Vocabulary Signature → Scope → Option FormTree → Type 0
+abbrev pub ReadsPreClause : Result Formula FormFault → Vocabulary NameSignature → Scope → Option FormTree → Type 0
 ReadsPreClause result v scope clause =
     Reads tree_of_formula result
     (pre_clause_breaks v.declared.now scope clause)
     (pre_clause_meant v.names.now v.declared.now scope clause)
 
-abbrev pub ReadsEffectsClause : Result Effects FormFault → Vocabulary Signature → Scope → Option FormTree → Type 0
+abbrev pub ReadsEffectsClause : Result Effects FormFault → Vocabulary NameSignature → Scope → Option FormTree → Type 0
 ReadsEffectsClause result v scope clause =
     Reads tree_of_effects result
     (effects_clause_breaks v.declared.now scope clause)
     (effects_clause_meant v.names.now v.declared.now scope clause)
 
 -- an operator is read, of a head and clauses
-abbrev pub ReadsOperator : Result Operator FormFault → Vocabulary Signature → Head → ClauseTrees → Type 0
+abbrev pub ReadsOperator : Result Operator FormFault → Vocabulary NameSignature → Head → ClauseTrees → Type 0
 ReadsOperator result v h c =
     Reads operator_tree result
     (clause_trees_breaks v.declared.now (head_scope h) c)

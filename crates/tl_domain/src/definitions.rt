@@ -13,13 +13,13 @@ use crate::heads::{Head, Within, check_parameters, read_head};
 use crate::parts::{Integer, List, Name};
 use std::alloc::Global;
 use tl_formulas::variables::{variables, with_variables};
-use tl_formulas::{FormulaRole, Scope, Signature, formula, is_reserved};
+use tl_formulas::{FormulaRole, NameSignature, Scope, formula, is_reserved};
 use tl_rules::{FormFault, Rule, Vocabulary, breaks, number_of};
 use tl_sexpr::Form;
 use tl_syntax::Definition;
 
 /// Whether a name is a word of the language, or that of an earlier predicate, function or definition.
-pub(crate) fn is_taken(signature: &Signature<'_>, text: &str) -> bool
+pub(crate) fn is_taken(signature: &NameSignature<'_>, text: &str) -> bool
     ensures { result ≡ is_taken signature.now text.now }
 {
     is_reserved(text)
@@ -29,7 +29,7 @@ pub(crate) fn is_taken(signature: &Signature<'_>, text: &str) -> bool
 }
 
 /// Checks that the name of a predicate, a function or a definition is new.
-pub(crate) fn check_free(signature: &Signature<'_>, name: Name<'_>) -> Result<(), FormFault>
+pub(crate) fn check_free(signature: &NameSignature<'_>, name: Name<'_>) -> Result<(), FormFault>
     ensures { Checks result (breaks_if (is_taken signature.now name.entry.text.now) Twice
         name.entry.at) }
 {
@@ -67,7 +67,7 @@ pub(crate) fn levels(before: u32, number: Integer) -> Result<u32, FormFault>
 #[tactic(auto, using(crate::proofs::Rulesets::heads))]
 pub(crate) fn definition_head<'a>(
     alloc: Global,
-    signature: &Signature<'_>,
+    signature: &NameSignature<'_>,
     list: List<'a>,
 ) -> Result<Head<'a>, FormFault>
     ensures read { ReadsDefinitionHead result signature.now (list_tree list.entry) }
@@ -82,7 +82,7 @@ pub(crate) fn definition_head<'a>(
 /// A definition of so many levels, by its head and the form of its body.
 #[tactic(auto, using(crate::proofs::Rulesets::composed))]
 pub(crate) fn definition(
-    vocabulary: &Vocabulary<'_, Signature<'_>>,
+    vocabulary: &Vocabulary<'_, NameSignature<'_>>,
     head: &Head<'_>,
     levels: u32,
     body: &Form,

@@ -6,14 +6,14 @@ ghost use Rattle.tl_domain.specs.Readers.{draft_tree};
 
 use crate::operator_names::OperatorNames;
 use std::alloc::Global;
-use tl_formulas::{Signature, Table};
+use tl_formulas::{NameSignature, Table};
 use tl_syntax::{Declareds, Definitions, Domain, Formula, Operators};
 
 /// A domain that is being read: what the items so far declare, and what they stand for.
 #[derive(Drop)]
 pub(crate) struct Draft<'a> {
     /// The predicates, functions and definitions.
-    pub(crate) signature: Signature<'a>,
+    pub(crate) signature: NameSignature<'a>,
     /// The names of the operators.
     pub(crate) operators: OperatorNames<'a>,
     /// The levels of all `defined` items together, at most 64.
@@ -30,7 +30,7 @@ pub(crate) fn empty_draft<'a>(alloc: Global, name: u32) -> Draft<'a>
     ensures { draft_tree result ≡ (nothing_declared, empty_domain name) }
 {
     Draft {
-        signature: Signature {
+        signature: NameSignature {
             predicates: Table::new(alloc),
             functions: Table::new(alloc),
             definitions: Table::new(alloc),

@@ -13,14 +13,17 @@ use crate::item_shapes::{Declaration, declaration_in, define_in, defined_in};
 use crate::operators::{operator, operator_head};
 use crate::parts::list_in;
 use std::alloc::Global;
-use tl_formulas::{FormulaRole, Scope, Signature, formula};
+use tl_formulas::{FormulaRole, NameSignature, Scope, formula};
 use tl_rules::parts::{one, split_first};
 use tl_rules::{Call, FormFault, Rule, Vocabulary, breaks, number_of};
 use tl_syntax::{Declared, Names};
 
 /// The number of arguments of a declaration, whose name is new.
 #[tactic(auto, using(crate::proofs::Rulesets::composed))]
-fn declared_arity(signature: &Signature<'_>, declaration: Declaration<'_>) -> Result<u32, FormFault>
+fn declared_arity(
+    signature: &NameSignature<'_>,
+    declaration: Declaration<'_>,
+) -> Result<u32, FormFault>
     ensures { ReadsArity result signature.now declaration.entry }
 {
     check_free(signature, declaration.name)?;
@@ -30,7 +33,7 @@ fn declared_arity(signature: &Signature<'_>, declaration: Declaration<'_>) -> Re
 /// The name and the number of arguments of a declaration, before which there are so many of its kind.
 #[tactic(auto, using(crate::proofs::Rulesets::items))]
 fn declared<'a>(
-    signature: &Signature<'_>,
+    signature: &NameSignature<'_>,
     before: usize,
     call: Call<'a>,
 ) -> Result<(&'a str, u32), FormFault>

@@ -17,7 +17,7 @@ use std::alloc::Global;
 use tl_formulas::bounds::bounds;
 use tl_formulas::effects::effects;
 use tl_formulas::variables::{variables, with_variables};
-use tl_formulas::{FormulaRole, Scope, Signature, formula};
+use tl_formulas::{FormulaRole, NameSignature, Scope, formula};
 use tl_rules::parts::{offset, one, rest_of};
 use tl_rules::{FormFault, Rule, Vocabulary, breaks, number_of};
 use tl_sexpr::Form;
@@ -25,7 +25,7 @@ use tl_syntax::{Bounds, Effects, Formula, Operator};
 
 /// The bounds of an operator with this `bounds` clause.
 fn bounds_of(
-    vocabulary: &Vocabulary<'_, Signature<'_>>,
+    vocabulary: &Vocabulary<'_, NameSignature<'_>>,
     scope: &Scope<'_>,
     clause: Option<&Form>,
 ) -> Result<Bounds, FormFault>
@@ -40,7 +40,7 @@ fn bounds_of(
 /// The precondition of the elements after `pre`, in a clause at this offset.
 #[tactic(auto, using(crate::proofs::ClauseParts::pre_parts))]
 fn precondition(
-    vocabulary: &Vocabulary<'_, Signature<'_>>,
+    vocabulary: &Vocabulary<'_, NameSignature<'_>>,
     scope: &Scope<'_>,
     forms: &[Form],
     at: u32,
@@ -56,7 +56,7 @@ fn precondition(
 /// The precondition of an operator with this `pre` clause: the constant true where there is none.
 #[tactic(auto, using(crate::proofs::Rulesets::formula_trees))]
 fn pre_of(
-    vocabulary: &Vocabulary<'_, Signature<'_>>,
+    vocabulary: &Vocabulary<'_, NameSignature<'_>>,
     scope: &Scope<'_>,
     clause: Option<&Form>,
 ) -> Result<Formula, FormFault>
@@ -71,7 +71,7 @@ fn pre_of(
 /// The effects of an operator with this `effects` clause.
 #[tactic(auto, using(crate::proofs::ClauseParts::effect_parts))]
 fn effects_of(
-    vocabulary: &Vocabulary<'_, Signature<'_>>,
+    vocabulary: &Vocabulary<'_, NameSignature<'_>>,
     scope: &Scope<'_>,
     clause: Option<&Form>,
 ) -> Result<Effects, FormFault>
@@ -115,7 +115,7 @@ pub(crate) fn operator_head<'a>(
 /// An operator by its head and its clauses.
 #[tactic(auto, using(crate::proofs::Rulesets::composed))]
 pub(crate) fn operator(
-    vocabulary: &Vocabulary<'_, Signature<'_>>,
+    vocabulary: &Vocabulary<'_, NameSignature<'_>>,
     head: &Head<'_>,
     clauses: Clauses<'_>,
 ) -> Result<Operator, FormFault>

@@ -7,7 +7,7 @@ use Rattle.tl_syntax.specs.declared.bound.Bound.TheVariants as bound
 use Rattle.tl_syntax.specs.declared.value.Value.TheVariants.{Int}
 use Rattle.tl_rules.specs.declared.rule.Rule.TheVariants.{Shape}
 use Rattle.tl_rules.specs.Parts.{offset_of, is_call, elements_of, rest_of}
-use Rattle.tl_formulas.specs.declared.signature.Signature.{Signature}
+use Rattle.tl_formulas.specs.declared.signature.NameSignature.{NameSignature}
 use Rattle.tl_formulas.specs.Words.{operation_of, formula_word}
 use Rattle.tl_formulas.specs.Signatures.{Table, Scope, place_of, unbound_breaks}
 use Rattle.tl_formulas.specs.Terms.{term_call_breaks, term_breaks, terms_breaks}
@@ -67,16 +67,16 @@ pub ruleset term_forms = (term-symbol, term-symbol-meant, term-integer, term-int
 pub ruleset term_pairs = (terms-pair, terms-pair-meant, terms-next)
 
 -- bounds
-pub bound-called : (g : Signature) (s : Scope) (word : List ℕ) (k : ℕ) (rest : FormTrees) (at : ℕ) → bound_breaks g s (list (more_forms (symbol word k) rest) at) ≡ bound_call_breaks g s (formula_word word) word rest at
+pub bound-called : (g : NameSignature) (s : Scope) (word : List ℕ) (k : ℕ) (rest : FormTrees) (at : ℕ) → bound_breaks g s (list (more_forms (symbol word k) rest) at) ≡ bound_call_breaks g s (formula_word word) word rest at
 unfolding bound_breaks
 bound-called g s word k rest at = refl
 
-pub bound-called-meant : (names : List (List ℕ)) (g : Signature) (s : Scope) (word : List ℕ) (k : ℕ) (rest : FormTrees) (at : ℕ)
+pub bound-called-meant : (names : List (List ℕ)) (g : NameSignature) (s : Scope) (word : List ℕ) (k : ℕ) (rest : FormTrees) (at : ℕ)
     → bound_meant names g s (list (more_forms (symbol word k) rest) at) ≡ bound_call_meant names g s (formula_word word) word rest
 unfolding bound_meant
 bound-called-meant names g s word k rest at = refl
 
-pub bound-uncalled : (g : Signature) (s : Scope) (f : FormTree) → is_call f ≡ false → bound_breaks g s f ≡ (Shape, offset_of f) ∷ []
+pub bound-uncalled : (g : NameSignature) (s : Scope) (f : FormTree) → is_call f ≡ false → bound_breaks g s f ≡ (Shape, offset_of f) ∷ []
 unfolding bound_breaks
 bound-uncalled g s (symbol text at) none = refl
 bound-uncalled g s (integer z at) none = refl
@@ -85,7 +85,7 @@ bound-uncalled g s (list (more_forms (symbol text k) rest) at) none = cc
 bound-uncalled g s (list (more_forms (integer z k) rest) at) none = refl
 bound-uncalled g s (list (more_forms (list gs k) rest) at) none = refl
 
-pub equality-uncalled : (g : Signature) (s : Scope) (place v : FormTree) (at : ℕ) → is_call place ≡ false → equality_breaks g s (more_forms place (more_forms v no_form)) at ≡ (Shape, at) ∷ []
+pub equality-uncalled : (g : NameSignature) (s : Scope) (place v : FormTree) (at : ℕ) → is_call place ≡ false → equality_breaks g s (more_forms place (more_forms v no_form)) at ≡ (Shape, at) ∷ []
 equality-uncalled g s (symbol text k) v at none = refl
 equality-uncalled g s (integer z k) v at none = refl
 equality-uncalled g s (list no_form k) v at none = refl
@@ -96,19 +96,19 @@ equality-uncalled g s (list (more_forms (list gs l) rest) k) v at none = refl
 pub ruleset bounds = (bound-called, bound-called-meant, bound-uncalled, equality-uncalled)
 
 -- the argument of `goal`: a fact, or another
-pub goal-fact : (g : Signature) (s : Scope) (f : FormTree) → is_flat g.predicates f ≡ true → goal_breaks g s f ≡ miscounted_breaks g.predicates f ++ arguments_breaks s (rest_of f)
+pub goal-fact : (g : NameSignature) (s : Scope) (f : FormTree) → is_flat g.predicates f ≡ true → goal_breaks g s f ≡ miscounted_breaks g.predicates f ++ arguments_breaks s (rest_of f)
 unfolding goal_breaks
 goal-fact g s f flat = rw flat refl
 
-pub goal-other : (g : Signature) (s : Scope) (f : FormTree) → is_flat g.predicates f ≡ false → goal_breaks g s f ≡ miscounted_breaks g.predicates f ++ other_goal_breaks g s (elements_of f) (offset_of f)
+pub goal-other : (g : NameSignature) (s : Scope) (f : FormTree) → is_flat g.predicates f ≡ false → goal_breaks g s f ≡ miscounted_breaks g.predicates f ++ other_goal_breaks g s (elements_of f) (offset_of f)
 unfolding goal_breaks
 goal-other g s f other = rw other refl
 
-pub goal-fact-meant : (names : List (List ℕ)) (g : Signature) (s : Scope) (f : FormTree) → is_flat g.predicates f ≡ true → goal_meant names g s f ≡ bound.GoalFact (call_place g.predicates f) (arguments_meant names s (rest_of f))
+pub goal-fact-meant : (names : List (List ℕ)) (g : NameSignature) (s : Scope) (f : FormTree) → is_flat g.predicates f ≡ true → goal_meant names g s f ≡ bound.GoalFact (call_place g.predicates f) (arguments_meant names s (rest_of f))
 unfolding goal_meant
 goal-fact-meant names g s f flat = rw flat refl
 
-pub goal-other-meant : (names : List (List ℕ)) (g : Signature) (s : Scope) (f : FormTree) → is_flat g.predicates f ≡ false → goal_meant names g s f ≡ other_goal_meant names g s (elements_of f)
+pub goal-other-meant : (names : List (List ℕ)) (g : NameSignature) (s : Scope) (f : FormTree) → is_flat g.predicates f ≡ false → goal_meant names g s f ≡ other_goal_meant names g s (elements_of f)
 unfolding goal_meant
 goal-other-meant names g s f other = rw other refl
 

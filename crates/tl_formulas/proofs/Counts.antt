@@ -3,14 +3,14 @@ use Rattle.std.proofs.Common.{◌≡◌, ◌==◌, ℕ, [], ◌∷◌, false, re
 use Rattle.std.proofs.lemmas.Bool.{true≢false}
 use Rattle.tl_sexpr.specs.Tree.{FormTree, FormTrees, symbol, integer, list, no_form, more_forms}
 use Rattle.tl_rules.specs.declared.rule.Rule.TheVariants.{Shape}
-use Rattle.tl_formulas.specs.declared.signature.Signature.{Signature}
+use Rattle.tl_formulas.specs.declared.signature.NameSignature.{NameSignature}
 use Rattle.tl_formulas.specs.Signatures.{Scope}
 use Rattle.tl_formulas.specs.Bounds.{equality_breaks, goal_bound_breaks}
 use Rattle.tl_formulas.specs.Formulas.{has_quantifier_shape, has_counted_shape}
 use Rattle.tl_formulas.specs.Effects.{has_target_shape, has_set_shape}
 use Rattle.tl_rules.specs.Parts.{count}
 
-pub equality_count : (g : Signature) (scope : Scope) (fs : FormTrees) (at : ℕ) → (count fs == 2) ≡ false → equality_breaks g scope fs at ≡ (Shape, at) ∷ []
+pub equality_count : (g : NameSignature) (scope : Scope) (fs : FormTrees) (at : ℕ) → (count fs == 2) ≡ false → equality_breaks g scope fs at ≡ (Shape, at) ∷ []
 equality_count g scope no_form at other = refl
 equality_count g scope (more_forms f no_form) at other = cases f
   where
@@ -32,7 +32,7 @@ equality_count g scope (more_forms f (more_forms h (more_forms i fs))) at other 
     cases (list (more_forms (integer z _) gs) _) = refl
     cases (list (more_forms (list hs _) gs) _) = refl
 
-pub goal_count : (g : Signature) (scope : Scope) (fs : FormTrees) (at : ℕ) → (count fs == 1) ≡ false → goal_bound_breaks g scope fs at ≡ (Shape, at) ∷ []
+pub goal_count : (g : NameSignature) (scope : Scope) (fs : FormTrees) (at : ℕ) → (count fs == 1) ≡ false → goal_bound_breaks g scope fs at ≡ (Shape, at) ∷ []
 goal_count g scope no_form at other = refl
 goal_count g scope (more_forms f no_form) at other = absurd (true≢false other)
 goal_count g scope (more_forms f (more_forms h fs)) at other = refl

@@ -5,7 +5,7 @@ use Rattle.tl_sexpr.specs.Tree.{FormTree, FormTrees, symbol, integer, list, no_f
 use Rattle.tl_syntax.specs.declared.value.Op.{Op}
 use Rattle.tl_syntax.specs.declared.value.Cmp.TheVariants as cmp
 use Rattle.tl_rules.specs.declared.rule.Rule.TheVariants.{Shape, Unknown, Twice, Arity, Unbound, Shadow, NotInBound, GoalArg}
-use Rattle.tl_formulas.specs.declared.signature.Signature.{Signature}
+use Rattle.tl_formulas.specs.declared.signature.NameSignature.{NameSignature}
 use Rattle.tl_formulas.specs.declared.words.FormulaWord.{FormulaWord}
 use Rattle.tl_formulas.specs.declared.words.FormulaWord.TheVariants as word
 use Rattle.tl_formulas.specs.Words.{operation_of, formula_word}
@@ -89,7 +89,7 @@ counted-order table f low next le =
 rest-order : (scope : Scope) (f : FormTree) (low next : ℕ) → RisesFrom low f next → IsInOrder (64 * (offset_of f + 1)) (arguments_breaks scope (rest_of f)) (64 * next)
 rest-order scope f low next h = arguments-order scope (rest_of f) (offset_of f + 1) next (rest-rises f low next h)
 
-other_goal-order : (g : Signature) (scope : Scope) (fs : FormTrees) (at next : ℕ) → RiseFrom (at + 1) fs next → IsInOrder (64 * at + 13) (other_goal_breaks g scope fs at) (64 * next)
+other_goal-order : (g : NameSignature) (scope : Scope) (fs : FormTrees) (at next : ℕ) → RiseFrom (at + 1) fs next → IsInOrder (64 * at + 13) (other_goal_breaks g scope fs at) (64 * next)
 other_goal-order g scope no_form at next h = one GoalArg at (64 * at + 13) (64 * next) (omega arith) (omega arith)
 other_goal-order g scope (more_forms a no_form) at next h =
     let parts = forms-within (more_forms a no_form) (at + 1) next h in one GoalArg at (64 * at + 13) (64 * next) (omega arith) (omega arith)
@@ -119,7 +119,7 @@ other_goal-order g scope (more_forms a (more_forms place (more_forms value no_fo
 other_goal-order g scope (more_forms a (more_forms b (more_forms c (more_forms d fs)))) at next h =
     let parts = forms-within (more_forms a (more_forms b (more_forms c (more_forms d fs)))) (at + 1) next h in one GoalArg at (64 * at + 13) (64 * next) (omega arith) (omega arith)
 
-pub goal-order : (g : Signature) (scope : Scope) (f : FormTree) (low next : ℕ) → RisesFrom low f next → IsInOrder (64 * low) (goal_breaks g scope f) (64 * next)
+pub goal-order : (g : NameSignature) (scope : Scope) (f : FormTree) (low next : ℕ) → RisesFrom low f next → IsInOrder (64 * low) (goal_breaks g scope f) (64 * next)
 unfolding goal_breaks
 goal-order g scope f low next h =
     let within = form-within f low next h in
@@ -137,7 +137,7 @@ flat-order table scope text rest at low next le h =
     (call-order table text (count rest) at (64 * at + 10) (64 * at + 64) (omega arith) (omega arith))
     (from (64 * at + 64) (64 * low) (64 * next) _ (omega arith) (arguments-order scope rest low next h)))
 
-equality-order : (g : Signature) (scope : Scope) (fs : FormTrees) (at low next : ℕ) → at + 1 ≤ low → RiseFrom low fs next → IsInOrder (64 * at) (equality_breaks g scope fs at) (64 * next)
+equality-order : (g : NameSignature) (scope : Scope) (fs : FormTrees) (at low next : ℕ) → at + 1 ≤ low → RiseFrom low fs next → IsInOrder (64 * at) (equality_breaks g scope fs at) (64 * next)
 equality-order g scope (more_forms (list (more_forms (symbol text s) rest) place) (more_forms value no_form)) at low next le h =
     let parts = forms-within (more_forms (list (more_forms (symbol text s) rest) place) (more_forms value no_form)) low next h in
     let called = h.1 in
@@ -151,17 +151,17 @@ equality-order g scope (more_forms (list (more_forms (symbol text s) rest) place
     (up_to (64 * h.0) (64 * later.0) (64 * next) _ (omega (arith, later.2)) (unbound-order scope value h.0 later.0 later.1)))
 equality-order g scope fs at low next le h = let parts = forms-within fs low next h in one Shape at (64 * at) (64 * next) (omega arith) (omega arith)
 
-goal_bound-order : (g : Signature) (scope : Scope) (fs : FormTrees) (at low next : ℕ) → at + 1 ≤ low → RiseFrom low fs next → IsInOrder (64 * at) (goal_bound_breaks g scope fs at) (64 * next)
+goal_bound-order : (g : NameSignature) (scope : Scope) (fs : FormTrees) (at low next : ℕ) → at + 1 ≤ low → RiseFrom low fs next → IsInOrder (64 * at) (goal_bound_breaks g scope fs at) (64 * next)
 goal_bound-order g scope (more_forms f no_form) at low next le h =
     from (64 * at) (64 * low) (64 * next) _ (omega arith) (up_to (64 * low) (64 * h.0) (64 * next) _ (omega (arith, h.2)) (goal-order g scope f low h.0 h.1))
 goal_bound-order g scope fs at low next le h = let parts = forms-within fs low next h in one Shape at (64 * at) (64 * next) (omega arith) (omega arith)
 
-bound_call-order : (g : Signature) (scope : Scope) (w : FormulaWord) (text : List ℕ) (rest : FormTrees) (at low next : ℕ) → at + 1 ≤ low → RiseFrom low rest next → IsInOrder (64 * at) (bound_call_breaks g scope w text rest at) (64 * next)
+bound_call-order : (g : NameSignature) (scope : Scope) (w : FormulaWord) (text : List ℕ) (rest : FormTrees) (at low next : ℕ) → at + 1 ≤ low → RiseFrom low rest next → IsInOrder (64 * at) (bound_call_breaks g scope w text rest at) (64 * next)
 bound_call-order g scope (word.Compare cmp.Eq) text rest at low next le h = equality-order g scope rest at low next le h
 bound_call-order g scope word.Goal text rest at low next le h = goal_bound-order g scope rest at low next le h
 bound_call-order g scope _ text rest at low next le h = flat-order g.predicates scope text rest at low next le h
 
-pub bound-order : (g : Signature) (scope : Scope) (f : FormTree) (low next : ℕ) → RisesFrom low f next → IsInOrder (64 * low) (bound_breaks g scope f) (64 * next)
+pub bound-order : (g : NameSignature) (scope : Scope) (f : FormTree) (low next : ℕ) → RisesFrom low f next → IsInOrder (64 * low) (bound_breaks g scope f) (64 * next)
 unfolding bound_breaks
 bound-order g scope (list (more_forms (symbol text s) rest) at) low next h =
     let elements = h.1 in
@@ -169,7 +169,7 @@ bound-order g scope (list (more_forms (symbol text s) rest) at) low next h =
     from (64 * low) (64 * at) (64 * next) _ (omega (arith, h.0)) (bound_call-order g scope (formula_word text) text rest at elements.0 next (omega (arith, begin.0, begin.1)) elements.2)
 bound-order g scope f low next h = let within = form-within f low next h in one Shape (offset_of f) (64 * low) (64 * next) (omega (arith, within.0)) (omega (arith, within.1))
 
-pub bounds-order : (g : Signature) (scope : Scope) (fs : FormTrees) (low next : ℕ) → RiseFrom low fs next → IsInOrder (64 * low) (bounds_breaks g scope fs) (64 * next)
+pub bounds-order : (g : NameSignature) (scope : Scope) (fs : FormTrees) (low next : ℕ) → RiseFrom low fs next → IsInOrder (64 * low) (bounds_breaks g scope fs) (64 * next)
 bounds-order g scope no_form low next h = none (64 * low) (64 * next) (omega arith)
 bounds-order g scope (more_forms f fs) low next h =
     both (64 * low) (64 * h.0) (64 * next) _ _ (bound-order g scope f low h.0 h.1) (bounds-order g scope fs h.0 next h.2)

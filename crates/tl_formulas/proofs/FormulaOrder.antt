@@ -5,7 +5,7 @@ use Rattle.tl_sexpr.specs.Tree.{FormTree, FormTrees, symbol, integer, list, no_f
 use Rattle.tl_formulas.specs.declared.roles.FormulaRole.{FormulaRole}
 use Rattle.tl_formulas.specs.declared.roles.FormulaRole.TheVariants as role
 use Rattle.tl_rules.specs.declared.rule.Rule.TheVariants.{Shape, Arity, Temporal, Limit}
-use Rattle.tl_formulas.specs.declared.signature.Signature.{Signature}
+use Rattle.tl_formulas.specs.declared.signature.NameSignature.{NameSignature}
 use Rattle.tl_formulas.specs.declared.words.FormulaWord.{FormulaWord}
 use Rattle.tl_formulas.specs.declared.words.FormulaWord.TheVariants as word
 use Rattle.tl_formulas.specs.declared.words.EffectWord.{EffectWord}
@@ -22,18 +22,18 @@ use Rattle.tl_rules.proofs.Order.{IsInOrder, from, up_to, both, none, one, teste
 use Rattle.tl_rules.proofs.Offsets.{form-within, forms-within}
 use Rattle.tl_formulas.proofs.FormOrder.{call-order, terms-order, goal-order, bound-order, variable_list-order}
 
-atom-order : (g : Signature) (text : List ℕ) (n at low high : ℕ) → low ≤ 64 * at + 11 → 64 * at + 13 ≤ high → IsInOrder low (atom_breaks g text n at) high
+atom-order : (g : NameSignature) (text : List ℕ) (n at low high : ℕ) → low ≤ 64 * at + 11 → 64 * at + 13 ≤ high → IsInOrder low (atom_breaks g text n at) high
 atom-order g text n at low high before after = found (place_of g.predicates text) refl
   where
     found : (place : Option ℕ) → place_of g.predicates text ≡ place → IsInOrder low (atom_breaks g text n at) high
     found None is = rw is (call-order g.definitions text n at low high before after)
     found (Some i) is = rw is (tested (not (has_arity g.predicates i n)) Arity at low high (omega arith) (omega arith))
 
-name-order : (g : Signature) (w : FormulaWord) (text : List ℕ) (rest : FormTrees) (at low high : ℕ) → low ≤ 64 * at + 11 → 64 * at + 13 ≤ high → IsInOrder low (name_breaks g w text rest at) high
+name-order : (g : NameSignature) (w : FormulaWord) (text : List ℕ) (rest : FormTrees) (at low high : ℕ) → low ≤ 64 * at + 11 → 64 * at + 13 ≤ high → IsInOrder low (name_breaks g w text rest at) high
 name-order g word.Name text rest at low high before after = atom-order g text (count rest) at low high before after
 name-order g _ text rest at low high before after = none low high (omega arith)
 
-formula_list-order : (r : FormulaRole) (g : Signature) (scope : Scope) (w : FormulaWord) (text : List ℕ) (rest : FormTrees) (at : ℕ) → IsInOrder (64 * at) (formula_list_breaks r g scope w text rest at) (64 * (at + 1))
+formula_list-order : (r : FormulaRole) (g : NameSignature) (scope : Scope) (w : FormulaWord) (text : List ℕ) (rest : FormTrees) (at : ℕ) → IsInOrder (64 * at) (formula_list_breaks r g scope w text rest at) (64 * (at + 1))
 formula_list-order r g scope w text rest at =
     both (64 * at) (64 * at + 10) (64 * (at + 1)) _ _
     (tested (not (has_formula_shape w rest)) Shape at (64 * at) (64 * at + 10) (omega arith) (omega arith))
@@ -43,7 +43,7 @@ formula_list-order r g scope w text rest at =
     (tested (is_temporal w && not (may_be_temporal r)) Temporal at (64 * at + 13) (64 * at + 17) (omega arith) (omega arith))
     (tested (is_crowded_by scope w rest || is_too_deep r rest) Limit at (64 * at + 17) (64 * (at + 1)) (omega arith) (omega arith))))
 
-goals-order : (g : Signature) (scope : Scope) (fs : FormTrees) (low next : ℕ) → RiseFrom low fs next → IsInOrder (64 * low) (goals_breaks g scope fs) (64 * next)
+goals-order : (g : NameSignature) (scope : Scope) (fs : FormTrees) (low next : ℕ) → RiseFrom low fs next → IsInOrder (64 * low) (goals_breaks g scope fs) (64 * next)
 goals-order g scope no_form low next h = none (64 * low) (64 * next) (omega arith)
 goals-order g scope (more_forms f fs) low next h =
     both (64 * low) (64 * h.0) (64 * next) _ _ (goal-order g scope f low h.0 h.1) (goals-order g scope fs h.0 next h.2)
@@ -56,7 +56,7 @@ steps-order (list fs at) low next h = let parts = forms-within fs (at + 1) next 
 mutual
   unfolding formula_breaks
 
-  pub formula-order : (r : FormulaRole) (g : Signature) (scope : Scope) (f : FormTree) (low next : ℕ) → RisesFrom low f next → IsInOrder (64 * low) (formula_breaks r g scope f) (64 * next)
+  pub formula-order : (r : FormulaRole) (g : NameSignature) (scope : Scope) (f : FormTree) (low next : ℕ) → RisesFrom low f next → IsInOrder (64 * low) (formula_breaks r g scope f) (64 * next)
   formula-order r g scope (symbol text at) low next h = tested (not (is_constant text)) Shape at (64 * low) (64 * next) (omega (arith, h.0)) (omega (arith, h.1))
   formula-order r g scope (integer z at) low next h = one Shape at (64 * low) (64 * next) (omega (arith, h.0)) (omega (arith, h.1))
   formula-order r g scope (list no_form at) low next h = one Shape at (64 * low) (64 * next) (omega (arith, h.0)) (omega (arith, h.1))
@@ -72,7 +72,7 @@ mutual
   formula-order r g scope (list (more_forms (list fs s) rest) at) low next h =
       let within = form-within (list (more_forms (list fs s) rest) at) low next h in one Shape at (64 * low) (64 * next) (omega (arith, within.0)) (omega (arith, within.1))
 
-  formula_parts-order : (r : FormulaRole) (g : Signature) (scope : Scope) (w : FormulaWord) (fs : FormTrees) (low next : ℕ) → RiseFrom low fs next → IsInOrder (64 * low) (formula_parts_breaks r g scope w fs) (64 * next)
+  formula_parts-order : (r : FormulaRole) (g : NameSignature) (scope : Scope) (w : FormulaWord) (fs : FormTrees) (low next : ℕ) → RiseFrom low fs next → IsInOrder (64 * low) (formula_parts_breaks r g scope w fs) (64 * next)
   formula_parts-order r g scope w no_form low next h = none (64 * low) (64 * next) (omega arith)
   formula_parts-order r g scope word.Goal (more_forms f fs) low next h = goals-order g scope (more_forms f fs) low next h
   formula_parts-order r g scope (word.Compare c) (more_forms f fs) low next h = terms-order g.functions scope (more_forms f fs) low next h
@@ -96,7 +96,7 @@ mutual
   formula_parts-order r g scope _ (more_forms f fs) low next h =
       both (64 * low) (64 * h.0) (64 * next) _ _ (formula-order r g scope f low h.0 h.1) (formulas-order r g scope fs h.0 next h.2)
 
-  formulas-order : (r : FormulaRole) (g : Signature) (scope : Scope) (fs : FormTrees) (low next : ℕ) → RiseFrom low fs next → IsInOrder (64 * low) (formulas_breaks r g scope fs) (64 * next)
+  formulas-order : (r : FormulaRole) (g : NameSignature) (scope : Scope) (fs : FormTrees) (low next : ℕ) → RiseFrom low fs next → IsInOrder (64 * low) (formulas_breaks r g scope fs) (64 * next)
   formulas-order r g scope no_form low next h = none (64 * low) (64 * next) (omega arith)
   formulas-order r g scope (more_forms f fs) low next h =
       both (64 * low) (64 * h.0) (64 * next) _ _ (formula-order r g scope f low h.0 h.1) (formulas-order r g scope fs h.0 next h.2)
@@ -119,7 +119,7 @@ effect_list-order scope w rest at =
 mutual
   unfolding effect_breaks
 
-  effect-order : (g : Signature) (scope : Scope) (f : FormTree) (low next : ℕ) → RisesFrom low f next → IsInOrder (64 * low) (effect_breaks g scope f) (64 * next)
+  effect-order : (g : NameSignature) (scope : Scope) (f : FormTree) (low next : ℕ) → RisesFrom low f next → IsInOrder (64 * low) (effect_breaks g scope f) (64 * next)
   effect-order g scope (symbol text at) low next h = one Shape at (64 * low) (64 * next) (omega (arith, h.0)) (omega (arith, h.1))
   effect-order g scope (integer z at) low next h = one Shape at (64 * low) (64 * next) (omega (arith, h.0)) (omega (arith, h.1))
   effect-order g scope (list no_form at) low next h = one Shape at (64 * low) (64 * next) (omega (arith, h.0)) (omega (arith, h.1))
@@ -135,7 +135,7 @@ mutual
   effect-order g scope (list (more_forms (list fs s) rest) at) low next h =
       let within = form-within (list (more_forms (list fs s) rest) at) low next h in one Shape at (64 * low) (64 * next) (omega (arith, within.0)) (omega (arith, within.1))
 
-  effect_parts-order : (g : Signature) (scope : Scope) (w : EffectWord) (fs : FormTrees) (low next : ℕ) → RiseFrom low fs next → IsInOrder (64 * low) (effect_parts_breaks g scope w fs) (64 * next)
+  effect_parts-order : (g : NameSignature) (scope : Scope) (w : EffectWord) (fs : FormTrees) (low next : ℕ) → RiseFrom low fs next → IsInOrder (64 * low) (effect_parts_breaks g scope w fs) (64 * next)
   effect_parts-order g scope w no_form low next h = none (64 * low) (64 * next) (omega arith)
   effect_parts-order g scope effect.Add (more_forms fact rest) low next h =
       let later = forms-within rest h.0 next h.2 in up_to (64 * low) (64 * h.0) (64 * next) _ (omega arith) (target-order g.predicates g.functions scope fact low h.0 h.1)
@@ -153,7 +153,7 @@ mutual
       (both (64 * h.0) (64 * later.0) (64 * next) _ _ (bound-order g (with_variables scope vs) b h.0 later.0 later.1) (effects-order g (with_variables scope vs) effects later.0 next later.2))
   effect_parts-order g scope effect.Other (more_forms f fs) low next h = let parts = forms-within (more_forms f fs) low next h in none (64 * low) (64 * next) (omega arith)
 
-  pub effects-order : (g : Signature) (scope : Scope) (fs : FormTrees) (low next : ℕ) → RiseFrom low fs next → IsInOrder (64 * low) (effects_breaks g scope fs) (64 * next)
+  pub effects-order : (g : NameSignature) (scope : Scope) (fs : FormTrees) (low next : ℕ) → RiseFrom low fs next → IsInOrder (64 * low) (effects_breaks g scope fs) (64 * next)
   effects-order g scope no_form low next h = none (64 * low) (64 * next) (omega arith)
   effects-order g scope (more_forms f fs) low next h =
       both (64 * low) (64 * h.0) (64 * next) _ _ (effect-order g scope f low h.0 h.1) (effects-order g scope fs h.0 next h.2)

@@ -9,7 +9,7 @@ use Rattle.tl_rules.specs.declared.rule.Rule.TheVariants.{Shape}
 use Rattle.tl_rules.specs.Named.{HasNames, HaveNames}
 use Rattle.tl_rules.specs.Parts.{count, is_list, any_list}
 use Rattle.tl_rules.specs.Rules.{breaks_if}
-use Rattle.tl_formulas.specs.declared.signature.Signature.{Signature}
+use Rattle.tl_formulas.specs.declared.signature.NameSignature.{NameSignature}
 use Rattle.tl_formulas.specs.declared.words.FormulaWord.{FormulaWord}
 use Rattle.tl_formulas.specs.declared.words.FormulaWord.TheVariants as word
 use Rattle.tl_formulas.specs.Words.{formula_word}
@@ -35,18 +35,18 @@ flat-parts table scope text rest at none =
     record { flat = parts.0; called = later.0; arguments = later.1 }
 
 -- the parts of what an equality breaks
-pub record EqualityBreaksNothing (g : Signature) (scope : Scope) (text : List ℕ) (rest : FormTrees) (place : ℕ) (value : FormTree) (at : ℕ) : Type 0 where
+pub record EqualityBreaksNothing (g : NameSignature) (scope : Scope) (text : List ℕ) (rest : FormTrees) (place : ℕ) (value : FormTree) (at : ℕ) : Type 0 where
   pub flat : breaks_if (is_list value) Shape at ≡ []
   pub called : FlatBreaksNothing g.functions scope text rest place
   pub last : unbound_breaks scope value ≡ []
 
-pub equality-parts : (g : Signature) (scope : Scope) (text : List ℕ) (rest : FormTrees) (place : ℕ) (value : FormTree) (at : ℕ) → breaks_if (is_list value) Shape at ++ (flat_breaks g.functions scope text rest place ++ unbound_breaks scope value) ≡ [] → EqualityBreaksNothing g scope text rest place value at
+pub equality-parts : (g : NameSignature) (scope : Scope) (text : List ℕ) (rest : FormTrees) (place : ℕ) (value : FormTree) (at : ℕ) → breaks_if (is_list value) Shape at ++ (flat_breaks g.functions scope text rest place ++ unbound_breaks scope value) ≡ [] → EqualityBreaksNothing g scope text rest place value at
 equality-parts g scope text rest place value at none =
     let parts = none-parts (breaks_if (is_list value) Shape at) (flat_breaks g.functions scope text rest place ++ unbound_breaks scope value) none in
     let later = none-parts (flat_breaks g.functions scope text rest place) (unbound_breaks scope value) parts.1 in
     record { flat = parts.0; called = flat-parts g.functions scope text rest place later.0; last = later.1 }
 
-fact-keeps : (names : List (List ℕ)) (g : Signature) (scope : Scope) (text : List ℕ) (rest : FormTrees) (at : ℕ) → length scope ≤ 32 → HaveNames names rest → flat_breaks g.predicates scope text rest at ≡ [] → BoundKeeps (seen g) (length names) (length scope) (bound.Fact (unwrap_or (place_of g.predicates text) 0) (arguments_meant names scope rest))
+fact-keeps : (names : List (List ℕ)) (g : NameSignature) (scope : Scope) (text : List ℕ) (rest : FormTrees) (at : ℕ) → length scope ≤ 32 → HaveNames names rest → flat_breaks g.predicates scope text rest at ≡ [] → BoundKeeps (seen g) (length names) (length scope) (bound.Fact (unwrap_or (place_of g.predicates text) 0) (arguments_meant names scope rest))
 fact-keeps names g scope text rest at few has none =
     let parts = flat-parts g.predicates scope text rest at none in
     let args = arguments-keep names scope rest few has parts.arguments in
@@ -56,7 +56,7 @@ fact-keeps names g scope text rest at few has none =
       named = args-named _ _ (arguments_meant names scope rest) args;
     }
 
-place-keeps : (names : List (List ℕ)) (g : Signature) (scope : Scope) (text : List ℕ) (rest : FormTrees) (place : ℕ) (value : FormTree) (at : ℕ) → length scope ≤ 32 → HaveNames names rest → HasNames names value → EqualityBreaksNothing g scope text rest place value at → BoundKeeps (seen g) (length names) (length scope) (bound.Place (unwrap_or (place_of g.functions text) 0) (arguments_meant names scope rest) (argument_meant names scope value))
+place-keeps : (names : List (List ℕ)) (g : NameSignature) (scope : Scope) (text : List ℕ) (rest : FormTrees) (place : ℕ) (value : FormTree) (at : ℕ) → length scope ≤ 32 → HaveNames names rest → HasNames names value → EqualityBreaksNothing g scope text rest place value at → BoundKeeps (seen g) (length names) (length scope) (bound.Place (unwrap_or (place_of g.functions text) 0) (arguments_meant names scope rest) (argument_meant names scope value))
 place-keeps names g scope text rest place value at few has_rest has_value parts =
     let args = arguments-keep names scope rest few has_rest parts.called.arguments in
     let last = argument-keeps names scope value few has_value parts.last in
@@ -66,7 +66,7 @@ place-keeps names g scope text rest place value at few has_rest has_value parts 
       named = args-named _ _ (argument_meant names scope value ∷ arguments_meant names scope rest) (last, args);
     }
 
-equality-keeps : (names : List (List ℕ)) (g : Signature) (scope : Scope) (fs : FormTrees) (at : ℕ) → length scope ≤ 32 → HaveNames names fs → equality_breaks g scope fs at ≡ [] → BoundKeeps (seen g) (length names) (length scope) (equality_meant names g scope fs)
+equality-keeps : (names : List (List ℕ)) (g : NameSignature) (scope : Scope) (fs : FormTrees) (at : ℕ) → length scope ≤ 32 → HaveNames names fs → equality_breaks g scope fs at ≡ [] → BoundKeeps (seen g) (length names) (length scope) (equality_meant names g scope fs)
 equality-keeps names g scope no_form at few has none = cc
 equality-keeps names g scope (more_forms (symbol text s) fs) at few has none = cc
 equality-keeps names g scope (more_forms (integer z s) fs) at few has none = cc
@@ -78,17 +78,17 @@ equality-keeps names g scope (more_forms (list (more_forms (symbol text t) rest)
     place-keeps names g scope text rest s value at few has.0.1 has.1.0 (equality-parts g scope text rest s value at none)
 equality-keeps names g scope (more_forms (list (more_forms (symbol text t) rest) s) (more_forms value (more_forms f fs))) at few has none = cc
 
-goal_bound-keeps : (names : List (List ℕ)) (g : Signature) (scope : Scope) (fs : FormTrees) (at : ℕ) → length scope ≤ 32 → HaveNames names fs → goal_bound_breaks g scope fs at ≡ [] → BoundKeeps (seen g) (length names) (length scope) (goal_bound_meant names g scope fs)
+goal_bound-keeps : (names : List (List ℕ)) (g : NameSignature) (scope : Scope) (fs : FormTrees) (at : ℕ) → length scope ≤ 32 → HaveNames names fs → goal_bound_breaks g scope fs at ≡ [] → BoundKeeps (seen g) (length names) (length scope) (goal_bound_meant names g scope fs)
 goal_bound-keeps names g scope no_form at few has none = cc
 goal_bound-keeps names g scope (more_forms f no_form) at few has none = goal-keeps names g scope f few has.0 none
 goal_bound-keeps names g scope (more_forms f (more_forms h fs)) at few has none = cc
 
-bound_call-keeps : (names : List (List ℕ)) (g : Signature) (scope : Scope) (w : FormulaWord) (text : List ℕ) (rest : FormTrees) (at : ℕ) → length scope ≤ 32 → HaveNames names rest → bound_call_breaks g scope w text rest at ≡ [] → BoundKeeps (seen g) (length names) (length scope) (bound_call_meant names g scope w text rest)
+bound_call-keeps : (names : List (List ℕ)) (g : NameSignature) (scope : Scope) (w : FormulaWord) (text : List ℕ) (rest : FormTrees) (at : ℕ) → length scope ≤ 32 → HaveNames names rest → bound_call_breaks g scope w text rest at ≡ [] → BoundKeeps (seen g) (length names) (length scope) (bound_call_meant names g scope w text rest)
 bound_call-keeps names g scope (word.Compare cmp.Eq) text rest at few has none = equality-keeps names g scope rest at few has none
 bound_call-keeps names g scope word.Goal text rest at few has none = goal_bound-keeps names g scope rest at few has none
 bound_call-keeps names g scope _ text rest at few has none = fact-keeps names g scope text rest at few has none
 
-pub bound-keeps : (names : List (List ℕ)) (g : Signature) (scope : Scope) (f : FormTree) → length scope ≤ 32 → HasNames names f → bound_breaks g scope f ≡ [] → BoundKeeps (seen g) (length names) (length scope) (bound_meant names g scope f)
+pub bound-keeps : (names : List (List ℕ)) (g : NameSignature) (scope : Scope) (f : FormTree) → length scope ≤ 32 → HasNames names f → bound_breaks g scope f ≡ [] → BoundKeeps (seen g) (length names) (length scope) (bound_meant names g scope f)
 unfolding bound_breaks bound_meant
 bound-keeps names g scope (symbol text at) few has none = cc
 bound-keeps names g scope (integer z at) few has none = cc
@@ -97,7 +97,7 @@ bound-keeps names g scope (list (more_forms (symbol text s) rest) at) few has no
 bound-keeps names g scope (list (more_forms (integer z s) rest) at) few has none = cc
 bound-keeps names g scope (list (more_forms (list fs s) rest) at) few has none = cc
 
-pub bounds-keep : (names : List (List ℕ)) (g : Signature) (scope : Scope) (fs : FormTrees) → length scope ≤ 32 → HaveNames names fs → bounds_breaks g scope fs ≡ [] → Each (BoundKeeps (seen g) (length names) (length scope)) (bounds_meant names g scope fs)
+pub bounds-keep : (names : List (List ℕ)) (g : NameSignature) (scope : Scope) (fs : FormTrees) → length scope ≤ 32 → HaveNames names fs → bounds_breaks g scope fs ≡ [] → Each (BoundKeeps (seen g) (length names) (length scope)) (bounds_meant names g scope fs)
 bounds-keep names g scope no_form few has none = tt
 bounds-keep names g scope (more_forms f fs) few has none =
     let parts = none-parts (bound_breaks g scope f) (bounds_breaks g scope fs) none in

@@ -23,7 +23,7 @@ use Rattle.tl_rules.specs.Parts.{is_variable, count}
 use Rattle.tl_rules.specs.Rules.{breaks_if}
 use Rattle.tl_rules.specs.Symbols.{number_in}
 use Rattle.tl_rules.proofs.NamesHave.{number-below}
-use Rattle.tl_formulas.specs.declared.signature.Signature.{Signature}
+use Rattle.tl_formulas.specs.declared.signature.NameSignature.{NameSignature}
 use Rattle.tl_formulas.specs.Signatures.{Table, Scope, place_of, has_arity, is_in, slot_of, call_breaks_at, call_breaks, unbound_breaks}
 use Rattle.tl_formulas.specs.Goals.{arguments_breaks}
 use Rattle.tl_formulas.specs.MeaningOfTerms.{symbol_meant, argument_meant, arguments_meant}
@@ -33,11 +33,11 @@ use Rattle.tl_formulas.proofs.KeepsLists.{none-parts, test-passes, Each-implies,
 abbrev pub arities : Table → List ℕ
 arities table = map (λ e. e.1) table
 
-abbrev pub seen : Signature → domain.Signature
+abbrev pub seen : NameSignature → domain.Signature
 seen g = record { predicates = arities g.predicates; functions = arities g.functions; definitions = arities g.definitions }
 
 -- no variable is the name of a predicate or of a function
-pub record NamesOnly (g : Signature) : Type 0 where
+pub record NamesOnly (g : NameSignature) : Type 0 where
   pub predicates : (text : List ℕ) → is_variable text ≡ true → is_in g.predicates text ≡ false
   pub functions : (text : List ℕ) → is_variable text ≡ true → is_in g.functions text ≡ false
 

@@ -17,7 +17,7 @@ use Rattle.tl_rules.specs.declared.rule.Rule.TheVariants.{Shape, Limit}
 use Rattle.tl_rules.specs.Named.{HasNames, HaveNames}
 use Rattle.tl_rules.specs.Parts.{count, is_call, elements_of, rest_of}
 use Rattle.tl_rules.specs.Rules.{breaks_if}
-use Rattle.tl_formulas.specs.declared.signature.Signature.{Signature}
+use Rattle.tl_formulas.specs.declared.signature.NameSignature.{NameSignature}
 use Rattle.tl_formulas.specs.declared.roles.FormulaRole.TheVariants as role
 use Rattle.tl_formulas.specs.declared.words.EffectWord.{EffectWord}
 use Rattle.tl_formulas.specs.declared.words.EffectWord.TheVariants as effect
@@ -80,7 +80,7 @@ pub record TargetKeeps (g : domain.Signature) (taken : List ℕ) (n k p : ℕ) (
   pub takes : Takes taken p (term_count ts)
   pub terms : TermsKeep g n k ts
 
-target-keeps : (names : List (List ℕ)) (g : Signature) (table : Table) (scope : Scope) (f : FormTree) → length scope ≤ 32 → HasNames names f → is_call f ≡ true → target_breaks table g.functions scope f ≡ [] → TargetKeeps (seen g) (arities table) (length names) (length scope) (call_place table f) (terms_meant names g.functions scope (rest_of f))
+target-keeps : (names : List (List ℕ)) (g : NameSignature) (table : Table) (scope : Scope) (f : FormTree) → length scope ≤ 32 → HasNames names f → is_call f ≡ true → target_breaks table g.functions scope f ≡ [] → TargetKeeps (seen g) (arities table) (length names) (length scope) (call_place table f) (terms_meant names g.functions scope (rest_of f))
 target-keeps names g table scope (symbol text at) few has call none = cc
 target-keeps names g table scope (integer z at) few has call none = cc
 target-keeps names g table scope (list no_form at) few has call none = cc
@@ -129,7 +129,7 @@ place-call f (more_forms i (more_forms j fs)) h = cc
 mutual
   unfolding effect_breaks effect_meant
 
-  pub effect-keeps : (names : List (List ℕ)) (g : Signature) (around : List ℕ) (scope : Scope) (f : FormTree) → IsPlace g around scope → HasNames names f → effect_breaks g scope f ≡ [] → EffectKeeps (seen g) (length names) around (length scope) (effect_meant names g scope f)
+  pub effect-keeps : (names : List (List ℕ)) (g : NameSignature) (around : List ℕ) (scope : Scope) (f : FormTree) → IsPlace g around scope → HasNames names f → effect_breaks g scope f ≡ [] → EffectKeeps (seen g) (length names) around (length scope) (effect_meant names g scope f)
   effect-keeps names g around scope (symbol text at) place has none = cc
   effect-keeps names g around scope (integer z at) place has none = cc
   effect-keeps names g around scope (list no_form at) place has none = cc
@@ -139,7 +139,7 @@ mutual
   effect-keeps names g around scope (list (more_forms (integer z s) rest) at) place has none = cc
   effect-keeps names g around scope (list (more_forms (list fs s) rest) at) place has none = cc
 
-  effect_list-keeps : (names : List (List ℕ)) (g : Signature) (around : List ℕ) (scope : Scope) (w : EffectWord) (fs : FormTrees) → IsPlace g around scope → HaveNames names fs → ListBreaksNothing scope w fs → effect_parts_breaks g scope w fs ≡ [] → EffectKeeps (seen g) (length names) around (length scope) (effect_list_meant names g scope w fs)
+  effect_list-keeps : (names : List (List ℕ)) (g : NameSignature) (around : List ℕ) (scope : Scope) (w : EffectWord) (fs : FormTrees) → IsPlace g around scope → HaveNames names fs → ListBreaksNothing scope w fs → effect_parts_breaks g scope w fs ≡ [] → EffectKeeps (seen g) (length names) around (length scope) (effect_list_meant names g scope w fs)
   effect_list-keeps names g around scope w no_form place has own none = change-keeps (seen g) (length names) around (length scope)
   effect_list-keeps names g around scope effect.Add (more_forms fact rest) place has own none =
       add-keeps (seen g) (length names) around (length scope) (call_place g.predicates fact) (terms_meant names g.functions scope (rest_of fact)) (target-keeps names g g.predicates scope fact place.few has.0 (fact-call fact rest own.shape) none)
@@ -159,7 +159,7 @@ mutual
       each-keeps (seen g) (length names) around (length scope) (length (with_variables scope vs)) (variables_meant names scope vs) (bound_meant names g (with_variables scope vs) b) _ head.0 (effects-keep names g (slots_of (variables_meant names scope vs) ++ around) (with_variables scope vs) effects head.1 has.1.1 later.1)
   effect_list-keeps names g around scope effect.Other (more_forms f fs) place has own none = change-keeps (seen g) (length names) around (length scope)
 
-  pub effects-keep : (names : List (List ℕ)) (g : Signature) (around : List ℕ) (scope : Scope) (fs : FormTrees) → IsPlace g around scope → HaveNames names fs → effects_breaks g scope fs ≡ [] → EffectsKeep (seen g) (length names) around (length scope) (effects_meant names g scope fs)
+  pub effects-keep : (names : List (List ℕ)) (g : NameSignature) (around : List ℕ) (scope : Scope) (fs : FormTrees) → IsPlace g around scope → HaveNames names fs → effects_breaks g scope fs ≡ [] → EffectsKeep (seen g) (length names) around (length scope) (effects_meant names g scope fs)
   effects-keep names g around scope no_form place has none = nothing-keeps (seen g) (length names) around (length scope)
   effects-keep names g around scope (more_forms f fs) place has none =
       let parts = none-parts (effect_breaks g scope f) (effects_breaks g scope fs) none in

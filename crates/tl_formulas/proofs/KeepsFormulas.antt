@@ -19,7 +19,7 @@ use Rattle.tl_rules.specs.declared.rule.Rule.TheVariants.{Shape, Temporal, Limit
 use Rattle.tl_rules.specs.Named.{HasNames, HaveNames}
 use Rattle.tl_rules.specs.Parts.{count, is_variable_list, are_variables, elements_of, texts_of}
 use Rattle.tl_rules.specs.Rules.{breaks_if}
-use Rattle.tl_formulas.specs.declared.signature.Signature.{Signature}
+use Rattle.tl_formulas.specs.declared.signature.NameSignature.{NameSignature}
 use Rattle.tl_formulas.specs.declared.roles.FormulaRole.{FormulaRole}
 use Rattle.tl_formulas.specs.declared.words.FormulaWord.{FormulaWord}
 use Rattle.tl_formulas.specs.declared.words.FormulaWord.TheVariants as word
@@ -52,7 +52,7 @@ pub record FormulasKeep (g : domain.Signature) (n : ℕ) (around : List ℕ) (k 
   pub named : AreNamed n fs
 
 -- what stands around a form: at most 32 variables in scope, the slots of the quantifiers around among theirs, and names of what is declared that are no variables
-pub record IsPlace (g : Signature) (around : List ℕ) (scope : Scope) : Type 0 where
+pub record IsPlace (g : NameSignature) (around : List ℕ) (scope : Scope) : Type 0 where
   pub few : length scope ≤ 32
   pub inside : Each (λ q. q < length scope) around
   pub only : NamesOnly g
@@ -112,7 +112,7 @@ goal_formula-keeps g n around k (bound.Fact p xs) h = constant-keeps g n around 
 goal_formula-keeps g n around k (bound.Place f xs x) h = constant-keeps g n around k
 
 -- an atom of a declared or of a defined predicate
-atom-keeps : (g : Signature) (n : ℕ) (around : List ℕ) (k : ℕ) (text : List ℕ) (many at : ℕ) (ts : TermTrees) → term_count ts ≡ many → atom_breaks g text many at ≡ [] → TermsKeep (seen g) n k ts → FormulaKeeps (seen g) n around k (atom_meant g text ts)
+atom-keeps : (g : NameSignature) (n : ℕ) (around : List ℕ) (k : ℕ) (text : List ℕ) (many at : ℕ) (ts : TermTrees) → term_count ts ≡ many → atom_breaks g text many at ≡ [] → TermsKeep (seen g) n k ts → FormulaKeeps (seen g) n around k (atom_meant g text ts)
 unfolding Fits free_slots IsNamed
 atom-keeps g n around k text many at ts counted none h = by_place (place_of g.predicates text) refl
   where
@@ -132,7 +132,7 @@ pub record QuantifierKeeps (g : domain.Signature) (n : ℕ) (around : List ℕ) 
   pub covered : (q : ℕ) → k ≤ q → q < higher → is_slot_in (slots_of vs) q ≡ true
 
 -- the parts of a quantifier that break nothing, and the place below it
-pub quantifier-keeps : (names : List (List ℕ)) (g : Signature) (around : List ℕ) (scope : Scope) (vs b : FormTree) → IsPlace g around scope → HasNames names vs → HasNames names b → are_variables (elements_of vs) ≡ true → is_crowded scope vs ≡ false → variables_breaks [] scope b (elements_of vs) ≡ [] → bound_breaks g (with_variables scope vs) b ≡ []
+pub quantifier-keeps : (names : List (List ℕ)) (g : NameSignature) (around : List ℕ) (scope : Scope) (vs b : FormTree) → IsPlace g around scope → HasNames names vs → HasNames names b → are_variables (elements_of vs) ≡ true → is_crowded scope vs ≡ false → variables_breaks [] scope b (elements_of vs) ≡ [] → bound_breaks g (with_variables scope vs) b ≡ []
     → QuantifierKeeps (seen g) (length names) around (length scope) (length (with_variables scope vs)) (variables_meant names scope vs) (bound_meant names g (with_variables scope vs) b) × IsPlace g (slots_of (variables_meant names scope vs) ++ around) (with_variables scope vs)
 quantifier-keeps names g around scope vs b place has_vs has_b are crowded none right =
     let room = ltb-false 32 (length scope + count (elements_of vs)) crowded in
@@ -153,13 +153,13 @@ pub quantified-below : (g : domain.Signature) (n : ℕ) (around : List ℕ) (k h
 quantified-below g n around k higher vs b qs h below = below-without (slots_of vs) k higher h.covered (bound_slots b ++ qs) (Each-both (λ q. q < higher) (bound_slots b) qs h.bound_below below)
 
 -- what the list of a formula itself does not break: its shape is right, its name takes the elements, and its scope has room
-pub record ListBreaksNothing (g : Signature) (scope : Scope) (w : FormulaWord) (text : List ℕ) (rest : FormTrees) : Type 0 where
+pub record ListBreaksNothing (g : NameSignature) (scope : Scope) (w : FormulaWord) (text : List ℕ) (rest : FormTrees) : Type 0 where
   pub at : ℕ
   pub shape : has_formula_shape w rest ≡ true
   pub name : name_breaks g w text rest at ≡ []
   pub few : is_crowded_by scope w rest ≡ false
 
-pub own-parts : (r : FormulaRole) (g : Signature) (scope : Scope) (w : FormulaWord) (text : List ℕ) (rest : FormTrees) (at : ℕ) → formula_list_breaks r g scope w text rest at ≡ [] → ListBreaksNothing g scope w text rest
+pub own-parts : (r : FormulaRole) (g : NameSignature) (scope : Scope) (w : FormulaWord) (text : List ℕ) (rest : FormTrees) (at : ℕ) → formula_list_breaks r g scope w text rest at ≡ [] → ListBreaksNothing g scope w text rest
 own-parts r g scope w text rest at none =
     let parts = none-parts (breaks_if (not (has_formula_shape w rest)) Shape at) _ none in
     let later = none-parts (name_breaks g w text rest at) _ parts.1 in
@@ -182,7 +182,7 @@ quantifier-variables vs b no_form h = cc
 quantifier-variables vs b (more_forms f no_form) h = list-variables vs h
 quantifier-variables vs b (more_forms f (more_forms i fs)) h = cc
 
-no-terms : (g : Signature) (scope : Scope) → terms_breaks g.functions scope no_form ≡ []
+no-terms : (g : NameSignature) (scope : Scope) → terms_breaks g.functions scope no_form ≡ []
 unfolding terms_breaks
 no-terms g scope = refl
 
@@ -190,7 +190,7 @@ both-keep : (g : domain.Signature) (n : ℕ) (around : List ℕ) (k : ℕ) (f : 
 unfolding Fits free_slots IsNamed
 both-keep g n around k f fs h i = record { fits = (h.fits, i.fits); below = Each-both (λ q. q < k) (free_slots f) (all_free_slots fs) h.below i.below; named = (h.named, i.named) }
 
-compared-keeps : (g : Signature) (n : ℕ) (around : List ℕ) (k : ℕ) (c : Cmp) (ts : TermTrees) → TermsKeep (seen g) n k ts → FormulaKeeps (seen g) n around k (compare c (first_term ts) (second_term ts))
+compared-keeps : (g : NameSignature) (n : ℕ) (around : List ℕ) (k : ℕ) (c : Cmp) (ts : TermTrees) → TermsKeep (seen g) n k ts → FormulaKeeps (seen g) n around k (compare c (first_term ts) (second_term ts))
 unfolding Fits free_slots IsNamed
 compared-keeps g n around k c ts h =
     let first = first-keeps (seen g) n k ts h in
@@ -220,7 +220,7 @@ during-keeps g n around k steps fs h = let first = first_formula-keeps g n aroun
 mutual
   unfolding formula_breaks formula_meant Fits free_slots IsNamed
 
-  pub formula-keeps : (names : List (List ℕ)) (r : FormulaRole) (g : Signature) (around : List ℕ) (scope : Scope) (f : FormTree) → IsPlace g around scope → HasNames names f → formula_breaks r g scope f ≡ [] → FormulaKeeps (seen g) (length names) around (length scope) (formula_meant names g scope f)
+  pub formula-keeps : (names : List (List ℕ)) (r : FormulaRole) (g : NameSignature) (around : List ℕ) (scope : Scope) (f : FormTree) → IsPlace g around scope → HasNames names f → formula_breaks r g scope f ≡ [] → FormulaKeeps (seen g) (length names) around (length scope) (formula_meant names g scope f)
   formula-keeps names r g around scope (symbol text at) place has none = symbol-keeps (seen g) (length names) around (length scope) text
   formula-keeps names r g around scope (integer z at) place has none = cc
   formula-keeps names r g around scope (list no_form at) place has none = cc
@@ -230,7 +230,7 @@ mutual
   formula-keeps names r g around scope (list (more_forms (integer z s) rest) at) place has none = cc
   formula-keeps names r g around scope (list (more_forms (list fs s) rest) at) place has none = cc
 
-  formula_list-keeps : (names : List (List ℕ)) (r : FormulaRole) (g : Signature) (around : List ℕ) (scope : Scope) (w : FormulaWord) (text : List ℕ) (fs : FormTrees) → IsPlace g around scope → HaveNames names fs → ListBreaksNothing g scope w text fs → formula_parts_breaks r g scope w fs ≡ [] → FormulaKeeps (seen g) (length names) around (length scope) (formula_list_meant names g scope w text fs)
+  formula_list-keeps : (names : List (List ℕ)) (r : FormulaRole) (g : NameSignature) (around : List ℕ) (scope : Scope) (w : FormulaWord) (text : List ℕ) (fs : FormTrees) → IsPlace g around scope → HaveNames names fs → ListBreaksNothing g scope w text fs → formula_parts_breaks r g scope w fs ≡ [] → FormulaKeeps (seen g) (length names) around (length scope) (formula_list_meant names g scope w text fs)
   formula_list-keeps names r g around scope word.Name text no_form place has own none =
       atom-keeps g (length names) around (length scope) text 0 own.at (terms_meant names g.functions scope no_form) (terms-count names g.functions scope no_form) own.name (terms-keep names g scope no_form place.few has (no-terms g scope))
   formula_list-keeps names r g around scope word.Name text (more_forms f fs) place has own none =
@@ -268,7 +268,7 @@ mutual
       let parts = none-parts (formula_breaks r g scope f) (formulas_breaks r g scope fs) none in
       under_word-keeps (seen g) (length names) around (length scope) w _ (both-keep (seen g) (length names) around (length scope) _ _ (formula-keeps names r g around scope f place has.0 parts.0) (formulas-keep names r g around scope fs place has.1 parts.1))
 
-  pub formulas-keep : (names : List (List ℕ)) (r : FormulaRole) (g : Signature) (around : List ℕ) (scope : Scope) (fs : FormTrees) → IsPlace g around scope → HaveNames names fs → formulas_breaks r g scope fs ≡ [] → FormulasKeep (seen g) (length names) around (length scope) (formulas_meant names g scope fs)
+  pub formulas-keep : (names : List (List ℕ)) (r : FormulaRole) (g : NameSignature) (around : List ℕ) (scope : Scope) (fs : FormTrees) → IsPlace g around scope → HaveNames names fs → formulas_breaks r g scope fs ≡ [] → FormulasKeep (seen g) (length names) around (length scope) (formulas_meant names g scope fs)
   formulas-keep names r g around scope no_form place has none = record { fits = tt; below = tt; named = tt }
   formulas-keep names r g around scope (more_forms f fs) place has none =
       let parts = none-parts (formula_breaks r g scope f) (formulas_breaks r g scope fs) none in

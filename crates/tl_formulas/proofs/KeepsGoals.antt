@@ -15,7 +15,7 @@ use Rattle.tl_rules.specs.declared.rule.Rule.TheVariants.{Arity, GoalArg}
 use Rattle.tl_rules.specs.Named.{HasNames, HaveNames}
 use Rattle.tl_rules.specs.Parts.{offset_of, count, is_list, any_list, is_word, elements_of, rest_of}
 use Rattle.tl_rules.specs.Rules.{Break}
-use Rattle.tl_formulas.specs.declared.signature.Signature.{Signature}
+use Rattle.tl_formulas.specs.declared.signature.NameSignature.{NameSignature}
 use Rattle.tl_formulas.specs.Signatures.{Table, Scope, place_of, has_arity, is_in, unbound_breaks}
 use Rattle.tl_formulas.specs.Goals.{arguments_breaks, is_flat, is_miscounted_at, miscounted_breaks, other_goal_breaks, goal_breaks}
 use Rattle.tl_formulas.specs.MeaningOfTerms.{argument_meant, arguments_meant}
@@ -59,7 +59,7 @@ flat-takes table (list (more_forms (integer z s) rest) at) flat none = cc
 flat-takes table (list (more_forms (list fs s) rest) at) flat none = cc
 
 -- a place with a value under `goal`, and a fact that should not be there
-place-keeps : (names : List (List ℕ)) (g : Signature) (scope : Scope) (place value : FormTree) → length scope ≤ 32 → HasNames names place → HasNames names value → is_flat g.functions place ≡ true → miscounted_breaks g.functions place ++ (arguments_breaks scope (rest_of place) ++ unbound_breaks scope value) ≡ [] → BoundKeeps (seen g) (length names) (length scope) (bound.GoalPlace (call_place g.functions place) (arguments_meant names scope (rest_of place)) (argument_meant names scope value))
+place-keeps : (names : List (List ℕ)) (g : NameSignature) (scope : Scope) (place value : FormTree) → length scope ≤ 32 → HasNames names place → HasNames names value → is_flat g.functions place ≡ true → miscounted_breaks g.functions place ++ (arguments_breaks scope (rest_of place) ++ unbound_breaks scope value) ≡ [] → BoundKeeps (seen g) (length names) (length scope) (bound.GoalPlace (call_place g.functions place) (arguments_meant names scope (rest_of place)) (argument_meant names scope value))
 place-keeps names g scope place value few has_place has_value flat none =
     let parts = none-parts (miscounted_breaks g.functions place) (arguments_breaks scope (rest_of place) ++ unbound_breaks scope value) none in
     let later = none-parts (arguments_breaks scope (rest_of place)) (unbound_breaks scope value) parts.1 in
@@ -71,7 +71,7 @@ place-keeps names g scope place value few has_place has_value flat none =
       named = args-named _ _ (argument_meant names scope value ∷ arguments_meant names scope (rest_of place)) (last, args);
     }
 
-fact-keeps : (names : List (List ℕ)) (g : Signature) (scope : Scope) (fact : FormTree) → length scope ≤ 32 → HasNames names fact → is_flat g.predicates fact ≡ true → miscounted_breaks g.predicates fact ++ arguments_breaks scope (rest_of fact) ≡ [] → BoundKeeps (seen g) (length names) (length scope) (bound.GoalNot (call_place g.predicates fact) (arguments_meant names scope (rest_of fact)))
+fact-keeps : (names : List (List ℕ)) (g : NameSignature) (scope : Scope) (fact : FormTree) → length scope ≤ 32 → HasNames names fact → is_flat g.predicates fact ≡ true → miscounted_breaks g.predicates fact ++ arguments_breaks scope (rest_of fact) ≡ [] → BoundKeeps (seen g) (length names) (length scope) (bound.GoalNot (call_place g.predicates fact) (arguments_meant names scope (rest_of fact)))
 fact-keeps names g scope fact few has flat none =
     let parts = none-parts (miscounted_breaks g.predicates fact) (arguments_breaks scope (rest_of fact)) none in
     let args = arguments-keep names scope (rest_of fact) few (rest-has names fact has) parts.1 in
@@ -84,7 +84,7 @@ fact-keeps names g scope fact few has flat none =
 pub never-empty : (at : ℕ) → ◌≡◌ {A = List Break} ((GoalArg, at) ∷ []) [] → ⊥
 never-empty at h = cc
 
-other-keeps : (names : List (List ℕ)) (g : Signature) (scope : Scope) (fs : FormTrees) (at : ℕ) → length scope ≤ 32 → HaveNames names fs → other_goal_breaks g scope fs at ≡ [] → BoundKeeps (seen g) (length names) (length scope) (other_goal_meant names g scope fs)
+other-keeps : (names : List (List ℕ)) (g : NameSignature) (scope : Scope) (fs : FormTrees) (at : ℕ) → length scope ≤ 32 → HaveNames names fs → other_goal_breaks g scope fs at ≡ [] → BoundKeeps (seen g) (length names) (length scope) (other_goal_meant names g scope fs)
 other-keeps names g scope no_form at few has none = cc
 other-keeps names g scope (more_forms word no_form) at few has none = cc
 other-keeps names g scope (more_forms word (more_forms fact no_form)) at few has none =
@@ -96,7 +96,7 @@ other-keeps names g scope (more_forms word (more_forms place (more_forms value n
     place-keeps names g scope place value few has.1.0 has.1.1.0 (and_parts (is_word (codes "=") word) (is_flat g.functions place) both.0).1 tested.1
 other-keeps names g scope (more_forms word (more_forms place (more_forms value (more_forms f fs)))) at few has none = cc
 
-pub goal-keeps : (names : List (List ℕ)) (g : Signature) (scope : Scope) (f : FormTree) → length scope ≤ 32 → HasNames names f → goal_breaks g scope f ≡ [] → BoundKeeps (seen g) (length names) (length scope) (goal_meant names g scope f)
+pub goal-keeps : (names : List (List ℕ)) (g : NameSignature) (scope : Scope) (f : FormTree) → length scope ≤ 32 → HasNames names f → goal_breaks g scope f ≡ [] → BoundKeeps (seen g) (length names) (length scope) (goal_meant names g scope f)
 unfolding goal_breaks goal_meant
 goal-keeps names g scope f few has none =
     let parts = none-parts (miscounted_breaks g.predicates f) (cond (is_flat g.predicates f) (arguments_breaks scope (rest_of f)) (other_goal_breaks g scope (elements_of f) (offset_of f))) none in

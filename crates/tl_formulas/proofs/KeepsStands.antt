@@ -16,7 +16,7 @@ use Rattle.tl_syntax.specs.BoundVariables.{stands_in}
 use Rattle.tl_rules.specs.declared.rule.Rule.TheVariants.{Shape}
 use Rattle.tl_rules.specs.Parts.{is_variable, offset_of, count, is_list, any_list, is_word, elements_of, rest_of, occurs_in, occurs_in_any}
 use Rattle.tl_rules.specs.Symbols.{number_in}
-use Rattle.tl_formulas.specs.declared.signature.Signature.{Signature}
+use Rattle.tl_formulas.specs.declared.signature.NameSignature.{NameSignature}
 use Rattle.tl_formulas.specs.declared.words.FormulaWord.{FormulaWord}
 use Rattle.tl_formulas.specs.declared.words.FormulaWord.TheVariants as word
 use Rattle.tl_formulas.specs.Words.{formula_word}
@@ -85,7 +85,7 @@ module _ (names : List (List ℕ)) (scope : Scope) (text : List ℕ) (v : Var) (
   flat-stands table (list (more_forms (integer z s) rest) at) absent flat occurs = cc
   flat-stands table (list (more_forms (list fs s) rest) at) absent flat occurs = cc
 
-  module _ (g : Signature) (only : NamesOnly g) where
+  module _ (g : NameSignature) (only : NamesOnly g) where
     other-stands : (fs : FormTrees) (at : ℕ) → other_goal_breaks g scope fs at ≡ [] → occurs_in_any text fs ≡ true → stands_in v (other_goal_meant names g scope fs) ≡ true
     other-stands no_form at none occurs = cc
     other-stands (more_forms word no_form) at none occurs = cc

@@ -10,7 +10,7 @@ use Rattle.tl_syntax.specs.Trees.{TermTrees, FormulaTrees, verum, falsum, no_for
 use Rattle.tl_rules.specs.declared.rule.Rule.TheVariants.{Shape, Temporal}
 use Rattle.tl_rules.specs.Parts.{elements_of}
 use Rattle.tl_rules.specs.Rules.{breaks_if}
-use Rattle.tl_formulas.specs.declared.signature.Signature.{Signature}
+use Rattle.tl_formulas.specs.declared.signature.NameSignature.{NameSignature}
 use Rattle.tl_formulas.specs.declared.roles.FormulaRole.{FormulaRole}
 use Rattle.tl_formulas.specs.declared.roles.FormulaRole.TheVariants as role
 use Rattle.tl_formulas.specs.declared.words.FormulaWord.{FormulaWord}
@@ -39,7 +39,7 @@ goal-state (bound.GoalNot p xs) = tt
 goal-state (bound.Fact p xs) = tt
 goal-state (bound.Place f xs x) = tt
 
-atom-state : (g : Signature) (text : List ℕ) (ts : TermTrees) → IsState (atom_meant g text ts)
+atom-state : (g : NameSignature) (text : List ℕ) (ts : TermTrees) → IsState (atom_meant g text ts)
 atom-state g text ts = by_place (place_of g.predicates text)
   where
     by_place : (found : Option ℕ) → IsState (atom_at found (place_of g.definitions text) ts)
@@ -66,7 +66,7 @@ joined-state word.Until fs plain h = cc
 joined-state _ fs plain h = tt
 
 -- a word that breaks nothing where none may be temporal is not
-pub own-plain : (r : FormulaRole) (g : Signature) (scope : Scope) (w : FormulaWord) (text : List ℕ) (rest : FormTrees) (at : ℕ) → may_be_temporal r ≡ false → formula_list_breaks r g scope w text rest at ≡ [] → is_temporal w ≡ false
+pub own-plain : (r : FormulaRole) (g : NameSignature) (scope : Scope) (w : FormulaWord) (text : List ℕ) (rest : FormTrees) (at : ℕ) → may_be_temporal r ≡ false → formula_list_breaks r g scope w text rest at ≡ [] → is_temporal w ≡ false
 own-plain r g scope w text rest at never none =
     let parts = none-parts (breaks_if (not (has_formula_shape w rest)) Shape at) _ none in
     let later = none-parts (name_breaks g w text rest at) _ parts.1 in
@@ -86,7 +86,7 @@ below-plain role.Body h = refl
 mutual
   unfolding formula_breaks formula_meant
 
-  pub formula-state : (names : List (List ℕ)) (r : FormulaRole) (g : Signature) (scope : Scope) (f : FormTree) → may_be_temporal r ≡ false → formula_breaks r g scope f ≡ [] → IsState (formula_meant names g scope f)
+  pub formula-state : (names : List (List ℕ)) (r : FormulaRole) (g : NameSignature) (scope : Scope) (f : FormTree) → may_be_temporal r ≡ false → formula_breaks r g scope f ≡ [] → IsState (formula_meant names g scope f)
   formula-state names r g scope (symbol text at) never none = constant-state text
   formula-state names r g scope (integer z at) never none = tt
   formula-state names r g scope (list no_form at) never none = tt
@@ -96,7 +96,7 @@ mutual
   formula-state names r g scope (list (more_forms (integer z s) rest) at) never none = tt
   formula-state names r g scope (list (more_forms (list fs s) rest) at) never none = tt
 
-  formula_list-state : (names : List (List ℕ)) (r : FormulaRole) (g : Signature) (scope : Scope) (w : FormulaWord) (text : List ℕ) (fs : FormTrees) → may_be_temporal r ≡ false → is_temporal w ≡ false → formula_parts_breaks r g scope w fs ≡ [] → IsState (formula_list_meant names g scope w text fs)
+  formula_list-state : (names : List (List ℕ)) (r : FormulaRole) (g : NameSignature) (scope : Scope) (w : FormulaWord) (text : List ℕ) (fs : FormTrees) → may_be_temporal r ≡ false → is_temporal w ≡ false → formula_parts_breaks r g scope w fs ≡ [] → IsState (formula_list_meant names g scope w text fs)
   formula_list-state names r g scope word.Name text no_form never plain none = atom-state g text (terms_meant names g.functions scope no_form)
   formula_list-state names r g scope word.Name text (more_forms f fs) never plain none = atom-state g text (terms_meant names g.functions scope (more_forms f fs))
   formula_list-state names r g scope word.Goal text no_form never plain none = tt
@@ -122,7 +122,7 @@ mutual
       let parts = none-parts (formula_breaks r g scope f) (formulas_breaks r g scope fs) none in
       joined-state w (more_formulas (formula_meant names g scope f) (formulas_meant names g scope fs)) plain (formula-state names r g scope f never parts.0, formulas-state names r g scope fs never parts.1)
 
-  pub formulas-state : (names : List (List ℕ)) (r : FormulaRole) (g : Signature) (scope : Scope) (fs : FormTrees) → may_be_temporal r ≡ false → formulas_breaks r g scope fs ≡ [] → AreState (formulas_meant names g scope fs)
+  pub formulas-state : (names : List (List ℕ)) (r : FormulaRole) (g : NameSignature) (scope : Scope) (fs : FormTrees) → may_be_temporal r ≡ false → formulas_breaks r g scope fs ≡ [] → AreState (formulas_meant names g scope fs)
   formulas-state names r g scope no_form never none = tt
   formulas-state names r g scope (more_forms f fs) never none =
       let parts = none-parts (formula_breaks r g scope f) (formulas_breaks r g scope fs) none in

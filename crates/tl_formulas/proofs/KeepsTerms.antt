@@ -15,7 +15,7 @@ use Rattle.tl_syntax.specs.Signature.{Takes}
 use Rattle.tl_syntax.specs.Trees.{TermTree, TermTrees, value, no_term, more_terms}
 use Rattle.tl_rules.specs.Named.{HasNames, HaveNames}
 use Rattle.tl_rules.specs.Parts.{count}
-use Rattle.tl_formulas.specs.declared.signature.Signature.{Signature}
+use Rattle.tl_formulas.specs.declared.signature.NameSignature.{NameSignature}
 use Rattle.tl_formulas.specs.Words.{operation_of}
 use Rattle.tl_formulas.specs.Signatures.{Table, Scope, place_of}
 use Rattle.tl_formulas.specs.Terms.{term_call_breaks, term_breaks, term_list_breaks, terms_breaks}
@@ -57,7 +57,7 @@ second-keeps g n k no_term h = number-keeps g n k (pos 0)
 second-keeps g n k (more_terms t ts) h = first-keeps g n k ts (later-keep g n k t ts h)
 
 -- the term of a list that breaks nothing itself and whose terms keep all this
-call-keeps : (g : Signature) (n k : ℕ) (op : Option Op) (text : List ℕ) (rest : FormTrees) (at : ℕ) (ts : TermTrees) → term_call_breaks g.functions op text rest at ≡ [] → term_count ts ≡ count rest → TermsKeep (seen g) n k ts → TermKeeps (seen g) n k (call_meant op (place_of g.functions text) ts at)
+call-keeps : (g : NameSignature) (n k : ℕ) (op : Option Op) (text : List ℕ) (rest : FormTrees) (at : ℕ) (ts : TermTrees) → term_call_breaks g.functions op text rest at ≡ [] → term_count ts ≡ count rest → TermsKeep (seen g) n k ts → TermKeeps (seen g) n k (call_meant op (place_of g.functions text) ts at)
 unfolding TermFits term_slots TermIsNamed
 call-keeps g n k (Some op) text rest at ts none many h =
     let first = first-keeps (seen g) n k ts h in
@@ -77,12 +77,12 @@ terms-count names functions scope (more_forms f fs) = omega (linear, terms-count
 mutual
   unfolding term_breaks term_meant TermFits term_slots TermIsNamed
 
-  pub term-keeps : (names : List (List ℕ)) (g : Signature) (scope : Scope) (f : FormTree) → length scope ≤ 32 → HasNames names f → term_breaks g.functions scope f ≡ [] → TermKeeps (seen g) (length names) (length scope) (term_meant names g.functions scope f)
+  pub term-keeps : (names : List (List ℕ)) (g : NameSignature) (scope : Scope) (f : FormTree) → length scope ≤ 32 → HasNames names f → term_breaks g.functions scope f ≡ [] → TermKeeps (seen g) (length names) (length scope) (term_meant names g.functions scope f)
   term-keeps names g scope (symbol text at) few has none = argument-term (seen g) _ _ _ (symbol-keeps names scope text at few has none)
   term-keeps names g scope (integer z at) few has none = number-keeps (seen g) _ _ z
   term-keeps names g scope (list fs at) few has none = term_list-keeps names g scope fs at few has none
 
-  term_list-keeps : (names : List (List ℕ)) (g : Signature) (scope : Scope) (fs : FormTrees) (at : ℕ) → length scope ≤ 32 → HaveNames names fs → term_list_breaks g.functions scope fs at ≡ [] → TermKeeps (seen g) (length names) (length scope) (term_list_meant names g.functions scope fs at)
+  term_list-keeps : (names : List (List ℕ)) (g : NameSignature) (scope : Scope) (fs : FormTrees) (at : ℕ) → length scope ≤ 32 → HaveNames names fs → term_list_breaks g.functions scope fs at ≡ [] → TermKeeps (seen g) (length names) (length scope) (term_list_meant names g.functions scope fs at)
   term_list-keeps names g scope no_form at few has none = cc
   term_list-keeps names g scope (more_forms (symbol text s) rest) at few has none =
       let parts = none-parts (term_call_breaks g.functions (operation_of text) text rest at) (terms_breaks g.functions scope rest) none in
@@ -90,7 +90,7 @@ mutual
   term_list-keeps names g scope (more_forms (integer z s) rest) at few has none = cc
   term_list-keeps names g scope (more_forms (list fs s) rest) at few has none = cc
 
-  pub terms-keep : (names : List (List ℕ)) (g : Signature) (scope : Scope) (fs : FormTrees) → length scope ≤ 32 → HaveNames names fs → terms_breaks g.functions scope fs ≡ [] → TermsKeep (seen g) (length names) (length scope) (terms_meant names g.functions scope fs)
+  pub terms-keep : (names : List (List ℕ)) (g : NameSignature) (scope : Scope) (fs : FormTrees) → length scope ≤ 32 → HaveNames names fs → terms_breaks g.functions scope fs ≡ [] → TermsKeep (seen g) (length names) (length scope) (terms_meant names g.functions scope fs)
   terms-keep names g scope no_form few has none = record { fits = tt; below = tt; named = tt }
   terms-keep names g scope (more_forms f fs) few has none =
       let parts = none-parts (term_breaks g.functions scope f) (terms_breaks g.functions scope fs) none in

@@ -20,7 +20,7 @@ use Rattle.tl_rules.specs.Named.{HaveNames}
 use Rattle.tl_rules.specs.Parts.{is_variable, count, texts_of, occurs_in, are_variables}
 use Rattle.tl_rules.specs.Rules.{breaks_if}
 use Rattle.tl_rules.proofs.NamesHave.{number-below}
-use Rattle.tl_formulas.specs.declared.signature.Signature.{Signature}
+use Rattle.tl_formulas.specs.declared.signature.NameSignature.{NameSignature}
 use Rattle.tl_formulas.specs.Signatures.{Scope, slot_of}
 use Rattle.tl_formulas.specs.Bounds.{bound_breaks}
 use Rattle.tl_formulas.specs.Variables.{variable_breaks, variables_breaks}
@@ -108,7 +108,7 @@ neither p [] ys h i = i
 neither p (x ∷ xs) ys h i = let parts = or_parts (p x) (list_any p xs) h in or_from (p x) _ parts.0 (neither p xs ys parts.1 i)
 
 -- each of the variables of a list that breaks nothing stands in the bound
-variables-occur : (names : List (List ℕ)) (g : Signature) (scope earlier : Scope) (bound : FormTree) (fs : FormTrees) (all : Scope) → all ≡ scope ++ (earlier ++ texts_of fs) → NamesOnly g → are_variables fs ≡ true → variables_breaks earlier scope bound fs ≡ [] → bound_breaks g all bound ≡ [] → OccurIn (variables_from names (length scope + length earlier) (texts_of fs)) (bound_meant names g all bound)
+variables-occur : (names : List (List ℕ)) (g : NameSignature) (scope earlier : Scope) (bound : FormTree) (fs : FormTrees) (all : Scope) → all ≡ scope ++ (earlier ++ texts_of fs) → NamesOnly g → are_variables fs ≡ true → variables_breaks earlier scope bound fs ≡ [] → bound_breaks g all bound ≡ [] → OccurIn (variables_from names (length scope + length earlier) (texts_of fs)) (bound_meant names g all bound)
 variables-occur names g scope earlier bound no_form all is only are none right = tt
 variables-occur names g scope earlier bound (more_forms (symbol text at) fs) all is only are none right =
     let variables = and_parts (is_variable text) (are_variables fs) are in
@@ -125,7 +125,7 @@ variables-occur names g scope earlier bound (more_forms (integer z at) fs) all i
 variables-occur names g scope earlier bound (more_forms (list gs at) fs) all is only are none right = cc
 
 -- the variables of a list that breaks nothing, in the slots after those of the scope, fit with the bound
-pub variables-fit : (names : List (List ℕ)) (g : Signature) (around : List ℕ) (scope : Scope) (bound : FormTree) (fs : FormTrees)
+pub variables-fit : (names : List (List ℕ)) (g : NameSignature) (around : List ℕ) (scope : Scope) (bound : FormTree) (fs : FormTrees)
     → length scope + count fs ≤ 32 → Each (λ q. q < length scope) around → NamesOnly g → are_variables fs ≡ true → variables_breaks [] scope bound fs ≡ [] → bound_breaks g (scope ++ texts_of fs) bound ≡ []
     → BoundKeeps (seen g) (length names) (length (scope ++ texts_of fs)) (bound_meant names g (scope ++ texts_of fs) bound)
     → VariablesFit (seen g) around (variables_from names (length scope) (texts_of fs)) (bound_meant names g (scope ++ texts_of fs) bound)

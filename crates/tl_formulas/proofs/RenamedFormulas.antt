@@ -13,7 +13,7 @@ use Rattle.tl_syntax.specs.Lists.{Each}
 use Rattle.tl_syntax.specs.Trees.{TermTrees, FormulaTree, FormulaTrees, verum, falsum, compare, negation, for_all, for_some, next, always, eventually, until, within, during, no_formula, more_formulas, disjunction}
 use Rattle.tl_rules.specs.Named.{HasNames, HaveNames}
 use Rattle.tl_rules.specs.Parts.{elements_of, texts_of, rest_of}
-use Rattle.tl_formulas.specs.declared.signature.Signature.{Signature}
+use Rattle.tl_formulas.specs.declared.signature.NameSignature.{NameSignature}
 use Rattle.tl_formulas.specs.declared.words.EffectWord.{EffectWord}
 use Rattle.tl_formulas.specs.declared.words.EffectWord.TheVariants as effect
 use Rattle.tl_formulas.specs.declared.words.FormulaWord.{FormulaWord}
@@ -71,7 +71,7 @@ goal_formula-renamed m (bound.GoalFact p xs) = ap formula_of_goal (sym (m.bound_
 goal_formula-renamed m (bound.GoalPlace f xs x) = ap formula_of_goal (sym (m.bound_goal_place f xs x)) ∙ m.formula_goal_place f xs x
 goal_formula-renamed m (bound.GoalNot p xs) = ap formula_of_goal (sym (m.bound_goal_not p xs)) ∙ m.formula_goal_not p xs
 
-atom-renamed : (m : Renaming) (g : Signature) (text : List ℕ) (ts : TermTrees) → atom_meant g text (m.of_terms ts) ≡ m.of_formula (atom_meant g text ts)
+atom-renamed : (m : Renaming) (g : NameSignature) (text : List ℕ) (ts : TermTrees) → atom_meant g text (m.of_terms ts) ≡ m.of_formula (atom_meant g text ts)
 atom-renamed m g text ts = by_place (place_of g.predicates text)
   where
     by_place : (found : Option ℕ) → atom_at found (place_of g.definitions text) (m.of_terms ts) ≡ m.of_formula (atom_at found (place_of g.definitions text) ts)
@@ -108,7 +108,7 @@ module _ (old new : List (List ℕ)) (m : Renaming) (agrees : Agrees old new m) 
   mutual
     unfolding formula_meant
 
-    pub formula-renamed : (g : Signature) (scope : Scope) (f : FormTree) → HasNames old f → formula_meant new g scope f ≡ m.of_formula (formula_meant old g scope f)
+    pub formula-renamed : (g : NameSignature) (scope : Scope) (f : FormTree) → HasNames old f → formula_meant new g scope f ≡ m.of_formula (formula_meant old g scope f)
     formula-renamed g scope (symbol text at) has = constant-renamed m text
     formula-renamed g scope (integer z at) has = m.formula_verum
     formula-renamed g scope (list no_form at) has = m.formula_verum
@@ -116,7 +116,7 @@ module _ (old new : List (List ℕ)) (m : Renaming) (agrees : Agrees old new m) 
     formula-renamed g scope (list (more_forms (integer z s) rest) at) has = m.formula_verum
     formula-renamed g scope (list (more_forms (list fs s) rest) at) has = m.formula_verum
 
-    formula_list-renamed : (g : Signature) (scope : Scope) (w : FormulaWord) (text : List ℕ) (fs : FormTrees) → HaveNames old fs → formula_list_meant new g scope w text fs ≡ m.of_formula (formula_list_meant old g scope w text fs)
+    formula_list-renamed : (g : NameSignature) (scope : Scope) (w : FormulaWord) (text : List ℕ) (fs : FormTrees) → HaveNames old fs → formula_list_meant new g scope w text fs ≡ m.of_formula (formula_list_meant old g scope w text fs)
     formula_list-renamed g scope word.Name text no_form has = ap (atom_meant g text) (terms-renamed old new m agrees g.functions scope no_form has) ∙ atom-renamed m g text (terms_meant old g.functions scope no_form)
     formula_list-renamed g scope word.Name text (more_forms f fs) has = ap (atom_meant g text) (terms-renamed old new m agrees g.functions scope (more_forms f fs) has) ∙ atom-renamed m g text (terms_meant old g.functions scope (more_forms f fs))
     formula_list-renamed g scope word.Goal text no_form has = m.formula_verum
@@ -140,14 +140,14 @@ module _ (old new : List (List ℕ)) (m : Renaming) (agrees : Agrees old new m) 
     formula_list-renamed g scope w text (more_forms f fs) has =
         ap (under_word w) (ap₂ more_formulas (formula-renamed g scope f has.0) (formulas-renamed g scope fs has.1) ∙ m.formulas_more (formula_meant old g scope f) (formulas_meant old g scope fs)) ∙ under_word-renamed m w (more_formulas (formula_meant old g scope f) (formulas_meant old g scope fs))
 
-    pub formulas-renamed : (g : Signature) (scope : Scope) (fs : FormTrees) → HaveNames old fs → formulas_meant new g scope fs ≡ m.of_formulas (formulas_meant old g scope fs)
+    pub formulas-renamed : (g : NameSignature) (scope : Scope) (fs : FormTrees) → HaveNames old fs → formulas_meant new g scope fs ≡ m.of_formulas (formulas_meant old g scope fs)
     formulas-renamed g scope no_form has = m.formulas_none
     formulas-renamed g scope (more_forms f fs) has = ap₂ more_formulas (formula-renamed g scope f has.0) (formulas-renamed g scope fs has.1) ∙ m.formulas_more (formula_meant old g scope f) (formulas_meant old g scope fs)
 
   mutual
     unfolding effect_meant
 
-    pub effect-renamed : (g : Signature) (scope : Scope) (f : FormTree) → HasNames old f → effect_meant new g scope f ≡ m.of_effect (effect_meant old g scope f)
+    pub effect-renamed : (g : NameSignature) (scope : Scope) (f : FormTree) → HasNames old f → effect_meant new g scope f ≡ m.of_effect (effect_meant old g scope f)
     effect-renamed g scope (symbol text at) has = change-renamed m
     effect-renamed g scope (integer z at) has = change-renamed m
     effect-renamed g scope (list no_form at) has = change-renamed m
@@ -155,7 +155,7 @@ module _ (old new : List (List ℕ)) (m : Renaming) (agrees : Agrees old new m) 
     effect-renamed g scope (list (more_forms (integer z s) rest) at) has = change-renamed m
     effect-renamed g scope (list (more_forms (list fs s) rest) at) has = change-renamed m
 
-    effect_list-renamed : (g : Signature) (scope : Scope) (w : EffectWord) (fs : FormTrees) → HaveNames old fs → effect_list_meant new g scope w fs ≡ m.of_effect (effect_list_meant old g scope w fs)
+    effect_list-renamed : (g : NameSignature) (scope : Scope) (w : EffectWord) (fs : FormTrees) → HaveNames old fs → effect_list_meant new g scope w fs ≡ m.of_effect (effect_list_meant old g scope w fs)
     effect_list-renamed g scope w no_form has = change-renamed m
     effect_list-renamed g scope effect.Add (more_forms fact rest) has = ap (add (call_place g.predicates fact)) (terms-renamed old new m agrees g.functions scope (rest_of fact) (rest-has old fact has.0)) ∙ m.effect_add (call_place g.predicates fact) (terms_meant old g.functions scope (rest_of fact))
     effect_list-renamed g scope effect.Del (more_forms fact rest) has = ap (del (call_place g.predicates fact)) (terms-renamed old new m agrees g.functions scope (rest_of fact) (rest-has old fact has.0)) ∙ m.effect_del (call_place g.predicates fact) (terms_meant old g.functions scope (rest_of fact))
@@ -167,6 +167,6 @@ module _ (old new : List (List ℕ)) (m : Renaming) (agrees : Agrees old new m) 
         three each (variables_of-renamed scope vs has.0) (bound-renamed old new m agrees g (with_variables scope vs) b has.1.0) (effects-renamed g (with_variables scope vs) effects has.1.1) ∙ m.effect_each (variables_meant old scope vs) (bound_meant old g (with_variables scope vs) b) (effects_meant old g (with_variables scope vs) effects)
     effect_list-renamed g scope effect.Other (more_forms f fs) has = change-renamed m
 
-    pub effects-renamed : (g : Signature) (scope : Scope) (fs : FormTrees) → HaveNames old fs → effects_meant new g scope fs ≡ m.of_effects (effects_meant old g scope fs)
+    pub effects-renamed : (g : NameSignature) (scope : Scope) (fs : FormTrees) → HaveNames old fs → effects_meant new g scope fs ≡ m.of_effects (effects_meant old g scope fs)
     effects-renamed g scope no_form has = m.effects_none
     effects-renamed g scope (more_forms f fs) has = ap₂ more_effects (effect-renamed g scope f has.0) (effects-renamed g scope fs has.1) ∙ m.effects_more (effect_meant old g scope f) (effects_meant old g scope fs)

@@ -15,7 +15,7 @@ use Rattle.tl_syntax.specs.Trees.{TermTree, TermTrees, arith, no_term, more_term
 use Rattle.tl_rules.specs.Named.{HasNames, HaveNames}
 use Rattle.tl_rules.specs.Parts.{is_variable, elements_of, rest_of}
 use Rattle.tl_rules.specs.Symbols.{number_in}
-use Rattle.tl_formulas.specs.declared.signature.Signature.{Signature}
+use Rattle.tl_formulas.specs.declared.signature.NameSignature.{NameSignature}
 use Rattle.tl_formulas.specs.declared.words.FormulaWord.{FormulaWord}
 use Rattle.tl_formulas.specs.declared.words.FormulaWord.TheVariants as word
 use Rattle.tl_formulas.specs.Words.{operation_of, formula_word}
@@ -92,7 +92,7 @@ module _ (old new : List (List ℕ)) (m : Renaming) (agrees : Agrees old new m) 
   goal_place-renamed : (scope : Scope) (p : ℕ) (fs : FormTrees) (v : FormTree) → HaveNames old fs → HasNames old v → bound.GoalPlace p (arguments_meant new scope fs) (argument_meant new scope v) ≡ m.of_bound (bound.GoalPlace p (arguments_meant old scope fs) (argument_meant old scope v))
   goal_place-renamed scope p fs v has has_value = ap₂ (bound.GoalPlace p) (arguments-renamed scope fs has) (argument-renamed scope v has_value) ∙ m.bound_goal_place p (arguments_meant old scope fs) (argument_meant old scope v)
 
-  other-renamed : (g : Signature) (scope : Scope) (fs : FormTrees) → HaveNames old fs → other_goal_meant new g scope fs ≡ m.of_bound (other_goal_meant old g scope fs)
+  other-renamed : (g : NameSignature) (scope : Scope) (fs : FormTrees) → HaveNames old fs → other_goal_meant new g scope fs ≡ m.of_bound (other_goal_meant old g scope fs)
   other-renamed g scope no_form has = nothing-renamed
   other-renamed g scope (more_forms w no_form) has = nothing-renamed
   other-renamed g scope (more_forms w (more_forms fact no_form)) has =
@@ -100,7 +100,7 @@ module _ (old new : List (List ℕ)) (m : Renaming) (agrees : Agrees old new m) 
   other-renamed g scope (more_forms w (more_forms target (more_forms v no_form))) has = goal_place-renamed scope (call_place g.functions target) (rest_of target) v (rest-has old target has.1.0) has.1.1.0
   other-renamed g scope (more_forms w (more_forms target (more_forms v (more_forms f fs)))) has = nothing-renamed
 
-  pub goal-renamed : (g : Signature) (scope : Scope) (f : FormTree) → HasNames old f → goal_meant new g scope f ≡ m.of_bound (goal_meant old g scope f)
+  pub goal-renamed : (g : NameSignature) (scope : Scope) (f : FormTree) → HasNames old f → goal_meant new g scope f ≡ m.of_bound (goal_meant old g scope f)
   unfolding goal_meant
   goal-renamed g scope f has = by_test (is_flat g.predicates f)
     where
@@ -108,13 +108,13 @@ module _ (old new : List (List ℕ)) (m : Renaming) (agrees : Agrees old new m) 
       by_test true = ap (bound.GoalFact (call_place g.predicates f)) (arguments-renamed scope (rest_of f) (rest-has old f has)) ∙ m.bound_goal_fact (call_place g.predicates f) (arguments_meant old scope (rest_of f))
       by_test false = other-renamed g scope (elements_of f) (elements-have old f has)
 
-  equality-renamed : (g : Signature) (scope : Scope) (fs : FormTrees) → HaveNames old fs → equality_meant new g scope fs ≡ m.of_bound (equality_meant old g scope fs)
+  equality-renamed : (g : NameSignature) (scope : Scope) (fs : FormTrees) → HaveNames old fs → equality_meant new g scope fs ≡ m.of_bound (equality_meant old g scope fs)
   equality-renamed g scope no_form has = nothing-renamed
   equality-renamed g scope (more_forms target no_form) has = nothing-renamed
   equality-renamed g scope (more_forms target (more_forms v no_form)) has = place-renamed scope (call_place g.functions target) (rest_of target) v (rest-has old target has.0) has.1.0
   equality-renamed g scope (more_forms target (more_forms v (more_forms f fs))) has = nothing-renamed
 
-  goal_bound-renamed : (g : Signature) (scope : Scope) (fs : FormTrees) → HaveNames old fs → goal_bound_meant new g scope fs ≡ m.of_bound (goal_bound_meant old g scope fs)
+  goal_bound-renamed : (g : NameSignature) (scope : Scope) (fs : FormTrees) → HaveNames old fs → goal_bound_meant new g scope fs ≡ m.of_bound (goal_bound_meant old g scope fs)
   goal_bound-renamed g scope no_form has = nothing-renamed
   goal_bound-renamed g scope (more_forms f no_form) has = goal-renamed g scope f has.0
   goal_bound-renamed g scope (more_forms f (more_forms h fs)) has = nothing-renamed
@@ -122,12 +122,12 @@ module _ (old new : List (List ℕ)) (m : Renaming) (agrees : Agrees old new m) 
   fact-renamed : (scope : Scope) (p : ℕ) (rest : FormTrees) → HaveNames old rest → bound.Fact p (arguments_meant new scope rest) ≡ m.of_bound (bound.Fact p (arguments_meant old scope rest))
   fact-renamed scope p rest has = ap (bound.Fact p) (arguments-renamed scope rest has) ∙ m.bound_fact p (arguments_meant old scope rest)
 
-  bound_call-renamed : (g : Signature) (scope : Scope) (w : FormulaWord) (text : List ℕ) (rest : FormTrees) → HaveNames old rest → bound_call_meant new g scope w text rest ≡ m.of_bound (bound_call_meant old g scope w text rest)
+  bound_call-renamed : (g : NameSignature) (scope : Scope) (w : FormulaWord) (text : List ℕ) (rest : FormTrees) → HaveNames old rest → bound_call_meant new g scope w text rest ≡ m.of_bound (bound_call_meant old g scope w text rest)
   bound_call-renamed g scope (word.Compare cmp.Eq) text rest has = equality-renamed g scope rest has
   bound_call-renamed g scope word.Goal text rest has = goal_bound-renamed g scope rest has
   bound_call-renamed g scope _ text rest has = fact-renamed scope (unwrap_or (place_of g.predicates text) 0) rest has
 
-  pub bound-renamed : (g : Signature) (scope : Scope) (f : FormTree) → HasNames old f → bound_meant new g scope f ≡ m.of_bound (bound_meant old g scope f)
+  pub bound-renamed : (g : NameSignature) (scope : Scope) (f : FormTree) → HasNames old f → bound_meant new g scope f ≡ m.of_bound (bound_meant old g scope f)
   unfolding bound_meant
   bound-renamed g scope (symbol text at) has = nothing-renamed
   bound-renamed g scope (integer z at) has = nothing-renamed
@@ -136,6 +136,6 @@ module _ (old new : List (List ℕ)) (m : Renaming) (agrees : Agrees old new m) 
   bound-renamed g scope (list (more_forms (integer z s) rest) at) has = nothing-renamed
   bound-renamed g scope (list (more_forms (list fs s) rest) at) has = nothing-renamed
 
-  pub bounds-renamed : (g : Signature) (scope : Scope) (fs : FormTrees) → HaveNames old fs → bounds_meant new g scope fs ≡ map m.of_bound (bounds_meant old g scope fs)
+  pub bounds-renamed : (g : NameSignature) (scope : Scope) (fs : FormTrees) → HaveNames old fs → bounds_meant new g scope fs ≡ map m.of_bound (bounds_meant old g scope fs)
   bounds-renamed g scope no_form has = refl
   bounds-renamed g scope (more_forms f fs) has = ap₂ (λ (b : Bound) (bs : List Bound). b ∷ bs) (bound-renamed g scope f has.0) (bounds-renamed g scope fs has.1)

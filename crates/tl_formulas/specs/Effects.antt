@@ -5,7 +5,7 @@ use Rattle.tl_formulas.specs.declared.words.EffectWord.{EffectWord}
 use Rattle.tl_formulas.specs.declared.words.EffectWord.TheVariants as effect
 use Rattle.tl_formulas.specs.declared.roles.FormulaRole.TheVariants as role
 use Rattle.tl_rules.specs.declared.rule.Rule.TheVariants.{Shape, Limit}
-use Rattle.tl_formulas.specs.declared.signature.Signature.{Signature}
+use Rattle.tl_formulas.specs.declared.signature.NameSignature.{NameSignature}
 use Rattle.tl_rules.specs.Rules.{Break, breaks_if}
 use Rattle.tl_formulas.specs.Words.{effect_word}
 use Rattle.tl_rules.specs.Parts.{count, is_call, is_variable_list, elements_of}
@@ -61,7 +61,7 @@ target_breaks table functions scope _ = []
 
 unfoldable mutual
   -- what an effect breaks, with its parts
-  pub effect_breaks : Signature → Scope → FormTree → List Break
+  pub effect_breaks : NameSignature → Scope → FormTree → List Break
   effect_breaks g scope (symbol text at) = (Shape, at) ∷ []
   effect_breaks g scope (integer z at) = (Shape, at) ∷ []
   effect_breaks g scope (list no_form at) = (Shape, at) ∷ []
@@ -72,7 +72,7 @@ unfoldable mutual
 
   -- what the elements after such a first word break: a fact, a place and a term, a condition and effects,
   -- or variables with their bound and effects
-  pub effect_parts_breaks : Signature → Scope → EffectWord → FormTrees → List Break
+  pub effect_parts_breaks : NameSignature → Scope → EffectWord → FormTrees → List Break
   effect_parts_breaks g scope w no_form = []
   effect_parts_breaks g scope effect.Add (more_forms fact rest) = target_breaks g.predicates g.functions scope fact
   effect_parts_breaks g scope effect.Del (more_forms fact rest) = target_breaks g.predicates g.functions scope fact
@@ -87,6 +87,6 @@ unfoldable mutual
   effect_parts_breaks g scope effect.Other (more_forms f fs) = []
 
   -- what effects break
-  pub effects_breaks : Signature → Scope → FormTrees → List Break
+  pub effects_breaks : NameSignature → Scope → FormTrees → List Break
   effects_breaks g scope no_form = []
   effects_breaks g scope (more_forms f fs) = effect_breaks g scope f ++ effects_breaks g scope fs

@@ -7,7 +7,7 @@ use Rattle.tl_formulas.specs.declared.words.FormulaWord.TheVariants as word
 use Rattle.tl_formulas.specs.declared.roles.FormulaRole.{FormulaRole}
 use Rattle.tl_formulas.specs.declared.roles.FormulaRole.TheVariants as role
 use Rattle.tl_rules.specs.declared.rule.Rule.TheVariants.{Shape, Temporal, Limit}
-use Rattle.tl_formulas.specs.declared.signature.Signature.{Signature}
+use Rattle.tl_formulas.specs.declared.signature.NameSignature.{NameSignature}
 use Rattle.tl_rules.specs.Rules.{Break, breaks_if}
 use Rattle.tl_formulas.specs.Words.{formula_word}
 use Rattle.tl_rules.specs.Parts.{count, is_integer, is_variable_list, is_within, is_any_deeper}
@@ -75,7 +75,7 @@ is_too_deep role.State fs = false
 is_too_deep role.Body fs = is_any_deeper 23 fs
 
 -- what a list breaks that begins with a name: it should be a predicate's or a definition's
-abbrev pub atom_breaks : Signature → List ℕ → ℕ → ℕ → List Break
+abbrev pub atom_breaks : NameSignature → List ℕ → ℕ → ℕ → List Break
 atom_breaks g text n at = atom_breaks_at (place_of g.predicates text)
   where
     atom_breaks_at : Option ℕ → List Break
@@ -83,7 +83,7 @@ atom_breaks g text n at = atom_breaks_at (place_of g.predicates text)
     atom_breaks_at None = call_breaks g.definitions text n at
 
 -- what the name of an atom breaks, and its number of arguments
-abbrev pub name_breaks : Signature → FormulaWord → List ℕ → FormTrees → ℕ → List Break
+abbrev pub name_breaks : NameSignature → FormulaWord → List ℕ → FormTrees → ℕ → List Break
 name_breaks g word.Name text rest at = atom_breaks g text (count rest) at
 name_breaks g _ text rest at = []
 
@@ -99,14 +99,14 @@ steps_breaks (integer z at) = breaks_if (not (is_within 0 100000 z)) Limit at
 steps_breaks _ = []
 
 -- what the list of a formula breaks itself, where it has the shape that its first word asks for
-abbrev pub shaped_list_breaks : FormulaRole → Signature → Scope → FormulaWord → List ℕ → FormTrees → ℕ → List Break
+abbrev pub shaped_list_breaks : FormulaRole → NameSignature → Scope → FormulaWord → List ℕ → FormTrees → ℕ → List Break
 shaped_list_breaks r g scope w text rest at =
     name_breaks g w text rest at
     ++ (breaks_if (is_temporal w && not (may_be_temporal r)) Temporal at
     ++ breaks_if (is_crowded_by scope w rest || is_too_deep r rest) Limit at)
 
 -- what the list of a formula breaks itself
-abbrev pub formula_list_breaks : FormulaRole → Signature → Scope → FormulaWord → List ℕ → FormTrees → ℕ → List Break
+abbrev pub formula_list_breaks : FormulaRole → NameSignature → Scope → FormulaWord → List ℕ → FormTrees → ℕ → List Break
 formula_list_breaks r g scope w text rest at =
     breaks_if (not (has_formula_shape w rest)) Shape at ++ shaped_list_breaks r g scope w text rest at
 
@@ -115,18 +115,18 @@ abbrev pub is_constant : List ℕ → Bool
 is_constant text = bytes_eq text (codes "true") || bytes_eq text (codes "false")
 
 -- what arguments of `goal` break
-abbrev pub goals_breaks : Signature → Scope → FormTrees → List Break
+abbrev pub goals_breaks : NameSignature → Scope → FormTrees → List Break
 goals_breaks g scope no_form = []
 goals_breaks g scope (more_forms f fs) = goal_breaks g scope f ++ goals_breaks g scope fs
 
 -- what variables and their bound break
-abbrev pub binding_breaks : Signature → Scope → FormTree → FormTree → List Break
+abbrev pub binding_breaks : NameSignature → Scope → FormTree → FormTree → List Break
 binding_breaks g scope vs b =
     variables_breaks [] scope b (elements_of vs) ++ bound_breaks g (with_variables scope vs) b
 
 unfoldable mutual
   -- what a formula breaks, with its parts
-  pub formula_breaks : FormulaRole → Signature → Scope → FormTree → List Break
+  pub formula_breaks : FormulaRole → NameSignature → Scope → FormTree → List Break
   formula_breaks r g scope (symbol text at) = breaks_if (not (is_constant text)) Shape at
   formula_breaks r g scope (integer z at) = (Shape, at) ∷ []
   formula_breaks r g scope (list no_form at) = (Shape, at) ∷ []
@@ -137,7 +137,7 @@ unfoldable mutual
 
   -- what the elements after such a first word break: the argument of `goal`, terms, variables with their bound
   -- and a formula, a number of steps and a formula, or formulas
-  pub formula_parts_breaks : FormulaRole → Signature → Scope → FormulaWord → FormTrees → List Break
+  pub formula_parts_breaks : FormulaRole → NameSignature → Scope → FormulaWord → FormTrees → List Break
   formula_parts_breaks r g scope w no_form = []
   formula_parts_breaks r g scope word.Goal (more_forms f fs) = goals_breaks g scope (more_forms f fs)
   formula_parts_breaks r g scope (word.Compare c) (more_forms f fs) = terms_breaks g.functions scope (more_forms f fs)
@@ -155,6 +155,6 @@ unfoldable mutual
   formula_parts_breaks r g scope _ (more_forms f fs) = formula_breaks r g scope f ++ formulas_breaks r g scope fs
 
   -- what formulas break
-  pub formulas_breaks : FormulaRole → Signature → Scope → FormTrees → List Break
+  pub formulas_breaks : FormulaRole → NameSignature → Scope → FormTrees → List Break
   formulas_breaks r g scope no_form = []
   formulas_breaks r g scope (more_forms f fs) = formula_breaks r g scope f ++ formulas_breaks r g scope fs

@@ -2,7 +2,7 @@
 use Rattle.std.specs.Prelude.{ℕ, List, [], ◌∷◌, ◌++◌, Bool, false, ◌&&◌, not, Option, Some, None, if◌then◌else◌, codes}
 use Rattle.tl_sexpr.specs.Tree.{FormTree, FormTrees, symbol, list, no_form, more_forms}
 use Rattle.tl_rules.specs.declared.rule.Rule.TheVariants.{Arity, GoalArg}
-use Rattle.tl_formulas.specs.declared.signature.Signature.{Signature}
+use Rattle.tl_formulas.specs.declared.signature.NameSignature.{NameSignature}
 use Rattle.tl_rules.specs.Rules.{Break, breaks_if}
 use Rattle.tl_rules.specs.Parts.{offset_of, count, is_list, any_list, is_word, elements_of, rest_of}
 use Rattle.tl_formulas.specs.Signatures.{Table, Scope, place_of, has_arity, is_in, unbound_breaks}
@@ -29,7 +29,7 @@ miscounted_breaks table (list (more_forms (symbol text _) rest) at) =
 miscounted_breaks table _ = []
 
 -- what an argument of `goal` breaks that is no fact, by its elements and its offset: it should be `(= (f a*) a)` or `(not (p a*))`
-abbrev pub other_goal_breaks : Signature → Scope → FormTrees → ℕ → List Break
+abbrev pub other_goal_breaks : NameSignature → Scope → FormTrees → ℕ → List Break
 other_goal_breaks g scope (more_forms word (more_forms place (more_forms value no_form))) at =
     if is_word (codes "=") word && is_flat g.functions place && not (is_list value)
     then miscounted_breaks g.functions place ++ (arguments_breaks scope (rest_of place) ++ unbound_breaks scope value)
@@ -41,7 +41,7 @@ other_goal_breaks g scope (more_forms word (more_forms fact no_form)) at =
 other_goal_breaks g scope _ at = (GoalArg, at) ∷ []
 
 -- what an argument of `goal` breaks, with its parts
-unfoldable pub goal_breaks : Signature → Scope → FormTree → List Break
+unfoldable pub goal_breaks : NameSignature → Scope → FormTree → List Break
 goal_breaks g scope f =
     miscounted_breaks g.predicates f
     ++ (if is_flat g.predicates f then arguments_breaks scope (rest_of f)

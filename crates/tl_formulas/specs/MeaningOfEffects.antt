@@ -5,7 +5,7 @@ use Rattle.tl_syntax.specs.Trees.{TermTrees, verum}
 use Rattle.tl_syntax.specs.Effects.{EffectTree, EffectTrees, add, del, assign, when, each, no_effect, more_effects}
 use Rattle.tl_formulas.specs.declared.words.EffectWord.{EffectWord}
 use Rattle.tl_formulas.specs.declared.words.EffectWord.TheVariants as effect
-use Rattle.tl_formulas.specs.declared.signature.Signature.{Signature}
+use Rattle.tl_formulas.specs.declared.signature.NameSignature.{NameSignature}
 use Rattle.tl_formulas.specs.Words.{effect_word}
 use Rattle.tl_rules.specs.Parts.{rest_of}
 use Rattle.tl_formulas.specs.Signatures.{Table, Scope}
@@ -24,7 +24,7 @@ no_change = when verum no_effect
 
 unfoldable mutual
   -- an effect
-  pub effect_meant : List (List ℕ) → Signature → Scope → FormTree → EffectTree
+  pub effect_meant : List (List ℕ) → NameSignature → Scope → FormTree → EffectTree
   effect_meant names g scope (symbol text at) = no_change
   effect_meant names g scope (integer z at) = no_change
   effect_meant names g scope (list no_form at) = no_change
@@ -33,7 +33,7 @@ unfoldable mutual
   effect_meant names g scope (list (more_forms (list fs _) rest) at) = no_change
 
   -- an effect by its first word and the elements after it
-  pub effect_list_meant : List (List ℕ) → Signature → Scope → EffectWord → FormTrees → EffectTree
+  pub effect_list_meant : List (List ℕ) → NameSignature → Scope → EffectWord → FormTrees → EffectTree
   effect_list_meant names g scope w no_form = no_change
   effect_list_meant names g scope effect.Add (more_forms fact rest) =
       add (call_place g.predicates fact) (terms_meant names g.functions scope (rest_of fact))
@@ -51,6 +51,6 @@ unfoldable mutual
   effect_list_meant names g scope effect.Other (more_forms f fs) = no_change
 
   -- effects
-  pub effects_meant : List (List ℕ) → Signature → Scope → FormTrees → EffectTrees
+  pub effects_meant : List (List ℕ) → NameSignature → Scope → FormTrees → EffectTrees
   effects_meant names g scope no_form = no_effect
   effects_meant names g scope (more_forms f fs) = more_effects (effect_meant names g scope f) (effects_meant names g scope fs)

@@ -10,7 +10,7 @@ use Rattle.tl_syntax.specs.Trees.{goal_fact, goal_place, goal_not, negation, con
 use Rattle.tl_syntax.specs.Trees.{for_some, next, always, eventually, until, within, during, no_formula, more_formulas}
 use Rattle.tl_formulas.specs.declared.words.FormulaWord.{FormulaWord}
 use Rattle.tl_formulas.specs.declared.words.FormulaWord.TheVariants as word
-use Rattle.tl_formulas.specs.declared.signature.Signature.{Signature}
+use Rattle.tl_formulas.specs.declared.signature.NameSignature.{NameSignature}
 use Rattle.tl_formulas.specs.Words.{formula_word}
 use Rattle.tl_rules.specs.Parts.{natural, elements_of, texts_of}
 use Rattle.tl_formulas.specs.Signatures.{Scope, place_of}
@@ -45,7 +45,7 @@ abbrev pub atom_at : Option ℕ → Option ℕ → TermTrees → FormulaTree
 atom_at (Some p) definition ts = atom p ts
 atom_at None definition ts = defined (unwrap_or definition 0) ts
 
-abbrev pub atom_meant : Signature → List ℕ → TermTrees → FormulaTree
+abbrev pub atom_meant : NameSignature → List ℕ → TermTrees → FormulaTree
 atom_meant g text ts = atom_at (place_of g.predicates text) (place_of g.definitions text) ts
 
 -- the first and the second of formulas
@@ -93,7 +93,7 @@ constant_meant text = if bytes_eq text (codes "true") then verum else falsum
 
 unfoldable mutual
   -- a formula
-  pub formula_meant : List (List ℕ) → Signature → Scope → FormTree → FormulaTree
+  pub formula_meant : List (List ℕ) → NameSignature → Scope → FormTree → FormulaTree
   formula_meant names g scope (symbol text at) = constant_meant text
   formula_meant names g scope (integer z at) = verum
   formula_meant names g scope (list no_form at) = verum
@@ -102,7 +102,7 @@ unfoldable mutual
   formula_meant names g scope (list (more_forms (list fs _) rest) at) = verum
 
   -- a formula by its first word and the elements after it
-  pub formula_list_meant : List (List ℕ) → Signature → Scope → FormulaWord → List ℕ → FormTrees → FormulaTree
+  pub formula_list_meant : List (List ℕ) → NameSignature → Scope → FormulaWord → List ℕ → FormTrees → FormulaTree
   formula_list_meant names g scope word.Name text no_form = atom_meant g text (terms_meant names g.functions scope no_form)
   formula_list_meant names g scope word.Name text (more_forms f fs) =
       atom_meant g text (terms_meant names g.functions scope (more_forms f fs))
@@ -133,6 +133,6 @@ unfoldable mutual
       under_word w (more_formulas (formula_meant names g scope f) (formulas_meant names g scope fs))
 
   -- formulas
-  pub formulas_meant : List (List ℕ) → Signature → Scope → FormTrees → FormulaTrees
+  pub formulas_meant : List (List ℕ) → NameSignature → Scope → FormTrees → FormulaTrees
   formulas_meant names g scope no_form = no_formula
   formulas_meant names g scope (more_forms f fs) = more_formulas (formula_meant names g scope f) (formulas_meant names g scope fs)

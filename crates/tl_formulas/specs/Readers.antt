@@ -31,7 +31,7 @@ use Rattle.tl_formulas.specs.declared.goals.GoalArgument.TheVariants as goal
 use Rattle.tl_formulas.specs.declared.goals.Flat.{Flat}
 use Rattle.tl_formulas.specs.declared.roles.FormulaRole.{FormulaRole}
 use Rattle.tl_formulas.specs.declared.shapes.Pair.{Pair}
-use Rattle.tl_formulas.specs.declared.signature.Signature.{Signature}
+use Rattle.tl_formulas.specs.declared.signature.NameSignature.{NameSignature}
 use Rattle.tl_formulas.specs.declared.shapes.Binding.{Binding}
 use Rattle.tl_formulas.specs.declared.bindings.BoundVariables.{BoundVariables}
 use Rattle.tl_formulas.specs.declared.shapes.FormulaParts.{FormulaParts}
@@ -58,26 +58,26 @@ use Rattle.tl_formulas.specs.MeaningOfFormulas.{formula_meant, formula_list_mean
 use Rattle.tl_formulas.specs.MeaningOfEffects.{target_meant, effect_meant, effect_list_meant, effects_meant}
 
 -- an argument, and arguments
-abbrev pub ReadsArgument : Vocabulary Signature → Scope → FormTree → Result Arg FormFault → Type 0
+abbrev pub ReadsArgument : Vocabulary NameSignature → Scope → FormTree → Result Arg FormFault → Type 0
 ReadsArgument v scope f result = Reads (λ (x : Arg). x) result (unbound_breaks scope f) (argument_meant v.names.now scope f)
 
-abbrev pub ReadsArguments : Vocabulary Signature → Scope → FormTrees → Result (List Arg) FormFault → Type 0
+abbrev pub ReadsArguments : Vocabulary NameSignature → Scope → FormTrees → Result (List Arg) FormFault → Type 0
 ReadsArguments v scope fs result =
     Reads (λ (xs : List Arg). xs) result (arguments_breaks scope fs) (arguments_meant v.names.now scope fs)
 
 -- a term, and terms
-abbrev pub ReadsTerm : Vocabulary Signature → Scope → FormTree → Result Term FormFault → Type 0
+abbrev pub ReadsTerm : Vocabulary NameSignature → Scope → FormTree → Result Term FormFault → Type 0
 ReadsTerm v scope f result =
     Reads tree_of_term result (term_breaks v.declared.now.functions scope f) (term_meant v.names.now v.declared.now.functions scope f)
 
-abbrev pub ReadsTerms : Vocabulary Signature → Scope → FormTrees → Result Terms FormFault → Type 0
+abbrev pub ReadsTerms : Vocabulary NameSignature → Scope → FormTrees → Result Terms FormFault → Type 0
 ReadsTerms v scope fs result =
     Reads tree_of_terms result
     (terms_breaks v.declared.now.functions scope fs)
     (terms_meant v.names.now v.declared.now.functions scope fs)
 
 -- the term of a list whose first word names this operation, or a function
-abbrev pub ReadsTermCall : Vocabulary Signature → Scope → Option Op → Call → Result Term FormFault → Type 0
+abbrev pub ReadsTermCall : Vocabulary NameSignature → Scope → Option Op → Call → Result Term FormFault → Type 0
 ReadsTermCall v scope op call result =
     let functions = v.declared.now.functions in
     let rest = trees_in call.rest.now in
@@ -99,7 +99,7 @@ pub record IsFlat (table : Table) (f : FormTree) (parts : Flat) : Type 0 where
   pub plain : any_list (trees_in parts.rest.now) ≡ false
 
 -- an argument `(= (f a*) a)` of `goal`, by the place and the value
-abbrev pub ReadsGoalPlace : Vocabulary Signature → Scope → FormTree → FormTree → Result GoalArgument FormFault → Type 0
+abbrev pub ReadsGoalPlace : Vocabulary NameSignature → Scope → FormTree → FormTree → Result GoalArgument FormFault → Type 0
 ReadsGoalPlace v scope place value result =
     let functions = v.declared.now.functions in
     Reads bound_of_goal result
@@ -108,7 +108,7 @@ ReadsGoalPlace v scope place value result =
     (argument_meant v.names.now scope value))
 
 -- an argument `(not (p a*))` of `goal`, by the fact
-abbrev pub ReadsGoalNot : Vocabulary Signature → Scope → FormTree → Result GoalArgument FormFault → Type 0
+abbrev pub ReadsGoalNot : Vocabulary NameSignature → Scope → FormTree → Result GoalArgument FormFault → Type 0
 ReadsGoalNot v scope fact result =
     let predicates = v.declared.now.predicates in
     Reads bound_of_goal result
@@ -116,24 +116,24 @@ ReadsGoalNot v scope fact result =
     (bound.GoalNot (call_place predicates fact) (arguments_meant v.names.now scope (rest_of fact)))
 
 -- an argument of `goal`, and one that is no fact, by its elements and its offset
-abbrev pub ReadsGoal : Vocabulary Signature → Scope → FormTree → Result GoalArgument FormFault → Type 0
+abbrev pub ReadsGoal : Vocabulary NameSignature → Scope → FormTree → Result GoalArgument FormFault → Type 0
 ReadsGoal v scope f result =
     Reads bound_of_goal result (goal_breaks v.declared.now scope f) (goal_meant v.names.now v.declared.now scope f)
 
-abbrev pub ReadsOtherGoal : Vocabulary Signature → Scope → FormTrees → ℕ → Result GoalArgument FormFault → Type 0
+abbrev pub ReadsOtherGoal : Vocabulary NameSignature → Scope → FormTrees → ℕ → Result GoalArgument FormFault → Type 0
 ReadsOtherGoal v scope fs at result =
     Reads bound_of_goal result (other_goal_breaks v.declared.now scope fs at) (other_goal_meant v.names.now v.declared.now scope fs)
 
 -- a bound, bounds, and the bound of a list with this first word
-abbrev pub ReadsBound : Vocabulary Signature → Scope → FormTree → Result Bound FormFault → Type 0
+abbrev pub ReadsBound : Vocabulary NameSignature → Scope → FormTree → Result Bound FormFault → Type 0
 ReadsBound v scope f result =
     Reads (λ (x : Bound). x) result (bound_breaks v.declared.now scope f) (bound_meant v.names.now v.declared.now scope f)
 
-abbrev pub ReadsBounds : Vocabulary Signature → Scope → FormTrees → Result (List Bound) FormFault → Type 0
+abbrev pub ReadsBounds : Vocabulary NameSignature → Scope → FormTrees → Result (List Bound) FormFault → Type 0
 ReadsBounds v scope fs result =
     Reads (λ (xs : List Bound). xs) result (bounds_breaks v.declared.now scope fs) (bounds_meant v.names.now v.declared.now scope fs)
 
-abbrev pub ReadsBoundCall : Vocabulary Signature → Scope → FormulaWord → Call → Result Bound FormFault → Type 0
+abbrev pub ReadsBoundCall : Vocabulary NameSignature → Scope → FormulaWord → Call → Result Bound FormFault → Type 0
 ReadsBoundCall v scope word call result =
     let rest = trees_in call.rest.now in
     Reads (λ (x : Bound). x) result
@@ -141,13 +141,13 @@ ReadsBoundCall v scope word call result =
     (bound_call_meant v.names.now v.declared.now scope word call.word.now rest)
 
 -- the bound `(= X a)`, by X and a and the offset
-abbrev pub ReadsPlaceBound : Vocabulary Signature → Scope → FormTree → FormTree → ℕ → Result Bound FormFault → Type 0
+abbrev pub ReadsPlaceBound : Vocabulary NameSignature → Scope → FormTree → FormTree → ℕ → Result Bound FormFault → Type 0
 ReadsPlaceBound v scope place value at result =
     let rest = more_forms place (more_forms value no_form) in
     Reads (λ (x : Bound). x) result (equality_breaks v.declared.now scope rest at) (equality_meant v.names.now v.declared.now scope rest)
 
 -- the place in a table of a list's first word, and the arguments after it, none of which is a list
-abbrev pub ReadsFlat : Vocabulary Signature → Scope → Table → Call → Result (ℕ × List Arg) FormFault → Type 0
+abbrev pub ReadsFlat : Vocabulary NameSignature → Scope → Table → Call → Result (ℕ × List Arg) FormFault → Type 0
 ReadsFlat v scope table call result =
     let rest = trees_in call.rest.now in
     Reads (λ (x : ℕ × List Arg). x) result
@@ -155,23 +155,23 @@ ReadsFlat v scope table call result =
     (unwrap_or (place_of table call.word.now) 0, arguments_meant v.names.now scope rest)
 
 -- a formula in this role, and formulas
-abbrev pub ReadsFormula : Vocabulary Signature → FormulaRole → Scope → FormTree → Result Formula FormFault → Type 0
+abbrev pub ReadsFormula : Vocabulary NameSignature → FormulaRole → Scope → FormTree → Result Formula FormFault → Type 0
 ReadsFormula v role scope f result =
     Reads tree_of_formula result (formula_breaks role v.declared.now scope f) (formula_meant v.names.now v.declared.now scope f)
 
-abbrev pub ReadsFormulas : Vocabulary Signature → FormulaRole → Scope → FormTrees → Result Formulas FormFault → Type 0
+abbrev pub ReadsFormulas : Vocabulary NameSignature → FormulaRole → Scope → FormTrees → Result Formulas FormFault → Type 0
 ReadsFormulas v role scope fs result =
     Reads tree_of_formulas result (formulas_breaks role v.declared.now scope fs) (formulas_meant v.names.now v.declared.now scope fs)
 
 -- a formula in a box
-abbrev pub ReadsBoxed : Vocabulary Signature → FormulaRole → Scope → FormTree → Result (Box Formula Global) FormFault → Type 0
+abbrev pub ReadsBoxed : Vocabulary NameSignature → FormulaRole → Scope → FormTree → Result (Box Formula Global) FormFault → Type 0
 ReadsBoxed v role scope f result =
     Reads (λ (x : Box Formula Global). tree_of_formula x.value) result
     (formula_breaks role v.declared.now scope f)
     (formula_meant v.names.now v.declared.now scope f)
 
 -- the formula of a list that begins with a word, with what the list breaks itself
-abbrev pub ReadsFormulaCall : Vocabulary Signature → FormulaRole → Scope → Call → Result Formula FormFault → Type 0
+abbrev pub ReadsFormulaCall : Vocabulary NameSignature → FormulaRole → Scope → Call → Result Formula FormFault → Type 0
 ReadsFormulaCall v role scope call result =
     let g = v.declared.now in
     let word = formula_word call.word.now in
@@ -181,28 +181,28 @@ ReadsFormulaCall v role scope call result =
     (formula_list_meant v.names.now g scope word call.word.now rest)
 
 -- the formula of these parts of a list with this first word
-abbrev pub ReadsFormulaParts : Vocabulary Signature → FormulaRole → Scope → List ℕ → FormulaParts → Result Formula FormFault → Type 0
+abbrev pub ReadsFormulaParts : Vocabulary NameSignature → FormulaRole → Scope → List ℕ → FormulaParts → Result Formula FormFault → Type 0
 ReadsFormulaParts v role scope text p result =
     Reads tree_of_formula result
     (formula_parts_breaks role v.declared.now scope (word_of_parts p) (elements_of_parts p))
     (formula_list_meant v.names.now v.declared.now scope (word_of_parts p) text (elements_of_parts p))
 
 -- these formulas under a word
-abbrev pub ReadsUnderWord : Vocabulary Signature → FormulaRole → Scope → FormulaWord → FormTrees → Result Formula FormFault → Type 0
+abbrev pub ReadsUnderWord : Vocabulary NameSignature → FormulaRole → Scope → FormulaWord → FormTrees → Result Formula FormFault → Type 0
 ReadsUnderWord v role scope word fs result =
     Reads tree_of_formula result
     (formulas_breaks role v.declared.now scope fs)
     (under_word word (formulas_meant v.names.now v.declared.now scope fs))
 
 -- the formula `(goal A)`, by A
-abbrev pub ReadsGoalFormula : Vocabulary Signature → Scope → FormTree → Result Formula FormFault → Type 0
+abbrev pub ReadsGoalFormula : Vocabulary NameSignature → Scope → FormTree → Result Formula FormFault → Type 0
 ReadsGoalFormula v scope f result =
     Reads tree_of_formula result
     (goals_breaks v.declared.now scope (more_forms f no_form))
     (formula_of_goal (goal_meant v.names.now v.declared.now scope f))
 
 -- the comparison of two terms
-abbrev pub ReadsComparison : Vocabulary Signature → Scope → Cmp → Pair → Result Formula FormFault → Type 0
+abbrev pub ReadsComparison : Vocabulary NameSignature → Scope → Cmp → Pair → Result Formula FormFault → Type 0
 ReadsComparison v scope c p result =
     let functions = v.declared.now.functions in
     Reads tree_of_formula result
@@ -211,7 +211,7 @@ ReadsComparison v scope c p result =
     (term_meant v.names.now functions scope (tree_of p.second.now)))
 
 -- the atom of this name with these arguments
-abbrev pub ReadsAtom : Vocabulary Signature → Scope → List ℕ → FormTrees → Result Formula FormFault → Type 0
+abbrev pub ReadsAtom : Vocabulary NameSignature → Scope → List ℕ → FormTrees → Result Formula FormFault → Type 0
 ReadsAtom v scope text fs result =
     let functions = v.declared.now.functions in
     Reads tree_of_formula result
@@ -219,7 +219,7 @@ ReadsAtom v scope text fs result =
     (atom_meant v.declared.now text (terms_meant v.names.now functions scope fs))
 
 -- variables with their bound, and what is in scope with them
-abbrev pub ReadsBinding : Vocabulary Signature → Scope → Binding → Result BoundVariables FormFault → Type 0
+abbrev pub ReadsBinding : Vocabulary NameSignature → Scope → Binding → Result BoundVariables FormFault → Type 0
 ReadsBinding v scope b result =
     let vs = variables_tree b.list in
     let f = tree_of b.bound.now in
@@ -248,16 +248,16 @@ counted_tree junction.All k f = during k f
 counted_tree junction.Any k f = within k f
 
 -- an effect, and effects
-abbrev pub ReadsEffect : Vocabulary Signature → Scope → FormTree → Result Effect FormFault → Type 0
+abbrev pub ReadsEffect : Vocabulary NameSignature → Scope → FormTree → Result Effect FormFault → Type 0
 ReadsEffect v scope f result =
     Reads tree_of_effect result (effect_breaks v.declared.now scope f) (effect_meant v.names.now v.declared.now scope f)
 
-abbrev pub ReadsEffects : Vocabulary Signature → Scope → FormTrees → Result Effects FormFault → Type 0
+abbrev pub ReadsEffects : Vocabulary NameSignature → Scope → FormTrees → Result Effects FormFault → Type 0
 ReadsEffects v scope fs result =
     Reads tree_of_effects result (effects_breaks v.declared.now scope fs) (effects_meant v.names.now v.declared.now scope fs)
 
 -- the effect of a list that begins with a word, with what the list breaks itself
-abbrev pub ReadsEffectCall : Vocabulary Signature → Scope → Call → Result Effect FormFault → Type 0
+abbrev pub ReadsEffectCall : Vocabulary NameSignature → Scope → Call → Result Effect FormFault → Type 0
 ReadsEffectCall v scope call result =
     let word = effect_word call.word.now in
     let rest = trees_in call.rest.now in
@@ -266,14 +266,14 @@ ReadsEffectCall v scope call result =
     (effect_list_meant v.names.now v.declared.now scope word rest)
 
 -- the effect of these parts of a list
-abbrev pub ReadsEffectParts : Vocabulary Signature → Scope → EffectParts → Result Effect FormFault → Type 0
+abbrev pub ReadsEffectParts : Vocabulary NameSignature → Scope → EffectParts → Result Effect FormFault → Type 0
 ReadsEffectParts v scope p result =
     Reads tree_of_effect result
     (effect_parts_breaks v.declared.now scope (word_of_change p) (elements_of_change p))
     (effect_list_meant v.names.now v.declared.now scope (word_of_change p) (elements_of_change p))
 
 -- the place in a table of a list's first word, and the terms after it
-abbrev pub ReadsTarget : Vocabulary Signature → Scope → Table → Call → Result (ℕ × Terms) FormFault → Type 0
+abbrev pub ReadsTarget : Vocabulary NameSignature → Scope → Table → Call → Result (ℕ × Terms) FormFault → Type 0
 ReadsTarget v scope table call result =
     let functions = v.declared.now.functions in
     Reads (λ (x : ℕ × Terms). (x.0, tree_of_terms x.1)) result

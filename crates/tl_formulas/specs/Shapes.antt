@@ -19,7 +19,7 @@ use Rattle.tl_formulas.specs.declared.shapes.EffectParts.{EffectParts}
 use Rattle.tl_formulas.specs.declared.shapes.EffectParts.TheVariants as change
 use Rattle.tl_rules.specs.declared.calls.Call.{Call}
 use Rattle.tl_formulas.specs.declared.roles.FormulaRole.{FormulaRole}
-use Rattle.tl_formulas.specs.declared.signature.Signature.{Signature}
+use Rattle.tl_formulas.specs.declared.signature.NameSignature.{NameSignature}
 use Rattle.tl_rules.specs.Rules.{Break}
 use Rattle.tl_formulas.specs.Signatures.{Scope}
 use Rattle.tl_formulas.specs.declared.words.FormulaWord.{FormulaWord}
@@ -107,11 +107,11 @@ pub record AreFormulaParts (w : FormulaWord) (fs : FormTrees) (p : FormulaParts)
   pub shape : has_formula_shape w fs ≡ true
 
 -- what a formula's list with these parts breaks by its name
-abbrev pub name_breaks_of : Signature → FormulaParts → Call → List Break
+abbrev pub name_breaks_of : NameSignature → FormulaParts → Call → List Break
 name_breaks_of g p call = name_breaks g (word_of_parts p) call.word.now (elements_of_parts p) call.at
 
 -- and what it breaks itself
-abbrev pub own_breaks_of : FormulaRole → Signature → Scope → FormulaParts → Call → List Break
+abbrev pub own_breaks_of : FormulaRole → NameSignature → Scope → FormulaParts → Call → List Break
 own_breaks_of r g scope p call = shaped_list_breaks r g scope (word_of_parts p) call.word.now (elements_of_parts p) call.at
 
 -- with its variables more than 32 are in scope

@@ -9,7 +9,7 @@ use Rattle.std.specs.Str.{bytes_eq}
 use Rattle.tl_sexpr.specs.Tree.{FormTree, symbol, integer, list}
 use Rattle.tl_rules.specs.declared.rule.Rule.TheVariants.{Unknown, Arity, Unbound}
 use Rattle.tl_rules.specs.Parts.{is_variable}
-use Rattle.tl_formulas.specs.declared.signature.Signature.{Signature}
+use Rattle.tl_formulas.specs.declared.signature.NameSignature.{NameSignature}
 use Rattle.tl_rules.specs.Rules.{Break, breaks_if}
 use Rattle.tl_formulas.specs.Words.{reserved_words}
 
@@ -33,7 +33,7 @@ abbrev pub is_in : Table → List ℕ → Bool
 is_in table text = is_some (place_of table text)
 
 -- the name is a word of the language, or that of an earlier predicate, function or definition
-abbrev pub is_taken : Signature → List ℕ → Bool
+abbrev pub is_taken : NameSignature → List ℕ → Bool
 is_taken g text = list_any (bytes_eq text) reserved_words || is_in g.predicates text || is_in g.functions text || is_in g.definitions text
 
 -- the slot of a variable

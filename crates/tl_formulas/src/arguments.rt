@@ -8,7 +8,7 @@ ghost use Rattle.tl_rules.specs.Reads.{trees_in};
 
 use crate::scope::Scope;
 use crate::shapes::Leaf;
-use crate::signature::Signature;
+use crate::signature::NameSignature;
 use tl_rules::parts::is_variable;
 use tl_rules::{FormFault, Rule, Vocabulary, breaks, number_of};
 use tl_sexpr::Form;
@@ -16,7 +16,7 @@ use tl_syntax::{Arg, Args, Value, Var};
 
 /// A symbol as an argument: a variable in scope, or a value.
 pub(crate) fn symbol(
-    vocabulary: &Vocabulary<'_, Signature<'_>>,
+    vocabulary: &Vocabulary<'_, NameSignature<'_>>,
     scope: &Scope<'_>,
     text: &str,
     at: u32,
@@ -47,7 +47,7 @@ pub(crate) fn leaf_in(form: &Form) -> Option<Leaf<'_>>
 
 /// An argument, which is no list.
 pub(crate) fn argument(
-    vocabulary: &Vocabulary<'_, Signature<'_>>,
+    vocabulary: &Vocabulary<'_, NameSignature<'_>>,
     scope: &Scope<'_>,
     leaf: Leaf<'_>,
 ) -> Result<Arg, FormFault>
@@ -61,7 +61,7 @@ pub(crate) fn argument(
 
 /// Arguments, none of which is a list.
 pub(crate) fn arguments(
-    vocabulary: &Vocabulary<'_, Signature<'_>>,
+    vocabulary: &Vocabulary<'_, NameSignature<'_>>,
     scope: &Scope<'_>,
     forms: &[Form],
 ) -> Result<Args, FormFault>

@@ -8,7 +8,7 @@ ghost use Rattle.tl_formulas.specs.Readers.{ReadsAtom};
 ghost use Rattle.tl_rules.specs.Reads.{Reads, trees_in};
 
 use crate::scope::Scope;
-use crate::signature::Signature;
+use crate::signature::NameSignature;
 use crate::terms::{called, terms};
 use tl_rules::{Call, FormFault, Rule, Vocabulary, breaks};
 use tl_syntax::Formula;
@@ -24,7 +24,7 @@ pub(crate) enum AtomName {
 
 /// What an atom of this name with so many arguments names: a declared predicate, or else a defined one.
 pub(crate) fn atom_name(
-    signature: &Signature<'_>,
+    signature: &NameSignature<'_>,
     text: &str,
     count: usize,
     at: u32,
@@ -45,7 +45,7 @@ pub(crate) fn atom_name(
 /// An atom of a declared or a defined predicate.
 #[tactic(auto, using(crate::proofs::Rulesets::formulas, crate::proofs::AtomNames::atom_names))]
 pub(crate) fn atom(
-    vocabulary: &Vocabulary<'_, Signature<'_>>,
+    vocabulary: &Vocabulary<'_, NameSignature<'_>>,
     scope: &Scope<'_>,
     call: Call<'_>,
 ) -> Result<Formula, FormFault>

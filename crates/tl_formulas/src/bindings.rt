@@ -7,7 +7,7 @@ ghost use Rattle.tl_formulas.specs.Variables.{is_crowded};
 use crate::bounds::bound;
 use crate::scope::Scope;
 use crate::shapes::{Binding, VariableList};
-use crate::signature::Signature;
+use crate::signature::NameSignature;
 use crate::variables::{check_variables, variables, with_variables};
 use tl_rules::{FormFault, Vocabulary};
 use tl_syntax::{Bound, Vars};
@@ -34,7 +34,7 @@ pub(crate) struct BoundVariables<'a> {
 /// Variables with their bound.
 #[tactic(auto, using(crate::proofs::Rulesets::composed))]
 pub(crate) fn bound_variables<'a>(
-    vocabulary: &Vocabulary<'_, Signature<'_>>,
+    vocabulary: &Vocabulary<'_, NameSignature<'_>>,
     scope: &Scope<'a>,
     binding: Binding<'a>,
 ) -> Result<BoundVariables<'a>, FormFault>

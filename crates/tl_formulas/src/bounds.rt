@@ -9,7 +9,7 @@ ghost use Rattle.tl_rules.specs.Reads.{trees_in};
 use crate::arguments::{argument, arguments, leaf_in};
 use crate::goals::{bound_of, goal};
 use crate::scope::Scope;
-use crate::signature::{Signature, Table};
+use crate::signature::{NameSignature, Table};
 use crate::terms::called;
 use crate::words::{FormulaWord, formula_word};
 use tl_rules::parts::{any_list, offset, one, two};
@@ -20,7 +20,7 @@ use tl_syntax::{Args, Bound, Bounds, Cmp};
 /// The place of a name in a table and its arguments, none of which is a list.
 #[tactic(auto, using(crate::proofs::Rulesets::composed))]
 fn flat(
-    vocabulary: &Vocabulary<'_, Signature<'_>>,
+    vocabulary: &Vocabulary<'_, NameSignature<'_>>,
     scope: &Scope<'_>,
     table: &Table<'_>,
     call: Call<'_>,
@@ -38,7 +38,7 @@ fn flat(
 /// A bound `(= X a)`, by X and a and its offset.
 #[tactic(auto, using(crate::proofs::Called::bounds))]
 fn place_bound(
-    vocabulary: &Vocabulary<'_, Signature<'_>>,
+    vocabulary: &Vocabulary<'_, NameSignature<'_>>,
     scope: &Scope<'_>,
     place: &Form,
     value: &Form,
@@ -61,7 +61,7 @@ fn place_bound(
 /// A bound `(= X a)`.
 #[tactic(auto, using(crate::proofs::Counts::equality_count))]
 fn equality(
-    vocabulary: &Vocabulary<'_, Signature<'_>>,
+    vocabulary: &Vocabulary<'_, NameSignature<'_>>,
     scope: &Scope<'_>,
     call: Call<'_>,
 ) -> Result<Bound, FormFault>
@@ -76,7 +76,7 @@ fn equality(
 /// A bound `(goal A)`.
 #[tactic(auto, using(crate::proofs::Counts::goal_count))]
 fn goal_bound(
-    vocabulary: &Vocabulary<'_, Signature<'_>>,
+    vocabulary: &Vocabulary<'_, NameSignature<'_>>,
     scope: &Scope<'_>,
     call: Call<'_>,
 ) -> Result<Bound, FormFault>
@@ -91,7 +91,7 @@ fn goal_bound(
 
 /// A bound `(p a*)`.
 fn fact_bound(
-    vocabulary: &Vocabulary<'_, Signature<'_>>,
+    vocabulary: &Vocabulary<'_, NameSignature<'_>>,
     scope: &Scope<'_>,
     call: Call<'_>,
 ) -> Result<Bound, FormFault>
@@ -103,7 +103,7 @@ fn fact_bound(
 
 /// The bound of a list that begins with a word.
 fn bound_call(
-    vocabulary: &Vocabulary<'_, Signature<'_>>,
+    vocabulary: &Vocabulary<'_, NameSignature<'_>>,
     scope: &Scope<'_>,
     call: Call<'_>,
 ) -> Result<Bound, FormFault>
@@ -120,7 +120,7 @@ fn bound_call(
 /// A bound.
 #[tactic(auto, using(crate::proofs::Called::bounds))]
 pub(crate) fn bound(
-    vocabulary: &Vocabulary<'_, Signature<'_>>,
+    vocabulary: &Vocabulary<'_, NameSignature<'_>>,
     scope: &Scope<'_>,
     form: &Form,
 ) -> Result<Bound, FormFault>
@@ -135,7 +135,7 @@ pub(crate) fn bound(
 /// Bounds.
 #[tactic(auto, using(crate::proofs::Rulesets::composed))]
 pub fn bounds(
-    vocabulary: &Vocabulary<'_, Signature<'_>>,
+    vocabulary: &Vocabulary<'_, NameSignature<'_>>,
     scope: &Scope<'_>,
     forms: &[Form],
 ) -> Result<Bounds, FormFault>

@@ -16,7 +16,7 @@ use crate::formulas::formula;
 use crate::roles::FormulaRole;
 use crate::scope::Scope;
 use crate::shapes::{Binding, EffectParts};
-use crate::signature::{Signature, Table};
+use crate::signature::{NameSignature, Table};
 use crate::terms::{called, term, terms};
 use crate::words::effect_word;
 use tl_rules::parts::offset;
@@ -26,7 +26,7 @@ use tl_syntax::{Effect, Effects, Terms};
 
 /// The place in a table of a list's first word, and the terms after the word.
 fn target(
-    vocabulary: &Vocabulary<'_, Signature<'_>>,
+    vocabulary: &Vocabulary<'_, NameSignature<'_>>,
     scope: &Scope<'_>,
     table: &Table<'_>,
     call: Call<'_>,
@@ -40,7 +40,7 @@ fn target(
 
 /// An effect `(add A)`, by the fact.
 fn add(
-    vocabulary: &Vocabulary<'_, Signature<'_>>,
+    vocabulary: &Vocabulary<'_, NameSignature<'_>>,
     scope: &Scope<'_>,
     fact: Call<'_>,
 ) -> Result<Effect, FormFault>
@@ -52,7 +52,7 @@ fn add(
 
 /// An effect `(del A)`, by the fact.
 fn del(
-    vocabulary: &Vocabulary<'_, Signature<'_>>,
+    vocabulary: &Vocabulary<'_, NameSignature<'_>>,
     scope: &Scope<'_>,
     fact: Call<'_>,
 ) -> Result<Effect, FormFault>
@@ -64,7 +64,7 @@ fn del(
 
 /// An effect `(set X T)`, by the place and its new value.
 fn set(
-    vocabulary: &Vocabulary<'_, Signature<'_>>,
+    vocabulary: &Vocabulary<'_, NameSignature<'_>>,
     scope: &Scope<'_>,
     place: Call<'_>,
     value: &Form,
@@ -80,7 +80,7 @@ fn set(
 /// An effect.
 #[cycle(effect)]
 fn effect(
-    vocabulary: &Vocabulary<'_, Signature<'_>>,
+    vocabulary: &Vocabulary<'_, NameSignature<'_>>,
     scope: &Scope<'_>,
     form: &Form,
 ) -> Result<Effect, FormFault>
@@ -95,7 +95,7 @@ fn effect(
 /// The effect of a list that begins with a word.
 #[cycle(effect)]
 fn effect_call(
-    vocabulary: &Vocabulary<'_, Signature<'_>>,
+    vocabulary: &Vocabulary<'_, NameSignature<'_>>,
     scope: &Scope<'_>,
     call: Call<'_>,
 ) -> Result<Effect, FormFault>
@@ -125,7 +125,7 @@ fn is_crowded_by(scope: &Scope<'_>, parts: EffectParts<'_>) -> bool
 /// The effect of these parts of a list that breaks nothing itself.
 #[cycle(effect)]
 fn shaped_effect(
-    vocabulary: &Vocabulary<'_, Signature<'_>>,
+    vocabulary: &Vocabulary<'_, NameSignature<'_>>,
     scope: &Scope<'_>,
     parts: EffectParts<'_>,
 ) -> Result<Effect, FormFault>
@@ -144,7 +144,7 @@ fn shaped_effect(
 /// An effect `(when F E*)`, by its condition and its effects.
 #[cycle(effect)]
 fn when(
-    vocabulary: &Vocabulary<'_, Signature<'_>>,
+    vocabulary: &Vocabulary<'_, NameSignature<'_>>,
     scope: &Scope<'_>,
     condition: &Form,
     forms: &[Form],
@@ -165,7 +165,7 @@ fn when(
 /// An effect `(each (V*) B E*)`, by its variables, their bound and its effects.
 #[cycle(effect)]
 fn each(
-    vocabulary: &Vocabulary<'_, Signature<'_>>,
+    vocabulary: &Vocabulary<'_, NameSignature<'_>>,
     scope: &Scope<'_>,
     binding: Binding<'_>,
     forms: &[Form],
@@ -189,7 +189,7 @@ fn each(
 /// Effects.
 #[cycle(effect)]
 pub fn effects(
-    vocabulary: &Vocabulary<'_, Signature<'_>>,
+    vocabulary: &Vocabulary<'_, NameSignature<'_>>,
     scope: &Scope<'_>,
     forms: &[Form],
 ) -> Result<Effects, FormFault>

@@ -11,7 +11,7 @@ use crate::bindings::is_crowded;
 use crate::roles::FormulaRole;
 use crate::scope::Scope;
 use crate::shapes::{Binary, FormulaParts, Unary};
-use crate::signature::Signature;
+use crate::signature::NameSignature;
 use tl_rules::{Call, FormFault, Rule, breaks};
 use tl_sexpr::Form;
 
@@ -96,7 +96,7 @@ fn is_too_deep(role: FormulaRole, forms: &[Form]) -> bool
 /// Checks the name of an atom, and its number of arguments.
 #[tactic(auto, using(crate::proofs::Rulesets::composed, crate::proofs::FormulaParts::formula_parts))]
 fn check_name(
-    signature: &Signature<'_>,
+    signature: &NameSignature<'_>,
     parts: FormulaParts<'_>,
     call: Call<'_>,
 ) -> Result<(), FormFault>
@@ -124,7 +124,7 @@ fn is_crowded_by(scope: &Scope<'_>, parts: FormulaParts<'_>) -> bool
 /// Checks a formula's list, of which these are the parts.
 #[tactic(auto, using(crate::proofs::Rulesets::composed))]
 pub(crate) fn check_formula_list(
-    signature: &Signature<'_>,
+    signature: &NameSignature<'_>,
     scope: &Scope<'_>,
     role: FormulaRole,
     parts: FormulaParts<'_>,

@@ -18,7 +18,7 @@ ghost use Rattle.tl_formulas.specs.declared.words.FormulaWord.TheVariants as wor
 use crate::goals::{GoalArgument, goal};
 use crate::scope::Scope;
 use crate::shapes::{Binary, Pair, Unary};
-use crate::signature::Signature;
+use crate::signature::NameSignature;
 use crate::terms::term;
 use std::alloc::Global;
 use tl_rules::{FormFault, Rule, Vocabulary, breaks};
@@ -53,7 +53,7 @@ fn under_goal(goal: GoalArgument) -> Formula
 /// A formula `(goal A)`.
 #[tactic(auto, using(crate::proofs::Rulesets::formulas))]
 pub(crate) fn goal_formula(
-    vocabulary: &Vocabulary<'_, Signature<'_>>,
+    vocabulary: &Vocabulary<'_, NameSignature<'_>>,
     scope: &Scope<'_>,
     form: &Form,
 ) -> Result<Formula, FormFault>
@@ -66,7 +66,7 @@ pub(crate) fn goal_formula(
 /// A comparison of two terms.
 #[tactic(auto, using(crate::proofs::Rulesets::formulas, crate::proofs::Called::term_pairs))]
 pub(crate) fn comparison(
-    vocabulary: &Vocabulary<'_, Signature<'_>>,
+    vocabulary: &Vocabulary<'_, NameSignature<'_>>,
     scope: &Scope<'_>,
     cmp: Cmp,
     pair: Pair<'_>,

@@ -17,7 +17,7 @@ use crate::quantifiers::{over_steps, quantifier};
 use crate::roles::FormulaRole;
 use crate::scope::Scope;
 use crate::shapes::{Binary, FormulaParts, Pair, Unary};
-use crate::signature::Signature;
+use crate::signature::NameSignature;
 use crate::words::formula_word;
 use tl_rules::{Call, FormFault, Rule, Vocabulary, breaks, call_in};
 use tl_sexpr::Form;
@@ -26,7 +26,7 @@ use tl_syntax::{Formula, Formulas, Junction};
 /// A formula.
 #[cycle(formula)]
 pub fn formula(
-    vocabulary: &Vocabulary<'_, Signature<'_>>,
+    vocabulary: &Vocabulary<'_, NameSignature<'_>>,
     scope: &Scope<'_>,
     role: FormulaRole,
     form: &Form,
@@ -46,7 +46,7 @@ pub fn formula(
 /// The formula of a list that begins with a word.
 #[cycle(formula)]
 fn formula_call(
-    vocabulary: &Vocabulary<'_, Signature<'_>>,
+    vocabulary: &Vocabulary<'_, NameSignature<'_>>,
     scope: &Scope<'_>,
     role: FormulaRole,
     call: Call<'_>,
@@ -64,7 +64,7 @@ fn formula_call(
 /// The formula of these parts of a list that breaks nothing itself.
 #[cycle(formula)]
 fn shaped_formula(
-    vocabulary: &Vocabulary<'_, Signature<'_>>,
+    vocabulary: &Vocabulary<'_, NameSignature<'_>>,
     scope: &Scope<'_>,
     role: FormulaRole,
     parts: FormulaParts<'_>,
@@ -91,7 +91,7 @@ fn shaped_formula(
 /// A formula in a box.
 #[cycle(formula)]
 pub(crate) fn boxed(
-    vocabulary: &Vocabulary<'_, Signature<'_>>,
+    vocabulary: &Vocabulary<'_, NameSignature<'_>>,
     scope: &Scope<'_>,
     role: FormulaRole,
     form: &Form,
@@ -106,7 +106,7 @@ pub(crate) fn boxed(
 /// A word before one formula.
 #[cycle(formula)]
 fn unary(
-    vocabulary: &Vocabulary<'_, Signature<'_>>,
+    vocabulary: &Vocabulary<'_, NameSignature<'_>>,
     scope: &Scope<'_>,
     role: FormulaRole,
     word: Unary,
@@ -122,7 +122,7 @@ fn unary(
 /// A word before two formulas.
 #[cycle(formula)]
 fn binary(
-    vocabulary: &Vocabulary<'_, Signature<'_>>,
+    vocabulary: &Vocabulary<'_, NameSignature<'_>>,
     scope: &Scope<'_>,
     role: FormulaRole,
     word: Binary,
@@ -145,7 +145,7 @@ fn binary(
 /// All of the formulas, or any of them.
 #[cycle(formula)]
 fn many(
-    vocabulary: &Vocabulary<'_, Signature<'_>>,
+    vocabulary: &Vocabulary<'_, NameSignature<'_>>,
     scope: &Scope<'_>,
     role: FormulaRole,
     junction: Junction,
@@ -161,7 +161,7 @@ fn many(
 /// Formulas.
 #[cycle(formula)]
 fn formulas(
-    vocabulary: &Vocabulary<'_, Signature<'_>>,
+    vocabulary: &Vocabulary<'_, NameSignature<'_>>,
     scope: &Scope<'_>,
     role: FormulaRole,
     forms: &[Form],

@@ -9,7 +9,7 @@ ghost use Rattle.tl_rules.specs.Reads.{Checks, trees_in};
 use crate::arguments::{argument, arguments, leaf_in};
 use crate::scope::Scope;
 use crate::shapes::Leaf;
-use crate::signature::{Signature, Table};
+use crate::signature::{NameSignature, Table};
 use tl_rules::parts::{any_list, is_word};
 use tl_rules::{FormFault, Rule, Vocabulary, breaks, call_in};
 use tl_sexpr::Form;
@@ -87,7 +87,7 @@ fn check_count(table: &Table<'_>, form: &Form) -> Result<(), FormFault>
 /// An argument `(= (f a*) a)` of `goal`, by the place, its parts and the value.
 #[tactic(auto, using(crate::proofs::Rulesets::composed))]
 fn goal_place(
-    vocabulary: &Vocabulary<'_, Signature<'_>>,
+    vocabulary: &Vocabulary<'_, NameSignature<'_>>,
     scope: &Scope<'_>,
     place: &Form,
     parts: Flat<'_>,
@@ -106,7 +106,7 @@ fn goal_place(
 /// An argument `(not (p a*))` of `goal`, by the fact and its parts.
 #[tactic(auto, using(crate::proofs::Rulesets::composed))]
 fn goal_not(
-    vocabulary: &Vocabulary<'_, Signature<'_>>,
+    vocabulary: &Vocabulary<'_, NameSignature<'_>>,
     scope: &Scope<'_>,
     fact: &Form,
     parts: Flat<'_>,
@@ -122,7 +122,7 @@ fn goal_not(
 /// An argument of `goal` that is no fact, by its elements and its offset.
 #[tactic(auto, using(crate::proofs::OtherGoals::other_length))]
 fn other_goal(
-    vocabulary: &Vocabulary<'_, Signature<'_>>,
+    vocabulary: &Vocabulary<'_, NameSignature<'_>>,
     scope: &Scope<'_>,
     forms: &[Form],
     at: u32,
@@ -158,7 +158,7 @@ fn other_goal(
 /// An argument of `goal`.
 #[tactic(auto, using(crate::proofs::Rulesets::goals))]
 pub(crate) fn goal(
-    vocabulary: &Vocabulary<'_, Signature<'_>>,
+    vocabulary: &Vocabulary<'_, NameSignature<'_>>,
     scope: &Scope<'_>,
     form: &Form,
 ) -> Result<GoalArgument, FormFault>

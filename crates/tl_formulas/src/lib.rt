@@ -34,5 +34,5 @@ mod words;
 pub use formulas::formula;
 pub use roles::FormulaRole;
 pub use scope::Scope;
-pub use signature::{Signature, Table};
+pub use signature::{NameSignature, Table};
 pub use words::{EffectWord, FormulaWord, is_reserved};

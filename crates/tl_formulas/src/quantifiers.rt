@@ -13,7 +13,7 @@ use crate::formulas::boxed;
 use crate::roles::FormulaRole;
 use crate::scope::Scope;
 use crate::shapes::{Counted, Quantified};
-use crate::signature::Signature;
+use crate::signature::NameSignature;
 use crate::steps::steps;
 use tl_rules::{FormFault, Vocabulary};
 use tl_syntax::Formula;
@@ -21,7 +21,7 @@ use tl_syntax::Formula;
 /// A formula `(forall (V*) B F)` or `(exists (V*) B F)`.
 #[cycle(formula)]
 pub(crate) fn quantifier(
-    vocabulary: &Vocabulary<'_, Signature<'_>>,
+    vocabulary: &Vocabulary<'_, NameSignature<'_>>,
     scope: &Scope<'_>,
     role: FormulaRole,
     quantified: Quantified<'_>,
@@ -45,7 +45,7 @@ pub(crate) fn quantifier(
 /// A formula `(for K F)` or `(within K F)`.
 #[cycle(formula)]
 pub(crate) fn over_steps(
-    vocabulary: &Vocabulary<'_, Signature<'_>>,
+    vocabulary: &Vocabulary<'_, NameSignature<'_>>,
     scope: &Scope<'_>,
     role: FormulaRole,
     counted: Counted<'_>,

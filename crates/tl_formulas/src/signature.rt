@@ -30,9 +30,9 @@ impl<'a> Model for Table<'a> {
     ghost invariant = { λ a. length a.entries.items ≤ 256 };
 }
 
-/// What is declared and defined so far.
+/// What is declared and defined so far, by names.
 #[derive(Drop)]
-pub struct Signature<'a> {
+pub struct NameSignature<'a> {
     pub predicates: Table<'a>,
     pub functions: Table<'a>,
     pub definitions: Table<'a>,

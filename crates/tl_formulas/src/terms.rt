@@ -10,7 +10,7 @@ ghost use Rattle.tl_rules.specs.Reads.{Reads, trees_in};
 
 use crate::arguments::symbol;
 use crate::scope::Scope;
-use crate::signature::{Signature, Table};
+use crate::signature::{NameSignature, Table};
 use crate::words::operation;
 use tl_rules::parts::two;
 use tl_rules::{Call, FormFault, Rule, Vocabulary, breaks, call_in};
@@ -46,7 +46,7 @@ pub(crate) fn called(table: &Table<'_>, text: &str, count: usize, at: u32) -> Re
 #[cycle(term)]
 #[tactic(auto, using(crate::proofs::Rulesets::terms))]
 pub(crate) fn term(
-    vocabulary: &Vocabulary<'_, Signature<'_>>,
+    vocabulary: &Vocabulary<'_, NameSignature<'_>>,
     scope: &Scope<'_>,
     form: &Form,
 ) -> Result<Term, FormFault>
@@ -69,7 +69,7 @@ pub(crate) fn term(
 #[cycle(term)]
 #[tactic(auto, using(crate::proofs::Rulesets::terms))]
 fn term_call(
-    vocabulary: &Vocabulary<'_, Signature<'_>>,
+    vocabulary: &Vocabulary<'_, NameSignature<'_>>,
     scope: &Scope<'_>,
     call: Call<'_>,
 ) -> Result<Term, FormFault>
@@ -86,7 +86,7 @@ fn term_call(
 #[cycle(term)]
 #[tactic(auto, using(crate::proofs::Rulesets::terms))]
 fn fluent(
-    vocabulary: &Vocabulary<'_, Signature<'_>>,
+    vocabulary: &Vocabulary<'_, NameSignature<'_>>,
     scope: &Scope<'_>,
     call: Call<'_>,
 ) -> Result<Term, FormFault>
@@ -102,7 +102,7 @@ fn fluent(
 #[cycle(term)]
 #[tactic(auto, using(crate::proofs::Rulesets::terms))]
 fn arithmetic(
-    vocabulary: &Vocabulary<'_, Signature<'_>>,
+    vocabulary: &Vocabulary<'_, NameSignature<'_>>,
     scope: &Scope<'_>,
     op: Op,
     call: Call<'_>,
@@ -121,7 +121,7 @@ fn arithmetic(
 #[cycle(term)]
 #[tactic(auto, using(crate::proofs::Rulesets::terms, crate::proofs::TermTrees::term_steps))]
 pub(crate) fn terms(
-    vocabulary: &Vocabulary<'_, Signature<'_>>,
+    vocabulary: &Vocabulary<'_, NameSignature<'_>>,
     scope: &Scope<'_>,
     forms: &[Form],
 ) -> Result<Terms, FormFault>
