@@ -3,10 +3,10 @@ use Rattle.std.proofs.Common.{◌≡◌, ◌↔◌, ◌⊎◌, ◌<◌, ◌≤�
 use Rattle.tl_action.specs.declared.arranged.Arranged.{Arranged}
 use Rattle.tl_action.specs.declared.fault.ActFault.{ActFault}
 use Rattle.tl_action.specs.declared.fault.ActFault.TheVariants as fault
-use Rattle.tl_action.specs.Join.{arranged, bound_count, levels_in, stands_in_one, is_new, new_from, AgreeOnSeen, HasNoCompletion, IsCompletion, IsFound, IsPassed, IsRowFault, Joins}
+use Rattle.tl_action.specs.Join.{arranged, bound_count, new_parameters_in, stands_in_one, is_new, new_from, AgreeOnSeen, HasNoCompletion, IsCompletion, IsFound, IsPassed, IsRowFault, Joins}
 use Rattle.tl_action.proofs.BoundOrders.{arranged-keeps}
 use Rattle.tl_action.proofs.Completions.{known-before, known-kept, completion-past, completion-none}
-use Rattle.tl_action.proofs.NewVariables.{level-is, levels-length}
+use Rattle.tl_action.proofs.NewVariables.{new_parameters-are, new_parameters-length}
 use Rattle.tl_action.proofs.Operators.{counted-differ, counted-slots}
 use Rattle.tl_action.proofs.Rows.{RowsSoFar, rows-on, rows-end, rows-fault}
 use Rattle.tl_action.proofs.Walks.{drop-opened, take-opened, each-item}
@@ -58,12 +58,12 @@ new-occur seen b (s ∷ ss) = (elim (is_new seen b s) as (λ x. is_new seen b s 
   | false ↦ λ q. new-occur seen b ss
 ]) refl
 
-level-node : (g : Signature) (n : ℕ) (o : Operator) (levels : List (List Var)) (j : ℕ) (b : Bound) (vars : List Var) → AreFew g.predicates → AreFew g.functions → OperatorKeeps g n o → levels ≡ new_from o.params [] o.bounds → j < length o.bounds → b ≡ get_or o.bounds j b → vars ≡ get_or levels j vars → Node g o j b vars
-level-node g n o levels j b vars fp ff keeps h k q r =
+bound-node : (g : Signature) (n : ℕ) (o : Operator) (new_parameters : List (List Var)) (j : ℕ) (b : Bound) (vars : List Var) → AreFew g.predicates → AreFew g.functions → OperatorKeeps g n o → new_parameters ≡ new_from o.params [] o.bounds → j < length o.bounds → b ≡ get_or o.bounds j b → vars ≡ get_or new_parameters j vars → Node g o j b vars
+bound-node g n o new_parameters j b vars fp ff keeps h k q r =
     let new = filter (is_new (take j o.bounds) b) o.params in
     let is : vars ≡ new =
     r ∙ (ap (λ (ls : List (List Var)). get_or ls j vars) h
-    ∙ (level-is o.params [] o.bounds j b vars k ∙ ap (λ (x : Bound). filter (is_new (take j o.bounds) x) o.params) (sym q))) in
+    ∙ (new_parameters-are o.params [] o.bounds j b vars k ∙ ap (λ (x : Bound). filter (is_new (take j o.bounds) x) o.params) (sym q))) in
     let differ = subst DifferInSlot (sym is) (kept-differ (is_new (take j o.bounds) b) o.params (counted-differ o.params keeps.params.counted)) in
     let occur = subst (λ (ss : List Var). OccurIn ss b) (sym is) (new-occur (take j o.bounds) b o.params) in
     let fits = each-item (BoundFits g) o.bounds j b keeps.bounds_fit k q in
@@ -78,13 +78,13 @@ level-node g n o levels j b vars fp ff keeps h k q r =
     }
 
 -- there are as many lists of new variables as bounds
-pub levels-count : (a : Arranged) (levels : List (List Var)) → levels ≡ levels_in a → length levels ≡ bound_count a
-levels-count a levels h = ap (λ (ls : List (List Var)). length ls) h ∙ levels-length a.operator.now.params [] (arranged a).bounds
+pub new_parameters-count : (a : Arranged) (new_parameters : List (List Var)) → new_parameters ≡ new_parameters_in a → length new_parameters ≡ bound_count a
+new_parameters-count a new_parameters h = ap (λ (ls : List (List Var)). length ls) h ∙ new_parameters-length a.operator.now.params [] (arranged a).bounds
 
 -- a bound of an operator, in the order in which they are joined
-pub node-at : (g : Signature) (n : ℕ) (a : Arranged) (levels : List (List Var)) (j : ℕ) (b : Bound) (vars : List Var) → AreFew g.predicates → AreFew g.functions → OperatorKeeps g n a.operator.now → levels ≡ levels_in a
-    → j < bound_count a → b ≡ get_or (arranged a).bounds j b → vars ≡ get_or levels j vars → Node g (arranged a) j b vars
-node-at g n a levels j b vars fp ff keeps h k q r = level-node g n (arranged a) levels j b vars fp ff (arranged-keeps g n a keeps) h k q r
+pub node-at : (g : Signature) (n : ℕ) (a : Arranged) (new_parameters : List (List Var)) (j : ℕ) (b : Bound) (vars : List Var) → AreFew g.predicates → AreFew g.functions → OperatorKeeps g n a.operator.now → new_parameters ≡ new_parameters_in a
+    → j < bound_count a → b ≡ get_or (arranged a).bounds j b → vars ≡ get_or new_parameters j vars → Node g (arranged a) j b vars
+node-at g n a new_parameters j b vars fp ff keeps h k q r = bound-node g n (arranged a) new_parameters j b vars fp ff (arranged-keeps g n a keeps) h k q r
 
 module _ (g : Signature) (p : PlainProblem) (w : World) (o : Operator) (j : ℕ) (b : Bound) (vars : List Var) (k : j < length o.bounds) (q : b ≡ get_or o.bounds j b) (node : Node g o j b vars) where
   abbrev pub seen : List Bound

@@ -19,30 +19,30 @@ module _ {A : Type 0} (p : A → Bool) (xs : List A) (i : ℕ) (x : A) (h : i < 
   pub filter-drops : p x ≡ false → kept ≡ filter p (take (i + 1) xs)
   filter-drops t = so ∙ sym (opened ∙ (ap (λ (b : Bool). filter p (take i xs) ++ cond b (x ∷ []) []) t ∙ append-nil (filter p (take i xs))))
 
--- ---- the levels
+-- ---- the new parameters
 
-pub levels-on : (ss : List Var) (bs : List Bound) (j : ℕ) (b : Bound) (levels more : List (List Var)) (vars : List Var) → j < length bs → b ≡ get_or bs j b → vars ≡ filter (is_new (take j bs) b) ss → more ≡ levels ++ vars ∷ []
-    → new_from ss [] bs ≡ levels ++ new_from ss (take j bs) (drop j bs) → new_from ss [] bs ≡ more ++ new_from ss (take (j + 1) bs) (drop (j + 1) bs)
-levels-on ss bs j b levels more vars h k q z so =
+pub new_parameters-on : (ss : List Var) (bs : List Bound) (j : ℕ) (b : Bound) (new_parameters more : List (List Var)) (vars : List Var) → j < length bs → b ≡ get_or bs j b → vars ≡ filter (is_new (take j bs) b) ss → more ≡ new_parameters ++ vars ∷ []
+    → new_from ss [] bs ≡ new_parameters ++ new_from ss (take j bs) (drop j bs) → new_from ss [] bs ≡ more ++ new_from ss (take (j + 1) bs) (drop (j + 1) bs)
+new_parameters-on ss bs j b new_parameters more vars h k q z so =
     so
-    ∙ (ap (λ rest. levels ++ new_from ss (take j bs) rest) (drop-opened bs j b h k)
-    ∙ (ap (λ vs. levels ++ (vs ∷ new_from ss (take j bs ++ b ∷ []) (drop (j + 1) bs))) (sym q)
-    ∙ (sym (append_assoc levels (vars ∷ []) (new_from ss (take j bs ++ b ∷ []) (drop (j + 1) bs)))
+    ∙ (ap (λ rest. new_parameters ++ new_from ss (take j bs) rest) (drop-opened bs j b h k)
+    ∙ (ap (λ vs. new_parameters ++ (vs ∷ new_from ss (take j bs ++ b ∷ []) (drop (j + 1) bs))) (sym q)
+    ∙ (sym (append_assoc new_parameters (vars ∷ []) (new_from ss (take j bs ++ b ∷ []) (drop (j + 1) bs)))
     ∙ ap₂' (sym z) (sym (take-opened bs j b h k)))))
   where
     ap₂' : {us vs : List (List Var)} {xs ys : List Bound} → us ≡ vs → xs ≡ ys → us ++ new_from ss xs (drop (j + 1) bs) ≡ vs ++ new_from ss ys (drop (j + 1) bs)
     ap₂' p r = λ i. p i ++ new_from ss (r i) (drop (j + 1) bs)
 
-pub levels-ended : (ss : List Var) (bs : List Bound) (j : ℕ) (levels : List (List Var)) → length bs ≤ j → new_from ss [] bs ≡ levels ++ new_from ss (take j bs) (drop j bs) → levels ≡ new_from ss [] bs
-levels-ended ss bs j levels h so = sym (so ∙ (ap (λ rest. levels ++ new_from ss (take j bs) rest) (drop-past bs j h) ∙ append-nil levels))
+pub new_parameters-ended : (ss : List Var) (bs : List Bound) (j : ℕ) (new_parameters : List (List Var)) → length bs ≤ j → new_from ss [] bs ≡ new_parameters ++ new_from ss (take j bs) (drop j bs) → new_parameters ≡ new_from ss [] bs
+new_parameters-ended ss bs j new_parameters h so = sym (so ∙ (ap (λ rest. new_parameters ++ new_from ss (take j bs) rest) (drop-past bs j h) ∙ append-nil new_parameters))
 
--- the variables of a level
-pub level-is : (ss : List Var) (seen bs : List Bound) (j : ℕ) (b : Bound) (vs : List Var) → j < length bs → get_or (new_from ss seen bs) j vs ≡ filter (is_new (seen ++ take j bs) (get_or bs j b)) ss
-level-is ss seen [] j b vs h = absurd (omega arith)
-level-is ss seen (x ∷ bs) zero b vs h = ap (λ (ys : List Bound). filter (is_new ys x) ss) (sym (append-nil seen))
-level-is ss seen (x ∷ bs) (suc j) b vs h =
-    level-is ss (seen ++ x ∷ []) bs j b vs (omega arith) ∙ ap (λ (ys : List Bound). filter (is_new ys (get_or bs j b)) ss) (append_assoc seen (x ∷ []) (take j bs))
+-- the new parameters of a bound
+pub new_parameters-are : (ss : List Var) (seen bs : List Bound) (j : ℕ) (b : Bound) (vs : List Var) → j < length bs → get_or (new_from ss seen bs) j vs ≡ filter (is_new (seen ++ take j bs) (get_or bs j b)) ss
+new_parameters-are ss seen [] j b vs h = absurd (omega arith)
+new_parameters-are ss seen (x ∷ bs) zero b vs h = ap (λ (ys : List Bound). filter (is_new ys x) ss) (sym (append-nil seen))
+new_parameters-are ss seen (x ∷ bs) (suc j) b vs h =
+    new_parameters-are ss (seen ++ x ∷ []) bs j b vs (omega arith) ∙ ap (λ (ys : List Bound). filter (is_new ys (get_or bs j b)) ss) (append_assoc seen (x ∷ []) (take j bs))
 
-pub levels-length : (ss : List Var) (seen bs : List Bound) → length (new_from ss seen bs) ≡ length bs
-levels-length ss seen [] = refl
-levels-length ss seen (b ∷ bs) = ap suc (levels-length ss (seen ++ b ∷ []) bs)
+pub new_parameters-length : (ss : List Var) (seen bs : List Bound) → length (new_from ss seen bs) ≡ length bs
+new_parameters-length ss seen [] = refl
+new_parameters-length ss seen (b ∷ bs) = ap suc (new_parameters-length ss (seen ++ b ∷ []) bs)

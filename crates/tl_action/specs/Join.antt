@@ -62,8 +62,8 @@ abbrev pub arranged : Arranged → Operator
 arranged a = with_bounds a.operator.now (moved_first a.operator.now.bounds a.first)
 
 -- the new parameters of each bound, in this order
-abbrev pub levels_in : Arranged → List (List Var)
-levels_in a = new_from a.operator.now.params [] (arranged a).bounds
+abbrev pub new_parameters_in : Arranged → List (List Var)
+new_parameters_in a = new_from a.operator.now.params [] (arranged a).bounds
 
 -- the parameters that stand in the bound and in none of the first j that are joined
 abbrev pub new_at : Arranged → ℕ → Bound → List Var

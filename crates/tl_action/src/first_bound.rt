@@ -1,7 +1,7 @@
 // Which bound of an operator is joined first.
 ghost use Rattle.std.specs.Prelude.{◌<◌, length};
 
-use crate::levels::stands_in;
+use crate::new_parameters::stands_in;
 use tl_syntax::{Bound, Operator, Var};
 use tl_world::{Task, World};
 

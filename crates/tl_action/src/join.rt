@@ -40,15 +40,15 @@ fn find_row(
 
 /// The first bound from the `j`-th on that gives a parameter its value, or how many bounds there are: None where a bound before it is false. The bounds before it are true, and have no parameter but those that have their values already.
 /// It takes no memory.
-fn next_level(here: &Here, env: &Env, order: &JoinOrder, j: usize) -> Option<usize>
+fn next_bound(here: &Here, env: &Env, order: &JoinOrder, j: usize) -> Option<usize>
     requires keeps { OperatorIsKept here.now order.now.bounds.operator.now }
     requires within { j ≤ bound_count order.now.bounds }
     ensures passed { IfSome result (IsPassedUnder here.now order.now.bounds env.now j) }
     ensures none { IfNone result (HasNoneUnder here.now order.now.bounds env.now j) }
 {
-    let levels = order.levels.as_slice();
+    let new_parameters = order.new_parameters.as_slice();
     let mut k = j;
-    while k < levels.len() && levels[k].is_empty() {
+    while k < new_parameters.len() && new_parameters[k].is_empty() {
         if !bound_holds(here.task, here.world, env, order.bounds.bound(k)) {
             return None;
         }
@@ -60,7 +60,7 @@ fn next_level(here: &Here, env: &Env, order: &JoinOrder, j: usize) -> Option<usi
 /// Adds the rows that complete the frame with a tuple of the `j`-th bound for its new parameters: those that agree with it on the parameters of the bounds before it, make it and the bounds after it true, and with which the operator can be applied.
 /// The parameters of the first `j` bounds keep their values in the frame.
 #[cycle(joined)]
-fn join_level(
+fn join_bound(
     here: &Here,
     env: &mut Env,
     order: &JoinOrder,
@@ -72,8 +72,8 @@ fn join_level(
     ensures rows { RowsAreJoined here.now order.now.bounds j env.old rows.old rows.new result }
     ensures frame { KeepsKnown order.now.bounds j env.old env.new }
 {
-    let levels = order.levels.as_slice();
-    let vars = &levels[j];
+    let new_parameters = order.new_parameters.as_slice();
+    let vars = &new_parameters[j];
     let bound = order.bounds.bound(j);
     let mut tuples = TupleReader::open(here.task, env, vars, bound);
     while tuples.next(here.task, here.world, bound) {
@@ -105,10 +105,10 @@ pub(crate) fn join(
     ensures rows { RowsAreJoined here.now order.now.bounds j env.old rows.old rows.new result }
     ensures frame { KeepsKnown order.now.bounds j env.old env.new }
 {
-    match next_level(here, env, order, j) {
+    match next_bound(here, env, order, j) {
         Some(k) => {
-            if k < order.levels.len() {
-                join_level(here, env, order, k, rows)
+            if k < order.new_parameters.len() {
+                join_bound(here, env, order, k, rows)
             } else {
                 find_row(here, env, order, rows)
             }

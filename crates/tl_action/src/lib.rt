@@ -12,7 +12,7 @@
 //! - `here`: where actions are looked at: a world of a task.
 //! - `join`: the rows of values with which an operator can be applied.
 //! - `first_bound`: which bound of an operator is joined first.
-//! - `levels`: the parameters to which each bound gives values.
+//! - `new_parameters`: the parameters to which each bound gives values.
 //! - `arranged`: the bounds of an operator in the order in which they are joined.
 //! - `order`: the join order of an operator.
 //! - `prepared`: what an operator whose bounds are true changes.
@@ -33,7 +33,7 @@ mod first_bound;
 mod here;
 mod join;
 pub mod laws;
-mod levels;
+mod new_parameters;
 mod next;
 mod order;
 mod prepared;

@@ -1,13 +1,13 @@
 // The order in which the bounds of an operator are joined, and what is worked out before.
 ghost use Rattle.std.specs.Prelude.{◌≡◌};
-ghost use Rattle.tl_action.specs.Join.{levels_in};
+ghost use Rattle.tl_action.specs.Join.{new_parameters_in};
 ghost use Rattle.tl_action.specs.Sure.{are_sure};
 ghost use Rattle.tl_syntax.specs.TreeOfEffect.{tree_of_effects};
 
 use crate::arranged::Arranged;
 use crate::first_bound::first_bound;
 use crate::here::Here;
-use crate::levels::levels_of;
+use crate::new_parameters::new_parameters_of;
 use crate::sure::are_sure;
 use tl_syntax::{NoMemory, Operator, Vars};
 
@@ -17,10 +17,10 @@ pub(crate) struct JoinOrder<'a> {
     /// The bounds of the operator.
     pub(crate) bounds: Arranged<'a>,
     /// For each bound, in this order, the parameters that stand in it and in none before it.
-    pub(crate) levels: Vec<Vars>,
+    pub(crate) new_parameters: Vec<Vars>,
     /// Whether none of the effects can fail, so that the precondition alone decides.
     pub(crate) sure: bool,
-    pub(crate) ghost levels_are: { levels.items ≡ levels_in bounds },
+    pub(crate) ghost new_parameters_are: { new_parameters.items ≡ new_parameters_in bounds },
     pub(crate) ghost sure_is: { sure ≡ are_sure (tree_of_effects bounds.operator.now.effects) },
 }
 
@@ -35,11 +35,11 @@ impl<'a> JoinOrder<'a> {
             operator,
             first: first_bound(here.task, here.world, operator),
         };
-        let levels = levels_of(here.alloc, &bounds)?;
+        let new_parameters = new_parameters_of(here.alloc, &bounds)?;
         let sure = are_sure(&operator.effects);
         Ok(JoinOrder {
             bounds,
-            levels,
+            new_parameters,
             sure,
         })
     }

@@ -1,6 +1,6 @@
 use Rattle.std.proofs.Common.{◌≡◌, drop, take}
 use Rattle.tl_action.specs.Join.{arranged, stands_in_one}
-use Rattle.tl_action.proofs.levels.stands_before.Given as goal
+use Rattle.tl_action.proofs.new_parameters.stands_before.Given as goal
 
 abbrev pub invariant-loop-k : goal.invariant-loop-k
 invariant-loop-k l =

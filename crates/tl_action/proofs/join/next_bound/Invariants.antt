@@ -2,10 +2,10 @@ use Rattle.std.proofs.Common.{◌-◌, length}
 use Rattle.tl_action.specs.Join.{arranged, IsPassed}
 use Rattle.tl_eval.specs.Frames.{assignment_in}
 use Rattle.tl_terms.specs.ProblemMeaning.{plain_problem}
-use Rattle.tl_action.proofs.join.next_level.Given as goal
+use Rattle.tl_action.proofs.join.next_bound.Given as goal
 
 abbrev pub decreases-loop-k : goal.decreases-loop-k
-decreases-loop-k l = length l.levels - l.k
+decreases-loop-k l = length l.new_parameters - l.k
 
 abbrev pub invariant-loop-k : goal.invariant-loop-k
 invariant-loop-k l = record {

@@ -4,7 +4,7 @@ use Rattle.tl_action.proofs.Walks.{taken-opened, taken-past}
 use Rattle.tl_syntax.specs.declared.bound.Bound.{Bound}
 use Rattle.tl_syntax.specs.declared.variable.Var.{Var}
 use Rattle.tl_syntax.specs.BoundVariables.{stands_in}
-use Rattle.tl_action.proofs.levels.stands_before.Goals as goal
+use Rattle.tl_action.proofs.new_parameters.stands_before.Goals as goal
 
 -- of the first bounds, the next and those after it
 opened : (s : Var) (bs : List Bound) (j k : ℕ) (b : Bound) → j ≤ length bs → k < j → b ≡ get_or bs k b → stands_in_one (drop k (take j bs)) s ≡ (stands_in s b || stands_in_one (drop (k + 1) (take j bs)) s)

@@ -1,7 +1,7 @@
 // The parts of a join order.
 ghost use Rattle.std.specs.List.{list_any};
 ghost use Rattle.std.specs.Prelude.{◌≡◌, ◌≤◌, take, IfOk};
-ghost use Rattle.tl_action.specs.Join.{arranged, bound_count, is_new, levels_in, new_at, stands_in_one};
+ghost use Rattle.tl_action.specs.Join.{arranged, bound_count, is_new, new_at, new_parameters_in, stands_in_one};
 ghost use Rattle.tl_syntax.specs.BoundVariables.{is_variable, stands_in};
 
 use crate::arranged::Arranged;
@@ -77,13 +77,13 @@ fn new_variables(alloc: Global, bounds: &Arranged, j: usize, b: &Bound) -> Resul
 }
 
 /// For each bound, in the order in which they are joined, the parameters that stand in it and in none before it, in their order. It fails for want of memory alone.
-pub(crate) fn levels_of(alloc: Global, bounds: &Arranged) -> Result<Vec<Vars>, NoMemory>
-    ensures { IfOk result (λ levels. levels.items ≡ levels_in bounds.now) }
+pub(crate) fn new_parameters_of(alloc: Global, bounds: &Arranged) -> Result<Vec<Vars>, NoMemory>
+    ensures { IfOk result (λ new_parameters. new_parameters.items ≡ new_parameters_in bounds.now) }
 {
-    let mut levels = Vec::with_capacity(alloc, bounds.len())?;
+    let mut new_parameters = Vec::with_capacity(alloc, bounds.len())?;
     for j in 0..bounds.len() {
         let vars = new_variables(alloc, bounds, j, bounds.bound(j))?;
-        levels.push(vars)?;
+        new_parameters.push(vars)?;
     }
-    Ok(levels)
+    Ok(new_parameters)
 }

@@ -3,8 +3,8 @@ use Rattle.tl_action.specs.Join.{arranged, is_new}
 use Rattle.tl_action.proofs.NewVariables.{filter-keeps, filter-drops}
 use Rattle.tl_action.proofs.Walks.{get-itself}
 use Rattle.tl_syntax.specs.declared.variable.Var.{Var}
-use Rattle.tl_action.proofs.levels.new_variables.Goals.{then-is_new+in_ok-push, else-is_new}
-use Rattle.tl_action.proofs.levels.new_variables.Goals as goal
+use Rattle.tl_action.proofs.new_parameters.new_variables.Goals.{then-is_new+in_ok-push, else-is_new}
+use Rattle.tl_action.proofs.new_parameters.new_variables.Goals as goal
 
 pub loop-param-preserved : goal.loop-param-preserved
 loop-param-preserved c =

@@ -1,6 +1,6 @@
 use Rattle.std.proofs.Common.{◌&&◌, Bool, take, not, sym, ap, ◌∙◌}
 use Rattle.tl_action.specs.Join.{arranged, stands_in_one}
-use Rattle.tl_action.proofs.levels.is_new.Goals as goal
+use Rattle.tl_action.proofs.new_parameters.is_new.Goals as goal
 
 pub returns-then-stands_in : goal.returns-then-stands_in
 returns-then-stands_in c =
