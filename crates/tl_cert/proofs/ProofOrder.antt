@@ -14,7 +14,7 @@ use Rattle.tl_rules.proofs.Offsets.{form-within}
 use Rattle.tl_rules.proofs.Order.{first-least, IsInOrder, from, up_to, both, none, one, tested}
 use Rattle.tl_line.specs.Actions.{action_breaks}
 use Rattle.tl_line.proofs.ActionOrder.{call-order}
-use Rattle.tl_cert.specs.ProofFiles.{head_in, bound_breaks, head_breaks_at, head_breaks, link_in, limit_breaks, link_breaks_at, link_breaks, links_breaks, proof_breaks}
+use Rattle.tl_cert.specs.ProofFiles.{head_in, length_bound_breaks, head_breaks_at, head_breaks, link_in, limit_breaks, link_breaks_at, link_breaks, links_breaks, proof_breaks}
 use Rattle.tl_cert.specs.MeaningOfProofs.{proof_meant}
 use Rattle.tl_cert.specs.declared.proof.Proof.{Proof}
 use Rattle.tl_cert.proofs.ProofForms.{link-back, head-back}
@@ -69,7 +69,7 @@ module _ (names : List (List ℕ)) (operators : List Operator) where
       within : (low ≤ at) × (at < next)
       within = form-within (list fs at) low next h
 
-      by_bound : (bound : Option (ℤ × ℕ)) → head_in fs ≡ Some bound → IsInOrder (64 * low) (bound_breaks bound) (64 * next)
+      by_bound : (bound : Option (ℤ × ℕ)) → head_in fs ≡ Some bound → IsInOrder (64 * low) (length_bound_breaks bound) (64 * next)
       by_bound None e = none (64 * low) (64 * next) (omega (arith, within.0, within.1))
       by_bound (Some n) e =
           let k = head-back fs n e in

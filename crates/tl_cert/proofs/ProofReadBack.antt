@@ -23,7 +23,7 @@ use Rattle.tl_line.proofs.ReadBack.{form-breaks, form-meant, clean-text}
 use Rattle.tl_line.proofs.Tokens.{clean-token, decimal-read, decimal-token, symbol-token, token}
 use Rattle.tl_line.proofs.WrittenForms.{action_form, action-item, apart}
 use Rattle.tl_cert.specs.LawsReadBack.{AreReadAs, AreWritable, IsBoundWritable, StartBefore}
-use Rattle.tl_cert.specs.MeaningOfProofs.{bound_meant, links_meant}
+use Rattle.tl_cert.specs.MeaningOfProofs.{length_bound_meant, links_meant}
 use Rattle.tl_cert.specs.ProofFiles.{head_breaks, links_breaks}
 use Rattle.tl_cert.specs.ProofTexts.{head_line, link_line, link_lines, proof_text}
 use Rattle.tl_cert.specs.declared.proof.Link.{Link}
@@ -323,7 +323,7 @@ head-breaks-nothing : (bound : Option ℕ) → IsBoundWritable bound → head_br
 head-breaks-nothing None few = refl
 head-breaks-nothing (Some n) few = rw (inside n 100000 few) refl
 
-head-means : (bound : Option ℕ) → bound_meant (head_form bound 0) ≡ bound
+head-means : (bound : Option ℕ) → length_bound_meant (head_form bound 0) ≡ bound
 head-means None = refl
 head-means (Some n) = refl
 

@@ -23,7 +23,7 @@ use Rattle.tl_search.specs.PairGraph.{pair_in, next_pair}
 use Rattle.tl_search.proofs.ListLaws.{get-single}
 use Rattle.tl_cert.specs.Covers.{Covers, IsNoFarther, MustBeClosed}
 use Rattle.tl_cert.specs.Links.{IsGood, ListsRoot}
-use Rattle.tl_cert.specs.MeaningOfProofs.{bound_meant}
+use Rattle.tl_cert.specs.MeaningOfProofs.{length_bound_meant}
 use Rattle.tl_cert.specs.ProofFiles.{head_breaks, proof_breaks}
 use Rattle.tl_cert.specs.Verdicts.{IsFirstBad}
 use Rattle.tl_cert.specs.declared.proof.Link.{Link}
@@ -125,7 +125,7 @@ pair_form j at = list (more_forms (symbol (codes "pair") (at + 1)) (more_forms (
 heads_are_lawful : (names : List (List ℕ)) (operators : List Operator) → (proof_breaks names operators (more_forms none_head no_form) ≡ []) × (proof_breaks names operators (more_forms within_head no_form) ≡ [])
 heads_are_lawful names operators = (refl, refl)
 
-heads_have_bounds : (bound_meant none_head ≡ None) × (bound_meant within_head ≡ Some 5)
+heads_have_bounds : (length_bound_meant none_head ≡ None) × (length_bound_meant within_head ≡ Some 5)
 heads_have_bounds = (refl, refl)
 
 -- a file without any form, and one that begins with a link

@@ -15,8 +15,8 @@ bound_meant_by (Some None) = None
 bound_meant_by (Some (Some n)) = Some (natural n.0)
 
 -- the bound of the head
-abbrev pub bound_meant : FormTree → Option ℕ
-bound_meant f = bound_meant_by (head_parts f)
+abbrev pub length_bound_meant : FormTree → Option ℕ
+length_bound_meant f = bound_meant_by (head_parts f)
 
 -- a link, by its parts
 abbrev pub link_meant_by : List (List ℕ) → List Operator → Option (ℤ × ℕ × FormTree) → Link
@@ -35,4 +35,4 @@ links_meant names operators (more_forms f fs) = link_meant names operators f ∷
 -- the proof: its bound, and its links
 abbrev pub proof_meant : List (List ℕ) → List Operator → FormTrees → Proof
 proof_meant names operators no_form = record { bound = None; links = [] }
-proof_meant names operators (more_forms f fs) = record { bound = bound_meant f; links = links_meant names operators fs }
+proof_meant names operators (more_forms f fs) = record { bound = length_bound_meant f; links = links_meant names operators fs }

@@ -30,14 +30,14 @@ head_parts (list fs at) = head_in fs
 head_parts _ = None
 
 -- what a bound breaks
-abbrev pub bound_breaks : Option (ℤ × ℕ) → List Break
-bound_breaks None = []
-bound_breaks (Some n) = breaks_if (not (is_within 0 100000 n.0)) Limit n.1
+abbrev pub length_bound_breaks : Option (ℤ × ℕ) → List Break
+length_bound_breaks None = []
+length_bound_breaks (Some n) = breaks_if (not (is_within 0 100000 n.0)) Limit n.1
 
 -- what the form at this offset breaks in the role of the head, by its bound
 abbrev pub head_breaks_at : ℕ → Option (Option (ℤ × ℕ)) → List Break
 head_breaks_at at None = (Shape, at) ∷ []
-head_breaks_at at (Some bound) = bound_breaks bound
+head_breaks_at at (Some bound) = length_bound_breaks bound
 
 -- what a form breaks in the role of the head
 abbrev pub head_breaks : FormTree → List Break

@@ -9,7 +9,7 @@ use Rattle.tl_rules.specs.declared.rule.Rule.TheVariants.{NoPair}
 use Rattle.tl_rules.specs.Rules.{breaks_if}
 use Rattle.tl_rules.specs.Parts.{offset_of, is_within, natural}
 use Rattle.tl_line.specs.ActionTexts.{action_text, values_text}
-use Rattle.tl_cert.specs.MeaningOfProofs.{bound_meant, link_meant_by, links_meant, proof_meant}
+use Rattle.tl_cert.specs.MeaningOfProofs.{length_bound_meant, link_meant_by, links_meant, proof_meant}
 use Rattle.tl_cert.specs.ProofFiles.{head_breaks, limit_breaks, link_breaks_at, link_parts, links_breaks, proof_breaks}
 use Rattle.tl_cert.specs.ProofTexts.{head_line, link_line, link_lines, none_text, proof_text}
 use Rattle.tl_cert.specs.declared.proof.Link.{Link}
@@ -56,7 +56,7 @@ module _ (names : List (List ℕ)) (os us : List Operator) (alike : map head_of 
   same_proof_meant no_form = refl
   same_proof_meant (more_forms f fs) =
       let links = same_links_meant fs in
-      λ i. record { bound = bound_meant f; links = links i }
+      λ i. record { bound = length_bound_meant f; links = links i }
 
   same_action_text : (a : Action) → action_text names os a ≡ action_text names us a
   same_action_text a =

@@ -152,14 +152,14 @@ explanation_in (some_costs p costs) = []
 explanation_in (a_loop p plan) = []
 
 -- the bound of the proof of the files
-abbrev pub bound_in : Input → Option ℕ
-bound_in nothing = None
-bound_in (a_domain forms) = None
-bound_in (a_problem p) = None
-bound_in (a_plan p plan) = None
-bound_in (a_proof p proof) = proof.bound
-bound_in (some_costs p costs) = None
-bound_in (a_loop p plan) = None
+abbrev pub length_bound_in : Input → Option ℕ
+length_bound_in nothing = None
+length_bound_in (a_domain forms) = None
+length_bound_in (a_problem p) = None
+length_bound_in (a_plan p plan) = None
+length_bound_in (a_proof p proof) = proof.bound
+length_bound_in (some_costs p costs) = None
+length_bound_in (a_loop p plan) = None
 
 -- the lines of an answer
 abbrev pub text_of : Input → Answer → List ℕ
@@ -171,7 +171,7 @@ text_of input (traced s kept events o) = events_text input kept events ++ outcom
 text_of input explained = explanation_in input
 text_of input (certified s proof) = proof_text (names_in input) (operators_in input) proof
 text_of input (unproved s o) = outcome_text (names_in input) (operators_in input) s.within s.nodes o
-text_of input (judged_proof v) = none_text (names_in input) (operators_in input) (bound_in input) v
+text_of input (judged_proof v) = none_text (names_in input) (operators_in input) (length_bound_in input) v
 text_of input (sampled n kept o v) = sample_text n kept o v
 text_of input (costed b o) = cost_text (names_in input) (operators_in input) b o
 text_of input (judged_loop v) = loop_text v
