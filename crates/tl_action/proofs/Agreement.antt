@@ -9,7 +9,7 @@ use Rattle.tl_syntax.specs.Lists.{Each}
 use Rattle.tl_syntax.specs.Trees.{TermTree, TermTrees, variable, value, place, arith, no_term, more_terms, FormulaTree, FormulaTrees, verum, falsum, atom, defined, compare, goal_fact, goal_place, goal_not, negation, conjunction, disjunction, for_all, for_some, next, always, eventually, until, within, during, no_formula, more_formulas}
 use Rattle.tl_syntax.proofs.ListLaws.{Each-append}
 use Rattle.tl_terms.specs.Bounds.{arg_value, arg_values, fact_in, same_value, bound_true, tuples, tuples_of}
-use Rattle.tl_terms.specs.Looked.{LookedTable, followed_if, is_integer, operation_on, leaves_open, looked_in_term, looked_in_terms, looked_in_body, looked_in_turn, looked_in_state, looked_in_and, looked_in_or, looked_in_each, looked_in_effect, looked_in_effects}
+use Rattle.tl_terms.specs.Looked.{LookedTable, followed_if, is_defined_integer, operation_on, leaves_open, looked_in_term, looked_in_terms, looked_in_body, looked_in_turn, looked_in_state, looked_in_and, looked_in_or, looked_in_each, looked_in_effect, looked_in_effects}
 use Rattle.tl_terms.specs.Situation.{Situation}
 use Rattle.tl_terms.specs.Step.{adds, dels, sets, effect_instances, all_instances}
 use Rattle.tl_terms.specs.Terms.{apply_op, prepend, place_value, term_value, term_values}
@@ -135,7 +135,7 @@ mutual
       let b = term-agrees w d e t both.1 in
       record {
         value = ap₂ (apply_op op) a.value b.value;
-        looked = λ i. followed_if (is_integer (a.value i)) (a.looked i) (b.looked i ++ operation_on at op (a.value i) (b.value i));
+        looked = λ i. followed_if (is_defined_integer (a.value i)) (a.looked i) (b.looked i ++ operation_on at op (a.value i) (b.value i));
       }
 
   pub terms-agree : (w : World) (d e : Assignment) (ts : TermTrees) → Agree (terms_slots ts) d e → TermsAgree w d e ts

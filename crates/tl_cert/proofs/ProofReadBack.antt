@@ -8,7 +8,7 @@ use Rattle.std.proofs.lemmas.Bool.Decides.{nat_tests}
 use Rattle.std.proofs.lemmas.Int.{ints}
 use Rattle.std.proofs.lemmas.List.Folds.{list_all_at}
 use Rattle.tl_sexpr.specs.Bytes.{is_token_byte}
-use Rattle.tl_sexpr.specs.Spelling.{IsGap, IsItem, AreItems, Spells, is_integer, integer_value}
+use Rattle.tl_sexpr.specs.Spelling.{IsGap, IsItem, AreItems, Spells, spells_integer, integer_value}
 use Rattle.tl_sexpr.specs.Tree.{FormTree, FormTrees, symbol, integer, list, no_form, more_forms}
 use Rattle.tl_sexpr.proofs.Spelled.{no_gap, gap_of_blank, gaps_join}
 use Rattle.tl_syntax.specs.declared.action.Action.{Action}
@@ -55,7 +55,7 @@ each-token text k all lt = by_test (is_token_byte (slice_index text k)) refl
     by_test true is = refl
     by_test false is = absurd (false≢true (sym (list_all_at is_token_byte text k 0 lt is) ∙ all))
 
-word-text : (text : List ℕ) → 0 < length text → list_all is_token_byte text ≡ true → is_integer text ≡ false → IsSymbolText text
+word-text : (text : List ℕ) → 0 < length text → list_all is_token_byte text ≡ true → spells_integer text ≡ false → IsSymbolText text
 word-text text some all other = record { some = some; each = λ k lt. each-token text k all lt; no_integer = other }
 
 none-word : IsSymbolText (codes "none")
@@ -71,14 +71,14 @@ word-item : (bytes : List ℕ) (around from : ℕ) (text : List ℕ) → HasNoCo
 unfolding IsItem AreItems
 word-item bytes around from text clean s h starts ends =
     let range = has-range bytes from text h in
-    (refl, token bytes from text clean (symbol-token text s) h starts ends, sym range, ap is_integer range ∙ s.no_integer)
+    (refl, token bytes from text clean (symbol-token text s) h starts ends, sym range, ap spells_integer range ∙ s.no_integer)
 
 number-item : (bytes : List ℕ) (around from n : ℕ) → HasNoComment bytes → FitsSigned w64 (pos n) → Has bytes from (decimal n) → ((k : ℕ) → k + 1 ≡ from → is_token_byte (slice_index bytes k) ≡ false) → is_token_byte (slice_index bytes (from + length (decimal n))) ≡ false → IsItem bytes around from (from + length (decimal n)) (integer (pos n) from)
 unfolding IsItem AreItems
 number-item bytes around from n clean fits h starts ends =
     let range = has-range bytes from (decimal n) h in
     let read = decimal-read (pos n) fits in
-    (refl, token bytes from (decimal n) clean (decimal-token (pos n) fits) h starts ends, ap is_integer range ∙ read.0, sym (ap integer_value range ∙ read.1), fits)
+    (refl, token bytes from (decimal n) clean (decimal-token (pos n) fits) h starts ends, ap spells_integer range ∙ read.0, sym (ap integer_value range ∙ read.1), fits)
 
 -- after this byte a token may begin
 starts-after : (bytes : List ℕ) (at c : ℕ) (xs : List ℕ) → is_token_byte c ≡ false → Has bytes at (c ∷ xs) → (k : ℕ) → k + 1 ≡ at + 1 → is_token_byte (slice_index bytes k) ≡ false

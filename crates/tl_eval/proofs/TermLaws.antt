@@ -20,7 +20,7 @@ use Rattle.tl_syntax.specs.Lists.{Among}
 use Rattle.tl_syntax.specs.Trees.{TermTree, TermTrees, variable, value, place, arith}
 use Rattle.tl_syntax.specs.TreeOfTerm.{tree_of_term, tree_of_terms, terms_of_list}
 use Rattle.tl_syntax.proofs.TermTrees.{tree-Var, tree-Val, tree-Place, tree-Arith, trees-Terms}
-use Rattle.tl_terms.specs.Looked.{is_integer, operation_on, followed_if, looked_in_term, looked_in_terms}
+use Rattle.tl_terms.specs.Looked.{is_defined_integer, operation_on, followed_if, looked_in_term, looked_in_terms}
 use Rattle.tl_terms.specs.Operations.{Operation, IsPastRange}
 use Rattle.tl_terms.specs.Terms.{apply_op, prepend, place_value, term_value, term_values}
 use Rattle.tl_terms.specs.World.{World}
@@ -115,7 +115,7 @@ all-found meant looked row all b q h = subst (λ (x : Bool). Evaluates meant loo
 
 -- what the operation looks at
 abbrev looked_on : ℕ → Op → Option Value → Option Value → List Operation → List Operation → List Operation
-looked_on at op m n left right = followed_if (is_integer m) left (right ++ operation_on at op m n)
+looked_on at op m n left right = followed_if (is_defined_integer m) left (right ++ operation_on at op m n)
 
 -- a first operand that is no integer decides
 first-None : (at : ℕ) (op : Op) (m n : Option Value) (left right : List Operation) (r : Result (Option Value) RangeNote) → Evaluates m left r → integer_found r ≡ Ok None → Evaluates {A = Option Value} (apply_op op m n) (looked_on at op m n left right) (Ok None)

@@ -7,7 +7,7 @@ ghost use Rattle.tl_eval.specs.TermValues.{gives_value, IsAtomTruth, IsCompariso
 ghost use Rattle.tl_syntax.specs.Fits.{term_count};
 ghost use Rattle.tl_syntax.specs.TreeOfTerm.{tree_of_term, tree_of_terms};
 ghost use Rattle.tl_terms.specs.Bounds.{arg_value, arg_values, fact_in, same_value};
-ghost use Rattle.tl_terms.specs.Looked.{is_integer, leaves_open};
+ghost use Rattle.tl_terms.specs.Looked.{is_defined_integer, leaves_open};
 ghost use Rattle.tl_terms.specs.Truth.{compared};
 
 use crate::RangeNote;

@@ -13,7 +13,7 @@ use Rattle.std.specs.List.{list_all}
 use Rattle.std.specs.Str.{all_ascii_digits}
 use Rattle.std.specs.Str.Parse.{digits_value}
 use Rattle.tl_sexpr.specs.Bytes.{is_token_byte}
-use Rattle.tl_sexpr.specs.Spelling.{IsToken, is_numeral, is_integer, integer_value}
+use Rattle.tl_sexpr.specs.Spelling.{IsToken, is_numeral, spells_integer, integer_value}
 use Rattle.tl_sexpr.proofs.TokenBytes.{not_that_byte}
 use Rattle.tl_line.specs.WritableActions.{IsSymbolText}
 use Rattle.tl_line.proofs.Pieces.{Has, HasNoComment, outside, no_byte}
@@ -94,7 +94,7 @@ is-numeral : (n : ℕ) → n < 2 ^ 64 → is_numeral (decimal n) ≡ true
 is-numeral n lt = and_from (all_ascii_digits (decimal n)) (nat_lt 0 (length (decimal n))) (digits_decimal own n lt) (lt-ltb 0 (length (decimal n)) (decimal_nonempty n lt))
 
 -- digits are no sign
-no-sign : (text : List ℕ) → is_numeral text ≡ true → (is_integer text ≡ true) × (integer_value text ≡ pos (digits_value 10 text))
+no-sign : (text : List ℕ) → is_numeral text ≡ true → (spells_integer text ≡ true) × (integer_value text ≡ pos (digits_value 10 text))
 no-sign [] h = absurd (false≢true h)
 no-sign (c ∷ cs) h = by_test (c == 45) refl
   where
@@ -104,12 +104,12 @@ no-sign (c ∷ cs) h = by_test (c == 45) refl
     minus-apart : c ≡ 45 → ⊥
     minus-apart e = false≢true (ap is_ascii_digit (sym e) ∙ each-digit (c ∷ cs) 0 all (omega arith))
 
-    by_test : (b : Bool) → (c == 45) ≡ b → (is_integer (c ∷ cs) ≡ true) × (integer_value (c ∷ cs) ≡ pos (digits_value 10 (c ∷ cs)))
+    by_test : (b : Bool) → (c == 45) ≡ b → (spells_integer (c ∷ cs) ≡ true) × (integer_value (c ∷ cs) ≡ pos (digits_value 10 (c ∷ cs)))
     by_test true is = absurd (minus-apart (eqb-true c 45 is))
     by_test false is = (rw is h, rw is refl)
 
 -- an integer is read from its decimal
-pub decimal-read : (z : ℤ) → FitsSigned w64 z → (is_integer (signed_decimal z) ≡ true) × (integer_value (signed_decimal z) ≡ z)
+pub decimal-read : (z : ℤ) → FitsSigned w64 z → (spells_integer (signed_decimal z) ≡ true) × (integer_value (signed_decimal z) ≡ z)
 decimal-read (pos n) fits =
     let lt = small n fits in
     let read = no-sign (decimal n) (is-numeral n lt) in

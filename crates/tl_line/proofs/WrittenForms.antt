@@ -2,7 +2,7 @@
 use Rattle.std.proofs.Common.{◌≡◌, ℕ, ◌+◌, ◌<◌, List, [], ◌∷◌, ◌++◌, length, slice_index, false, ◌==◌, refl, sym, ap, ◌∙◌, subst, add-zero, append_assoc, length-append, arith}
 use Rattle.std.proofs.lemmas.Bool.{false≢true, eq-eqb}
 use Rattle.tl_sexpr.specs.Bytes.{is_token_byte}
-use Rattle.tl_sexpr.specs.Spelling.{IsGap, IsItem, AreItems, is_integer, integer_value}
+use Rattle.tl_sexpr.specs.Spelling.{IsGap, IsItem, AreItems, spells_integer, integer_value}
 use Rattle.tl_sexpr.specs.Tree.{FormTree, FormTrees, symbol, integer, list, no_form, more_forms}
 use Rattle.tl_sexpr.proofs.Spelled.{no_gap, gap_of_blank}
 use Rattle.tl_syntax.specs.declared.action.Action.{Action}
@@ -38,7 +38,7 @@ symbol-item : (bytes : List ℕ) (around from : ℕ) (text : List ℕ) → HasNo
 unfolding IsItem AreItems
 symbol-item bytes around from text clean s h starts ends =
     let range = has-range bytes from text h in
-    (refl, token bytes from text clean (symbol-token text s) h starts ends, sym range, ap is_integer range ∙ s.no_integer)
+    (refl, token bytes from text clean (symbol-token text s) h starts ends, sym range, ap spells_integer range ∙ s.no_integer)
 
 value-item : (names : List (List ℕ)) (bytes : List ℕ) (around from : ℕ) (v : Value) → HasNoComment bytes → IsWritableValue names v → Has bytes from (value_text names v) → ((k : ℕ) → k + 1 ≡ from → is_token_byte (slice_index bytes k) ≡ false) → is_token_byte (slice_index bytes (from + length (value_text names v))) ≡ false → IsItem bytes around from (from + length (value_text names v)) (value_form names v from)
 unfolding IsItem AreItems
@@ -47,7 +47,7 @@ value-item names bytes around from (Int z) clean w h starts ends =
     let text = value_text names (Int z) in
     let range = has-range bytes from text h in
     let read = decimal-read z w in
-    (refl, token bytes from text clean (decimal-token z w) h starts ends, ap is_integer range ∙ read.0, sym (ap integer_value range ∙ read.1), w)
+    (refl, token bytes from text clean (decimal-token z w) h starts ends, ap spells_integer range ∙ read.0, sym (ap integer_value range ∙ read.1), w)
 
 -- after values a space or the end of the list stands
 next-byte : (names : List (List ℕ)) (vs : List Value) → is_token_byte (slice_index (values_text names vs ++ 41 ∷ []) 0) ≡ false

@@ -2,7 +2,7 @@
 use Rattle.std.specs.Prelude.{◌≡◌, ℕ, ◌<◌, List, length, Some, false, IsTrue, FitsSigned, slice_get, slice_index}
 use Rattle.std.specs.Int.{w64}
 use Rattle.tl_sexpr.specs.Bytes.{is_token_byte}
-use Rattle.tl_sexpr.specs.Spelling.{is_integer}
+use Rattle.tl_sexpr.specs.Spelling.{spells_integer}
 use Rattle.tl_syntax.specs.declared.action.Action.{Action}
 use Rattle.tl_syntax.specs.declared.operator.Operator.{Operator}
 use Rattle.tl_syntax.specs.declared.value.Value.{Value}
@@ -15,7 +15,7 @@ use Rattle.tl_line.specs.ActionTexts.{name_text}
 pub record IsSymbolText (text : List ℕ) : Type 0 where
   pub some : 0 < length text
   pub each : (k : ℕ) → k < length text → IsTrue (is_token_byte (slice_index text k))
-  pub no_integer : is_integer text ≡ false
+  pub no_integer : spells_integer text ≡ false
 
 -- the number of a name, whose text is that of a symbol
 pub record IsWritableName (names : List (List ℕ)) (n : ℕ) : Type 0 where

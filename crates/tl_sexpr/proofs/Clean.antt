@@ -5,7 +5,7 @@ use Rattle.tl_sexpr.specs.declared.reader.OpenList.{OpenList}
 use Rattle.tl_sexpr.specs.Bytes.{is_blank, is_token_byte, IsInComment, StandsAt, IsTokenAt}
 use Rattle.tl_sexpr.specs.Faults.{IsDepth, IsTooBig, FaultAt, bad_byte, stray_close, too_deep, big_integer}
 use Rattle.tl_sexpr.specs.Reading.{Nested}
-use Rattle.tl_sexpr.specs.Spelling.{IsGap, IsToken, IsItem, AreItems, is_integer}
+use Rattle.tl_sexpr.specs.Spelling.{IsGap, IsToken, IsItem, AreItems, spells_integer}
 use Rattle.tl_sexpr.specs.Tree.{FormTree, FormTrees, symbol, integer, list, no_form, more_forms, trees_of}
 use Rattle.tl_sexpr.proofs.Depths.{NoParenthesis, depth_unique, depth_same, depth_after_open, depth_after_close, not_both}
 use Rattle.tl_sexpr.proofs.TokenBytes.{not_that_byte, blank_is_plain}
@@ -140,7 +140,7 @@ clean_close bytes from close d stands inside = record {
 }
 
 -- the form of a token says that it is not too big
-fits_by_symbol : (text : List ℕ) → is_integer text ≡ false → ¬ IsTooBig text
+fits_by_symbol : (text : List ℕ) → spells_integer text ≡ false → ¬ IsTooBig text
 fits_by_symbol text fails big = false≢true (sym fails ∙ big.whole_number)
 
 mutual

@@ -7,7 +7,7 @@ use Rattle.std.specs.List.{list_all}
 use Rattle.std.proofs.lemmas.Str.Parse.{IsNumeralModel, numerals_by_value, tells_all_ascii_digits}
 use Rattle.std.specs.Str.{all_ascii_digits}
 use Rattle.std.specs.Str.Parse.{digits_value, signed_digits_value, without_leading_sign, IsNumeral}
-use Rattle.tl_sexpr.specs.Spelling.{is_numeral, is_integer, integer_value}
+use Rattle.tl_sexpr.specs.Spelling.{is_numeral, spells_integer, integer_value}
 use Rattle.tl_sexpr.specs.Faults.{IsTooBig}
 use Rattle.tl_sexpr.specs.Reading.{IsTokenForm}
 use Rattle.tl_sexpr.specs.Tree.{integer}
@@ -21,19 +21,19 @@ numeral ds h = let p = and_parts (all_ascii_digits ds) (nat_lt 0 (length ds)) h 
 abbrev ReadsAsSpelled : List ℕ → Type 0
 ReadsAsSpelled text = IsNumeral 10 (without_leading_sign text) × (signed_digits_value 10 text ≡ integer_value text)
 
-with_minus : (c : ℕ) (cs : List ℕ) → eqb c 45 ≡ true → is_integer (c ∷ cs) ≡ true → ReadsAsSpelled (c ∷ cs)
+with_minus : (c : ℕ) (cs : List ℕ) → eqb c 45 ≡ true → spells_integer (c ∷ cs) ≡ true → ReadsAsSpelled (c ∷ cs)
 with_minus c cs e h = rw e (numeral cs (rw e at h), refl)
 
 no_plus : (c : ℕ) (cs : List ℕ) → is_numeral (c ∷ cs) ≡ true → eqb c 43 ≡ false
 no_plus c cs h = ne_eqb c 43 (λ e. false≢true (rw e at h))
 
-without_minus : (c : ℕ) (cs : List ℕ) → eqb c 45 ≡ false → is_integer (c ∷ cs) ≡ true → ReadsAsSpelled (c ∷ cs)
+without_minus : (c : ℕ) (cs : List ℕ) → eqb c 45 ≡ false → spells_integer (c ∷ cs) ≡ true → ReadsAsSpelled (c ∷ cs)
 without_minus c cs e h =
     let n : is_numeral (c ∷ cs) ≡ true = rw e at h in
     rw (e, no_plus c cs n) (numeral (c ∷ cs) n, refl)
 
 -- the text of an integer is read as the spelling says
-pub reads_as_spelled : (text : List ℕ) → is_integer text ≡ true → ReadsAsSpelled text
+pub reads_as_spelled : (text : List ℕ) → spells_integer text ≡ true → ReadsAsSpelled text
 reads_as_spelled [] h = absurd (false≢true h)
 reads_as_spelled (c ∷ cs) h = elim (cases_Bool (eqb c 45)) [ inl e ↦ with_minus c cs e h | inr e ↦ without_minus c cs e h ]
 
@@ -42,13 +42,13 @@ abbrev pub IsReadable : List ℕ → Type 0
 IsReadable text = IsNumeral 10 (without_leading_sign text) × FitsSigned w64 (signed_digits_value 10 text)
 
 -- the form of an integer that was read
-pub integer_form : (text : List ℕ) (at : ℕ) (z : ℤ) → is_integer text ≡ true → IsReadable text × (z ≡ signed_digits_value 10 text) → IsTokenForm text at (integer z at)
+pub integer_form : (text : List ℕ) (at : ℕ) (z : ℤ) → spells_integer text ≡ true → IsReadable text × (z ≡ signed_digits_value 10 text) → IsTokenForm text at (integer z at)
 integer_form text at z h p =
     let same = (reads_as_spelled text h).1 in
     (refl, h, p.1 ∙ same, subst (λ (n : ℤ). FitsSigned w64 n) (sym p.1) p.0.1)
 
 -- an integer that was not read is too large
-pub integer_too_large : (text : List ℕ) → is_integer text ≡ true → ¬ IsReadable text → IsTooBig text
+pub integer_too_large : (text : List ℕ) → spells_integer text ≡ true → ¬ IsReadable text → IsTooBig text
 integer_too_large text h p =
     let r = reads_as_spelled text h in
     record {

@@ -2,7 +2,7 @@
 use Rattle.std.proofs.Common.{◌≡◌, ℕ, ◌+◌, ◌<◌, ◌≤◌, ◌⊎◌, List, length, slice_range, true, false, inl, inr, refl, sym, ◌∙◌, ap, ap₂, subst, arith}
 use Rattle.std.proofs.lemmas.Bool.{cases_lt, false≢true}
 use Rattle.tl_sexpr.specs.Bytes.{StandsAt, IsTokenAt}
-use Rattle.tl_sexpr.specs.Spelling.{IsGap, IsToken, IsItem, AreItems, Spells, is_integer, integer_value}
+use Rattle.tl_sexpr.specs.Spelling.{IsGap, IsToken, IsItem, AreItems, Spells, spells_integer, integer_value}
 use Rattle.tl_sexpr.specs.Tree.{FormTree, FormTrees, symbol, integer, list, no_form, more_forms}
 use Rattle.tl_sexpr.proofs.Clean.{not_in_gap, no_token_in_gap, not_in_token, one_token_end}
 use Rattle.tl_sexpr.proofs.Depths.{not_both}
@@ -80,10 +80,10 @@ one_first bytes from first other g h b c =
 token_or_list : (bytes : List ℕ) (from to : ℕ) → IsToken bytes from to → StandsAt bytes from 40 → ⊥
 token_or_list bytes from to token stands = let some = token.some in not_in_token bytes from 40 (token.each from (omega arith) some) refl stands
 
-symbol_or_integer : (bytes : List ℕ) (from to end : ℕ) → IsToken bytes from to → IsToken bytes from end → is_integer (slice_range bytes from to) ≡ false → is_integer (slice_range bytes from end) ≡ true → ⊥
+symbol_or_integer : (bytes : List ℕ) (from to end : ℕ) → IsToken bytes from to → IsToken bytes from end → spells_integer (slice_range bytes from to) ≡ false → spells_integer (slice_range bytes from end) ≡ true → ⊥
 symbol_or_integer bytes from to end p q fails passes =
     let same = one_token_end bytes from to end p q in
-    false≢true (sym fails ∙ (ap (λ n. is_integer (slice_range bytes from n)) same ∙ passes))
+    false≢true (sym fails ∙ (ap (λ n. spells_integer (slice_range bytes from n)) same ∙ passes))
 
 mutual
   unfolding IsItem AreItems

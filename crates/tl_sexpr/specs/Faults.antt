@@ -4,7 +4,7 @@ use Rattle.std.specs.Int.{w64}
 use Rattle.tl_sexpr.specs.declared.fault.TextFault.{TextFault}
 use Rattle.tl_sexpr.specs.declared.fault.TextFault.TheVariants.{BadByte, StrayClose, Unclosed, TooDeep, BigInteger, NoMemory}
 use Rattle.tl_sexpr.specs.Bytes.{is_blank, is_token_byte, IsInComment, StandsAt}
-use Rattle.tl_sexpr.specs.Spelling.{IsToken, is_integer, integer_value}
+use Rattle.tl_sexpr.specs.Spelling.{IsToken, spells_integer, integer_value}
 
 -- before this offset the byte stands so many times outside comments
 unfoldable pub IsCount : List ℕ → ℕ → ℕ → ℕ → Type 0
@@ -41,7 +41,7 @@ pub record IsTooDeep (bytes : List ℕ) (k : ℕ) : Type 0 where
 
 -- the text is an integer that 64 bits with a sign do not hold
 pub record IsTooBig (text : List ℕ) : Type 0 where
-  pub whole_number : is_integer text ≡ true
+  pub whole_number : spells_integer text ≡ true
   pub too_big : ¬ FitsSigned w64 (integer_value text)
 
 -- the first byte of a token that is such an integer

@@ -7,7 +7,7 @@ use Rattle.tl_sexpr.specs.declared.form.Form.TheVariants as form
 use Rattle.tl_sexpr.specs.declared.reader.OpenList.{OpenList}
 use Rattle.tl_sexpr.specs.declared.reader.Reader.{Reader}
 use Rattle.tl_sexpr.specs.Bytes.{StandsAt, IsTokenAt}
-use Rattle.tl_sexpr.specs.Spelling.{AreItems, is_integer, integer_value}
+use Rattle.tl_sexpr.specs.Spelling.{AreItems, spells_integer, integer_value}
 use Rattle.tl_sexpr.specs.Tree.{FormTree, FormTrees, symbol, integer, list, trees_of, items_of}
 
 -- no token and no comment goes on from before this position to the byte here, if there is one
@@ -31,8 +31,8 @@ pub record IsRead (bytes : List ℕ) (reader : Reader) (at : ℕ) : Type 0 where
 
 -- this is the form of a token with this text at this offset
 abbrev pub IsTokenForm : List ℕ → ℕ → FormTree → Type 0
-IsTokenForm text from (symbol s at) = (at ≡ from) × (s ≡ text) × (is_integer text ≡ false)
-IsTokenForm text from (integer z at) = (at ≡ from) × (is_integer text ≡ true) × (z ≡ integer_value text) × FitsSigned w64 z
+IsTokenForm text from (symbol s at) = (at ≡ from) × (s ≡ text) × (spells_integer text ≡ false)
+IsTokenForm text from (integer z at) = (at ≡ from) × (spells_integer text ≡ true) × (z ≡ integer_value text) × FitsSigned w64 z
 IsTokenForm text from (list _ _) = ⊥
 
 -- a list was opened

@@ -23,9 +23,9 @@ abbrev pub is_numeral : List ℕ → Bool
 is_numeral text = all_ascii_digits text && nat_lt 0 (length text)
 
 -- an optional `-`, and one or more decimal digits
-abbrev pub is_integer : List ℕ → Bool
-is_integer [] = false
-is_integer (c ∷ cs) = if c == 45 then is_numeral cs else is_numeral (c ∷ cs)
+abbrev pub spells_integer : List ℕ → Bool
+spells_integer [] = false
+spells_integer (c ∷ cs) = if c == 45 then is_numeral cs else is_numeral (c ∷ cs)
 
 -- the whole number that such a text writes
 abbrev pub integer_value : List ℕ → ℤ
@@ -37,9 +37,9 @@ integer_value (c ∷ cs) = if c == 45 then neg_ℤ (pos (digits_value 10 cs)) el
 unfoldable mutual
   pub IsItem : List ℕ → ℕ → ℕ → ℕ → FormTree → Type 0
   IsItem bytes around from to (symbol text at) =
-      (at ≡ from) × IsToken bytes from to × (text ≡ slice_range bytes from to) × (is_integer (slice_range bytes from to) ≡ false)
+      (at ≡ from) × IsToken bytes from to × (text ≡ slice_range bytes from to) × (spells_integer (slice_range bytes from to) ≡ false)
   IsItem bytes around from to (integer z at) =
-      (at ≡ from) × IsToken bytes from to × (is_integer (slice_range bytes from to) ≡ true) × (z ≡ integer_value (slice_range bytes from to)) × FitsSigned w64 z
+      (at ≡ from) × IsToken bytes from to × (spells_integer (slice_range bytes from to) ≡ true) × (z ≡ integer_value (slice_range bytes from to)) × FitsSigned w64 z
   IsItem bytes around from to (list fs at) =
       (at ≡ from) × (around < 100) × StandsAt bytes from 40 × ((close : ℕ) × (to ≡ close + 1) × StandsAt bytes close 41 × AreItems bytes (around + 1) (from + 1) close fs)
 

@@ -3,7 +3,7 @@ ghost use Rattle.std.specs.Prelude.{◌≡◌, ◌<◌, ◌⊎◌, ℕ, length, 
 ghost use Rattle.tl_sexpr.specs.Bytes.{is_token_byte};
 ghost use Rattle.tl_sexpr.specs.Faults.{IsTooBig};
 ghost use Rattle.tl_sexpr.specs.Reading.{IsTokenForm};
-ghost use Rattle.tl_sexpr.specs.Spelling.{is_integer, is_numeral};
+ghost use Rattle.tl_sexpr.specs.Spelling.{spells_integer, is_numeral};
 ghost use Rattle.tl_sexpr.specs.Tree.{tree_of};
 
 use crate::{Form, Text, TextFault};
@@ -19,7 +19,7 @@ fn is_numeral(text: &[u8]) -> bool
 
 /// Whether the text is an optional `-` and one or more digits.
 fn is_integer(text: &[u8]) -> bool
-    ensures { result ≡ is_integer text.now }
+    ensures { result ≡ spells_integer text.now }
 {
     match text {
         [b'-', digits @ ..] => is_numeral(digits),

@@ -20,9 +20,9 @@ use Rattle.tl_terms.specs.Definitions.{Tests, true_at_level, with_definition, si
 use Rattle.tl_terms.specs.Operations.{Operation}
 
 -- whether it is defined and an integer
-abbrev pub is_integer : Option Value → Bool
-is_integer (Some (Int z)) = true
-is_integer _ = false
+abbrev pub is_defined_integer : Option Value → Bool
+is_defined_integer (Some (Int z)) = true
+is_defined_integer _ = false
 
 -- the operation, where both operands are integers
 abbrev pub operation_on : ℕ → Op → Option Value → Option Value → List Operation
@@ -39,7 +39,7 @@ unfoldable mutual
   looked_in_term w e (variable s) = []
   looked_in_term w e (value v) = []
   looked_in_term w e (place f ts) = looked_in_terms w e ts
-  looked_in_term w e (arith op s t at) = followed_if (is_integer (term_value w e s)) (looked_in_term w e s) (looked_in_term w e t ++ operation_on at op (term_value w e s) (term_value w e t))
+  looked_in_term w e (arith op s t at) = followed_if (is_defined_integer (term_value w e s)) (looked_in_term w e s) (looked_in_term w e t ++ operation_on at op (term_value w e s) (term_value w e t))
 
   pub looked_in_terms : World → Assignment → TermTrees → List Operation
   looked_in_terms w e no_term = []
@@ -57,7 +57,7 @@ looked_in_body d n (Some vs) = d n vs
 -- whether the first side of a comparison leaves it open
 abbrev pub leaves_open : Cmp → Option Value → Bool
 leaves_open cmp.Eq side = is_some side
-leaves_open c side = is_integer side
+leaves_open c side = is_defined_integer side
 
 -- looked at for the tuples in their order, as long as the test is true
 abbrev pub looked_in_turn : (List Value → List Operation) → (List Value → Bool) → List (List Value) → List Operation

@@ -5,7 +5,7 @@ use Rattle.std.proofs.lemmas.Grind.{same_number_lists}
 use Rattle.std.proofs.lemmas.List.{get_or_append_left, get_or-append-add}
 use Rattle.std.proofs.lemmas.List.Edits.{length-between, get_or-between}
 use Rattle.tl_sexpr.specs.Bytes.{is_blank, is_token_byte, IsInComment, StandsAt, IsTokenAt}
-use Rattle.tl_sexpr.specs.Spelling.{IsGap, IsToken, is_integer, integer_value, IsItem, AreItems}
+use Rattle.tl_sexpr.specs.Spelling.{IsGap, IsToken, spells_integer, integer_value, IsItem, AreItems}
 use Rattle.tl_sexpr.specs.Tree.{FormTree, FormTrees, symbol, integer, list, no_form, more_forms}
 
 -- the forms n bytes later
@@ -154,10 +154,10 @@ module _ (line bytes : List ℕ) where
     item_on : (around from to : ℕ) (f : FormTree) → IsItem bytes around from to f → IsItem all around (n + from) (n + to) (moved n f)
     item_on around from to (symbol text at) h =
         let range = range_on from to h.1 in
-        (ap (λ (i : ℕ). n + i) h.0, token_on from to h.1, h.2 ∙ sym range, ap is_integer range ∙ h.3)
+        (ap (λ (i : ℕ). n + i) h.0, token_on from to h.1, h.2 ∙ sym range, ap spells_integer range ∙ h.3)
     item_on around from to (integer z at) h =
         let range = range_on from to h.1 in
-        (ap (λ (i : ℕ). n + i) h.0, token_on from to h.1, ap is_integer range ∙ h.2, h.3 ∙ sym (ap integer_value range), h.4)
+        (ap (λ (i : ℕ). n + i) h.0, token_on from to h.1, ap spells_integer range ∙ h.2, h.3 ∙ sym (ap integer_value range), h.4)
     item_on around from to (list fs at) h =
         let inner = h.3 in
         let begin : n + (from + 1) ≡ n + from + 1 = omega arith in
