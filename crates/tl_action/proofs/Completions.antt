@@ -12,7 +12,7 @@ use Rattle.tl_syntax.specs.declared.variable.Arg.{Arg}
 use Rattle.tl_syntax.specs.declared.variable.Arg.TheVariants as arg
 use Rattle.tl_syntax.specs.declared.variable.Var.{Var}
 use Rattle.tl_syntax.specs.Assignment.{Assignment, bind, no_values}
-use Rattle.tl_syntax.specs.BoundVariables.{is_variable, stands_in, args_of, DifferInSlot, OccurIn}
+use Rattle.tl_syntax.specs.BoundVariables.{is_that_variable, stands_in, args_of, DifferInSlot, OccurIn}
 use Rattle.tl_syntax.specs.FreeVariables.{slots_of, arg_slots, bound_slots, is_slot_in, InScope}
 use Rattle.tl_syntax.specs.Lists.{One, Among}
 use Rattle.tl_syntax.proofs.ListLaws.{Each-Among, one_in}
@@ -48,10 +48,10 @@ slot-in (u ∷ ss) s h = elim h [
     or-true false = refl
 
 -- a slot of a bound is one of a variable that stands in it
-stands-at : (xs : List Arg) (q : ℕ) (s : Var) → s.slot ≡ q → Among q (flat_map arg_slots xs) → list_any (is_variable s) xs ≡ true
+stands-at : (xs : List Arg) (q : ℕ) (s : Var) → s.slot ≡ q → Among q (flat_map arg_slots xs) → list_any (is_that_variable s) xs ≡ true
 stands-at [] q s e h = absurd h
 stands-at (arg.Var u ∷ xs) q s e h = elim h [
-  | inl k ↦ ap (λ (b : Bool). b || list_any (is_variable s) xs) (eq-eqb u.slot s.slot (k ∙ sym e))
+  | inl k ↦ ap (λ (b : Bool). b || list_any (is_that_variable s) xs) (eq-eqb u.slot s.slot (k ∙ sym e))
   | inr k ↦ ap (λ (b : Bool). (u.slot == s.slot) || b) (stands-at xs q s e k) ∙ or-true (u.slot == s.slot)
 ]
   where
@@ -62,7 +62,7 @@ stands-at (arg.Val v ∷ xs) q s e h = stands-at xs q s e h
 
 -- whether it stands in a bound goes by the slot alone
 stands-alike : (b : Bound) (s u : Var) → s.slot ≡ u.slot → stands_in s b ≡ stands_in u b
-stands-alike b s u e = λ i. list_any (is_variable (record { slot = e i; name = s.name })) (args_of b)
+stands-alike b s u e = λ i. list_any (is_that_variable (record { slot = e i; name = s.name })) (args_of b)
 
 one-alike : (seen : List Bound) (s u : Var) → s.slot ≡ u.slot → stands_in_one seen s ≡ stands_in_one seen u
 one-alike [] s u e = refl

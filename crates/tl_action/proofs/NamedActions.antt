@@ -16,7 +16,7 @@ use Rattle.tl_syntax.specs.declared.variable.Arg.{Arg}
 use Rattle.tl_syntax.specs.declared.variable.Arg.TheVariants as arg
 use Rattle.tl_syntax.specs.declared.variable.Var.{Var}
 use Rattle.tl_syntax.specs.Assignment.{Assignment, no_values}
-use Rattle.tl_syntax.specs.BoundVariables.{is_variable, stands_in}
+use Rattle.tl_syntax.specs.BoundVariables.{is_that_variable, stands_in}
 use Rattle.tl_syntax.specs.Kept.{OperatorKeeps}
 use Rattle.tl_syntax.specs.Lists.{Each}
 use Rattle.tl_syntax.specs.Named.{ValueIsNamed}
@@ -40,7 +40,7 @@ use Rattle.tl_terms.proofs.NamedWorlds.{goal-named, avoid-named}
 abbrev Has : ℕ → Assignment → Var → Type 0
 Has n e s = (v : Value) × (e s.slot ≡ Some v) × ValueIsNamed n v
 
-args-named : (n : ℕ) (e : Assignment) (xs : List Arg) (vs : List Value) (s : Var) → arg_values e xs ≡ Some vs → Each (ValueIsNamed n) vs → list_any (is_variable s) xs ≡ true → Has n e s
+args-named : (n : ℕ) (e : Assignment) (xs : List Arg) (vs : List Value) (s : Var) → arg_values e xs ≡ Some vs → Each (ValueIsNamed n) vs → list_any (is_that_variable s) xs ≡ true → Has n e s
 args-named n e [] vs s q h k = absurd (true≢false (sym k))
 args-named n e (arg.Val v ∷ xs) vs s q h k =
     let parts = prepend-parts (Some v) (arg_values e xs) vs q in
@@ -48,18 +48,18 @@ args-named n e (arg.Val v ∷ xs) vs s q h k =
 args-named n e (arg.Var u ∷ xs) vs s q h k =
     let parts = prepend-parts (e u.slot) (arg_values e xs) vs q in
     let named = subst (Each (ValueIsNamed n)) parts.4 h in
-    (elim (u.slot == s.slot) as (λ b. (u.slot == s.slot) ≡ b → (b || list_any (is_variable s) xs) ≡ true → Has n e s) [
+    (elim (u.slot == s.slot) as (λ b. (u.slot == s.slot) ≡ b → (b || list_any (is_that_variable s) xs) ≡ true → Has n e s) [
       | true ↦ λ z m. (parts.0, ap e (sym (eqb-true u.slot s.slot z)) ∙ parts.2, named.0)
       | false ↦ λ z m. args-named n e xs parts.1 s parts.3 named.1 m
     ]) refl k
 
-fact-named : (n : ℕ) (w : World) (p : ℕ) (e : Assignment) (xs : List Arg) (s : Var) → WorldIsNamed n w → fact_in w p (arg_values e xs) ≡ true → list_any (is_variable s) xs ≡ true → Has n e s
+fact-named : (n : ℕ) (w : World) (p : ℕ) (e : Assignment) (xs : List Arg) (s : Var) → WorldIsNamed n w → fact_in w p (arg_values e xs) ≡ true → list_any (is_that_variable s) xs ≡ true → Has n e s
 fact-named n w p e xs s h t k = (elim (arg_values e xs) as (λ o. arg_values e xs ≡ o → fact_in w p o ≡ true → Has n e s) [
   | None ↦ λ q m. absurd (true≢false (sym m))
   | Some vs ↦ λ q m. args-named n e xs vs s q (h.facts (p, vs) m) k
 ]) refl t
 
-same-named : (n : ℕ) (w : World) (f : ℕ) (e : Assignment) (xs : List Arg) (x : Arg) (vs : List Value) (s : Var) → WorldIsNamed n w → arg_values e xs ≡ Some vs → same_value (value_at w (f, vs)) (arg_value e x) ≡ true → list_any (is_variable s) (x ∷ xs) ≡ true → Has n e s
+same-named : (n : ℕ) (w : World) (f : ℕ) (e : Assignment) (xs : List Arg) (x : Arg) (vs : List Value) (s : Var) → WorldIsNamed n w → arg_values e xs ≡ Some vs → same_value (value_at w (f, vs)) (arg_value e x) ≡ true → list_any (is_that_variable s) (x ∷ xs) ≡ true → Has n e s
 same-named n w f e xs x vs s h q t k = (elim (value_at w (f, vs)) as (λ o. value_at w (f, vs) ≡ o → same_value o (arg_value e x) ≡ true → Has n e s) [
   | None ↦ λ a m. absurd (true≢false (sym m))
   | Some u ↦ λ a m. (elim (arg_value e x) as (λ r. arg_value e x ≡ r → same_value (Some u) r ≡ true → Has n e s) [
@@ -70,7 +70,7 @@ same-named n w f e xs x vs s h q t k = (elim (value_at w (f, vs)) as (λ o. valu
   ]) refl m
 ]) refl t
 
-place-named : (n : ℕ) (w : World) (f : ℕ) (e : Assignment) (xs : List Arg) (x : Arg) (s : Var) → WorldIsNamed n w → same_value (place_value w f (arg_values e xs)) (arg_value e x) ≡ true → list_any (is_variable s) (x ∷ xs) ≡ true → Has n e s
+place-named : (n : ℕ) (w : World) (f : ℕ) (e : Assignment) (xs : List Arg) (x : Arg) (s : Var) → WorldIsNamed n w → same_value (place_value w f (arg_values e xs)) (arg_value e x) ≡ true → list_any (is_that_variable s) (x ∷ xs) ≡ true → Has n e s
 place-named n w f e xs x s h t k = (elim (arg_values e xs) as (λ o. arg_values e xs ≡ o → same_value (place_value w f o) (arg_value e x) ≡ true → Has n e s) [
   | None ↦ λ q m. absurd (true≢false (sym m))
   | Some vs ↦ λ q m. same-named n w f e xs x vs s h q m k

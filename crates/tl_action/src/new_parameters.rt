@@ -2,15 +2,15 @@
 ghost use Rattle.std.specs.List.{list_any};
 ghost use Rattle.std.specs.Prelude.{◌≡◌, ◌≤◌, take, IfOk};
 ghost use Rattle.tl_action.specs.Join.{arranged, bound_count, is_new, new_at, new_parameters_in, stands_in_one};
-ghost use Rattle.tl_syntax.specs.BoundVariables.{is_variable, stands_in};
+ghost use Rattle.tl_syntax.specs.BoundVariables.{is_that_variable, stands_in};
 
 use crate::arranged::Arranged;
 use std::alloc::Global;
 use tl_syntax::{Arg, Bound, NoMemory, Var, Vars};
 
 /// Whether the argument is the variable. It takes no memory.
-fn is_variable(var: &Var, arg: &Arg) -> bool
-    ensures { result ≡ is_variable var.now arg.now }
+fn is_that_variable(var: &Var, arg: &Arg) -> bool
+    ensures { result ≡ is_that_variable var.now arg.now }
 {
     match arg {
         Arg::Var(other) => other.slot == var.slot,
@@ -20,9 +20,9 @@ fn is_variable(var: &Var, arg: &Arg) -> bool
 
 /// Whether the variable is one of the arguments. It takes no memory.
 fn is_among(var: &Var, args: &[Arg]) -> bool
-    ensures { result ≡ list_any (is_variable var.now) args.now }
+    ensures { result ≡ list_any (is_that_variable var.now) args.now }
 {
-    args.iter().any(|arg| is_variable(var, arg))
+    args.iter().any(|arg| is_that_variable(var, arg))
 }
 
 /// Whether the variable stands in the bound. It takes no memory.
@@ -31,10 +31,12 @@ pub(crate) fn stands_in(var: &Var, b: &Bound) -> bool
 {
     match b {
         Bound::Fact(_, args) => is_among(var, args.as_slice()),
-        Bound::Place(_, args, value) => is_variable(var, value) || is_among(var, args.as_slice()),
+        Bound::Place(_, args, value) => {
+            is_that_variable(var, value) || is_among(var, args.as_slice())
+        }
         Bound::GoalFact(_, args) => is_among(var, args.as_slice()),
         Bound::GoalPlace(_, args, value) => {
-            is_variable(var, value) || is_among(var, args.as_slice())
+            is_that_variable(var, value) || is_among(var, args.as_slice())
         }
         Bound::GoalNot(_, args) => is_among(var, args.as_slice()),
     }

@@ -12,7 +12,7 @@ use Rattle.tl_syntax.specs.declared.variable.Arg.{Arg}
 use Rattle.tl_syntax.specs.declared.variable.Arg.TheVariants as arg
 use Rattle.tl_syntax.specs.declared.variable.Var.{Var}
 use Rattle.tl_syntax.specs.Assignment.{Assignment, bind}
-use Rattle.tl_syntax.specs.BoundVariables.{is_variable, DifferInSlot}
+use Rattle.tl_syntax.specs.BoundVariables.{is_that_variable, DifferInSlot}
 use Rattle.tl_syntax.specs.Lists.{One, Among}
 use Rattle.tl_syntax.proofs.ListLaws.{Each-Among, One-over, one_out, one_in}
 use Rattle.tl_terms.specs.Bounds.{arg_value, arg_values}
@@ -169,7 +169,7 @@ free-below ss e (arg.Var s) n h =
       ]
     ]) refl (ap (λ o. free_or_fixed o (e s.slot)) (sym (position-first (λ u. s.slot == u.slot) ss)) ∙ h)
 
-free-part : (ss : List Var) (e : Assignment) (x : Arg) (n : ℕ) (s : Var) → slice_get ss n ≡ Some s → DifferInSlot ss → is_variable s x ≡ true → part_for ss e x ≡ Some (Free n)
+free-part : (ss : List Var) (e : Assignment) (x : Arg) (n : ℕ) (s : Var) → slice_get ss n ≡ Some s → DifferInSlot ss → is_that_variable s x ≡ true → part_for ss e x ≡ Some (Free n)
 free-part ss e (arg.Val v) n s h d k = absurd (true≢false (sym k))
 free-part ss e (arg.Var u) n s h d k =
     ap (λ q. free_or_fixed (position (λ x. q == x.slot) ss) (e u.slot)) (eqb-true u.slot s.slot k)
@@ -177,7 +177,7 @@ free-part ss e (arg.Var u) n s h d k =
 
 -- the variables among the parts are those of the list, where each stands among the arguments
 pub each-variable : (ss : List Var) (e : Assignment) (xs : List Arg) (ps : List Part) → map (λ p. Some p) ps ≡ map (part_for ss e) xs → DifferInSlot ss
-    → ((s : Var) → Among s ss → One (λ a. is_variable s a ≡ true) xs) → (n : ℕ) → Among (Free n) ps ↔ (n < length ss)
+    → ((s : Var) → Among s ss → One (λ a. is_that_variable s a ≡ true) xs) → (n : ℕ) → Among (Free n) ps ↔ (n < length ss)
 each-variable ss e xs ps h d o n = (
   λ m.
       let there : Among (Some (Free n)) (map (λ p. Some p) ps) = (One-over (λ y. y ≡ Some (Free n)) (λ p. Some p) ps).1 (one_in (λ p. Some p ≡ Some (Free n)) (Free n) ps m refl) in
@@ -185,7 +185,7 @@ each-variable ss e xs ps h d o n = (
       free-below ss e w.0 n w.1.1,
   λ k.
       let s = get-there ss n k in
-      let a = one_out (λ a. is_variable s.0 a ≡ true) xs (o s.0 (among-got ss n s.0 s.1)) in
+      let a = one_out (λ a. is_that_variable s.0 a ≡ true) xs (o s.0 (among-got ss n s.0 s.1)) in
       let there : Among (Some (Free n)) (map (part_for ss e) xs) = (One-over (λ y. y ≡ Some (Free n)) (part_for ss e) xs).1 (one_in (λ x. part_for ss e x ≡ Some (Free n)) a.0 xs a.1.0 (free-part ss e a.0 n s.0 s.1 d a.1.1)) in
       let w = one_out (λ p. Some p ≡ Some (Free n)) ps ((One-over (λ y. y ≡ Some (Free n)) (λ p. Some p) ps).0 (subst (λ ys. Among (Some (Free n)) ys) (sym h) there)) in
       let e : Some w.0 ≡ Some (Free n) = w.1.1 in
@@ -195,16 +195,16 @@ each-variable ss e xs ps h d o n = (
 
 -- ---- how many variables there are
 
-both-name : (s u : Var) (x : Arg) → is_variable s x ≡ true → is_variable u x ≡ true → u.slot ≡ s.slot
+both-name : (s u : Var) (x : Arg) → is_that_variable s x ≡ true → is_that_variable u x ≡ true → u.slot ≡ s.slot
 both-name s u (arg.Val v) h k = absurd (true≢false (sym h))
 both-name s u (arg.Var y) h k = sym (eqb-true y.slot u.slot k) ∙ eqb-true y.slot s.slot h
 
 -- the other arguments than one that is the variable
 pub record Without (s : Var) (xs ys : List Arg) : Type 0 where
   pub one_less : length xs ≡ suc (length ys)
-  pub others : (u : Var) → (u.slot ≡ s.slot → ⊥) → One (λ a. is_variable u a ≡ true) xs → One (λ a. is_variable u a ≡ true) ys
+  pub others : (u : Var) → (u.slot ≡ s.slot → ⊥) → One (λ a. is_that_variable u a ≡ true) xs → One (λ a. is_that_variable u a ≡ true) ys
 
-without-one : (s : Var) (xs : List Arg) → One (λ a. is_variable s a ≡ true) xs → (ys : List Arg) × Without s xs ys
+without-one : (s : Var) (xs : List Arg) → One (λ a. is_that_variable s a ≡ true) xs → (ys : List Arg) × Without s xs ys
 without-one s [] h = absurd h
 without-one s (x ∷ xs) h = elim h [
   | inl e ↦ (xs, record { one_less = refl; others = λ u d m. elim m [ inl k ↦ absurd (d (both-name s u x e k)) | inr k ↦ k ] })
@@ -212,7 +212,7 @@ without-one s (x ∷ xs) h = elim h [
 ]
 
 -- variables of different slots that all stand among arguments are no more than those
-pub no-more-variables : (ss : List Var) (xs : List Arg) → DifferInSlot ss → ((s : Var) → Among s ss → One (λ a. is_variable s a ≡ true) xs) → length ss ≤ length xs
+pub no-more-variables : (ss : List Var) (xs : List Arg) → DifferInSlot ss → ((s : Var) → Among s ss → One (λ a. is_that_variable s a ≡ true) xs) → length ss ≤ length xs
 no-more-variables [] xs d o = omega arith
 no-more-variables (s ∷ ss) xs d o =
     let r = without-one s xs (o s (inl refl)) in

@@ -10,7 +10,7 @@ use Rattle.tl_syntax.specs.declared.value.Value.{Value}
 use Rattle.tl_syntax.specs.declared.variable.Arg.{Arg}
 use Rattle.tl_syntax.specs.declared.variable.Var.{Var}
 use Rattle.tl_syntax.specs.Assignment.{Assignment, bind}
-use Rattle.tl_syntax.specs.BoundVariables.{args_of, is_variable, stands_in, OccurIn, DifferInSlot}
+use Rattle.tl_syntax.specs.BoundVariables.{args_of, is_that_variable, stands_in, OccurIn, DifferInSlot}
 use Rattle.tl_syntax.specs.Fits.{BoundFits}
 use Rattle.tl_syntax.specs.Lists.{One, Among}
 use Rattle.tl_syntax.specs.Signature.{Signature}
@@ -27,12 +27,12 @@ use Rattle.tl_world.specs.Patterns.{filled, parts_of, is_true_of, makes_true, Is
 -- variables of different slots that all stand among the arguments, and are few
 pub record Stand (ss : List Var) (xs : List Arg) : Type 0 where
   pub differ : DifferInSlot ss
-  pub stand : (s : Var) → Among s ss → One (λ a. is_variable s a ≡ true) xs
+  pub stand : (s : Var) → Among s ss → One (λ a. is_that_variable s a ≡ true) xs
   pub few : length ss ≤ 9
   pub short : length xs ≤ 9
 
-stand-in : (ss : List Var) (b : Bound) → OccurIn ss b → (s : Var) → Among s ss → One (λ a. is_variable s a ≡ true) (args_of b)
-stand-in ss b o s m = (any-iff (λ a. is_variable s a ≡ true) (is_variable s) (λ x. (λ q. q, λ q. q)) (args_of b)).1 ((Each-Among (λ u. IsTrue (stands_in u b)) ss).0 o s m)
+stand-in : (ss : List Var) (b : Bound) → OccurIn ss b → (s : Var) → Among s ss → One (λ a. is_that_variable s a ≡ true) (args_of b)
+stand-in ss b o s m = (any-iff (λ a. is_that_variable s a ≡ true) (is_that_variable s) (λ x. (λ q. q, λ q. q)) (args_of b)).1 ((Each-Among (λ u. IsTrue (stands_in u b)) ss).0 o s m)
 
 pub few-variables : (ss : List Var) (b : Bound) → DifferInSlot ss → OccurIn ss b → length (args_of b) ≤ 9 → length ss ≤ 9
 few-variables ss b d o h = let k = no-more-variables ss (args_of b) d (stand-in ss b o) in omega arith
@@ -44,7 +44,7 @@ stands ss b d o h = record { differ = d; stand = stand-in ss b o; few = few-vari
 stands-last : (ss : List Var) (x : Arg) (xs : List Arg) → Stand ss (x ∷ xs) → Stand ss (xs ++ x ∷ [])
 stands-last ss x xs h = record {
   differ = h.differ;
-  stand = λ s m. (One-append (λ a. is_variable s a ≡ true) xs (x ∷ [])).1 (elim (h.stand s m) [ inl k ↦ inr (inl k) | inr k ↦ inl k ]);
+  stand = λ s m. (One-append (λ a. is_that_variable s a ≡ true) xs (x ∷ [])).1 (elim (h.stand s m) [ inl k ↦ inr (inl k) | inr k ↦ inl k ]);
   few = h.few;
   short = let k = h.short in let l = length-append xs (x ∷ []) in omega arith;
 }

@@ -48,20 +48,20 @@ not-word text other (integer z at) variable plain is occurs = cc
 not-word text other (list fs at) variable plain is occurs = cc
 
 module _ (names : List (List ℕ)) (scope : Scope) (text : List ℕ) (v : Var) (is : IsVariable scope text v) where
-  symbol-stands : (other : List ℕ) → bytes_eq text other ≡ true → slots.is_variable v (symbol_meant names scope other) ≡ true
-  symbol-stands other same = subst (λ (t : List ℕ). slots.is_variable v (symbol_meant names scope t) ≡ true) ((bytes_eq-Decides text other).0 same) (by_test (is_variable text) (slot_of scope text) is.variable is.slot)
+  symbol-stands : (other : List ℕ) → bytes_eq text other ≡ true → slots.is_that_variable v (symbol_meant names scope other) ≡ true
+  symbol-stands other same = subst (λ (t : List ℕ). slots.is_that_variable v (symbol_meant names scope t) ≡ true) ((bytes_eq-Decides text other).0 same) (by_test (is_variable text) (slot_of scope text) is.variable is.slot)
     where
-      by_test : (b : Bool) (found : Option ℕ) → b ≡ true → found ≡ Some v.slot → slots.is_variable v (cond b (arg.Var (record { slot = unwrap_or found 0; name = number_in names text })) (arg.Val (Sym (number_in names text)))) ≡ true
+      by_test : (b : Bool) (found : Option ℕ) → b ≡ true → found ≡ Some v.slot → slots.is_that_variable v (cond b (arg.Var (record { slot = unwrap_or found 0; name = number_in names text })) (arg.Val (Sym (number_in names text)))) ≡ true
       by_test true None p q = cc
       by_test true (Some k) p q = eq-eqb k v.slot cc
       by_test false found p q = cc
 
-  argument-stands : (f : FormTree) → is_list f ≡ false → occurs_in text f ≡ true → slots.is_variable v (argument_meant names scope f) ≡ true
+  argument-stands : (f : FormTree) → is_list f ≡ false → occurs_in text f ≡ true → slots.is_that_variable v (argument_meant names scope f) ≡ true
   argument-stands (symbol other at) flat occurs = symbol-stands other occurs
   argument-stands (integer z at) flat occurs = cc
   argument-stands (list fs at) flat occurs = cc
 
-  arguments-stand : (fs : FormTrees) → any_list fs ≡ false → occurs_in_any text fs ≡ true → list_any (slots.is_variable v) (arguments_meant names scope fs) ≡ true
+  arguments-stand : (fs : FormTrees) → any_list fs ≡ false → occurs_in_any text fs ≡ true → list_any (slots.is_that_variable v) (arguments_meant names scope fs) ≡ true
   arguments-stand no_form flat occurs = cc
   arguments-stand (more_forms f fs) flat occurs = elim (or_cases (occurs_in text f) (occurs_in_any text fs) occurs) [
     | inl here ↦ or_left _ _ (argument-stands f (or_parts (is_list f) (any_list fs) flat).0 here)
@@ -75,7 +75,7 @@ module _ (names : List (List ℕ)) (scope : Scope) (text : List ℕ) (v : Var) (
     | inr later ↦ later
   ]
 
-  flat-stands : (table : Table) (f : FormTree) → is_in table text ≡ false → is_flat table f ≡ true → occurs_in text f ≡ true → list_any (slots.is_variable v) (arguments_meant names scope (rest_of f)) ≡ true
+  flat-stands : (table : Table) (f : FormTree) → is_in table text ≡ false → is_flat table f ≡ true → occurs_in text f ≡ true → list_any (slots.is_that_variable v) (arguments_meant names scope (rest_of f)) ≡ true
   flat-stands table (symbol other at) absent flat occurs = cc
   flat-stands table (integer z at) absent flat occurs = cc
   flat-stands table (list no_form at) absent flat occurs = cc
@@ -157,7 +157,7 @@ module _ (names : List (List ℕ)) (scope : Scope) (text : List ℕ) (v : Var) (
     ]
     goal_bound-stands (more_forms f (more_forms h fs)) at none occurs = cc
 
-    fact-stands : (name : List ℕ) (rest : FormTrees) (at : ℕ) → flat_breaks g.predicates scope name rest at ≡ [] → (bytes_eq text name || occurs_in_any text rest) ≡ true → list_any (slots.is_variable v) (arguments_meant names scope rest) ≡ true
+    fact-stands : (name : List ℕ) (rest : FormTrees) (at : ℕ) → flat_breaks g.predicates scope name rest at ≡ [] → (bytes_eq text name || occurs_in_any text rest) ≡ true → list_any (slots.is_that_variable v) (arguments_meant names scope rest) ≡ true
     fact-stands name rest at none occurs =
         let parts = flat-parts g.predicates scope name rest at none in
         arguments-stand rest (test-fails (any_list rest) Shape at parts.flat) (called-occurs g.predicates name rest (called-is-in g.predicates name (count rest) at parts.called) (only.predicates text is.variable) occurs)

@@ -6,7 +6,7 @@ use Rattle.tl_syntax.specs.declared.variable.Arg.{Arg}
 use Rattle.tl_syntax.specs.declared.variable.Arg.TheVariants as arg
 use Rattle.tl_syntax.specs.declared.bound.Bound.{Bound}
 use Rattle.tl_syntax.specs.declared.bound.Bound.TheVariants as bound
-use Rattle.tl_syntax.specs.BoundVariables.{is_variable, stands_in}
+use Rattle.tl_syntax.specs.BoundVariables.{is_that_variable, stands_in}
 use Rattle.tl_syntax.specs.Effects.{EffectTree, EffectTrees, add, del, assign, when, each, no_effect, more_effects}
 use Rattle.tl_syntax.specs.FreeVariables.{slots_of, arg_slots, bound_slots, slots_without, term_slots, terms_slots, free_slots, all_free_slots, effect_slots, effects_slots}
 use Rattle.tl_syntax.specs.StateFormulas.{IsState, AreState, EffectIsState, EffectsAreState}
@@ -100,13 +100,13 @@ mutual
 
 -- ---- where a variable stands
 
-is_variable-stays : (r : Renumbering) (s : Var) (x : Arg) → is_variable (renumbered_variable r s) (renumbered_arg r x) ≡ is_variable s x
-is_variable-stays r s (arg.Var u) = refl
-is_variable-stays r s (arg.Val v) = refl
+is_that_variable-stays : (r : Renumbering) (s : Var) (x : Arg) → is_that_variable (renumbered_variable r s) (renumbered_arg r x) ≡ is_that_variable s x
+is_that_variable-stays r s (arg.Var u) = refl
+is_that_variable-stays r s (arg.Val v) = refl
 
-any-stays : (r : Renumbering) (s : Var) (xs : List Arg) → list_any (is_variable (renumbered_variable r s)) (renumbered_args r xs) ≡ list_any (is_variable s) xs
+any-stays : (r : Renumbering) (s : Var) (xs : List Arg) → list_any (is_that_variable (renumbered_variable r s)) (renumbered_args r xs) ≡ list_any (is_that_variable s) xs
 any-stays r s [] = refl
-any-stays r s (x ∷ xs) = ap₂ ◌||◌ (is_variable-stays r s x) (any-stays r s xs)
+any-stays r s (x ∷ xs) = ap₂ ◌||◌ (is_that_variable-stays r s x) (any-stays r s xs)
 
 pub stands_in-stays : (r : Renumbering) (s : Var) (b : Bound) → stands_in (renumbered_variable r s) (renumbered_bound r b) ≡ stands_in s b
 stands_in-stays r s (bound.Fact p xs) = any-stays r s xs

@@ -7,7 +7,7 @@ use Rattle.tl_syntax.specs.declared.variable.Arg.TheVariants as arg
 use Rattle.tl_syntax.specs.declared.bound.Bound.{Bound}
 use Rattle.tl_syntax.specs.declared.bound.Bound.TheVariants as bound
 use Rattle.tl_syntax.specs.Assignment.{Assignment}
-use Rattle.tl_syntax.specs.BoundVariables.{is_variable, stands_in, OccurIn}
+use Rattle.tl_syntax.specs.BoundVariables.{is_that_variable, stands_in, OccurIn}
 use Rattle.tl_syntax.specs.Fits.{ArgFits, ArgsFit, BoundFits, VariablesFit, term_count, TermFits, TermsFit, Fits, AllFit}
 use Rattle.tl_syntax.specs.FreeVariables.{slots_of}
 use Rattle.tl_syntax.specs.Lists.{Each}
@@ -43,17 +43,17 @@ bound-fits g e (bound.GoalPlace f xs x) h = (args-fit g.functions f e xs h.0, ar
 bound-fits g e (bound.GoalNot p xs) h = args-fit g.predicates p e xs h
 
 -- an argument that is the variable stays where the variable has no value
-is_variable-stays : (e : Assignment) (s : Var) → e s.slot ≡ None → (x : Arg) → is_variable s x ≡ true → is_variable s (substituted_arg e x) ≡ true
-is_variable-stays e s n (arg.Val v) h = absurd (true≢false (sym h))
-is_variable-stays e s n (arg.Var u) h =
+is_that_variable-stays : (e : Assignment) (s : Var) → e s.slot ≡ None → (x : Arg) → is_that_variable s x ≡ true → is_that_variable s (substituted_arg e x) ≡ true
+is_that_variable-stays e s n (arg.Val v) h = absurd (true≢false (sym h))
+is_that_variable-stays e s n (arg.Var u) h =
     let same : e u.slot ≡ None = ap e (eqb-true u.slot s.slot h) ∙ n in
-    ap (λ o. is_variable s (value_or_arg o (arg.Var u))) same ∙ h
+    ap (λ o. is_that_variable s (value_or_arg o (arg.Var u))) same ∙ h
 
-any-stays : (e : Assignment) (s : Var) → e s.slot ≡ None → (xs : List Arg) → list_any (is_variable s) xs ≡ true → list_any (is_variable s) (substituted_args e xs) ≡ true
+any-stays : (e : Assignment) (s : Var) → e s.slot ≡ None → (xs : List Arg) → list_any (is_that_variable s) xs ≡ true → list_any (is_that_variable s) (substituted_args e xs) ≡ true
 any-stays e s n [] h = h
-any-stays e s n (x ∷ xs) h = (elim (is_variable s x) as (λ b. is_variable s x ≡ b → (b || list_any (is_variable s) xs) ≡ true → (is_variable s (substituted_arg e x) || list_any (is_variable s) (substituted_args e xs)) ≡ true) [
-  | true ↦ λ q k. ap (λ b. b || list_any (is_variable s) (substituted_args e xs)) (is_variable-stays e s n x q)
-  | false ↦ λ q k. or-right (is_variable s (substituted_arg e x)) (list_any (is_variable s) (substituted_args e xs)) (any-stays e s n xs k)
+any-stays e s n (x ∷ xs) h = (elim (is_that_variable s x) as (λ b. is_that_variable s x ≡ b → (b || list_any (is_that_variable s) xs) ≡ true → (is_that_variable s (substituted_arg e x) || list_any (is_that_variable s) (substituted_args e xs)) ≡ true) [
+  | true ↦ λ q k. ap (λ b. b || list_any (is_that_variable s) (substituted_args e xs)) (is_that_variable-stays e s n x q)
+  | false ↦ λ q k. or-right (is_that_variable s (substituted_arg e x)) (list_any (is_that_variable s) (substituted_args e xs)) (any-stays e s n xs k)
 ]) refl h
   where
     or-right : (a b : Bool) → b ≡ true → (a || b) ≡ true

@@ -17,13 +17,13 @@ args_of (bound.GoalPlace f xs x) = x ∷ xs
 args_of (bound.GoalNot p xs) = xs
 
 -- the argument is the variable
-abbrev pub is_variable : Var → Arg → Bool
-is_variable s (arg.Var u) = u.slot == s.slot
-is_variable s (arg.Val v) = false
+abbrev pub is_that_variable : Var → Arg → Bool
+is_that_variable s (arg.Var u) = u.slot == s.slot
+is_that_variable s (arg.Val v) = false
 
 -- the variable stands in the bound
 abbrev pub stands_in : Var → Bound → Bool
-stands_in s b = list_any (is_variable s) (args_of b)
+stands_in s b = list_any (is_that_variable s) (args_of b)
 
 -- each variable stands in the bound
 abbrev pub OccurIn : List Var → Bound → Type 0

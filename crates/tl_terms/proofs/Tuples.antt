@@ -7,7 +7,7 @@ use Rattle.std.specs.FinMap as dict
 use Rattle.std.specs.Ordering.{eq_by_cmp, is_eq}
 use Rattle.std.specs.Cmp.{tied_itself, Equal-is}
 use Rattle.tl_syntax.specs.Assignment.{Assignment, bind}
-use Rattle.tl_syntax.specs.BoundVariables.{args_of, is_variable, stands_in, OccurIn, DifferInSlot}
+use Rattle.tl_syntax.specs.BoundVariables.{args_of, is_that_variable, stands_in, OccurIn, DifferInSlot}
 use Rattle.tl_terms.specs.Bounds.{arg_value, arg_values, fact_in, same_value, bound_true, tuples_of, tuples}
 use Rattle.tl_syntax.specs.Lists.{Each, One, Among}
 use Rattle.tl_terms.specs.Situation.{Situation}
@@ -149,7 +149,7 @@ bound-values s e (bound.GoalFact p xs) h a m v q = in_one s v (inr (inl (fact-bo
 bound-values s e (bound.GoalPlace f xs x) h a m v q = in_one s v (inr (inl (place-bound s.goal e f xs x h a m v q)))
 bound-values s e (bound.GoalNot p xs) h a m v q = in_one s v (inr (inr (inl (fact-bound s.avoid e p xs h a m v q))))
 
-names-value : (e : Assignment) (s : Var) (a : Arg) → is_variable s a ≡ true → (v : Value) → e s.slot ≡ Some v → arg_value e a ≡ Some v
+names-value : (e : Assignment) (s : Var) (a : Arg) → is_that_variable s a ≡ true → (v : Value) → e s.slot ≡ Some v → arg_value e a ≡ Some v
 names-value e s (arg.Var u) n v h = ap e (eqb-true u.slot s.slot n) ∙ h
 names-value e s (arg.Val u) n v h = absurd (true≢false (sym n))
 
@@ -173,9 +173,9 @@ occurs-of [] b o s m = absurd m
 occurs-of (u ∷ us) b o s m = elim m [ inl e ↦ subst (λ z. stands_in z b ≡ true) e o.0 | inr k ↦ occurs-of us b o.1 s k ]
 
 -- where a test holds of one of the list, some item passes it
-one-of : (s : Var) (xs : List Arg) → list_any (is_variable s) xs ≡ true → One (λ a. is_variable s a ≡ true) xs
+one-of : (s : Var) (xs : List Arg) → list_any (is_that_variable s) xs ≡ true → One (λ a. is_that_variable s a ≡ true) xs
 one-of s [] h = absurd (true≢false (sym h))
-one-of s (x ∷ xs) h = (elim (is_variable s x) as (λ b. is_variable s x ≡ b → (b || list_any (is_variable s) xs) ≡ true → is_variable s x ≡ true ⊎ One (λ a. is_variable s a ≡ true) xs) [
+one-of s (x ∷ xs) h = (elim (is_that_variable s x) as (λ b. is_that_variable s x ≡ b → (b || list_any (is_that_variable s) xs) ≡ true → is_that_variable s x ≡ true ⊎ One (λ a. is_that_variable s a ≡ true) xs) [
   | true ↦ λ q k. inl q
   | false ↦ λ q k. inr (one-of s xs k)
 ]) refl h
@@ -189,7 +189,7 @@ all-tuples s e ss b d o t = (
     (
       h.0,
       tuple-values ss t e (λ v. Among v (values_of (worlds_of s))) h.0 d
-          (λ u m v q. let n = one_out (λ a. is_variable u a ≡ true) (args_of b) (one-of u (args_of b) (occurs-of ss b o u m)) in bound-values s (bind ss t e) b h.1 n.0 n.1.0 v (names-value (bind ss t e) u n.0 n.1.1 v q)),
+          (λ u m v q. let n = one_out (λ a. is_that_variable u a ≡ true) (args_of b) (one-of u (args_of b) (occurs-of ss b o u m)) in bound-values s (bind ss t e) b h.1 n.0 n.1.0 v (names-value (bind ss t e) u n.0 n.1.1 v q)),
     ),
     h.1,
   ),

@@ -14,7 +14,7 @@ use Rattle.tl_syntax.specs.declared.variable.Arg.{Arg}
 use Rattle.tl_syntax.specs.declared.variable.Arg.TheVariants as arg
 use Rattle.tl_syntax.specs.declared.variable.Var.{Var}
 use Rattle.tl_syntax.specs.Assignment.{no_values, bind}
-use Rattle.tl_syntax.specs.BoundVariables.{is_variable, stands_in, DifferInSlot}
+use Rattle.tl_syntax.specs.BoundVariables.{is_that_variable, stands_in, DifferInSlot}
 use Rattle.tl_syntax.specs.Lists.{Each, Among, Rises}
 use Rattle.tl_syntax.proofs.ListLaws.{Each-Among}
 use Rattle.tl_terms.specs.Bounds.{arg_value, arg_values, same_value, bound_true, tuples}
@@ -104,7 +104,7 @@ args-filled [] t k size slots = refl
 args-filled (p ∷ ps) t k size slots =
     λ i. prepend (part-filled p t k size (λ n h. slots n (or_left (is_free n p) (occurs n ps) h)) i) (args-filled ps t k size (λ n h. slots n (or_right (is_free n p) (occurs n ps) h)) i)
 
-named-alike : (n : ℕ) (ps : List Part) → list_any (is_variable (variable n)) (map arg_of ps) ≡ occurs n ps
+named-alike : (n : ℕ) (ps : List Part) → list_any (is_that_variable (variable n)) (map arg_of ps) ≡ occurs n ps
 unfolding arg_of variable
 named-alike n [] = refl
 named-alike n (Fixed v ∷ ps) = named-alike n ps
@@ -197,7 +197,7 @@ bound_for w true name k ps slots some =
     in_bound : (n : ℕ) (qs : List Part) (p : Part) → (occurs n qs || is_free n p) ≡ true → stands_in (variable n) (bound.Place name (map arg_of qs) (arg_of p)) ≡ true
     in_bound n qs p h = (λ i. last-named p i || named-alike n qs i) ∙ or_turned (occurs n qs) (is_free n p) h
       where
-        last-named : (p : Part) → is_variable (variable n) (arg_of p) ≡ is_free n p
+        last-named : (p : Part) → is_that_variable (variable n) (arg_of p) ≡ is_free n p
         last-named (Fixed v) = refl
         last-named (Free m) = refl
 
