@@ -4,7 +4,7 @@ use Rattle.std.specs.List.{slice_index_or, slice_set}
 use Rattle.tl_sexpr.specs.Tree.{FormTree, FormTrees, symbol, integer, list, no_form, more_forms}
 use Rattle.tl_syntax.specs.declared.operator.Operator.{Operator}
 use Rattle.tl_rules.specs.declared.rule.Rule.TheVariants.{Shape, Twice, Limit, NoOperator}
-use Rattle.tl_rules.specs.Parts.{offset_of, is_within, natural, text_of}
+use Rattle.tl_rules.specs.Parts.{offset_of, is_within, natural, symbol_text}
 use Rattle.tl_rules.specs.Rules.{Break, breaks_if}
 use Rattle.tl_line.specs.Actions.{operator_at}
 
@@ -22,7 +22,7 @@ both_of None o = None
 
 -- the text and the integer, where the two forms are a symbol and an integer
 abbrev pub entry_of_two : FormTree → FormTree → Option (List ℕ × ℤ)
-entry_of_two f g = both_of (text_of f) (integer_of g)
+entry_of_two f g = both_of (symbol_text f) (integer_of g)
 
 -- the name and the integer of a list of these two
 abbrev pub entry_of_form : FormTree → Option (List ℕ × ℤ)

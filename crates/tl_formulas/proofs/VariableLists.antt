@@ -3,29 +3,29 @@ use Rattle.std.proofs.Common.{◌≡◌, ◌≢◌, ℕ, List, [], ◌∷◌, �
 use Rattle.std.specs.Prelude.{◌&&◌}
 use Rattle.tl_sexpr.specs.Tree.{FormTree, FormTrees, symbol, integer, list, no_form, more_forms}
 use Rattle.tl_formulas.specs.Signatures.{Scope}
-use Rattle.tl_rules.specs.Parts.{text_of, texts_of, offset_of, count, are_variables, is_variable_list}
+use Rattle.tl_rules.specs.Parts.{symbol_text, texts_of, offset_of, count, are_variables, is_variable_list}
 use Rattle.tl_formulas.specs.Variables.{variable_breaks, variables_breaks}
 
 -- the breaks of a variable and of those after it
-pub variables-next : (earlier scope : Scope) (bound f : FormTree) (fs : FormTrees) (text : List ℕ) → text_of f ≡ Some text → variables_breaks earlier scope bound (more_forms f fs) ≡ variable_breaks earlier scope bound text (offset_of f) ++ variables_breaks (earlier ++ text ∷ []) scope bound fs
+pub variables-next : (earlier scope : Scope) (bound f : FormTree) (fs : FormTrees) (text : List ℕ) → symbol_text f ≡ Some text → variables_breaks earlier scope bound (more_forms f fs) ≡ variable_breaks earlier scope bound text (offset_of f) ++ variables_breaks (earlier ++ text ∷ []) scope bound fs
 variables-next earlier scope bound (symbol t at) fs text is = cc
 variables-next earlier scope bound (integer z at) fs text is = cc
 variables-next earlier scope bound (list gs at) fs text is = cc
 
 -- the texts of a variable and of those after it
-pub texts-next : (f : FormTree) (fs : FormTrees) (text : List ℕ) → text_of f ≡ Some text → texts_of (more_forms f fs) ≡ text ∷ texts_of fs
+pub texts-next : (f : FormTree) (fs : FormTrees) (text : List ℕ) → symbol_text f ≡ Some text → texts_of (more_forms f fs) ≡ text ∷ texts_of fs
 texts-next (symbol t at) fs text is = cc
 texts-next (integer z at) fs text is = cc
 texts-next (list gs at) fs text is = cc
 
 -- a form that is no symbol gives no text
-pub texts-skip : (f : FormTree) (fs : FormTrees) → text_of f ≡ None → texts_of (more_forms f fs) ≡ texts_of fs
+pub texts-skip : (f : FormTree) (fs : FormTrees) → symbol_text f ≡ None → texts_of (more_forms f fs) ≡ texts_of fs
 texts-skip (symbol t at) fs is = cc
 texts-skip (integer z at) fs is = refl
 texts-skip (list gs at) fs is = refl
 
 -- the first of variables is a symbol
-pub first-symbol : (f : FormTree) (fs : FormTrees) → are_variables (more_forms f fs) ≡ true → text_of f ≡ None → ⊥
+pub first-symbol : (f : FormTree) (fs : FormTrees) → are_variables (more_forms f fs) ≡ true → symbol_text f ≡ None → ⊥
 first-symbol (symbol t at) fs all none = cc
 first-symbol (integer z at) fs all none = cc
 first-symbol (list gs at) fs all none = cc

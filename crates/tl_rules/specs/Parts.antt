@@ -60,10 +60,10 @@ is_call (list (more_forms (symbol text at) fs) _) = true
 is_call _ = false
 
 -- the text of a symbol
-abbrev pub text_of : FormTree → Option (List ℕ)
-text_of (symbol text at) = Some text
-text_of (integer z at) = None
-text_of (list fs at) = None
+abbrev pub symbol_text : FormTree → Option (List ℕ)
+symbol_text (symbol text at) = Some text
+symbol_text (integer z at) = None
+symbol_text (list fs at) = None
 
 -- the first word and the elements after it, where the first is a symbol
 abbrev pub call_of : FormTrees → Option (List ℕ × FormTrees)

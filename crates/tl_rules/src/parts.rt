@@ -1,7 +1,7 @@
 // The parts of forms.
 ghost use Rattle.std.specs.Prelude.{◌≡◌, ◌<◌, ◌^◌, ◌+◌, ◌==◌, false, option_map, IfSome, MatchOption};
 ghost use Rattle.tl_sexpr.specs.Tree.{tree_of, no_form, more_forms};
-ghost use Rattle.tl_rules.specs.Parts.{is_variable, elements_of, is_integer, is_name, offset_of, is_list, any_list, count, is_word, size, sizes, text_of, call_of, is_call, rest_of, begins_with};
+ghost use Rattle.tl_rules.specs.Parts.{is_variable, elements_of, is_integer, is_name, offset_of, is_list, any_list, count, is_word, size, sizes, symbol_text, call_of, is_call, rest_of, begins_with};
 ghost use Rattle.tl_rules.specs.Reads.{trees_in};
 
 use tl_sexpr::Form;
@@ -33,7 +33,7 @@ pub fn any_list(forms: &[Form]) -> bool
 /// The text of a symbol.
 #[tactic(auto, using(crate::proofs::FormTrees::form_trees))]
 pub fn symbol_text(form: &Form) -> Option<&str>
-    ensures { option_map (λ text. text.now) result ≡ text_of (tree_of form.now) }
+    ensures { option_map (λ text. text.now) result ≡ symbol_text (tree_of form.now) }
 {
     match form {
         Form::Sym(text, _) => Some(text.as_str()),
