@@ -9,7 +9,7 @@ use Rattle.tl_rules.specs.Reads.{trees_in}
 use Rattle.tl_rules.specs.Rules.{Break}
 use Rattle.tl_line.specs.ActionLists.{actions_breaks}
 use Rattle.tl_line.specs.MeaningOfActions.{actions_meant}
-use Rattle.tl_lasso.specs.LoopFiles.{front_of, last_of, loop_breaks_by, loop_breaks, repeat_breaks, repeated_in}
+use Rattle.tl_lasso.specs.LoopFiles.{front_of, last_form, loop_breaks_by, loop_breaks, repeat_breaks, repeated_in}
 use Rattle.tl_lasso.specs.MeaningOfLoops.{loop_meant_by, loop_meant, repeat_meant}
 use Rattle.tl_lasso.specs.declared.plan.LoopPlan.{LoopPlan}
 use Rattle.tl_syntax.specs.declared.action.Action.{Action}
@@ -28,7 +28,7 @@ repeated-other word (more_forms f fs) w = ap (λ (b : Bool). if b then Some (mor
 pub ruleset repeated_elements = (repeated-other)
 
 -- the last form and those before it
-pub split-at : (xs : List Form) (y : Form) (n : ℕ) → 0 < length xs → n ≡ length xs - 1 → y ≡ get_or xs n y → (front_of (trees_in xs) ≡ trees_in (take n xs)) × (last_of (trees_in xs) ≡ Some (tree_of y))
+pub split-at : (xs : List Form) (y : Form) (n : ℕ) → 0 < length xs → n ≡ length xs - 1 → y ≡ get_or xs n y → (front_of (trees_in xs) ≡ trees_in (take n xs)) × (last_form (trees_in xs) ≡ Some (tree_of y))
 split-at [] y n h k q = absurd (omega arith)
 split-at (x ∷ []) y zero h k q = (refl, ap (λ (z : Form). Some (tree_of z)) (sym q))
 split-at (x ∷ []) y (suc n) h k q = absurd (omega arith)
@@ -41,7 +41,7 @@ module _ (names : List (List ℕ)) (operators : List Operator) where
   meant-count no_form = refl
   meant-count (more_forms f fs) = let rest = meant-count fs in omega arith
 
-  module _ (fs front : FormTrees) (last : FormTree) (before : front_of fs ≡ front) (end : last_of fs ≡ Some last) (stem : List Action) (none : actions_breaks names operators 0 front ≡ []) (meant : stem ≡ actions_meant names operators front) where
+  module _ (fs front : FormTrees) (last : FormTree) (before : front_of fs ≡ front) (end : last_form fs ≡ Some last) (stem : List Action) (none : actions_breaks names operators 0 front ≡ []) (meant : stem ≡ actions_meant names operators front) where
     -- where the actions before it break nothing, the file breaks what its last form breaks
     pub loop-last : (n : ℕ) → n ≡ length stem → loop_breaks names operators fs ≡ repeat_breaks names operators n last
     loop-last n q =

@@ -12,7 +12,7 @@ use Rattle.tl_rules.specs.Reads.{Reads, IsLeastFault}
 use Rattle.tl_rules.proofs.Offsets.{form-within}
 use Rattle.tl_rules.proofs.Order.{first-least, IsInOrder, from, up_to, both, one}
 use Rattle.tl_line.proofs.ListOrder.{actions-order}
-use Rattle.tl_lasso.specs.LoopFiles.{repeated_in, repeat_breaks_at, repeat_breaks, front_of, last_of, loop_breaks_by, loop_breaks}
+use Rattle.tl_lasso.specs.LoopFiles.{repeated_in, repeat_breaks_at, repeat_breaks, front_of, last_form, loop_breaks_by, loop_breaks}
 use Rattle.tl_lasso.specs.MeaningOfLoops.{loop_meant}
 use Rattle.tl_lasso.specs.declared.plan.LoopPlan.{LoopPlan}
 
@@ -44,7 +44,7 @@ module _ (names : List (List ℕ)) (operators : List Operator) where
     middle : ℕ
     top : ℕ
     last : FormTree
-    is : last_of fs ≡ Some last
+    is : last_form fs ≡ Some last
     front : RiseFrom low (front_of fs) middle
     back : RisesFrom middle last top
     high : top ≤ next

@@ -9,7 +9,7 @@ use Rattle.tl_terms.specs.Problem.{PlainProblem}
 use Rattle.tl_terms.specs.Run.{state_at}
 use Rattle.tl_terms.specs.World.{World}
 use Rattle.tl_lasso.specs.Lassos.{lasso_run}
-use Rattle.tl_lasso.specs.LoopFiles.{front_of, last_of, loop_breaks, repeated}
+use Rattle.tl_lasso.specs.LoopFiles.{front_of, last_form, loop_breaks, repeated}
 
 -- ---- the positions of a run
 
@@ -79,7 +79,7 @@ one_form_is_repeated : (f : FormTree) → repeated (list (more_forms (symbol (co
 one_form_is_repeated f = refl
 
 -- the last of three forms, and those before it
-last_of_three : (f g h : FormTree) → last_of (more_forms f (more_forms g (more_forms h no_form))) ≡ Some h
+last_of_three : (f g h : FormTree) → last_form (more_forms f (more_forms g (more_forms h no_form))) ≡ Some h
 last_of_three f g h = refl
 
 front_of_three : (f g h : FormTree) → front_of (more_forms f (more_forms g (more_forms h no_form))) ≡ more_forms f (more_forms g no_form)

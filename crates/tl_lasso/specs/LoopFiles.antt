@@ -40,10 +40,10 @@ front_of (more_forms f no_form) = no_form
 front_of (more_forms f (more_forms g gs)) = more_forms f (front_of (more_forms g gs))
 
 -- the last form, where there is one
-abbrev pub last_of : FormTrees → Option FormTree
-last_of no_form = None
-last_of (more_forms f no_form) = Some f
-last_of (more_forms f (more_forms g gs)) = last_of (more_forms g gs)
+abbrev pub last_form : FormTrees → Option FormTree
+last_form no_form = None
+last_form (more_forms f no_form) = Some f
+last_form (more_forms f (more_forms g gs)) = last_form (more_forms g gs)
 
 -- what forms break before this last one, and it too; without a last form there is no repeated part
 abbrev pub loop_breaks_by : List (List ℕ) → List Operator → FormTrees → Option FormTree → List Break
@@ -52,4 +52,4 @@ loop_breaks_by names operators front (Some f) = actions_breaks names operators 0
 
 -- what the forms of a plan file with a repeated part break
 abbrev pub loop_breaks : List (List ℕ) → List Operator → FormTrees → List Break
-loop_breaks names operators fs = loop_breaks_by names operators (front_of fs) (last_of fs)
+loop_breaks names operators fs = loop_breaks_by names operators (front_of fs) (last_form fs)

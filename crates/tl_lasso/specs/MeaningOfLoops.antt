@@ -4,7 +4,7 @@ use Rattle.tl_sexpr.specs.Tree.{FormTree, FormTrees}
 use Rattle.tl_syntax.specs.declared.action.Action.{Action}
 use Rattle.tl_syntax.specs.declared.operator.Operator.{Operator}
 use Rattle.tl_line.specs.MeaningOfActions.{actions_meant}
-use Rattle.tl_lasso.specs.LoopFiles.{front_of, last_of, repeated}
+use Rattle.tl_lasso.specs.LoopFiles.{front_of, last_form, repeated}
 use Rattle.tl_lasso.specs.declared.plan.LoopPlan.{LoopPlan}
 
 -- the actions of the forms, where there are some
@@ -23,4 +23,4 @@ loop_meant_by names operators front (Some f) = record { stem = actions_meant nam
 
 -- the plan of the forms of a file
 abbrev pub loop_meant : List (List ℕ) → List Operator → FormTrees → LoopPlan
-loop_meant names operators fs = loop_meant_by names operators (front_of fs) (last_of fs)
+loop_meant names operators fs = loop_meant_by names operators (front_of fs) (last_form fs)

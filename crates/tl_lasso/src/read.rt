@@ -4,7 +4,7 @@ ghost use Rattle.tl_sexpr.specs.Offsets.{AreAsRead};
 ghost use Rattle.tl_sexpr.specs.Tree.{tree_of, trees_of, no_form};
 ghost use Rattle.tl_syntax.specs.Lists.{Each};
 ghost use Rattle.tl_rules.specs.Reads.{IsLeastFault, trees_in};
-ghost use Rattle.tl_lasso.specs.LoopFiles.{front_of, last_of, repeated, repeated_in};
+ghost use Rattle.tl_lasso.specs.LoopFiles.{front_of, last_form, repeated, repeated_in};
 ghost use Rattle.tl_lasso.specs.ReadLoops.{IsNamedIn, ReadsLoop, ReadsRepeated, breaks_in};
 
 use crate::plan::LoopPlan;
@@ -47,7 +47,7 @@ fn repeated(form: &Form) -> Option<&[Form]>
 /// The last form and those before it, where there is one.
 fn split_last(forms: &[Form]) -> Option<(&[Form], &Form)>
     ensures { MatchOption result (trees_in forms.now ≡ no_form)
-        (λ found. (front_of (trees_in forms.now) ≡ trees_in found.0.now) × (last_of (trees_in forms.now) ≡ Some (tree_of found.1.now))) }
+        (λ found. (front_of (trees_in forms.now) ≡ trees_in found.0.now) × (last_form (trees_in forms.now) ≡ Some (tree_of found.1.now))) }
 {
     match forms {
         [front @ .., last] => Some((front, last)),

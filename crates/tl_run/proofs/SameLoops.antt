@@ -3,7 +3,7 @@ use Rattle.std.proofs.Common.{◌≡◌, ℕ, List, ◌++◌, map, Option, Some,
 use Rattle.tl_sexpr.specs.Tree.{FormTree, FormTrees}
 use Rattle.tl_syntax.specs.declared.operator.Operator.{Operator}
 use Rattle.tl_rules.specs.Parts.{count, offset_of}
-use Rattle.tl_lasso.specs.LoopFiles.{front_of, last_of, loop_breaks, loop_breaks_by, repeat_breaks_at, repeated}
+use Rattle.tl_lasso.specs.LoopFiles.{front_of, last_form, loop_breaks, loop_breaks_by, repeat_breaks_at, repeated}
 use Rattle.tl_lasso.specs.MeaningOfLoops.{loop_meant, loop_meant_by, repeated_meant}
 use Rattle.tl_run.proofs.SameOperators.{head_of, same_actions, same_actions_meant}
 
@@ -21,7 +21,7 @@ module _ (names : List (List ℕ)) (os us : List Operator) (alike : map head_of 
 
   -- the same rules are broken
   pub same_loop_breaks : (fs : FormTrees) → loop_breaks names os fs ≡ loop_breaks names us fs
-  same_loop_breaks fs = same_breaks_by (front_of fs) (last_of fs)
+  same_loop_breaks fs = same_breaks_by (front_of fs) (last_form fs)
 
   same_repeated_meant : (found : Option FormTrees) → repeated_meant names os found ≡ repeated_meant names us found
   same_repeated_meant None = refl
@@ -36,4 +36,4 @@ module _ (names : List (List ℕ)) (os us : List Operator) (alike : map head_of 
 
   -- and the same plan is meant
   pub same_loop_meant : (fs : FormTrees) → loop_meant names os fs ≡ loop_meant names us fs
-  same_loop_meant fs = same_meant_by (front_of fs) (last_of fs)
+  same_loop_meant fs = same_meant_by (front_of fs) (last_form fs)
