@@ -23,8 +23,8 @@ abbrev pub taken_of : MemoryStore → ℕ
 taken_of store = store.taken
 
 -- how many of them are left
-abbrev pub left_of : MemoryStore → ℕ
-left_of store = left_after (whole_of store) (taken_of store)
+abbrev pub bytes_left : MemoryStore → ℕ
+bytes_left store = left_after (whole_of store) (taken_of store)
 
 -- how often a file was begun, by a counter of 64 bits that stays at its last value
 abbrev pub begun_of : MemoryStore → ℕ

@@ -54,7 +54,7 @@ impl MemoryStore {
 }
 
 impl Store for MemoryStore {
-    ghost use Rattle.tl_outside.specs.MemoryStore.{told_files, has_chosen, whole_of, taken_of, left_of, begun_of, faults_of, most_of, fails_now, CountsCall};
+    ghost use Rattle.tl_outside.specs.MemoryStore.{told_files, has_chosen, whole_of, taken_of, bytes_left, begun_of, faults_of, most_of, fails_now, CountsCall};
 
     ghost files = { told_files };
 
@@ -114,7 +114,7 @@ impl Store for MemoryStore {
         ensures cause { HasCause (faults_of self.old) (faults_of self.new) result }
 
         // Exactly how many bytes, when it fails, and what it counts.
-        ensures count { IfOk result (λ n. n ≡ min (min (left_of self.old) (most_of self.old)) (length room.old)) }
+        ensures count { IfOk result (λ n. n ≡ min (min (bytes_left self.old) (most_of self.old)) (length room.old)) }
         ensures exact { IsErr result ↔ IsTrue (fails_now self.old) }
         ensures steady { OnOk result (faults_of self.new ≡ faults_of self.old) }
         ensures fault { OnErr result (faults_of self.new ≡ counted (faults_of self.old)) }
