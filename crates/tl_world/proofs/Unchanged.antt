@@ -20,7 +20,7 @@ use Rattle.tl_world.specs.Codes.{values_eq}
 use Rattle.tl_world.specs.Edits.{changed_places}
 use Rattle.tl_world.specs.Moves.{AreSameBeside, changed_facts}
 use Rattle.tl_world.specs.Tables.{keyed, entries_of, fact_row, fact_tables, facts_of}
-use Rattle.tl_world.specs.Unchanged.{names, row_keys, table_keys, AreAlikeBeside, IsNumberAfter}
+use Rattle.tl_world.specs.Unchanged.{lists_fact, row_keys, table_keys, AreAlikeBeside, IsNumberAfter}
 use Rattle.tl_world.proofs.Orders.{contains-all}
 use Rattle.tl_world.proofs.SameParts.{row-tells}
 
@@ -38,40 +38,40 @@ fact-is n m a b x r p e is = told_alike {P = (m, b) ≡ (n, a)} r (eq_by_cmp key
 ) (key-is (m, b) (n, a), key-itself (m, b) (n, a))
 
 -- a test that passes on each of some facts passes on one of them
-pub named-passes : (p : Key → Bool) (fs : List Fact) (q : Key) → list_all (λ f. p (fact_key f)) fs ≡ true → names fs q ≡ true → p q ≡ true
+pub named-passes : (p : Key → Bool) (fs : List Fact) (q : Key) → list_all (λ f. p (fact_key f)) fs ≡ true → lists_fact fs q ≡ true → p q ≡ true
 named-passes p [] q h m = absurd (true≢false (sym m))
 named-passes p (f ∷ fs) q h m =
     let k = both (p (fact_key f)) (list_all (λ g. p (fact_key g)) fs) h in
-    (elim (eq_by_cmp key_cmp q (fact_key f)) as (λ b. eq_by_cmp key_cmp q (fact_key f) ≡ b → (b || names fs q) ≡ true → p q ≡ true) [
+    (elim (eq_by_cmp key_cmp q (fact_key f)) as (λ b. eq_by_cmp key_cmp q (fact_key f) ≡ b → (b || lists_fact fs q) ≡ true → p q ≡ true) [
       | true ↦ λ e _. ap p (key-is q (fact_key f) e) ∙ k.0
       | false ↦ λ e t. named-passes p fs q k.1 t
     ]) refl m
 
-contains-without : (s : set.FinSet key_cmp) (fs : List Fact) (q : Key) → set.contains (without_all s (map fact_key fs)) q ≡ (not (names fs q) && set.contains s q)
+contains-without : (s : set.FinSet key_cmp) (fs : List Fact) (q : Key) → set.contains (without_all s (map fact_key fs)) q ≡ (not (lists_fact fs q) && set.contains s q)
 contains-without s [] q = refl
 contains-without s (f ∷ fs) q =
     set.contains-remove key_total (without_all s (map fact_key fs)) (fact_key f) q
-    ∙ (ap (λ b. not (eq_by_cmp key_cmp q (fact_key f)) && b) (contains-without s fs q) ∙ neither (eq_by_cmp key_cmp q (fact_key f)) (names fs q) (set.contains s q))
+    ∙ (ap (λ b. not (eq_by_cmp key_cmp q (fact_key f)) && b) (contains-without s fs q) ∙ neither (eq_by_cmp key_cmp q (fact_key f)) (lists_fact fs q) (set.contains s q))
   where
     neither : (a b c : Bool) → (not a && (not b && c)) ≡ (not (a || b) && c)
     neither true b c = refl
     neither false b c = refl
 
 -- where the added facts are there, the deleted ones are not but for those that are added, and others are as they were, the changes were made
-pub is-changed : (s t : set.FinSet key_cmp) (dels adds : List Fact) → list_all (λ f. set.contains s (fact_key f)) adds ≡ true → list_all (λ f. not (set.contains s (fact_key f)) || names adds (fact_key f)) dels ≡ true
+pub is-changed : (s t : set.FinSet key_cmp) (dels adds : List Fact) → list_all (λ f. set.contains s (fact_key f)) adds ≡ true → list_all (λ f. not (set.contains s (fact_key f)) || lists_fact adds (fact_key f)) dels ≡ true
     → AreSameBeside (dels ++ adds) s t → s ≡ changed_facts t dels adds
-is-changed s t dels adds in_now out beside = set.same_set key_total key_ties s (changed_facts t dels adds) (λ q. each q ∙ sym (contains-all (without_all t (map fact_key dels)) adds q ∙ ap (λ b. names adds q || b) (contains-without t dels q)))
+is-changed s t dels adds in_now out beside = set.same_set key_total key_ties s (changed_facts t dels adds) (λ q. each q ∙ sym (contains-all (without_all t (map fact_key dels)) adds q ∙ ap (λ b. lists_fact adds q || b) (contains-without t dels q)))
   where
     gone : (a b : Bool) → (not a || b) ≡ true → b ≡ false → a ≡ false
     gone true b h e = sym h ∙ e
     gone false b h e = refl
 
-    each : (q : Key) → set.contains s q ≡ (names adds q || (not (names dels q) && set.contains t q))
-    each q = (elim (names adds q) as (λ a. names adds q ≡ a → set.contains s q ≡ (a || (not (names dels q) && set.contains t q))) [
+    each : (q : Key) → set.contains s q ≡ (lists_fact adds q || (not (lists_fact dels q) && set.contains t q))
+    each q = (elim (lists_fact adds q) as (λ a. lists_fact adds q ≡ a → set.contains s q ≡ (a || (not (lists_fact dels q) && set.contains t q))) [
       | true ↦ λ e. named-passes (λ k. set.contains s k) adds q in_now e
-      | false ↦ λ e. (elim (names dels q) as (λ d. names dels q ≡ d → set.contains s q ≡ (not d && set.contains t q)) [
-        | true ↦ λ g. gone (set.contains s q) (names adds q) (named-passes (λ k. not (set.contains s k) || names adds k) dels q out g) e
-        | false ↦ λ g. beside q (list_any-append (λ f. eq_by_cmp key_cmp q (fact_key f)) dels adds ∙ (ap (λ b. b || names adds q) g ∙ e))
+      | false ↦ λ e. (elim (lists_fact dels q) as (λ d. lists_fact dels q ≡ d → set.contains s q ≡ (not d && set.contains t q)) [
+        | true ↦ λ g. gone (set.contains s q) (lists_fact adds q) (named-passes (λ k. not (set.contains s k) || lists_fact adds k) dels q out g) e
+        | false ↦ λ g. beside q (list_any-append (λ f. eq_by_cmp key_cmp q (fact_key f)) dels adds ∙ (ap (λ b. b || lists_fact adds q) g ∙ e))
       ]) refl
     ]) refl
 
@@ -121,9 +121,9 @@ module _ (fs : List Fact) where
       ∙ ((λ i. a q h i || b q h i) ∙ sym (list_any-append (eq_by_cmp key_cmp q) ys ws))
 
   -- one that is named is passed over
-  pub named-alone : (k : Key) → names fs k ≡ true → AreAlikeBeside fs (k ∷ []) []
+  pub named-alone : (k : Key) → lists_fact fs k ≡ true → AreAlikeBeside fs (k ∷ []) []
   named-alone k m q h = (elim (eq_by_cmp key_cmp q k) as (λ b. eq_by_cmp key_cmp q k ≡ b → (b || false) ≡ false) [
-    | true ↦ λ e. absurd (true≢false (sym m ∙ (ap (names fs) (sym (key-is q k e)) ∙ h)))
+    | true ↦ λ e. absurd (true≢false (sym m ∙ (ap (lists_fact fs) (sym (key-is q k e)) ∙ h)))
     | false ↦ λ e. refl
   ]) refl
 
@@ -141,13 +141,13 @@ module _ (fs : List Fact) where
         (rows-parts (take s (drop k xs)) (take s (drop l ys)) (drop i xs) (drop j ys) (same-alike _ _ (ap (row_keys n) e)) h))
 
     -- a row that is named is passed in one
-    pub named-passed : (xs ys : List (List Value)) (k i : ℕ) (r : List Value) → i ≡ k + 1 → k < length xs → r ≡ get_or xs k r → names fs (n, r) ≡ true
+    pub named-passed : (xs ys : List (List Value)) (k i : ℕ) (r : List Value) → i ≡ k + 1 → k < length xs → r ≡ get_or xs k r → lists_fact fs (n, r) ≡ true
         → AreAlikeBeside fs (row_keys n (drop i xs)) (row_keys n ys) → AreAlikeBeside fs (row_keys n (drop k xs)) (row_keys n ys)
     named-passed xs ys k i r p w e m h =
         let left : r ∷ drop i xs ≡ drop k xs = (λ j. e j ∷ drop (let z : i ≡ suc k = omega (arith, p) in z j) xs) ∙ sym (drop-cons xs k r w) in
         subst (λ zs. AreAlikeBeside fs (row_keys n zs) (row_keys n ys)) left (alike-parts ((n, r) ∷ []) [] (row_keys n (drop i xs)) (row_keys n ys) (named-alone (n, r) m) h)
 
-    pub named-passed-back : (xs ys : List (List Value)) (l j : ℕ) (r : List Value) → j ≡ l + 1 → l < length ys → r ≡ get_or ys l r → names fs (n, r) ≡ true
+    pub named-passed-back : (xs ys : List (List Value)) (l j : ℕ) (r : List Value) → j ≡ l + 1 → l < length ys → r ≡ get_or ys l r → lists_fact fs (n, r) ≡ true
         → AreAlikeBeside fs (row_keys n xs) (row_keys n (drop j ys)) → AreAlikeBeside fs (row_keys n xs) (row_keys n (drop l ys))
     named-passed-back xs ys l j r p w e m h = alike-back (row_keys n (drop l ys)) (row_keys n xs) (named-passed ys xs l j r p w e m (alike-back (row_keys n xs) (row_keys n (drop j ys)) h))
 

@@ -12,8 +12,8 @@ use Rattle.tl_world.specs.Edits.{changed_places}
 use Rattle.tl_world.specs.Moves.{changed_facts}
 
 -- whether this fact is one of them
-abbrev pub names : List Fact → Key → Bool
-names facts q = list_any (λ f. eq_by_cmp key_cmp q (fact_key f)) facts
+abbrev pub lists_fact : List Fact → Key → Bool
+lists_fact facts q = list_any (λ f. eq_by_cmp key_cmp q (fact_key f)) facts
 
 -- the facts of the table with the number n
 abbrev pub row_keys : ℕ → List (List Value) → List Key
@@ -26,7 +26,7 @@ table_keys (t ∷ ts) = row_keys t.name t.rows.value ++ table_keys ts
 
 -- the same facts are in both lists, but for some
 abbrev pub AreAlikeBeside : List Fact → List Key → List Key → Type 0
-AreAlikeBeside facts xs ys = (q : Key) → names facts q ≡ false → list_any (eq_by_cmp key_cmp q) xs ≡ list_any (eq_by_cmp key_cmp q) ys
+AreAlikeBeside facts xs ys = (q : Key) → lists_fact facts q ≡ false → list_any (eq_by_cmp key_cmp q) xs ≡ list_any (eq_by_cmp key_cmp q) ys
 
 -- the tables with the number n have the same facts, but for those that are deleted or added
 abbrev pub AreRowsBeside : List Fact → List Fact → ℕ → List (List Value) → List (List Value) → Type 0

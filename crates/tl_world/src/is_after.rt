@@ -6,7 +6,7 @@ ghost use Rattle.tl_terms.specs.Acceptance.{is_value};
 ghost use Rattle.tl_terms.specs.World.{has_fact, value_at};
 ghost use Rattle.tl_world.specs.Edits.{changed_places};
 ghost use Rattle.tl_world.specs.Moves.{changed_facts};
-ghost use Rattle.tl_world.specs.Unchanged.{names};
+ghost use Rattle.tl_world.specs.Unchanged.{lists_fact};
 
 use crate::World;
 use crate::named_facts::is_one_of;
@@ -22,7 +22,7 @@ impl World {
 
     /// Whether none of the facts of `dels` is in the world but for such as are of `adds`. It takes no memory.
     fn lacks_deleted(&self, dels: &[Fact], adds: &[Fact]) -> bool
-        ensures { result ≡ list_all (λ f. not (has_fact self.now (fact_key f)) || names adds.now (fact_key f)) dels.now }
+        ensures { result ≡ list_all (λ f. not (has_fact self.now (fact_key f)) || lists_fact adds.now (fact_key f)) dels.now }
     {
         dels.iter().all(|f| {
             !self.holds(f.pred, f.args.as_slice()) || is_one_of(adds, f.pred, f.args.as_slice())

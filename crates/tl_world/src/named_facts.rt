@@ -2,7 +2,7 @@
 ghost use Rattle.std.specs.Ordering.{eq_by_cmp};
 ghost use Rattle.std.specs.Prelude.{◌≡◌, ◌++◌};
 ghost use Rattle.tl_syntax.specs.Keys.{key_cmp, fact_key};
-ghost use Rattle.tl_world.specs.Unchanged.{names};
+ghost use Rattle.tl_world.specs.Unchanged.{lists_fact};
 
 use crate::same_row::is_same_row;
 use tl_syntax::{Fact, Value};
@@ -16,14 +16,14 @@ fn is_fact(fact: &Fact, pred: u32, args: &[Value]) -> bool
 
 /// Whether the fact of the predicate with these arguments is one of the facts. It takes no memory.
 pub(crate) fn is_one_of(facts: &[Fact], pred: u32, args: &[Value]) -> bool
-    ensures { result ≡ names facts.now (pred, args.now) }
+    ensures { result ≡ lists_fact facts.now (pred, args.now) }
 {
     facts.iter().any(|f| is_fact(f, pred, args))
 }
 
 /// Whether the fact of the predicate with these arguments is deleted or added. It takes no memory.
 pub(crate) fn is_named(dels: &[Fact], adds: &[Fact], pred: u32, args: &[Value]) -> bool
-    ensures { result ≡ names (dels.now ++ adds.now) (pred, args.now) }
+    ensures { result ≡ lists_fact (dels.now ++ adds.now) (pred, args.now) }
 {
     is_one_of(dels, pred, args) || is_one_of(adds, pred, args)
 }
