@@ -14,7 +14,7 @@ use Rattle.tl_search.proofs.KeptLaws.{kept-pair}
 use Rattle.tl_search.proofs.ListLaws.{get-one}
 use Rattle.tl_depth.specs.ActionGraphs.{AreActionsOf}
 use Rattle.tl_depth.specs.Expansions.{IsListed, CameOf, as_seen}
-use Rattle.tl_depth.specs.Levels.{node_at, frame_of, frames_of}
+use Rattle.tl_depth.specs.Levels.{level_node, frame_of, frames_of}
 use Rattle.tl_depth.specs.Ongoing.{IsOngoing, IsArrived}
 use Rattle.tl_depth.specs.Outcomes.{Reported}
 use Rattle.tl_depth.specs.PairGraph.{graph_of}
@@ -52,7 +52,7 @@ module _ (p : PlainProblem) (b : ℕ) (kept : List KeptPair) (w : DepthFirst) (c
     where
       all : AreActionsOf (graph_of p) x.node c.actions
       all = subst (λ y. AreActionsOf (graph_of p) y c.actions) (get-index (pairs_of kept) c.at x.node (graph_of p).root (kept-pair kept c.at x e))
-          (subst (AreActionsOf (graph_of p) (node_at (pairs_of kept) (graph_of p).root c)) (take-append-drop c.tried c.actions) frames.0.all)
+          (subst (AreActionsOf (graph_of p) (level_node (pairs_of kept) (graph_of p).root c)) (take-append-drop c.tried c.actions) frames.0.all)
 
   -- the top level's actions are its pair's
   pub top-listed : (task : Task) → AreNamedIn task c.actions → IsListed p task kept c.at c.actions

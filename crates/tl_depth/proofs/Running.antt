@@ -6,7 +6,7 @@ use Rattle.tl_syntax.specs.Lists.{Each}
 use Rattle.tl_depth.specs.ActionGraphs.{ActionGraph, IsLawful, AreActionsOf}
 use Rattle.tl_depth.specs.Search.{Reports, Frame, advanced, entered, IsCovered, IsUnderWay, IsDepthFirst, IsDeeper, ReportsOneMore}
 use Rattle.tl_depth.specs.Tables.{met_in, IsUncut, AllDiffer, IsCounted}
-use Rattle.tl_depth.specs.Levels.{node_at, frame_of, frames_of, stepped, IsRunning}
+use Rattle.tl_depth.specs.Levels.{level_node, frame_of, frames_of, stepped, IsRunning}
 use Rattle.tl_depth.specs.declared.level.Level.{Level}
 use Rattle.tl_depth.proofs.ListFacts.{each_last}
 use Rattle.tl_depth.proofs.Exploring.{met-explored, some-left}
@@ -74,7 +74,7 @@ module _ {Node : Type 0} (same : Discrete Node) (g : ActionGraph Node) (n : ℕ)
     rest-here : (frame_of kept g.root c).rest ≡ a ∷ drop (c.tried + 1) c.actions
     rest-here = get-rest c.actions c.tried a at-action
 
-    node-here : node_at kept g.root c ≡ x
+    node-here : level_node kept g.root c ≡ x
     node-here = get-index kept c.at x g.root at-node
 
     -- the state, with the arrival reported
@@ -82,7 +82,7 @@ module _ {Node : Type 0} (same : Discrete Node) (g : ActionGraph Node) (n : ℕ)
     now = reporting g n lawful before after (met_in same kept most) (frame_of kept g.root c ∷ frames_of kept g.root front []) told.others
         (subst (IsDepthFirst g n before (met_in same kept most)) (frames-last kept g.root front c []) s.searching)
 
-    told-here : after (node_at kept g.root c) a
+    told-here : after (level_node kept g.root c) a
     told-here = subst (λ y. after y a) (sym node-here) told.this
 
     counted-here : IsCounted g kept most (frame_of kept g.root c ∷ frames_of kept g.root front []) calls
@@ -119,7 +119,7 @@ module _ {Node : Type 0} (same : Discrete Node) (g : ActionGraph Node) (n : ℕ)
 
     -- a node is met with more remaining actions than ever before
     module _ (q : Node) (r : ℕ) (leads : g.next x a ≡ Some q) (fewer : suc r ≡ c.left) (refused : g.Accepts q → ⊥) where
-      leads-here : g.next (node_at kept g.root c) a ≡ Some q
+      leads-here : g.next (level_node kept g.root c) a ≡ Some q
       leads-here = ap (λ y. g.next y a) node-here ∙ leads
 
       deeper-fresh : Each (λ y. y ≢ q) kept → IsDeeper (met_in same kept most) q r
