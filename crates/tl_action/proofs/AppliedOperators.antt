@@ -8,7 +8,7 @@ use Rattle.tl_action.specs.declared.fault.ActFault.{ActFault}
 use Rattle.tl_action.specs.Actions.{HasOperator}
 use Rattle.tl_action.specs.Agreement.{Agree}
 use Rattle.tl_action.specs.Answers.{IsCausedBy}
-use Rattle.tl_action.specs.Collected.{nothing, HasMore, Collects}
+use Rattle.tl_action.specs.Collected.{no_changes, HasMore, Collects}
 use Rattle.tl_action.specs.Prepared.{instances_of, is_prepared, looked_prepared, CollectsWhole, Prepares}
 use Rattle.tl_action.proofs.Operators.{OperatorAgrees, operator-agrees}
 use Rattle.tl_action.proofs.Passed.{caused-more}
@@ -153,7 +153,7 @@ module _ (problem : Problem) (w : World) (a : Action) (o : Operator) (at : Opera
       ∙ (ap (λ (b : Bool). cond b (Some (changed w (instances_of meaning w values (plain_operator o)))) None) (both-true _ _ (sym same.bounds ∙ h) (sym same.prepared ∙ k))
       ∙ ap (λ (cs : List EffectInstance). Some (changed w cs)) (sym same.instances))
 
-  pub step-made : list_all (bound_true (situation_of meaning w) d) o.bounds ≡ true → (x : Changes) → (is_prepared meaning w d (plain_operator o) ≡ true) × HasMore (instances_of meaning w d (plain_operator o)) nothing x → (next : World)
+  pub step-made : list_all (bound_true (situation_of meaning w) d) o.bounds ≡ true → (x : Changes) → (is_prepared meaning w d (plain_operator o) ≡ true) × HasMore (instances_of meaning w d (plain_operator o)) no_changes x → (next : World)
       → next.facts ≡ with_all (without_all w.facts (map fact_key x.dels)) (map fact_key x.adds) → next.places ≡ overwritten w.places (map place_entry x.sets) → Some next ≡ step meaning w a
   unfolding changed
   step-made h x k next f s =
@@ -183,14 +183,14 @@ module _ (problem : Problem) (w : World) (a : Action) (o : Operator) (at : Opera
       (same.bounds ∙ k.0, same.prepared ∙ k.1)
 
   -- its effects are defined
-  all-collected : is_some (step meaning w a) ≡ true → (ls : List Operation) (x : Changes) (b : Bool) → Collects (instances_of meaning w d (plain_operator o)) ls nothing x (Ok b) → HasMore (instances_of meaning w d (plain_operator o)) nothing x
+  all-collected : is_some (step meaning w a) ≡ true → (ls : List Operation) (x : Changes) (b : Bool) → Collects (instances_of meaning w d (plain_operator o)) ls no_changes x (Ok b) → HasMore (instances_of meaning w d (plain_operator o)) no_changes x
   all-collected h ls x true k = k
   all-collected h ls x false k =
       let pre = both-of (state_true (situation_of meaning w) d (plain_operator o).pre) _ (tests-passed h).1 in
       let effects = both-of (list_all is_defined (instances_of meaning w d (plain_operator o))) _ pre.1 in
       absurd (true≢false (sym effects.0 ∙ k))
 
-  pub step-known : is_some (step meaning w a) ≡ true → (ls : List Operation) (x : Changes) (b : Bool) → Collects (instances_of meaning w d (plain_operator o)) ls nothing x (Ok b) → (next : World)
+  pub step-known : is_some (step meaning w a) ≡ true → (ls : List Operation) (x : Changes) (b : Bool) → Collects (instances_of meaning w d (plain_operator o)) ls no_changes x (Ok b) → (next : World)
       → next.facts ≡ with_all (without_all w.facts (map fact_key x.dels)) (map fact_key x.adds) → next.places ≡ overwritten w.places (map place_entry x.sets) → Some next ≡ step meaning w a
   step-known h ls x b k next f s = let tests = tests-passed h in step-made tests.0 x (tests.1, all-collected h ls x b k) next f s
 

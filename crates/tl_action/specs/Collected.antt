@@ -19,8 +19,8 @@ use Rattle.tl_terms.specs.Step.{EffectInstance, all_instances, is_defined, added
 use Rattle.tl_terms.specs.World.{World}
 
 -- no change
-abbrev pub nothing : Changes
-nothing = record { dels = []; adds = []; sets = [] }
+abbrev pub no_changes : Changes
+no_changes = record { dels = []; adds = []; sets = [] }
 
 -- all instances are defined, and the changes after are those before and then theirs
 pub record HasMore (cs : List EffectInstance) (before after : Changes) : Type 0 where

@@ -1,7 +1,7 @@
 // What effects change.
 ghost use Rattle.std.specs.Prelude.{◌≡◌, IfOk};
 ghost use Rattle.tl_action.specs.ChangedWorlds.{world_after};
-ghost use Rattle.tl_action.specs.Collected.{nothing};
+ghost use Rattle.tl_action.specs.Collected.{no_changes};
 
 use std::alloc::Global;
 use tl_syntax::{Facts, NoMemory, PlaceValues};
@@ -21,7 +21,7 @@ pub struct Changes {
 impl Changes {
     /// No change. It takes no memory.
     pub(crate) fn new(alloc: Global) -> Changes
-        ensures { result ≡ nothing }
+        ensures { result ≡ no_changes }
     {
         Changes {
             dels: Facts::new(alloc),
