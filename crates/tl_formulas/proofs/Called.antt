@@ -8,7 +8,7 @@ use Rattle.tl_syntax.specs.declared.value.Value.TheVariants.{Int}
 use Rattle.tl_rules.specs.declared.rule.Rule.TheVariants.{Shape}
 use Rattle.tl_rules.specs.Parts.{offset_of, is_call, elements_of, rest_of}
 use Rattle.tl_formulas.specs.declared.signature.NameSignature.{NameSignature}
-use Rattle.tl_formulas.specs.Words.{operation_of, formula_word}
+use Rattle.tl_formulas.specs.Words.{operation_named, formula_word}
 use Rattle.tl_formulas.specs.Signatures.{Table, Scope, place_of, unbound_breaks}
 use Rattle.tl_formulas.specs.Terms.{term_call_breaks, term_breaks, terms_breaks}
 use Rattle.tl_formulas.specs.Goals.{arguments_breaks, is_flat, miscounted_breaks, other_goal_breaks, goal_breaks}
@@ -34,12 +34,12 @@ unfolding term_meant
 term-integer-meant names fs s z at = refl
 
 pub term-called : (fs : Table) (s : Scope) (word : List ℕ) (k : ℕ) (rest : FormTrees) (at : ℕ)
-    → term_breaks fs s (list (more_forms (symbol word k) rest) at) ≡ term_call_breaks fs (operation_of word) word rest at ++ terms_breaks fs s rest
+    → term_breaks fs s (list (more_forms (symbol word k) rest) at) ≡ term_call_breaks fs (operation_named word) word rest at ++ terms_breaks fs s rest
 unfolding term_breaks
 term-called fs s word k rest at = refl
 
 pub term-called-meant : (names : List (List ℕ)) (fs : Table) (s : Scope) (word : List ℕ) (k : ℕ) (rest : FormTrees) (at : ℕ)
-    → term_meant names fs s (list (more_forms (symbol word k) rest) at) ≡ call_meant (operation_of word) (place_of fs word) (terms_meant names fs s rest) at
+    → term_meant names fs s (list (more_forms (symbol word k) rest) at) ≡ call_meant (operation_named word) (place_of fs word) (terms_meant names fs s rest) at
 unfolding term_meant
 term-called-meant names fs s word k rest at = refl
 

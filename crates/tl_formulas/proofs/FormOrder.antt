@@ -8,7 +8,7 @@ use Rattle.tl_rules.specs.declared.rule.Rule.TheVariants.{Shape, Unknown, Twice,
 use Rattle.tl_formulas.specs.declared.signature.NameSignature.{NameSignature}
 use Rattle.tl_formulas.specs.declared.words.FormulaWord.{FormulaWord}
 use Rattle.tl_formulas.specs.declared.words.FormulaWord.TheVariants as word
-use Rattle.tl_formulas.specs.Words.{operation_of, formula_word}
+use Rattle.tl_formulas.specs.Words.{operation_named, formula_word}
 use Rattle.tl_rules.specs.Parts.{is_variable, offset_of, count, is_list, any_list, is_word, occurs_in, elements_of, rest_of}
 use Rattle.tl_formulas.specs.Signatures.{Table, Scope, place_of, has_arity, slot_of, call_breaks_at, call_breaks, unbound_breaks}
 use Rattle.tl_formulas.specs.Terms.{term_call_breaks, term_breaks, term_list_breaks, terms_breaks}
@@ -49,7 +49,7 @@ mutual
   term_list-order functions scope (more_forms (symbol text s) rest) at next h =
       let first = form-within (symbol text s) (at + 1) h.0 h.1 in
       both (64 * at) (64 * at + 64) (64 * next) _ _
-      (term_call-order functions (operation_of text) text rest at)
+      (term_call-order functions (operation_named text) text rest at)
       (from (64 * at + 64) (64 * h.0) (64 * next) _ (omega (arith, first.0, first.1)) (terms-order functions scope rest h.0 next h.2))
   term_list-order functions scope (more_forms (integer z s) rest) at next h =
       let parts = forms-within (more_forms (integer z s) rest) (at + 1) next h in one Shape at (64 * at) (64 * next) (omega arith) (omega arith)

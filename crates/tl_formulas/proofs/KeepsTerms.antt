@@ -16,7 +16,7 @@ use Rattle.tl_syntax.specs.Trees.{TermTree, TermTrees, value, no_term, more_term
 use Rattle.tl_rules.specs.Named.{HasNames, HaveNames}
 use Rattle.tl_rules.specs.Parts.{count}
 use Rattle.tl_formulas.specs.declared.signature.NameSignature.{NameSignature}
-use Rattle.tl_formulas.specs.Words.{operation_of}
+use Rattle.tl_formulas.specs.Words.{operation_named}
 use Rattle.tl_formulas.specs.Signatures.{Table, Scope, place_of}
 use Rattle.tl_formulas.specs.Terms.{term_call_breaks, term_breaks, term_list_breaks, terms_breaks}
 use Rattle.tl_formulas.specs.MeaningOfTerms.{term_of_argument, first_term, second_term, call_meant, term_meant, term_list_meant, terms_meant}
@@ -85,8 +85,8 @@ mutual
   term_list-keeps : (names : List (List ℕ)) (g : NameSignature) (scope : Scope) (fs : FormTrees) (at : ℕ) → length scope ≤ 32 → HaveNames names fs → term_list_breaks g.functions scope fs at ≡ [] → TermKeeps (seen g) (length names) (length scope) (term_list_meant names g.functions scope fs at)
   term_list-keeps names g scope no_form at few has none = cc
   term_list-keeps names g scope (more_forms (symbol text s) rest) at few has none =
-      let parts = none-parts (term_call_breaks g.functions (operation_of text) text rest at) (terms_breaks g.functions scope rest) none in
-      call-keeps g _ _ (operation_of text) text rest at (terms_meant names g.functions scope rest) parts.0 (terms-count names g.functions scope rest) (terms-keep names g scope rest few has.1 parts.1)
+      let parts = none-parts (term_call_breaks g.functions (operation_named text) text rest at) (terms_breaks g.functions scope rest) none in
+      call-keeps g _ _ (operation_named text) text rest at (terms_meant names g.functions scope rest) parts.0 (terms-count names g.functions scope rest) (terms-keep names g scope rest few has.1 parts.1)
   term_list-keeps names g scope (more_forms (integer z s) rest) at few has none = cc
   term_list-keeps names g scope (more_forms (list fs s) rest) at few has none = cc
 

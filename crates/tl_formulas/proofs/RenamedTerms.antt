@@ -18,7 +18,7 @@ use Rattle.tl_rules.specs.Symbols.{number_in}
 use Rattle.tl_formulas.specs.declared.signature.NameSignature.{NameSignature}
 use Rattle.tl_formulas.specs.declared.words.FormulaWord.{FormulaWord}
 use Rattle.tl_formulas.specs.declared.words.FormulaWord.TheVariants as word
-use Rattle.tl_formulas.specs.Words.{operation_of, formula_word}
+use Rattle.tl_formulas.specs.Words.{operation_named, formula_word}
 use Rattle.tl_formulas.specs.Signatures.{Table, Scope, place_of, slot_of}
 use Rattle.tl_formulas.specs.Goals.{is_flat}
 use Rattle.tl_formulas.specs.MeaningOfTerms.{symbol_meant, argument_meant, arguments_meant, term_of_argument, first_term, second_term, call_meant, term_meant, term_list_meant, terms_meant}
@@ -75,7 +75,7 @@ module _ (old new : List (List ℕ)) (m : Renaming) (agrees : Agrees old new m) 
     term_list-renamed : (functions : Table) (scope : Scope) (fs : FormTrees) (at : ℕ) → HaveNames old fs → term_list_meant new functions scope fs at ≡ m.of_term (term_list_meant old functions scope fs at)
     term_list-renamed functions scope no_form at has = m.term_integer (pos 0)
     term_list-renamed functions scope (more_forms (symbol text s) rest) at has =
-        ap (λ (ts : TermTrees). call_meant (operation_of text) (place_of functions text) ts at) (terms-renamed functions scope rest has.1) ∙ call-renamed m (operation_of text) (place_of functions text) (terms_meant old functions scope rest) at
+        ap (λ (ts : TermTrees). call_meant (operation_named text) (place_of functions text) ts at) (terms-renamed functions scope rest has.1) ∙ call-renamed m (operation_named text) (place_of functions text) (terms_meant old functions scope rest) at
     term_list-renamed functions scope (more_forms (integer z s) rest) at has = m.term_integer (pos 0)
     term_list-renamed functions scope (more_forms (list fs s) rest) at has = m.term_integer (pos 0)
 

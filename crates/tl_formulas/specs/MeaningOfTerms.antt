@@ -8,7 +8,7 @@ use Rattle.tl_syntax.specs.declared.variable.Arg.{Arg}
 use Rattle.tl_syntax.specs.declared.variable.Arg.TheVariants as arg
 use Rattle.tl_syntax.specs.Trees.{TermTree, TermTrees, variable, value, place, arith, no_term, more_terms}
 use Rattle.tl_rules.specs.Parts.{is_variable}
-use Rattle.tl_formulas.specs.Words.{operation_of}
+use Rattle.tl_formulas.specs.Words.{operation_named}
 use Rattle.tl_formulas.specs.Signatures.{Table, Scope, place_of, slot_of}
 use Rattle.tl_rules.specs.Symbols.{number_in}
 
@@ -61,7 +61,7 @@ unfoldable mutual
   pub term_list_meant : List (List ℕ) → Table → Scope → FormTrees → ℕ → TermTree
   term_list_meant names functions scope no_form at = value (Int (pos 0))
   term_list_meant names functions scope (more_forms (symbol text _) rest) at =
-      call_meant (operation_of text) (place_of functions text) (terms_meant names functions scope rest) at
+      call_meant (operation_named text) (place_of functions text) (terms_meant names functions scope rest) at
   term_list_meant names functions scope (more_forms (integer z _) rest) at = value (Int (pos 0))
   term_list_meant names functions scope (more_forms (list fs _) rest) at = value (Int (pos 0))
 

@@ -4,7 +4,7 @@ use Rattle.tl_sexpr.specs.Tree.{FormTree, FormTrees, symbol, integer, list, no_f
 use Rattle.tl_syntax.specs.declared.value.Op.{Op}
 use Rattle.tl_rules.specs.declared.rule.Rule.TheVariants.{Shape}
 use Rattle.tl_rules.specs.Rules.{Break, breaks_if}
-use Rattle.tl_formulas.specs.Words.{operation_of}
+use Rattle.tl_formulas.specs.Words.{operation_named}
 use Rattle.tl_rules.specs.Parts.{count}
 use Rattle.tl_formulas.specs.Signatures.{Table, Scope, call_breaks, unbound_breaks}
 
@@ -24,7 +24,7 @@ unfoldable mutual
   pub term_list_breaks : Table → Scope → FormTrees → ℕ → List Break
   term_list_breaks functions scope no_form at = (Shape, at) ∷ []
   term_list_breaks functions scope (more_forms (symbol text _) rest) at =
-      term_call_breaks functions (operation_of text) text rest at ++ terms_breaks functions scope rest
+      term_call_breaks functions (operation_named text) text rest at ++ terms_breaks functions scope rest
   term_list_breaks functions scope (more_forms (integer z _) rest) at = (Shape, at) ∷ []
   term_list_breaks functions scope (more_forms (list fs _) rest) at = (Shape, at) ∷ []
 

@@ -18,8 +18,8 @@ reserved_words =
     codes "-" ∷ codes "*" ∷ []
 
 -- the operation that a word names
-abbrev pub operation_of : List ℕ → Option Op
-operation_of text =
+abbrev pub operation_named : List ℕ → Option Op
+operation_named text =
     if bytes_eq text (codes "+") then Some Plus else
     (if bytes_eq text (codes "-") then Some Minus else
     (if bytes_eq text (codes "*") then Some Times else None))

@@ -5,7 +5,7 @@ ghost use Rattle.tl_syntax.specs.TreeOfTerm.{tree_of_term};
 ghost use Rattle.tl_formulas.specs.MeaningOfTerms.{term_of_argument};
 ghost use Rattle.tl_formulas.specs.Readers.{ReadsTerm, ReadsTermCall, ReadsTerms};
 ghost use Rattle.tl_formulas.specs.Signatures.{call_breaks, place_of};
-ghost use Rattle.tl_formulas.specs.Words.{operation_of};
+ghost use Rattle.tl_formulas.specs.Words.{operation_named};
 ghost use Rattle.tl_rules.specs.Reads.{Reads, trees_in};
 
 use crate::arguments::symbol;
@@ -73,8 +73,8 @@ fn term_call(
     scope: &Scope<'_>,
     call: Call<'_>,
 ) -> Result<Term, FormFault>
-    ensures { ReadsTermCall vocabulary.now scope.now (operation_of call.entry.word.now) call.entry
-        result }
+    ensures { ReadsTermCall vocabulary.now scope.now
+        (operation_named call.entry.word.now) call.entry result }
 {
     match operation(call.word) {
         Some(op) => arithmetic(vocabulary, scope, op, call),

@@ -2,7 +2,7 @@
 ghost use Rattle.std.specs.Prelude.{◌≡◌};
 ghost use Rattle.std.specs.List.{list_any};
 ghost use Rattle.std.specs.Str.{bytes_eq};
-ghost use Rattle.tl_formulas.specs.Words.{reserved_words, operation_of, formula_word, effect_word};
+ghost use Rattle.tl_formulas.specs.Words.{reserved_words, operation_named, formula_word, effect_word};
 
 use tl_syntax::{Cmp, Op};
 
@@ -92,7 +92,7 @@ pub fn is_reserved(text: &str) -> bool
 
 /// The operation that a word names.
 pub(crate) fn operation(text: &str) -> Option<Op>
-    ensures { result ≡ operation_of text.now }
+    ensures { result ≡ operation_named text.now }
 {
     match text {
         "+" => Some(Op::Plus),
