@@ -20,7 +20,7 @@ use Rattle.tl_problem.specs.ElementWords.{ElementWord, element_word}
 use Rattle.tl_problem.specs.ElementWords as word
 use Rattle.tl_problem.specs.Literals.{Literals, no_literal, has_other_value}
 use Rattle.tl_problem.specs.Declarations.{position_of, has_arity, call_breaks_at}
-use Rattle.tl_problem.specs.Elements.{or_else, element_call_breaks, element_breaks, with_element, elements_breaks}
+use Rattle.tl_problem.specs.Elements.{breaks_or_else, element_call_breaks, element_breaks, with_element, elements_breaks}
 use Rattle.tl_problem.specs.Facts.{ground_breaks, fact_meant, equality_breaks, equality_meant, negation_breaks, negation_meant}
 use Rattle.tl_problem.specs.ProblemFiles.{has_problem_shape, section_breaks, sections_breaks, problem_form_breaks, problem_file_breaks}
 use Rattle.tl_problem.specs.Values.{value_breaks, values_breaks}
@@ -65,7 +65,7 @@ negation-order names predicates (more_forms (list (more_forms (symbol text s) re
 negation-order names predicates (more_forms f no_form) at next h = let parts = forms-within (more_forms f no_form) (at + 1) next h in one Shape at (64 * at) (64 * next) (omega arith) (omega arith)
 negation-order names predicates fs at next h = let parts = forms-within fs (at + 1) next h in one Shape at (64 * at) (64 * next) (omega arith) (omega arith)
 
-else-order : (low high : ℕ) (xs ys : List Break) → IsInOrder low xs high → IsInOrder low ys high → IsInOrder low (or_else xs ys) high
+else-order : (low high : ℕ) (xs ys : List Break) → IsInOrder low xs high → IsInOrder low ys high → IsInOrder low (breaks_or_else xs ys) high
 else-order low high [] ys h i = i
 else-order low high (x ∷ xs) ys h i = h
 

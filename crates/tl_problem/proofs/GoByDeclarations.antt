@@ -13,7 +13,7 @@ use Rattle.tl_rules.specs.Calls.{CallTree, call_in}
 use Rattle.tl_problem.specs.ElementWords.{ElementWord, element_word}
 use Rattle.tl_problem.specs.ElementWords as word
 use Rattle.tl_problem.specs.Literals.{Literals, no_literal, and_fact, and_value, and_not, fact_denied, fact_said, value_differs}
-use Rattle.tl_problem.specs.Elements.{or_else, element_call_breaks, with_element_call, called_breaks, with_called, element_breaks, with_element, elements_breaks, with_elements}
+use Rattle.tl_problem.specs.Elements.{breaks_or_else, element_call_breaks, with_element_call, called_breaks, with_called, element_breaks, with_element, elements_breaks, with_elements}
 use Rattle.tl_problem.specs.LawsDeclarations.{DeclareAlike, FilesGoByDeclarations}
 use Rattle.tl_problem.specs.Facts.{ground_breaks, fact_meant, equality_breaks, equality_meant, negation_breaks, negation_meant}
 use Rattle.tl_rules.specs.OneForm.{second_form_breaks}
@@ -23,13 +23,13 @@ module _ (names : List (List ℕ)) (d e : Domain) (alike : DeclareAlike d e) whe
   call_breaks : (l : Literals) (w : ElementWord) (c : CallTree) → element_call_breaks names d l w c ≡ element_call_breaks names e l w c
   call_breaks l word.Equality c =
       let fs = alike.functions in
-      λ i. or_else (equality_breaks names (fs i) c.rest c.at) (value_differs l (equality_meant names (fs i) c.rest) c.at)
+      λ i. breaks_or_else (equality_breaks names (fs i) c.rest c.at) (value_differs l (equality_meant names (fs i) c.rest) c.at)
   call_breaks l word.Negation c =
       let ps = alike.predicates in
-      λ i. or_else (negation_breaks names (ps i) c.rest c.at) (fact_said l (negation_meant names (ps i) c.rest) c.at)
+      λ i. breaks_or_else (negation_breaks names (ps i) c.rest c.at) (fact_said l (negation_meant names (ps i) c.rest) c.at)
   call_breaks l word.Fact c =
       let ps = alike.predicates in
-      λ i. or_else (ground_breaks names (ps i) c) (fact_denied l (fact_meant names (ps i) c) c.at)
+      λ i. breaks_or_else (ground_breaks names (ps i) c) (fact_denied l (fact_meant names (ps i) c) c.at)
 
   with_call : (l : Literals) (w : ElementWord) (c : CallTree) → with_element_call names d l w c ≡ with_element_call names e l w c
   with_call l word.Equality c = ap (λ (fs : List Declared). and_value l (equality_meant names fs c.rest)) alike.functions

@@ -28,7 +28,7 @@ use Rattle.tl_problem.specs.ElementWords.{ElementWord, element_word}
 use Rattle.tl_problem.specs.ElementWords as word
 use Rattle.tl_problem.specs.Literals.{Literals, no_literal, with_fact, with_value, value_at}
 use Rattle.tl_problem.specs.Declarations.{position_of, has_arity, call_breaks_at}
-use Rattle.tl_problem.specs.Elements.{or_else, element_call_breaks, with_element_call, element_breaks, with_element, elements_breaks, with_elements}
+use Rattle.tl_problem.specs.Elements.{breaks_or_else, element_call_breaks, with_element_call, element_breaks, with_element, elements_breaks, with_elements}
 use Rattle.tl_problem.specs.Facts.{ground_breaks, fact_meant, equality_breaks, equality_meant, negation_breaks, negation_meant}
 use Rattle.tl_problem.specs.Keeps.{LiteralsKeep, SectionsKeep}
 use Rattle.tl_problem.specs.ProblemFiles.{has_problem_shape, section_breaks, section_meant, sections_breaks, sections_meant, problem_form_breaks, problem_form_meant, problem_file_breaks, problem_file_meant}
@@ -41,7 +41,7 @@ none-parts [] ys h = (refl, h)
 none-parts (x ∷ xs) ys h = cc
 
 -- where the one list or else the other is empty, each is
-pub else-parts : (xs ys : List Break) → or_else xs ys ≡ [] → (xs ≡ []) × (ys ≡ [])
+pub else-parts : (xs ys : List Break) → breaks_or_else xs ys ≡ [] → (xs ≡ []) × (ys ≡ [])
 else-parts [] ys h = (refl, h)
 else-parts (x ∷ xs) ys h = cc
 

@@ -28,7 +28,7 @@ use Rattle.tl_rules.specs.Calls.{CallTree}
 use Rattle.tl_problem.specs.ElementWords.{ElementWord, element_word}
 use Rattle.tl_problem.specs.ElementWords as word
 use Rattle.tl_problem.specs.Literals.{Literals, no_literal, with_fact, with_value, has_other_value}
-use Rattle.tl_problem.specs.Elements.{or_else, element_call_breaks, with_element_call, element_breaks, with_element, elements_breaks, with_elements}
+use Rattle.tl_problem.specs.Elements.{breaks_or_else, element_call_breaks, with_element_call, element_breaks, with_element, elements_breaks, with_elements}
 use Rattle.tl_problem.specs.Facts.{fact_meant, equality_meant, negation_meant}
 use Rattle.tl_rules.specs.OneForm.{second_form_breaks}
 use Rattle.tl_problem.specs.ProblemFiles.{has_problem_shape, section_breaks, section_meant, sections_breaks, sections_meant, problem_form_breaks, problem_form_meant, problem_file_breaks, problem_file_meant}
@@ -90,7 +90,7 @@ module _ (r : Renumbering) (old new : List (List ℕ)) (renames : Renames r old 
       let values = map (renumbered_place r) l.values in
       let make : List PlaceValue → Literals = λ vs. record { facts = map (renumbered_fact r) l.facts; values = vs; nots = map (renumbered_fact r) l.nots } in
       record {
-        breaks = ap₂ or_else same.0 (ap (λ (b : Bool). breaks_if b TwoValues c.at) (ap (has_other_value values) same.1 ∙ other-new r old new renames l.values x named.values here));
+        breaks = ap₂ breaks_or_else same.0 (ap (λ (b : Bool). breaks_if b TwoValues c.at) (ap (has_other_value values) same.1 ∙ other-new r old new renames l.values x named.values here));
         meant = ap make (ap (with_value values) same.1 ∙ with_value-new r old new renames l.values x named.values here);
         named = record { facts = named.facts; values = Each-with_value (PlaceIsNamed (length old)) l.values x named.values here; nots = named.nots };
       }
@@ -102,7 +102,7 @@ module _ (r : Renumbering) (old new : List (List ℕ)) (renames : Renames r old 
       let nots = map (renumbered_fact r) l.nots in
       let make : List Fact → Literals = λ ns. record { facts = facts; values = map (renumbered_place r) l.values; nots = ns } in
       record {
-        breaks = ap₂ or_else same.0 (ap (λ (b : Bool). breaks_if b TwoValues c.at) (ap (λ (y : Fact). list_any (fact_eq y) facts) same.1 ∙ known-new r old new renames x l.facts here named.facts));
+        breaks = ap₂ breaks_or_else same.0 (ap (λ (b : Bool). breaks_if b TwoValues c.at) (ap (λ (y : Fact). list_any (fact_eq y) facts) same.1 ∙ known-new r old new renames x l.facts here named.facts));
         meant = ap make (ap (with_fact nots) same.1 ∙ with_fact-new r old new renames l.nots x named.nots here);
         named = record { facts = named.facts; values = named.values; nots = Each-with_fact (FactIsNamed (length old)) l.nots x named.nots here };
       }
@@ -114,7 +114,7 @@ module _ (r : Renumbering) (old new : List (List ℕ)) (renames : Renames r old 
       let nots = map (renumbered_fact r) l.nots in
       let make : List Fact → Literals = λ fs. record { facts = fs; values = map (renumbered_place r) l.values; nots = nots } in
       record {
-        breaks = ap₂ or_else (ground-new r old new renames d.predicates e.predicates declared.predicates declared.named_predicates c has)
+        breaks = ap₂ breaks_or_else (ground-new r old new renames d.predicates e.predicates declared.predicates declared.named_predicates c has)
             (ap (λ (b : Bool). breaks_if b TwoValues c.at) (ap (λ (y : Fact). list_any (fact_eq y) nots) same ∙ known-new r old new renames x l.nots here named.nots));
         meant = ap make (ap (with_fact facts) same ∙ with_fact-new r old new renames l.facts x named.facts here);
         named = record { facts = Each-with_fact (FactIsNamed (length old)) l.facts x named.facts here; values = named.values; nots = named.nots };

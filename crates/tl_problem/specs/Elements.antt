@@ -16,20 +16,20 @@ use Rattle.tl_problem.specs.Facts.{ground_breaks, fact_meant, equality_breaks, e
 use Rattle.tl_problem.specs.Literals.{Literals, and_fact, and_value, and_not, fact_denied, fact_said, value_differs}
 
 -- the first breaks, and only where there are none the second
-abbrev pub or_else : List Break → List Break → List Break
-or_else [] later = later
-or_else (b ∷ bs) later = b ∷ bs
+abbrev pub breaks_or_else : List Break → List Break → List Break
+breaks_or_else [] later = later
+breaks_or_else (b ∷ bs) later = b ∷ bs
 
 -- what an element of this word breaks, where the elements before it say this
 abbrev pub element_call_breaks : List (List ℕ) → Domain → Literals → ElementWord → CallTree → List Break
 element_call_breaks names d l word.Equality c =
-    or_else (equality_breaks names d.functions c.rest c.at)
+    breaks_or_else (equality_breaks names d.functions c.rest c.at)
     (value_differs l (equality_meant names d.functions c.rest) c.at)
 element_call_breaks names d l word.Negation c =
-    or_else (negation_breaks names d.predicates c.rest c.at)
+    breaks_or_else (negation_breaks names d.predicates c.rest c.at)
     (fact_said l (negation_meant names d.predicates c.rest) c.at)
 element_call_breaks names d l word.Fact c =
-    or_else (ground_breaks names d.predicates c)
+    breaks_or_else (ground_breaks names d.predicates c)
     (fact_denied l (fact_meant names d.predicates c) c.at)
 
 -- what is said with an element of this word
