@@ -2,7 +2,7 @@
 ghost use Rattle.std.specs.Prelude.{◌≡◌, ◌<◌, [], ◌∷◌, ◌++◌, None, Some, length, cond, is_ok, map, MatchOption, IfOk};
 ghost use Rattle.std.specs.FinMap as dict;
 ghost use Rattle.tl_outside.specs.FileList.{files_of, bytes_at};
-ghost use Rattle.tl_outside.specs.NamedFile.{pair_of};
+ghost use Rattle.tl_outside.specs.NamedFile.{name_and_bytes};
 
 use std::alloc::{AllocError, Global};
 use std::marker::Model;
@@ -26,16 +26,16 @@ impl Model for FileList {
 
     ghost Value = { List (List ℕ × List ℕ) };
 
-    ghost use Rattle.tl_outside.specs.NamedFile.{pair_of};
+    ghost use Rattle.tl_outside.specs.NamedFile.{name_and_bytes};
 
-    ghost view = { λ a. map pair_of a.files.items };
+    ghost view = { λ a. map name_and_bytes a.files.items };
 }
 
 // The place of the first file of this name.
 fn place_of(files: &[NamedFile], name: &str) -> Option<usize>
     ensures { MatchOption result
-        (dict.get (files_of (map pair_of files.now)) name.now ≡ None)
-        (λ index. (index < length files.now) × (dict.get (files_of (map pair_of files.now)) name.now ≡ Some (bytes_at (map pair_of files.now) index))) }
+        (dict.get (files_of (map name_and_bytes files.now)) name.now ≡ None)
+        (λ index. (index < length files.now) × (dict.get (files_of (map name_and_bytes files.now)) name.now ≡ Some (bytes_at (map name_and_bytes files.now) index))) }
 {
     for (index, file) in files.iter().enumerate() {
         if name == file.name.as_str() {
@@ -46,7 +46,7 @@ fn place_of(files: &[NamedFile], name: &str) -> Option<usize>
 }
 
 fn named(alloc: Global, name: &str, bytes: &[u8]) -> Result<NamedFile, AllocError>
-    ensures { IfOk result (λ file. pair_of file ≡ (name.now, bytes.now)) }
+    ensures { IfOk result (λ file. name_and_bytes file ≡ (name.now, bytes.now)) }
 {
     Ok(NamedFile {
         name: String::from_str(alloc, name)?,
