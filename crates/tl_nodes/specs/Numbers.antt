@@ -20,8 +20,8 @@ abbrev pub tree_in : Nodes → ℕ → FormulaTree
 tree_in s i = tree_at (trees s) i
 
 -- the trees of the numbers
-abbrev pub trees_in : Nodes → List ℕ → List FormulaTree
-trees_in s ids = trees_at (trees s) ids
+abbrev pub trees_of_numbers : Nodes → List ℕ → List FormulaTree
+trees_of_numbers s ids = trees_at (trees s) ids
 
 -- the tree of a number with the values put in
 abbrev pub filled_at : Nodes → List Binding → ℕ → FormulaTree

@@ -3,7 +3,7 @@ ghost use Rattle.std.specs.Prelude.{◌≡◌, ◌<◌, true, length, IsTrue, If
 ghost use Rattle.tl_nodes.specs.Fits.{all_below};
 ghost use Rattle.tl_nodes.specs.Joins.{simplified_join};
 ghost use Rattle.tl_nodes.specs.Numbering.{Keeps};
-ghost use Rattle.tl_nodes.specs.Numbers.{trees, Denotes, tree_in, trees_in};
+ghost use Rattle.tl_nodes.specs.Numbers.{trees, Denotes, tree_in, trees_of_numbers};
 ghost use Rattle.tl_progress.specs.Parts.{Gathers};
 ghost use Rattle.tl_syntax.specs.Junctions.{deciding_truth};
 ghost use Rattle.tl_terms.specs.Progression.{constant};
@@ -68,7 +68,7 @@ pub(crate) fn join(
 ) -> Result<usize, NoMemory>
     requires { all_below (length (trees nodes.old)) parts.now ≡ true }
     ensures kept { Keeps (trees nodes.old) (trees nodes.new) }
-    ensures number { IfOk result (λ i. Denotes nodes.new i (simplified_join junction (trees_in nodes.old parts.now))) }
+    ensures number { IfOk result (λ i. Denotes nodes.new i (simplified_join junction (trees_of_numbers nodes.old parts.now))) }
 {
     match junction {
         Junction::All => nodes.and(parts),

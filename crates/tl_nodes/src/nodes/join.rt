@@ -5,7 +5,7 @@ ghost use Rattle.tl_nodes.specs.Joins.{simplified_join, dropped, decides, join_n
 ghost use Rattle.tl_nodes.specs.Left.{JoinsLeft, StaysIfJoined};
 ghost use Rattle.tl_nodes.specs.NodeTrees.{tree_of_node};
 ghost use Rattle.tl_nodes.specs.Numbering.{Keeps};
-ghost use Rattle.tl_nodes.specs.Numbers.{trees, Denotes, trees_in, StaysIfKnown};
+ghost use Rattle.tl_nodes.specs.Numbers.{trees, Denotes, trees_of_numbers, StaysIfKnown};
 ghost use Rattle.tl_terms.specs.Simplification.{simplified_and, simplified_or};
 
 use super::Nodes;
@@ -21,8 +21,8 @@ impl Nodes {
     /// of equal parts the first stays, no part gives true, and one part stands alone.
     pub fn and(&mut self, parts: &[usize]) -> Result<usize, NoMemory>
         requires { all_below (length (trees self.old)) parts.now ≡ true }
-        ensures number { IfOk result (λ i. Denotes self.new i (simplified_and (trees_in self.old parts.now))) }
-        ensures known { StaysIfKnown self.old self.new (simplified_and (trees_in self.old parts.now)) }
+        ensures number { IfOk result (λ i. Denotes self.new i (simplified_and (trees_of_numbers self.old parts.now))) }
+        ensures known { StaysIfKnown self.old self.new (simplified_and (trees_of_numbers self.old parts.now)) }
         ensures kept { Keeps (trees self.old) (trees self.new) }
         ensures refused { OnErr result (trees self.new ≡ trees self.old) }
     {
@@ -32,8 +32,8 @@ impl Nodes {
     /// The number of the parts' disjunction: as `and` with the constants exchanged.
     pub fn or(&mut self, parts: &[usize]) -> Result<usize, NoMemory>
         requires { all_below (length (trees self.old)) parts.now ≡ true }
-        ensures number { IfOk result (λ i. Denotes self.new i (simplified_or (trees_in self.old parts.now))) }
-        ensures known { StaysIfKnown self.old self.new (simplified_or (trees_in self.old parts.now)) }
+        ensures number { IfOk result (λ i. Denotes self.new i (simplified_or (trees_of_numbers self.old parts.now))) }
+        ensures known { StaysIfKnown self.old self.new (simplified_or (trees_of_numbers self.old parts.now)) }
         ensures kept { Keeps (trees self.old) (trees self.new) }
         ensures refused { OnErr result (trees self.new ≡ trees self.old) }
     {
@@ -42,8 +42,8 @@ impl Nodes {
 
     fn join(&mut self, parts: &[usize], junction: Junction) -> Result<usize, NoMemory>
         requires { all_below (length (trees self.old)) parts.now ≡ true }
-        ensures number { IfOk result (λ i. Denotes self.new i (simplified_join junction (trees_in self.old parts.now))) }
-        ensures known { StaysIfKnown self.old self.new (simplified_join junction (trees_in self.old parts.now)) }
+        ensures number { IfOk result (λ i. Denotes self.new i (simplified_join junction (trees_of_numbers self.old parts.now))) }
+        ensures known { StaysIfKnown self.old self.new (simplified_join junction (trees_of_numbers self.old parts.now)) }
         ensures kept { Keeps (trees self.old) (trees self.new) }
         ensures refused { OnErr result (trees self.new ≡ trees self.old) }
     {
@@ -56,8 +56,8 @@ impl Nodes {
     // The same, where what is left of the parts is put elsewhere.
     fn join_opened(&mut self, parts: &[usize], junction: Junction) -> Result<usize, NoMemory>
         requires { all_below (length (trees self.old)) parts.now ≡ true }
-        ensures number { IfOk result (λ i. Denotes self.new i (simplified_join junction (trees_in self.old parts.now))) }
-        ensures known { StaysIfKnown self.old self.new (simplified_join junction (trees_in self.old parts.now)) }
+        ensures number { IfOk result (λ i. Denotes self.new i (simplified_join junction (trees_of_numbers self.old parts.now))) }
+        ensures known { StaysIfKnown self.old self.new (simplified_join junction (trees_of_numbers self.old parts.now)) }
         ensures kept { Keeps (trees self.old) (trees self.new) }
         ensures refused { OnErr result (trees self.new ≡ trees self.old) }
     {
@@ -77,8 +77,8 @@ impl Nodes {
     ) -> Result<usize, NoMemory>
         requires below { all_below (length (trees self.old)) parts.now ≡ true }
         requires none { few.old ≡ [] }
-        ensures number { IfOk result (λ i. Denotes self.new i (simplified_join junction (trees_in self.old parts.now))) }
-        ensures known { StaysIfKnown self.old self.new (simplified_join junction (trees_in self.old parts.now)) }
+        ensures number { IfOk result (λ i. Denotes self.new i (simplified_join junction (trees_of_numbers self.old parts.now))) }
+        ensures known { StaysIfKnown self.old self.new (simplified_join junction (trees_of_numbers self.old parts.now)) }
         ensures kept { Keeps (trees self.old) (trees self.new) }
         ensures refused { OnErr result (trees self.new ≡ trees self.old) }
     {
