@@ -15,7 +15,7 @@ use Rattle.tl_syntax.specs.Texts.{number_of}
 use Rattle.tl_rules.specs.declared.rule.Rule.TheVariants.{ArgumentCount, NotAValue}
 use Rattle.tl_rules.specs.Parts.{is_variable, count}
 use Rattle.tl_rules.specs.Rules.{Break, breaks_if}
-use Rattle.tl_line.specs.Actions.{operator_at, operator_breaks_at, value_breaks, values_breaks, action_breaks}
+use Rattle.tl_line.specs.Actions.{operator_at, operator_breaks_at, named_value_breaks, named_values_breaks, action_breaks}
 use Rattle.tl_rules.specs.Values.{value_meant, values_meant}
 use Rattle.tl_line.specs.MeaningOfActions.{action_meant}
 use Rattle.tl_line.specs.NamedActions.{ActionIsNamed}
@@ -36,14 +36,14 @@ symbol-named names text at true found is h = cc
 symbol-named names text at false None is h = cc
 symbol-named names text at false (Some n) is h = let at-place = position-Some (bytes_eq text) names n [] is in at-place.0
 
-value-named : (names : List (List ℕ)) (f : FormTree) → value_breaks names f ≡ [] → ValueIsNamed (length names) (value_meant names f)
+value-named : (names : List (List ℕ)) (f : FormTree) → named_value_breaks names f ≡ [] → ValueIsNamed (length names) (value_meant names f)
 value-named names (symbol text at) h = symbol-named names text at (is_variable text) (number_of names text) refl h
 value-named names (integer z at) h = tt
 value-named names (list fs at) h = cc
 
-values-named : (names : List (List ℕ)) (fs : FormTrees) → values_breaks names fs ≡ [] → Each (ValueIsNamed (length names)) (values_meant names fs)
+values-named : (names : List (List ℕ)) (fs : FormTrees) → named_values_breaks names fs ≡ [] → Each (ValueIsNamed (length names)) (values_meant names fs)
 values-named names no_form h = tt
-values-named names (more_forms f fs) h = (value-named names f (none-before (value_breaks names f) (values_breaks names fs) h), values-named names fs (none-after (value_breaks names f) (values_breaks names fs) h))
+values-named names (more_forms f fs) h = (value-named names f (none-before (named_value_breaks names f) (named_values_breaks names fs) h), values-named names fs (none-after (named_value_breaks names f) (named_values_breaks names fs) h))
 
 count-values : (names : List (List ℕ)) (fs : FormTrees) → length (values_meant names fs) ≡ count fs
 count-values names no_form = refl
@@ -70,7 +70,7 @@ action-named names operators (list (more_forms (symbol text s) rest) at) h =
     let before = operator_breaks_at operators found (count rest) at in
     let T : ℕ → Type 0 = λ n. Takes (map (λ o. length o.params) operators) (unwrap_or found 0) n in
     record {
-      takes = subst T (sym (count-values names rest)) (takes-called operators found (count rest) at (none-before before (values_breaks names rest) h));
-      named = values-named names rest (none-after before (values_breaks names rest) h);
+      takes = subst T (sym (count-values names rest)) (takes-called operators found (count rest) at (none-before before (named_values_breaks names rest) h));
+      named = values-named names rest (none-after before (named_values_breaks names rest) h);
     }
 action-named names operators f h = absurd (some≢none _ [] h)

@@ -16,18 +16,18 @@ use Rattle.tl_rules.specs.Reads.{Reads, IsLeastFault}
 use Rattle.tl_rules.proofs.Offsets.{form-within, forms-within}
 use Rattle.tl_rules.proofs.Order.{IsInOrder, from, both, none, one, tested, first-least}
 use Rattle.tl_line.specs.MeaningOfActions.{action_meant}
-use Rattle.tl_line.specs.Actions.{operator_at, has_parameters, operator_breaks_at, value_breaks, values_breaks, action_breaks}
+use Rattle.tl_line.specs.Actions.{operator_at, has_parameters, operator_breaks_at, named_value_breaks, named_values_breaks, action_breaks}
 
 operator-order : (operators : List Operator) (found : Option ℕ) (n at low high : ℕ) → low ≤ 64 * at + 30 → 64 * at + 31 ≤ high → IsInOrder low (operator_breaks_at operators found n at) high
 operator-order operators None n at low high before after = one NoOperator at low high (omega arith) (omega arith)
 operator-order operators (Some op) n at low high before after = tested (not (has_parameters operators op n)) ArgumentCount at low high (omega arith) (omega arith)
 
-value-order : (names : List (List ℕ)) (f : FormTree) (low next : ℕ) → RisesFrom low f next → IsInOrder (64 * low) (value_breaks names f) (64 * next)
+value-order : (names : List (List ℕ)) (f : FormTree) (low next : ℕ) → RisesFrom low f next → IsInOrder (64 * low) (named_value_breaks names f) (64 * next)
 value-order names (symbol text at) low next h = tested (is_variable text || not (is_some (number_of names text))) NotAValue at (64 * low) (64 * next) (omega (arith, h.0)) (omega (arith, h.1))
 value-order names (integer z at) low next h = none (64 * low) (64 * next) (omega (arith, h.0, h.1))
 value-order names (list fs at) low next h = let parts = forms-within fs (at + 1) next h.1 in one NotAValue at (64 * low) (64 * next) (omega (arith, h.0)) (omega arith)
 
-values-order : (names : List (List ℕ)) (fs : FormTrees) (low next : ℕ) → RiseFrom low fs next → IsInOrder (64 * low) (values_breaks names fs) (64 * next)
+values-order : (names : List (List ℕ)) (fs : FormTrees) (low next : ℕ) → RiseFrom low fs next → IsInOrder (64 * low) (named_values_breaks names fs) (64 * next)
 values-order names no_form low next h = none (64 * low) (64 * next) (omega arith)
 values-order names (more_forms f fs) low next h =
     both (64 * low) (64 * h.0) (64 * next) _ _ (value-order names f low h.0 h.1) (values-order names fs h.0 next h.2)

@@ -18,7 +18,7 @@ use Rattle.tl_syntax.specs.Settled.{Differ}
 use Rattle.tl_syntax.specs.Texts.{number_of, AreDistinct}
 use Rattle.tl_syntax.proofs.Texts.{number_of-at_place}
 use Rattle.tl_rules.specs.Parts.{count}
-use Rattle.tl_line.specs.Actions.{operator_at, has_parameters, value_breaks, values_breaks, action_breaks}
+use Rattle.tl_line.specs.Actions.{operator_at, has_parameters, named_value_breaks, named_values_breaks, action_breaks}
 use Rattle.tl_rules.specs.Values.{value_meant, values_meant}
 use Rattle.tl_line.specs.MeaningOfActions.{action_meant}
 use Rattle.tl_line.specs.ActionTexts.{name_text, value_text, operator_text, action_text}
@@ -35,7 +35,7 @@ name-number names n distinct w = number_of-at_place names (name_text names n) n 
     there None is = absurd (cc (slice_get-get_or names n [] w.within))
     there (Some text) is = refl
 
-value-breaks : (names : List (List ℕ)) (v : Value) (at : ℕ) → AreDistinct names → IsWritableValue names v → value_breaks names (value_form names v at) ≡ []
+value-breaks : (names : List (List ℕ)) (v : Value) (at : ℕ) → AreDistinct names → IsWritableValue names v → named_value_breaks names (value_form names v at) ≡ []
 value-breaks names (Int z) at distinct w = refl
 value-breaks names (Sym n) at distinct w = rw (w.1, name-number names n distinct w.0) refl
 
@@ -43,7 +43,7 @@ value-meant : (names : List (List ℕ)) (v : Value) (at : ℕ) → AreDistinct n
 value-meant names (Int z) at distinct w = refl
 value-meant names (Sym n) at distinct w = rw (name-number names n distinct w.0) refl
 
-values-breaks : (names : List (List ℕ)) (vs : List Value) (at : ℕ) → AreDistinct names → Each (IsWritableValue names) vs → values_breaks names (values_forms names vs at) ≡ []
+values-breaks : (names : List (List ℕ)) (vs : List Value) (at : ℕ) → AreDistinct names → Each (IsWritableValue names) vs → named_values_breaks names (values_forms names vs at) ≡ []
 values-breaks names [] at distinct w = refl
 values-breaks names (v ∷ vs) at distinct w = rw (value-breaks names v (at + 1) distinct w.0, values-breaks names vs (at + 1 + length (value_text names v)) distinct w.1) refl
 

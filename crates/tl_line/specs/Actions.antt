@@ -31,17 +31,17 @@ abbrev pub operator_breaks : List (List ℕ) → List Operator → List ℕ → 
 operator_breaks names operators text n at = operator_breaks_at operators (operator_at names operators text) n at
 
 -- what an argument of an action breaks
-abbrev pub value_breaks : List (List ℕ) → FormTree → List Break
-value_breaks names (symbol text at) = breaks_if (is_variable text || not (is_some (number_of names text))) NotAValue at
-value_breaks names (integer z at) = []
-value_breaks names (list fs at) = (NotAValue, at) ∷ []
+abbrev pub named_value_breaks : List (List ℕ) → FormTree → List Break
+named_value_breaks names (symbol text at) = breaks_if (is_variable text || not (is_some (number_of names text))) NotAValue at
+named_value_breaks names (integer z at) = []
+named_value_breaks names (list fs at) = (NotAValue, at) ∷ []
 
 -- what the arguments of an action break
-abbrev pub values_breaks : List (List ℕ) → FormTrees → List Break
-values_breaks names no_form = []
-values_breaks names (more_forms f fs) = value_breaks names f ++ values_breaks names fs
+abbrev pub named_values_breaks : List (List ℕ) → FormTrees → List Break
+named_values_breaks names no_form = []
+named_values_breaks names (more_forms f fs) = named_value_breaks names f ++ named_values_breaks names fs
 
 -- what an action breaks, with its arguments
 unfoldable pub action_breaks : List (List ℕ) → List Operator → FormTree → List Break
-action_breaks names operators (list (more_forms (symbol text _) rest) at) = operator_breaks names operators text (count rest) at ++ values_breaks names rest
+action_breaks names operators (list (more_forms (symbol text _) rest) at) = operator_breaks names operators text (count rest) at ++ named_values_breaks names rest
 action_breaks names operators f = (Shape, offset_of f) ∷ []

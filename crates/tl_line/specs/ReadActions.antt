@@ -10,16 +10,16 @@ use Rattle.tl_rules.specs.Reads.{Reads}
 use Rattle.tl_rules.specs.Rules.{Break}
 use Rattle.tl_rules.specs.Values.{value_meant, values_meant}
 use Rattle.tl_line.specs.ActionLists.{placed_breaks, actions_breaks}
-use Rattle.tl_line.specs.Actions.{value_breaks, values_breaks, operator_at, operator_breaks, action_breaks}
+use Rattle.tl_line.specs.Actions.{named_value_breaks, named_values_breaks, operator_at, operator_breaks, action_breaks}
 use Rattle.tl_line.specs.MeaningOfActions.{action_meant, actions_meant}
 
 -- an argument, by the names
 abbrev pub ReadsValue : List (List ℕ) → FormTree → Result Value FormFault → Type 0
-ReadsValue names f result = Reads (λ (x : Value). x) result (value_breaks names f) (value_meant names f)
+ReadsValue names f result = Reads (λ (x : Value). x) result (named_value_breaks names f) (value_meant names f)
 
 -- arguments, by the names
 abbrev pub ReadsValues : List (List ℕ) → FormTrees → Result (List Value) FormFault → Type 0
-ReadsValues names fs result = Reads (λ (xs : List Value). xs) result (values_breaks names fs) (values_meant names fs)
+ReadsValues names fs result = Reads (λ (xs : List Value). xs) result (named_values_breaks names fs) (values_meant names fs)
 
 -- an action, by the names and the operators
 abbrev pub ReadsActionBy : List (List ℕ) → List Operator → FormTree → Result Action FormFault → Type 0

@@ -5,7 +5,7 @@ ghost use Rattle.tl_syntax.specs.declared.value.Value.{Value};
 ghost use Rattle.tl_syntax.specs.declared.value.Value.TheVariants as value;
 ghost use Rattle.tl_rules.specs.Reads.{Reads, trees_in};
 ghost use Rattle.tl_rules.specs.Symbols.{number_in};
-ghost use Rattle.tl_line.specs.Actions.{value_breaks};
+ghost use Rattle.tl_line.specs.Actions.{named_value_breaks};
 ghost use Rattle.tl_line.specs.ReadActions.{ReadsValue, ReadsValues};
 
 use std::alloc::Global;
@@ -16,7 +16,7 @@ use tl_syntax::{Names, Value, Values};
 
 /// A symbol as an argument.
 fn symbol_value(names: &Names, text: &str, at: u32) -> Result<Value, FormFault>
-    ensures { Reads (λ (x : Value). x) result (value_breaks names.now (symbol text.now at))
+    ensures { Reads (λ (x : Value). x) result (named_value_breaks names.now (symbol text.now at))
         (value.Sym (number_in names.now text.now)) }
 {
     if is_variable(text) {

@@ -11,7 +11,7 @@ use Rattle.tl_syntax.specs.Texts.{number_of}
 use Rattle.tl_rules.specs.declared.rule.Rule.TheVariants.{ArgumentCount}
 use Rattle.tl_rules.specs.Rules.{breaks_if}
 use Rattle.tl_rules.specs.Parts.{offset_of, is_call, count}
-use Rattle.tl_line.specs.Actions.{operator_at, has_parameters, operator_breaks_at, values_breaks, action_breaks}
+use Rattle.tl_line.specs.Actions.{operator_at, has_parameters, operator_breaks_at, named_values_breaks, action_breaks}
 use Rattle.tl_rules.specs.Values.{values_meant}
 use Rattle.tl_line.specs.MeaningOfActions.{action_meant, actions_meant}
 use Rattle.tl_line.specs.ActionLists.{limit_breaks, placed_breaks, actions_breaks}
@@ -67,7 +67,7 @@ module _ (names : List (List ℕ)) (os us : List Operator) (alike : map head_of 
   same_action (list (more_forms (symbol text n) rest) at) =
       let found = same_operator text in
       let call = same_call (operator_at names os text) (count rest) at ∙ ap (λ (x : Option ℕ). operator_breaks_at us x (count rest) at) found in
-      λ i. call i ++ values_breaks names rest
+      λ i. call i ++ named_values_breaks names rest
   same_action (list (more_forms (integer z n) rest) at) = refl
   same_action (list (more_forms (list fs n) rest) at) = refl
 
