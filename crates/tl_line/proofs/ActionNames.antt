@@ -15,7 +15,7 @@ use Rattle.tl_syntax.specs.Texts.{number_of}
 use Rattle.tl_rules.specs.declared.rule.Rule.TheVariants.{ArgumentCount, NotAValue}
 use Rattle.tl_rules.specs.Parts.{is_variable, count}
 use Rattle.tl_rules.specs.Rules.{Break, breaks_if}
-use Rattle.tl_line.specs.Actions.{operator_at, operator_breaks_at, named_value_breaks, named_values_breaks, action_breaks}
+use Rattle.tl_line.specs.Actions.{operator_at, named_operator_breaks_at, named_value_breaks, named_values_breaks, action_breaks}
 use Rattle.tl_rules.specs.Values.{value_meant, values_meant}
 use Rattle.tl_line.specs.MeaningOfActions.{action_meant}
 use Rattle.tl_line.specs.NamedActions.{ActionIsNamed}
@@ -59,7 +59,7 @@ takes-parameters : (operators : List Operator) (op n at : ℕ) (found : Option O
 takes-parameters operators op n at None is h = cc
 takes-parameters operators op n at (Some o) is h = rw (slice_get-map (λ o. length o.params) operators op, is, counted o n at h) refl
 
-takes-called : (operators : List Operator) (found : Option ℕ) (n at : ℕ) → operator_breaks_at operators found n at ≡ [] → Takes (map (λ o. length o.params) operators) (unwrap_or found 0) n
+takes-called : (operators : List Operator) (found : Option ℕ) (n at : ℕ) → named_operator_breaks_at operators found n at ≡ [] → Takes (map (λ o. length o.params) operators) (unwrap_or found 0) n
 takes-called operators None n at h = cc
 takes-called operators (Some op) n at h = takes-parameters operators op n at (slice_get operators op) refl h
 
@@ -67,7 +67,7 @@ pub action-named : (names : List (List ℕ)) (operators : List Operator) (f : Fo
 unfolding action_breaks action_meant
 action-named names operators (list (more_forms (symbol text s) rest) at) h =
     let found = operator_at names operators text in
-    let before = operator_breaks_at operators found (count rest) at in
+    let before = named_operator_breaks_at operators found (count rest) at in
     let T : ℕ → Type 0 = λ n. Takes (map (λ o. length o.params) operators) (unwrap_or found 0) n in
     record {
       takes = subst T (sym (count-values names rest)) (takes-called operators found (count rest) at (none-before before (named_values_breaks names rest) h));

@@ -16,9 +16,9 @@ use Rattle.tl_rules.specs.Reads.{Reads, IsLeastFault}
 use Rattle.tl_rules.proofs.Offsets.{form-within, forms-within}
 use Rattle.tl_rules.proofs.Order.{IsInOrder, from, both, none, one, tested, first-least}
 use Rattle.tl_line.specs.MeaningOfActions.{action_meant}
-use Rattle.tl_line.specs.Actions.{operator_at, has_parameters, operator_breaks_at, named_value_breaks, named_values_breaks, action_breaks}
+use Rattle.tl_line.specs.Actions.{operator_at, has_parameters, named_operator_breaks_at, named_value_breaks, named_values_breaks, action_breaks}
 
-operator-order : (operators : List Operator) (found : Option ℕ) (n at low high : ℕ) → low ≤ 64 * at + 30 → 64 * at + 31 ≤ high → IsInOrder low (operator_breaks_at operators found n at) high
+operator-order : (operators : List Operator) (found : Option ℕ) (n at low high : ℕ) → low ≤ 64 * at + 30 → 64 * at + 31 ≤ high → IsInOrder low (named_operator_breaks_at operators found n at) high
 operator-order operators None n at low high before after = one NoOperator at low high (omega arith) (omega arith)
 operator-order operators (Some op) n at low high before after = tested (not (has_parameters operators op n)) ArgumentCount at low high (omega arith) (omega arith)
 

@@ -22,13 +22,13 @@ abbrev pub has_parameters : List Operator → ℕ → ℕ → Bool
 has_parameters operators op n = option_map_or (λ o. length o.params == n) (slice_get operators op) false
 
 -- what an action breaks that has so many arguments, by the position of its operator
-abbrev pub operator_breaks_at : List Operator → Option ℕ → ℕ → ℕ → List Break
-operator_breaks_at operators None n at = (NoOperator, at) ∷ []
-operator_breaks_at operators (Some op) n at = breaks_if (not (has_parameters operators op n)) ArgumentCount at
+abbrev pub named_operator_breaks_at : List Operator → Option ℕ → ℕ → ℕ → List Break
+named_operator_breaks_at operators None n at = (NoOperator, at) ∷ []
+named_operator_breaks_at operators (Some op) n at = breaks_if (not (has_parameters operators op n)) ArgumentCount at
 
 -- what an action breaks that begins with this text and has so many arguments
-abbrev pub operator_breaks : List (List ℕ) → List Operator → List ℕ → ℕ → ℕ → List Break
-operator_breaks names operators text n at = operator_breaks_at operators (operator_at names operators text) n at
+abbrev pub named_operator_breaks : List (List ℕ) → List Operator → List ℕ → ℕ → ℕ → List Break
+named_operator_breaks names operators text n at = named_operator_breaks_at operators (operator_at names operators text) n at
 
 -- what an argument of an action breaks
 abbrev pub named_value_breaks : List (List ℕ) → FormTree → List Break
@@ -43,5 +43,5 @@ named_values_breaks names (more_forms f fs) = named_value_breaks names f ++ name
 
 -- what an action breaks, with its arguments
 unfoldable pub action_breaks : List (List ℕ) → List Operator → FormTree → List Break
-action_breaks names operators (list (more_forms (symbol text _) rest) at) = operator_breaks names operators text (count rest) at ++ named_values_breaks names rest
+action_breaks names operators (list (more_forms (symbol text _) rest) at) = named_operator_breaks names operators text (count rest) at ++ named_values_breaks names rest
 action_breaks names operators f = (Shape, offset_of f) ∷ []

@@ -10,7 +10,7 @@ use Rattle.tl_rules.specs.Reads.{Reads}
 use Rattle.tl_rules.specs.Rules.{Break}
 use Rattle.tl_rules.specs.Values.{value_meant, values_meant}
 use Rattle.tl_line.specs.ActionLists.{placed_breaks, actions_breaks}
-use Rattle.tl_line.specs.Actions.{named_value_breaks, named_values_breaks, operator_at, operator_breaks, action_breaks}
+use Rattle.tl_line.specs.Actions.{named_value_breaks, named_values_breaks, operator_at, named_operator_breaks, action_breaks}
 use Rattle.tl_line.specs.MeaningOfActions.{action_meant, actions_meant}
 
 -- an argument, by the names

@@ -4,7 +4,7 @@ ghost use Rattle.std.specs.List.{position};
 ghost use Rattle.tl_sexpr.specs.Tree.{list, tree_of};
 ghost use Rattle.tl_sexpr.specs.Offsets.{RisesFrom};
 ghost use Rattle.tl_rules.specs.Reads.{Reads, IsLeastFault, trees_in};
-ghost use Rattle.tl_line.specs.Actions.{operator_at, operator_breaks};
+ghost use Rattle.tl_line.specs.Actions.{operator_at, named_operator_breaks};
 ghost use Rattle.tl_line.specs.NamedActions.{ActionIsNamed};
 ghost use Rattle.tl_line.specs.ReadActions.{ReadsActionBy, ReadsAction, action_breaks_in};
 
@@ -43,7 +43,7 @@ fn operator(
     at: u32,
 ) -> Result<u32, FormFault>
     requires { length operators.now ≤ 256 }
-    ensures { Reads (λ (x : ℕ). x) result (operator_breaks names.now operators.now text.now
+    ensures { Reads (λ (x : ℕ). x) result (named_operator_breaks names.now operators.now text.now
         arguments at)
         (unwrap_or (operator_at names.now operators.now text.now) 0) }
 {

@@ -11,7 +11,7 @@ use Rattle.tl_syntax.specs.Texts.{number_of}
 use Rattle.tl_rules.specs.declared.rule.Rule.TheVariants.{ArgumentCount}
 use Rattle.tl_rules.specs.Rules.{breaks_if}
 use Rattle.tl_rules.specs.Parts.{offset_of, is_call, count}
-use Rattle.tl_line.specs.Actions.{operator_at, has_parameters, operator_breaks_at, named_values_breaks, action_breaks}
+use Rattle.tl_line.specs.Actions.{operator_at, has_parameters, named_operator_breaks_at, named_values_breaks, action_breaks}
 use Rattle.tl_rules.specs.Values.{values_meant}
 use Rattle.tl_line.specs.MeaningOfActions.{action_meant, actions_meant}
 use Rattle.tl_line.specs.ActionLists.{limit_breaks, placed_breaks, actions_breaks}
@@ -53,7 +53,7 @@ module _ (names : List (List ℕ)) (os us : List Operator) (alike : map head_of 
   same_takes : (op n : ℕ) → has_parameters os op n ≡ has_parameters us op n
   same_takes op n = head_takes os op n ∙ ap (λ (hs : List Head). option_map_or (λ (h : Head). h.1 == n) (slice_get hs op) false) alike ∙ sym (head_takes us op n)
 
-  same_call : (found : Option ℕ) (n at : ℕ) → operator_breaks_at os found n at ≡ operator_breaks_at us found n at
+  same_call : (found : Option ℕ) (n at : ℕ) → named_operator_breaks_at os found n at ≡ named_operator_breaks_at us found n at
   same_call None n at = refl
   same_call (Some op) n at =
       let takes = same_takes op n in
@@ -66,7 +66,7 @@ module _ (names : List (List ℕ)) (os us : List Operator) (alike : map head_of 
   same_action (list no_form at) = refl
   same_action (list (more_forms (symbol text n) rest) at) =
       let found = same_operator text in
-      let call = same_call (operator_at names os text) (count rest) at ∙ ap (λ (x : Option ℕ). operator_breaks_at us x (count rest) at) found in
+      let call = same_call (operator_at names os text) (count rest) at ∙ ap (λ (x : Option ℕ). named_operator_breaks_at us x (count rest) at) found in
       λ i. call i ++ named_values_breaks names rest
   same_action (list (more_forms (integer z n) rest) at) = refl
   same_action (list (more_forms (list fs n) rest) at) = refl
