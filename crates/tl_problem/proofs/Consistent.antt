@@ -15,7 +15,7 @@ use Rattle.tl_syntax.specs.DerivedTests.{fact_eq, value_eq, values_eq}
 use Rattle.tl_syntax.specs.Keys.{Key, key_cmp, value_cmp, fact_key, place_entry, agree, no_clash, share_key}
 use Rattle.tl_syntax.proofs.TotalOrders.{key_total, key_ties, value_total}
 use Rattle.tl_syntax.proofs.Plain.{both, with_both, list-tells, value-tells, fact-tells}
-use Rattle.tl_problem.specs.Literals.{same_place, value_at, with_fact, with_value}
+use Rattle.tl_problem.specs.Literals.{same_place, value_among, with_fact, with_value}
 
 -- the two tests of keys hold exactly where the two are the same
 key-tells : (j k : Key) → Decides (is_eq (key_cmp j k)) (j ≡ k)
@@ -109,9 +109,9 @@ map-last f (x ∷ xs) y = ap (λ rest. f x ∷ rest) (map-last f xs y)
 
 -- places of which each has one value, with a place that has none or that value
 pub agrees-with_value : (values : List PlaceValue) (x : PlaceValue) → no_clash (map place_entry values) ≡ true → no_clash (map place_entry (with_value values x)) ≡ true
-agrees-with_value values x h = by_value (value_at values (x.fun, x.args)) refl
+agrees-with_value values x h = by_value (value_among values (x.fun, x.args)) refl
   where
-    by_value : (found : Option Value) → value_at values (x.fun, x.args) ≡ found → no_clash (map place_entry (cond (is_some found) values (values ++ x ∷ []))) ≡ true
+    by_value : (found : Option Value) → value_among values (x.fun, x.args) ≡ found → no_clash (map place_entry (cond (is_some found) values (values ++ x ∷ []))) ≡ true
     by_value (Some v) e = h
     by_value None e = ap no_clash (map-last place_entry values x) ∙ no_clash-more (map place_entry values) (place_entry x) h (absent-differ (x.fun, x.args) (map place_entry values) e)
 

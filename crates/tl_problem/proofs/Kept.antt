@@ -26,7 +26,7 @@ use Rattle.tl_problem.specs.declared.elements.Section.TheVariants as section
 use Rattle.tl_rules.specs.Calls.{CallTree}
 use Rattle.tl_problem.specs.ElementWords.{ElementWord, element_word}
 use Rattle.tl_problem.specs.ElementWords as word
-use Rattle.tl_problem.specs.Literals.{Literals, no_literal, with_fact, with_value, value_at}
+use Rattle.tl_problem.specs.Literals.{Literals, no_literal, with_fact, with_value, value_among}
 use Rattle.tl_problem.specs.Declarations.{position_of, has_arity, call_breaks_at}
 use Rattle.tl_problem.specs.Elements.{breaks_or_else, element_call_breaks, with_element_call, element_breaks, with_element, elements_breaks, with_elements}
 use Rattle.tl_problem.specs.Facts.{ground_breaks, fact_meant, equality_breaks, equality_meant, negation_breaks, negation_meant}
@@ -123,7 +123,7 @@ Each-with_fact P facts f h p = by_test (list_any (fact_eq f) facts)
     by_test false = Each-last P facts f h p
 
 pub Each-with_value : (P : PlaceValue → Type 0) (values : List PlaceValue) (x : PlaceValue) → Each P values → P x → Each P (with_value values x)
-Each-with_value P values x h p = by_test (is_some (value_at values (x.fun, x.args)))
+Each-with_value P values x h p = by_test (is_some (value_among values (x.fun, x.args)))
   where
     by_test : (known : Bool) → Each P (cond known values (values ++ x ∷ []))
     by_test true = h

@@ -35,7 +35,7 @@ use Rattle.tl_renumber.proofs.SettledNumbers.{numbers-differ, texts-stay}
 use Rattle.tl_rules.specs.Calls.{CallTree}
 use Rattle.tl_problem.specs.Declarations.{position_of, position_meant, has_arity, call_breaks_at}
 use Rattle.tl_problem.specs.Facts.{ground_breaks, fact_meant, equality_breaks, equality_meant, negation_breaks, negation_meant}
-use Rattle.tl_problem.specs.Literals.{with_fact, same_place, value_at, with_value, has_other_value}
+use Rattle.tl_problem.specs.Literals.{with_fact, same_place, value_among, with_value, has_other_value}
 use Rattle.tl_rules.specs.Values.{value_meant, values_meant}
 use Rattle.tl_problem.specs.Values.{value_breaks, values_breaks}
 use Rattle.tl_problem.proofs.Consistent.{map-last}
@@ -189,35 +189,35 @@ module _ (r : Renumbering) (old new : List (List ℕ)) (renames : Renames r old 
       by_test false = sym (map-last (renumbered_fact r) facts f)
 
   -- places
-  value_at-new : (fun : ℕ) (args : List Value) (xs : List PlaceValue) → Each (ValueIsNamed (length old)) args → Each (PlaceIsNamed (length old)) xs → value_at (map (renumbered_place r) xs) (fun, renumbered_values r args) ≡ option_map (renumbered_value r) (value_at xs (fun, args))
-  value_at-new fun args [] h k = refl
-  value_at-new fun args (x ∷ xs) h k =
-      ap₂ (λ (b : Bool) (found : Option Value). cond ((fun == x.fun) && b) (Some (renumbered_value r x.value)) found) (values-test args x.args h k.0.0) (value_at-new fun args xs h k.1)
-      ∙ by_test (same_place (fun, args) (x.fun, x.args)) (value_at xs (fun, args))
+  value_among-new : (fun : ℕ) (args : List Value) (xs : List PlaceValue) → Each (ValueIsNamed (length old)) args → Each (PlaceIsNamed (length old)) xs → value_among (map (renumbered_place r) xs) (fun, renumbered_values r args) ≡ option_map (renumbered_value r) (value_among xs (fun, args))
+  value_among-new fun args [] h k = refl
+  value_among-new fun args (x ∷ xs) h k =
+      ap₂ (λ (b : Bool) (found : Option Value). cond ((fun == x.fun) && b) (Some (renumbered_value r x.value)) found) (values-test args x.args h k.0.0) (value_among-new fun args xs h k.1)
+      ∙ by_test (same_place (fun, args) (x.fun, x.args)) (value_among xs (fun, args))
     where
       by_test : (b : Bool) (found : Option Value) → cond b (Some (renumbered_value r x.value)) (option_map (renumbered_value r) found) ≡ option_map (renumbered_value r) (cond b (Some x.value) found)
       by_test true found = refl
       by_test false found = refl
 
-  found-named : (place : Key) (xs : List PlaceValue) (v : Value) → Each (PlaceIsNamed (length old)) xs → value_at xs place ≡ Some v → ValueIsNamed (length old) v
+  found-named : (place : Key) (xs : List PlaceValue) (v : Value) → Each (PlaceIsNamed (length old)) xs → value_among xs place ≡ Some v → ValueIsNamed (length old) v
   found-named place [] v k is = cc
   found-named place (x ∷ xs) v k is = by_test (λ e. found-named place xs v k.1 e) (same_place place (x.fun, x.args)) is
     where
-      by_test : (value_at xs place ≡ Some v → ValueIsNamed (length old) v) → (b : Bool) → cond b (Some x.value) (value_at xs place) ≡ Some v → ValueIsNamed (length old) v
+      by_test : (value_among xs place ≡ Some v → ValueIsNamed (length old) v) → (b : Bool) → cond b (Some x.value) (value_among xs place) ≡ Some v → ValueIsNamed (length old) v
       by_test later true e = let same : x.value ≡ v = cc in let P : Value → Type 0 = λ u. ValueIsNamed (length old) u in subst P same k.0.1
       by_test later false e = later e
 
   pub other-new : (xs : List PlaceValue) (x : PlaceValue) → Each (PlaceIsNamed (length old)) xs → PlaceIsNamed (length old) x → has_other_value (map (renumbered_place r) xs) (renumbered_place r x) ≡ has_other_value xs x
   other-new xs x k h =
-      ap (λ found. option_map_or (λ (v : Value). not (value_eq v (renumbered_value r x.value))) found false) (value_at-new x.fun x.args xs h.0 k) ∙ by_found (value_at xs (x.fun, x.args)) refl
+      ap (λ found. option_map_or (λ (v : Value). not (value_eq v (renumbered_value r x.value))) found false) (value_among-new x.fun x.args xs h.0 k) ∙ by_found (value_among xs (x.fun, x.args)) refl
     where
-      by_found : (found : Option Value) → value_at xs (x.fun, x.args) ≡ found → option_map_or (λ (v : Value). not (value_eq v (renumbered_value r x.value))) (option_map (renumbered_value r) found) false ≡ option_map_or (λ (v : Value). not (value_eq v x.value)) found false
+      by_found : (found : Option Value) → value_among xs (x.fun, x.args) ≡ found → option_map_or (λ (v : Value). not (value_eq v (renumbered_value r x.value))) (option_map (renumbered_value r) found) false ≡ option_map_or (λ (v : Value). not (value_eq v x.value)) found false
       by_found None is = refl
       by_found (Some v) is = ap not (value-test v x.value (found-named (x.fun, x.args) xs v k is) h.1)
 
   pub with_value-new : (xs : List PlaceValue) (x : PlaceValue) → Each (PlaceIsNamed (length old)) xs → PlaceIsNamed (length old) x → with_value (map (renumbered_place r) xs) (renumbered_place r x) ≡ map (renumbered_place r) (with_value xs x)
   with_value-new xs x k h =
-      ap (λ (found : Option Value). cond (is_some found) (map (renumbered_place r) xs) (map (renumbered_place r) xs ++ renumbered_place r x ∷ [])) (value_at-new x.fun x.args xs h.0 k) ∙ by_found (value_at xs (x.fun, x.args))
+      ap (λ (found : Option Value). cond (is_some found) (map (renumbered_place r) xs) (map (renumbered_place r) xs ++ renumbered_place r x ∷ [])) (value_among-new x.fun x.args xs h.0 k) ∙ by_found (value_among xs (x.fun, x.args))
     where
       by_found : (found : Option Value) → cond (is_some (option_map (renumbered_value r) found)) (map (renumbered_place r) xs) (map (renumbered_place r) xs ++ renumbered_place r x ∷ []) ≡ map (renumbered_place r) (cond (is_some found) xs (xs ++ x ∷ []))
       by_found (Some v) = refl

@@ -28,16 +28,16 @@ abbrev pub same_place : Key → Key → Bool
 same_place p q = (p.0 == q.0) && values_eq p.1 q.1
 
 -- the value that a place has among places with values
-abbrev pub value_at : List PlaceValue → Key → Option Value
-value_at values place = lookup (same_place place) (map place_entry values)
+abbrev pub value_among : List PlaceValue → Key → Option Value
+value_among values place = lookup (same_place place) (map place_entry values)
 
 -- the places with values with this one, at the end where the place has none yet
 abbrev pub with_value : List PlaceValue → PlaceValue → List PlaceValue
-with_value values x = if is_some (value_at values (x.fun, x.args)) then values else values ++ x ∷ []
+with_value values x = if is_some (value_among values (x.fun, x.args)) then values else values ++ x ∷ []
 
 -- the place has another value already
 abbrev pub has_other_value : List PlaceValue → PlaceValue → Bool
-has_other_value values x = option_map_or (λ v. not (value_eq v x.value)) (value_at values (x.fun, x.args)) false
+has_other_value values x = option_map_or (λ v. not (value_eq v x.value)) (value_among values (x.fun, x.args)) false
 
 -- nothing is said yet
 abbrev pub no_literal : Literals

@@ -1,6 +1,6 @@
 // Places with values, each place once.
 ghost use Rattle.std.specs.Prelude.{◌≡◌, [], OnOk, IfOk};
-ghost use Rattle.tl_problem.specs.Literals.{value_at, with_value};
+ghost use Rattle.tl_problem.specs.Literals.{value_among, with_value};
 
 use indexmap::IndexMap;
 use std::alloc::{AllocError, Global};
@@ -43,7 +43,7 @@ impl PlaceMap {
 
     /// The value of a place, where it has one.
     pub(crate) fn value(&self, place: &Place) -> Option<Value>
-        ensures { result ≡ value_at self.now (place.now.fun, place.now.args) }
+        ensures { result ≡ value_among self.now (place.now.fun, place.now.args) }
     {
         self.values.get(place).copied()
     }

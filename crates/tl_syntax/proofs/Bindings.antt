@@ -7,7 +7,7 @@ use Rattle.tl_syntax.specs.declared.term.Terms.{Terms}
 use Rattle.tl_syntax.specs.declared.formula.Formulas.{Formulas}
 use Rattle.tl_syntax.specs.declared.substitution.Binding.{Binding}
 use Rattle.tl_syntax.specs.Assignment.{Assignment, no_values, bind}
-use Rattle.tl_syntax.specs.Bindings.{assignment_of, with_value, without_value}
+use Rattle.tl_syntax.specs.Bindings.{assignment_of, binding_to, without_value}
 use Rattle.tl_syntax.specs.Substitution.{without, substituted_arg, substituted_args, substituted_term, substituted_terms, substituted, substituted_all}
 use Rattle.tl_syntax.specs.Trees.{TermTree, FormulaTree, more_terms, more_formulas, formulas_of_list}
 use Rattle.tl_syntax.specs.TreeOfTerm.{tree_of_term, tree_of_terms, terms_of_list}
@@ -32,24 +32,24 @@ value-done (b ∷ bs) (suc i) q h = value-done bs i q (omega arith)
 
 -- the bindings of variables to the values at their positions
 unfoldable pub paired : List Var → List Value → List Binding
-paired (s ∷ ss) (v ∷ vs) = with_value s v ∷ paired ss vs
+paired (s ∷ ss) (v ∷ vs) = binding_to s v ∷ paired ss vs
 paired ss vs = []
 
-pub paired-step : (ss : List Var) (vs : List Value) (i : ℕ) (s : Var) (v : Value) → i < length ss → i < length vs → paired (take (i + 1) ss) (take (i + 1) vs) ≡ paired (take i ss) (take i vs) ++ with_value (get_or ss i s) (get_or vs i v) ∷ []
+pub paired-step : (ss : List Var) (vs : List Value) (i : ℕ) (s : Var) (v : Value) → i < length ss → i < length vs → paired (take (i + 1) ss) (take (i + 1) vs) ≡ paired (take i ss) (take i vs) ++ binding_to (get_or ss i s) (get_or vs i v) ∷ []
 unfolding paired
 paired-step [] vs i s v h k = absurd (omega arith)
 paired-step (x ∷ ss) [] i s v h k = absurd (omega arith)
 paired-step (x ∷ ss) (y ∷ vs) zero s v h k = refl
 paired-step (x ∷ ss) (y ∷ vs) (suc i) s v h k =
     let e : suc i + 1 ≡ suc (i + 1) = omega arith in
-    ap (λ (n : ℕ). paired (take n (x ∷ ss)) (take n (y ∷ vs))) e ∙ ap (λ (r : List Binding). with_value x y ∷ r) (paired-step ss vs i s v (omega arith) (omega arith))
+    ap (λ (n : ℕ). paired (take n (x ∷ ss)) (take n (y ∷ vs))) e ∙ ap (λ (r : List Binding). binding_to x y ∷ r) (paired-step ss vs i s v (omega arith) (omega arith))
 
 pub paired-none : [] ≡ paired [] []
 unfolding paired
 paired-none = refl
 
 -- one more binding is that of the next variable to the next value
-pub paired-pushed : (ss : List Var) (vs : List Value) (ts : List Var) (i : ℕ) (s : Var) (v : Value) (old new : List Binding) (b : Binding) → ss ≡ ts → length ts ≡ length vs → i < length ss → old ≡ paired (take i ss) (take i vs) → new ≡ old ++ b ∷ [] → b ≡ with_value (get_or ss i s) (get_or vs i v) → new ≡ paired (take (i + 1) ss) (take (i + 1) vs)
+pub paired-pushed : (ss : List Var) (vs : List Value) (ts : List Var) (i : ℕ) (s : Var) (v : Value) (old new : List Binding) (b : Binding) → ss ≡ ts → length ts ≡ length vs → i < length ss → old ≡ paired (take i ss) (take i vs) → new ≡ old ++ b ∷ [] → b ≡ binding_to (get_or ss i s) (get_or vs i v) → new ≡ paired (take (i + 1) ss) (take (i + 1) vs)
 paired-pushed ss vs ts i s v old new b e h l p q r =
     let k : length ss ≡ length ts = ap length e in
     q ∙ (ap₂ (λ (xs : List Binding) (x : Binding). xs ++ x ∷ []) p r ∙ sym (paired-step ss vs i s v l (omega arith)))

@@ -11,8 +11,8 @@ assignment_of [] = no_values
 assignment_of (b ∷ bs) = λ q. cond (q == b.slot) b.value (assignment_of bs q)
 
 -- the binding of a variable to a value
-abbrev pub with_value : Var → Value → Binding
-with_value s v = record { slot = s.slot; value = Some v }
+abbrev pub binding_to : Var → Value → Binding
+binding_to s v = record { slot = s.slot; value = Some v }
 
 -- the binding of a quantified variable
 abbrev pub without_value : Var → Binding
