@@ -6,7 +6,7 @@ use Rattle.std.proofs.lemmas.Option.{slice_get_within}
 use Rattle.tl_eval.specs.Reading.{tests_before, looks_before, own_test, own_look, tests_read, looks_read, situation_read, looked_read}
 use Rattle.tl_syntax.specs.declared.value.Value.{Value}
 use Rattle.tl_syntax.specs.Assignment.{no_values, bind}
-use Rattle.tl_terms.specs.Definitions.{Tests, asked, true_at_level, with_definition, situation_under, tests_of, situation_of}
+use Rattle.tl_terms.specs.Definitions.{Tests, asked, true_at_level, with_tests_of, situation_under, tests_of, situation_of}
 use Rattle.tl_terms.specs.Looked.{Looks, looks_asked, looked_table, looked_at_level, looks_over, looks_of, looked_in_state}
 use Rattle.tl_terms.specs.Operations.{Operation}
 use Rattle.tl_terms.specs.Problem.{PlainDefinition, PlainProblem}
@@ -77,36 +77,36 @@ module _ (p : PlainProblem) (w : World) where
   -- ---- the tests of definitions
 
   abbrev tests_over : Tests → List PlainDefinition → Tests
-  tests_over ts ds = fold (with_definition p w) ts ds
+  tests_over ts ds = fold (with_tests_of p w) ts ds
 
   tests-length : (ts : Tests) (ds : List PlainDefinition) → length (tests_over ts ds) ≡ length ts + length ds
   tests-length ts [] = omega arith
-  tests-length ts (d ∷ ds) = let more = tests-length (with_definition p w ts d) ds in let one = longer ts (true_at_level p w ts d d.levels) in omega arith
+  tests-length ts (d ∷ ds) = let more = tests-length (with_tests_of p w ts d) ds in let one = longer ts (true_at_level p w ts d d.levels) in omega arith
 
   tests-stay : (ts : Tests) (ds : List PlainDefinition) (k : ℕ) → k < length ts → slice_get (tests_over ts ds) k ≡ slice_get ts k
   tests-stay ts [] k h = refl
-  tests-stay ts (d ∷ ds) k h = tests-stay (with_definition p w ts d) ds k (omega (arith, longer ts (true_at_level p w ts d d.levels))) ∙ front-get ts (true_at_level p w ts d d.levels ∷ []) k h
+  tests-stay ts (d ∷ ds) k h = tests-stay (with_tests_of p w ts d) ds k (omega (arith, longer ts (true_at_level p w ts d d.levels))) ∙ front-get ts (true_at_level p w ts d d.levels ∷ []) k h
 
   tests-at : (ts : Tests) (ds : List PlainDefinition) (k j : ℕ) (d : PlainDefinition) → slice_get ds k ≡ Some d → j ≡ length ts + k
       → slice_get (tests_over ts ds) j ≡ Some (true_at_level p w (tests_over ts (take k ds)) d d.levels)
   tests-at ts [] k j d e q = cc
   tests-at ts (c ∷ ds) zero j d e q =
       let same : c ≡ d = cc in
-      tests-stay (with_definition p w ts c) ds j (omega (arith, longer ts (true_at_level p w ts c c.levels)))
+      tests-stay (with_tests_of p w ts c) ds j (omega (arith, longer ts (true_at_level p w ts c c.levels)))
       ∙ (end-get ts (true_at_level p w ts c c.levels) j (omega arith) ∙ ap (λ (x : PlainDefinition). Some (true_at_level p w ts x x.levels)) same)
-  tests-at ts (c ∷ ds) (suc k) j d e q = tests-at (with_definition p w ts c) ds k j d e (omega (arith, longer ts (true_at_level p w ts c c.levels)))
+  tests-at ts (c ∷ ds) (suc k) j d e q = tests-at (with_tests_of p w ts c) ds k j d e (omega (arith, longer ts (true_at_level p w ts c c.levels)))
 
   -- ---- what they look at
 
   looks-length : (ts : Tests) (ls : Looks) (ds : List PlainDefinition) → length (looks_over p w ts ls ds) ≡ length ls + length ds
   unfolding looks_over
   looks-length ts ls [] = omega arith
-  looks-length ts ls (d ∷ ds) = let more = looks-length (with_definition p w ts d) (ls ++ looked_at_level p w ts ls d d.levels ∷ []) ds in let one = longer ls (looked_at_level p w ts ls d d.levels) in omega arith
+  looks-length ts ls (d ∷ ds) = let more = looks-length (with_tests_of p w ts d) (ls ++ looked_at_level p w ts ls d d.levels ∷ []) ds in let one = longer ls (looked_at_level p w ts ls d d.levels) in omega arith
 
   looks-stay : (ts : Tests) (ls : Looks) (ds : List PlainDefinition) (k : ℕ) → k < length ls → slice_get (looks_over p w ts ls ds) k ≡ slice_get ls k
   unfolding looks_over
   looks-stay ts ls [] k h = refl
-  looks-stay ts ls (d ∷ ds) k h = looks-stay (with_definition p w ts d) (ls ++ looked_at_level p w ts ls d d.levels ∷ []) ds k (omega (arith, longer ls (looked_at_level p w ts ls d d.levels))) ∙ front-get ls (looked_at_level p w ts ls d d.levels ∷ []) k h
+  looks-stay ts ls (d ∷ ds) k h = looks-stay (with_tests_of p w ts d) (ls ++ looked_at_level p w ts ls d d.levels ∷ []) ds k (omega (arith, longer ls (looked_at_level p w ts ls d d.levels))) ∙ front-get ls (looked_at_level p w ts ls d d.levels ∷ []) k h
 
   looks-at : (ts : Tests) (ls : Looks) (ds : List PlainDefinition) (k j : ℕ) (d : PlainDefinition) → slice_get ds k ≡ Some d → j ≡ length ls + k
       → slice_get (looks_over p w ts ls ds) j ≡ Some (looked_at_level p w (tests_over ts (take k ds)) (looks_over p w ts ls (take k ds)) d d.levels)
@@ -114,9 +114,9 @@ module _ (p : PlainProblem) (w : World) where
   looks-at ts ls [] k j d e q = cc
   looks-at ts ls (c ∷ ds) zero j d e q =
       let same : c ≡ d = cc in
-      looks-stay (with_definition p w ts c) (ls ++ looked_at_level p w ts ls c c.levels ∷ []) ds j (omega (arith, longer ls (looked_at_level p w ts ls c c.levels)))
+      looks-stay (with_tests_of p w ts c) (ls ++ looked_at_level p w ts ls c c.levels ∷ []) ds j (omega (arith, longer ls (looked_at_level p w ts ls c c.levels)))
       ∙ (end-get ls (looked_at_level p w ts ls c c.levels) j (omega arith) ∙ ap (λ (x : PlainDefinition). Some (looked_at_level p w ts ls x x.levels)) same)
-  looks-at ts ls (c ∷ ds) (suc k) j d e q = looks-at (with_definition p w ts c) (ls ++ looked_at_level p w ts ls c c.levels ∷ []) ds k j d e (omega (arith, longer ls (looked_at_level p w ts ls c c.levels)))
+  looks-at ts ls (c ∷ ds) (suc k) j d e q = looks-at (with_tests_of p w ts c) (ls ++ looked_at_level p w ts ls c c.levels ∷ []) ds k j d e (omega (arith, longer ls (looked_at_level p w ts ls c c.levels)))
 
   -- ---- an atom of definition i, where the first n are read whole and definition n at level k
 

@@ -1,6 +1,6 @@
 -- What the definitions mean where a formula is read: outside of definitions, or in the body of one.
 use Rattle.std.specs.Prelude.{ℕ, ◌+◌, [], ◌∷◌, ◌++◌, fold, take, slice_get, sum_by, Option, Some, None}
-use Rattle.tl_terms.specs.Definitions.{Tests, true_at_level, with_definition, situation_of, situation_under}
+use Rattle.tl_terms.specs.Definitions.{Tests, true_at_level, with_tests_of, situation_of, situation_under}
 use Rattle.tl_terms.specs.Looked.{Looks, LookedTable, looked_table, looked_at_level, looks_over}
 use Rattle.tl_terms.specs.Problem.{PlainDefinition, PlainProblem}
 use Rattle.tl_terms.specs.ProblemMeaning.{plain_problem}
@@ -14,7 +14,7 @@ situation_in task w = situation_of (plain_problem task.problem) w
 
 -- the tests of the first n definitions
 abbrev pub tests_before : PlainProblem → World → ℕ → Tests
-tests_before p w n = fold (with_definition p w) [] (take n p.definitions)
+tests_before p w n = fold (with_tests_of p w) [] (take n p.definitions)
 
 -- what the first n definitions look at
 abbrev pub looks_before : PlainProblem → World → ℕ → Looks

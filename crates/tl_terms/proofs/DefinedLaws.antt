@@ -6,7 +6,7 @@ use native.Mathlib.Decide.{dec_lt}
 use borrow.Author.Tests.{eq-eqb, ne_eqb}
 use Rattle.tl_syntax.specs.Assignment.{Assignment, no_values, bind}
 use Rattle.tl_terms.specs.Bounds.{bound_true, tuples_of, tuples}
-use Rattle.tl_terms.specs.Definitions.{Tests, asked, table_of, situation_under, true_at_level, with_definition, tests_of, situation_of}
+use Rattle.tl_terms.specs.Definitions.{Tests, asked, table_of, situation_under, true_at_level, with_tests_of, tests_of, situation_of}
 use Rattle.tl_terms.specs.LawsDefinitions.{own_or_outer, body_at_level}
 use Rattle.tl_syntax.specs.DefinitionNames.{IsNamingBelow, AreNamingBelow}
 use Rattle.tl_terms.specs.Problem.{PlainDefinition, PlainProblem}
@@ -95,12 +95,12 @@ module _ {A : Type 0} where
 
 module _ (p : PlainProblem) (w : World) where
   abbrev tests_over : Tests → List PlainDefinition → Tests
-  tests_over ts ds = fold (with_definition p w) ts ds
+  tests_over ts ds = fold (with_tests_of p w) ts ds
 
   -- what is there already stays
   stays : (ts : Tests) (ds : List PlainDefinition) (k : ℕ) → k < length ts → slice_get (tests_over ts ds) k ≡ slice_get ts k
   stays ts [] k h = refl
-  stays ts (d ∷ ds) k h = stays (with_definition p w ts d) ds k (omega (arith, length-push ts (true_at_level p w ts d d.levels))) ∙ get-front ts (true_at_level p w ts d d.levels ∷ []) k h
+  stays ts (d ∷ ds) k h = stays (with_tests_of p w ts d) ds k (omega (arith, length-push ts (true_at_level p w ts d d.levels))) ∙ get-front ts (true_at_level p w ts d d.levels ∷ []) k h
 
   -- definition k is over a list of the first k tests
   found : (ts : Tests) (ds : List PlainDefinition) (k : ℕ) (d : PlainDefinition) → slice_get ds k ≡ Some d
@@ -108,15 +108,15 @@ module _ (p : PlainProblem) (w : World) where
   found ts [] k d e = cc
   found ts (c ∷ ds) zero d e = (
     ts,
-    ap (slice_get (tests_over (with_definition p w ts c) ds)) (let q : length ts + zero ≡ length ts = omega arith in q)
-        ∙ (stays (with_definition p w ts c) ds (length ts) (omega (arith, length-push ts (true_at_level p w ts c c.levels))) ∙ (get-end ts (true_at_level p w ts c c.levels) ∙ ap (λ (x : PlainDefinition). Some (true_at_level p w ts x x.levels)) (let q : c ≡ d = cc in q))),
+    ap (slice_get (tests_over (with_tests_of p w ts c) ds)) (let q : length ts + zero ≡ length ts = omega arith in q)
+        ∙ (stays (with_tests_of p w ts c) ds (length ts) (omega (arith, length-push ts (true_at_level p w ts c c.levels))) ∙ (get-end ts (true_at_level p w ts c c.levels) ∙ ap (λ (x : PlainDefinition). Some (true_at_level p w ts x x.levels)) (let q : c ≡ d = cc in q))),
     omega arith,
     λ m h. stays ts (c ∷ ds) m h,
   )
   found ts (c ∷ ds) (suc k) d e =
-      let r = found (with_definition p w ts c) ds k d e in
+      let r = found (with_tests_of p w ts c) ds k d e in
       let n = length-push ts (true_at_level p w ts c c.levels) in
-      (r.0, ap (slice_get (tests_over (with_definition p w ts c) ds)) (let q : length ts + suc k ≡ length (with_definition p w ts c) + k = omega (arith, n) in q) ∙ r.1, r.2 ∙ (let q : length (with_definition p w ts c) + k ≡ length ts + suc k = omega (arith, n) in q), r.3)
+      (r.0, ap (slice_get (tests_over (with_tests_of p w ts c) ds)) (let q : length ts + suc k ≡ length (with_tests_of p w ts c) + k = omega (arith, n) in q) ∙ r.1, r.2 ∙ (let q : length (with_tests_of p w ts c) + k ≡ length ts + suc k = omega (arith, n) in q), r.3)
 
   -- a level over the first definitions is that level over all of them
   levels-agree : (es : Tests) (n : ℕ) (d : PlainDefinition) → length es ≡ n → ((m : ℕ) → m < length es → slice_get (tests_over [] p.definitions) m ≡ slice_get es m) → IsNamingBelow (suc n) d.body

@@ -30,12 +30,12 @@ true_at_level p w earlier d zero vs = false
 true_at_level p w earlier d (suc k) vs = state_true (situation_under p w (earlier ++ true_at_level p w earlier d k ∷ [])) (bind d.params vs no_values) d.body
 
 -- one more definition, at the level of its number of levels
-abbrev pub with_definition : PlainProblem → World → Tests → PlainDefinition → Tests
-with_definition p w earlier d = earlier ++ true_at_level p w earlier d d.levels ∷ []
+abbrev pub with_tests_of : PlainProblem → World → Tests → PlainDefinition → Tests
+with_tests_of p w earlier d = earlier ++ true_at_level p w earlier d d.levels ∷ []
 
 -- the tests of all definitions, each over those before it
 unfoldable pub tests_of : PlainProblem → World → Tests
-tests_of p w = fold (with_definition p w) [] p.definitions
+tests_of p w = fold (with_tests_of p w) [] p.definitions
 
 -- a world of the problem
 unfoldable pub situation_of : PlainProblem → World → Situation

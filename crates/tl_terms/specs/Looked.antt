@@ -16,7 +16,7 @@ use Rattle.tl_syntax.specs.Assignment.{Assignment, no_values, bind}
 use Rattle.tl_terms.specs.Terms.{term_value, term_values}
 use Rattle.tl_terms.specs.Bounds.{bound_true, tuples}
 use Rattle.tl_terms.specs.Truth.{state_true}
-use Rattle.tl_terms.specs.Definitions.{Tests, true_at_level, with_definition, situation_under, situation_of}
+use Rattle.tl_terms.specs.Definitions.{Tests, true_at_level, with_tests_of, situation_under, situation_of}
 use Rattle.tl_terms.specs.Operations.{Operation}
 
 -- whether it is defined and an integer
@@ -116,7 +116,7 @@ looked_at_level p w ts ls d (suc k) vs = looked_in_state (looked_table (ls ++ lo
 -- the looks of further definitions, each over those before it
 unfoldable pub looks_over : PlainProblem → World → Tests → Looks → List PlainDefinition → Looks
 looks_over p w ts ls [] = ls
-looks_over p w ts ls (d ∷ ds) = looks_over p w (with_definition p w ts d) (ls ++ looked_at_level p w ts ls d d.levels ∷ []) ds
+looks_over p w ts ls (d ∷ ds) = looks_over p w (with_tests_of p w ts d) (ls ++ looked_at_level p w ts ls d d.levels ∷ []) ds
 
 -- the looks of all definitions in a world of the problem
 unfoldable pub looks_of : PlainProblem → World → LookedTable
