@@ -29,8 +29,8 @@ unfoldable pub left_text : Problem → Nodes → List Rest → List ℕ
 left_text p s rests = flat_map (rest_text p s) (reverse rests)
 
 -- what the text becomes with all that is left
-abbrev pub with_all : Problem → Nodes → Written → List Rest → Written
-with_all p s line rests = after line (left_text p s rests)
+abbrev pub with_rests : Problem → Nodes → Written → List Rest → Written
+with_rests p s line rests = after line (left_text p s rests)
 
 -- the numbers of all that are begun are those of formulas
 abbrev pub AreThere : Nodes → List Rest → Type 0

@@ -2,7 +2,7 @@
 ghost use Rattle.std.specs.Prelude.{◌≡◌, ◌<◌, ◌≤◌, ◌⊎◌, [], ◌∷◌, ◌++◌, length, None, OnOk, IfSome, MatchOption};
 ghost use Rattle.tl_nodes.specs.Numbers.{trees};
 ghost use Rattle.tl_label.specs.Lines.{after, room};
-ghost use Rattle.tl_label.specs.Rests.{text_at, rest_text, left_text, with_all, AreThere};
+ghost use Rattle.tl_label.specs.Rests.{text_at, rest_text, left_text, with_rests, AreThere};
 
 use crate::heads::{is_open, part_of, put_head};
 use crate::line::Line;
@@ -38,7 +38,7 @@ pub(crate) fn begin(
 ) -> Result<(), NoMemory>
     requires id { id < length (trees nodes.now) }
     requires rests { AreThere nodes.now rests.old.items }
-    ensures text { OnOk result (with_all problem.now nodes.now line.new rests.new.items ≡ after line.old
+    ensures text { OnOk result (with_rests problem.now nodes.now line.new rests.new.items ≡ after line.old
         (text_at problem.now nodes.now id ++ left_text problem.now nodes.now rests.old.items)) }
     ensures rests { OnOk result (AreThere nodes.now rests.new.items) }
     ensures room { OnOk result (room line.new ≤ room line.old) }
@@ -62,7 +62,7 @@ pub(crate) fn go_on(
     requires id { rest.id < length (trees nodes.now) }
     requires rests { AreThere nodes.now rests.old.items }
     requires room { 0 < room line.old }
-    ensures text { OnOk result (with_all problem.now nodes.now line.new rests.new.items ≡ after line.old
+    ensures text { OnOk result (with_rests problem.now nodes.now line.new rests.new.items ≡ after line.old
         (rest_text problem.now nodes.now rest ++ left_text problem.now nodes.now rests.old.items)) }
     ensures rests { OnOk result (AreThere nodes.now rests.new.items) }
     ensures room { OnOk result (room line.new < room line.old) }

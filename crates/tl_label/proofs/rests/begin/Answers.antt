@@ -1,7 +1,7 @@
 use Rattle.std.proofs.Common.{◌∙◌, sym, ap, subst, ◌≤◌}
 use Rattle.tl_label.specs.Heads.{head_text}
 use Rattle.tl_label.specs.Lines.{Written, room}
-use Rattle.tl_label.specs.Rests.{with_all}
+use Rattle.tl_label.specs.Rests.{with_rests}
 use Rattle.tl_label.proofs.Begun.{begun-open, begun-closed}
 use Rattle.tl_label.proofs.Lines.{room-falls}
 use Rattle.tl_label.proofs.NodeTexts.{has-basic}
@@ -14,7 +14,7 @@ pub returns-in_ok-push-clause-text : goal.returns-in_ok-push-clause-text
 returns-in_ok-push-clause-text c =
     let p = c.args.problem.now in
     let s = c.args.nodes.now in
-    ap (λ rs. with_all p s c.put_head.new.line rs) c.in_ok-push.ensures.items
+    ap (λ rs. with_rests p s c.put_head.new.line rs) c.in_ok-push.ensures.items
     ∙ begun-open p s c.args.id c.get-node.result.now c.args.line.now c.put_head.new.line c.args.rests.now.items c.get-node.ensures.tree (sym c.is_open.ensures ∙ c.if-is_open.true) c.in_ok-put_head.ensures
 
 pub returns-in_ok-push-clause-room : goal.returns-in_ok-push-clause-room
