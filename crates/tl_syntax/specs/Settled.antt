@@ -40,5 +40,5 @@ abbrev pub numbers_in : {Z : Type 0} → List (RcStr Z × ℕ) → List ℕ
 numbers_in entries = map (λ e. e.1) entries
 
 -- the order of texts with numbers: by the bytes of the texts, and then by the numbers
-abbrev pub entry_cmp : {Z : Type 0} → RcStr Z × ℕ → RcStr Z × ℕ → Ordering
-entry_cmp x y = ordering_then (slice_cmp nat_cmp (rc_str_bytes x.0) (rc_str_bytes y.0)) (nat_cmp x.1 y.1)
+abbrev pub numbered_text_cmp : {Z : Type 0} → RcStr Z × ℕ → RcStr Z × ℕ → Ordering
+numbered_text_cmp x y = ordering_then (slice_cmp nat_cmp (rc_str_bytes x.0) (rc_str_bytes y.0)) (nat_cmp x.1 y.1)

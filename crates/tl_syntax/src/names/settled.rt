@@ -1,7 +1,7 @@
 // The table in the order of its texts.
 ghost use Rattle.std.specs.Prelude.{◌≡◌, ◌<◌, ◌^◌, length, IfOk, IsPermutation, IsSorted};
 ghost use Rattle.std.specs.Rc.{rc_str_bytes};
-ghost use Rattle.tl_syntax.specs.Settled.{IsInOrder, Renumbers, Differ, AreCounted, AreBelow, GivesPlaces, entry_cmp, texts_in, numbers_in};
+ghost use Rattle.tl_syntax.specs.Settled.{IsInOrder, Renumbers, Differ, AreCounted, AreBelow, GivesPlaces, numbered_text_cmp, texts_in, numbers_in};
 ghost use Rattle.tl_syntax.specs.Texts.{AreDistinct};
 
 use crate::{Names, NoMemory, Numbers32};
@@ -45,7 +45,7 @@ impl Names {
 fn sorted(mut entries: Vec<(RcStr, u32)>) -> Vec<(RcStr, u32)>
     ensures permutation { IsPermutation entries.items result.items }
     ensures count { length result.items ≡ length entries.items }
-    ensures sorted { IsSorted entry_cmp result.items }
+    ensures sorted { IsSorted numbered_text_cmp result.items }
 {
     entries.sort_unstable();
     entries
