@@ -33,9 +33,9 @@ lesser best None after k = best
 lesser best (Some m) after k = cond (above after k (take k m.values) && lower best k (take k m.values)) (Some m) best
 
 -- what was found: the first k of the values, or nothing
-abbrev pub found_in : Bool → ℕ → List Value → Option Match
-found_in true k values = Some (record { values = values; len = k })
-found_in false k values = None
+abbrev pub match_if : Bool → ℕ → List Value → Option Match
+match_if true k values = Some (record { values = values; len = k })
+match_if false k values = None
 
 -- whether t comes after the tuple, where one is in place
 abbrev pub is_later : Bool → List Value → List Value → Bool

@@ -4,7 +4,7 @@ ghost use Rattle.std.specs.Option.{is_some};
 ghost use Rattle.tl_syntax.specs.Lists.{Rises};
 ghost use Rattle.tl_world.specs.Fits.{fits_at, fits_all, occurs, BeginsAs};
 ghost use Rattle.tl_world.specs.Front.{BeginsOn, seen_after, seen_in, is_in_turn, are_in_turn};
-ghost use Rattle.tl_world.specs.Least.{IsLeast, fits_some, found_in};
+ghost use Rattle.tl_world.specs.Least.{IsLeast, fits_some, match_if};
 ghost use Rattle.tl_world.specs.Tables.{row_cmp};
 
 use crate::Part;
@@ -85,7 +85,7 @@ pub(crate) fn put_first(
     requires turn { are_in_turn 0 parts.now ≡ true }
     requires order { Rises row_cmp rows.now }
     requires bound { from ≤ length rows.now }
-    ensures { IsLeast free (λ t. fits_some parts.now (drop from rows.now) t) (found_in (is_some result) free values.new) }
+    ensures { IsLeast free (λ t. fits_some parts.now (drop from rows.now) t) (match_if (is_some result) free values.new) }
 {
     let mut k = from;
     while k < rows.len() {
