@@ -14,7 +14,7 @@ use Rattle.tl_rules.proofs.Offsets.{form-within}
 use Rattle.tl_rules.proofs.Order.{first-least, IsInOrder, from, up_to, both, none, one, tested}
 use Rattle.tl_line.specs.Actions.{action_breaks}
 use Rattle.tl_line.proofs.ActionOrder.{call-order}
-use Rattle.tl_cert.specs.ProofFiles.{head_in, length_bound_breaks, head_breaks_at, head_breaks, link_in, limit_breaks, link_breaks_at, link_breaks, links_breaks, proof_breaks}
+use Rattle.tl_cert.specs.ProofFiles.{head_in, length_bound_breaks, proof_head_breaks_at, proof_head_breaks, link_in, limit_breaks, link_breaks_at, link_breaks, links_breaks, proof_breaks}
 use Rattle.tl_cert.specs.MeaningOfProofs.{proof_meant}
 use Rattle.tl_cert.specs.declared.proof.Proof.{Proof}
 use Rattle.tl_cert.proofs.ProofForms.{link-back, head-back}
@@ -61,7 +61,7 @@ module _ (names : List (List ℕ)) (operators : List Operator) where
 
   -- ---- the file
 
-  head-order : (f : FormTree) (low next : ℕ) → RisesFrom low f next → IsInOrder (64 * low) (head_breaks f) (64 * next)
+  head-order : (f : FormTree) (low next : ℕ) → RisesFrom low f next → IsInOrder (64 * low) (proof_head_breaks f) (64 * next)
   head-order (symbol text at) low next h = one Shape at (64 * low) (64 * next) (omega (arith, h.0)) (omega (arith, h.1))
   head-order (integer z at) low next h = one Shape at (64 * low) (64 * next) (omega (arith, h.0)) (omega (arith, h.1))
   head-order (list fs at) low next h = by_parts (head_in fs) refl
@@ -77,7 +77,7 @@ module _ (names : List (List ℕ)) (operators : List Operator) where
           let first = form-within k.word (at + 1) r.0 r.1 in
           tested (not (is_within 0 100000 n.0)) Limit n.1 (64 * low) (64 * next) (omega (arith, h.0, first.0, first.1, r.2.1.0)) (omega (arith, r.2.1.1, r.2.2))
 
-      by_parts : (o : Option (Option (ℤ × ℕ))) → head_in fs ≡ o → IsInOrder (64 * low) (head_breaks_at at o) (64 * next)
+      by_parts : (o : Option (Option (ℤ × ℕ))) → head_in fs ≡ o → IsInOrder (64 * low) (proof_head_breaks_at at o) (64 * next)
       by_parts None e = one Shape at (64 * low) (64 * next) (omega (arith, within.0)) (omega (arith, within.1))
       by_parts (Some bound) e = by_bound bound e
 

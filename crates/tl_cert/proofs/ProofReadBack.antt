@@ -24,7 +24,7 @@ use Rattle.tl_line.proofs.Tokens.{clean-token, decimal-read, decimal-token, symb
 use Rattle.tl_line.proofs.WrittenForms.{action_form, action-item, apart}
 use Rattle.tl_cert.specs.LawsReadBack.{AreReadAs, AreWritable, IsBoundWritable, StartBefore}
 use Rattle.tl_cert.specs.MeaningOfProofs.{length_bound_meant, links_meant}
-use Rattle.tl_cert.specs.ProofFiles.{head_breaks, links_breaks}
+use Rattle.tl_cert.specs.ProofFiles.{proof_head_breaks, links_breaks}
 use Rattle.tl_cert.specs.ProofTexts.{head_line, link_line, link_lines, proof_text}
 use Rattle.tl_cert.specs.declared.proof.Link.{Link}
 use Rattle.tl_cert.specs.declared.proof.Proof.{Proof}
@@ -319,7 +319,7 @@ links-mean names operators [] at distinct differ w = refl
 links-mean names operators (l ∷ ls) at distinct differ w =
     rw (form-meant names operators l.action (at + 1 + 4 + 1 + length (decimal l.from) + 1) distinct differ w.0, links-mean names operators ls (at + length (link_line names operators l)) distinct differ w.1) refl
 
-head-breaks-nothing : (bound : Option ℕ) → IsBoundWritable bound → head_breaks (head_form bound 0) ≡ []
+head-breaks-nothing : (bound : Option ℕ) → IsBoundWritable bound → proof_head_breaks (head_form bound 0) ≡ []
 head-breaks-nothing None few = refl
 head-breaks-nothing (Some n) few = rw (inside n 100000 few) refl
 

@@ -24,7 +24,7 @@ use Rattle.tl_search.proofs.ListLaws.{get-single}
 use Rattle.tl_cert.specs.Covers.{Covers, IsNoFarther, MustBeClosed}
 use Rattle.tl_cert.specs.Links.{IsGood, ListsRoot}
 use Rattle.tl_cert.specs.MeaningOfProofs.{length_bound_meant}
-use Rattle.tl_cert.specs.ProofFiles.{head_breaks, proof_breaks}
+use Rattle.tl_cert.specs.ProofFiles.{proof_head_breaks, proof_breaks}
 use Rattle.tl_cert.specs.Verdicts.{IsFirstBad}
 use Rattle.tl_cert.specs.declared.proof.Link.{Link}
 
@@ -137,5 +137,5 @@ no_pair : (names : List (List ℕ)) (operators : List Operator) → first_break 
 no_pair names operators = refl
 
 -- `(none-within 100001)`
-far_bound : first_break (head_breaks (list (more_forms (symbol (codes "none-within") 1) (more_forms (integer (pos 100001) 13) no_form)) 0)) ≡ Some (Limit, 13)
+far_bound : first_break (proof_head_breaks (list (more_forms (symbol (codes "none-within") 1) (more_forms (integer (pos 100001) 13) no_form)) 0)) ≡ Some (Limit, 13)
 far_bound = refl

@@ -35,13 +35,13 @@ length_bound_breaks None = []
 length_bound_breaks (Some n) = breaks_if (not (is_within 0 100000 n.0)) Limit n.1
 
 -- what the form at this offset breaks in the role of the head, by its bound
-abbrev pub head_breaks_at : ℕ → Option (Option (ℤ × ℕ)) → List Break
-head_breaks_at at None = (Shape, at) ∷ []
-head_breaks_at at (Some bound) = length_bound_breaks bound
+abbrev pub proof_head_breaks_at : ℕ → Option (Option (ℤ × ℕ)) → List Break
+proof_head_breaks_at at None = (Shape, at) ∷ []
+proof_head_breaks_at at (Some bound) = length_bound_breaks bound
 
 -- what a form breaks in the role of the head
-abbrev pub head_breaks : FormTree → List Break
-head_breaks f = head_breaks_at (offset_of f) (head_parts f)
+abbrev pub proof_head_breaks : FormTree → List Break
+proof_head_breaks f = proof_head_breaks_at (offset_of f) (head_parts f)
 
 -- ---- links
 
@@ -83,4 +83,4 @@ links_breaks names operators before (more_forms f fs) = link_breaks names operat
 -- what the forms of a proof file break
 abbrev pub proof_breaks : List (List ℕ) → List Operator → FormTrees → List Break
 proof_breaks names operators no_form = (Shape, 0) ∷ []
-proof_breaks names operators (more_forms f fs) = head_breaks f ++ links_breaks names operators 0 fs
+proof_breaks names operators (more_forms f fs) = proof_head_breaks f ++ links_breaks names operators 0 fs

@@ -9,7 +9,7 @@ ghost use Rattle.tl_line.specs.NamedActions.{ActionIsNamed};
 ghost use Rattle.tl_cert.specs.declared.proof.Link.{Link};
 ghost use Rattle.tl_cert.specs.declared.proof.Proof.{Proof};
 ghost use Rattle.tl_cert.specs.MeaningOfProofs.{length_bound_meant, link_meant, links_meant, proof_meant};
-ghost use Rattle.tl_cert.specs.ProofFiles.{bounded_head, head_breaks, head_in, head_parts, link_breaks, link_in, link_of_three, link_parts, links_breaks, proof_breaks};
+ghost use Rattle.tl_cert.specs.ProofFiles.{bounded_head, proof_head_breaks, head_in, head_parts, link_breaks, link_in, link_of_three, link_parts, links_breaks, proof_breaks};
 ghost use Rattle.tl_cert.specs.ProofTexts.{LinksAreNamed};
 
 use crate::proof::{Link, Links, Proof};
@@ -83,7 +83,7 @@ fn head_parts(form: &Form) -> Option<Option<(i64, u32)>>
 
 /// The bound of the head of a proof file.
 fn head(form: &Form) -> Result<Option<u32>, FormFault>
-    ensures { Reads (λ (x : Option ℕ). x) result (head_breaks (tree_of form.now)) (length_bound_meant (tree_of form.now)) }
+    ensures { Reads (λ (x : Option ℕ). x) result (proof_head_breaks (tree_of form.now)) (length_bound_meant (tree_of form.now)) }
 {
     match head_parts(form) {
         None => Err(breaks(Rule::Shape, offset(form))),

@@ -10,7 +10,7 @@ use Rattle.tl_rules.specs.Rules.{breaks_if}
 use Rattle.tl_rules.specs.Parts.{offset_of, is_within, natural}
 use Rattle.tl_line.specs.ActionTexts.{action_text, values_text}
 use Rattle.tl_cert.specs.MeaningOfProofs.{length_bound_meant, link_meant_by, links_meant, proof_meant}
-use Rattle.tl_cert.specs.ProofFiles.{head_breaks, limit_breaks, link_breaks_at, link_parts, links_breaks, proof_breaks}
+use Rattle.tl_cert.specs.ProofFiles.{proof_head_breaks, limit_breaks, link_breaks_at, link_parts, links_breaks, proof_breaks}
 use Rattle.tl_cert.specs.ProofTexts.{head_line, link_line, link_lines, none_text, proof_text}
 use Rattle.tl_cert.specs.declared.proof.Link.{Link}
 use Rattle.tl_cert.specs.declared.proof.Proof.{Proof}
@@ -36,7 +36,7 @@ module _ (names : List (List ℕ)) (os us : List Operator) (alike : map head_of 
   -- the same rules are broken
   pub same_proof_breaks : (fs : FormTrees) → proof_breaks names os fs ≡ proof_breaks names us fs
   same_proof_breaks no_form = refl
-  same_proof_breaks (more_forms f fs) = ap (λ bs. head_breaks f ++ bs) (same_links 0 fs)
+  same_proof_breaks (more_forms f fs) = ap (λ bs. proof_head_breaks f ++ bs) (same_links 0 fs)
 
   same_link_meant : (parts : Option (ℤ × ℕ × FormTree)) → link_meant_by names os parts ≡ link_meant_by names us parts
   same_link_meant None = refl
