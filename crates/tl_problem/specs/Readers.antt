@@ -27,23 +27,23 @@ abbrev pub sections_in : SectionTables → Sections
 sections_in t = record { init = literals_in t.init; goal = literals_in t.goal }
 
 -- the tables say what is meant, and nothing is broken; or the fault is the first of the breaks
-abbrev pub Adds : Result (Unit {0}) FormFault → LiteralTables → List Break → Literals → Type 0
-Adds result tables breaks meant = Reads (λ (x : Unit {0}). literals_in tables) result breaks meant
+abbrev pub AddsMeant : Result (Unit {0}) FormFault → LiteralTables → List Break → Literals → Type 0
+AddsMeant result tables breaks meant = Reads (λ (x : Unit {0}). literals_in tables) result breaks meant
 
 -- an element of this word joins the tables, or an element, or elements
 abbrev pub AddsCall : Result (Unit {0}) FormFault → Vocabulary Domain → ElementWord → CallTree → LiteralTables → LiteralTables → Type 0
 AddsCall result v w c before after =
-    Adds result after (element_call_breaks v.names.now v.declared.now (literals_in before) w c)
+    AddsMeant result after (element_call_breaks v.names.now v.declared.now (literals_in before) w c)
     (with_element_call v.names.now v.declared.now (literals_in before) w c)
 
 abbrev pub AddsElement : Result (Unit {0}) FormFault → Vocabulary Domain → Section → FormTree → LiteralTables → LiteralTables → Type 0
 AddsElement result v s f before after =
-    Adds result after (element_breaks v.names.now v.declared.now s (literals_in before) f)
+    AddsMeant result after (element_breaks v.names.now v.declared.now s (literals_in before) f)
     (with_element v.names.now v.declared.now s (literals_in before) f)
 
 abbrev pub AddsElements : Result (Unit {0}) FormFault → Vocabulary Domain → Section → FormTrees → LiteralTables → LiteralTables → Type 0
 AddsElements result v s fs before after =
-    Adds result after (elements_breaks v.names.now v.declared.now s (literals_in before) fs)
+    AddsMeant result after (elements_breaks v.names.now v.declared.now s (literals_in before) fs)
     (with_elements v.names.now v.declared.now s (literals_in before) fs)
 
 -- a section is read, or both

@@ -1,7 +1,7 @@
 // What the elements of `init` or of `goal` say together.
 ghost use Rattle.std.specs.Prelude.{◌≡◌};
 ghost use Rattle.tl_problem.specs.Literals.{no_literal, and_fact, and_value, and_not, fact_denied, fact_said, value_differs};
-ghost use Rattle.tl_problem.specs.Readers.{Adds, literals_in};
+ghost use Rattle.tl_problem.specs.Readers.{AddsMeant, literals_in};
 
 use crate::fact_set::FactSet;
 use crate::place_map::{Place, PlaceMap};
@@ -34,7 +34,7 @@ impl LiteralTables {
 
     /// Adds the fact of an element at this offset, which no element may negate.
     pub(crate) fn add_fact(&mut self, fact: Fact, at: u32) -> Result<(), FormFault>
-        ensures { Adds result self.new (fact_denied (literals_in self.old) fact at)
+        ensures { AddsMeant result self.new (fact_denied (literals_in self.old) fact at)
             (and_fact (literals_in self.old) fact) }
     {
         if self.nots.contains(&fact) {
@@ -46,7 +46,7 @@ impl LiteralTables {
 
     /// Adds the negated fact of an element at this offset, which no element may say.
     pub(crate) fn add_not(&mut self, fact: Fact, at: u32) -> Result<(), FormFault>
-        ensures { Adds result self.new (fact_said (literals_in self.old) fact at)
+        ensures { AddsMeant result self.new (fact_said (literals_in self.old) fact at)
             (and_not (literals_in self.old) fact) }
     {
         if self.facts.contains(&fact) {
@@ -58,7 +58,7 @@ impl LiteralTables {
 
     /// Adds the place with its value of an element at this offset, to which no element may give another value.
     pub(crate) fn add_value(&mut self, entry: PlaceValue, at: u32) -> Result<(), FormFault>
-        ensures { Adds result self.new (value_differs (literals_in self.old) entry at)
+        ensures { AddsMeant result self.new (value_differs (literals_in self.old) entry at)
             (and_value (literals_in self.old) entry) }
     {
         let PlaceValue { fun, args, value } = entry;

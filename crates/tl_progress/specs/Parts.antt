@@ -19,8 +19,8 @@ use Rattle.tl_terms.specs.Operations.{Operation}
 use Rattle.tl_terms.specs.Situation.{Situation}
 
 -- all that came to these numbers is among others
-abbrev pub Adds : List ℕ → List ℕ → List ℕ → Type 0
-Adds old new ids = (q : ℕ) → Among q new → Among q old ⊎ Among q ids
+abbrev pub AddsOnly : List ℕ → List ℕ → List ℕ → Type 0
+AddsOnly old new ids = (q : ℕ) → Among q new → Among q old ⊎ Among q ids
 
 -- the parts that are worked through before the node: true is for the idling check, which reads below a `next` and of an `until` the second part alone
 abbrev pub parts : Bool → Node → List ℕ
