@@ -1,7 +1,7 @@
 use Rattle.std.proofs.Common.{◌≡◌, ◌++◌, drop}
 use Rattle.tl_syntax.specs.Lists.{Each}
 use Rattle.tl_line.specs.NamedActions.{ActionIsNamed}
-use Rattle.tl_line.specs.Puts.{Begins}
+use Rattle.tl_line.specs.Puts.{ContinuesTo}
 use Rattle.tl_cost.specs.CostTexts.{plan_lines}
 use Rattle.tl_cost.proofs.texts.put_lines.Given as goal
 
@@ -10,5 +10,5 @@ abbrev pub invariant-loop-action : goal.invariant-loop-action
 invariant-loop-action l = record {
   text : l.initial.out ++ plan_lines l.problem.names l.problem.domain.operators l.plan ≡ l.out ++ plan_lines l.problem.names l.problem.domain.operators (drop l.action-index l.plan);
   named : Each (ActionIsNamed l.problem.names l.problem.domain.operators) (drop l.action-index l.plan);
-  begins : Begins l.initial.out l.out;
+  begins : ContinuesTo l.initial.out l.out;
 }
