@@ -10,7 +10,7 @@ use Rattle.tl_run.specs.Commands.{Command, check, search, trace, explain, prove_
 use Rattle.tl_run.specs.Held.{IsHeld}
 use Rattle.tl_run.specs.declared.search.Search.{Search}
 use Rattle.tl_run.specs.Inputs.{Input, a_domain, a_problem, a_plan, a_proof, IsMeant, some_costs, a_loop}
-use Rattle.tl_run.specs.Replies.{Fits}
+use Rattle.tl_run.specs.Replies.{FitsCommand}
 use Rattle.tl_run.specs.Sample.{sample_search}
 use Rattle.tl_run.specs.Turns.{HoldInput}
 
@@ -22,7 +22,7 @@ plan_last : (before after : Input) (forms : FormTrees) → IsMeant role.Plan bef
 plan_last (a_problem p) (a_plan q plan) forms h = tt
 plan_last before after forms h = absurd h
 
-plan_fits : (d p q : List ℕ) (h : Held) (x : Input) → IsPlan x → IsHeld h x → Fits (check d p q) h
+plan_fits : (d p q : List ℕ) (h : Held) (x : Input) → IsPlan x → IsHeld h x → FitsCommand (check d p q) h
 plan_fits d p q (held.Plan problem plan) x is h = refl
 plan_fits d p q held.Nothing (a_plan problem plan) is h = absurd h
 plan_fits d p q (held.Domain names domain) (a_plan problem plan) is h = absurd h
@@ -40,7 +40,7 @@ proof_last : (before after : Input) (forms : FormTrees) → IsMeant role.Proof b
 proof_last (a_problem p) (a_proof q proof) forms h = tt
 proof_last before after forms h = absurd h
 
-proof_fits : (d p q : List ℕ) (h : Held) (x : Input) → IsProof x → IsHeld h x → Fits (check_none d p q) h
+proof_fits : (d p q : List ℕ) (h : Held) (x : Input) → IsProof x → IsHeld h x → FitsCommand (check_none d p q) h
 proof_fits d p q (held.Proof problem proof) x is h = refl
 proof_fits d p q held.Nothing (a_proof problem proof) is h = absurd h
 proof_fits d p q (held.Domain names domain) (a_proof problem proof) is h = absurd h
@@ -50,7 +50,7 @@ proof_fits d p q (held.Costs other costs) (a_proof problem proof) is h = absurd 
 proof_fits d p q (held.Loop other parts) (a_proof problem proof) is h = absurd h
 proof_fits d p q h x is k = absurd is
 
-explain_fits : (d p q : List ℕ) (h : Held) (x : Input) → IsPlan x → IsHeld h x → Fits (explain d p q) h
+explain_fits : (d p q : List ℕ) (h : Held) (x : Input) → IsPlan x → IsHeld h x → FitsCommand (explain d p q) h
 explain_fits d p q h x is k = plan_fits d p q h x is k
 
 abbrev IsProblem : Input → Type 0
@@ -61,7 +61,7 @@ problem_last : (before after : Input) (forms : FormTrees) → IsMeant role.Probl
 problem_last (a_domain first) (a_problem p) forms h = tt
 problem_last before after forms h = absurd h
 
-problem_fits : (s : Search) (d p : List ℕ) (h : Held) (x : Input) → IsProblem x → IsHeld h x → Fits (search s d p) h
+problem_fits : (s : Search) (d p : List ℕ) (h : Held) (x : Input) → IsProblem x → IsHeld h x → FitsCommand (search s d p) h
 problem_fits s d p (held.Problem problem) x is h = refl
 problem_fits s d p held.Nothing (a_problem problem) is h = absurd h
 problem_fits s d p (held.Domain names domain) (a_problem problem) is h = absurd h
@@ -71,7 +71,7 @@ problem_fits s d p (held.Costs other costs) (a_problem problem) is h = absurd h
 problem_fits s d p (held.Loop other parts) (a_problem problem) is h = absurd h
 problem_fits s d p h x is k = absurd is
 
-search_fits : (files : Option Files) (s : Search) (d p : List ℕ) (h : Held) (x : Input) → HoldInput files (search s d p) x → IsHeld h x → Fits (search s d p) h
+search_fits : (files : Option Files) (s : Search) (d p : List ℕ) (h : Held) (x : Input) → HoldInput files (search s d p) x → IsHeld h x → FitsCommand (search s d p) h
 search_fits files s d p h x stand is =
     let second = stand.4 in
     let stands = second.3 in
@@ -86,7 +86,7 @@ costs_last : (before after : Input) (forms : FormTrees) → IsMeant role.Costs b
 costs_last (a_problem p) (some_costs q costs) forms h = tt
 costs_last before after forms h = absurd h
 
-costs_fit : (b : ℕ) (d p k : List ℕ) (h : Held) (x : Input) → AreCosts x → IsHeld h x → Fits (cheapest b d p k) h
+costs_fit : (b : ℕ) (d p k : List ℕ) (h : Held) (x : Input) → AreCosts x → IsHeld h x → FitsCommand (cheapest b d p k) h
 costs_fit b d p k (held.Costs problem costs) x is h = refl
 costs_fit b d p k held.Nothing (some_costs problem costs) is h = absurd h
 costs_fit b d p k (held.Domain names domain) (some_costs problem costs) is h = absurd h
@@ -96,7 +96,7 @@ costs_fit b d p k (held.Proof other proof) (some_costs problem costs) is h = abs
 costs_fit b d p k (held.Loop other parts) (some_costs problem costs) is h = absurd h
 costs_fit b d p k h x is e = absurd is
 
-cheapest_fits : (files : Option Files) (b : ℕ) (d p k : List ℕ) (h : Held) (x : Input) → HoldInput files (cheapest b d p k) x → IsHeld h x → Fits (cheapest b d p k) h
+cheapest_fits : (files : Option Files) (b : ℕ) (d p k : List ℕ) (h : Held) (x : Input) → HoldInput files (cheapest b d p k) x → IsHeld h x → FitsCommand (cheapest b d p k) h
 cheapest_fits files b d p k h x stand is =
     let second = stand.4 in
     let third = second.4 in
@@ -112,7 +112,7 @@ loop_last : (before after : Input) (forms : FormTrees) → IsMeant role.Loop bef
 loop_last (a_problem p) (a_loop q plan) forms h = tt
 loop_last before after forms h = absurd h
 
-loop_fits : (d p q : List ℕ) (h : Held) (x : Input) → IsLoop x → IsHeld h x → Fits (check_loop d p q) h
+loop_fits : (d p q : List ℕ) (h : Held) (x : Input) → IsLoop x → IsHeld h x → FitsCommand (check_loop d p q) h
 loop_fits d p q (held.Loop problem plan) x is h = refl
 loop_fits d p q held.Nothing (a_loop problem plan) is h = absurd h
 loop_fits d p q (held.Domain names domain) (a_loop problem plan) is h = absurd h
@@ -122,7 +122,7 @@ loop_fits d p q (held.Proof other proof) (a_loop problem plan) is h = absurd h
 loop_fits d p q (held.Costs other costs) (a_loop problem plan) is h = absurd h
 loop_fits d p q h x is e = absurd is
 
-check_loop_fits : (files : Option Files) (d p q : List ℕ) (h : Held) (x : Input) → HoldInput files (check_loop d p q) x → IsHeld h x → Fits (check_loop d p q) h
+check_loop_fits : (files : Option Files) (d p q : List ℕ) (h : Held) (x : Input) → HoldInput files (check_loop d p q) x → IsHeld h x → FitsCommand (check_loop d p q) h
 check_loop_fits files d p q h x stand is =
     let second = stand.4 in
     let third = second.4 in
@@ -131,7 +131,7 @@ check_loop_fits files d p q h x stand is =
     loop_fits d p q h x (subst IsLoop e (loop_last second.1 third.1 stands.forms stands.meant)) is
 
 -- one line for each command
-pub fits : (files : Option Files) (c : Command) (h : Held) (x : Input) → HoldInput files c x → IsHeld h x → Fits c h
+pub fits : (files : Option Files) (c : Command) (h : Held) (x : Input) → HoldInput files c x → IsHeld h x → FitsCommand c h
 fits files (check d p q) h x stand is =
     let second = stand.4 in
     let third = second.4 in

@@ -20,16 +20,16 @@ pub record Replies (c : Command) (input : Input) (reply : Reply) : Type 0 where
   pub text_is : reply.text ≡ text_of input answer
 
 -- the file that was read last is of the role that comes last for the command: one line for each command
-abbrev pub Fits : Command → Held → Type 0
-Fits (check d p q) held = last_role held ≡ Some role.Plan
-Fits (search s d p) held = last_role held ≡ Some role.Problem
-Fits (trace s d p) held = last_role held ≡ Some role.Problem
-Fits (explain d p q) held = last_role held ≡ Some role.Plan
-Fits (prove_none s d p) held = last_role held ≡ Some role.Problem
-Fits (check_none d p q) held = last_role held ≡ Some role.Proof
-Fits (sample balls) held = last_role held ≡ Some role.Problem
-Fits (cheapest b d p k) held = last_role held ≡ Some role.Costs
-Fits (check_loop d p q) held = last_role held ≡ Some role.Loop
+abbrev pub FitsCommand : Command → Held → Type 0
+FitsCommand (check d p q) held = last_role held ≡ Some role.Plan
+FitsCommand (search s d p) held = last_role held ≡ Some role.Problem
+FitsCommand (trace s d p) held = last_role held ≡ Some role.Problem
+FitsCommand (explain d p q) held = last_role held ≡ Some role.Plan
+FitsCommand (prove_none s d p) held = last_role held ≡ Some role.Problem
+FitsCommand (check_none d p q) held = last_role held ≡ Some role.Proof
+FitsCommand (sample balls) held = last_role held ≡ Some role.Problem
+FitsCommand (cheapest b d p k) held = last_role held ≡ Some role.Costs
+FitsCommand (check_loop d p q) held = last_role held ≡ Some role.Loop
 
 -- a status that comes with lines
 abbrev pub HasLines : Status → Type 0

@@ -6,7 +6,7 @@ ghost use Rattle.tl_run.specs.Held.{IsHeld, KeepsBounds};
 ghost use Rattle.tl_run.specs.Inputs as inputs;
 ghost use Rattle.tl_run.specs.Promises.{IsAnswer};
 ghost use Rattle.tl_run.specs.Refusals.{refusal_text};
-ghost use Rattle.tl_run.specs.Replies.{Fits, Replies};
+ghost use Rattle.tl_run.specs.Replies.{FitsCommand, Replies};
 ghost use Rattle.tl_run.specs.Stops.{IsBareStatus};
 ghost use Rattle.tl_run.specs.Turns.{BegunInTurn};
 ghost use Rattle.tl_run.specs.Words.{command_meant};
@@ -43,7 +43,7 @@ impl From<NoMemory> for Status {
 
 /// The reply to a command over its input: one line for each command.
 fn reply_over(alloc: Global, command: Command<'_>, input: Input) -> Result<Reply, NoMemory>
-    requires fits { Fits (command_meant command) input }
+    requires fits { FitsCommand (command_meant command) input }
     requires limits { KeepsLimits (command_meant command) }
     requires keeps { KeepsBounds input }
     ensures { (x : inputs.Input) → IsHeld input x → IfOk result (Replies (command_meant command.entry) x) }
