@@ -10,8 +10,8 @@ use Rattle.tl_depth.specs.Ongoing.{IsOngoing, IsArrived, Turned, TurnedTo}
 use Rattle.tl_depth.specs.Outcomes.{AreFewCalls}
 
 -- the search goes on, after some number of calls
-abbrev pub GoesOn : PlainProblem → ℕ → List KeptPair → DepthFirst → Type 0
-GoesOn p b kept w = (calls : ℕ) × IsOngoing p b (pairs_of kept) w calls
+abbrev pub SearchGoesOn : PlainProblem → ℕ → List KeptPair → DepthFirst → Type 0
+SearchGoesOn p b kept w = (calls : ℕ) × IsOngoing p b (pairs_of kept) w calls
 
 -- the top level's next action was tried, after some number of calls, and this arrived
 abbrev pub HasArrived : PlainProblem → ℕ → List KeptPair → DepthFirst → Arrival → ℕ → Type 0

@@ -32,8 +32,8 @@ pub record Reads (ss : List Var) (e : Assignment) (b : Bound) (r : Reader) : Typ
   pub size : IfSome r.tuple (λ t. length t ≡ length ss)
 
 -- the new reader has come to the tuple of the bound after that of the old
-abbrev pub GoesOn : Situation → Bound → Reader → Reader → Type 0
-GoesOn s b old new = (ss : List Var) (e : Assignment) → Reads ss e b old → IsNextTuple s ss e b old.tuple new.tuple
+abbrev pub ReadsNext : Situation → Bound → Reader → Reader → Type 0
+ReadsNext s b old new = (ss : List Var) (e : Assignment) → Reads ss e b old → IsNextTuple s ss e b old.tuple new.tuple
 
 -- the new reader reads what the old one reads
 abbrev pub ReadsAsBefore : Bound → Reader → Reader → Type 0

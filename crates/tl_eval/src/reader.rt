@@ -1,7 +1,7 @@
 // The tuples of a bound, one after another.
 ghost use Rattle.std.specs.Prelude.{◌≡◌, ◌≤◌, length, true, false, None, Some, IsSome};
 ghost use Rattle.tl_eval.specs.Frames.{assignment_in};
-ghost use Rattle.tl_eval.specs.Reader.{Reads, GoesOn, ReadsAsBefore, HasAsMany};
+ghost use Rattle.tl_eval.specs.Reader.{Reads, ReadsNext, ReadsAsBefore, HasAsMany};
 ghost use Rattle.tl_eval.specs.Reading.{situation_in};
 ghost use Rattle.tl_syntax.specs.BoundVariables.{DifferInSlot, OccurIn};
 ghost use Rattle.tl_syntax.specs.Fits.{BoundFits};
@@ -103,7 +103,7 @@ impl TupleReader {
     /// After the last tuple the reader is before the first again. It takes no memory.
     #[inline(never)]
     pub fn next(&mut self, task: &Task, w: &World, b: &Bound) -> bool
-        ensures next { GoesOn (situation_in task.now w.now) b.now self.old self.new }
+        ensures next { ReadsNext (situation_in task.now w.now) b.now self.old self.new }
         ensures reads { ReadsAsBefore b.now self.old self.new }
         ensures found { result ≡ true → IsSome self.new.tuple }
         ensures end { result ≡ false → self.new.tuple ≡ None }

@@ -9,7 +9,7 @@ ghost use Rattle.tl_search.specs.Ends.{EndsIfAny};
 ghost use Rattle.tl_depth.specs.Endings.{KeepsLast};
 ghost use Rattle.tl_depth.specs.Outcomes.{IsDepthFirstFault};
 ghost use Rattle.tl_depth.specs.Ongoing.{IsTop};
-ghost use Rattle.tl_depth.specs.Turns.{GoesOn, Turns, TriesTop, CallsStayFew, OneCallStaysFew, KeepsHistory};
+ghost use Rattle.tl_depth.specs.Turns.{SearchGoesOn, Turns, TriesTop, CallsStayFew, OneCallStaysFew, KeepsHistory};
 
 use crate::stack::{DepthFirst, past_range};
 use std::alloc::Global;
@@ -26,7 +26,7 @@ impl DepthFirst {
         nodes: usize,
         steps: &mut Steps<L>,
     ) -> Result<Option<Outcome>, SearchFault>
-        requires ongoing { GoesOn (S.problem space.old) nodes (S.kept space.old) self.old }
+        requires ongoing { SearchGoesOn (S.problem space.old) nodes (S.kept space.old) self.old }
         requires some { 0 < length self.old.stack.items }
         requires named { SearchIsNamed (S.task space.old) self.old }
         requires remembered { Remembers (S.problem space.old) (S.task space.old) (S.kept space.old) self.old.expansions }
@@ -66,7 +66,7 @@ impl DepthFirst {
         left: u32,
         steps: &mut Steps<L>,
     ) -> Result<Arrival, SearchFault>
-        requires ongoing { GoesOn (S.problem space.old) nodes (S.kept space.old) self.old }
+        requires ongoing { SearchGoesOn (S.problem space.old) nodes (S.kept space.old) self.old }
         requires top { IsTop self.old.stack.items left }
         requires named { SearchIsNamed (S.task space.old) self.old }
         requires remembered { Remembers (S.problem space.old) (S.task space.old) (S.kept space.old) self.old.expansions }
@@ -107,7 +107,7 @@ impl DepthFirst {
         left: u32,
         steps: &mut Steps<L>,
     ) -> Result<Arrival, SearchFault>
-        requires ongoing { GoesOn (S.problem space.old) nodes (S.kept space.old) self.old }
+        requires ongoing { SearchGoesOn (S.problem space.old) nodes (S.kept space.old) self.old }
         requires top { IsTop self.old.stack.items left }
         requires named { SearchIsNamed (S.task space.old) self.old }
         ensures task { S.task space.new ≡ S.task space.old }

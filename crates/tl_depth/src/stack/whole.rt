@@ -10,7 +10,7 @@ ghost use Rattle.tl_depth.specs.Endings.{EndsUnkept};
 ghost use Rattle.tl_depth.specs.Outcomes.{IsDepthFirstFault, IsDepthFirstOutcome, IsToldOutcome};
 ghost use Rattle.tl_depth.specs.Reports.{AreFewSteps};
 ghost use Rattle.tl_depth.specs.Tables.{IsUncut};
-ghost use Rattle.tl_depth.specs.Turns.{GoesOn};
+ghost use Rattle.tl_depth.specs.Turns.{SearchGoesOn};
 ghost use Rattle.tl_depth.specs.Ongoing.{IsNew, IsFirst, Begun};
 
 use crate::stack::DepthFirst;
@@ -163,7 +163,7 @@ impl DepthFirst {
 
     /// Nothing is left to expand.
     fn none<S: Pairs>(&self, space: &S, nodes: usize) -> Outcome
-        requires ongoing { GoesOn (S.problem space.now) nodes (S.kept space.now) self.now }
+        requires ongoing { SearchGoesOn (S.problem space.now) nodes (S.kept space.now) self.now }
         requires none { self.now.stack.items ≡ [] }
         ensures outcome { IsDepthFirstOutcome (S.problem space.now) self.now.within nodes
             (pairs_of (S.kept space.now)) result }
