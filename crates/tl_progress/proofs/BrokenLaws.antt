@@ -33,7 +33,7 @@ use Rattle.tl_terms.specs.Terms.{prepend, term_value, term_values}
 use Rattle.tl_terms.specs.Truth.{state_true}
 use Rattle.tl_terms.specs.World.{World}
 use Rattle.tl_terms.proofs.KeyLaws.{key-itself}
-use Rattle.tl_progress.specs.Broken.{AreChanged, Leaves, is_value_term, are_value_terms, is_fact_of, is_added, is_deleted}
+use Rattle.tl_progress.specs.Broken.{AreChanged, LeavesTruth, is_value_term, are_value_terms, is_fact_of, is_added, is_deleted}
 use Rattle.tl_progress.proofs.Gathering.{and-decided}
 use Rattle.tl_progress.proofs.TruthLayers.{shown}
 
@@ -144,11 +144,11 @@ tree-is : (f : Formula) (p : ℕ) (terms : Terms) (ts : List Term) → f ≡ var
 tree-is f p terms ts is items = ap tree_of_formula is ∙ (tree-Atom p terms ∙ ap (atom p) (trees-Terms terms ∙ ap (λ (us : List Term). terms_of_list (map tree_of_term us)) (sym items)))
 
 module _ (f : Formula) (p : ℕ) (terms : Terms) (ts : List Term) (is : f ≡ variant.Atom p terms) (items : ts ≡ terms.items.items) (dels adds : List Fact) where
-  pub leaves-deleted : is_deleted p ts dels adds ≡ true → Leaves false (tree_of_formula f) dels adds
+  pub leaves-deleted : is_deleted p ts dels adds ≡ true → LeavesTruth false (tree_of_formula f) dels adds
   unfolding progressed state_true situation_of
   leaves-deleted h = λ m w v change. ap (progressed (situation_of m v) no_values) (tree-is f p terms ts is items) ∙ ap constant (deleted-false w v dels adds change no_values p ts h)
 
-  pub leaves-added : is_added p ts adds ≡ true → Leaves true (tree_of_formula f) dels adds
+  pub leaves-added : is_added p ts adds ≡ true → LeavesTruth true (tree_of_formula f) dels adds
   unfolding progressed state_true situation_of
   leaves-added h = λ m w v change. ap (progressed (situation_of m v) no_values) (tree-is f p terms ts is items) ∙ ap constant (added-true w v dels adds change no_values p ts h)
 
@@ -163,15 +163,15 @@ part-leaves s e ts (i ∷ ids) q m h = elim m [
 ]
 
 module _ (ts : List FormulaTree) (at : ℕ) (a : Node) (is : slice_get ts at ≡ Some (tree_of_node ts a)) (dels adds : List Fact) where
-  pub leaves-basic : (b : Bool) (f : Formula) → a ≡ node.Basic f → Leaves b (tree_of_formula f) dels adds → Leaves b (tree_at ts at) dels adds
+  pub leaves-basic : (b : Bool) (f : Formula) → a ≡ node.Basic f → LeavesTruth b (tree_of_formula f) dels adds → LeavesTruth b (tree_at ts at) dels adds
   unfolding tree_of_node
   leaves-basic b f k h = λ m w v change. ap (progressed (situation_of m v) no_values) (shown ts at a is (node.Basic f) k) ∙ h m w v change
 
-  pub leaves-not : (q : ℕ) → a ≡ node.Not q → Leaves true (tree_at ts q) dels adds → Leaves false (tree_at ts at) dels adds
+  pub leaves-not : (q : ℕ) → a ≡ node.Not q → LeavesTruth true (tree_at ts q) dels adds → LeavesTruth false (tree_at ts at) dels adds
   unfolding tree_of_node progressed simplified_not
   leaves-not q k h = λ m w v change. ap (progressed (situation_of m v) no_values) (shown ts at a is (node.Not q) k) ∙ ap simplified_not (h m w v change)
 
-  pub leaves-and : (ids : List ℕ) → a ≡ node.And ids → (q : ℕ) → Among q ids → Leaves false (tree_at ts q) dels adds → Leaves false (tree_at ts at) dels adds
+  pub leaves-and : (ids : List ℕ) → a ≡ node.And ids → (q : ℕ) → Among q ids → LeavesTruth false (tree_at ts q) dels adds → LeavesTruth false (tree_at ts at) dels adds
   unfolding tree_of_node progressed
   leaves-and ids k q among h = λ m w v change.
       let r = part-leaves (situation_of m v) no_values ts ids q among (h m w v change) in

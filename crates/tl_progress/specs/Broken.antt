@@ -20,8 +20,8 @@ abbrev pub AreChanged : World → World → List Fact → List Fact → Type 0
 AreChanged w v dels adds = v.facts ≡ with_all (without_all w.facts (map fact_key dels)) (map fact_key adds)
 
 -- in each world after the changes the formula leaves the constant of this truth
-abbrev pub Leaves : Bool → FormulaTree → List Fact → List Fact → Type 0
-Leaves b f dels adds = (p : PlainProblem) (w v : World) → AreChanged w v dels adds → progressed (situation_of p v) no_values f ≡ constant b
+abbrev pub LeavesTruth : Bool → FormulaTree → List Fact → List Fact → Type 0
+LeavesTruth b f dels adds = (p : PlainProblem) (w v : World) → AreChanged w v dels adds → progressed (situation_of p v) no_values f ≡ constant b
 
 -- the term is the value itself
 abbrev pub is_value_term : TermTree → Value → Bool

@@ -4,7 +4,7 @@ ghost use Rattle.std.specs.Prelude.{◌≡◌, ◌<◌, ℕ, true, false, length
 ghost use Rattle.tl_nodes.specs.Fits.{all_below};
 ghost use Rattle.tl_nodes.specs.NodeTrees.{tree_at};
 ghost use Rattle.tl_nodes.specs.Numbers.{trees};
-ghost use Rattle.tl_progress.specs.Broken.{Leaves, are_value_terms, is_added, is_deleted, is_fact_of, is_value_term};
+ghost use Rattle.tl_progress.specs.Broken.{LeavesTruth, are_value_terms, is_added, is_deleted, is_fact_of, is_value_term};
 ghost use Rattle.tl_syntax.specs.DerivedTests.{fact_eq};
 ghost use Rattle.tl_syntax.specs.Lists.{Among};
 ghost use Rattle.tl_syntax.specs.TreeOfFormula.{tree_of_formula};
@@ -73,7 +73,7 @@ fn is_deleted(pred: u32, terms: &[Term], dels: &[Fact], adds: &[Fact]) -> bool
 
 // Whether the formula is a fact that the changes delete.
 fn deletes(f: &Formula, dels: &[Fact], adds: &[Fact]) -> bool
-    ensures { IsTrue result → Leaves false (tree_of_formula f.now) dels.now adds.now }
+    ensures { IsTrue result → LeavesTruth false (tree_of_formula f.now) dels.now adds.now }
 {
     match f {
         Formula::Atom(pred, terms) => is_deleted(*pred, terms.as_slice(), dels, adds),
@@ -83,7 +83,7 @@ fn deletes(f: &Formula, dels: &[Fact], adds: &[Fact]) -> bool
 
 // Whether the formula is a fact that the changes add.
 fn adds_it(f: &Formula, dels: &[Fact], adds: &[Fact]) -> bool
-    ensures { IsTrue result → Leaves true (tree_of_formula f.now) dels.now adds.now }
+    ensures { IsTrue result → LeavesTruth true (tree_of_formula f.now) dels.now adds.now }
 {
     let _ = dels;
     match f {
@@ -95,7 +95,7 @@ fn adds_it(f: &Formula, dels: &[Fact], adds: &[Fact]) -> bool
 // Whether the number's tree is a fact that the changes add.
 fn is_made(nodes: &Nodes, at: usize, dels: &[Fact], adds: &[Fact]) -> bool
     requires { at < length (trees nodes.now) }
-    ensures { IsTrue result → Leaves true (tree_at (trees nodes.now) at) dels.now adds.now }
+    ensures { IsTrue result → LeavesTruth true (tree_at (trees nodes.now) at) dels.now adds.now }
 {
     match nodes.get(at) {
         Node::Basic(f) => adds_it(f, dels, adds),
@@ -106,7 +106,7 @@ fn is_made(nodes: &Nodes, at: usize, dels: &[Fact], adds: &[Fact]) -> bool
 // Whether the number's tree is a fact that the changes delete, or the negation of one that they add.
 fn is_broken(nodes: &Nodes, at: usize, dels: &[Fact], adds: &[Fact]) -> bool
     requires { at < length (trees nodes.now) }
-    ensures { IsTrue result → Leaves false (tree_at (trees nodes.now) at) dels.now adds.now }
+    ensures { IsTrue result → LeavesTruth false (tree_at (trees nodes.now) at) dels.now adds.now }
 {
     match nodes.get(at) {
         Node::Basic(f) => deletes(f, dels, adds),
@@ -119,7 +119,7 @@ fn is_broken(nodes: &Nodes, at: usize, dels: &[Fact], adds: &[Fact]) -> bool
 fn is_one_broken(nodes: &Nodes, at: usize, parts: &Ids, dels: &[Fact], adds: &[Fact]) -> bool
     requires inside { at < length (trees nodes.now) }
     requires below { all_below at parts.now ≡ true }
-    ensures { IsTrue result → (q : ℕ) × Among q parts.now × Leaves false (tree_at (trees nodes.now) q) dels.now adds.now }
+    ensures { IsTrue result → (q : ℕ) × Among q parts.now × LeavesTruth false (tree_at (trees nodes.now) q) dels.now adds.now }
 {
     let changed = Changed::of(dels, adds);
     for part in parts.as_slice().iter() {
@@ -134,7 +134,7 @@ fn is_one_broken(nodes: &Nodes, at: usize, parts: &Ids, dels: &[Fact], adds: &[F
 /// Most residuals that prune a search are decided so, and the world need not be made. It takes no memory.
 pub fn is_broken_by(nodes: &Nodes, id: usize, dels: &[Fact], adds: &[Fact]) -> bool
     requires { id < length (trees nodes.now) }
-    ensures { IsTrue result → Leaves false (tree_at (trees nodes.now) id) dels.now adds.now }
+    ensures { IsTrue result → LeavesTruth false (tree_at (trees nodes.now) id) dels.now adds.now }
 {
     match nodes.get(id) {
         Node::And(parts) => is_one_broken(nodes, id, parts, dels, adds),

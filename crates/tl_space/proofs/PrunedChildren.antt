@@ -14,7 +14,7 @@ use Rattle.tl_terms.specs.Problem.{PlainProblem}
 use Rattle.tl_terms.specs.Progression.{progressed}
 use Rattle.tl_terms.specs.Step.{step, with_all, without_all}
 use Rattle.tl_terms.specs.World.{World}
-use Rattle.tl_progress.specs.Broken.{AreChanged, Leaves}
+use Rattle.tl_progress.specs.Broken.{AreChanged, LeavesTruth}
 use Rattle.tl_search.specs.Arrivals.{Arrives}
 use Rattle.tl_search.specs.KeptPairs.{KeptPair}
 use Rattle.tl_search.specs.PairGraph.{pair_in, next_pair}
@@ -27,7 +27,7 @@ unfolding world_after
 after-changes w c dels adds d a = λ i. with_all (without_all w.facts (map fact_key (sym d i))) (map fact_key (sym a i))
 
 -- the changes of the action of a pair
-pub pruned-after : (p : PlainProblem) (x : Pair) (a : Action) (w : World) (f : FormulaTree) (c : Changes) (dels adds : List Fact) → x.world ≡ w → x.formula ≡ f → dels ≡ c.dels → adds ≡ c.adds → Some (world_after w c) ≡ step p w a → Leaves false f dels adds → IsPrunedAfter p x a
+pub pruned-after : (p : PlainProblem) (x : Pair) (a : Action) (w : World) (f : FormulaTree) (c : Changes) (dels adds : List Fact) → x.world ≡ w → x.formula ≡ f → dels ≡ c.dels → adds ≡ c.adds → Some (world_after w c) ≡ step p w a → LeavesTruth false f dels adds → IsPrunedAfter p x a
 pruned-after p x a w f c dels adds is_w is_f d e s leaves =
     (world_after w c, ap (λ (v : World). step p v a) is_w ∙ sym s, ap (progressed (situation_of p (world_after w c)) no_values) is_f ∙ leaves p w (world_after w c) (after-changes w c dels adds d e))
 
