@@ -68,9 +68,9 @@ abbrev pub OpensAsMany : List KeptPair → List KeptPair → Found → Found →
 OpensAsMany old new was is = length new + listed_len was.open_list ≡ length old + listed_len is.open_list
 
 -- so it is where the search is not spent
-abbrev pub Opens : List KeptPair → List KeptPair → Found → Found → Bool → Type 0
-Opens old new was is true = Unit {0}
-Opens old new was is false = OpensAsMany old new was is
+abbrev pub OpensUnlessSpent : List KeptPair → List KeptPair → Found → Found → Bool → Type 0
+OpensUnlessSpent old new was is true = Unit {0}
+OpensUnlessSpent old new was is false = OpensAsMany old new was is
 
 -- so it is where a turn does not end the search
 abbrev pub OpensIfNone : List KeptPair → List KeptPair → Found → Found → Option CostOutcome → Type 0

@@ -4,7 +4,7 @@ ghost use Rattle.tl_syntax.specs.declared.action.Action.{Action};
 ghost use Rattle.tl_search.specs.Calls.{IsExecutableAt};
 ghost use Rattle.tl_search.specs.NamedAnswers.{IsNamedIn, FaultIsNamed};
 ghost use Rattle.tl_cost.specs.Ongoing.{HasAction, IsBetweenTurns, IsInTurn, IsTriedAt};
-ghost use Rattle.tl_cost.specs.Outcomes.{EndIsNamed, IsCheapestFault, IsUnaccepted, Leaves, Opens, OpensIfNone, SpentOr, TellsWay, TellsWayOn};
+ghost use Rattle.tl_cost.specs.Outcomes.{EndIsNamed, IsCheapestFault, IsUnaccepted, Leaves, OpensUnlessSpent, OpensIfNone, SpentOr, TellsWay, TellsWayOn};
 ghost use Rattle.tl_cost.specs.Ticks.{Extends, StaySettled, TicksTurn};
 ghost use Rattle.tl_cost.specs.Ways.{AreLinked, Follows, ForWay, GoesOn, HasRoom, IsMet, MeetsAgain};
 
@@ -91,7 +91,7 @@ impl UniformCost<'_> {
             (IsInTurn (S.problem space.old) (S.task space.old)
             self.now.costs.now self.now.nodes (S.kept space.new) found.new at (Some []))) }
         ensures grows { Extends (S.kept space.old) (S.kept space.new) }
-        ensures opens { IfOk result (Opens (S.kept space.old) (S.kept space.new) found.old found.new) }
+        ensures opens { IfOk result (OpensUnlessSpent (S.kept space.old) (S.kept space.new) found.old found.new) }
         ensures stay { OnOk result (StaySettled found.old found.new) }
         ensures ticks { TicksTurn (S.problem space.old) (S.kept space.new) at steps.old steps.new }
         ensures fault { IfErr result (IsCheapestFault (S.problem space.old) self.now.costs.now self.now.nodes) }
@@ -132,7 +132,7 @@ impl UniformCost<'_> {
             (IsTriedAt (S.problem space.old) (S.task space.old) self.now.costs.now self.now.nodes
             (S.kept space.old) (S.kept space.new) found.old found.new at a.now)) }
         ensures grows { Extends (S.kept space.old) (S.kept space.new) }
-        ensures opens { IfOk result (Opens (S.kept space.old) (S.kept space.new) found.old found.new) }
+        ensures opens { IfOk result (OpensUnlessSpent (S.kept space.old) (S.kept space.new) found.old found.new) }
         ensures stay { OnOk result (StaySettled found.old found.new) }
         ensures ticks { steps.new ≡ steps.old + 1 }
         ensures fault { IfErr result (IsCheapestFault (S.problem space.old) self.now.costs.now self.now.nodes) }
