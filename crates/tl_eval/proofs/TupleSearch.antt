@@ -1,7 +1,7 @@
 -- The next tuple of a bound is the next match of its pattern.
 use Rattle.std.proofs.Common.{◌≡◌, ℕ, List, length, Bool, true≢false, Option, Some, None, sym, ap, ◌∙◌, subst}
 use Rattle.std.specs.Option.{IfSome}
-use Rattle.tl_eval.specs.PatternOf.{world_read, StandsFor, IsPatternOf}
+use Rattle.tl_eval.specs.PatternOf.{world_read, StandsForBound, IsPatternOf}
 use Rattle.tl_syntax.specs.declared.bound.Bound.{Bound}
 use Rattle.tl_syntax.specs.declared.value.Value.{Value}
 use Rattle.tl_syntax.specs.declared.variable.Var.{Var}
@@ -26,7 +26,7 @@ module _ (k : ℕ) (f g : List Value → Bool) (same : (t : List Value) → leng
   next-alike after None h = λ t l. h t (later-back after t l)
   next-alike after (Some m) h = (later-there after m h.0, λ t l. h.1 t (later-back after t l))
 
-pattern-is : (ss : List Var) (e : Assignment) (b : Bound) (r : Option Pattern) (p : Pattern) → r ≡ Some p → IsPatternOf ss e b r → StandsFor ss e b p
+pattern-is : (ss : List Var) (e : Assignment) (b : Bound) (r : Option Pattern) (p : Pattern) → r ≡ Some p → IsPatternOf ss e b r → StandsForBound ss e b p
 pattern-is ss e b r p q h = subst (IsPatternOf ss e b) q h
 
 pub pattern-lawful : (ss : List Var) (e : Assignment) (b : Bound) (r : Option Pattern) (p : Pattern) → r ≡ Some p → IsPatternOf ss e b r → IsLawful p

@@ -55,7 +55,7 @@ world_read s (bound.GoalPlace f xs x) = s.goal
 world_read s (bound.GoalNot p xs) = s.avoid
 
 -- the pattern is lawful and has as many variables, and the tuples that make it true are those that make the bound true
-pub record StandsFor (ss : List Var) (e : Assignment) (b : Bound) (p : Pattern) : Type 0 where
+pub record StandsForBound (ss : List Var) (e : Assignment) (b : Bound) (p : Pattern) : Type 0 where
   pub lawful : IsLawful p
   pub free : p.free ≡ length ss
   pub same : (s : Situation) (t : List Value) → length t ≡ length ss → makes_true (world_read s b) p t ≡ bound_true s (bind ss t e) b
@@ -63,4 +63,4 @@ pub record StandsFor (ss : List Var) (e : Assignment) (b : Bound) (p : Pattern) 
 -- the pattern stands for the bound, or no tuple makes the bound true
 abbrev pub IsPatternOf : List Var → Assignment → Bound → Option Pattern → Type 0
 IsPatternOf ss e b None = (s : Situation) (t : List Value) → length t ≡ length ss → bound_true s (bind ss t e) b ≡ false
-IsPatternOf ss e b (Some p) = StandsFor ss e b p
+IsPatternOf ss e b (Some p) = StandsForBound ss e b p
