@@ -18,8 +18,8 @@ abbrev pub IsStepped : List Level → Type 0
 IsStepped levels = (front : List Level) × (c : Level) × (levels ≡ front ++ c ∷ []) × (c.tried < length c.actions) × (length c.actions < 2 ^ 64)
 
 -- there is a last level, and each level below it has an action that it is not done with
-abbrev pub IsLeft : List Level → Type 0
-IsLeft levels = (front : List Level) × (c : Level) × (levels ≡ front ++ c ∷ []) × Each (λ (h : Level). (h.tried < length h.actions) × (length h.actions < 2 ^ 64)) front
+abbrev pub IsUnfinished : List Level → Type 0
+IsUnfinished levels = (front : List Level) × (c : Level) × (levels ≡ front ++ c ∷ []) × Each (λ (h : Level). (h.tried < length h.actions) × (length h.actions < 2 ^ 64)) front
 
 -- the last level is done with its next action
 abbrev pub PassesTop : List Level → List Level → Type 0

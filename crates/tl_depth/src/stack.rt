@@ -1,7 +1,7 @@
 // What a search has beside its space: the stack, and with how many remaining actions each pair was met.
 ghost use Rattle.std.specs.Prelude.{◌≡◌, [], ◌∷◌, IfOk, OnOk};
 ghost use Rattle.tl_depth.specs.Levels.{path_of};
-ghost use Rattle.tl_depth.specs.Stacks.{IsStepped, IsLeft, IsRangeAfter, PassesTop, LosesTop, LeavesTop, TellsTop};
+ghost use Rattle.tl_depth.specs.Stacks.{IsStepped, IsUnfinished, IsRangeAfter, PassesTop, LosesTop, LeavesTop, TellsTop};
 ghost use Rattle.tl_depth.specs.Expansions.{GainsTop, LearnsTop};
 
 mod arrivals;
@@ -71,7 +71,7 @@ impl DepthFirst {
 
     /// The top level is done with. Its actions are remembered.
     pub fn leave(&mut self)
-        requires { IsLeft self.old.stack.items }
+        requires { IsUnfinished self.old.stack.items }
         ensures root { (c : Level) → self.old.stack.items ≡ c ∷ [] → self.new.stack.items ≡ [] }
         ensures stack { LeavesTop self.old.stack.items self.new.stack.items }
         ensures remembered { GainsTop self.old.stack.items self.old.expansions self.new.expansions }
