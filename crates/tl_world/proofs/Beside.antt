@@ -15,7 +15,7 @@ use Rattle.tl_syntax.proofs.TotalOrders.{key_total, key_ties}
 use Rattle.tl_terms.specs.Step.{with_all}
 use Rattle.tl_world.specs.declared.named.Named.{Named}
 use Rattle.tl_world.specs.Moves.{place_after, IsMoved, AreSameBeside}
-use Rattle.tl_world.specs.Plain.{IsFilled}
+use Rattle.tl_world.specs.Plain.{HasItem}
 use Rattle.tl_world.specs.Tables.{row_cmp, InOrder, fact_row, fact_tables, entries_of, set_of}
 use Rattle.tl_world.proofs.Change as change
 use Rattle.tl_world.proofs.Edits.{other_than}
@@ -93,7 +93,7 @@ not-emptied rows after k n fs b m p t z =
 
 module _ (ts : List (Named (List (List Value)))) (n i : ℕ) (old fresh : Named (List (List Value))) (fs : List Fact) (k : ℕ) (a : List Value)
     (f : change.Found fact_row ts n i old) (e : fresh.name ≡ n) (m : IsMoved old.rows.value k n fs fresh.rows.value) (p : k < length old.rows.value) (t : HoldsAt (λ (r : List Value). row_cmp r a ≡ Equal) old.rows.value k)
-    (filled : IsFilled (map fact_row fresh.rows.value)) where
+    (filled : HasItem (map fact_row fresh.rows.value)) where
   -- the table with the new row, before the old one goes
   between : Named (List (List Value))
   between = record { name = n; rows = record old.rows { value = insert old.rows.value m.at m.fact.args } }

@@ -11,7 +11,7 @@ use Rattle.std.specs.FinMap.Entries.{where_key}
 use Rattle.tl_syntax.specs.declared.value.Value.{Value}
 use Rattle.tl_syntax.specs.Keys.{Key, key_cmp}
 use Rattle.tl_world.specs.declared.named.Named.{Named}
-use Rattle.tl_world.specs.Plain.{row_cmp, PlainRows, entries_of, InOrder, IsFilled}
+use Rattle.tl_world.specs.Plain.{row_cmp, PlainRows, entries_of, InOrder, HasItem}
 use Rattle.tl_world.proofs.Search.{find-at, search-ok, search-err, searchable}
 use Rattle.tl_world.proofs.Lookup.{each-at, in_rows, row_total}
 use Rattle.tl_world.proofs.Edits.{other_than, insert-put, replace-put, remove-where}
@@ -65,7 +65,7 @@ module _ {R X : Type 0} (g : R → List Value × X) where
       find-put v w q = ap (λ us. dict.find key_cmp q (entries_of us)) (replaced fresh e ∙ ap (λ rs. dict.put nat_cmp n rs (map named ts)) w)
           ∙ find-put-in n a v (map g old.rows.value) (map named ts) q f.order rows-rise rows-found
 
-      pub order-taken : map g fresh.rows.value ≡ where_key row_cmp (other_than row_cmp a) (map g old.rows.value) → IsFilled (map g fresh.rows.value) → InOrder (map named (insert (remove ts i) i fresh))
+      pub order-taken : map g fresh.rows.value ≡ where_key row_cmp (other_than row_cmp a) (map g old.rows.value) → HasItem (map g fresh.rows.value) → InOrder (map named (insert (remove ts i) i fresh))
       order-taken w filled = subst InOrder (sym (replaced fresh e))
           (put-order n (map g fresh.rows.value) (map named ts) filled (subst (λ rs. T (dict.is_sorted row_cmp rs)) (sym w) (row-where-order a (map g old.rows.value) rows-rise)) f.order)
 

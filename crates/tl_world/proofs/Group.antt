@@ -11,7 +11,7 @@ use Rattle.tl_syntax.specs.declared.value.Value.{Value}
 use Rattle.tl_syntax.specs.Keys.{Key, key_cmp}
 use Rattle.tl_syntax.proofs.TotalOrders.{key_total, key_ties}
 use Rattle.tl_terms.specs.World.{World}
-use Rattle.tl_world.specs.Plain.{PlainRows, PlainTables, keyed, entries_of, InOrder, IsFilled, set_of, map_of}
+use Rattle.tl_world.specs.Plain.{PlainRows, PlainTables, keyed, entries_of, InOrder, HasItem, set_of, map_of}
 use Rattle.tl_world.specs.WorldCode.{push_row, group, marked, ordered}
 use Rattle.tl_world.proofs.Search.{first_true, second_true, is_less}
 use Rattle.tl_world.proofs.Lookup.{contains-set_of, entries-rise}
@@ -30,7 +30,7 @@ module _ {X : Type 0} where
   push-same : (n : ℕ) (r : List Value × X) (rs : PlainRows X) (ts : PlainTables X) → push_row ((n, r.0), r.1) ((n, rs) ∷ ts) ≡ (n, r ∷ rs) ∷ ts
   push-same n r rs ts = ap (λ b. cond b ((n, r ∷ rs) ∷ ts) ((n, r ∷ []) ∷ (n, rs) ∷ ts)) (same_number n)
 
-  group-keyed : (n : ℕ) (rs : PlainRows X) (fs : List (Key × X)) (ts : PlainTables X) → IsFilled rs → group fs ≡ ts → T (below_all nat_cmp n ts) → group (keyed n rs ++ fs) ≡ (n, rs) ∷ ts
+  group-keyed : (n : ℕ) (rs : PlainRows X) (fs : List (Key × X)) (ts : PlainTables X) → HasItem rs → group fs ≡ ts → T (below_all nat_cmp n ts) → group (keyed n rs ++ fs) ≡ (n, rs) ∷ ts
   group-keyed n [] fs ts filled e h = absurd filled
   group-keyed n (r ∷ []) fs ts filled e h = ap (push_row ((n, r.0), r.1)) e ∙ push-apart n r ts h
   group-keyed n (r ∷ s ∷ rs) fs ts filled e h = ap (push_row ((n, r.0), r.1)) (group-keyed n (s ∷ rs) fs ts tt e h) ∙ push-same n r (s ∷ rs) ts

@@ -11,7 +11,7 @@ use Rattle.tl_syntax.proofs.TotalOrders.{value_ties}
 use Rattle.tl_syntax.proofs.ListLaws.{or-iff, Each-Among}
 use Rattle.tl_terms.proofs.TuplesRise.{keys-rise}
 use Rattle.tl_world.specs.declared.table.PlaceRow.{PlaceRow}
-use Rattle.tl_world.specs.Plain.{row_cmp, IsFilled}
+use Rattle.tl_world.specs.Plain.{row_cmp, HasItem}
 use Rattle.tl_world.specs.Tables.{fact_row, place_row}
 
 pub row_ties : set.IsAntisymmetric row_cmp
@@ -73,6 +73,6 @@ args-of (r ∷ rows) = ap (λ xs. r.args ∷ xs) (args-of rows)
 pub place-rows-rise : (rows : List PlaceRow) → T (dict.is_sorted row_cmp (map place_row rows)) → Rises row_cmp (map (λ r. r.args) rows)
 place-rows-rise rows h = subst (Rises row_cmp) (args-of rows) (keys-rise row_cmp (map place_row rows) h)
 
-pub filled-length : {A X : Type 0} (f : A → X) (xs : List A) → IsFilled (map f xs) → 0 < length xs
+pub filled-length : {A X : Type 0} (f : A → X) (xs : List A) → HasItem (map f xs) → 0 < length xs
 filled-length f [] h = absurd h
 filled-length f (x ∷ xs) h = omega arith

@@ -8,7 +8,7 @@ use Rattle.std.specs.FinMap.Entries.{below_all, where_key, by_order, is_sorted-p
 use Rattle.tl_syntax.specs.declared.value.Value.{Value}
 use Rattle.tl_syntax.specs.Keys.{Key, key_cmp}
 use Rattle.tl_syntax.proofs.TotalOrders.{key_total, key_ties}
-use Rattle.tl_world.specs.Plain.{row_cmp, PlainRows, PlainTables, entries_of, EachInOrder, InOrder, IsFilled, set_of, map_of}
+use Rattle.tl_world.specs.Plain.{row_cmp, PlainRows, PlainTables, entries_of, EachInOrder, InOrder, HasItem, set_of, map_of}
 use Rattle.tl_world.proofs.Lookup.{find-entries, in_rows, row_total, contains-set_of, get-map_of}
 use Rattle.tl_world.proofs.Edits.{other_than}
 
@@ -17,11 +17,11 @@ turned true x y = refl
 turned false x y = refl
 
 module _ {X : Type 0} where
-  pub filled-put : (a : List Value) (v : X) (rs : PlainRows X) → IsFilled (dict.put row_cmp a v rs)
+  pub filled-put : (a : List Value) (v : X) (rs : PlainRows X) → HasItem (dict.put row_cmp a v rs)
   filled-put a v [] = tt
-  filled-put a v (r ∷ rs) = elim (row_cmp a r.0) as (λ o. IsFilled (by_order o ((a, v) ∷ r ∷ rs) ((r.0, v) ∷ rs) (r ∷ dict.put row_cmp a v rs))) [ Less ↦ tt | Equal ↦ tt | Greater ↦ tt ]
+  filled-put a v (r ∷ rs) = elim (row_cmp a r.0) as (λ o. HasItem (by_order o ((a, v) ∷ r ∷ rs) ((r.0, v) ∷ rs) (r ∷ dict.put row_cmp a v rs))) [ Less ↦ tt | Equal ↦ tt | Greater ↦ tt ]
 
-  each-put : (n : ℕ) (rs : PlainRows X) (ts : PlainTables X) → IsFilled rs → T (dict.is_sorted row_cmp rs) → EachInOrder ts → EachInOrder (dict.put nat_cmp n rs ts)
+  each-put : (n : ℕ) (rs : PlainRows X) (ts : PlainTables X) → HasItem rs → T (dict.is_sorted row_cmp rs) → EachInOrder ts → EachInOrder (dict.put nat_cmp n rs ts)
   each-put n rs [] f s h = ((f, s), tt)
   each-put n rs (t ∷ ts) f s h =
       elim (nat_cmp n t.0) as (λ o. EachInOrder (by_order o ((n, rs) ∷ t ∷ ts) ((t.0, rs) ∷ ts) (t ∷ dict.put nat_cmp n rs ts))) [
@@ -34,7 +34,7 @@ module _ {X : Type 0} where
   each-where p [] h = tt
   each-where p (t ∷ ts) h = elim (p t.0) as (λ b. EachInOrder (cond b (t ∷ where_key nat_cmp p ts) (where_key nat_cmp p ts))) [ true ↦ (h.0, each-where p ts h.1) | false ↦ each-where p ts h.1 ]
 
-  pub put-order : (n : ℕ) (rs : PlainRows X) (ts : PlainTables X) → IsFilled rs → T (dict.is_sorted row_cmp rs) → InOrder ts → InOrder (dict.put nat_cmp n rs ts)
+  pub put-order : (n : ℕ) (rs : PlainRows X) (ts : PlainTables X) → HasItem rs → T (dict.is_sorted row_cmp rs) → InOrder ts → InOrder (dict.put nat_cmp n rs ts)
   put-order n rs ts f s h = (is_sorted-put nat_cmp nat_cmp_total n rs ts h.0, each-put n rs ts f s h.1)
 
   pub where-order : (p : ℕ → Bool) (ts : PlainTables X) → InOrder ts → InOrder (where_key nat_cmp p ts)

@@ -31,18 +31,18 @@ entries_of [] = []
 entries_of (t ∷ ts) = keyed t.0 t.1 ++ entries_of ts
 
 -- the list has an item
-abbrev pub IsFilled : {X : Type 0} → List X → Type 0
-IsFilled [] = ⊥
-IsFilled (x ∷ xs) = ⊤
+abbrev pub HasItem : {X : Type 0} → List X → Type 0
+HasItem [] = ⊥
+HasItem (x ∷ xs) = ⊤
 
 -- there are rows, in their order and each once
 abbrev pub AreRows : {X : Type 0} → PlainRows X → Type 0
-AreRows rs = IsFilled rs × T (dict.is_sorted row_cmp rs)
+AreRows rs = HasItem rs × T (dict.is_sorted row_cmp rs)
 
 -- each table has rows, in their order and each once
 abbrev pub EachInOrder : {X : Type 0} → PlainTables X → Type 0
 EachInOrder [] = ⊤
-EachInOrder (t ∷ ts) = (IsFilled t.1 × T (dict.is_sorted row_cmp t.1)) × EachInOrder ts
+EachInOrder (t ∷ ts) = (HasItem t.1 × T (dict.is_sorted row_cmp t.1)) × EachInOrder ts
 
 -- the tables rise by their numbers
 abbrev pub InOrder : {X : Type 0} → PlainTables X → Type 0

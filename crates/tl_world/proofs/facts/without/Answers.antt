@@ -6,7 +6,7 @@ use Rattle.tl_syntax.specs.declared.value.Value.{Value}
 use Rattle.tl_syntax.specs.Keys.{key_cmp}
 use Rattle.tl_world.specs.declared.named.Named.{Named}
 use Rattle.tl_world.specs.Tables.{row_cmp, InOrder, fact_row, fact_table, fact_tables, entries_of, set_of}
-use Rattle.tl_world.specs.Plain.{IsFilled}
+use Rattle.tl_world.specs.Plain.{HasItem}
 use Rattle.tl_world.proofs.Change as change
 use Rattle.tl_world.proofs.Lookup.{at-table, no-table}
 use Rattle.tl_world.specs.Moves.{IsTakenOut, IsMoved, AreSameBeside}
@@ -18,7 +18,7 @@ emptied : (xs ys : List (List Value)) (k : ℕ) (es : List (List Value × Unit {
 emptied xs [] k es b e t z p = sym p ∙ ap (map fact_row) (sym e)
 emptied xs (y ∷ ys) k es b e t z p = absurd (let n : length (y ∷ ys) ≡ 0 = eqb-true _ _ (sym z ∙ t) in omega arith)
 
-filled : (xs : List (List Value)) (b : Bool) → b ≡ false → b ≡ eqb (length xs) 0 → IsFilled (map fact_row xs)
+filled : (xs : List (List Value)) (b : Bool) → b ≡ false → b ≡ eqb (length xs) 0 → HasItem (map fact_row xs)
 filled [] b t z = absurd (true≢false (sym z ∙ t))
 filled (x ∷ xs) b t z = tt
 
@@ -74,7 +74,7 @@ returns-in_ok-insert-in-Ok-find_row-clause-order c =
     let below : k < length c.remove-old.result.rows.value = subst (λ xs. k < length xs) same c.in-Ok-find_row.ensures.range in
     let fresh : Named (List (List Value)) = record { name = c.args.pred; rows = c.in_ok-shared-in-Ok-find_row.shared } in
     let held = c.in_ok-shared-in-Ok-find_row.ensures.ok in
-    let full = subst (λ xs. IsFilled (map fact_row xs)) (sym held) (filled c.in_ok-rows-in-Ok-find_row.rows c.is_empty.result c.if-is_empty.false c.is_empty.ensures) in
+    let full = subst (λ xs. HasItem (map fact_row xs)) (sym held) (filled c.in_ok-rows-in-Ok-find_row.rows c.is_empty.result c.if-is_empty.false c.is_empty.ensures) in
     subst (λ ts. InOrder (fact_tables ts)) (sym (c.in_ok-insert-in-Ok-find_row.ensures.items ∙ ap (λ ts. insert ts c.in-Ok.i fresh) c.remove-old.ensures.items)) (elim taken [
       | inl rows ↦ change.order-taken fact_row _ _ _ _ found fresh refl c.args.args.now (ap (map fact_row) (held ∙ rows) ∙ change.row-taken fact_row _ _ _ _ found c.args.args.now k _ same c.in-Ok-find_row.ensures.range c.in-Ok-find_row.ensures.place) full
       | inr m ↦ order-moved c.args.tables.now.items c.args.pred c.in-Ok.i c.remove-old.result fresh c.args.adds.now k c.args.args.now found refl (subst (IsMoved c.remove-old.result.rows.value k c.args.pred c.args.adds.now) (sym held) m) below
@@ -90,7 +90,7 @@ returns-in_ok-insert-in-Ok-find_row-clause-facts c =
     let below : k < length c.remove-old.result.rows.value = subst (λ xs. k < length xs) same c.in-Ok-find_row.ensures.range in
     let fresh : Named (List (List Value)) = record { name = c.args.pred; rows = c.in_ok-shared-in-Ok-find_row.shared } in
     let held = c.in_ok-shared-in-Ok-find_row.ensures.ok in
-    let full = subst (λ xs. IsFilled (map fact_row xs)) (sym held) (filled c.in_ok-rows-in-Ok-find_row.rows c.is_empty.result c.if-is_empty.false c.is_empty.ensures) in
+    let full = subst (λ xs. HasItem (map fact_row xs)) (sym held) (filled c.in_ok-rows-in-Ok-find_row.rows c.is_empty.result c.if-is_empty.false c.is_empty.ensures) in
     let now = c.in_ok-insert-in-Ok-find_row.ensures.items ∙ ap (λ ts. insert ts c.in-Ok.i fresh) c.remove-old.ensures.items in
     subst (λ ts. AreSameBeside c.args.adds.now (set_of (fact_tables ts)) (set.remove (set_of (fact_tables c.args.tables.now.items)) (c.args.pred, c.args.args.now))) (sym now) (elim taken [
       | inl rows ↦ same-beside c.args.adds.now _ _ (
