@@ -17,7 +17,7 @@ use Rattle.tl_search.specs.declared.fault.SearchFault.TheVariants as fault
 use Rattle.tl_search.proofs.PathLaws.{pair-onward}
 use Rattle.tl_search.proofs.RangeLaws.{has-states}
 use Rattle.tl_cert.specs.Causes.{IsListed, IsNoneCause, IsNoneFaultOf, IsVisited}
-use Rattle.tl_cert.specs.Checking.{IsActingCause, IsAt, IsIdlingCause, IsJudgingCause, IsProgressingCause, IsRootCause, IsTurnCause, IsVisitCause}
+use Rattle.tl_cert.specs.Checking.{IsActingCause, IsFaultAfter, IsIdlingCause, IsJudgingCause, IsProgressingCause, IsRootCause, IsTurnCause, IsVisitCause}
 use Rattle.tl_cert.specs.Links.{Lists}
 use Rattle.tl_cert.specs.declared.proof.Link.{Link}
 use Rattle.tl_cert.proofs.GoodLinks.{lists-end}
@@ -82,7 +82,7 @@ module _ (p : PlainProblem) (bound : Option ℕ) (links : List Link) where
 -- ---- the path to a fault
 
 -- after an action of the node
-pub after-cause : (p : PlainProblem) (x : KeptPair) (a : Action) (note : RangeNote) (f : SearchFault) → IsAt (x.path ++ a ∷ []) note f → (w : World) × (step p x.node.world a ≡ Some w) × Tells (looked_by_progressing p w x.node.formula) note → IsVisitCause p a x f
+pub after-cause : (p : PlainProblem) (x : KeptPair) (a : Action) (note : RangeNote) (f : SearchFault) → IsFaultAfter (x.path ++ a ∷ []) note f → (w : World) × (step p x.node.world a ≡ Some w) × Tells (looked_by_progressing p w x.node.formula) note → IsVisitCause p a x f
 after-cause p x a note (fault.Range path o) h c = inr (h.0, (c.0, c.1, subst (Tells (looked_by_progressing p c.0 x.node.formula)) (sym h.1) c.2))
 after-cause p x a note fault.NoMemory h c = tt
 

@@ -2,7 +2,7 @@
 ghost use Rattle.std.specs.Prelude.{◌≡◌, ◌<◌, [], ◌∷◌, ◌++◌, length, IfOk};
 ghost use Rattle.tl_search.specs.Calls.{ForPair, AreNamedIn, IsChildFault};
 ghost use Rattle.tl_search.specs.NamedAnswers.{FaultIsNamed, IsNamedIn};
-ghost use Rattle.tl_cert.specs.Checking.{IsAt, IsVisitFault};
+ghost use Rattle.tl_cert.specs.Checking.{IsFaultAfter, IsVisitFault};
 
 use std::alloc::Global;
 use tl_eval::RangeNote;
@@ -17,7 +17,7 @@ pub(crate) fn fault_at<S: Pairs>(
     note: RangeNote,
 ) -> SearchFault
     requires { at < length (S.kept space.now) }
-    ensures fault { ForPair (S.kept space.now) at (λ x. IsAt x.path note result) }
+    ensures fault { ForPair (S.kept space.now) at (λ x. IsFaultAfter x.path note result) }
     ensures named { FaultIsNamed (S.task space.now) result }
 {
     match space.path(alloc, at) {
@@ -54,7 +54,8 @@ fn fault_after<S: Pairs>(
 ) -> SearchFault
     requires at { at < length (S.kept space.now) }
     requires named { IsNamedIn (S.task space.now) a.now }
-    ensures fault { ForPair (S.kept space.now) at (λ x. IsAt (x.path ++ a.now ∷ []) note result) }
+    ensures fault { ForPair (S.kept space.now) at
+        (λ x. IsFaultAfter (x.path ++ a.now ∷ []) note result) }
     ensures named { FaultIsNamed (S.task space.now) result }
 {
     match path_after(alloc, space, at, a) {

@@ -6,7 +6,7 @@ use Rattle.std.specs.List.{list_any, list_all}
 use Rattle.std.proofs.lemmas.Option.{slice_get_read, slice_get_within, get_or_from_slice_get}
 use native.Mathlib.Decide.{dec_lt}
 use Rattle.tl_check.specs.Ahead.{true_ahead, marks}
-use Rattle.tl_check.specs.Cursors.{Quantifier, tuples_ahead, from_tuple, joined_truths, left_at, IsAt, AreAt, work_left}
+use Rattle.tl_check.specs.Cursors.{Quantifier, tuples_ahead, from_tuple, joined_truths, left_at, IsCursorAt, AreAt, work_left}
 use Rattle.tl_check.specs.Found.{IsFound, HaveCounts, IsLesser}
 use Rattle.tl_check.specs.Passes.{joins}
 use Rattle.tl_check.specs.declared.cursor.Cursor.{Cursor}
@@ -79,7 +79,7 @@ module _ (s : Situation) (e : Assignment) (ss : List Var) (b : Bound) (d : Diffe
 module _ (p : PlainProblem) (e : Assignment) (q : Quantifier) (d : DifferInSlot q.vars) (o : OccurIn q.vars q.bound) (w : World) (ws : List World) where
   -- the cursor before the first instance
   pub at-begun : (c : Cursor) → c.truth ≡ not (deciding_truth q.junction) → IfSome c.next (λ m. m.len ≡ length q.vars) → IsNext (length q.vars) (λ t. bound_true (situation_of p w) (bind q.vars t e) q.bound) None (option_map tuple_of c.next)
-      → IsAt p e q (w ∷ ws) c
+      → IsCursorAt p e q (w ∷ ws) c
   at-begun c first count next = record {
     truth = quantified-joined p e q.junction q.vars q.bound q.part w ws
         ∙ (ap (joined_truths q.junction (λ t. true_ahead p (bind q.vars t e) q.part (w ∷ ws))) (all-after-none (tuples (situation_of p w) e q.vars q.bound) ∙ rest-is (situation_of p w) e q.vars q.bound d o None (option_map tuple_of c.next) next)
@@ -95,7 +95,7 @@ module _ (p : PlainProblem) (e : Assignment) (q : Quantifier) (d : DifferInSlot 
     left-is = ap (λ (x : Option (List Value)). from_tuple x (tuples (situation_of p w) e q.vars q.bound)) is
         ∙ ap (λ (ts : List (List Value)). t ∷ ts) (rest-is (situation_of p w) e q.vars q.bound d o (Some t) (option_map tuple_of n.next) next)
 
-    pub at-moved : n.truth ≡ joins q.junction c.truth label → IfSome n.next (λ m. m.len ≡ length q.vars) → label ≡ true_ahead p (bind q.vars t e) q.part (w ∷ ws) → IsAt p e q (w ∷ ws) c → IsAt p e q (w ∷ ws) n
+    pub at-moved : n.truth ≡ joins q.junction c.truth label → IfSome n.next (λ m. m.len ≡ length q.vars) → label ≡ true_ahead p (bind q.vars t e) q.part (w ∷ ws) → IsCursorAt p e q (w ∷ ws) c → IsCursorAt p e q (w ∷ ws) n
     at-moved joined count told at =
         let truth : List Value → Bool = λ u. true_ahead p (bind q.vars u e) q.part (w ∷ ws) in
         let rest : Bool = joined_truths q.junction truth (left_at p e q.vars q.bound (w ∷ ws) n) in
@@ -120,12 +120,12 @@ no-more a b h = omega arith
 abbrev pub FirstAt : PlainProblem → Assignment → Quantifier → List Cursor → List World → Type 0
 FirstAt p e q [] ws = Unit {0}
 FirstAt p e q (c ∷ cs) [] = ⊥
-FirstAt p e q (c ∷ cs) (w ∷ ws) = IsAt p e q (w ∷ ws) c × FirstAt p e q cs ws
+FirstAt p e q (c ∷ cs) (w ∷ ws) = IsCursorAt p e q (w ∷ ws) c × FirstAt p e q cs ws
 
 module _ (p : PlainProblem) (e : Assignment) (q : Quantifier) where
-  pub first-more : (cs : List Cursor) (c : Cursor) (ws : List World) (i : ℕ) (w : World) → length cs ≡ i → i < length ws → w ≡ get_or ws i w → IsAt p e q (w ∷ drop (suc i) ws) c → FirstAt p e q cs ws → FirstAt p e q (cs ++ c ∷ []) ws
+  pub first-more : (cs : List Cursor) (c : Cursor) (ws : List World) (i : ℕ) (w : World) → length cs ≡ i → i < length ws → w ≡ get_or ws i w → IsCursorAt p e q (w ∷ drop (suc i) ws) c → FirstAt p e q cs ws → FirstAt p e q (cs ++ c ∷ []) ws
   first-more cs c [] i w h l r k f = absurd (omega arith)
-  first-more [] c (v ∷ ws) zero w h l r k f = (subst (λ (x : World). IsAt p e q (x ∷ ws) c) r k, tt)
+  first-more [] c (v ∷ ws) zero w h l r k f = (subst (λ (x : World). IsCursorAt p e q (x ∷ ws) c) r k, tt)
   first-more [] c (v ∷ ws) (suc i) w h l r k f = absurd (omega arith)
   first-more (d ∷ cs) c (v ∷ ws) zero w h l r k f = absurd (omega arith)
   first-more (d ∷ cs) c (v ∷ ws) (suc i) w h l r k f = (f.0, first-more cs c ws i w (omega arith) (omega arith) r k f.1)
@@ -136,16 +136,16 @@ module _ (p : PlainProblem) (e : Assignment) (q : Quantifier) where
   first-all (c ∷ cs) [] h f = f
   first-all (c ∷ cs) (w ∷ ws) h f = (f.0, first-all cs ws (omega arith) f.1)
 
-  pub at-here : (cs : List Cursor) (ws : List World) (i : ℕ) (c : Cursor) (w : World) → AreAt p e q cs ws → i < length ws → c ≡ get_or cs i c → w ≡ get_or ws i w → IsAt p e q (w ∷ drop (suc i) ws) c
+  pub at-here : (cs : List Cursor) (ws : List World) (i : ℕ) (c : Cursor) (w : World) → AreAt p e q cs ws → i < length ws → c ≡ get_or cs i c → w ≡ get_or ws i w → IsCursorAt p e q (w ∷ drop (suc i) ws) c
   at-here cs [] i c w a l r s = absurd (omega arith)
   at-here [] (v ∷ ws) i c w a l r s = absurd a
-  at-here (d ∷ cs) (v ∷ ws) zero c w a l r s = subst (λ (x : Cursor). IsAt p e q (w ∷ ws) x) (sym r) (subst (λ (x : World). IsAt p e q (x ∷ ws) d) (sym s) a.0)
+  at-here (d ∷ cs) (v ∷ ws) zero c w a l r s = subst (λ (x : Cursor). IsCursorAt p e q (w ∷ ws) x) (sym r) (subst (λ (x : World). IsCursorAt p e q (x ∷ ws) d) (sym s) a.0)
   at-here (d ∷ cs) (v ∷ ws) (suc i) c w a l r s = at-here cs ws i c w a.1 (omega arith) r s
 
-  pub at-set : (cs : List Cursor) (ws : List World) (i : ℕ) (c : Cursor) (w : World) → AreAt p e q cs ws → i < length ws → w ≡ get_or ws i w → IsAt p e q (w ∷ drop (suc i) ws) c → AreAt p e q (slice_set cs i c) ws
+  pub at-set : (cs : List Cursor) (ws : List World) (i : ℕ) (c : Cursor) (w : World) → AreAt p e q cs ws → i < length ws → w ≡ get_or ws i w → IsCursorAt p e q (w ∷ drop (suc i) ws) c → AreAt p e q (slice_set cs i c) ws
   at-set cs [] i c w a l s k = absurd (omega arith)
   at-set [] (v ∷ ws) i c w a l s k = absurd a
-  at-set (d ∷ cs) (v ∷ ws) zero c w a l s k = (subst (λ (x : World). IsAt p e q (x ∷ ws) c) s k, a.1)
+  at-set (d ∷ cs) (v ∷ ws) zero c w a l s k = (subst (λ (x : World). IsCursorAt p e q (x ∷ ws) c) s k, a.1)
   at-set (d ∷ cs) (v ∷ ws) (suc i) c w a l s k = (a.0, at-set cs ws i c w a.1 (omega arith) s k)
 
   pub at-counts : (cs : List Cursor) (ws : List World) → AreAt p e q cs ws → HaveCounts (length q.vars) cs

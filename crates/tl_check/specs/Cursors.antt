@@ -52,7 +52,7 @@ abbrev pub left_at : PlainProblem → Assignment → List Var → Bound → List
 left_at p e ss b ws c = from_tuple (option_map tuple_of c.next) (tuples_ahead p e ss b ws)
 
 -- the truth so far and the instances of the tuples that are left are together the truth of the formula in the first world
-pub record IsAt (p : PlainProblem) (e : Assignment) (q : Quantifier) (ws : List World) (c : Cursor) : Type 0 where
+pub record IsCursorAt (p : PlainProblem) (e : Assignment) (q : Quantifier) (ws : List World) (c : Cursor) : Type 0 where
   pub truth : true_ahead p e (quantified q.junction q.vars q.bound q.part) ws ≡ joins q.junction c.truth (joined_truths q.junction (λ t. true_ahead p (bind q.vars t e) q.part ws) (left_at p e q.vars q.bound ws c))
   pub count : IfSome c.next (λ m. m.len ≡ length q.vars)
   pub among : IfSome c.next (λ m. Among (tuple_of m) (tuples_ahead p e q.vars q.bound ws))
@@ -62,7 +62,7 @@ abbrev pub AreAt : PlainProblem → Assignment → Quantifier → List Cursor �
 AreAt p e q [] [] = Unit {0}
 AreAt p e q [] (w ∷ ws) = ⊥
 AreAt p e q (c ∷ cs) [] = ⊥
-AreAt p e q (c ∷ cs) (w ∷ ws) = IsAt p e q (w ∷ ws) c × AreAt p e q cs ws
+AreAt p e q (c ∷ cs) (w ∷ ws) = IsCursorAt p e q (w ∷ ws) c × AreAt p e q cs ws
 
 -- how many instances are left in all
 abbrev pub work_left : PlainProblem → Assignment → List Var → Bound → List Cursor → List World → ℕ

@@ -2,7 +2,7 @@
 use Rattle.std.specs.Prelude.{◌≡◌, ◌∷◌, ◌≤◌, ◌<◌, ℕ, List, Bool, Option, Some, drop, length}
 use Rattle.std.specs.Option.{option_map}
 use Rattle.tl_check.specs.Ahead.{marks, true_ahead}
-use Rattle.tl_check.specs.Cursors.{IsAt, AreAt, left_at, work_left, with_part}
+use Rattle.tl_check.specs.Cursors.{IsCursorAt, AreAt, left_at, work_left, with_part}
 use Rattle.tl_check.specs.declared.binder.Binder.{Binder}
 use Rattle.tl_check.specs.declared.cursor.Cursor.{Cursor}
 use Rattle.tl_check.specs.declared.found.Found.{Found}
@@ -18,12 +18,12 @@ use Rattle.tl_world.specs.declared.task.Task.{Task}
 
 -- the cursor stands in this world, whatever formula the binder is before and whatever worlds follow
 abbrev pub StandsIn : Task → List (Option Value) → Binder → World → Cursor → Type 0
-StandsIn task frame b w c = (f : FormulaTree) (ws : List World) → IsAt (plain_problem task.problem) (assignment_in frame) (with_part b f) (w ∷ ws) c
+StandsIn task frame b w c = (f : FormulaTree) (ws : List World) → IsCursorAt (plain_problem task.problem) (assignment_in frame) (with_part b f) (w ∷ ws) c
 
 -- where the first cursor stands in this world, and the instance of the tuple has this label there, the second one stands there too
 abbrev pub MovesIn : Task → List (Option Value) → Binder → Match → Bool → World → Cursor → Cursor → Type 0
 MovesIn task frame b m label w old new = (f : FormulaTree) (ws : List World) → label ≡ true_ahead (plain_problem task.problem) (bind b.vars.now (tuple_of m) (assignment_in frame)) f (w ∷ ws)
-    → IsAt (plain_problem task.problem) (assignment_in frame) (with_part b f) (w ∷ ws) old → IsAt (plain_problem task.problem) (assignment_in frame) (with_part b f) (w ∷ ws) new
+    → IsCursorAt (plain_problem task.problem) (assignment_in frame) (with_part b f) (w ∷ ws) old → IsCursorAt (plain_problem task.problem) (assignment_in frame) (with_part b f) (w ∷ ws) new
 
 -- how many tuples are left where the cursor stands
 abbrev pub left_in : Task → List (Option Value) → Binder → List World → Cursor → ℕ
