@@ -7,7 +7,7 @@ use Rattle.std.proofs.lemmas.Option.{slice_get_read, slice_get_within, get_or_fr
 use native.Mathlib.Decide.{dec_lt}
 use Rattle.tl_check.specs.Ahead.{true_ahead, marks}
 use Rattle.tl_check.specs.Cursors.{Quantifier, tuples_ahead, from_tuple, joined_truths, left_at, IsCursorAt, AreAt, work_left}
-use Rattle.tl_check.specs.Found.{IsFound, HaveCounts, IsLesser}
+use Rattle.tl_check.specs.Found.{IsTupleFound, HaveCounts, IsLesser}
 use Rattle.tl_check.specs.Passes.{joins}
 use Rattle.tl_check.specs.declared.cursor.Cursor.{Cursor}
 use Rattle.tl_check.specs.declared.found.Found.{Found}
@@ -173,7 +173,7 @@ module _ (p : PlainProblem) (e : Assignment) (q : Quantifier) where
       (at-end cs ws a.1 h.1)
 
   -- the tuple that was found makes the bound true where it was found
-  pub found-among : (cs : List Cursor) (ws : List World) (x : Found) → AreAt p e q cs ws → IsFound cs x → (w : World) × (slice_get ws x.at ≡ Some w) × Among (tuple_of x.tuple) (tuples (situation_of p w) e q.vars q.bound)
+  pub found-among : (cs : List Cursor) (ws : List World) (x : Found) → AreAt p e q cs ws → IsTupleFound cs x → (w : World) × (slice_get ws x.at ≡ Some w) × Among (tuple_of x.tuple) (tuples (situation_of p w) e q.vars q.bound)
   found-among cs ws x a f = by cs ws x.at a f.1
     where
       by : (ds : List Cursor) (vs : List World) (i : ℕ) → AreAt p e q ds vs → slice_get ds i ≡ Some f.0 → (w : World) × (slice_get vs i ≡ Some w) × Among (tuple_of x.tuple) (tuples (situation_of p w) e q.vars q.bound)
@@ -218,10 +218,10 @@ none-more cs i c l r n h = subst (λ (k : ℕ). Each (λ c. c.next ≡ None) (ta
     by (d ∷ ds) zero l r h = (subst (λ (x : Cursor). x.next ≡ None) r n, tt)
     by (d ∷ ds) (suc j) l r h = (h.0, by ds j (omega arith) r h.1)
 
-pub lesser-some : (cs : List Cursor) (best result : Option Found) (i : ℕ) (c : Cursor) → i < length cs → c ≡ get_or cs i c → IsLesser best i c.next result → IfSome best (IsFound cs) → IfSome result (IsFound cs)
+pub lesser-some : (cs : List Cursor) (best result : Option Found) (i : ℕ) (c : Cursor) → i < length cs → c ≡ get_or cs i c → IsLesser best i c.next result → IfSome best (IsTupleFound cs) → IfSome result (IsTupleFound cs)
 lesser-some cs best None i c l r h k = tt
 lesser-some cs best (Some x) i c l r h k = elim h [
-  | inl same ↦ subst (λ (o : Option Found). IfSome o (IsFound cs)) same k
+  | inl same ↦ subst (λ (o : Option Found). IfSome o (IsTupleFound cs)) same k
   | inr here ↦ (c, subst (λ (j : ℕ). slice_get cs j ≡ Some c) (sym here.0) (slice_get_read cs (length cs) i c refl l r), here.1)
 ]
 
@@ -235,7 +235,7 @@ whole [] (suc n) h = refl
 whole (x ∷ xs) zero h = absurd (omega arith)
 whole (x ∷ xs) (suc n) h = ap (λ (ys : List _). x ∷ ys) (whole xs n (omega arith))
 
-pub found-here : (cs : List Cursor) (i : ℕ) (c : Cursor) (x : Found) → IsFound cs x → i ≡ x.at → i < length cs → c ≡ get_or cs i c → c.next ≡ Some x.tuple
+pub found-here : (cs : List Cursor) (i : ℕ) (c : Cursor) (x : Found) → IsTupleFound cs x → i ≡ x.at → i < length cs → c ≡ get_or cs i c → c.next ≡ Some x.tuple
 found-here cs i c x f s l r =
     let there : slice_get cs i ≡ Some f.0 = ap (slice_get cs) s ∙ f.1 in
     let here : slice_get cs i ≡ Some c = slice_get_read cs (length cs) i c refl l r in
@@ -243,10 +243,10 @@ found-here cs i c x f s l r =
     let one : c ≡ f.0 = cc in
     ap (λ (y : Cursor). y.next) one ∙ f.2
 
-pub found-within : (cs : List Cursor) (x : Found) → IsFound cs x → x.at < length cs
+pub found-within : (cs : List Cursor) (x : Found) → IsTupleFound cs x → x.at < length cs
 found-within cs x f = slice_get_within cs x.at f.0 f.1
 
-pub found-count : (n : ℕ) (cs : List Cursor) (x : Found) → HaveCounts n cs → IsFound cs x → x.tuple.len ≡ n
+pub found-count : (n : ℕ) (cs : List Cursor) (x : Found) → HaveCounts n cs → IsTupleFound cs x → x.tuple.len ≡ n
 found-count n cs x h f =
     let within = found-within cs x f in
     let count = counts-here n cs x.at f.0 h within (sym (get_or_from_slice_get cs x.at f.0 f.0 f.1)) in
@@ -258,7 +258,7 @@ module _ (p : PlainProblem) (e : Assignment) (ss : List Var) (b : Bound) (first 
   abbrev here : Cursor → ℕ
   here y = length (left_at p e ss b (w ∷ drop (suc i) ws) y)
 
-  pub work-on : IsFound first x → (i ≡ x.at → cs ≡ first) → (x.at < i → work_left p e ss b cs ws < work_left p e ss b first ws) → here d ≤ here c → (option_map tuple_of c.next ≡ Some (tuple_of x.tuple) → here d < here c) → x.at ≤ i
+  pub work-on : IsTupleFound first x → (i ≡ x.at → cs ≡ first) → (x.at < i → work_left p e ss b cs ws < work_left p e ss b first ws) → here d ≤ here c → (option_map tuple_of c.next ≡ Some (tuple_of x.tuple) → here d < here c) → x.at ≤ i
       → x.at < i + 1 → work_left p e ss b (slice_set cs i d) ws < work_left p e ss b first ws
   work-on f before so_far no_more fewer from _ =
       let set = work-set p e ss b cs ws i c d w size l r s in
@@ -267,7 +267,7 @@ module _ (p : PlainProblem) (e : Assignment) (ss : List Var) (b : Bound) (first 
         | no now ↦ (
             let at : i ≡ x.at = omega arith in
             let same : cs ≡ first = before at in
-            let next : c.next ≡ Some x.tuple = found-here cs i c x (subst (λ (ds : List Cursor). IsFound ds x) (sym same) f) at (omega arith) r in
+            let next : c.next ≡ Some x.tuple = found-here cs i c x (subst (λ (ds : List Cursor). IsTupleFound ds x) (sym same) f) at (omega arith) r in
             let less = fewer (ap (option_map tuple_of) next) in
             let total = ap (λ (ds : List Cursor). work_left p e ss b ds ws) same in
             omega arith

@@ -8,7 +8,7 @@ use Rattle.tl_check.proofs.SpanLaws.{marks_in-by, marks_in-at, marks_in-length, 
 use Rattle.tl_check.proofs.Sizes.{size, sizes}
 use Rattle.tl_check.specs.Ahead.{Ahead, true_ahead, next_of, marks}
 use Rattle.tl_check.specs.Cursors.{Quantifier, AreAt}
-use Rattle.tl_check.specs.Found.{IsFound}
+use Rattle.tl_check.specs.Found.{IsTupleFound}
 use Rattle.tl_check.specs.Labelled.{looked_at, AreLabels}
 use Rattle.tl_check.specs.Later.{later_tree, later_labels}
 use Rattle.tl_check.specs.Passes.{next_labels, until_labels}
@@ -362,7 +362,7 @@ module _ (p : PlainProblem) (ws : List World) (span : Span) (within : IsWithin s
       (subst (λ (ds : List Cursor). AreAt p e q ds rest) (sym c) (subst (λ (vs : List World). AreAt p e q old vs) (sym r) at)))
 
   -- a note of an instance is one of the quantified formula
-  pub instance-noted : (cs : List Cursor) → AreAt p e q cs (drop span.from ws) → IsFound cs x → d ≡ bind q.vars (tuple_of x.tuple) e → (y : CheckFault) → AreLabels p ws (record { from = span.from + x.at; to = length ws }) d q.part (Err y) → AreLabels p ws span e (quantified q.junction q.vars q.bound q.part) (Err y)
+  pub instance-noted : (cs : List Cursor) → AreAt p e q cs (drop span.from ws) → IsTupleFound cs x → d ≡ bind q.vars (tuple_of x.tuple) e → (y : CheckFault) → AreLabels p ws (record { from = span.from + x.at; to = length ws }) d q.part (Err y) → AreLabels p ws span e (quantified q.junction q.vars q.bound q.part) (Err y)
   instance-noted cs at f s fault.NoMemory h = tt
   instance-noted cs at f s (fault.Range k n) h =
       let found = found-among p e q cs (drop span.from ws) x at f in

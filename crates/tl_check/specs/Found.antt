@@ -6,8 +6,8 @@ use Rattle.tl_syntax.specs.Lists.{Each}
 use Rattle.tl_world.specs.declared.pattern.Match.{Match}
 
 -- the tuple is the next one at that position
-abbrev pub IsFound : List Cursor → Found → Type 0
-IsFound cs x = (c : Cursor) × (slice_get cs x.at ≡ Some c) × (c.next ≡ Some x.tuple)
+abbrev pub IsTupleFound : List Cursor → Found → Type 0
+IsTupleFound cs x = (c : Cursor) × (slice_get cs x.at ≡ Some c) × (c.next ≡ Some x.tuple)
 
 -- each next tuple has so many values
 abbrev pub HaveCounts : ℕ → List Cursor → Type 0

@@ -1,6 +1,6 @@
 // The cursors of a quantifier at some positions in a row.
 ghost use Rattle.std.specs.Prelude.{◌≡◌, ◌≤◌, ◌<◌, ◌+◌, None, IfOk, IfSome, IfNone, map, length};
-ghost use Rattle.tl_check.specs.Found.{IsFound, HaveCounts};
+ghost use Rattle.tl_check.specs.Found.{IsTupleFound, HaveCounts};
 ghost use Rattle.tl_check.specs.Reading.{StandAlong, MoveAlong, left_along};
 ghost use Rattle.tl_syntax.specs.BoundVariables.{DifferInSlot, OccurIn};
 ghost use Rattle.tl_syntax.specs.Fits.{BoundFits};
@@ -41,7 +41,7 @@ pub(crate) fn cursors_at(
 /// The least of the next tuples, with the first position of which it is the next one: None where none is left. It takes no memory.
 pub(crate) fn least(cursors: &[Cursor], count: usize) -> Option<Found>
     requires { count ≤ 9 }
-    ensures some { IfSome result (IsFound cursors.now) }
+    ensures some { IfSome result (IsTupleFound cursors.now) }
     ensures none { IfNone result (Each (λ c. c.next ≡ None) cursors.now) }
 {
     let mut best = None;
@@ -67,7 +67,7 @@ pub(crate) fn advance(
     requires few { length binder.now.vars.now ≤ 9 }
     requires size { length cursors.old ≡ length worlds.now }
     requires counts { HaveCounts (length binder.now.vars.now) cursors.old }
-    requires found { IsFound cursors.old found.now }
+    requires found { IsTupleFound cursors.old found.now }
     requires labels { length labels.now + found.now.at ≡ length worlds.now }
     ensures at { MoveAlong task.now env.now binder.now found.now labels.now worlds.now cursors.old cursors.new }
     ensures fewer { left_along task.now env.now binder.now worlds.now cursors.new

@@ -82,9 +82,9 @@ pub record IsToKeep (s : Space) (key n : Numbers) : Type 0 where
   pub room : HasRoom s
 
 -- what is found of an arrival
-abbrev pub IsFound : Space → Numbers → Found → Type 0
-IsFound s key (found.Known r) = IsKnownIn s key r
-IsFound s key (found.New n) = IsToKeep s key n
+abbrev pub IsArrivalFound : Space → Numbers → Found → Type 0
+IsArrivalFound s key (found.Known r) = IsKnownIn s key r
+IsArrivalFound s key (found.New n) = IsToKeep s key n
 
 -- progressing the formula of the arrival in its world is the cause
 abbrev pub IsProgressFault : Space → Numbers → ProgressFault → Type 0

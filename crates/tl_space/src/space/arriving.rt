@@ -1,6 +1,6 @@
 // What is known of an arrival.
 ghost use Rattle.std.specs.Prelude.{◌≡◌, IsTrue, IfOk, IfErr, IfSome, IfNone};
-ghost use Rattle.tl_space.specs.Inner.{node_in, nodes_in, arriving_in, AreNumbersIn, IsKnownIn, KeepsPairs, IsNew, IsFound, IsProgressFault};
+ghost use Rattle.tl_space.specs.Inner.{node_in, nodes_in, arriving_in, AreNumbersIn, IsKnownIn, KeepsPairs, IsNew, IsArrivalFound, IsProgressFault};
 ghost use Rattle.tl_space.specs.Remembered.{IsKnown};
 
 use super::Space;
@@ -66,7 +66,7 @@ impl Space {
         requires key { AreNumbersIn self.old key }
         requires itself { node_in self.old key ≡ arriving_in self.old key }
         ensures keeps { KeepsPairs self.old self.new }
-        ensures found { IfOk result (IsFound self.new key) }
+        ensures found { IfOk result (IsArrivalFound self.new key) }
         ensures cause { IfErr result (IsProgressFault self.old key) }
     {
         match self.known(key) {
@@ -82,7 +82,7 @@ impl Space {
     pub(crate) fn find(&mut self, key: Numbers) -> Result<Found, ProgressFault>
         requires { AreNumbersIn self.old key }
         ensures keeps { KeepsPairs self.old self.new }
-        ensures found { IfOk result (IsFound self.new key) }
+        ensures found { IfOk result (IsArrivalFound self.new key) }
         ensures cause { IfErr result (IsProgressFault self.old key) }
     {
         if self.leaves_itself(key) {
@@ -98,7 +98,7 @@ impl Space {
     fn find_anew(&mut self, key: Numbers) -> Result<Found, ProgressFault>
         requires { AreNumbersIn self.old key }
         ensures keeps { KeepsPairs self.old self.new }
-        ensures found { IfOk result (IsFound self.new key) }
+        ensures found { IfOk result (IsArrivalFound self.new key) }
         ensures cause { IfErr result (IsProgressFault self.old key) }
     {
         let label = match self.number_of_residual(key) {

@@ -12,7 +12,7 @@ use Rattle.tl_check.proofs.SpanLaws.{marks_in-length, marks_in-rest}
 use Rattle.tl_check.specs.Ahead.{true_ahead}
 use Rattle.tl_check.specs.Cursors.{Quantifier, AreAt, with_part}
 use Rattle.tl_check.specs.Facts.{bound_ahead}
-use Rattle.tl_check.specs.Found.{IsFound, HaveCounts}
+use Rattle.tl_check.specs.Found.{IsTupleFound, HaveCounts}
 use Rattle.tl_check.specs.Instances.{JoinsInstance}
 use Rattle.tl_check.specs.Labelled.{AreLabels}
 use Rattle.tl_check.specs.Later.{later_tree}
@@ -475,7 +475,7 @@ stepped_labels-counted_values-requires t c =
     let p = plain_problem c.args.along.now.task.now.problem in
     let e = assignment_in c.args.env.now in
     let q : Quantifier = with_part c.args.binder.now (tree_of_formula c.args.part.now) in
-    let found = subst (λ (cs : List Cursor). IsFound cs c.in-Some.found) c.as_slice.ensures.value c.in-Some.ensures.some in
+    let found = subst (λ (cs : List Cursor). IsTupleFound cs c.in-Some.found) c.as_slice.ensures.value c.in-Some.ensures.some in
     omega (arith, parts.few, found-count (length c.args.binder.now.vars.now) c.loop-found.cursors.items c.in-Some.found (at-counts p e q c.loop-found.cursors.items (drop c.args.span.from c.args.along.now.worlds.now) c.loop-found.invariant.at) found)
 
 pub stepped_labels-put_values-requires-clause-slots : goal.stepped_labels-put_values-requires-clause-slots
@@ -489,7 +489,7 @@ stepped_labels-put_values-requires-clause-same t c =
     let p = plain_problem c.args.along.now.task.now.problem in
     let e = assignment_in c.args.env.now in
     let q : Quantifier = with_part c.args.binder.now (tree_of_formula c.args.part.now) in
-    let found = subst (λ (cs : List Cursor). IsFound cs c.in-Some.found) c.as_slice.ensures.value c.in-Some.ensures.some in
+    let found = subst (λ (cs : List Cursor). IsTupleFound cs c.in-Some.found) c.as_slice.ensures.value c.in-Some.ensures.some in
     omega (arith, ap length c.as_slice-in-Some.ensures, c.counted_values.ensures.count, found-count (length c.args.binder.now.vars.now) c.loop-found.cursors.items c.in-Some.found (at-counts p e q c.loop-found.cursors.items (drop c.args.span.from c.args.along.now.worlds.now) c.loop-found.invariant.at) found)
 
 pub stepped_labels-overflow_add-later : goal.stepped_labels-overflow_add-later
@@ -498,7 +498,7 @@ stepped_labels-overflow_add-later t c =
     let p = plain_problem c.args.along.now.task.now.problem in
     let e = assignment_in c.args.env.now in
     let q : Quantifier = with_part c.args.binder.now (tree_of_formula c.args.part.now) in
-    let found = subst (λ (cs : List Cursor). IsFound cs c.in-Some.found) c.as_slice.ensures.value c.in-Some.ensures.some in
+    let found = subst (λ (cs : List Cursor). IsTupleFound cs c.in-Some.found) c.as_slice.ensures.value c.in-Some.ensures.some in
     omega (arith, found-within c.loop-found.cursors.items c.in-Some.found found, at-size p e q c.loop-found.cursors.items (drop c.args.span.from c.args.along.now.worlds.now) c.loop-found.invariant.at, length-drop c.args.span.from c.args.along.now.worlds.now, c.requires.along.few, c.requires.span.order, c.requires.span.within)
 
 pub stepped_labels-labels_of-requires : goal.stepped_labels-labels_of-requires
@@ -507,7 +507,7 @@ stepped_labels-labels_of-requires t c =
     let p = plain_problem c.args.along.now.task.now.problem in
     let e = assignment_in c.args.env.now in
     let q : Quantifier = with_part c.args.binder.now (tree_of_formula c.args.part.now) in
-    let found = subst (λ (cs : List Cursor). IsFound cs c.in-Some.found) c.as_slice.ensures.value c.in-Some.ensures.some in
+    let found = subst (λ (cs : List Cursor). IsTupleFound cs c.in-Some.found) c.as_slice.ensures.value c.in-Some.ensures.some in
     let size = at-size p e q c.loop-found.cursors.items (drop c.args.span.from c.args.along.now.worlds.now) c.loop-found.invariant.at in
     let within = found-within c.loop-found.cursors.items c.in-Some.found found in
     let count = length-drop c.args.span.from c.args.along.now.worlds.now in
@@ -535,7 +535,7 @@ stepped_labels-advance-requires-clause-labels t c =
     let p = plain_problem c.args.along.now.task.now.problem in
     let e = assignment_in c.args.env.now in
     let q : Quantifier = with_part c.args.binder.now (tree_of_formula c.args.part.now) in
-    let found = subst (λ (cs : List Cursor). IsFound cs c.in-Some.found) c.as_slice.ensures.value c.in-Some.ensures.some in
+    let found = subst (λ (cs : List Cursor). IsTupleFound cs c.in-Some.found) c.as_slice.ensures.value c.in-Some.ensures.some in
     omega (arith, ap length (c.in_ok-instance.ensures.labels ∙ marks_in-rest (true_ahead p (assignment_in c.put_values.new.self) (tree_of_formula c.args.part.now)) c.args.along.now.worlds.now (record { from = c.args.span.from + c.in-Some.found.at; to = length c.args.along.now.worlds.now }) (record { order = omega (arith, found-within c.loop-found.cursors.items c.in-Some.found found, at-size p e q c.loop-found.cursors.items (drop c.args.span.from c.args.along.now.worlds.now) c.loop-found.invariant.at, length-drop c.args.span.from c.args.along.now.worlds.now, c.requires.span.order, c.requires.span.within); within = omega arith }) refl), marks-length (true_ahead p (assignment_in c.put_values.new.self) (tree_of_formula c.args.part.now)) (drop (c.args.span.from + c.in-Some.found.at) c.args.along.now.worlds.now), length-drop (c.args.span.from + c.in-Some.found.at) c.args.along.now.worlds.now, ap length (rest-whole c.args.along.now.worlds.now c.args.span.from), found-within c.loop-found.cursors.items c.in-Some.found found, at-size p e q c.loop-found.cursors.items (drop c.args.span.from c.args.along.now.worlds.now) c.loop-found.invariant.at, length-drop c.args.span.from c.args.along.now.worlds.now, c.requires.span.order, c.requires.span.within)
 
 pub stepped_labels-loop-found-preserved : goal.stepped_labels-loop-found-preserved
@@ -546,7 +546,7 @@ stepped_labels-loop-found-preserved t c =
     let q : Quantifier = with_part c.args.binder.now (tree_of_formula c.args.part.now) in
     let scope : assignment_in c.put_values.new.self ≡ bind c.args.binder.now.vars.now (tuple_of c.in-Some.found.tuple) e =
     c.put_values.ensures.values ∙ (ap (λ (ss : List Var). bind ss c.counted_values.result.now (assignment_in c.loop-found.inner)) c.as_slice-in-Some.ensures ∙ (ap (λ (u : List Value). bind c.args.binder.now.vars.now u (assignment_in c.loop-found.inner)) c.counted_values.ensures.values ∙ c.loop-found.invariant.scope (tuple_of c.in-Some.found.tuple))) in
-    let found = subst (λ (cs : List Cursor). IsFound cs c.in-Some.found) c.as_slice.ensures.value c.in-Some.ensures.some in
+    let found = subst (λ (cs : List Cursor). IsTupleFound cs c.in-Some.found) c.as_slice.ensures.value c.in-Some.ensures.some in
     record {
       slots = ap length c.in_ok-instance.ensures.frame ∙ (c.put_values.ensures.slots ∙ c.loop-found.invariant.slots);
       scope = λ u. bind-through c.args.binder.now.vars.now u (tuple_of c.in-Some.found.tuple) (assignment_in c.labels_of.new.env) e (ap assignment_in c.in_ok-instance.ensures.frame ∙ scope);
@@ -562,7 +562,7 @@ stepped_labels-returns-in_err-instance-clause-labels t c =
     let q : Quantifier = with_part c.args.binder.now (tree_of_formula c.args.part.now) in
     let scope : assignment_in c.put_values.new.self ≡ bind c.args.binder.now.vars.now (tuple_of c.in-Some.found.tuple) e =
     c.put_values.ensures.values ∙ (ap (λ (ss : List Var). bind ss c.counted_values.result.now (assignment_in c.loop-found.inner)) c.as_slice-in-Some.ensures ∙ (ap (λ (u : List Value). bind c.args.binder.now.vars.now u (assignment_in c.loop-found.inner)) c.counted_values.ensures.values ∙ c.loop-found.invariant.scope (tuple_of c.in-Some.found.tuple))) in
-    let found = subst (λ (cs : List Cursor). IsFound cs c.in-Some.found) c.as_slice.ensures.value c.in-Some.ensures.some in
+    let found = subst (λ (cs : List Cursor). IsTupleFound cs c.in-Some.found) c.as_slice.ensures.value c.in-Some.ensures.some in
     handed (λ r. AreLabels p c.args.along.now.worlds.now c.args.span e (quantified q.junction q.vars q.bound q.part) r) c.from_residual-in_err-instance.result c.in_err-instance.field-0.0 c.from_residual-in_err-instance.ensures.1
     (instance-noted p c.args.along.now.worlds.now c.args.span c.requires.span e (assignment_in c.put_values.new.self) q c.in-Some.found c.loop-found.cursors.items c.loop-found.invariant.at found scope c.in_err-instance.field-0.0 c.in_err-instance.ensures.labels)
 
