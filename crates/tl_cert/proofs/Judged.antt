@@ -27,7 +27,7 @@ use Rattle.tl_search.proofs.ListLaws.{get-old, get-one, get-inside, get-single, 
 use Rattle.tl_search.proofs.PathLaws.{walk-pair}
 use Rattle.tl_search.proofs.WalkLaws.{length-snoc}
 use Rattle.tl_world.specs.declared.task.Task.{Task}
-use Rattle.tl_cert.specs.Checking.{AreShort, depths_of, goes_on, is_no_farther, IsKnown, IsReady, ListsLink, TellsInside, TellsClosed}
+use Rattle.tl_cert.specs.Checking.{AreShort, depths_of, goes_on, is_no_farther, AreKnownActions, IsReady, ListsLink, TellsInside, TellsClosed}
 use Rattle.tl_cert.specs.Covers.{IsListedNear, IsNoFarther, StaysInside}
 use Rattle.tl_cert.specs.Links.{IsGood, IsWithin, ListsRoot}
 use Rattle.tl_cert.specs.Verdicts.{LeadsOut}
@@ -189,7 +189,7 @@ pub arrives-over : (p q : PlainProblem) (old kept new : List KeptPair) (at : ℕ
 arrives-over p q old kept new at a r e f h = subst (λ s. ChildArrives s old new at a r) e (subst (λ zs. ChildArrives q zs new at a r) f h)
 
 -- what is known of a node stays so where a node is added
-pub known-more : (task : Task) (p : PlainProblem) (old new : List KeptPair) (x : KeptPair) (known : Option NodeActions) → new ≡ old ++ x ∷ [] → IsKnown task p old known → IsKnown task p new known
+pub known-more : (task : Task) (p : PlainProblem) (old new : List KeptPair) (x : KeptPair) (known : Option NodeActions) → new ≡ old ++ x ∷ [] → AreKnownActions task p old known → AreKnownActions task p new known
 known-more task p old new x None e h = tt
 known-more task p old new x (Some known) e h = record {
   inside = omega (arith, h.inside, ap length e, length-snoc old x);
@@ -201,7 +201,7 @@ known-more task p old new x (Some known) e h = record {
 }
 
 -- a good link leaves what is known right
-pub ready-more : (task : Task) (p : PlainProblem) (bound : Option ℕ) (old new : List KeptPair) (link : Link) (d : ℕ) (c : Checking) → slice_get (depths_of old) link.from ≡ Some d → AreShort old → IsKnown task p old c.known → c.depths ≡ depths_of old ++ (d + 1) ∷ [] → ListsLink p bound old new link true → IsReady task p new c
+pub ready-more : (task : Task) (p : PlainProblem) (bound : Option ℕ) (old new : List KeptPair) (link : Link) (d : ℕ) (c : Checking) → slice_get (depths_of old) link.from ≡ Some d → AreShort old → AreKnownActions task p old c.known → c.depths ≡ depths_of old ++ (d + 1) ∷ [] → ListsLink p bound old new link true → IsReady task p new c
 ready-more task p bound old new link d c at short known depths h = record {
   depths = depths ∙ (ap (λ n. depths_of old ++ n ∷ []) (sym long) ∙ (sym (depths-more old h.0) ∙ ap depths_of (sym h.2)));
   short = subst AreShort (sym h.2) (short-more p bound old link h.0 h.1 short);

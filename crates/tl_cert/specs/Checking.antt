@@ -108,15 +108,15 @@ pub record AreActionsAt (task : Task) (p : PlainProblem) (kept : List KeptPair) 
   pub named : AreNamedIn task known.actions
 
 -- so they are, where some are known
-abbrev pub IsKnown : Task → PlainProblem → List KeptPair → Option NodeActions → Type 0
-IsKnown task p kept None = Unit {0}
-IsKnown task p kept (Some known) = AreActionsAt task p kept known
+abbrev pub AreKnownActions : Task → PlainProblem → List KeptPair → Option NodeActions → Type 0
+AreKnownActions task p kept None = Unit {0}
+AreKnownActions task p kept (Some known) = AreActionsAt task p kept known
 
 -- what is known of the nodes that are listed so far is right
 pub record IsReady (task : Task) (p : PlainProblem) (kept : List KeptPair) (c : Checking) : Type 0 where
   pub depths : c.depths ≡ depths_of kept
   pub short : AreShort kept
-  pub known : IsKnown task p kept c.known
+  pub known : AreKnownActions task p kept c.known
 
 -- a path of one action more than this number is within the bound
 abbrev pub goes_on : Option ℕ → ℕ → Bool

@@ -3,7 +3,7 @@ ghost use Rattle.std.specs.Prelude.{◌≡◌, ◌<◌, ◌↔◌, length, IfOk,
 ghost use Rattle.tl_syntax.specs.Lists.{Among};
 ghost use Rattle.tl_search.specs.NamedAnswers.{FaultIsNamed, IsNamedIn};
 ghost use Rattle.tl_search.specs.Calls.{IsExecutableAt};
-ghost use Rattle.tl_cert.specs.Checking.{AreActionsAt, IsKnown, IsListingFault};
+ghost use Rattle.tl_cert.specs.Checking.{AreActionsAt, AreKnownActions, IsListingFault};
 
 use crate::faults::fault_at;
 use std::alloc::Global;
@@ -62,7 +62,8 @@ pub(crate) fn known_at<S: Pairs>(
     last: Option<NodeActions>,
 ) -> Result<NodeActions, SearchFault>
     requires at { at < length (S.kept space.old) }
-    requires last { IsKnown (S.task space.old) (S.problem space.old) (S.kept space.old) last }
+    requires last { AreKnownActions (S.task space.old) (S.problem space.old)
+        (S.kept space.old) last }
     ensures task { S.task space.new ≡ S.task space.old }
     ensures problem { S.problem space.new ≡ S.problem space.old }
     ensures kept { S.kept space.new ≡ S.kept space.old }
@@ -93,11 +94,12 @@ pub(crate) fn has_step<S: Pairs>(
     known: &mut Option<NodeActions>,
 ) -> Result<bool, SearchFault>
     requires at { at < length (S.kept space.old) }
-    requires known { IsKnown (S.task space.old) (S.problem space.old) (S.kept space.old) known.old }
+    requires known { AreKnownActions (S.task space.old) (S.problem space.old)
+        (S.kept space.old) known.old }
     ensures task { S.task space.new ≡ S.task space.old }
     ensures problem { S.problem space.new ≡ S.problem space.old }
     ensures kept { S.kept space.new ≡ S.kept space.old }
-    ensures known { OnOk result (IsKnown (S.task space.old) (S.problem space.old) (S.kept space.old) known.new) }
+    ensures known { OnOk result (AreKnownActions (S.task space.old) (S.problem space.old) (S.kept space.old) known.new) }
     ensures has_step { IfOk result (λ has. IsTrue has ↔ IsExecutableAt (S.problem space.old) (S.kept space.old) at a.now) }
     ensures named { IfOk result (λ has. IsTrue has → IsNamedIn (S.task space.old) a.now) }
     ensures fault { IfErr result (IsListingFault (S.problem space.old) (S.kept space.old) at) }
