@@ -16,7 +16,7 @@ use Rattle.tl_search.specs.declared.fault.SearchFault.{SearchFault}
 use Rattle.tl_search.specs.declared.fault.SearchFault.TheVariants as fault
 use Rattle.tl_search.proofs.PathLaws.{pair-onward}
 use Rattle.tl_search.proofs.RangeLaws.{has-states}
-use Rattle.tl_cert.specs.Causes.{IsListed, IsNoneCause, IsNoneFaultOf, IsVisited}
+use Rattle.tl_cert.specs.Causes.{IsListedBySome, IsNoneCause, IsNoneFaultOf, IsVisited}
 use Rattle.tl_cert.specs.Checking.{IsActingCause, IsFaultAfter, IsIdlingCause, IsJudgingCause, IsProgressingCause, IsRootCause, IsTurnCause, IsVisitCause}
 use Rattle.tl_cert.specs.Links.{Lists}
 use Rattle.tl_cert.specs.declared.proof.Link.{Link}
@@ -50,7 +50,7 @@ module _ (p : PlainProblem) (bound : Option ℕ) (links : List Link) where
       looked = inr (inl (record { node = x; action = a; visited = v; is_path = h.0; world = h.1.0; steps = h.1.1; looked = h.1.2.0 }));
     }
 
-    idling : IsListed p bound links x → (f : SearchFault) → IsIdlingCause p x f → IsNoneFaultOf p bound links f
+    idling : IsListedBySome p bound links x → (f : SearchFault) → IsIdlingCause p x f → IsNoneFaultOf p bound links f
     idling l (fault.Range path note) h = record {
       executes = executes-at path h.0;
       past = h.1.1;
@@ -75,7 +75,7 @@ module _ (p : PlainProblem) (bound : Option ℕ) (links : List Link) where
       (inl (record { before = before; link = link; is_link = at; listed = listed; lists = lists; from = from; action = refl })) f h
 
   -- at a listed node, where all links are good
-  pub fault-at-node : (listed : List KeptPair) (k : ℕ) (x : KeptPair) → Lists p bound links listed → IsListed p bound links x → slice_get listed k ≡ Some x → (f : SearchFault) → IsJudgingCause p bound x f → IsNoneFaultOf p bound links f
+  pub fault-at-node : (listed : List KeptPair) (k : ℕ) (x : KeptPair) → Lists p bound links listed → IsListedBySome p bound links x → slice_get listed k ≡ Some x → (f : SearchFault) → IsJudgingCause p bound x f → IsNoneFaultOf p bound links f
   fault-at-node listed k x lists l e f (inl h) = idling x (lists-end p bound links listed lists k x e).0 l f h
   fault-at-node listed k x lists l e f (inr h) = turning x (lists-end p bound links listed lists k x e).0 (λ a. inr (record { listed = listed; lists = lists; number = k; node = e; asked = h.0 })) f h.1
 

@@ -18,7 +18,7 @@ use Rattle.tl_cert.specs.declared.proof.Link.{Link}
 use Rattle.tl_cert.specs.declared.proof.Proof.{Proof}
 
 -- some of the links from the first on are good, and this is a node that they list
-pub record IsListed (p : PlainProblem) (bound : Option ℕ) (links : List Link) (x : KeptPair) : Type 0 where
+pub record IsListedBySome (p : PlainProblem) (bound : Option ℕ) (links : List Link) (x : KeptPair) : Type 0 where
   pub count : ℕ
   pub listed : List KeptPair
   pub lists : Lists p bound (take count links) listed
@@ -64,7 +64,7 @@ pub record LooksAfterAction (p : PlainProblem) (bound : Option ℕ) (links : Lis
 -- at a listed node: its idling check does
 pub record LooksByIdling (p : PlainProblem) (bound : Option ℕ) (links : List Link) (path : List Action) (o : Operation) : Type 0 where
   pub node : KeptPair
-  pub is_listed : IsListed p bound links node
+  pub is_listed : IsListedBySome p bound links node
   pub is_path : path ≡ node.path
   pub looked : Among o (looked_by_idling p node.node.world node.node.formula)
 
