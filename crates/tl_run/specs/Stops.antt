@@ -48,7 +48,7 @@ IsTurnStop files r name x number whole before now NoMemory = ⊤
 IsTurnStop files r name x number whole before now (Refused k m) = (k ≡ number) × (whole ≡ told_file files name) × ((bytes : List ℕ) × IsContent files name bytes × IsBroken r x bytes m)
 
 -- of the rules that forms break, this is the least one
-pub record IsLeast (breaks : List Break) (b : Broken) : Type 0 where
+pub record IsLeastBroken (breaks : List Break) (b : Broken) : Type 0 where
   pub rule : Break
   pub is : b ≡ broken.Form rule.0 rule.1
   pub least : IsLeastBreak breaks rule
@@ -57,7 +57,7 @@ pub record IsLeast (breaks : List Break) (b : Broken) : Type 0 where
 abbrev pub IsFormsStop : ℕ → List Break → Stop → Type 0
 IsFormsStop number breaks ReadFault = ⊥
 IsFormsStop number breaks NoMemory = ⊤
-IsFormsStop number breaks (Refused k b) = (k ≡ number) × IsLeast breaks b
+IsFormsStop number breaks (Refused k b) = (k ≡ number) × IsLeastBroken breaks b
 
 -- why the bytes of the file of this number stand for nothing
 abbrev pub IsFileStop : ℕ → (Broken → Type 0) → Stop → Type 0
