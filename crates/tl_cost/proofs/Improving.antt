@@ -12,7 +12,7 @@ use Rattle.tl_search.specs.NamedAnswers.{IsNamedIn}
 use Rattle.tl_search.specs.PairGraph.{pair_graph}
 use Rattle.tl_search.proofs.ListLaws.{get-inside}
 use Rattle.tl_search.proofs.WalkLaws.{length-snoc, walk-onward}
-use Rattle.tl_cost.specs.Ongoing.{IsAt, IsWayTo, IsReached, IsLinked, IsOngoing}
+use Rattle.tl_cost.specs.Ongoing.{IsAt, IsWayTo, HasWay, IsLinked, IsOngoing}
 use Rattle.tl_cost.specs.PlanCosts.{action_cost}
 use Rattle.tl_cost.specs.Ways.{IsUpto, GoesOn, entry_of}
 use Rattle.tl_cost.specs.declared.open_list.Entry.{Entry}
@@ -95,7 +95,7 @@ module _ (p : PlainProblem) (task : Task) (costs : List ℕ) (b : ℕ) (kept : L
         | no n ↦ old j z v n (im.stayed j z v n i)
       ]
 
-      reached-on : (z : Pair) (c l : ℕ) → IsReached kept ways z c l → IsReached more other z c l
+      reached-on : (z : Pair) (c l : ℕ) → HasWay kept ways z c l → HasWay more other z c l
       reached-on z c l r = elim (ℕ_discrete r.number k) [
         | yes q ↦ (let t = im.better r.pair r.way (subst (λ n. IsAt kept ways n r.pair r.way) q r.is_at) in
             record { number = k; pair = y; way = m; is_at = im.there; same = ap (λ (u : KeptPair). u.node) (sym t.0) ∙ r.same; upto = upto-trans m.cost m.length r.way.cost r.way.length c l t.1 r.upto })

@@ -12,7 +12,7 @@ use Rattle.tl_search.specs.Plans.{HasNoPlan}
 use Rattle.tl_search.proofs.ListLaws.{get-inside, get-one}
 use Rattle.tl_search.proofs.PathLaws.{walk-accepted}
 use Rattle.tl_search.proofs.WalkLaws.{by_last, walk-back}
-use Rattle.tl_cost.specs.Ongoing.{IsAt, IsReached, IsOngoing}
+use Rattle.tl_cost.specs.Ongoing.{IsAt, HasWay, IsOngoing}
 use Rattle.tl_cost.specs.PlanCosts.{action_cost, plan_cost}
 use Rattle.tl_cost.specs.Ways.{IsUpto, entry_of}
 use Rattle.tl_cost.specs.declared.open_list.Entry.{Entry}
@@ -39,7 +39,7 @@ pub record OpenUpto (kept : List KeptPair) (ways : List Way) (open_ : Entry → 
   pub upto : IsUpto way.cost way.length cost length_
 
 module _ (p : PlainProblem) (task : Task) (costs : List ℕ) (b : ℕ) (kept : List KeptPair) (ways : List Way) (open_ : Entry → Bool) (opened cost length_ at : ℕ) (s : IsOngoing p task costs b kept ways open_ opened cost length_ at (Some [])) where
-  from-reached : (v : Pair) (c l : ℕ) → IsReached kept ways v c l → SettledUpto kept ways open_ v c l ⊎ OpenUpto kept ways open_ c l
+  from-reached : (v : Pair) (c l : ℕ) → HasWay kept ways v c l → SettledUpto kept ways open_ v c l ⊎ OpenUpto kept ways open_ c l
   from-reached v c l r = by_list (open_ (entry_of r.way r.number)) refl
     where
       by_list : (t : Bool) → open_ (entry_of r.way r.number) ≡ t → SettledUpto kept ways open_ v c l ⊎ OpenUpto kept ways open_ c l

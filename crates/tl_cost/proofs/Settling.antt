@@ -16,7 +16,7 @@ use Rattle.tl_search.specs.ListedActions.{ListsActions}
 use Rattle.tl_search.specs.PairGraph.{pair_in, next_pair, pair_graph}
 use Rattle.tl_search.proofs.ListLaws.{get-one, decide_among}
 use Rattle.tl_search.proofs.PathLaws.{unless-pruned}
-use Rattle.tl_cost.specs.Ongoing.{IsAt, IsReached, IsLinked, IsUntried, IsOngoing}
+use Rattle.tl_cost.specs.Ongoing.{IsAt, HasWay, IsLinked, IsUntried, IsOngoing}
 use Rattle.tl_cost.specs.PlanCosts.{action_cost, plan_cost}
 use Rattle.tl_cost.specs.Ways.{IsUpto, Drops, entry_of}
 use Rattle.tl_cost.specs.declared.open_list.Entry.{Entry}
@@ -131,7 +131,7 @@ module _ (p : PlainProblem) (task : Task) (costs : List ℕ) (b : ℕ) (kept : L
   }
 
   -- an action was tried that leads nowhere, or to a kept pair whose way comes no later
-  pub skip-action : (a : Action) (rest : List Action) → IsOngoing p task costs b kept ways open_ opened w.cost w.length at (Some (a ∷ rest)) → ((z : Pair) → (pair_graph p).after x.node a ≡ Some z → IsReached kept ways z (w.cost + action_cost costs a) (w.length + 1)) → IsOngoing p task costs b kept ways open_ opened w.cost w.length at (Some rest)
+  pub skip-action : (a : Action) (rest : List Action) → IsOngoing p task costs b kept ways open_ opened w.cost w.length at (Some (a ∷ rest)) → ((z : Pair) → (pair_graph p).after x.node a ≡ Some z → HasWay kept ways z (w.cost + action_cost costs a) (w.length + 1)) → IsOngoing p task costs b kept ways open_ opened w.cost w.length at (Some rest)
   skip-action a rest s covers = record {
     are_kept = s.are_kept;
     as_many = s.as_many;
@@ -152,7 +152,7 @@ module _ (p : PlainProblem) (task : Task) (costs : List ℕ) (b : ℕ) (kept : L
       | inl n ↦ s.closed k y v c z i h n f
       | inr q ↦ (let t = at-one kept ways k at y x v w i here q.0 in
           let g : (pair_graph p).after x.node a ≡ Some z = ap (λ (u : Action). (pair_graph p).after x.node u) q.1 ∙ (ap (λ (u : KeptPair). (pair_graph p).after u.node c) (sym t.0) ∙ f) in
-          subst (λ (u : Way). IsReached kept ways z (u.cost + action_cost costs c) (u.length + 1)) (sym t.1) (subst (λ (u : Action). IsReached kept ways z (w.cost + action_cost costs u) (w.length + 1)) q.1 (covers z g)))
+          subst (λ (u : Way). HasWay kept ways z (u.cost + action_cost costs c) (u.length + 1)) (sym t.1) (subst (λ (u : Action). HasWay kept ways z (w.cost + action_cost costs u) (w.length + 1)) q.1 (covers z g)))
     ];
     none = s.none;
     cheap = s.cheap;

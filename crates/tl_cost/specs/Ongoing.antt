@@ -46,7 +46,7 @@ IsLinked p costs kept ways open_ k x w None = k ≡ 0
 IsLinked p costs kept ways open_ k x w (Some last) = IsStepFrom p costs kept ways open_ x w last
 
 -- a kept pair is this one, with a way that comes no later
-pub record IsReached (kept : List KeptPair) (ways : List Way) (x : Pair) (cost length_ : ℕ) : Type 0 where
+pub record HasWay (kept : List KeptPair) (ways : List Way) (x : Pair) (cost length_ : ℕ) : Type 0 where
   pub number : ℕ
   pub pair : KeptPair
   pub way : Way
@@ -81,7 +81,7 @@ pub record IsOngoing (p : PlainProblem) (task : Task) (costs : List ℕ) (b : �
   pub least : (k : ℕ) (x : KeptPair) (w : Way) → IsAt kept ways k x w → open_ (entry_of w k) ≡ false → (path : List Action) → walk (pair_graph p) path ≡ Some x.node → IsUpto w.cost w.length (plan_cost costs path) (length path)
   pub below : (k : ℕ) (x : KeptPair) (w : Way) → IsAt kept ways k x w → open_ (entry_of w k) ≡ false → IsUpto w.cost w.length cost length_
   pub above : (k : ℕ) (x : KeptPair) (w : Way) → IsAt kept ways k x w → open_ (entry_of w k) ≡ true → IsUpto cost length_ w.cost w.length
-  pub closed : (k : ℕ) (x : KeptPair) (w : Way) (a : Action) (y : Pair) → IsAt kept ways k x w → open_ (entry_of w k) ≡ false → (IsUntried at rest k a → ⊥) → (pair_graph p).after x.node a ≡ Some y → IsReached kept ways y (w.cost + action_cost costs a) (w.length + 1)
+  pub closed : (k : ℕ) (x : KeptPair) (w : Way) (a : Action) (y : Pair) → IsAt kept ways k x w → open_ (entry_of w k) ≡ false → (IsUntried at rest k a → ⊥) → (pair_graph p).after x.node a ≡ Some y → HasWay kept ways y (w.cost + action_cost costs a) (w.length + 1)
   pub none : (k : ℕ) (x : KeptPair) (w : Way) → IsAt kept ways k x w → open_ (entry_of w k) ≡ false → IsTested at rest k → IsPairAccepted p x.node → ⊥
   pub cheap : (plan : List Action) → IsAccepted p plan → IsUpto cost length_ (plan_cost costs plan) (length plan)
 
