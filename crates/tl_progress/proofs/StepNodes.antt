@@ -11,7 +11,7 @@ use Rattle.tl_syntax.specs.declared.junction.Junction.TheVariants.{All, Any}
 use Rattle.tl_syntax.specs.Assignment.{Assignment}
 use Rattle.tl_syntax.specs.Substitution.{substituted}
 use Rattle.tl_syntax.specs.Trees.{FormulaTree}
-use Rattle.tl_progress.specs.Steps.{stepped, step_node, steps_left}
+use Rattle.tl_progress.specs.Steps.{within_or_during, step_node, steps_left}
 
 step-fits : (junction : Junction) (ts : List FormulaTree) (n i : ℕ) → i < length ts → fits (length ts) (step_node junction n i) ≡ true
 step-fits All ts n i h = fits-During ts n i _ (at-there ts i h)
@@ -20,7 +20,7 @@ step-fits Any ts n i h = fits-Within ts n i _ (at-there ts i h)
 pub step-node-fits : (junction : Junction) (ts : List FormulaTree) (n i : ℕ) (a : Node) → a ≡ step_node junction n i → i < length ts → fits (length ts) a ≡ true
 step-node-fits junction ts n i a e h = subst (λ (b : Node). fits (length ts) b ≡ true) (sym e) (step-fits junction ts n i h)
 
-step-tree : (junction : Junction) (ts : List FormulaTree) (n i : ℕ) → tree_of_node ts (step_node junction n i) ≡ stepped junction n (tree_at ts i)
+step-tree : (junction : Junction) (ts : List FormulaTree) (n i : ℕ) → tree_of_node ts (step_node junction n i) ≡ within_or_during junction n (tree_at ts i)
 unfolding tree_of_node
 step-tree All ts n i = refl
 step-tree Any ts n i = refl

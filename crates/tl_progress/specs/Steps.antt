@@ -10,9 +10,9 @@ use Rattle.tl_syntax.specs.Substitution.{substituted}
 use Rattle.tl_syntax.specs.Trees.{FormulaTree, within, during}
 
 -- the formula holds in all of the states, or in any
-abbrev pub stepped : Junction → ℕ → FormulaTree → FormulaTree
-stepped All n f = during n f
-stepped Any n f = within n f
+abbrev pub within_or_during : Junction → ℕ → FormulaTree → FormulaTree
+within_or_during All n f = during n f
+within_or_during Any n f = within n f
 
 -- its node
 abbrev pub step_node : Junction → ℕ → ℕ → Node
@@ -22,4 +22,4 @@ step_node Any n i = node.Within n i
 -- what has to hold next for it, where g has to hold next for the formula
 abbrev pub steps_left : Junction → Assignment → ℕ → FormulaTree → FormulaTree → FormulaTree
 steps_left junction e zero g f = g
-steps_left junction e (suc n) g f = simplified_join junction (g ∷ substituted e (stepped junction n f) ∷ [])
+steps_left junction e (suc n) g f = simplified_join junction (g ∷ substituted e (within_or_during junction n f) ∷ [])
