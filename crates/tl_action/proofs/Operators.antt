@@ -18,7 +18,7 @@ use Rattle.tl_syntax.specs.FreeVariables.{is_slot_in, slots_of, bound_slots, fre
 use Rattle.tl_syntax.specs.Kept.{OperatorKeeps}
 use Rattle.tl_syntax.specs.Keys.{no_clash}
 use Rattle.tl_syntax.specs.Lists.{Each, Among}
-use Rattle.tl_syntax.specs.Settled.{AreCounted}
+use Rattle.tl_syntax.specs.Settled.{AreTheirPlaces}
 use Rattle.tl_syntax.specs.Signature.{Signature}
 use Rattle.tl_syntax.specs.TreeOfEffect.{tree_of_effects}
 use Rattle.tl_syntax.specs.TreeOfFormula.{tree_of_formula}
@@ -63,7 +63,7 @@ got-below [] i n q = absurd (let z : ⊥ = cc in z)
 got-below (x ∷ xs) zero n q = omega arith
 got-below (x ∷ xs) (suc i) n q = let k = got-below xs i n q in omega arith
 
-pub counted-slots : (ss : List Var) → AreCounted (slots_of ss) → length ss ≤ 16 → Each (λ s. s.slot < 32) ss
+pub counted-slots : (ss : List Var) → AreTheirPlaces (slots_of ss) → length ss ≤ 16 → Each (λ s. s.slot < 32) ss
 counted-slots ss h k =
     (Each-over (λ (n : ℕ). n < 32) (λ (s : Var). s.slot) ss).0
     (below-all (slots_of ss) 32 (λ i n q. let e = h i n q in let l = got-below (slots_of ss) i n q in let m = length-map ss (λ (s : Var). s.slot) in omega arith))
@@ -80,7 +80,7 @@ differ-from (s ∷ ss) m h = (
 )
 
 -- counted slots differ
-pub counted-differ : (ss : List Var) → AreCounted (slots_of ss) → DifferInSlot ss
+pub counted-differ : (ss : List Var) → AreTheirPlaces (slots_of ss) → DifferInSlot ss
 counted-differ ss h = differ-from ss 0 (λ k n q. let a = h k n q in omega arith)
 
 -- ---- the parts of an operator

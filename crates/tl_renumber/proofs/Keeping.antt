@@ -14,7 +14,7 @@ use Rattle.tl_syntax.specs.FreeVariables.{slots_of, bound_slots, free_slots, eff
 use Rattle.tl_syntax.specs.Kept.{DeclarationKeeps, ParametersKeep, DefinitionKeeps, OperatorKeeps, DomainKeeps}
 use Rattle.tl_syntax.specs.Lists.{Each}
 use Rattle.tl_syntax.specs.Named.{BoundIsNamed, IsNamed, EffectsAreNamed}
-use Rattle.tl_syntax.specs.Settled.{AreCounted}
+use Rattle.tl_syntax.specs.Settled.{AreTheirPlaces}
 use Rattle.tl_syntax.specs.Signature.{Signature, signature_of, with_definitions_below}
 use Rattle.tl_syntax.specs.StateFormulas.{IsState, EffectsAreState}
 use Rattle.tl_syntax.specs.TreeOfFormula.{tree_of_formula}
@@ -130,7 +130,7 @@ module _ (r : Renumbering) (n m : ℕ) (leads : Leads r n m) where
   parameters-keep most ss h = record {
     named = variables-named r n m leads ss h.named;
     few = subst (λ (k : ℕ). k ≤ most) (sym (length-mapped (renumbered_variable r) ss)) h.few;
-    counted = subst (λ (qs : List ℕ). AreCounted qs) (sym (slots-stay r ss)) h.counted;
+    counted = subst (λ (qs : List ℕ). AreTheirPlaces qs) (sym (slots-stay r ss)) h.counted;
   }
 
   declaration-keeps : (d : Declared) → DeclarationKeeps n d → DeclarationKeeps m (renumbered_declaration r d)

@@ -6,22 +6,22 @@ use Rattle.std.proofs.lemmas.Grind.{common_steps}
 use Rattle.std.proofs.lemmas.List.{get_or-set_same, get_or-set_other, map-append, length-map}
 use Rattle.std.proofs.lemmas.Option.{slice_get-get_or, slice_get_within, get_or_from_slice_get, same_Some, gets}
 use Rattle.std.proofs.lemmas.List.Sorted.{IsPermutation-map, IsPermutation-sym, length_permutation}
-use Rattle.tl_syntax.specs.Settled.{Renumbers, Differ, AreCounted, AreBelow, GivesPlaces}
+use Rattle.tl_syntax.specs.Settled.{Renumbers, Differ, AreTheirPlaces, AreBelow, GivesPlaces}
 use Rattle.tl_syntax.specs.Texts.{AreDistinct, number_of}
 use Rattle.tl_syntax.proofs.Texts.{number_of-Some}
 use Rattle.tl_syntax.proofs.Places.{Differ-permutation, place_in, source_of, image_at}
 
 -- numbers that are their own places differ
-pub Differ-counted : (numbers : List ℕ) → AreCounted numbers → Differ numbers
+pub Differ-counted : (numbers : List ℕ) → AreTheirPlaces numbers → Differ numbers
 Differ-counted numbers counted = λ i j n at_i at_j. sym (counted i n at_i) ∙ counted j n at_j
 
 -- a number that is put at the end, where it is its own place
-pub AreCounted-push : (numbers : List ℕ) (n : ℕ) → AreCounted numbers → n ≡ length numbers → AreCounted (numbers ++ n ∷ [])
-AreCounted-push numbers n counted last = λ k m at. grind (arith, common_steps, gets, counted k m)
+pub AreTheirPlaces-push : (numbers : List ℕ) (n : ℕ) → AreTheirPlaces numbers → n ≡ length numbers → AreTheirPlaces (numbers ++ n ∷ [])
+AreTheirPlaces-push numbers n counted last = λ k m at. grind (arith, common_steps, gets, counted k m)
 
 -- one more number is put at the end, at its own place
-pub counted-more : {Y : Type 0} (g : Y → ℕ) (ys : List Y) (y : Y) → AreCounted (map g ys) → g y ≡ length ys → AreCounted (map g (ys ++ y ∷ []))
-counted-more g ys y counted last = rw map-append (AreCounted-push (map g ys) (g y) counted (last ∙ sym (length-map ys g)))
+pub counted-more : {Y : Type 0} (g : Y → ℕ) (ys : List Y) (y : Y) → AreTheirPlaces (map g ys) → g y ≡ length ys → AreTheirPlaces (map g (ys ++ y ∷ []))
+counted-more g ys y counted last = rw map-append (AreTheirPlaces-push (map g ys) (g y) counted (last ∙ sym (length-map ys g)))
 
 -- a number that was written stands there
 slice_get-set_same : (places : List ℕ) (n k : ℕ) → n < length places → slice_get (set places n k) n ≡ Some k
@@ -70,11 +70,11 @@ number_of-later names k text distinct at = by_answer (number_of (take k names) t
 
 module _ {X : Type 0} (text : X → List ℕ) (number : X → ℕ) (old new : List X) (moved : IsPermutation old new) where
   -- the numbers of entries that were counted differ in any order
-  pub Differ-moved : AreCounted (map number old) → Differ (map number new)
+  pub Differ-moved : AreTheirPlaces (map number old) → Differ (map number new)
   Differ-moved counted = Differ-permutation (map number old) (map number new) (IsPermutation-map number old new moved) (Differ-counted (map number old) counted)
 
   -- and none is past the end
-  pub AreBelow-moved : AreCounted (map number old) → AreBelow (length new) (map number new)
+  pub AreBelow-moved : AreTheirPlaces (map number old) → AreBelow (length new) (map number new)
   AreBelow-moved counted = λ k n at.
       let entry = source_of number new k n at in
       let place = place_in new old k entry.0 (IsPermutation-sym old new moved) entry.1 in
@@ -88,7 +88,7 @@ module _ {X : Type 0} (text : X → List ℕ) (number : X → ℕ) (old new : Li
   AreDistinct-moved distinct = Differ-permutation (map text old) (map text new) (IsPermutation-map text old new moved) distinct
 
   -- a list that gives each number its place renumbers the texts
-  pub Renumbers-moved : (places : List ℕ) → AreCounted (map number old) → GivesPlaces places (map number new) (length new) → Renumbers places (map text old) (map text new)
+  pub Renumbers-moved : (places : List ℕ) → AreTheirPlaces (map number old) → GivesPlaces places (map number new) (length new) → Renumbers places (map text old) (map text new)
   Renumbers-moved places counted given = λ i t at.
       let entry = source_of text old i t at in
       let counts : number entry.0 ≡ i = counted i (number entry.0) (image_at number old i entry.0 entry.1) in

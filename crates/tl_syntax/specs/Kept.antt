@@ -13,7 +13,7 @@ use Rattle.tl_syntax.specs.Fits.{BoundFits, Fits, EffectsFit}
 use Rattle.tl_syntax.specs.FreeVariables.{slots_of, bound_slots, free_slots, effects_slots, InScope}
 use Rattle.tl_syntax.specs.Lists.{Each}
 use Rattle.tl_syntax.specs.Named.{ValueIsNamed, VariableIsNamed, BoundIsNamed, IsNamed, EffectsAreNamed}
-use Rattle.tl_syntax.specs.Settled.{AreCounted}
+use Rattle.tl_syntax.specs.Settled.{AreTheirPlaces}
 use Rattle.tl_syntax.specs.Signature.{Signature, signature_of, with_definitions_below, Takes}
 use Rattle.tl_syntax.specs.StateFormulas.{IsState, EffectsAreState}
 use Rattle.tl_syntax.specs.TreeOfEffect.{tree_of_effects}
@@ -28,7 +28,7 @@ pub record DeclarationKeeps (n : ℕ) (d : Declared) : Type 0 where
 pub record ParametersKeep (n most : ℕ) (ss : List Var) : Type 0 where
   pub named : Each (VariableIsNamed n) ss
   pub few : length ss ≤ most
-  pub counted : AreCounted (slots_of ss)
+  pub counted : AreTheirPlaces (slots_of ss)
 
 -- the i-th definition: its body speaks of its parameters, has no temporal word, and names no definition after its own
 pub record DefinitionKeeps (g : Signature) (n i : ℕ) (d : Definition) : Type 0 where

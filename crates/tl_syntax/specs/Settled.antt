@@ -20,8 +20,8 @@ abbrev pub Differ : {A : Type 0} → List A → Type 0
 Differ {A} xs = (i j : ℕ) (x : A) → slice_get xs i ≡ Some x → slice_get xs j ≡ Some x → i ≡ j
 
 -- each number is its own place
-abbrev pub AreCounted : List ℕ → Type 0
-AreCounted numbers = (k n : ℕ) → slice_get numbers k ≡ Some n → n ≡ k
+abbrev pub AreTheirPlaces : List ℕ → Type 0
+AreTheirPlaces numbers = (k n : ℕ) → slice_get numbers k ≡ Some n → n ≡ k
 
 -- each number is a place of a list of this length
 abbrev pub AreBelow : ℕ → List ℕ → Type 0

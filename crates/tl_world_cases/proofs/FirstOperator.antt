@@ -15,7 +15,7 @@ use Rattle.tl_syntax.specs.Fits.{Fits, TermFits, BoundFits}
 use Rattle.tl_syntax.specs.FreeVariables.{slots_of}
 use Rattle.tl_syntax.specs.Kept.{OperatorKeeps}
 use Rattle.tl_syntax.specs.Lists.{Each}
-use Rattle.tl_syntax.specs.Settled.{AreCounted}
+use Rattle.tl_syntax.specs.Settled.{AreTheirPlaces}
 use Rattle.tl_syntax.specs.Signature.{signature_of}
 use Rattle.tl_syntax.specs.StateFormulas.{IsState}
 use Rattle.tl_syntax.specs.Trees.{compare}
@@ -37,7 +37,7 @@ differ-from (s ∷ ss) i h =
     (above ss (suc i) rest s.slot (let x = h 0 s.slot refl in omega arith), differ-from ss (suc i) rest)
 
 -- counted variables differ
-counted-differ : (ss : List Var) → AreCounted (slots_of ss) → DifferInSlot ss
+counted-differ : (ss : List Var) → AreTheirPlaces (slots_of ss) → DifferInSlot ss
 counted-differ ss h = differ-from ss 0 (λ k n q. let x = h k n q in omega arith)
 
 or-nothing : (b : Bool) → IsTrue (b || false) → IsTrue b

@@ -1,7 +1,7 @@
 // The table in the order of its texts.
 ghost use Rattle.std.specs.Prelude.{◌≡◌, ◌<◌, ◌^◌, length, IfOk, IsPermutation, IsSorted};
 ghost use Rattle.std.specs.Rc.{rc_str_bytes};
-ghost use Rattle.tl_syntax.specs.Settled.{IsInOrder, Renumbers, Differ, AreCounted, AreBelow, GivesPlaces, numbered_text_cmp, texts_in, numbers_in};
+ghost use Rattle.tl_syntax.specs.Settled.{IsInOrder, Renumbers, Differ, AreTheirPlaces, AreBelow, GivesPlaces, numbered_text_cmp, texts_in, numbers_in};
 ghost use Rattle.tl_syntax.specs.Texts.{AreDistinct};
 
 use crate::{Names, NoMemory, Numbers32};
@@ -29,7 +29,7 @@ impl Names {
     // The texts with their numbers, in the order of the numbers.
     fn entries(&self, alloc: Global) -> Result<Vec<(RcStr, u32)>, AllocError>
         ensures texts { IfOk result (λ entries. texts_in entries.items ≡ self.now) }
-        ensures numbers { IfOk result (λ entries. AreCounted (numbers_in entries.items)) }
+        ensures numbers { IfOk result (λ entries. AreTheirPlaces (numbers_in entries.items)) }
         ensures distinct { AreDistinct self.now }
         ensures few { length self.now < 2 ^ 32 }
     {
