@@ -62,5 +62,5 @@ abbrev pub IsJoin : Junction → FormulaTree → Type 0
 IsJoin junction f = f ≡ joined junction (formulas_of_list (join_parts f))
 
 -- the part is gathered: whatever parts follow, the join of the new ones is that of the old ones and the part
-abbrev pub Gathers : Nodes → Junction → List ℕ → ℕ → List ℕ → Type 0
-Gathers nodes junction old part new = (rest : List FormulaTree) → simplified_join junction (trees_at (trees nodes) new ++ rest) ≡ simplified_join junction (trees_at (trees nodes) old ++ tree_at (trees nodes) part ∷ rest)
+abbrev pub GathersPart : Nodes → Junction → List ℕ → ℕ → List ℕ → Type 0
+GathersPart nodes junction old part new = (rest : List FormulaTree) → simplified_join junction (trees_at (trees nodes) new ++ rest) ≡ simplified_join junction (trees_at (trees nodes) old ++ tree_at (trees nodes) part ∷ rest)

@@ -4,7 +4,7 @@ ghost use Rattle.tl_nodes.specs.Fits.{all_below};
 ghost use Rattle.tl_nodes.specs.Joins.{simplified_join};
 ghost use Rattle.tl_nodes.specs.Numbering.{Keeps};
 ghost use Rattle.tl_nodes.specs.Numbers.{trees, Denotes, tree_in, trees_of_numbers};
-ghost use Rattle.tl_progress.specs.Parts.{Gathers};
+ghost use Rattle.tl_progress.specs.Parts.{GathersPart};
 ghost use Rattle.tl_syntax.specs.Junctions.{deciding_truth};
 ghost use Rattle.tl_terms.specs.Progression.{constant};
 
@@ -51,7 +51,7 @@ pub(crate) fn gather(
     requires parts { all_below (length (trees nodes.now)) parts.old ≡ true }
     requires part { part < length (trees nodes.now) }
     ensures below { OnOk result (all_below (length (trees nodes.now)) parts.new ≡ true) }
-    ensures same { OnOk result (Gathers nodes.now junction parts.old part parts.new) }
+    ensures same { OnOk result (GathersPart nodes.now junction parts.old part parts.new) }
 {
     if is_constant(nodes, part, !junction.deciding_truth()) {
         return Ok(());
