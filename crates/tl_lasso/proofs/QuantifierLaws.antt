@@ -2,7 +2,7 @@
 use Rattle.std.proofs.Common.{◌≡◌, ◌<◌, ◌+◌, ◌↔◌, ◌⊎◌, ◌&&◌, ◌||◌, ℕ, List, [], ◌∷◌, length, replicate, get_or, Bool, true, false, not, true≢false, refl, sym, ap, ◌∙◌, subst, inl, inr, arith}
 use Rattle.std.proofs.lemmas.List.{length-replicate, get_or-replicate}
 use native.Mathlib.Decide.{dec_lt}
-use Rattle.tl_lasso.specs.Instances.{Allows, Includes, Joins, Gathers, WasTrue}
+use Rattle.tl_lasso.specs.Instances.{IsNoStronger, Includes, Joins, Gathers, WasTrue}
 use Rattle.tl_check.specs.Passes.{joins}
 use Rattle.tl_check.specs.Cursors.{Quantifier}
 use Rattle.tl_syntax.proofs.ListLaws.{one_in, one_out, Each-Among}
@@ -55,8 +55,8 @@ includes-new Any old b new X q t = λ x. q ∙ right-true old b (t.0 x)
 includes-same : (j : Junction) (old new : Bool) (X : Type 0) → new ≡ old → Includes j old X → Includes j new X
 includes-same j old new X q h = subst (λ (b : Bool). Includes j b X) (sym q) h
 
-allows-same : (j : Junction) (old new : Bool) (W : Type 0) → new ≡ old → Allows j old W → Allows j new W
-allows-same j old new W q h = subst (λ (b : Bool). Allows j b W) (sym q) h
+allows-same : (j : Junction) (old new : Bool) (W : Type 0) → new ≡ old → IsNoStronger j old W → IsNoStronger j new W
+allows-same j old new W q h = subst (λ (b : Bool). IsNoStronger j b W) (sym q) h
 
 -- the instances of the tuples at this position are in the labels too, but for those of the tuples that are left
 pub record GathersHere (r : Situations) (count : ℕ) (e : Assignment) (q : Quantifier) (i : ℕ) (rest : List (List Value)) (bs : List Bool) : Type 0 where
@@ -79,11 +79,11 @@ module _ (r : Situations) (count : ℕ) (e : Assignment) (q : Quantifier) (d : D
   among : (t : List Value) (k : ℕ) → Among t (tuples (r k) e q.vars q.bound) ↔ ((length t ≡ length q.vars) × (there t k ≡ true))
   among t k = all-tuples (r k) e q.vars q.bound d o t
 
-  allows-new : (t : List Value) (k : ℕ) (old b new : Bool) → length t ≡ length q.vars → there t k ≡ true → Instance t k ↔ (b ≡ true) → new ≡ joins q.junction old b → Allows q.junction old (Whole k) → Allows q.junction new (Whole k)
+  allows-new : (t : List Value) (k : ℕ) (old b new : Bool) → length t ≡ length q.vars → there t k ≡ true → Instance t k ↔ (b ≡ true) → new ≡ joins q.junction old b → IsNoStronger q.junction old (Whole k) → IsNoStronger q.junction new (Whole k)
   unfolding Holds
   allows-new t k old b new l h tells is allows = by q.junction is allows
     where
-      by : (j : Junction) → new ≡ joins j old b → Allows j old (Holds r e (quantified j q.vars q.bound q.part) k) → Allows j new (Holds r e (quantified j q.vars q.bound q.part) k)
+      by : (j : Junction) → new ≡ joins j old b → IsNoStronger j old (Holds r e (quantified j q.vars q.bound q.part) k) → IsNoStronger j new (Holds r e (quantified j q.vars q.bound q.part) k)
       by All p a = λ w. p ∙ both-true old b (a w) (tells.0 ((Each-Among (λ u. Instance u k) (tuples (r k) e q.vars q.bound)).0 w t ((among t k).1 (l, h))))
       by Any p a = λ n. elim (one-true old b (sym p ∙ n)) [
         | inl m ↦ a m
@@ -99,7 +99,7 @@ module _ (r : Situations) (count : ℕ) (e : Assignment) (q : Quantifier) (d : D
     includes = λ t j k l h m a b. absurd (omega arith);
   }
     where
-      by : (j : Junction) (W : Type 0) {b : Bool} → b ≡ not (deciding_truth j) → Allows j b W
+      by : (j : Junction) (W : Type 0) {b : Bool} → b ≡ not (deciding_truth j) → IsNoStronger j b W
       by All W p = λ w. p
       by Any W p = λ n. absurd (true≢false (sym n ∙ p))
 
@@ -107,7 +107,7 @@ module _ (r : Situations) (count : ℕ) (e : Assignment) (q : Quantifier) (d : D
   unfolding Holds
   gathers-end bs so k h = by q.junction (so.allows k h) (λ t l m. so.includes t k k l h h m m)
     where
-      by : (j : Junction) → Allows j (get_or bs k false) (Holds r e (quantified j q.vars q.bound q.part) k) → ((t : List Value) → length t ≡ length q.vars → there t k ≡ true → Includes j (get_or bs k false) (Instance t k))
+      by : (j : Junction) → IsNoStronger j (get_or bs k false) (Holds r e (quantified j q.vars q.bound q.part) k) → ((t : List Value) → length t ≡ length q.vars → there t k ≡ true → Includes j (get_or bs k false) (Instance t k))
           → Holds r e (quantified j q.vars q.bound q.part) k ↔ (get_or bs k false ≡ true)
       by All a i = (a, λ n. (Each-Among (λ u. Instance u k) (tuples (r k) e q.vars q.bound)).1 (λ t m. let known = (among t k).0 m in i t known.0 known.1 n))
       by Any a i = (λ w. let found = one_out (λ u. Instance u k) (tuples (r k) e q.vars q.bound) w in let known = (among found.0 k).0 found.1.0 in i found.0 known.0 known.1 found.1.1, a)
@@ -151,10 +151,10 @@ module _ (r : Situations) (count : ℕ) (e : Assignment) (q : Quantifier) (d : D
         by true s = let x = joined.joined k h s in includes-old q.junction (get_or old k false) x.0 (get_or new k false) X x.2 n
         by false s = includes-same q.junction (get_or old k false) (get_or new k false) X (joined.others k h s) n
 
-    allowed : (k : ℕ) → k < count → Allows q.junction (get_or old k false) (Whole k) → Allows q.junction (get_or new k false) (Whole k)
+    allowed : (k : ℕ) → k < count → IsNoStronger q.junction (get_or old k false) (Whole k) → IsNoStronger q.junction (get_or new k false) (Whole k)
     allowed k h n = by (there t k) refl
       where
-        by : (b : Bool) → there t k ≡ b → Allows q.junction (get_or new k false) (Whole k)
+        by : (b : Bool) → there t k ≡ b → IsNoStronger q.junction (get_or new k false) (Whole k)
         by true s = let x = joined.joined k h s in allows-new t k (get_or old k false) x.0 (get_or new k false) l s x.1 x.2 n
         by false s = allows-same q.junction (get_or old k false) (get_or new k false) (Whole k) (joined.others k h s) n
 

@@ -12,9 +12,9 @@ use Rattle.tl_terms.specs.Bounds.{bound_true}
 use Rattle.tl_terms.specs.Run.{Situations, Holds}
 
 -- the label is no stronger than the whole: for all instances the whole makes it true, and for one instance it makes the whole true
-abbrev pub Allows : Junction → Bool → Type 0 → Type 0
-Allows All b whole = whole → b ≡ true
-Allows Any b whole = b ≡ true → whole
+abbrev pub IsNoStronger : Junction → Bool → Type 0 → Type 0
+IsNoStronger All b whole = whole → b ≡ true
+IsNoStronger Any b whole = b ≡ true → whole
 
 -- the label has the instance in it
 abbrev pub Includes : Junction → Bool → Type 0 → Type 0
@@ -39,6 +39,6 @@ pub record Joins (r : Situations) (count : ℕ) (e : Assignment) (q : Quantifier
 -- the instances of all tuples that make the bound true at one of the first i positions are in the labels, and no others
 pub record Gathers (r : Situations) (count : ℕ) (e : Assignment) (q : Quantifier) (i : ℕ) (bs : List Bool) : Type 0 where
   pub size : length bs ≡ count
-  pub allows : (k : ℕ) → k < count → Allows q.junction (slice_index_or bs k false) (Holds r e (quantified q.junction q.vars q.bound q.part) k)
+  pub allows : (k : ℕ) → k < count → IsNoStronger q.junction (slice_index_or bs k false) (Holds r e (quantified q.junction q.vars q.bound q.part) k)
   pub includes : (t : List Value) (j k : ℕ) → length t ≡ length q.vars → j < i → k < count → bound_true (r j) (bind q.vars t e) q.bound ≡ true → bound_true (r k) (bind q.vars t e) q.bound ≡ true
       → Includes q.junction (slice_index_or bs k false) (Holds r (bind q.vars t e) q.part k)
