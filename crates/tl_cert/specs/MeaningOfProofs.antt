@@ -9,14 +9,14 @@ use Rattle.tl_cert.specs.declared.proof.Link.{Link}
 use Rattle.tl_cert.specs.declared.proof.Proof.{Proof}
 
 -- the bound, by the parts of the head
-abbrev pub bound_meant_by : Option (Option (ℤ × ℕ)) → Option ℕ
-bound_meant_by None = None
-bound_meant_by (Some None) = None
-bound_meant_by (Some (Some n)) = Some (natural n.0)
+abbrev pub length_bound_meant_by : Option (Option (ℤ × ℕ)) → Option ℕ
+length_bound_meant_by None = None
+length_bound_meant_by (Some None) = None
+length_bound_meant_by (Some (Some n)) = Some (natural n.0)
 
 -- the bound of the head
 abbrev pub length_bound_meant : FormTree → Option ℕ
-length_bound_meant f = bound_meant_by (head_parts f)
+length_bound_meant f = length_bound_meant_by (head_parts f)
 
 -- a link, by its parts
 abbrev pub link_meant_by : List (List ℕ) → List Operator → Option (ℤ × ℕ × FormTree) → Link
