@@ -8,11 +8,11 @@ use Rattle.tl_terms.specs.ProblemMeaning.{plain_problem}
 use Rattle.tl_terms.specs.Step.{step}
 use Rattle.tl_terms.specs.World.{World}
 use Rattle.tl_explain.specs.declared.explanation.Explanation.{Explanation}
-use Rattle.tl_explain.specs.Explanations.{ComesOf, Follows, Stops}
+use Rattle.tl_explain.specs.Explanations.{ComesOf, FollowsAction, Stops}
 use Rattle.tl_explain.specs.Explain.{action_line, by_step, end_line, explain_text, lines_after, progressed_in, state_line, stopped_line}
 
 -- what comes of an action, by whether it has a step
-pub followed : (p : Problem) (k : ℕ) (a : Action) (old new : Explanation) (b : Bool) → b ≡ true → ComesOf p k a old new (Ok b) → Follows p k a old new
+pub followed : (p : Problem) (k : ℕ) (a : Action) (old new : Explanation) (b : Bool) → b ≡ true → ComesOf p k a old new (Ok b) → FollowsAction p k a old new
 followed p k a old new b e h = subst (λ (x : Bool). ComesOf p k a old new (Ok x)) e h
 
 pub stopped : (p : Problem) (k : ℕ) (a : Action) (old new : Explanation) (b : Bool) → b ≡ false → ComesOf p k a old new (Ok b) → Stops p a old new

@@ -53,14 +53,14 @@ pub record AwaitsFirst (p : Problem) (x : Explanation) : Type 0 where
   pub text : x.text ≡ []
 
 -- the formula that came in is progressed through the world, and the state, which k actions come before, has its line
-pub record Arrives (p : Problem) (k : ℕ) (old new : Explanation) : Type 0 where
+pub record ArrivesAtState (p : Problem) (k : ℕ) (old new : Explanation) : Type 0 where
   pub fit : IsFit p new
   pub world : new.world ≡ old.world
   pub formula : formula_in new ≡ progressed_in p old.world (formula_in old)
   pub text : new.text ≡ old.text ++ state_line p k (formula_in new)
 
 -- the action has a step, and its line and that of the state after it follow
-pub record Follows (p : Problem) (k : ℕ) (a : Action) (old new : Explanation) : Type 0 where
+pub record FollowsAction (p : Problem) (k : ℕ) (a : Action) (old new : Explanation) : Type 0 where
   pub fit : IsFit p new
   pub steps : step (plain_problem p) old.world a ≡ Some new.world
   pub formula : formula_in new ≡ progressed_in p new.world (formula_in old)
@@ -88,6 +88,6 @@ IsFollowFault p k a old x =
 
 -- what comes of an action after k others
 abbrev pub ComesOf : Problem → ℕ → Action → Explanation → Explanation → Result Bool ExplainFault → Type 0
-ComesOf p k a old new (Ok true) = Follows p k a old new
+ComesOf p k a old new (Ok true) = FollowsAction p k a old new
 ComesOf p k a old new (Ok false) = Stops p a old new
 ComesOf p k a old new (Err x) = IsFollowFault p k a old x

@@ -3,7 +3,7 @@ ghost use Rattle.std.specs.Prelude.{◌≡◌, ◌<◌, ◌++◌, ◌^◌, lengt
 ghost use Rattle.tl_line.specs.NamedActions.{ActionIsNamed};
 ghost use Rattle.tl_terms.specs.ProblemMeaning.{plain_problem};
 ghost use Rattle.tl_explain.specs.Explain.{end_line, stopped_line};
-ghost use Rattle.tl_explain.specs.Explanations.{formula_in, Arrives, AwaitsFirst, ComesOf, IsArrivalFault, IsFit};
+ghost use Rattle.tl_explain.specs.Explanations.{formula_in, ArrivesAtState, AwaitsFirst, ComesOf, IsArrivalFault, IsFit};
 
 use crate::ExplainFault;
 use crate::lines::{action_line, state_line, stopped_line};
@@ -63,7 +63,7 @@ impl Explanation {
     /// The formula that comes in is progressed through the world, and the line of this state, which so many actions come before, is added.
     pub(crate) fn arrive(&mut self, task: &Task, before: u32) -> Result<(), ExplainFault>
         requires fit { IsFit task.now.problem self.old }
-        ensures arrives { OnOk result (Arrives task.now.problem before self.old self.new) }
+        ensures arrives { OnOk result (ArrivesAtState task.now.problem before self.old self.new) }
         ensures cause { IfErr result (IsArrivalFault task.now.problem before self.old.world (formula_in self.old)) }
     {
         match progress(
