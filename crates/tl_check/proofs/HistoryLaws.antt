@@ -13,7 +13,7 @@ use Rattle.tl_check.proofs.LineLaws.{truth-stays}
 use Rattle.tl_check.specs.Differences.{AreBefore, fact_with, TellsNext}
 use Rattle.tl_check.specs.Histories.{AreRowsBefore, AreTracksUpTo, IsHistory, TellUpTo}
 use Rattle.tl_check.specs.Lines.{truth_from}
-use Rattle.tl_check.specs.Tracks.{changes_in, line_in, IsCovered}
+use Rattle.tl_check.specs.Tracks.{changes_in, line_in, HaveSeenAll}
 use Rattle.tl_check.specs.declared.history.History.{History}
 use Rattle.tl_check.specs.declared.line.Change.{Change}
 use Rattle.tl_check.specs.declared.tracks.Tracks.{Tracks}
@@ -60,7 +60,7 @@ no-change [] h = refl
 no-change (c ∷ cs) h = absurd (let first = h.0 in omega arith)
 
 module _ (q : ℕ) (ws : List World) where
-  pub tracks-begun : (t : Tracks) → ((g : Fact) → line_in t.lines g ≡ []) → IsCovered t → AreTracksUpTo 0 q ws t
+  pub tracks-begun : (t : Tracks) → ((g : Fact) → line_in t.lines g ≡ []) → HaveSeenAll t → AreTracksUpTo 0 q ws t
   tracks-begun t none covered = record {
     tell = λ a j w h s. absurd (omega arith);
     bounded = λ a. subst (AreBefore 0) (sym (none (fact_with q a))) tt;
@@ -68,7 +68,7 @@ module _ (q : ℕ) (ws : List World) where
   }
 
   -- the changes of one more state
-  pub tracks-on : (n : ℕ) (w : World) (rows : List (List Value)) (old new : Tracks) → slice_get ws n ≡ Some w → AreRowsBefore q ws n rows → AreTracksUpTo n q ws old → TellsNext q n rows w (line_in old.lines) (line_in new.lines) → IsCovered new → AreTracksUpTo (n + 1) q ws new
+  pub tracks-on : (n : ℕ) (w : World) (rows : List (List Value)) (old new : Tracks) → slice_get ws n ≡ Some w → AreRowsBefore q ws n rows → AreTracksUpTo n q ws old → TellsNext q n rows w (line_in old.lines) (line_in new.lines) → HaveSeenAll new → AreTracksUpTo (n + 1) q ws new
   tracks-on n w rows old new here before so next covered = record {
     tell = λ a j v h s. (elim (dec_lt j n) [
       | yes past ↦ next.earlier a j past ∙ so.tell a j v past s

@@ -2,7 +2,7 @@
 use Rattle.std.specs.Prelude.{◌≡◌, ◌↔◌, ◌<◌, ◌-◌, ℕ, List, [], length, true, false, Some, slice_get}
 use Rattle.tl_check.specs.Differences.{AreBefore, fact_with}
 use Rattle.tl_check.specs.Lines.{truth_from}
-use Rattle.tl_check.specs.Tracks.{Lines, line_in, IsCovered}
+use Rattle.tl_check.specs.Tracks.{Lines, line_in, HaveSeenAll}
 use Rattle.tl_check.specs.declared.history.History.{History}
 use Rattle.tl_check.specs.declared.tracks.Tracks.{Tracks}
 use Rattle.tl_syntax.specs.declared.value.Value.{Value}
@@ -22,7 +22,7 @@ TellUpTo n q ws lines = (a : List Value) (j : ℕ) (w : World) → j < n → sli
 pub record AreTracksUpTo (n q : ℕ) (ws : List World) (t : Tracks) : Type 0 where
   pub tell : TellUpTo n q ws t.lines
   pub bounded : (a : List Value) → AreBefore n (line_in t.lines (fact_with q a))
-  pub covered : IsCovered t
+  pub covered : HaveSeenAll t
 
 abbrev pub AreTracks : ℕ → List World → Tracks → Type 0
 AreTracks q ws t = AreTracksUpTo (length ws) q ws t

@@ -24,8 +24,8 @@ abbrev pub line_in : Lines → Fact → List Change
 line_in lines g = changes_in (get fact_eq lines g)
 
 -- every fact that has changes was seen
-abbrev pub IsCovered : Tracks → Type 0
-IsCovered t = (g : Fact) → IsSome (get fact_eq t.lines g) → Among g t.seen.items
+abbrev pub HaveSeenAll : Tracks → Type 0
+HaveSeenAll t = (g : Fact) → IsSome (get fact_eq t.lines g) → Among g t.seen.items
 
 -- the changes of the fact are taken out, and those of the others stay
 abbrev pub TakesLine : Fact → Lines → Lines → Type 0

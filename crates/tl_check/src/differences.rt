@@ -2,7 +2,7 @@
 ghost use Rattle.std.specs.Option.{option_copied};
 ghost use Rattle.std.specs.Prelude.{◌≡◌, [], length, slice_get, unwrap_or, ◌<◌, ◌^◌, IfOk, IfSome, OnOk};
 ghost use Rattle.tl_check.specs.Differences.{IsFirst, AreSameAt, AreSameRows, AddsRow, TellsState, fact_with};
-ghost use Rattle.tl_check.specs.Tracks.{IsCovered};
+ghost use Rattle.tl_check.specs.Tracks.{HaveSeenAll};
 ghost use Rattle.tl_world.specs.Plain.{row_cmp};
 
 use crate::line::Change;
@@ -98,9 +98,9 @@ impl Tracks {
         w: &World,
         at: usize,
     ) -> Result<(), NoMemory>
-        requires { IsCovered self.old }
+        requires { HaveSeenAll self.old }
         ensures noted { OnOk result (AddsRow pred row.now w.now at self.old.lines self.new.lines) }
-        ensures covered { OnOk result (IsCovered self.new) }
+        ensures covered { OnOk result (HaveSeenAll self.new) }
     {
         let fact = fact_of(alloc, pred, row)?;
         let truth = w.holds(pred, row);
@@ -118,9 +118,9 @@ impl Tracks {
         w: &World,
         at: usize,
     ) -> Result<(), NoMemory>
-        requires { IsCovered self.old }
+        requires { HaveSeenAll self.old }
         ensures told { OnOk result (TellsState pred (option_copied earlier.entry) w.now at self.old.lines self.new.lines) }
-        ensures covered { OnOk result (IsCovered self.new) }
+        ensures covered { OnOk result (HaveSeenAll self.new) }
     {
         let later = w.rows(pred);
         let mut x = 0;

@@ -1,6 +1,6 @@
 // The changes of facts, as they are found.
 ghost use Rattle.std.specs.Prelude.{◌≡◌, [], IfOk, OnOk};
-ghost use Rattle.tl_check.specs.Tracks.{line_in, IsCovered, TakesLine, AddsChange};
+ghost use Rattle.tl_check.specs.Tracks.{line_in, HaveSeenAll, TakesLine, AddsChange};
 ghost use Rattle.tl_syntax.specs.Lists.{Among};
 ghost use Rattle.tl_syntax.specs.declared.fact.Fact.{Fact as PlainFact};
 
@@ -22,7 +22,7 @@ impl Tracks {
     /// No fact has changed. It takes no memory.
     pub(crate) fn new(alloc: Global) -> Tracks
         ensures none { (g : PlainFact) → line_in result.lines g ≡ [] }
-        ensures covered { IsCovered result }
+        ensures covered { HaveSeenAll result }
     {
         Tracks {
             lines: HashMap::new(alloc),
@@ -32,7 +32,7 @@ impl Tracks {
 
     /// Takes the changes of a fact out, and counts it among those that were seen. It fails for want of memory alone.
     fn take_line(&mut self, alloc: Global, fact: &Fact) -> Result<Vec<Change>, NoMemory>
-        requires { IsCovered self.old }
+        requires { HaveSeenAll self.old }
         ensures line { IfOk result (λ line. line.items ≡ line_in self.old.lines fact.now) }
         ensures lines { OnOk result (TakesLine fact.now self.old.lines self.new.lines) }
         ensures seen { OnOk result (Among fact.now self.new.seen.items) }
@@ -50,9 +50,9 @@ impl Tracks {
 
     /// Adds a change of the fact after its other ones. It fails for want of memory alone.
     pub(crate) fn note(&mut self, alloc: Global, fact: Fact, change: Change) -> Result<(), NoMemory>
-        requires { IsCovered self.old }
+        requires { HaveSeenAll self.old }
         ensures noted { OnOk result (AddsChange fact change self.old.lines self.new.lines) }
-        ensures covered { OnOk result (IsCovered self.new) }
+        ensures covered { OnOk result (HaveSeenAll self.new) }
     {
         let mut line = self.take_line(alloc, &fact)?;
         line.push(change)?;
