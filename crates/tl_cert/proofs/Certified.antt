@@ -19,7 +19,7 @@ use Rattle.tl_search.proofs.ListLaws.{get-old, get-new, get-one, get-either, get
 use Rattle.tl_search.proofs.PathLaws.{pair-onward, walk-pair, walk-open, walk-accepted}
 use Rattle.tl_search.proofs.WalkLaws.{length-snoc}
 use Rattle.tl_cert.specs.Covers.{Covers, IsListedNear, IsNoFarther, IsRight, MustBeClosed, StaysInside}
-use Rattle.tl_cert.specs.Links.{AreGood, IsWithin, Lists}
+use Rattle.tl_cert.specs.Links.{AreGood, IsWithinBound, Lists}
 use Rattle.tl_cert.specs.LawsReadBack.{StartBefore}
 use Rattle.tl_cert.specs.Reports.{bound_of, links_of, IsNoneReport, IsOf, IsRightNone, IsSmall}
 use Rattle.tl_cert.specs.declared.proof.Link.{Link}
@@ -135,7 +135,7 @@ module _ (p : PlainProblem) where
   HasRoot old = (0 < length old) ⊎ ((x : Pair) × (pair_of p [] ≡ Some x) × (x.formula ≡ falsum))
 
   module _ (bound : Option ℕ) where
-    events-good : (old : List KeptPair) (es : List Event) (new : List KeptPair) → HasRoot old → AreTrueEvents p old es new → ((j : ℕ) (a : Action) (k : ℕ) (x : KeptPair) → Among (event.Kept j a k) es → slice_get new j ≡ Some x → IsWithin bound (x.path ++ a ∷ [])) → AreGood p bound old (links_of es) new
+    events-good : (old : List KeptPair) (es : List Event) (new : List KeptPair) → HasRoot old → AreTrueEvents p old es new → ((j : ℕ) (a : Action) (k : ℕ) (x : KeptPair) → Among (event.Kept j a k) es → slice_get new j ≡ Some x → IsWithinBound bound (x.path ++ a ∷ [])) → AreGood p bound old (links_of es) new
     events-good old [] new r t near = sym t
     events-good old (event.RootKept ∷ es) new r t near = absurd (by_root r)
       where
@@ -162,7 +162,7 @@ module _ (p : PlainProblem) where
     events-good old (event.Seen j a k ∷ es) new r t near = subst (λ zs. AreGood p bound zs (links_of es) new) t.1.5 (events-good t.0 es new (subst HasRoot (sym t.1.5) r) t.2 (λ i b m x h. near i b m x (inr h)))
     events-good old (event.Pruned j a ∷ es) new r t near = subst (λ zs. AreGood p bound zs (links_of es) new) t.1.5 (events-good t.0 es new (subst HasRoot (sym t.1.5) r) t.2 (λ i b m x h. near i b m x (inr h)))
 
-    events-list : (es : List Event) (kept : List KeptPair) → (es ≡ [] → ⊥) → AreTrueEvents p [] es kept → ((j : ℕ) (a : Action) (k : ℕ) (x : KeptPair) → Among (event.Kept j a k) es → slice_get kept j ≡ Some x → IsWithin bound (x.path ++ a ∷ [])) → Lists p bound (links_of es) kept
+    events-list : (es : List Event) (kept : List KeptPair) → (es ≡ [] → ⊥) → AreTrueEvents p [] es kept → ((j : ℕ) (a : Action) (k : ℕ) (x : KeptPair) → Among (event.Kept j a k) es → slice_get kept j ≡ Some x → IsWithinBound bound (x.path ++ a ∷ [])) → Lists p bound (links_of es) kept
     events-list [] kept some t near = absurd (some refl)
     events-list (event.RootKept ∷ es) kept some t near = (t.0, (t.1.0, t.1.1, inr (t.1.2, t.1.4)), events-good t.0 es kept (inl (omega (arith, ap length t.1.4))) t.2 (λ j a k x m. near j a k x (inr m)))
     events-list (event.RootPruned ∷ es) kept some t near = (t.0, (t.1.0, t.1.1, inl (t.1.2, t.1.4)), events-good t.0 es kept (inr (t.1.0, t.1.1, t.1.2)) t.2 (λ j a k x m. near j a k x (inr m)))
@@ -171,18 +171,18 @@ module _ (p : PlainProblem) where
     events-list (event.Pruned j a ∷ es) kept some t near = let b : ⊥ = cc in absurd b
 
     -- the paths of listed nodes are within the bound
-    good-within : (old : List KeptPair) (links : List Link) (new : List KeptPair) → AreGood p bound old links new → ((i : ℕ) (x : KeptPair) → slice_get old i ≡ Some x → IsWithin bound x.path) → (i : ℕ) (x : KeptPair) → slice_get new i ≡ Some x → IsWithin bound x.path
+    good-within : (old : List KeptPair) (links : List Link) (new : List KeptPair) → AreGood p bound old links new → ((i : ℕ) (x : KeptPair) → slice_get old i ≡ Some x → IsWithinBound bound x.path) → (i : ℕ) (x : KeptPair) → slice_get new i ≡ Some x → IsWithinBound bound x.path
     good-within old [] new g h i x e = h i x (subst (λ zs. slice_get zs i ≡ Some x) g e)
-    good-within old (link ∷ links) new g h i x e = good-within (old ++ g.0 ∷ []) links new g.2 (λ j y f. elim (get-either old g.0 j y f) [ inl k ↦ h j y k | inr k ↦ subst (λ (z : KeptPair). IsWithin bound z.path) k.1 g.1.near ]) i x e
+    good-within old (link ∷ links) new g h i x e = good-within (old ++ g.0 ∷ []) links new g.2 (λ j y f. elim (get-either old g.0 j y f) [ inl k ↦ h j y k | inr k ↦ subst (λ (z : KeptPair). IsWithinBound bound z.path) k.1 g.1.near ]) i x e
 
-    lists-within : (links : List Link) (listed : List KeptPair) → IsWithin bound [] → Lists p bound links listed → (i : ℕ) (x : KeptPair) → slice_get listed i ≡ Some x → IsWithin bound x.path
+    lists-within : (links : List Link) (listed : List KeptPair) → IsWithinBound bound [] → Lists p bound links listed → (i : ℕ) (x : KeptPair) → slice_get listed i ≡ Some x → IsWithinBound bound x.path
     lists-within links listed empty l = good-within l.0 links listed l.2 (λ i x e. root i x e l.1.2)
       where
-        root : (i : ℕ) (x : KeptPair) → slice_get l.0 i ≡ Some x → ((l.1.0.formula ≡ falsum) × (l.0 ≡ [])) ⊎ ((l.1.0.formula ≢ falsum) × (l.0 ≡ record { node = l.1.0; path = [] } ∷ [])) → IsWithin bound x.path
+        root : (i : ℕ) (x : KeptPair) → slice_get l.0 i ≡ Some x → ((l.1.0.formula ≡ falsum) × (l.0 ≡ [])) ⊎ ((l.1.0.formula ≢ falsum) × (l.0 ≡ record { node = l.1.0; path = [] } ∷ [])) → IsWithinBound bound x.path
         root i x e (inl a) = let d : slice_get [] i ≡ Some x = subst (λ zs. slice_get zs i ≡ Some x) a.1 e in let b : ⊥ = cc in absurd b
         root i x e (inr a) =
             let node : KeptPair = record { node = l.1.0; path = [] } in
-            subst (λ (z : KeptPair). IsWithin bound z.path) (get-single node i x (subst (λ zs. slice_get zs i ≡ Some x) a.1 e)).1 empty
+            subst (λ (z : KeptPair). IsWithinBound bound z.path) (get-single node i x (subst (λ zs. slice_get zs i ≡ Some x) a.1 e)).1 empty
 
   -- ---- the proof of a report
 
@@ -190,13 +190,13 @@ module _ (p : PlainProblem) where
     some-event : report.events ≡ [] → ⊥
     some-event e = let d : [] ≡ r.begins.first ∷ r.begins.rest = sym e ∙ r.begins.begins in let b : ⊥ = cc in b
 
-    within-of : (o : Outcome) (path : List Action) (a : Action) → length path < n → IsWithin (bound_of n o) (path ++ a ∷ [])
+    within-of : (o : Outcome) (path : List Action) (a : Action) → length path < n → IsWithinBound (bound_of n o) (path ++ a ∷ [])
     within-of (outcome.Plan plan) path a less = omega (arith, length-snoc path a)
     within-of outcome.NoPlan path a less = tt
     within-of outcome.NoneWithin path a less = omega (arith, length-snoc path a)
     within-of outcome.Spent path a less = omega (arith, length-snoc path a)
 
-    within-root : (o : Outcome) → IsWithin (bound_of n o) []
+    within-root : (o : Outcome) → IsWithinBound (bound_of n o) []
     within-root (outcome.Plan plan) = omega arith
     within-root outcome.NoPlan = tt
     within-root outcome.NoneWithin = omega arith
@@ -210,7 +210,7 @@ module _ (p : PlainProblem) where
       end = lists-end p (bound_of n report.outcome) (links_of report.events) kept listed k x there
 
       -- its path is a plan where it is accepted
-      not-accepted : (o : Outcome) → IsRightNone p n o → IsWithin (bound_of n o) x.path → IsAccepted p x.path → ⊥
+      not-accepted : (o : Outcome) → IsRightNone p n o → IsWithinBound (bound_of n o) x.path → IsAccepted p x.path → ⊥
       not-accepted (outcome.Plan plan) h w a = h
       not-accepted outcome.NoPlan h w a = h.0 x.path a
       not-accepted outcome.NoneWithin h w a = h x.path w a

@@ -11,7 +11,7 @@ use Rattle.tl_search.specs.PairGraph.{next_pair, pair_graph}
 use Rattle.tl_search.proofs.PathLaws.{unless-pruned, walk-accepted}
 use Rattle.tl_search.proofs.WalkLaws.{by_last, length-snoc, walk-back}
 use Rattle.tl_cert.specs.Covers.{Covers, HasNone, IsListedNear, IsNoFarther, IsRight, MustBeClosed}
-use Rattle.tl_cert.specs.Links.{IsWithin}
+use Rattle.tl_cert.specs.Links.{IsWithinBound}
 use Rattle.tl_cert.specs.declared.proof.Proof.{Proof}
 use Rattle.tl_cert.proofs.GoodLinks.{root-listed}
 
@@ -21,11 +21,11 @@ IsNoLonger None path other = Unit {0}
 IsNoLonger (Some n) path other = length path ≤ length other
 
 -- a walk with one action more at its end
-within-front : (bound : Option ℕ) (front : List Action) (a : Action) → IsWithin bound (front ++ a ∷ []) → IsWithin bound front
+within-front : (bound : Option ℕ) (front : List Action) (a : Action) → IsWithinBound bound (front ++ a ∷ []) → IsWithinBound bound front
 within-front None front a h = tt
 within-front (Some n) front a h = omega (arith, length-snoc front a)
 
-asked-within : (bound : Option ℕ) (path front : List Action) (a : Action) → IsNoLonger bound path front → IsWithin bound (front ++ a ∷ []) → MustBeClosed bound path
+asked-within : (bound : Option ℕ) (path front : List Action) (a : Action) → IsNoLonger bound path front → IsWithinBound bound (front ++ a ∷ []) → MustBeClosed bound path
 asked-within None path front a h k = tt
 asked-within (Some n) path front a h k = omega (arith, length-snoc front a)
 
@@ -55,30 +55,30 @@ module _ (p : PlainProblem) (bound : Option ℕ) (listed : List KeptPair) (right
   IsReached path v = (m : ℕ) × (z : KeptPair) × (slice_get listed m ≡ Some z) × (z.node ≡ v) × IsNoLonger bound z.path path
 
   module _ (first : (v : Pair) → (pair_graph p).root ≡ Some v → slice_get listed 0 ≡ Some (record { node = v; path = [] })) where
-    reached : (path : List Action) (v : Pair) → IsWithin bound path → walk (pair_graph p) path ≡ Some v → IsReached path v
-    reached = by_last (λ path. (v : Pair) → IsWithin bound path → walk (pair_graph p) path ≡ Some v → IsReached path v) at_root further
+    reached : (path : List Action) (v : Pair) → IsWithinBound bound path → walk (pair_graph p) path ≡ Some v → IsReached path v
+    reached = by_last (λ path. (v : Pair) → IsWithinBound bound path → walk (pair_graph p) path ≡ Some v → IsReached path v) at_root further
       where
-        at_root : (v : Pair) → IsWithin bound [] → walk (pair_graph p) [] ≡ Some v → IsReached [] v
+        at_root : (v : Pair) → IsWithinBound bound [] → walk (pair_graph p) [] ≡ Some v → IsReached [] v
         at_root v w e = (0, record { node = v; path = [] }, first v (walk-first p v e), refl, no-longer-root bound)
 
-        onward : (front : List Action) (a : Action) (u v : Pair) → IsWithin bound (front ++ a ∷ []) → (next_pair p u a ≡ Some v) × (v.formula ≢ falsum) → IsReached front u → IsReached (front ++ a ∷ []) v
+        onward : (front : List Action) (a : Action) (u v : Pair) → IsWithinBound bound (front ++ a ∷ []) → (next_pair p u a ≡ Some v) × (v.formula ≢ falsum) → IsReached front u → IsReached (front ++ a ∷ []) v
         onward front a u v w l h = by_successor ((right h.0 h.1 h.2).closed (asked-within bound h.1.path front a h.4 w) a v (ap (λ (z : Pair). next_pair p z a) h.3 ∙ l.0))
           where
             by_successor : (v.formula ≡ falsum) ⊎ IsListedNear bound listed h.1.path v → IsReached (front ++ a ∷ []) v
             by_successor (inl f) = absurd (l.1 f)
             by_successor (inr m) = (m.0, m.1, m.2, m.3, no-longer-on bound h.1.path m.1.path front a h.4 m.4)
 
-        further : (front : List Action) (a : Action) → ((v : Pair) → IsWithin bound front → walk (pair_graph p) front ≡ Some v → IsReached front v) → (v : Pair) → IsWithin bound (front ++ a ∷ []) → walk (pair_graph p) (front ++ a ∷ []) ≡ Some v → IsReached (front ++ a ∷ []) v
+        further : (front : List Action) (a : Action) → ((v : Pair) → IsWithinBound bound front → walk (pair_graph p) front ≡ Some v → IsReached front v) → (v : Pair) → IsWithinBound bound (front ++ a ∷ []) → walk (pair_graph p) (front ++ a ∷ []) ≡ Some v → IsReached (front ++ a ∷ []) v
         further front a earlier v w e =
             let b = walk-back (pair_graph p) front a v e in
             onward front a b.0 v w (leads-on p b.0 a v b.2) (earlier b.0 (within-front bound front a w) b.1)
 
-    not-accepted : (path : List Action) (v : Pair) → IsWithin bound path → walk (pair_graph p) path ≡ Some v → IsPairAccepted p v → ⊥
+    not-accepted : (path : List Action) (v : Pair) → IsWithinBound bound path → walk (pair_graph p) path ≡ Some v → IsPairAccepted p v → ⊥
     not-accepted path v w e h = let m = reached path v w e in (right m.0 m.1 m.2).unaccepted (subst (IsPairAccepted p) (sym m.3) h)
 
 pub covered-has-none : (p : PlainProblem) (proof : Proof) → Covers p proof → HasNone p proof.bound
 covered-has-none p proof c = by_bound proof.bound (λ plan w h. let k = (walk-accepted p plan).0 h in not-accepted p proof.bound c.listed c.right (λ v e. root-listed p proof.bound proof.links c.listed v c.lists e) plan k.0 w k.1 k.2)
   where
-    by_bound : (bound : Option ℕ) → ((plan : List Action) → IsWithin bound plan → IsAccepted p plan → ⊥) → HasNone p bound
+    by_bound : (bound : Option ℕ) → ((plan : List Action) → IsWithinBound bound plan → IsAccepted p plan → ⊥) → HasNone p bound
     by_bound None h = λ plan. h plan tt
     by_bound (Some n) h = λ plan short. h plan short

@@ -7,7 +7,7 @@ use Rattle.tl_search.specs.KeptPairs.{KeptPair}
 use Rattle.tl_search.proofs.WalkLaws.{length-snoc}
 use Rattle.tl_cert.specs.Checking.{depths_of, goes_on, is_no_farther}
 use Rattle.tl_cert.specs.Covers.{IsNoFarther, MustBeClosed}
-use Rattle.tl_cert.specs.Links.{IsWithin}
+use Rattle.tl_cert.specs.Links.{IsWithinBound}
 
 pub depth-kept : (kept : List KeptPair) (i : ℕ) (x : KeptPair) → slice_get kept i ≡ Some x → slice_get (depths_of kept) i ≡ Some (length x.path)
 depth-kept kept i x e = slice_get-map (λ (y : KeptPair). length y.path) kept i ∙ ap (option_map (λ (y : KeptPair). length y.path)) e
@@ -30,11 +30,11 @@ length-depths (x ∷ kept) = ap suc (length-depths kept)
 
 -- ---- tests
 
-pub goes-within : (bound : Option ℕ) (d : ℕ) (path : List Action) (a : Action) → length path ≡ d → goes_on bound d ≡ true → IsWithin bound (path ++ a ∷ [])
+pub goes-within : (bound : Option ℕ) (d : ℕ) (path : List Action) (a : Action) → length path ≡ d → goes_on bound d ≡ true → IsWithinBound bound (path ++ a ∷ [])
 goes-within None d path a e t = tt
 goes-within (Some n) d path a e t = omega (arith, length-snoc path a, ltb-true d n t)
 
-pub stops-within : (bound : Option ℕ) (d : ℕ) (path : List Action) (a : Action) → length path ≡ d → goes_on bound d ≡ false → IsWithin bound (path ++ a ∷ []) → ⊥
+pub stops-within : (bound : Option ℕ) (d : ℕ) (path : List Action) (a : Action) → length path ≡ d → goes_on bound d ≡ false → IsWithinBound bound (path ++ a ∷ []) → ⊥
 stops-within None d path a e t w = true≢false t
 stops-within (Some n) d path a e t w = let b : ⊥ = omega (arith, length-snoc path a, ltb-false d n t) in b
 

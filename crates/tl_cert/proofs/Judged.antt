@@ -29,7 +29,7 @@ use Rattle.tl_search.proofs.WalkLaws.{length-snoc}
 use Rattle.tl_world.specs.declared.task.Task.{Task}
 use Rattle.tl_cert.specs.Checking.{AreShort, depths_of, goes_on, is_no_farther, AreKnownActions, IsReady, ListsLink, TellsInside, TellsClosed}
 use Rattle.tl_cert.specs.Covers.{IsListedNear, IsNoFarther, StaysInside}
-use Rattle.tl_cert.specs.Links.{IsGood, IsWithin, ListsRoot}
+use Rattle.tl_cert.specs.Links.{IsGood, IsWithinBound, ListsRoot}
 use Rattle.tl_cert.specs.Verdicts.{LeadsOut}
 use Rattle.tl_cert.specs.declared.checking.Checking.{Checking}
 use Rattle.tl_cert.specs.declared.known.NodeActions.{NodeActions}
@@ -57,7 +57,7 @@ module _ (p : PlainProblem) (bound : Option ℕ) (old : List KeptPair) where
     same-from next g = get-one old link.from g.from from.0 g.is_from from.1
 
     pub link-stops : goes_on bound d ≡ false → ListsLink p bound old old link false
-    link-stops t next g = stops-within bound d from.0.path link.action from.2 t (subst (IsWithin bound) (g.path ∙ ap (λ (z : KeptPair). z.path ++ link.action ∷ []) (same-from next g)) g.near)
+    link-stops t next g = stops-within bound d from.0.path link.action from.2 t (subst (IsWithinBound bound) (g.path ∙ ap (λ (z : KeptPair). z.path ++ link.action ∷ []) (same-from next g)) g.near)
 
     pub link-without-step : (IsExecutableAt p old link.from link.action → ⊥) → ListsLink p bound old old link false
     link-without-step n next g = n (λ x e. let same : g.from ≡ x = get-one old link.from g.from x g.is_from e in next-steps p x.node link.action next.node (ap (λ (z : KeptPair). next_pair p z.node link.action) (sym same) ∙ g.leads))

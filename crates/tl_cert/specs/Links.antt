@@ -9,9 +9,9 @@ use Rattle.tl_search.specs.PairGraph.{next_pair}
 use Rattle.tl_cert.specs.declared.proof.Link.{Link}
 
 -- the path has no more actions than the bound, where there is one
-abbrev pub IsWithin : Option ℕ → List Action → Type 0
-IsWithin None path = Unit {0}
-IsWithin (Some n) path = length path ≤ n
+abbrev pub IsWithinBound : Option ℕ → List Action → Type 0
+IsWithinBound None path = Unit {0}
+IsWithinBound (Some n) path = length path ≤ n
 
 -- after these listed nodes the link is good, and lists this one: its action has a step at the listed node that it starts from, and leads to a new pair, whose formula is not FALSE, within the bound
 pub record IsGood (p : PlainProblem) (bound : Option ℕ) (listed : List KeptPair) (link : Link) (next : KeptPair) : Type 0 where
@@ -21,7 +21,7 @@ pub record IsGood (p : PlainProblem) (bound : Option ℕ) (listed : List KeptPai
   pub unpruned : next.node.formula ≢ falsum
   pub new : (i : ℕ) (x : KeptPair) → slice_get listed i ≡ Some x → x.node ≢ next.node
   pub path : next.path ≡ from.path ++ link.action ∷ []
-  pub near : IsWithin bound next.path
+  pub near : IsWithinBound bound next.path
 
 -- the node of number 0: that of the empty path, which is not listed where its formula is FALSE
 abbrev pub ListsRoot : PlainProblem → List KeptPair → Type 0

@@ -8,8 +8,8 @@ chosen_bytes files None = None
 chosen_bytes files (Some index) = Some (bytes_at files index)
 
 -- the chosen file is one of the list, and no more than all of it was taken
-abbrev pub IsWithin : List (List ℕ × List ℕ) → Option ℕ → ℕ → Type 0
-IsWithin files chosen taken = (index : ℕ) → chosen ≡ Some index → (index < length files) × (taken ≤ length (bytes_at files index))
+abbrev pub IsTakenWithin : List (List ℕ × List ℕ) → Option ℕ → ℕ → Type 0
+IsTakenWithin files chosen taken = (index : ℕ) → chosen ≡ Some index → (index < length files) × (taken ≤ length (bytes_at files index))
 
 -- how many bytes of a file are left after this many; none where no file is chosen
 abbrev pub left_after : Option (List ℕ) → ℕ → ℕ

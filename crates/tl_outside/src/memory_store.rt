@@ -4,7 +4,7 @@ ghost use Rattle.std.specs.Io.{ReadsAtMost};
 ghost use Rattle.tl_outside.specs.Causes.{HasCause, Rose};
 ghost use Rattle.tl_outside.specs.Told.{told_file, Lacks, GivesFrom};
 ghost use Rattle.tl_outside.specs.FileList.{files_of};
-ghost use Rattle.tl_outside.specs.Chosen.{IsWithin};
+ghost use Rattle.tl_outside.specs.Chosen.{IsTakenWithin};
 ghost use Rattle.tl_outside.specs.Script.{counted};
 
 use crate::script::Script;
@@ -25,7 +25,7 @@ pub struct MemoryStore {
     // How many calls of `begin` there were.
     begun: u64,
     ghost some: { 1 ≤ most },
-    ghost within: { IsWithin files chosen taken },
+    ghost within: { IsTakenWithin files chosen taken },
 }
 
 impl MemoryStore {
