@@ -11,11 +11,11 @@ use Rattle.tl_syntax.specs.Lists.{Each, Among}
 use Rattle.tl_terms.specs.World.{World, has_fact}
 
 -- what is known of two next rows, whichever order rows have
-abbrev pub IsFirst : Option (List Value) → Option (List Value) → First → Type 0
-IsFirst x y Both = (a : List Value) × (x ≡ Some a) × (y ≡ Some a)
-IsFirst x y (Earlier row) = x ≡ Some row.now
-IsFirst x y (Later row) = y ≡ Some row.now
-IsFirst x y Neither = (x ≡ None) × (y ≡ None)
+abbrev pub IsFirstRow : Option (List Value) → Option (List Value) → First → Type 0
+IsFirstRow x y Both = (a : List Value) × (x ≡ Some a) × (y ≡ Some a)
+IsFirstRow x y (Earlier row) = x ≡ Some row.now
+IsFirstRow x y (Later row) = y ≡ Some row.now
+IsFirstRow x y Neither = (x ≡ None) × (y ≡ None)
 
 -- so many rows from a place on, one at least, are those of the others from a place on
 pub record AreSameFrom (rows : List (List Value)) (x : ℕ) (others : List (List Value)) (y n : ℕ) : Type 0 where
@@ -25,7 +25,7 @@ pub record AreSameFrom (rows : List (List Value)) (x : ℕ) (others : List (List
 
 -- the rows at two places, where the rows are given or there are none, are there and are the same
 abbrev pub AreSameAt : Option (List (List Value)) → ℕ → Option (List (List Value)) → ℕ → Type 0
-AreSameAt rows x others y = IsFirst (slice_get (unwrap_or rows []) x) (slice_get (unwrap_or others []) y) Both
+AreSameAt rows x others y = IsFirstRow (slice_get (unwrap_or rows []) x) (slice_get (unwrap_or others []) y) Both
 
 -- and so are so many from there on
 abbrev pub AreSameRows : Option (List (List Value)) → ℕ → Option (List (List Value)) → ℕ → ℕ → Type 0

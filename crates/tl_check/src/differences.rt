@@ -1,7 +1,7 @@
 // Where the facts of a predicate differ between one state and the next.
 ghost use Rattle.std.specs.Option.{option_copied};
 ghost use Rattle.std.specs.Prelude.{◌≡◌, [], length, slice_get, unwrap_or, ◌<◌, ◌^◌, IfOk, IfSome, OnOk};
-ghost use Rattle.tl_check.specs.Differences.{IsFirst, AreSameAt, AreSameRows, AddsRow, TellsState, fact_with};
+ghost use Rattle.tl_check.specs.Differences.{IsFirstRow, AreSameAt, AreSameRows, AddsRow, TellsState, fact_with};
 ghost use Rattle.tl_check.specs.Tracks.{HaveSeenAll};
 ghost use Rattle.tl_world.specs.Plain.{row_cmp};
 
@@ -51,7 +51,7 @@ fn order_of(x: &[Value], y: &[Value]) -> Ordering
 
 /// Which of the two rows comes first. It takes no memory.
 fn first_of<'a>(earlier: Option<&'a [Value]>, later: Option<&'a [Value]>) -> First<'a>
-    ensures { IsFirst (option_copied earlier.entry) (option_copied later.entry) result }
+    ensures { IsFirstRow (option_copied earlier.entry) (option_copied later.entry) result }
 {
     match (earlier, later) {
         (Some(x), Some(y)) => match order_of(x, y) {

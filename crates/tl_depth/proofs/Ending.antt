@@ -29,7 +29,7 @@ use Rattle.tl_depth.proofs.Running as run
 use Rattle.tl_depth.proofs.PairAnswers.{differ-places, kept-near, nothing-left, calls-few}
 use Rattle.tl_depth.proofs.PairWalks.{by_falsum, none-open, none-accepted, leading-walks, pairs-lawful, pairs-actions}
 use Rattle.tl_depth.specs.Outcomes.{Reported, AreFewCalls, IsDepthFirstOutcome, IsDepthFirstFault, IsToldOutcome}
-use Rattle.tl_depth.specs.Ongoing.{IsOngoing, IsEntered, IsEntryFault, IsNew, IsFirst, Begun, TurnedTo, to_do}
+use Rattle.tl_depth.specs.Ongoing.{IsOngoing, IsEntered, IsEntryFault, IsNew, HasRootAlone, Begun, TurnedTo, to_do}
 use Rattle.tl_search.specs.declared.event.Event.{Event}
 use Rattle.tl_depth.specs.Search.{Reports}
 use Rattle.tl_terms.specs.Paths.{IsDistance}
@@ -181,7 +181,7 @@ pub first-plan : (p q : PlainProblem) (b n : ℕ) (kept more : List Pair) (x : P
     → (reported : Reports Pair) → IsDepthFirstOutcome p n b more (outcome.Plan path) × AreFewCalls p n more 0 × IsToldAlong p reported path
 first-plan p q b n kept more x l u k e f a path h reported = begins-plan p b more x l u (f ∙ k) n (subst (λ r. IsPairAccepted r x) e a) path h reported
 
-pub first-kept : (p q r : PlainProblem) (b : ℕ) (kept more : List Pair) (w : DepthFirst) (x : Pair) → 1 ≤ b → unless_pruned (Some (first_pair p)) ≡ Some x → kept ≡ [] ++ x ∷ [] → q ≡ p → r ≡ q → more ≡ kept → (IsPairAccepted q x → ⊥) → IsNew w → IsFirst r b more w
+pub first-kept : (p q r : PlainProblem) (b : ℕ) (kept more : List Pair) (w : DepthFirst) (x : Pair) → 1 ≤ b → unless_pruned (Some (first_pair p)) ≡ Some x → kept ≡ [] ++ x ∷ [] → q ≡ p → r ≡ q → more ≡ kept → (IsPairAccepted q x → ⊥) → IsNew w → HasRootAlone r b more w
 first-kept p q r b kept more w x l u k e h f a n = (x, ap (λ z. unless_pruned (Some (first_pair z))) (h ∙ e) ∙ u, f ∙ k, l, (λ t. a (subst (λ z. IsPairAccepted z x) h t)), n)
 
 -- ---- between

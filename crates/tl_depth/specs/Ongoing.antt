@@ -110,5 +110,5 @@ Begun p b kept old new None = IsOngoing p b kept new 0 × (new.within ≡ old.wi
 Begun p b kept old new (Some o) = IsDepthFirstOutcome p old.within b kept o × AreFewCalls p old.within kept 0 × IsToldOutcome p old.within old.watch kept new.events o
 
 -- the first pair alone is kept, and it is not accepted
-abbrev pub IsFirst : PlainProblem → ℕ → List Pair → DepthFirst → Type 0
-IsFirst p b kept w = (x : Pair) × (unless_pruned (Some (first_pair p)) ≡ Some x) × (kept ≡ [] ++ x ∷ []) × (1 ≤ b) × (IsPairAccepted p x → ⊥) × IsNew w
+abbrev pub HasRootAlone : PlainProblem → ℕ → List Pair → DepthFirst → Type 0
+HasRootAlone p b kept w = (x : Pair) × (unless_pruned (Some (first_pair p)) ≡ Some x) × (kept ≡ [] ++ x ∷ []) × (1 ≤ b) × (IsPairAccepted p x → ⊥) × IsNew w

@@ -11,7 +11,7 @@ ghost use Rattle.tl_depth.specs.Outcomes.{IsDepthFirstFault, IsDepthFirstOutcome
 ghost use Rattle.tl_depth.specs.Reports.{AreFewSteps};
 ghost use Rattle.tl_depth.specs.Tables.{IsUncut};
 ghost use Rattle.tl_depth.specs.Turns.{SearchGoesOn};
-ghost use Rattle.tl_depth.specs.Ongoing.{IsNew, IsFirst, Begun};
+ghost use Rattle.tl_depth.specs.Ongoing.{IsNew, HasRootAlone, Begun};
 
 use crate::stack::DepthFirst;
 use std::alloc::Global;
@@ -135,7 +135,7 @@ impl DepthFirst {
         space: &mut S,
         nodes: usize,
     ) -> Result<(), SearchFault>
-        requires first { IsFirst (S.problem space.old) nodes (pairs_of (S.kept space.old)) self.old }
+        requires first { HasRootAlone (S.problem space.old) nodes (pairs_of (S.kept space.old)) self.old }
         requires named { SearchIsNamed (S.task space.old) self.old }
         requires remembered { Remembers (S.problem space.old) (S.task space.old) (S.kept space.old) self.old.expansions }
         ensures task { S.task space.new ≡ S.task space.old }
