@@ -29,7 +29,7 @@ use Rattle.tl_depth.proofs.Running as run
 use Rattle.tl_depth.proofs.PairAnswers.{differ-places, kept-near, nothing-left, calls-few}
 use Rattle.tl_depth.proofs.PairWalks.{by_falsum, none-open, none-accepted, leading-walks, pairs-lawful, pairs-actions}
 use Rattle.tl_depth.specs.Outcomes.{Reported, AreFewCalls, IsDepthFirstOutcome, IsDepthFirstFault, IsToldOutcome}
-use Rattle.tl_depth.specs.Ongoing.{IsOngoing, IsEntered, IsEntryFault, IsNew, HasRootAlone, Begun, TurnedTo, to_do}
+use Rattle.tl_depth.specs.Ongoing.{IsOngoing, IsEntered, IsEntryFault, HasDoneNothing, HasRootAlone, Begun, TurnedTo, to_do}
 use Rattle.tl_search.specs.declared.event.Event.{Event}
 use Rattle.tl_depth.specs.Search.{Reports}
 use Rattle.tl_terms.specs.Paths.{IsDistance}
@@ -150,7 +150,7 @@ module _ (p : PlainProblem) (b : ℕ) (kept : List Pair) (x : Pair) (some : 1 �
   refused-first : (IsPairAccepted p x → ⊥) → IsPairAccepted p (first_pair p) → ⊥
   refused-first r a = r (subst (IsPairAccepted p) (unpruned-first p x first).1 a)
 
-  pub begun-last : (w after : DepthFirst) → IsNew w → (IsPairAccepted p x → ⊥) → w.within ≡ 0 → after.within ≡ w.within → after.watch ≡ w.watch → after.events ≡ w.events → after.reenters ≡ true → after.stack.items ≡ w.stack.items → after.most.items ≡ w.most.items ++ w.within ∷ []
+  pub begun-last : (w after : DepthFirst) → HasDoneNothing w → (IsPairAccepted p x → ⊥) → w.within ≡ 0 → after.within ≡ w.within → after.watch ≡ w.watch → after.events ≡ w.events → after.reenters ≡ true → after.stack.items ≡ w.stack.items → after.most.items ≡ w.most.items ++ w.within ∷ []
       → Begun p b kept w after None
   unfolding graph_of
   begun-last w after new refused z wn ww we wr ws wm = (
@@ -161,7 +161,7 @@ module _ (p : PlainProblem) (b : ℕ) (kept : List Pair) (x : Pair) (some : 1 �
     ww,
   )
 
-  pub begun-entered : (w after : DepthFirst) → IsNew w → (IsPairAccepted p x → ⊥) → 0 < w.within → after.within ≡ w.within → after.watch ≡ w.watch → after.events ≡ w.events → IsEntered p kept 0 w.within w.stack.items after.stack.items → after.most.items ≡ w.most.items ++ w.within ∷ []
+  pub begun-entered : (w after : DepthFirst) → HasDoneNothing w → (IsPairAccepted p x → ⊥) → 0 < w.within → after.within ≡ w.within → after.watch ≡ w.watch → after.events ≡ w.events → IsEntered p kept 0 w.within w.stack.items after.stack.items → after.most.items ≡ w.most.items ++ w.within ∷ []
       → Begun p b kept w after None
   unfolding graph_of
   begun-entered w after new refused z wn ww we t wm = (
@@ -181,7 +181,7 @@ pub first-plan : (p q : PlainProblem) (b n : ℕ) (kept more : List Pair) (x : P
     → (reported : Reports Pair) → IsDepthFirstOutcome p n b more (outcome.Plan path) × AreFewCalls p n more 0 × IsToldAlong p reported path
 first-plan p q b n kept more x l u k e f a path h reported = begins-plan p b more x l u (f ∙ k) n (subst (λ r. IsPairAccepted r x) e a) path h reported
 
-pub first-kept : (p q r : PlainProblem) (b : ℕ) (kept more : List Pair) (w : DepthFirst) (x : Pair) → 1 ≤ b → unless_pruned (Some (first_pair p)) ≡ Some x → kept ≡ [] ++ x ∷ [] → q ≡ p → r ≡ q → more ≡ kept → (IsPairAccepted q x → ⊥) → IsNew w → HasRootAlone r b more w
+pub first-kept : (p q r : PlainProblem) (b : ℕ) (kept more : List Pair) (w : DepthFirst) (x : Pair) → 1 ≤ b → unless_pruned (Some (first_pair p)) ≡ Some x → kept ≡ [] ++ x ∷ [] → q ≡ p → r ≡ q → more ≡ kept → (IsPairAccepted q x → ⊥) → HasDoneNothing w → HasRootAlone r b more w
 first-kept p q r b kept more w x l u k e h f a n = (x, ap (λ z. unless_pruned (Some (first_pair z))) (h ∙ e) ∙ u, f ∙ k, l, (λ t. a (subst (λ z. IsPairAccepted z x) h t)), n)
 
 -- ---- between

@@ -99,7 +99,7 @@ TurnedTo p b kept old new calls before after None = (made : ℕ) × (made + befo
 TurnedTo p b kept old new calls before after (Some o) = (made : ℕ) × (made + before ≡ calls + after) × Turned p b kept old new made (Some o)
 
 -- nothing was done yet
-pub record IsNew (w : DepthFirst) : Type 0 where
+pub record HasDoneNothing (w : DepthFirst) : Type 0 where
   pub most : w.most.items ≡ []
   pub stack : w.stack.items ≡ []
   pub expansions : KnowsNothing w.expansions
@@ -111,4 +111,4 @@ Begun p b kept old new (Some o) = IsDepthFirstOutcome p old.within b kept o × A
 
 -- the first pair alone is kept, and it is not accepted
 abbrev pub HasRootAlone : PlainProblem → ℕ → List Pair → DepthFirst → Type 0
-HasRootAlone p b kept w = (x : Pair) × (unless_pruned (Some (first_pair p)) ≡ Some x) × (kept ≡ [] ++ x ∷ []) × (1 ≤ b) × (IsPairAccepted p x → ⊥) × IsNew w
+HasRootAlone p b kept w = (x : Pair) × (unless_pruned (Some (first_pair p)) ≡ Some x) × (kept ≡ [] ++ x ∷ []) × (1 ≤ b) × (IsPairAccepted p x → ⊥) × HasDoneNothing w

@@ -11,7 +11,7 @@ ghost use Rattle.tl_depth.specs.Outcomes.{IsDepthFirstFault, IsDepthFirstOutcome
 ghost use Rattle.tl_depth.specs.Reports.{AreFewSteps};
 ghost use Rattle.tl_depth.specs.Tables.{IsUncut};
 ghost use Rattle.tl_depth.specs.Turns.{SearchGoesOn};
-ghost use Rattle.tl_depth.specs.Ongoing.{IsNew, HasRootAlone, Begun};
+ghost use Rattle.tl_depth.specs.Ongoing.{HasDoneNothing, HasRootAlone, Begun};
 
 use crate::stack::DepthFirst;
 use std::alloc::Global;
@@ -43,7 +43,7 @@ impl DepthFirst {
     ) -> Result<Outcome, SearchFault>
         requires empty { S.kept space.old ≡ [] }
         requires nodes { 1 ≤ nodes }
-        requires new { IsNew self.old }
+        requires new { HasDoneNothing self.old }
         requires events { self.old.events ≡ [] }
         ensures task { S.task space.new ≡ S.task space.old }
         ensures problem { S.problem space.new ≡ S.problem space.old }
@@ -81,7 +81,7 @@ impl DepthFirst {
     ) -> Result<Option<Outcome>, SearchFault>
         requires empty { S.kept space.old ≡ [] }
         requires nodes { 1 ≤ nodes }
-        requires new { IsNew self.old }
+        requires new { HasDoneNothing self.old }
         requires events { self.old.events ≡ [] }
         ensures task { S.task space.new ≡ S.task space.old }
         ensures problem { S.problem space.new ≡ S.problem space.old }
