@@ -22,7 +22,7 @@ use Rattle.tl_cost.specs.Ongoing.{IsAt, IsInTurn}
 use Rattle.tl_cost.specs.Outcomes.{IsSpentNear, OpensAsMany}
 use Rattle.tl_cost.specs.PlanCosts.{action_cost}
 use Rattle.tl_cost.specs.Ticks.{Extends, StaySettled}
-use Rattle.tl_cost.specs.Ways.{IsUpto, Adds, GoesOn, HasRoom, Improves, IsMet, Meets, entry_of, is_listed, listed_len}
+use Rattle.tl_cost.specs.Ways.{IsUpto, Adds, GoesOn, HasRoomAfter, Improves, IsMet, Meets, entry_of, is_listed, listed_len}
 use Rattle.tl_cost.specs.declared.open_list.Entry.{Entry}
 use Rattle.tl_cost.specs.declared.ways.Way.{Way}
 use Rattle.tl_cost.specs.declared.ways.Found.{Found}
@@ -49,7 +49,7 @@ after-none p x y z a e f g =
     k.1 (ap (λ (u : Pair). u.formula) (sym s) ∙ f)
 
 -- there is room for one more action
-pub turn-room : (p : PlainProblem) (task : Task) (costs : List ℕ) (b : ℕ) (kept : List KeptPair) (found : Found) (at : ℕ) (rest : Option (List Action)) → IsInTurn p task costs b kept found at rest → b ≤ 100000 → HasRoom found at
+pub turn-room : (p : PlainProblem) (task : Task) (costs : List ℕ) (b : ℕ) (kept : List KeptPair) (found : Found) (at : ℕ) (rest : Option (List Action)) → IsInTurn p task costs b kept found at rest → b ≤ 100000 → HasRoomAfter found at
 turn-room p task costs b kept found at rest t few =
     let s = t.ongoing in
     let q : t.way.length + listed_len found.open_list < length kept = s.settled_short at t.way t.is_at.way t.settled in

@@ -80,7 +80,7 @@ pub record GoesOn (costs : List ℕ) (w : Way) (at : ℕ) (a : Action) (m : Way)
   pub small : action_cost costs a < 4294967296
 
 -- there is room for one more action after the way to the pair of this number
-pub record HasRoom (found : Found) (at : ℕ) : Type 0 where
+pub record HasRoomAfter (found : Found) (at : ℕ) : Type 0 where
   pub way : Way
   pub its_way : slice_get found.ways.items at ≡ Some way
   pub cheap : way.cost + 4294967296 < 2 ^ 64

@@ -6,7 +6,7 @@ ghost use Rattle.tl_search.specs.NamedAnswers.{IsNamedIn, FaultIsNamed};
 ghost use Rattle.tl_cost.specs.Ongoing.{HasAction, IsBetweenTurns, IsInTurn, IsTriedAt};
 ghost use Rattle.tl_cost.specs.Outcomes.{EndIsNamed, IsCheapestFault, IsUnaccepted, Leaves, OpensUnlessSpent, OpensIfNone, SpentOr, TellsWay, TellsWayOn};
 ghost use Rattle.tl_cost.specs.Ticks.{Extends, StaySettled, TicksTurn};
-ghost use Rattle.tl_cost.specs.Ways.{AreLinked, Follows, ForWay, GoesOn, HasRoom, IsMet, MeetsAgain};
+ghost use Rattle.tl_cost.specs.Ways.{AreLinked, Follows, ForWay, GoesOn, HasRoomAfter, IsMet, MeetsAgain};
 
 use crate::costs::{Costs, cost_of};
 use crate::outcome::CostOutcome;
@@ -160,7 +160,7 @@ impl UniformCost<'_> {
 
     /// The way to a pair with one more action.
     fn way_after(&self, found: &Found, at: usize, a: &Action) -> Result<Way, NoMemory>
-        requires { HasRoom found.now at }
+        requires { HasRoomAfter found.now at }
         ensures { IfOk result (λ way. ForWay found.now at (λ w. GoesOn self.now.costs.now w at a.now way)) }
     {
         let before = &found.ways[at];
@@ -174,7 +174,7 @@ impl UniformCost<'_> {
 
     /// A kept pair is met again by an action: its way is replaced where the cost, or at the same cost the length, falls.
     fn meet(&self, found: &mut Found, at: usize, a: &Action, k: usize) -> Result<(), NoMemory>
-        requires room { HasRoom found.old at }
+        requires room { HasRoomAfter found.old at }
         requires met { ForWay found.old at (λ w. IsMet self.now.costs.now found.old w a.now k) }
         ensures { OnOk result (MeetsAgain self.now.costs.now found.old found.new at a.now k) }
     {

@@ -6,7 +6,7 @@ use Rattle.std.proofs.lemmas.List.Sums.{sum_by-cons}
 use Rattle.std.proofs.lemmas.Option.{slice_get_within, slice_get-map, slice_get_read}
 use Rattle.std.specs.Option.{option_map}
 use Rattle.tl_eval.specs.Reading.{rank}
-use Rattle.tl_eval.specs.StateTruth.{FitsAt, HasRoom}
+use Rattle.tl_eval.specs.StateTruth.{FitsAt, HaveSlots}
 use Rattle.tl_eval.proofs.ArityLaws.{AreFew}
 use Rattle.tl_eval.proofs.FormulaSizes.{formula_nodes, past_bodies}
 use Rattle.tl_eval.proofs.ReadingLaws.{less-or-same, get-take, take-past, read_level}
@@ -109,10 +109,10 @@ pub record Body (q : Problem) (n k i j slots : ℕ) (d : Definition) : Type 0 wh
   pub fits : FitsAt (signature_of q.domain) i (tree_of_formula d.body)
   pub in_frame : Each (λ s. s.slot < 32) d.params
   pub falls : suc (rank (plain_problem q) i j) ≤ rank (plain_problem q) n k
-  pub room : HasRoom (plain_problem q) i j (slots - 32)
+  pub room : HaveSlots (plain_problem q) i j (slots - 32)
   pub smaller : formula_nodes (tree_of_formula d.body) < past_bodies (plain_problem q)
 
-pub body-is : (q : Problem) (n k i j slots : ℕ) (d : Definition) → slice_get q.domain.definitions i ≡ Some d → i ≤ n → read_level n k i d.levels ≡ suc j → HasRoom (plain_problem q) n k slots → Body q n k i j slots d
+pub body-is : (q : Problem) (n k i j slots : ℕ) (d : Definition) → slice_get q.domain.definitions i ≡ Some d → i ≤ n → read_level n k i d.levels ≡ suc j → HaveSlots (plain_problem q) n k slots → Body q n k i j slots d
 body-is q n k i j slots d e h z room =
     let keeps = q.domain_keeps.definitions i d e in
     let there = plain-is q i d e in
@@ -155,9 +155,9 @@ inside q n i count items s h = let known = named q.domain.definitions n i count 
 pub record AtOwnLevel (q : Problem) (n k i count l slots : ℕ) : Type 0 where
   pub takes : Takes (signature_of q.domain).definitions i count
   pub rank : rank (plain_problem q) i l ≤ rank (plain_problem q) n k
-  pub room : HasRoom (plain_problem q) i l slots
+  pub room : HaveSlots (plain_problem q) i l slots
 
-pub at_own_level : (q : Problem) (n k i count l slots : ℕ) (d : Definition) → AtDefinition q n k i count l d → Takes (with_definitions_below (n + 1) (signature_of q.domain)).definitions i count → 0 < l → HasRoom (plain_problem q) n k slots → AtOwnLevel q n k i count l slots
+pub at_own_level : (q : Problem) (n k i count l slots : ℕ) (d : Definition) → AtDefinition q n k i count l d → Takes (with_definitions_below (n + 1) (signature_of q.domain)).definitions i count → 0 < l → HaveSlots (plain_problem q) n k slots → AtOwnLevel q n k i count l slots
 unfolding rank
 at_own_level q n k i count l slots d at h above room =
     let arities : List ℕ = map (λ (x : Definition). length x.params) q.domain.definitions in
@@ -186,7 +186,7 @@ pub count-plain : (q : Problem) → length (plain_problem q).definitions ≡ len
 unfolding plain_problem
 count-plain q = length-map q.domain.definitions plain_definition
 
-pub room-whole : (q : Problem) (n slots : ℕ) → length q.domain.definitions ≤ n → 4128 ≤ slots → HasRoom (plain_problem q) n 0 slots
+pub room-whole : (q : Problem) (n slots : ℕ) → length q.domain.definitions ≤ n → 4128 ≤ slots → HaveSlots (plain_problem q) n 0 slots
 unfolding plain_problem rank
 room-whole q n slots h k =
     let all : take n (map plain_definition q.domain.definitions) ≡ map plain_definition q.domain.definitions = take-past n (map plain_definition q.domain.definitions) (omega (arith, length-map q.domain.definitions plain_definition)) in

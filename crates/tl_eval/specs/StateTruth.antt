@@ -28,8 +28,8 @@ pub record FitsAt (g : Signature) (n : ℕ) (f : FormulaTree) : Type 0 where
   pub fits : Fits (with_definitions_below (n + 1) g) around f
 
 -- so many slots are enough: a frame of this scope, and one for each body that can be open below it
-abbrev pub HasRoom : PlainProblem → ℕ → ℕ → ℕ → Type 0
-HasRoom p n k slots = 32 * (rank p n k + 1) ≤ slots
+abbrev pub HaveSlots : PlainProblem → ℕ → ℕ → ℕ → Type 0
+HaveSlots p n k slots = 32 * (rank p n k + 1) ≤ slots
 
 -- the formula's truth where it is read in a world of the task, under the first of the frames; or a note
 abbrev pub IsTruthIn : Task → World → Reading → List (Option Value) → FormulaTree → Result Bool RangeNote → Type 0
@@ -50,7 +50,7 @@ TakesIn task r n count = Takes (with_definitions_below (r.number + 1) (signature
 
 -- so many slots are enough where this is read in the task
 abbrev pub HasRoomIn : Task → Reading → ℕ → Type 0
-HasRoomIn task r slots = HasRoom (plain_problem task.problem) r.number r.level slots
+HasRoomIn task r slots = HaveSlots (plain_problem task.problem) r.number r.level slots
 
 -- whether the formula is true in a world of the task, under the frame
 abbrev pub true_in_frame : Task → World → List (Option Value) → FormulaTree → Bool
