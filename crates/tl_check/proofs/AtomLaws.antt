@@ -9,7 +9,7 @@ use Rattle.tl_check.proofs.SpanLaws.{marks_in-by, test_from-marks}
 use Rattle.tl_check.specs.Ahead.{Ahead, true_ahead}
 use Rattle.tl_check.specs.Differences.{fact_with}
 use Rattle.tl_check.specs.Facts.{IsAlong, IsOverGoal, Guides, fact_ahead, bound_ahead}
-use Rattle.tl_check.specs.Histories.{IsHistory}
+use Rattle.tl_check.specs.Histories.{IsFactHistory}
 use Rattle.tl_check.specs.Lines.{truth_from, test_from}
 use Rattle.tl_check.specs.Spans.{IsWithin, marks_in}
 use Rattle.tl_check.specs.Tracks.{line_in}
@@ -128,15 +128,15 @@ opened-at [] i w h = absurd (let z : ⊥ = cc in z)
 opened-at (v ∷ ws) zero w h = let q : v ≡ w = cc in ap (λ (u : World). u ∷ ws) q
 opened-at (v ∷ ws) (suc i) w h = opened-at ws i w h
 
-pub history-marks : (ws : List World) (h : History) (span : Span) (q : ℕ) (a : List Value) → IsWithin span (length ws) → IsHistory ws h → h.pred ≡ q → test_from (truth_from false (line_in h.lines (fact_with q a))) span.from (span.to - span.from) ≡ marks_in (fact_ahead (q, a)) ws span
+pub history-marks : (ws : List World) (h : History) (span : Span) (q : ℕ) (a : List Value) → IsWithin span (length ws) → IsFactHistory ws h → h.pred ≡ q → test_from (truth_from false (line_in h.lines (fact_with q a))) span.from (span.to - span.from) ≡ marks_in (fact_ahead (q, a)) ws span
 history-marks ws h span q a within so pred = test_from-marks (truth_from false (line_in h.lines (fact_with q a))) (fact_ahead (q, a)) ws span within (λ i l. (
     let v = there-is ws i l in
     ap (λ (k : ℕ). truth_from false (line_in h.lines (fact_with k a)) i) (sym pred)
     ∙ (so.tell a i v.0 l v.1 ∙ (ap (λ (k : ℕ). has_fact v.0 (k, a)) pred ∙ sym (ap (fact_ahead (q, a)) (opened-at ws i v.0 v.1))))
     ))
 
-pub history-known : (along : Along) (h : History) → IsAlong along → Among h along.histories.now → IsHistory along.worlds.now h
-history-known along h is m = each-among (IsHistory along.worlds.now) along.histories.now h is.histories m
+pub history-known : (along : Along) (h : History) → IsAlong along → Among h along.histories.now → IsFactHistory along.worlds.now h
+history-known along h is m = each-among (IsFactHistory along.worlds.now) along.histories.now h is.histories m
 
 pub marks_in-agree : (t u : Ahead) → ((s : List World) → t s ≡ u s) → (ws : List World) (span : Span) → marks_in t ws span ≡ marks_in u ws span
 marks_in-agree t u h ws span = ap (take (span.to - span.from)) (marks-agree_all t u h (drop span.from ws))
@@ -182,7 +182,7 @@ goal-marks p e b ws span w truth g within q = same-marks p e ws span (bound_ahea
 pub goal-guides : (p : PlainProblem) (ws : List World) (b : Bound) (w : World) → IsOverGoal b → Guides p ws b w
 goal-guides p ws b w g = λ e v m h. goal-same p e b w v g ∙ h
 
-pub fact-guides : (p : PlainProblem) (ws : List World) (q : ℕ) (xs : List Arg) (h : History) → IsHistory ws h → h.pred ≡ q → Guides p ws (bound.Fact q xs) h.ever
+pub fact-guides : (p : PlainProblem) (ws : List World) (q : ℕ) (xs : List Arg) (h : History) → IsFactHistory ws h → h.pred ≡ q → Guides p ws (bound.Fact q xs) h.ever
 unfolding bound_true situation_of
 fact-guides p ws q xs h so pred = λ e w m t. by (arg_values e xs) w m t
   where

@@ -11,7 +11,7 @@ use Rattle.std.proofs.lemmas.Option.{slice_get_within}
 use native.Mathlib.Decide.{dec_lt}
 use Rattle.tl_check.proofs.LineLaws.{truth-stays}
 use Rattle.tl_check.specs.Differences.{AreBefore, fact_with, TellsNext}
-use Rattle.tl_check.specs.Histories.{AreRowsBefore, AreTracksUpTo, IsHistory, TellUpTo}
+use Rattle.tl_check.specs.Histories.{AreRowsBefore, AreTracksUpTo, IsFactHistory, TellUpTo}
 use Rattle.tl_check.specs.Lines.{truth_from}
 use Rattle.tl_check.specs.Tracks.{changes_in, line_in, HaveSeenAll}
 use Rattle.tl_check.specs.declared.history.History.{History}
@@ -127,7 +127,7 @@ some-changes : (o : Option (Vec Change)) (i : ℕ) → truth_from false (changes
 some-changes None i h = absurd (true≢false (sym h))
 some-changes (Some v) i h = refl
 
-pub history-of : (q : ℕ) (ws : List World) (t : Tracks) (h : History) → AreTracksUpTo (length ws) q ws t → h.pred ≡ q → h.lines ≡ t.lines → h.ever ≡ world_of t.seen.items [] → IsHistory ws h
+pub history-of : (q : ℕ) (ws : List World) (t : Tracks) (h : History) → AreTracksUpTo (length ws) q ws t → h.pred ≡ q → h.lines ≡ t.lines → h.ever ≡ world_of t.seen.items [] → IsFactHistory ws h
 history-of q ws t h so pred lines ever = record {
   tell = subst (λ (k : ℕ). TellUpTo (length ws) k ws h.lines) (sym pred) (subst (TellUpTo (length ws) q ws) (sym lines) so.tell);
   ever = λ a w m holds. (

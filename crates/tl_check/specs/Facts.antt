@@ -1,7 +1,7 @@
 -- The states of a plan with what is known of the facts in them.
 use Rattle.std.specs.Prelude.{◌≡◌, ◌≤◌, ◌^◌, List, [], ◌∷◌, length, true, false}
 use Rattle.tl_check.specs.Ahead.{Ahead, in_first}
-use Rattle.tl_check.specs.Histories.{IsHistory}
+use Rattle.tl_check.specs.Histories.{IsFactHistory}
 use Rattle.tl_check.specs.declared.along.Along.{Along}
 use Rattle.tl_syntax.specs.declared.bound.Bound.{Bound}
 use Rattle.tl_syntax.specs.declared.bound.Bound.TheVariants as bound
@@ -16,7 +16,7 @@ use Rattle.tl_terms.specs.World.{World, has_fact}
 -- the states are at most as many as a plan has, and the histories are theirs
 pub record IsAlong (along : Along) : Type 0 where
   pub few : length along.worlds.now ≤ 2 ^ 32
-  pub histories : Each (IsHistory along.worlds.now) along.histories.now
+  pub histories : Each (IsFactHistory along.worlds.now) along.histories.now
 
 -- the fact is in the first world, where there is one
 abbrev pub fact_ahead : Key → Ahead

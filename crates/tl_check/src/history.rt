@@ -1,7 +1,7 @@
 // When the facts of a predicate hold along some states.
 ghost use Rattle.std.specs.Option.{option_copied};
 ghost use Rattle.std.specs.Prelude.{◌≡◌, ◌<◌, [], length, unwrap_or, IfOk};
-ghost use Rattle.tl_check.specs.Histories.{IsHistory, AreTracks, AreRowsBefore};
+ghost use Rattle.tl_check.specs.Histories.{IsFactHistory, AreTracks, AreRowsBefore};
 ghost use Rattle.tl_check.specs.Tracks.{line_in};
 
 use crate::line::Change;
@@ -52,7 +52,7 @@ impl History {
     /// It takes the time of going over the predicate's rows in each state, and memory for each change.
     pub(crate) fn of(alloc: Global, pred: u32, worlds: &[World]) -> Result<History, NoMemory>
         ensures pred { IfOk result (λ h. h.pred ≡ pred) }
-        ensures history { IfOk result (IsHistory worlds.now) }
+        ensures history { IfOk result (IsFactHistory worlds.now) }
     {
         let tracks = tracks_of(alloc, pred, worlds)?;
         let ever = World::of(alloc, tracks.seen.as_slice(), &[])?;

@@ -1,6 +1,6 @@
 // The predicates of which a formula speaks, and when their facts hold.
 ghost use Rattle.std.specs.Prelude.{IfOk};
-ghost use Rattle.tl_check.specs.Histories.{IsHistory};
+ghost use Rattle.tl_check.specs.Histories.{IsFactHistory};
 ghost use Rattle.tl_syntax.specs.Lists.{Each};
 
 use crate::history::History;
@@ -77,7 +77,7 @@ pub(crate) fn histories_of(
     f: &Formula,
     worlds: &[World],
 ) -> Result<Vec<History>, NoMemory>
-    ensures { IfOk result (λ histories. Each (IsHistory worlds.now) histories.items) }
+    ensures { IfOk result (λ histories. Each (IsFactHistory worlds.now) histories.items) }
 {
     let mut preds = Vec::new(alloc);
     add_of(&mut preds, f)?;
