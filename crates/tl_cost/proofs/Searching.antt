@@ -25,7 +25,7 @@ use Rattle.tl_search.proofs.RangeLaws.{range-at-root}
 use Rattle.tl_cost.specs.LeastCosts.{HasFewNearPairs, IsCalmAtLeastCost, IsCheapestCause}
 use Rattle.tl_cost.specs.Ongoing.{IsAt, IsOngoing, IsBetweenTurns, IsInTurn}
 use Rattle.tl_cost.specs.Outcomes.{AnswersWhereCalm, IsCheapestFault, IsCheapestOutcome, OpensAsMany}
-use Rattle.tl_cost.specs.Ticks.{IsTicked, IsCounted, IsSettled, StaySettled}
+use Rattle.tl_cost.specs.Ticks.{IsTicked, IsCounted, IsPairSettled, StaySettled}
 use Rattle.tl_cost.specs.Ways.{Adds, Drops, IsFirstOf, entry_of, is_listed, listed_len}
 use Rattle.tl_cost.specs.declared.open_list.Entry.{Entry}
 use Rattle.tl_cost.specs.declared.open_list.OpenList.{OpenList}
@@ -65,7 +65,7 @@ module _ (p : PlainProblem) (task : Task) (costs : List ℕ) (b : ℕ) (kept : L
         }
 
     -- which was not settled
-    pub between-unsettled : IsSettled found e.number → ⊥
+    pub between-unsettled : IsPairSettled found e.number → ⊥
     between-unsettled h =
         let x = t.ongoing.exact e listed in
         let same : x.1 ≡ h.way = get-one found.ways.items e.number x.1 h.way x.2.way h.its_way in
@@ -80,7 +80,7 @@ module _ (p : PlainProblem) (task : Task) (costs : List ℕ) (b : ℕ) (kept : L
     }
 
 -- the pair whose turn it is is settled
-pub turn-settled : (p : PlainProblem) (task : Task) (costs : List ℕ) (b : ℕ) (kept : List KeptPair) (found : Found) (at : ℕ) (rest : Option (List Action)) → IsInTurn p task costs b kept found at rest → IsSettled found at
+pub turn-settled : (p : PlainProblem) (task : Task) (costs : List ℕ) (b : ℕ) (kept : List KeptPair) (found : Found) (at : ℕ) (rest : Option (List Action)) → IsInTurn p task costs b kept found at rest → IsPairSettled found at
 turn-settled p task costs b kept found at rest t = record { way = t.way; its_way = t.is_at.way; settled = t.settled }
 
 -- fewer turns are left

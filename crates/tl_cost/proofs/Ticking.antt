@@ -10,7 +10,7 @@ use Rattle.tl_terms.specs.Step.{step}
 use Rattle.tl_search.specs.KeptPairs.{KeptPair}
 use Rattle.tl_search.specs.ListedActions.{ListsActions}
 use Rattle.tl_search.proofs.ListLaws.{get-one, get-either}
-use Rattle.tl_cost.specs.Ticks.{Turn, IsTurn, AreTurns, IsTicked, IsCounted, IsSettled, TicksTurn, Extends, StaySettled, total}
+use Rattle.tl_cost.specs.Ticks.{Turn, IsTurn, AreTurns, IsTicked, IsCounted, IsPairSettled, TicksTurn, Extends, StaySettled, total}
 use Rattle.tl_cost.specs.declared.ways.Found.{Found}
 
 -- a turn of no action
@@ -54,7 +54,7 @@ turn-grows p old new t grows h = record {
   executable = λ a m y f. subst (λ (z : KeptPair). IsTrue (is_some (step p z.node.world a))) (get-one new t.number h.pair y (grows t.number h.pair h.is_pair) f) (h.executable a m h.pair h.is_pair);
 }
 
-module _ (p : PlainProblem) (from : ℕ) (old new : List KeptPair) (found : Found) (steps more at : ℕ) (grows : Extends old new) (c : IsCounted p from old found steps) (fresh : IsSettled found at → ⊥) (t : TicksTurn p new at steps more) where
+module _ (p : PlainProblem) (from : ℕ) (old new : List KeptPair) (found : Found) (steps more at : ℕ) (grows : Extends old new) (c : IsCounted p from old found steps) (fresh : IsPairSettled found at → ⊥) (t : TicksTurn p new at steps more) where
   -- one more turn, of a pair that was not settled
   pub more-turns : AreTurns p new (c.turns ++ record { number = at; actions = t.actions } ∷ [])
   more-turns = record {
@@ -64,8 +64,8 @@ module _ (p : PlainProblem) (from : ℕ) (old new : List KeptPair) (found : Foun
     where
       by_place : (i j : ℕ) (s u : Turn) → s.number ≡ u.number → (slice_get c.turns i ≡ Some s) ⊎ ((i ≡ length c.turns) × (record { number = at; actions = t.actions } ≡ s)) → (slice_get c.turns j ≡ Some u) ⊎ ((j ≡ length c.turns) × (record { number = at; actions = t.actions } ≡ u)) → i ≡ j
       by_place i j s u same (inl h) (inl k) = c.are.differ i j s u h k same
-      by_place i j s u same (inl h) (inr k) = absurd (fresh (subst (IsSettled found) (same ∙ ap (λ (v : Turn). v.number) (sym k.1)) (c.settled i s h)))
-      by_place i j s u same (inr h) (inl k) = absurd (fresh (subst (IsSettled found) (sym same ∙ ap (λ (v : Turn). v.number) (sym h.1)) (c.settled j u k)))
+      by_place i j s u same (inl h) (inr k) = absurd (fresh (subst (IsPairSettled found) (same ∙ ap (λ (v : Turn). v.number) (sym k.1)) (c.settled i s h)))
+      by_place i j s u same (inr h) (inl k) = absurd (fresh (subst (IsPairSettled found) (sym same ∙ ap (λ (v : Turn). v.number) (sym h.1)) (c.settled j u k)))
       by_place i j s u same (inr h) (inr k) = h.0 ∙ sym k.0
 
   more-ticks : more ≡ from + total (c.turns ++ record { number = at; actions = t.actions } ∷ [])
@@ -74,10 +74,10 @@ module _ (p : PlainProblem) (from : ℕ) (old new : List KeptPair) (found : Foun
   pub ticked-turn : IsTicked p from new more
   ticked-turn = record { turns = c.turns ++ record { number = at; actions = t.actions } ∷ []; are = more-turns; ticks = more-ticks }
 
-  pub counted-turn : (later : Found) → StaySettled found later → IsSettled later at → IsCounted p from new later more
+  pub counted-turn : (later : Found) → StaySettled found later → IsPairSettled later at → IsCounted p from new later more
   counted-turn later stay settled = record {
     turns = c.turns ++ record { number = at; actions = t.actions } ∷ [];
     are = more-turns;
     ticks = more-ticks;
-    settled = λ i s e. elim (get-either c.turns (record { number = at; actions = t.actions }) i s e) [ inl h ↦ stay s.number (c.settled i s h) | inr h ↦ subst (λ (u : Turn). IsSettled later u.number) h.1 settled ];
+    settled = λ i s e. elim (get-either c.turns (record { number = at; actions = t.actions }) i s e) [ inl h ↦ stay s.number (c.settled i s h) | inr h ↦ subst (λ (u : Turn). IsPairSettled later u.number) h.1 settled ];
   }

@@ -45,7 +45,7 @@ pub record TicksTurn (p : PlainProblem) (kept : List KeptPair) (at steps more : 
   pub ticks : more ≡ steps + length actions
 
 -- the pair of the number is settled
-pub record IsSettled (found : Found) (k : ℕ) : Type 0 where
+pub record IsPairSettled (found : Found) (k : ℕ) : Type 0 where
   pub way : Way
   pub its_way : slice_get found.ways.items k ≡ Some way
   pub settled : is_listed found.open_list (entry_of way k) ≡ false
@@ -55,7 +55,7 @@ pub record IsCounted (p : PlainProblem) (from : ℕ) (kept : List KeptPair) (fou
   pub turns : List Turn
   pub are : AreTurns p kept turns
   pub ticks : steps ≡ from + total turns
-  pub settled : (i : ℕ) (t : Turn) → slice_get turns i ≡ Some t → IsSettled found t.number
+  pub settled : (i : ℕ) (t : Turn) → slice_get turns i ≡ Some t → IsPairSettled found t.number
 
 -- the kept pairs stay, under their numbers
 abbrev pub Extends : List KeptPair → List KeptPair → Type 0
@@ -63,7 +63,7 @@ Extends old new = (i : ℕ) (x : KeptPair) → slice_get old i ≡ Some x → sl
 
 -- settled pairs stay so
 abbrev pub StaySettled : Found → Found → Type 0
-StaySettled old new = (k : ℕ) → IsSettled old k → IsSettled new k
+StaySettled old new = (k : ℕ) → IsPairSettled old k → IsPairSettled new k
 
 -- where the steps so far are counted, so are those of the whole search
 abbrev pub TicksRest : PlainProblem → List KeptPair → List KeptPair → Found → ℕ → ℕ → Type 0
