@@ -3,7 +3,7 @@ use Rattle.std.proofs.Common.{◌≡◌, ◌↔◌, ◌⊎◌, ◌<◌, ◌≤�
 use Rattle.tl_action.specs.declared.arranged.Arranged.{Arranged}
 use Rattle.tl_action.specs.declared.fault.ActFault.{ActFault}
 use Rattle.tl_action.specs.declared.fault.ActFault.TheVariants as fault
-use Rattle.tl_action.specs.Join.{arranged, bound_count, new_parameters_in, stands_in_one, is_new, new_from, AgreeOnSeen, HasNoCompletion, IsCompletion, IsFound, IsPassed, IsRowFault, Joins}
+use Rattle.tl_action.specs.Join.{arranged, bound_count, new_parameters_in, stands_in_one, is_new, new_from, AgreeOnSeen, HasNoCompletion, IsCompletion, IsFound, IsPassed, IsRowFault, AddsRows}
 use Rattle.tl_action.proofs.BoundOrders.{arranged-keeps}
 use Rattle.tl_action.proofs.Completions.{known-before, known-kept, completion-past, completion-none}
 use Rattle.tl_action.proofs.NewVariables.{new_parameters-are, new_parameters-length}
@@ -159,7 +159,7 @@ module _ (g : Signature) (p : PlainProblem) (w : World) (o : Operator) (j : ℕ)
 
 -- rows and faults from the k-th bound on are those from the j-th on
 pub joins-past : (p : PlainProblem) (w : World) (o : Operator) (e : Assignment) (j k : ℕ) → IsPassed p w o e j k → (before after : List (List Value)) (r : Result (Unit {0}) ActFault)
-    → Joins p w (plain_operator o) (take k o.bounds) (drop k o.bounds) e before after r → Joins p w (plain_operator o) (take j o.bounds) (drop j o.bounds) e before after r
+    → AddsRows p w (plain_operator o) (take k o.bounds) (drop k o.bounds) e before after r → AddsRows p w (plain_operator o) (take j o.bounds) (drop j o.bounds) e before after r
 joins-past p w o e j k h before after (Ok done) f = λ t. (
   λ m. elim ((f t).0 m) [ inl a ↦ inl a | inr x ↦ inr (record { completes = (h.same t).1 x.completes; prepared = x.prepared }) ],
   λ m. (f t).1 (elim m [ inl a ↦ inl a | inr x ↦ inr (record { completes = (h.same t).0 x.completes; prepared = x.prepared }) ]),

@@ -113,14 +113,14 @@ IsRowFault p w o seen rest e (fault.Range note) = (t : List Value) × IsCompleti
 IsRowFault p w o seen rest e fault.NoMemory = Unit {0}
 
 -- the rows that were found are added; or a fault with its cause
-abbrev pub Joins : PlainProblem → World → PlainOperator → List Bound → List Bound → Assignment → List (List Value) → List (List Value) → Result (Unit {0}) ActFault → Type 0
-Joins p w o seen rest e before after (Ok done) = (t : List Value) → Among t after ↔ (Among t before ⊎ IsFound p w o seen rest e t)
-Joins p w o seen rest e before after (Err x) = IsRowFault p w o seen rest e x
+abbrev pub AddsRows : PlainProblem → World → PlainOperator → List Bound → List Bound → Assignment → List (List Value) → List (List Value) → Result (Unit {0}) ActFault → Type 0
+AddsRows p w o seen rest e before after (Ok done) = (t : List Value) → Among t after ↔ (Among t before ⊎ IsFound p w o seen rest e t)
+AddsRows p w o seen rest e before after (Err x) = IsRowFault p w o seen rest e x
 
 -- and so from the j-th bound of the operator on
 abbrev pub JoinsFrom : PlainProblem → World → Operator → ℕ → Assignment → List (List Value) → List (List Value) → Result (Unit {0}) ActFault → Type 0
-JoinsFrom p w o j e before after r = Joins p w (plain_operator o) (take j o.bounds) (drop j o.bounds) e before after r
+JoinsFrom p w o j e before after r = AddsRows p w (plain_operator o) (take j o.bounds) (drop j o.bounds) e before after r
 
 -- and so after all of its bounds: the one row that may be found has the values of the frame
 abbrev pub JoinsRow : PlainProblem → World → Operator → Assignment → List (List Value) → List (List Value) → Result (Unit {0}) ActFault → Type 0
-JoinsRow p w o e before after r = Joins p w (plain_operator o) o.bounds [] e before after r
+JoinsRow p w o e before after r = AddsRows p w (plain_operator o) o.bounds [] e before after r

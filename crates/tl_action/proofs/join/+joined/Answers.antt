@@ -1,5 +1,5 @@
 use Rattle.std.proofs.Common.{rules, ◌≡◌, ◌<◌, ◌≤◌, ◌+◌, List, take, drop, length, get_or, sym, ap, ◌∙◌, subst, arith}
-use Rattle.tl_action.specs.Join.{arranged, Joins}
+use Rattle.tl_action.specs.Join.{arranged, AddsRows}
 use Rattle.tl_action.proofs.EffectParts.{agree-self}
 use Rattle.tl_action.proofs.JoinNodes.{Node, new_parameters-count, node-at, node-frame, joins-past}
 use Rattle.tl_action.proofs.JoinReads.{read-begun, read-on, read-fault, read-end, read-smaller}
@@ -160,8 +160,8 @@ pub join-returns-else-k-len-clause-rows : goal.join-returns-else-k-len-clause-ro
 join-returns-else-k-len-clause-rows t c =
     let past : length (arranged c.args.order.now.bounds).bounds ≤ c.in-Some.k = let many = c.len.ensures in let count = new_parameters-count c.args.order.now.bounds c.args.order.now.new_parameters.items c.args.order.now.new_parameters_are in omega (arith, c.if-k-len.false, many, count) in
     joins-past (plain_problem c.args.here.now.task.now.problem) c.args.here.now.world.now (arranged c.args.order.now.bounds) (assignment_in c.args.env.now) c.args.j c.in-Some.k c.in-Some.ensures.passed c.args.rows.now.items c.find_row.new.rows.items c.find_row.result
-    (subst (λ (bs : List Bound). Joins (plain_problem c.args.here.now.task.now.problem) c.args.here.now.world.now (plain_operator (arranged c.args.order.now.bounds)) bs (drop c.in-Some.k (arranged c.args.order.now.bounds).bounds) (assignment_in c.args.env.now) c.args.rows.now.items c.find_row.new.rows.items c.find_row.result) (sym (take-past (arranged c.args.order.now.bounds).bounds c.in-Some.k past))
-    (subst (λ (bs : List Bound). Joins (plain_problem c.args.here.now.task.now.problem) c.args.here.now.world.now (plain_operator (arranged c.args.order.now.bounds)) (arranged c.args.order.now.bounds).bounds bs (assignment_in c.args.env.now) c.args.rows.now.items c.find_row.new.rows.items c.find_row.result) (sym (drop-past (arranged c.args.order.now.bounds).bounds c.in-Some.k past)) c.find_row.ensures.rows))
+    (subst (λ (bs : List Bound). AddsRows (plain_problem c.args.here.now.task.now.problem) c.args.here.now.world.now (plain_operator (arranged c.args.order.now.bounds)) bs (drop c.in-Some.k (arranged c.args.order.now.bounds).bounds) (assignment_in c.args.env.now) c.args.rows.now.items c.find_row.new.rows.items c.find_row.result) (sym (take-past (arranged c.args.order.now.bounds).bounds c.in-Some.k past))
+    (subst (λ (bs : List Bound). AddsRows (plain_problem c.args.here.now.task.now.problem) c.args.here.now.world.now (plain_operator (arranged c.args.order.now.bounds)) (arranged c.args.order.now.bounds).bounds bs (assignment_in c.args.env.now) c.args.rows.now.items c.find_row.new.rows.items c.find_row.result) (sym (drop-past (arranged c.args.order.now.bounds).bounds c.in-Some.k past)) c.find_row.ensures.rows))
 
 pub join-returns-else-k-len-clause-frame : goal.join-returns-else-k-len-clause-frame
 join-returns-else-k-len-clause-frame t c = known-agree (take c.args.j (arranged c.args.order.now.bounds).bounds) c.args.order.now.bounds.operator.now.params (assignment_in c.find_row.new.env) (assignment_in c.args.env.now) c.find_row.ensures.frame
