@@ -29,7 +29,7 @@ use Rattle.tl_depth.proofs.Running as run
 use Rattle.tl_depth.proofs.PairAnswers.{differ-places, kept-near, nothing-left, calls-few}
 use Rattle.tl_depth.proofs.PairWalks.{by_falsum, none-open, none-accepted, leading-walks, pairs-lawful, pairs-actions}
 use Rattle.tl_depth.specs.Outcomes.{Reported, AreFewCalls, IsDepthFirstOutcome, IsDepthFirstFault, IsToldOutcome}
-use Rattle.tl_depth.specs.Ongoing.{IsOngoing, IsEntered, IsEntryFault, HasDoneNothing, HasRootAlone, Begun, TurnedTo, to_do}
+use Rattle.tl_depth.specs.Ongoing.{IsOngoing, IsEntered, IsEntryFault, HasDoneNothing, HasRootAlone, BeginsSearch, TurnedTo, to_do}
 use Rattle.tl_search.specs.declared.event.Event.{Event}
 use Rattle.tl_depth.specs.Search.{Reports}
 use Rattle.tl_terms.specs.Paths.{IsDistance}
@@ -151,7 +151,7 @@ module _ (p : PlainProblem) (b : ℕ) (kept : List Pair) (x : Pair) (some : 1 �
   refused-first r a = r (subst (IsPairAccepted p) (unpruned-first p x first).1 a)
 
   pub begun-last : (w after : DepthFirst) → HasDoneNothing w → (IsPairAccepted p x → ⊥) → w.within ≡ 0 → after.within ≡ w.within → after.watch ≡ w.watch → after.events ≡ w.events → after.reenters ≡ true → after.stack.items ≡ w.stack.items → after.most.items ≡ w.most.items ++ w.within ∷ []
-      → Begun p b kept w after None
+      → BeginsSearch p b kept w after None
   unfolding graph_of
   begun-last w after new refused z wn ww we wr ws wm = (
     ongoing p b w.within w.watch kept w.events (w.within ∷ []) [] 0 after (unpruned-first p x first).0
@@ -162,7 +162,7 @@ module _ (p : PlainProblem) (b : ℕ) (kept : List Pair) (x : Pair) (some : 1 �
   )
 
   pub begun-entered : (w after : DepthFirst) → HasDoneNothing w → (IsPairAccepted p x → ⊥) → 0 < w.within → after.within ≡ w.within → after.watch ≡ w.watch → after.events ≡ w.events → IsEntered p kept 0 w.within w.stack.items after.stack.items → after.most.items ≡ w.most.items ++ w.within ∷ []
-      → Begun p b kept w after None
+      → BeginsSearch p b kept w after None
   unfolding graph_of
   begun-entered w after new refused z wn ww we t wm = (
     ongoing p b w.within w.watch kept w.events (w.within ∷ []) (t.level ∷ []) 0 after (unpruned-first p x first).0
@@ -173,8 +173,8 @@ module _ (p : PlainProblem) (b : ℕ) (kept : List Pair) (x : Pair) (some : 1 �
     ww,
   )
 
-pub as-begun : (p q : PlainProblem) (b : ℕ) (kept more : List Pair) (w after : DepthFirst) (o : Option Outcome) → p ≡ q → kept ≡ more → Begun p b kept w after o → Begun q b more w after o
-as-begun p q b kept more w after o e f t = subst (λ z. Begun q b z w after o) f (subst (λ z. Begun z b kept w after o) e t)
+pub as-begun : (p q : PlainProblem) (b : ℕ) (kept more : List Pair) (w after : DepthFirst) (o : Option Outcome) → p ≡ q → kept ≡ more → BeginsSearch p b kept w after o → BeginsSearch q b more w after o
+as-begun p q b kept more w after o e f t = subst (λ z. BeginsSearch q b z w after o) f (subst (λ z. BeginsSearch z b kept w after o) e t)
 
 -- the first pair is accepted, by the problem and the pairs as later calls leave them
 pub first-plan : (p q : PlainProblem) (b n : ℕ) (kept more : List Pair) (x : Pair) → 1 ≤ b → unless_pruned (Some (first_pair p)) ≡ Some x → kept ≡ [] ++ x ∷ [] → q ≡ p → more ≡ kept → IsPairAccepted q x → (path : List Action) → path ≡ []
@@ -194,8 +194,8 @@ pub turned-none : (p : PlainProblem) (b : ℕ) (kept : List Pair) (old new : Dep
     → (made : ℕ) × (made + before ≡ calls + after) × IsOngoing p b kept new made × (to_do b new < to_do b old) × (new.within ≡ old.within) × (new.watch ≡ old.watch)
 turned-none p b kept old new calls before after o t e = let u = subst (λ y. TurnedTo p b kept old new calls before after y) e t in (u.0, u.1, u.2.0, u.2.1, u.2.2, u.2.3)
 
-pub begun-none : (p : PlainProblem) (b : ℕ) (kept : List Pair) (old new : DepthFirst) (o : Option Outcome) → Begun p b kept old new o → o ≡ None → IsOngoing p b kept new 0 × (new.within ≡ old.within) × (new.watch ≡ old.watch)
-begun-none p b kept old new o t e = subst (λ y. Begun p b kept old new y) e t
+pub begun-none : (p : PlainProblem) (b : ℕ) (kept : List Pair) (old new : DepthFirst) (o : Option Outcome) → BeginsSearch p b kept old new o → o ≡ None → IsOngoing p b kept new 0 × (new.within ≡ old.within) × (new.watch ≡ old.watch)
+begun-none p b kept old new o t e = subst (λ y. BeginsSearch p b kept old new y) e t
 
 pub as-outcome : (p q : PlainProblem) (n m b : ℕ) (kept : List Pair) (o : Outcome) → p ≡ q → n ≡ m → IsDepthFirstOutcome p n b kept o → IsDepthFirstOutcome q m b kept o
 as-outcome p q n m b kept o e f t = subst (λ z. IsDepthFirstOutcome q z b kept o) f (subst (λ z. IsDepthFirstOutcome z n b kept o) e t)

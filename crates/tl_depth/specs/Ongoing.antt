@@ -105,9 +105,9 @@ pub record HasDoneNothing (w : DepthFirst) : Type 0 where
   pub expansions : KnowsNothing w.expansions
 
 -- the search began, or ended at once, with no call
-abbrev pub Begun : PlainProblem → ℕ → List Pair → DepthFirst → DepthFirst → Option Outcome → Type 0
-Begun p b kept old new None = IsOngoing p b kept new 0 × (new.within ≡ old.within) × (new.watch ≡ old.watch)
-Begun p b kept old new (Some o) = IsDepthFirstOutcome p old.within b kept o × AreFewCalls p old.within kept 0 × IsToldOutcome p old.within old.watch kept new.events o
+abbrev pub BeginsSearch : PlainProblem → ℕ → List Pair → DepthFirst → DepthFirst → Option Outcome → Type 0
+BeginsSearch p b kept old new None = IsOngoing p b kept new 0 × (new.within ≡ old.within) × (new.watch ≡ old.watch)
+BeginsSearch p b kept old new (Some o) = IsDepthFirstOutcome p old.within b kept o × AreFewCalls p old.within kept 0 × IsToldOutcome p old.within old.watch kept new.events o
 
 -- the first pair alone is kept, and it is not accepted
 abbrev pub HasRootAlone : PlainProblem → ℕ → List Pair → DepthFirst → Type 0

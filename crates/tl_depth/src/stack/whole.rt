@@ -11,7 +11,7 @@ ghost use Rattle.tl_depth.specs.Outcomes.{IsDepthFirstFault, IsDepthFirstOutcome
 ghost use Rattle.tl_depth.specs.Reports.{AreFewSteps};
 ghost use Rattle.tl_depth.specs.Tables.{IsUncut};
 ghost use Rattle.tl_depth.specs.Turns.{SearchGoesOn};
-ghost use Rattle.tl_depth.specs.Ongoing.{HasDoneNothing, HasRootAlone, Begun};
+ghost use Rattle.tl_depth.specs.Ongoing.{HasDoneNothing, HasRootAlone, BeginsSearch};
 
 use crate::stack::DepthFirst;
 use std::alloc::Global;
@@ -85,7 +85,7 @@ impl DepthFirst {
         requires events { self.old.events ≡ [] }
         ensures task { S.task space.new ≡ S.task space.old }
         ensures problem { S.problem space.new ≡ S.problem space.old }
-        ensures begun { IfOk result (Begun (S.problem space.old) nodes (pairs_of (S.kept space.new)) self.old self.new) }
+        ensures begun { IfOk result (BeginsSearch (S.problem space.old) nodes (pairs_of (S.kept space.new)) self.old self.new) }
         ensures history { OnOk result (IsHistory (S.problem space.old) self.old.watch (S.kept space.new) self.new.events) }
         ensures ends { IfOk result (EndsIfAny self.old.watch (S.kept space.new) self.new.events) }
         ensures fault { IfErr result (IsDepthFirstFault (S.problem space.old) self.old.within) }
@@ -142,8 +142,8 @@ impl DepthFirst {
         ensures problem { S.problem space.new ≡ S.problem space.old }
         ensures kept { S.kept space.new ≡ S.kept space.old }
         ensures events { self.new.events ≡ self.old.events }
-        ensures begun { OnOk result (Begun (S.problem space.old) nodes (pairs_of (S.kept space.new))
-            self.old self.new None) }
+        ensures begun { OnOk result (BeginsSearch (S.problem space.old) nodes
+            (pairs_of (S.kept space.new)) self.old self.new None) }
         ensures fault { IfErr result (IsDepthFirstFault (S.problem space.old) self.old.within) }
         ensures named { OnOk result (SearchIsNamed (S.task space.old) self.new) }
         ensures remembered { OnOk result (Remembers (S.problem space.old) (S.task space.old)

@@ -11,7 +11,7 @@ use Rattle.tl_search.proofs.HistoryLaws.{history-pruned}
 use Rattle.tl_search.proofs.NamedLaws.{events-named}
 use Rattle.tl_depth.specs.Answers.{IsToldAlong}
 use Rattle.tl_depth.specs.NamedStacks.{StackIsNamed, SearchIsNamed}
-use Rattle.tl_depth.specs.Ongoing.{Begun}
+use Rattle.tl_depth.specs.Ongoing.{BeginsSearch}
 use Rattle.tl_depth.specs.Outcomes.{AreFewCalls, IsDepthFirstOutcome, Reported}
 use Rattle.tl_depth.proofs.Beginning.{RootIsKept, root-kept}
 use Rattle.tl_depth.proofs.Ending.{begins-pruned, fault-root, fault-first-idling, first-plan, first-kept}
@@ -83,7 +83,7 @@ returns g c =
     record {
       task = c.begun.ensures.task ∙ (c.accepted.ensures.task ∙ c.root.ensures.task);
       problem = c.begun.ensures.problem ∙ (c.accepted.ensures.problem ∙ c.root.ensures.problem);
-      begun = subst (λ p. Begun p c.args.nodes (pairs_of (g.S.Pairs.kept c.begun.new.space)) c.args.self.now c.begun.new.self None) (c.accepted.ensures.problem ∙ c.root.ensures.problem) c.in_ok-begun.ensures.begun;
+      begun = subst (λ p. BeginsSearch p c.args.nodes (pairs_of (g.S.Pairs.kept c.begun.new.space)) c.args.self.now c.begun.new.self None) (c.accepted.ensures.problem ∙ c.root.ensures.problem) c.in_ok-begun.ensures.begun;
       history = as-history _ _ _ _ _ _ _ _ refl refl (sym (c.begun.ensures.kept ∙ c.accepted.ensures.kept)) (sym c.begun.ensures.events) r.history;
       ends = tt;
       fault = tt;
