@@ -13,7 +13,7 @@ use Rattle.tl_search.specs.declared.arrival.Arrival.{Arrival}
 use Rattle.tl_search.specs.declared.arrival.Arrival.TheVariants as arrival
 use Rattle.tl_search.proofs.ListLaws.{get-old, get-new, get-one, get-either}
 use Rattle.tl_depth.proofs.Ends.{get-at}
-use Rattle.tl_depth.specs.Expansions.{IsListed, CameOf, IsExpansion, AreExpansions, Remembers, KnowsNothing, KnowsActions, as_seen, AddsAt, Grows}
+use Rattle.tl_depth.specs.Expansions.{IsListed, CameOf, IsExpansion, AreExpansions, Remembers, KnowsNothing, KnowsActions, as_seen, AddsAt, KeepNumbers}
 use Rattle.tl_depth.specs.declared.expansions.Expansion.{Expansion}
 use Rattle.tl_depth.specs.declared.expansions.Expansions.{Expansions}
 
@@ -22,7 +22,7 @@ use Rattle.tl_depth.specs.declared.expansions.Expansions.{Expansions}
 no-more : (kept : List KeptPair) (x : KeptPair) → kept ≡ kept ++ x ∷ [] → ⊥
 no-more kept x e = omega (arith, ap length e, length-append kept (x ∷ []))
 
-pub grows-by-arrival : (p : PlainProblem) (old new : List KeptPair) (at : ℕ) (x : KeptPair) (a : Action) (r : Arrival) → slice_get old at ≡ Some x → ChildArrives p old new at a r → Grows old new
+pub grows-by-arrival : (p : PlainProblem) (old new : List KeptPair) (at : ℕ) (x : KeptPair) (a : Action) (r : Arrival) → slice_get old at ≡ Some x → ChildArrives p old new at a r → KeepNumbers old new
 grows-by-arrival p old new at x a arrival.Pruned is h k y e = subst (λ ks. slice_get ks k ≡ Some y) (sym (h x is).0) e
 grows-by-arrival p old new at x a (arrival.Seen j) is h k y e = subst (λ ks. slice_get ks k ≡ Some y) (sym (h x is).0) e
 grows-by-arrival p old new at x a (arrival.Fresh j) is h k y e = let t = (h x is).1 in subst (λ ks. slice_get ks k ≡ Some y) (sym t.3) (get-old old (record { node = t.0; path = x.path ++ a ∷ [] } ∷ []) k y e)
@@ -39,7 +39,7 @@ arrives-again p old new at x a r is h y e = by_case r (h x is) (get-one new at x
         let there : slice_get new k ≡ Some added = ap (λ ks. slice_get ks k) t.1.3 ∙ (ap (slice_get (old ++ added ∷ [])) t.0 ∙ get-new old added) in
         (refl, (added, there, subst (λ (z : KeptPair). next_pair p z.node a ≡ Some t.1.0) same t.1.1))
 
-stays-arrived : (p : PlainProblem) (old new : List KeptPair) (at : ℕ) (x : KeptPair) (a : Action) (r : Arrival) → Grows old new → slice_get old at ≡ Some x → ChildArrives p old old at a r → ChildArrives p new new at a r
+stays-arrived : (p : PlainProblem) (old new : List KeptPair) (at : ℕ) (x : KeptPair) (a : Action) (r : Arrival) → KeepNumbers old new → slice_get old at ≡ Some x → ChildArrives p old old at a r → ChildArrives p new new at a r
 stays-arrived p old new at x a r grows is h y e = by_case r (h x is) (get-one new at x y (grows at x is) e)
   where
     by_case : (q : Arrival) → Arrives old old (next_pair p x.node a) (x.path ++ a ∷ []) q → x ≡ y → Arrives new new (next_pair p y.node a) (y.path ++ a ∷ []) q
@@ -47,17 +47,17 @@ stays-arrived p old new at x a r grows is h y e = by_case r (h x is) (get-one ne
     by_case (arrival.Seen k) t same = (refl, (t.1.0, grows k t.1.0 t.1.1, subst (λ (z : KeptPair). next_pair p z.node a ≡ Some t.1.0.node) same t.1.2))
     by_case (arrival.Fresh k) t same = absurd (no-more old (record { node = t.1.0; path = x.path ++ a ∷ [] }) t.1.3)
 
-pub stays-listed : (p : PlainProblem) (task : Task) (old new : List KeptPair) (at : ℕ) (listed : List Action) → Grows old new → IsListed p task old at listed → IsListed p task new at listed
+pub stays-listed : (p : PlainProblem) (task : Task) (old new : List KeptPair) (at : ℕ) (listed : List Action) → KeepNumbers old new → IsListed p task old at listed → IsListed p task new at listed
 stays-listed p task old new at listed grows h = (h.0, grows at h.0 h.1, h.2, h.3)
 
-stays-come : (p : PlainProblem) (old new : List KeptPair) (at i : ℕ) (r : Arrival) → Grows old new → CameOf p old at i r → CameOf p new at i r
+stays-come : (p : PlainProblem) (old new : List KeptPair) (at i : ℕ) (r : Arrival) → KeepNumbers old new → CameOf p old at i r → CameOf p new at i r
 stays-come p old new at i r grows h = (h.0, grows at h.0 h.1, h.2, h.3, h.4, h.5, stays-arrived p old new at h.0 h.4 r grows h.1 h.6)
 
 if-some : {A : Type 0} (o : Option A) (P Q : A → Type 0) → IfSome o P → ((x : A) → P x → Q x) → IfSome o Q
 if-some None P Q h f = tt
 if-some (Some x) P Q h f = f x h
 
-pub stay-right : (p : PlainProblem) (task : Task) (old new : List KeptPair) (known : Expansions) → Grows old new → AreExpansions p task old known → AreExpansions p task new known
+pub stay-right : (p : PlainProblem) (task : Task) (old new : List KeptPair) (known : Expansions) → KeepNumbers old new → AreExpansions p task old known → AreExpansions p task new known
 stay-right p task old new known grows h at e is =
     let k = h at e is in
     record {

@@ -83,5 +83,5 @@ abbrev pub LearnsTop : List Level → Expansions → Expansions → Arrival → 
 LearnsTop levels old new r = (front : List Level) (c : Level) → levels ≡ front ++ c ∷ [] → GainsArrival old new c.at c.tried r
 
 -- no pair gets another number
-abbrev pub Grows : List KeptPair → List KeptPair → Type 0
-Grows old new = (k : ℕ) (x : KeptPair) → slice_get old k ≡ Some x → slice_get new k ≡ Some x
+abbrev pub KeepNumbers : List KeptPair → List KeptPair → Type 0
+KeepNumbers old new = (k : ℕ) (x : KeptPair) → slice_get old k ≡ Some x → slice_get new k ≡ Some x

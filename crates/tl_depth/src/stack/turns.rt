@@ -1,7 +1,7 @@
 // A step of the search: the top level tries its next action, or is done with.
 ghost use Rattle.std.specs.Prelude.{◌≡◌, ◌<◌, ◌+◌, length, IfOk, IfErr, OnOk};
 ghost use Rattle.tl_search.specs.NamedAnswers.{EndIsNamed, FaultIsNamed};
-ghost use Rattle.tl_depth.specs.Expansions.{Remembers, CameOfTop, Grows};
+ghost use Rattle.tl_depth.specs.Expansions.{Remembers, CameOfTop, KeepNumbers};
 ghost use Rattle.tl_depth.specs.NamedStacks.{SearchIsNamed};
 ghost use Rattle.tl_search.specs.Kept.{AreKept};
 ghost use Rattle.tl_search.specs.PairGraph.{pair_graph};
@@ -124,7 +124,7 @@ impl DepthFirst {
         ensures named { OnOk result (SearchIsNamed (S.task space.old) self.new) }
         ensures came { IfOk result (CameOfTop (S.problem space.old) (S.kept space.new) self.old.stack.items) }
         ensures kept { OnOk result (AreKept (pair_graph (S.problem space.old)) (S.kept space.new)) }
-        ensures grows { OnOk result (Grows (S.kept space.old) (S.kept space.new)) }
+        ensures grows { OnOk result (KeepNumbers (S.kept space.old) (S.kept space.new)) }
         ensures path_named { IfErr result (FaultIsNamed (S.task space.old)) }
     {
         let top = self.stack.as_slice().len() - 1;
