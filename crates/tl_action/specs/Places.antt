@@ -7,8 +7,8 @@ use Rattle.tl_terms.specs.Acceptance.{is_value}
 use Rattle.tl_terms.specs.World.{World, value_at}
 
 -- the world gives the place its value
-abbrev pub is_given : World → PlaceValue → Bool
-is_given w s = is_value (value_at w (s.fun, s.args)) s.value
+abbrev pub holds_place : World → PlaceValue → Bool
+holds_place w s = is_value (value_at w (s.fun, s.args)) s.value
 
 -- none of the others is the same place with another value
 abbrev pub agrees_with_all : List PlaceValue → PlaceValue → Bool

@@ -2,7 +2,7 @@
 ghost use Rattle.std.specs.Cmp.Lexicographic.{slice_cmp};
 ghost use Rattle.std.specs.List.{list_all};
 ghost use Rattle.std.specs.Prelude.{◌≡◌, map, IfOk};
-ghost use Rattle.tl_action.specs.Places.{agrees_with_all, is_given};
+ghost use Rattle.tl_action.specs.Places.{agrees_with_all, holds_place};
 ghost use Rattle.tl_syntax.specs.Keys.{agree, no_clash, place_entry, value_cmp};
 
 use std::alloc::Global;
@@ -15,7 +15,7 @@ const FEW: usize = 8;
 
 /// Whether the world gives each of the places its value. It takes no memory.
 fn gives_each(given: &World, sets: &[PlaceValue]) -> bool
-    ensures { result ≡ list_all (is_given given.now) sets.now }
+    ensures { result ≡ list_all (holds_place given.now) sets.now }
 {
     sets.iter()
         .all(|s| given.value(s.fun, s.args.as_slice()) == Some(s.value))
