@@ -27,7 +27,7 @@ use Rattle.tl_search.proofs.ListLaws.{get-old, get-one, get-inside, get-single, 
 use Rattle.tl_search.proofs.PathLaws.{walk-pair}
 use Rattle.tl_search.proofs.WalkLaws.{length-snoc}
 use Rattle.tl_world.specs.declared.task.Task.{Task}
-use Rattle.tl_cert.specs.Checking.{AreShort, depths_of, goes_on, is_no_farther, AreKnownActions, IsReady, ListsLink, TellsInside, TellsClosed}
+use Rattle.tl_cert.specs.Checking.{AreShort, depths_of, goes_on, is_no_farther, AreKnownActions, IsRightSoFar, ListsLink, TellsInside, TellsClosed}
 use Rattle.tl_cert.specs.Covers.{IsListedNear, IsNoFarther, StaysInside}
 use Rattle.tl_cert.specs.Links.{IsGood, IsWithinBound, ListsRoot}
 use Rattle.tl_cert.specs.Verdicts.{LeadsOut}
@@ -201,7 +201,7 @@ known-more task p old new x (Some known) e h = record {
 }
 
 -- a good link leaves what is known right
-pub ready-more : (task : Task) (p : PlainProblem) (bound : Option ℕ) (old new : List KeptPair) (link : Link) (d : ℕ) (c : Checking) → slice_get (depths_of old) link.from ≡ Some d → AreShort old → AreKnownActions task p old c.known → c.depths ≡ depths_of old ++ (d + 1) ∷ [] → ListsLink p bound old new link true → IsReady task p new c
+pub ready-more : (task : Task) (p : PlainProblem) (bound : Option ℕ) (old new : List KeptPair) (link : Link) (d : ℕ) (c : Checking) → slice_get (depths_of old) link.from ≡ Some d → AreShort old → AreKnownActions task p old c.known → c.depths ≡ depths_of old ++ (d + 1) ∷ [] → ListsLink p bound old new link true → IsRightSoFar task p new c
 ready-more task p bound old new link d c at short known depths h = record {
   depths = depths ∙ (ap (λ n. depths_of old ++ n ∷ []) (sym long) ∙ (sym (depths-more old h.0) ∙ ap depths_of (sym h.2)));
   short = subst AreShort (sym h.2) (short-more p bound old link h.0 h.1 short);

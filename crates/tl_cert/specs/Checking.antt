@@ -113,7 +113,7 @@ AreKnownActions task p kept None = Unit {0}
 AreKnownActions task p kept (Some known) = AreActionsAt task p kept known
 
 -- what is known of the nodes that are listed so far is right
-pub record IsReady (task : Task) (p : PlainProblem) (kept : List KeptPair) (c : Checking) : Type 0 where
+pub record IsRightSoFar (task : Task) (p : PlainProblem) (kept : List KeptPair) (c : Checking) : Type 0 where
   pub depths : c.depths ≡ depths_of kept
   pub short : AreShort kept
   pub known : AreKnownActions task p kept c.known

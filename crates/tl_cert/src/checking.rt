@@ -56,7 +56,7 @@ fn list_root<S: Pairs>(alloc: Global, space: &mut S) -> Result<Numbers32, Search
 }
 
 impl Checking {
-    ghost use Rattle.tl_cert.specs.Checking.{IsReady};
+    ghost use Rattle.tl_cert.specs.Checking.{IsRightSoFar};
 
     /// Lists the node of the empty path, unless its residual is FALSE.
     pub(crate) fn begin<S: Pairs>(
@@ -68,7 +68,7 @@ impl Checking {
         ensures task { S.task space.new ≡ S.task space.old }
         ensures problem { S.problem space.new ≡ S.problem space.old }
         ensures root { OnOk result (ListsRoot (S.problem space.old) (S.kept space.new)) }
-        ensures ready { IfOk result (IsReady (S.task space.old) (S.problem space.old) (S.kept space.new)) }
+        ensures ready { IfOk result (IsRightSoFar (S.task space.old) (S.problem space.old) (S.kept space.new)) }
         ensures bound { IfOk result (λ checking. checking.bound ≡ bound) }
         ensures fault { IfErr result (IsRootCause (S.problem space.old)) }
         ensures named { IfErr result (FaultIsNamed (S.task space.old)) }

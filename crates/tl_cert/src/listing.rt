@@ -2,7 +2,7 @@
 ghost use Rattle.std.specs.Prelude.{◌≡◌, ◌<◌, ◌^◌, true, length, slice_get, IfOk, IfErr, OnErr};
 ghost use Rattle.tl_search.specs.NamedAnswers.{FaultIsNamed};
 ghost use Rattle.tl_cert.specs.Causes.{IsNoneFaultOf};
-ghost use Rattle.tl_cert.specs.Checking.{goes_on, IsReady, IsVisitFault, ListsLink, ListsLinks};
+ghost use Rattle.tl_cert.specs.Checking.{goes_on, IsRightSoFar, IsVisitFault, ListsLink, ListsLinks};
 ghost use Rattle.tl_cert.specs.Links.{ListsRoot};
 
 use crate::checking::Checking;
@@ -38,7 +38,7 @@ impl Checking {
         link: &Link,
         steps: &mut Steps<L>,
     ) -> Result<bool, SearchFault>
-        requires ready { IsReady (S.task space.old) (S.problem space.old) (S.kept space.old) self.old }
+        requires ready { IsRightSoFar (S.task space.old) (S.problem space.old) (S.kept space.old) self.old }
         requires few { length (S.kept space.old) < 2 ^ 32 }
         ensures task { S.task space.new ≡ S.task space.old }
         ensures problem { S.problem space.new ≡ S.problem space.old }
@@ -46,7 +46,7 @@ impl Checking {
         ensures listed { IfOk result (ListsLink (S.problem space.old) self.old.bound
             (S.kept space.old) (S.kept space.new) link.now) }
         ensures ready { IfOk result (λ good. good ≡ true →
-            IsReady (S.task space.old) (S.problem space.old) (S.kept space.new) self.new) }
+            IsRightSoFar (S.task space.old) (S.problem space.old) (S.kept space.new) self.new) }
         ensures fault { IfErr result (IsVisitFault (S.problem space.old) (S.kept space.old) link.now.from link.now.action) }
         ensures there { OnErr result (link.now.from < length (S.kept space.old)) }
         ensures named { IfErr result (FaultIsNamed (S.task space.old)) }
@@ -80,14 +80,14 @@ impl Checking {
         steps: &mut Steps<L>,
     ) -> Result<Option<u32>, SearchFault>
         requires root { ListsRoot (S.problem space.old) (S.kept space.old) }
-        requires ready { IsReady (S.task space.old) (S.problem space.old) (S.kept space.old) self.old }
+        requires ready { IsRightSoFar (S.task space.old) (S.problem space.old) (S.kept space.old) self.old }
         requires few { length links.now < 2 ^ 32 }
         ensures task { S.task space.new ≡ S.task space.old }
         ensures problem { S.problem space.new ≡ S.problem space.old }
         ensures bound { self.new.bound ≡ self.old.bound }
         ensures listed { IfOk result (ListsLinks (S.problem space.old) self.old.bound links.now (S.kept space.new)) }
         ensures ready { IfOk result (λ bad. bad ≡ None →
-            IsReady (S.task space.old) (S.problem space.old) (S.kept space.new) self.new) }
+            IsRightSoFar (S.task space.old) (S.problem space.old) (S.kept space.new) self.new) }
         ensures fault { IfErr result (IsNoneFaultOf (S.problem space.old) self.old.bound links.now) }
         ensures named { IfErr result (FaultIsNamed (S.task space.old)) }
     {

@@ -2,7 +2,7 @@ use Rattle.std.proofs.Common.{true, false, refl, ◌∙◌, subst, arith}
 use Rattle.std.proofs.lemmas.Option.{slice_get_read}
 use Rattle.std.proofs.lemmas.Result.{err_from_is_err_and}
 use Rattle.tl_search.proofs.ListLaws.{get-inside}
-use Rattle.tl_cert.specs.Checking.{IsReady, IsVisitCause, ListsLink}
+use Rattle.tl_cert.specs.Checking.{IsRightSoFar, IsVisitCause, ListsLink}
 use Rattle.tl_cert.proofs.FaultLaws.{fault-at-link}
 use Rattle.tl_cert.proofs.Judged.{links-over, link-length}
 use Rattle.tl_cert.proofs.Nodes.{first-bad, lists-more}
@@ -44,6 +44,6 @@ loop-before-preserved g c =
       problem = c.list.ensures.problem ∙ i.problem;
       bound = c.list.ensures.bound ∙ i.bound;
       lists = lists-more p b c.args.links.now c.loop-before.before link old new at i.lists listed;
-      ready = subst (λ t. IsReady t p new c.list.new.self) i.task (subst (λ r. IsReady (g.S.Pairs.task c.loop-before.space) r new c.list.new.self) i.problem (c.in_ok-list.ensures.ready c.if-not-branch.false));
+      ready = subst (λ t. IsRightSoFar t p new c.list.new.self) i.task (subst (λ r. IsRightSoFar (g.S.Pairs.task c.loop-before.space) r new c.list.new.self) i.problem (c.in_ok-list.ensures.ready c.if-not-branch.false));
       few = let l = link-length p b old new link listed in omega (arith, l, i.few);
     }

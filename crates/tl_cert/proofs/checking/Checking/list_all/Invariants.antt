@@ -1,5 +1,5 @@
 use Rattle.std.proofs.Common.{◌≡◌, ◌≤◌, ◌+◌, length, take}
-use Rattle.tl_cert.specs.Checking.{IsReady}
+use Rattle.tl_cert.specs.Checking.{IsRightSoFar}
 use Rattle.tl_cert.specs.Links.{Lists}
 use Rattle.tl_cert.proofs.checking.Checking.list_all.Given as goal
 
@@ -10,6 +10,6 @@ invariant-loop-before g l = record {
   problem : g.S.Pairs.problem l.space ≡ g.S.Pairs.problem l.fn.space;
   bound : l.self.bound ≡ l.fn.self.bound;
   lists : Lists (g.S.Pairs.problem l.fn.space) l.fn.self.bound (take l.before l.links) (g.S.Pairs.kept l.space);
-  ready : IsReady (g.S.Pairs.task l.fn.space) (g.S.Pairs.problem l.fn.space) (g.S.Pairs.kept l.space) l.self;
+  ready : IsRightSoFar (g.S.Pairs.task l.fn.space) (g.S.Pairs.problem l.fn.space) (g.S.Pairs.kept l.space) l.self;
   few : length (g.S.Pairs.kept l.space) ≤ l.before + 1;
 }
