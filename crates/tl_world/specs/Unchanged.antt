@@ -1,12 +1,12 @@
 -- Facts that changes do not name, and the world that changes make.
-use Rattle.std.specs.Prelude.{◌≡◌, ℕ, Bool, false, List, [], ◌∷◌, ◌++◌, map, slice_get, Some}
+use Rattle.std.specs.Prelude.{◌≡◌, ◌||◌, ℕ, Bool, false, not, List, [], ◌∷◌, ◌++◌, map, slice_get, Some}
 use Rattle.std.specs.List.{list_any}
 use Rattle.std.specs.Ordering.{eq_by_cmp}
 use Rattle.tl_syntax.specs.declared.fact.Fact.{Fact}
 use Rattle.tl_syntax.specs.declared.place_value.PlaceValue.{PlaceValue}
 use Rattle.tl_syntax.specs.declared.value.Value.{Value}
 use Rattle.tl_syntax.specs.Keys.{Key, key_cmp, fact_key}
-use Rattle.tl_terms.specs.World.{World}
+use Rattle.tl_terms.specs.World.{World, has_fact}
 use Rattle.tl_world.specs.declared.named.Named.{Named}
 use Rattle.tl_world.specs.Edits.{changed_places}
 use Rattle.tl_world.specs.Moves.{changed_facts}
@@ -14,6 +14,10 @@ use Rattle.tl_world.specs.Moves.{changed_facts}
 -- whether this fact is one of them
 abbrev pub lists_fact : List Fact → Key → Bool
 lists_fact facts q = list_any (λ f. eq_by_cmp key_cmp q (fact_key f)) facts
+
+-- the fact is not in the world, or is among those that are added
+abbrev pub is_gone : World → List Fact → Fact → Bool
+is_gone w adds f = not (has_fact w (fact_key f)) || lists_fact adds (fact_key f)
 
 -- the facts of the table with the number n
 abbrev pub row_keys : ℕ → List (List Value) → List Key

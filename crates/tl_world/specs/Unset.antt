@@ -6,6 +6,8 @@ use Rattle.std.specs.Ordering.{eq_by_cmp}
 use Rattle.tl_syntax.specs.declared.place_value.PlaceValue.{PlaceValue}
 use Rattle.tl_syntax.specs.declared.value.Value.{Value}
 use Rattle.tl_syntax.specs.Keys.{Key, key_cmp, place_entry}
+use Rattle.tl_terms.specs.Acceptance.{is_value}
+use Rattle.tl_terms.specs.World.{World, value_at}
 use Rattle.tl_world.specs.declared.named.Named.{Named}
 use Rattle.tl_world.specs.declared.table.PlaceRow.{PlaceRow}
 use Rattle.tl_world.specs.Tables.{keyed, entries_of, place_row, place_tables}
@@ -13,6 +15,10 @@ use Rattle.tl_world.specs.Tables.{keyed, entries_of, place_row, place_tables}
 -- whether this place is one of those that are set
 abbrev pub is_set : List PlaceValue → Key → Bool
 is_set sets q = list_any (λ p. eq_by_cmp key_cmp q (place_entry p).0) sets
+
+-- the place that is set has its value in the world
+abbrev pub has_value : World → PlaceValue → Bool
+has_value w p = is_value (value_at w (place_entry p).0) (place_entry p).1
 
 -- places have the same values in both lists, but for those that are set
 abbrev pub AreValuesBeside : List PlaceValue → List (Key × Value) → List (Key × Value) → Type 0

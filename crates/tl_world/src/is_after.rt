@@ -1,12 +1,12 @@
 // Whether a world is the one that changes make of another.
 ghost use Rattle.std.specs.List.{list_all};
-ghost use Rattle.std.specs.Prelude.{◌≡◌, ◌||◌, not, true};
-ghost use Rattle.tl_syntax.specs.Keys.{fact_key, place_entry};
-ghost use Rattle.tl_terms.specs.Acceptance.{is_value};
-ghost use Rattle.tl_terms.specs.World.{has_fact, value_at};
+ghost use Rattle.std.specs.Prelude.{◌≡◌, true};
+ghost use Rattle.tl_syntax.specs.Keys.{fact_key};
+ghost use Rattle.tl_terms.specs.World.{has_fact};
 ghost use Rattle.tl_world.specs.Edits.{changed_places};
 ghost use Rattle.tl_world.specs.Moves.{changed_facts};
-ghost use Rattle.tl_world.specs.Unchanged.{lists_fact};
+ghost use Rattle.tl_world.specs.Unchanged.{is_gone};
+ghost use Rattle.tl_world.specs.Unset.{has_value};
 
 use crate::World;
 use crate::named_facts::is_one_of;
@@ -22,7 +22,7 @@ impl World {
 
     /// Whether none of the facts of `dels` is in the world but for such as are of `adds`. It takes no memory.
     fn lacks_deleted(&self, dels: &[Fact], adds: &[Fact]) -> bool
-        ensures { result ≡ list_all (λ f. not (has_fact self.now (fact_key f)) || lists_fact adds.now (fact_key f)) dels.now }
+        ensures { result ≡ list_all (is_gone self.now adds.now) dels.now }
     {
         dels.iter().all(|f| {
             !self.holds(f.pred, f.args.as_slice()) || is_one_of(adds, f.pred, f.args.as_slice())
@@ -44,7 +44,7 @@ impl World {
 
     /// Whether the places that are set have their values. It takes no memory.
     fn has_set_values(&self, sets: &[PlaceValue]) -> bool
-        ensures { result ≡ list_all (λ p. is_value (value_at self.now (place_entry p).0) (place_entry p).1) sets.now }
+        ensures { result ≡ list_all (has_value self.now) sets.now }
     {
         sets.iter()
             .all(|p| self.value(p.fun, p.args.as_slice()) == Some(p.value))
@@ -64,7 +64,8 @@ impl World {
     ///
     /// The facts and the places of both worlds are gone over once, side by side.
     pub fn is_after(&self, from: &World, dels: &[Fact], adds: &[Fact], sets: &[PlaceValue]) -> bool
-        ensures facts { result ≡ true → self.now.facts ≡ changed_facts from.now.facts dels.now adds.now }
+        ensures facts { result ≡ true
+            → self.now.facts ≡ changed_facts from.now.facts dels.now adds.now }
         ensures places { result ≡ true → self.now.places ≡ changed_places from.now.places sets.now }
     {
         self.has_changed_facts(from, dels, adds) && self.has_changed_places(from, sets)

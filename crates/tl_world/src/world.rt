@@ -219,7 +219,8 @@ impl World {
 
     /// Whether the worlds are found to have the same facts, but for those that the changes name. It takes no memory.
     pub(crate) fn is_beside(&self, other: &World, dels: &[Fact], adds: &[Fact]) -> bool
-        ensures { result ≡ true → AreSameBeside (dels.now ++ adds.now) self.now.facts other.now.facts }
+        ensures { result ≡ true
+            → AreSameBeside (dels.now ++ adds.now) self.now.facts other.now.facts }
     {
         are_tables_beside(self.facts.as_slice(), other.facts.as_slice(), dels, adds)
     }

@@ -82,7 +82,8 @@ impl Worlds {
         sets: &[PlaceValue],
     ) -> Option<usize>
         requires { from < length (worlds_in self.now) }
-        ensures { IfSome result (IsNumberAfter (worlds_in self.now) from dels.now adds.now sets.now) }
+        ensures { IfSome result
+            (IsNumberAfter (worlds_in self.now) from dels.now adds.now sets.now) }
     {
         let before = self.get(from);
         let number = *self.by_mark.get(&before.mark_after(dels, adds, sets))?;
