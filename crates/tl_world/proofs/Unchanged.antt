@@ -109,9 +109,6 @@ module _ (fs : List Fact) where
   pub same-alike : (xs ys : List Key) → xs ≡ ys → AreAlikeBeside fs xs ys
   same-alike xs ys e q h = ap (list_any (eq_by_cmp key_cmp q)) e
 
-  pub alike-then : (xs ys zs : List Key) → AreAlikeBeside fs xs ys → AreAlikeBeside fs ys zs → AreAlikeBeside fs xs zs
-  alike-then xs ys zs a b q h = a q h ∙ b q h
-
   pub alike-back : (xs ys : List Key) → AreAlikeBeside fs xs ys → AreAlikeBeside fs ys xs
   alike-back xs ys a q h = sym (a q h)
 
