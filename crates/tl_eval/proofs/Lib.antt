@@ -10,6 +10,7 @@ pub mod PartLists
 pub mod PatternLaws
 pub mod TupleSearch
 pub mod ScopeLaws
+mod ScopeTruth
 pub mod FormulaSizes
 pub mod FormulaParts
 pub mod DecidedLaws

@@ -1,13 +1,13 @@
 -- Variables that are given values in a frame.
-use Rattle.std.proofs.Common.{◌≡◌, ◌<◌, ℕ, zero, suc, List, [], ◌∷◌, ◌++◌, take, drop, replicate, length, get_or, cond, ◌==◌, Option, Some, None, refl, sym, ap, ◌∙◌, drop-cons, arith}
+use Rattle.std.proofs.Common.{◌≡◌, ◌<◌, ℕ, zero, suc, List, [], ◌∷◌, ◌++◌, take, drop, length, get_or, cond, ◌==◌, Option, Some, refl, sym, ap, ◌∙◌, drop-cons, arith}
 use mathlib.Core.Path.{fun_ext}
-use Rattle.std.specs.Prelude.{slice_get, slice_set}
+use Rattle.std.specs.Prelude.{slice_set}
 use Rattle.std.proofs.Math.Seq.{take-append_seam}
-use Rattle.tl_eval.specs.Frames.{slot_value, assignment_in}
+use Rattle.tl_eval.specs.Frames.{assignment_in}
 use Rattle.tl_eval.proofs.FrameLaws.{assignment-set}
 use Rattle.tl_syntax.specs.declared.value.Value.{Value}
 use Rattle.tl_syntax.specs.declared.variable.Var.{Var}
-use Rattle.tl_syntax.specs.Assignment.{Assignment, bind, no_values}
+use Rattle.tl_syntax.specs.Assignment.{Assignment, bind}
 use Rattle.tl_syntax.specs.Lists.{Each}
 
 pub front-is : {A : Type 0} (n : ℕ) (xs ys : List A) → length xs ≡ n → take n (xs ++ ys) ≡ xs
@@ -37,15 +37,6 @@ put-one vars values i j s v frame e q h k room so =
     ∙ (ap (λ (f : Assignment). cond (x == (get_or vars i s).slot) (Some (get_or values i v)) (f x)) (so ∙ ap (λ (m : ℕ). bind (drop m vars) (drop m values) e) q)))
     ∙ sym (ap (λ (ss : List Var). bind ss (drop i values) e) (drop-cons vars i s h)
     ∙ ap (λ (vs : List Value). bind (get_or vars i s ∷ drop (suc i) vars) vs e) (drop-cons values i v k))
-
--- a frame in which nothing has a value
-pub empty-frame : (n : ℕ) → assignment_in (replicate n (let none : Option Value = None in none)) ≡ no_values
-empty-frame n = fun_ext (at n)
-  where
-    at : (m q : ℕ) → slot_value (slice_get (replicate m (let none : Option Value = None in none)) q) ≡ None
-    at zero q = refl
-    at (suc m) zero = refl
-    at (suc m) (suc q) = at m q
 
 pub restored : (frames frame new : List (Option Value)) → new ≡ frame → length frame ≡ 32 → take 32 (new ++ drop 32 frames) ≡ frame
 restored frames frame new q h = ap (λ (f : List (Option Value)). take 32 (f ++ drop 32 frames)) q ∙ front-is 32 frame (drop 32 frames) h

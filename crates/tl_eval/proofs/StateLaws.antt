@@ -4,6 +4,7 @@ use Rattle.tl_eval.specs.Notes.{AreInRange, Tells, Evaluates, operation_of}
 use Rattle.tl_eval.specs.Reading.{situation_read, looked_read}
 use Rattle.tl_eval.specs.StateTruth.{IsTruth}
 use Rattle.tl_eval.specs.declared.range.RangeNote.{RangeNote}
+use Rattle.tl_eval.proofs.ScopeTruth.{in-scope, truth-alike, state-looks-alike}
 use Rattle.tl_eval.proofs.DecidedLaws.{decided, looked_until, Through, through-begun, through-on, through-stop, through-noted, through-end, joined-truth, joined-looks, instance_truth, instance_looks, quantified-truth, quantified-looks}
 use Rattle.tl_eval.proofs.ReadingLaws.{Closed, Opened}
 use Rattle.tl_eval.proofs.TupleRest.{rest_after, all-after-none, rest-none, rest-some, next-read}
@@ -20,6 +21,7 @@ use Rattle.tl_syntax.specs.declared.value.Cmp.{Cmp}
 use Rattle.tl_syntax.specs.declared.value.Value.{Value}
 use Rattle.tl_syntax.specs.declared.variable.Arg.{Arg}
 use Rattle.tl_syntax.specs.declared.variable.Var.{Var}
+use Rattle.tl_syntax.specs.FreeVariables.{slots_of, free_slots, InScope}
 use Rattle.tl_syntax.specs.Assignment.{Assignment, no_values, bind}
 use Rattle.tl_syntax.specs.BoundVariables.{OccurIn, DifferInSlot}
 use Rattle.tl_syntax.specs.Fits.{term_count}
@@ -214,12 +216,17 @@ module _ (p : PlainProblem) (w : World) (n k : ℕ) (e : Assignment) where
 pub closed-is : (p : PlainProblem) (w : World) (n k i : ℕ) (vs : List Value) → Closed p w n k i vs → Evaluates ((situation_read p w n k).table i vs) (looked_read p w n k i vs) (Ok false)
 closed-is p w n k i vs c = (sym c.truth, subst AreInRange (sym c.looked) tt)
 
-pub opened-is : (p : PlainProblem) (w : World) (n k i j : ℕ) (d : PlainDefinition) (vs : List Value) (e : Assignment) (r : Result Bool RangeNote) → Opened p w n k i j d vs → e ≡ bind d.params vs no_values
+pub opened-is : (p : PlainProblem) (w : World) (n k i j : ℕ) (d : PlainDefinition) (vs : List Value) (e u : Assignment) (r : Result Bool RangeNote) → Opened p w n k i j d vs → InScope (slots_of d.params) (free_slots d.body) → e ≡ bind d.params vs u
     → IsTruth p w i j e d.body r → Evaluates ((situation_read p w n k).table i vs) (looked_read p w n k i vs) r
-opened-is p w n k i j d vs e r o q h =
-    let body : IsTruth p w i j (bind d.params vs no_values) d.body r = subst (λ (x : Assignment). IsTruth p w i j x d.body r) q h in
+opened-is p w n k i j d vs e u r o scope q h =
+    let s = situation_read p w i j in
+    let looks = looked_read p w i j in
+    let body : IsTruth p w i j (bind d.params vs u) d.body r = subst (λ (x : Assignment). IsTruth p w i j x d.body r) q h in
+    let agree = in-scope d.params vs u no_values (free_slots d.body) scope in
     subst (λ (b : Bool). Evaluates b (looked_read p w n k i vs) r) (sym o.truth)
-    (subst (λ (l : List Operation). Evaluates (state_true (situation_read p w i j) (bind d.params vs no_values) d.body) l r) (sym o.looked) body)
+    (subst (λ (l : List Operation). Evaluates (state_true s (bind d.params vs no_values) d.body) l r) (sym o.looked)
+    (subst (λ (b : Bool). Evaluates b (looked_in_state looks s (bind d.params vs no_values) d.body) r) (truth-alike s (bind d.params vs u) (bind d.params vs no_values) d.body agree)
+    (subst (λ (l : List Operation). Evaluates (state_true s (bind d.params vs u) d.body) l r) (state-looks-alike looks s (bind d.params vs u) (bind d.params vs no_values) d.body agree) body)))
 
 -- as many values as terms
 pub count-values : (w : World) (e : Assignment) (ts : TermTrees) (row : List Value) → term_values w e ts ≡ Some row → length row ≡ term_count ts

@@ -1,7 +1,7 @@
 // The frames of scopes, one after another in a slice: the current one stands first.
 ghost use Rattle.std.specs.Prelude.{◌≡◌, ◌≤◌, ◌<◌, length, take};
 ghost use Rattle.tl_eval.specs.Frames.{assignment_in, current_assignment};
-ghost use Rattle.tl_syntax.specs.Assignment.{bind, no_values};
+ghost use Rattle.tl_syntax.specs.Assignment.{bind};
 ghost use Rattle.tl_syntax.specs.Lists.{Each};
 
 use crate::env::SLOTS;
@@ -18,18 +18,6 @@ pub(crate) fn put_values(frame: &mut [Option<Value>], vars: &[Var], values: &[Va
         i -= 1;
         frame[vars[i].slot as usize] = Some(values[i]);
     }
-}
-
-/// Makes the first frame that of a scope in which just these variables have values. It takes no memory.
-pub(crate) fn open_scope(frames: &mut [Option<Value>], vars: &[Var], values: &[Value])
-    requires room { 32 ≤ length frames.old }
-    requires slots { Each (λ s. s.slot < 32) vars.now }
-    requires same { length vars.now ≡ length values.now }
-    ensures { current_assignment frames.new ≡ bind vars.now values.now no_values }
-{
-    let frame = &mut frames[..SLOTS];
-    frame.fill(None);
-    put_values(frame, vars, values);
 }
 
 /// Gives the variables their values in the first frame. It takes no memory.

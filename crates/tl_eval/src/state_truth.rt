@@ -19,7 +19,7 @@ use crate::kept::{give_back, keep};
 use crate::memory::{Memory, hash_of};
 use crate::reading::Reading;
 use crate::row::Row;
-use crate::scope::{current, open_scope, put_in_scope};
+use crate::scope::{current, put_in_scope};
 use crate::term_value::put_values_of_terms;
 use crate::{Env, RangeNote, TupleReader};
 use tl_syntax::{Bound, Formula, Formulas, Junction, Terms, Value, Var};
@@ -208,7 +208,7 @@ fn body_true(
     }
 }
 
-/// Whether the body of a definition, which is read at a level above 0, is true of the values: it is read one level lower, in the next frame. It takes no memory.
+/// Whether the body of a definition, which is read at a level above 0, is true of the values: it is read one level lower, in the next frame, of which it looks at its own variables alone. It takes no memory.
 #[cycle(truth_of)]
 fn opened_true(
     task: &Task,
@@ -232,7 +232,7 @@ fn opened_true(
         level: reading.level - 1,
     };
     let inner = &mut frames[SLOTS..];
-    open_scope(inner, definition.params.as_slice(), values);
+    put_in_scope(inner, definition.params.as_slice(), values);
     truth_of(task, w, inner, memory, below, &definition.body)
 }
 

@@ -32,24 +32,24 @@ use Rattle.tl_eval.proofs.state_truth.+truth_of.Goals as goal
 
 -- ---- the body of a definition
 
-pub opened_true-open_scope-requires-clause-room : goal.opened_true-open_scope-requires-clause-room
-opened_true-open_scope-requires-clause-room t c =
+pub opened_true-put_in_scope-requires-clause-room : goal.opened_true-put_in_scope-requires-clause-room
+opened_true-put_in_scope-requires-clause-room t c =
     let d = c.index-as_slice-reading.result in
     let at = at_own c.args.task.now.problem c.args.reading.level c.args.reading.number (length c.args.values.now) c.as_slice.result.now d c.as_slice.ensures c.requires.takes c.index-as_slice-reading.is in
     let lower : c.args.reading.level ≡ suc (c.args.reading.level - 1) = omega (arith, c.requires.level) in
     let body = body-is c.args.task.now.problem c.args.reading.number c.args.reading.level c.args.reading.number (c.args.reading.level - 1) (length c.args.frames.now) d at.listed at.below (at.level ∙ lower) c.requires.room in
     omega (arith, body.room, length-take (length c.args.frames.now - 32) (drop 32 c.args.frames.now), length-drop 32 c.args.frames.now)
 
-pub opened_true-open_scope-requires-clause-slots : goal.opened_true-open_scope-requires-clause-slots
-opened_true-open_scope-requires-clause-slots t c =
+pub opened_true-put_in_scope-requires-clause-slots : goal.opened_true-put_in_scope-requires-clause-slots
+opened_true-put_in_scope-requires-clause-slots t c =
     let d = c.index-as_slice-reading.result in
     let at = at_own c.args.task.now.problem c.args.reading.level c.args.reading.number (length c.args.values.now) c.as_slice.result.now d c.as_slice.ensures c.requires.takes c.index-as_slice-reading.is in
     let lower : c.args.reading.level ≡ suc (c.args.reading.level - 1) = omega (arith, c.requires.level) in
     let body = body-is c.args.task.now.problem c.args.reading.number c.args.reading.level c.args.reading.number (c.args.reading.level - 1) (length c.args.frames.now) d at.listed at.below (at.level ∙ lower) c.requires.room in
     rw c.as_slice-2.ensures body.in_frame
 
-pub opened_true-open_scope-requires-clause-same : goal.opened_true-open_scope-requires-clause-same
-opened_true-open_scope-requires-clause-same t c =
+pub opened_true-put_in_scope-requires-clause-same : goal.opened_true-put_in_scope-requires-clause-same
+opened_true-put_in_scope-requires-clause-same t c =
     let d = c.index-as_slice-reading.result in
     let at = at_own c.args.task.now.problem c.args.reading.level c.args.reading.number (length c.args.values.now) c.as_slice.result.now d c.as_slice.ensures c.requires.takes c.index-as_slice-reading.is in
     rw c.as_slice-2.ensures at.params
@@ -62,7 +62,7 @@ opened_true-truth_of-requires t c =
     let lower : c.args.reading.level ≡ suc (c.args.reading.level - 1) = omega (arith, c.requires.level) in
     let body = body-is c.args.task.now.problem c.args.reading.number c.args.reading.level c.args.reading.number (c.args.reading.level - 1) (length c.args.frames.now) d at.listed at.below (at.level ∙ lower) c.requires.room in
     let less = body-lighter p c.args.reading.number c.args.reading.level c.args.reading.number (c.args.reading.level - 1) (formula_nodes (tree_of_formula d.body)) body.falls body.smaller in
-    (omega (arith, less, c.decreases), (body.fits, (omega (arith, body.room, c.open_scope.auto.frames, length-take (length c.args.frames.now - 32) (drop 32 c.args.frames.now), length-drop 32 c.args.frames.now), c.requires.truths)))
+    (omega (arith, less, c.decreases), (body.fits, (omega (arith, body.room, c.put_in_scope.auto.frames, length-take (length c.args.frames.now - 32) (drop 32 c.args.frames.now), length-drop 32 c.args.frames.now), c.requires.truths)))
 
 pub opened_true-returns-clause-truth : goal.opened_true-returns-clause-truth
 opened_true-returns-clause-truth t c =
@@ -70,9 +70,10 @@ opened_true-returns-clause-truth t c =
     let d = c.index-as_slice-reading.result in
     let at = at_own c.args.task.now.problem c.args.reading.level c.args.reading.number (length c.args.values.now) c.as_slice.result.now d c.as_slice.ensures c.requires.takes c.index-as_slice-reading.is in
     let lower : c.args.reading.level ≡ suc (c.args.reading.level - 1) = omega (arith, c.requires.level) in
-    opened-is p c.args.w.now c.args.reading.number c.args.reading.level c.args.reading.number (c.args.reading.level - 1) (plain_definition d) c.args.values.now (assignment_in (take 32 c.open_scope.new.frames)) c.truth_of.result
+    opened-is p c.args.w.now c.args.reading.number c.args.reading.level c.args.reading.number (c.args.reading.level - 1) (plain_definition d) c.args.values.now (assignment_in (take 32 c.put_in_scope.new.frames)) _ c.truth_of.result
     (read-opened p c.args.w.now c.args.reading.number c.args.reading.level c.args.reading.number (c.args.reading.level - 1) (plain_definition d) c.args.values.now at.there at.below (at.level ∙ lower))
-    (rw c.as_slice-2.ensures at c.open_scope.ensures)
+    (c.args.task.now.problem.domain_keeps.definitions c.args.reading.number d at.listed).scope
+    (rw c.as_slice-2.ensures at c.put_in_scope.ensures)
     c.truth_of.ensures.truth
 
 pub opened_true-returns-clause-frame : goal.opened_true-returns-clause-frame
