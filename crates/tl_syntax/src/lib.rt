@@ -2,7 +2,7 @@
 //!
 //! - `memory`: want of memory.
 //! - `names`: the table of names.
-//! - `items`: the one list type, of which every list here is a name.
+//! - `items`, `short_list`: the two list types, of which every list here is a name.
 //! - `value`, `variable`, `bound`: what stands in facts and formulas.
 //! - `junction`: all parts, or any part.
 //! - `declared`: what a domain declares.
@@ -34,6 +34,7 @@ mod names;
 mod operator;
 mod place_value;
 mod problem;
+mod short_list;
 mod substitution;
 mod term;
 mod value;
@@ -54,6 +55,7 @@ pub use names::Names;
 pub use operator::{Operator, Operators};
 pub use place_value::{PlaceValue, PlaceValues};
 pub use problem::Problem;
+pub use short_list::ShortList;
 pub use substitution::{Binding, Bindings, bindings_below, bound_with_values, subst, subst_bound};
 pub use term::{Term, Terms};
 pub use value::{Cmp, Op, Value, Values};

@@ -2,7 +2,7 @@
 ghost use Rattle.std.specs.Prelude.{◌≡◌};
 ghost use Rattle.tl_syntax.specs.Keys.{value_cmp};
 
-use crate::Items;
+use crate::ShortList;
 use std::cmp::Ordering;
 
 /// An integer of 64 bits, or a symbol by the number of its name.
@@ -16,6 +16,13 @@ pub enum Value {
     Sym(u32),
 }
 
+/// The integer 0, which stands in the places of a short list that hold no value yet.
+impl Default for Value {
+    fn default() -> Value {
+        Value::Int(0)
+    }
+}
+
 impl Value {
     /// How the two stand in value order. The derived order is the same, and is what compares lists of values and facts.
     pub fn order(self, other: Value) -> Ordering
@@ -26,7 +33,7 @@ impl Value {
 }
 
 /// A list of values.
-pub type Values = Items<Value>;
+pub type Values = ShortList<Value>;
 
 /// An arithmetic operation.
 #[derive(Clone, Copy, Debug, PartialEq, Eq, Hash)]
