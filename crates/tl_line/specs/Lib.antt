@@ -4,6 +4,7 @@ pub mod MeaningOfActions
 pub mod ReadActions
 pub mod NamedActions
 pub mod ActionTexts
+pub mod AnswerLines
 pub mod Puts
 pub mod LawsOrder
 pub mod WritableActions

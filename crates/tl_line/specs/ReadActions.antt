@@ -1,5 +1,5 @@
 -- What the readers of actions answer: what a form stands for, or the first of the rules that it breaks.
-use Rattle.std.specs.Prelude.{◌≡◌, ℕ, List, Result, unwrap_or}
+use Rattle.std.specs.Prelude.{ℕ, List, Result}
 use Rattle.tl_sexpr.specs.Tree.{FormTree, FormTrees}
 use Rattle.tl_syntax.specs.declared.action.Action.{Action}
 use Rattle.tl_syntax.specs.declared.operator.Operator.{Operator}
@@ -10,7 +10,7 @@ use Rattle.tl_rules.specs.Reads.{Reads}
 use Rattle.tl_rules.specs.Rules.{Break}
 use Rattle.tl_rules.specs.Values.{value_meant, values_meant}
 use Rattle.tl_line.specs.ActionLists.{placed_breaks, actions_breaks}
-use Rattle.tl_line.specs.Actions.{named_value_breaks, named_values_breaks, operator_at, named_operator_breaks, action_breaks}
+use Rattle.tl_line.specs.Actions.{named_value_breaks, named_values_breaks, action_breaks}
 use Rattle.tl_line.specs.MeaningOfActions.{action_meant, actions_meant}
 
 -- an argument, by the names

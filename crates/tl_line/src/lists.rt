@@ -1,5 +1,5 @@
 // The actions of forms, one after the other.
-ghost use Rattle.std.specs.Prelude.{◌≡◌, ◌+◌, ◌<◌, ◌≤◌, length, IfOk};
+ghost use Rattle.std.specs.Prelude.{◌+◌, ◌<◌, ◌≤◌, length, IfOk};
 ghost use Rattle.tl_sexpr.specs.Tree.{tree_of};
 ghost use Rattle.tl_syntax.specs.Lists.{Each};
 ghost use Rattle.tl_rules.specs.Reads.{trees_in};

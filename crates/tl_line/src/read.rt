@@ -1,6 +1,5 @@
 // The action of a form.
-ghost use Rattle.std.specs.Prelude.{◌≡◌, ◌==◌, ◌<◌, ◌≤◌, ℕ, length, unwrap_or, IfOk, IfErr, IfSome};
-ghost use Rattle.std.specs.List.{position};
+ghost use Rattle.std.specs.Prelude.{◌≤◌, ℕ, length, unwrap_or, IfOk, IfErr};
 ghost use Rattle.tl_sexpr.specs.Tree.{list, tree_of};
 ghost use Rattle.tl_sexpr.specs.Offsets.{RisesFrom};
 ghost use Rattle.tl_rules.specs.Reads.{Reads, IsLeastFault, trees_in};
@@ -8,31 +7,13 @@ ghost use Rattle.tl_line.specs.Actions.{operator_at, named_operator_breaks};
 ghost use Rattle.tl_line.specs.NamedActions.{ActionIsNamed};
 ghost use Rattle.tl_line.specs.ReadActions.{ReadsActionBy, ReadsAction, action_breaks_in};
 
+use crate::operators::operator_of;
 use crate::values::arguments;
 use std::alloc::Global;
 use tl_rules::parts::call;
 use tl_rules::{FormFault, Rule, breaks};
 use tl_sexpr::Form;
 use tl_syntax::{Action, Names, Operator, Problem};
-
-/// The position of the operator with a name of this number. It goes over the operators.
-fn operator_named(operators: &[Operator], number: u32) -> Option<usize>
-    ensures place { result ≡ position (λ operator. operator.name == number) operators.now }
-    ensures within { IfSome result (λ place. place < length operators.now) }
-{
-    operators.iter().position(|one| one.name == number)
-}
-
-/// The position of the operator whose name has this text.
-fn operator_of(names: &Names, operators: &[Operator], text: &str) -> Option<usize>
-    ensures place { result ≡ operator_at names.now operators.now text.now }
-    ensures within { IfSome result (λ place. place < length operators.now) }
-{
-    match names.find(text) {
-        Some(number) => operator_named(operators, number),
-        None => None,
-    }
-}
 
 /// The operator of an action with so many arguments.
 fn operator(

@@ -1,5 +1,4 @@
 // The arguments of actions.
-ghost use Rattle.std.specs.Prelude.{◌≡◌};
 ghost use Rattle.tl_sexpr.specs.Tree.{symbol, tree_of};
 ghost use Rattle.tl_syntax.specs.declared.value.Value.{Value};
 ghost use Rattle.tl_syntax.specs.declared.value.Value.TheVariants as value;
