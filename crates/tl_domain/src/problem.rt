@@ -1,9 +1,8 @@
 // The problem that a domain file and a problem file stand for.
-ghost use Rattle.std.specs.Prelude.{length, IfOk, IfErr};
+ghost use Rattle.std.specs.Prelude.{IfOk, IfErr};
 ghost use Rattle.tl_sexpr.specs.Offsets.{AreAsRead};
 ghost use Rattle.tl_sexpr.specs.Tree.{trees_of};
-ghost use Rattle.tl_syntax.specs.Kept.{DomainKeeps};
-ghost use Rattle.tl_rules.specs.Symbols.{HaveRoom};
+ghost use Rattle.tl_problem.specs.Problems.{CanFollow};
 ghost use Rattle.tl_domain.specs.Files.{CompleteToProblem, IsFirstAfterDomain, IsLeastAfterDomain};
 
 use std::alloc::Global;
@@ -23,8 +22,7 @@ pub fn problem_of(
     domain: Domain,
     names: Names,
 ) -> Result<Problem, FormFault>
-    requires room { HaveRoom names (trees_of forms.now) }
-    requires domain { DomainKeeps (length names) domain }
+    requires { CanFollow names domain (trees_of forms.now) }
     ensures problem { IfOk result (CompleteToProblem names domain (trees_of forms.now)) }
     ensures fault { IfErr result (IsFirstAfterDomain names domain (trees_of forms.now)) }
     ensures least { AreAsRead (trees_of forms.now)

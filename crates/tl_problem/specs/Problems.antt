@@ -1,15 +1,21 @@
 -- The problem that a file stands for.
-use Rattle.std.specs.Prelude.{◌≡◌, ℕ, List, map}
+use Rattle.std.specs.Prelude.{◌≡◌, ℕ, List, length, map}
 use Rattle.tl_sexpr.specs.Tree.{FormTrees}
 use Rattle.tl_syntax.specs.declared.domain.Domain.{Domain}
 use Rattle.tl_syntax.specs.declared.problem.Problem.{Problem}
+use Rattle.tl_syntax.specs.Kept.{DomainKeeps}
 use Rattle.tl_rules.specs.Rules.{Break}
-use Rattle.tl_rules.specs.Symbols.{names_with_all}
+use Rattle.tl_rules.specs.Symbols.{HaveRoom, names_with_all}
 use Rattle.tl_problem.specs.Sections.{Sections}
 use Rattle.tl_problem.specs.ProblemFiles.{problem_file_breaks, problem_file_meant}
 use Rattle.tl_renumber.specs.Numbers.{new_number, IsSettled}
 use Rattle.tl_renumber.specs.Renumbered.{renumbered_fact, renumbered_place}
 use Rattle.tl_renumber.specs.RenumberingKeeps.{IsRenumbered}
+
+-- the forms of a problem file can be read after a domain and its names: there is room for their symbols, and the domain
+-- keeps what that of a problem keeps
+abbrev pub CanFollow : List (List ℕ) → Domain → FormTrees → Type 0
+CanFollow names d forms = HaveRoom names forms × DomainKeeps (length names) d
 
 -- the problem of a domain and of what a file says, where the names get these numbers, which are those of their order by bytes
 pub record IsSettledProblem (numbers : List ℕ) (names : List (List ℕ)) (d : Domain) (said : Sections) (p : Problem) : Type 0 where

@@ -1,5 +1,5 @@
 // Facts, equalities and negated facts, each by itself.
-ghost use Rattle.std.specs.Prelude.{◌≡◌, ℕ, List};
+ghost use Rattle.std.specs.Prelude.{ℕ, List};
 ghost use Rattle.tl_syntax.specs.declared.fact.Fact.{Fact};
 ghost use Rattle.tl_syntax.specs.declared.place_value.PlaceValue.{PlaceValue};
 ghost use Rattle.tl_syntax.specs.declared.value.Value.{Value};

@@ -1,12 +1,11 @@
 // The problem that the forms of a file stand for.
-ghost use Rattle.std.specs.Prelude.{◌≡◌, [], length, IfOk, IfErr, OnOk};
+ghost use Rattle.std.specs.Prelude.{◌≡◌, [], IfOk, IfErr, OnOk};
 ghost use Rattle.tl_sexpr.specs.Offsets.{AreAsRead};
 ghost use Rattle.tl_sexpr.specs.Tree.{trees_of};
-ghost use Rattle.tl_syntax.specs.Kept.{DomainKeeps};
 ghost use Rattle.tl_rules.specs.Reads.{IsFirst, IsLeastFault, Reads};
 ghost use Rattle.tl_rules.specs.Symbols.{HaveRoom};
 ghost use Rattle.tl_problem.specs.Readers.{sections_in};
-ghost use Rattle.tl_problem.specs.Problems.{IsProblemOf, all_names, breaks_of, said_by};
+ghost use Rattle.tl_problem.specs.Problems.{CanFollow, IsProblemOf, all_names, breaks_of, said_by};
 
 use crate::sections::{SectionTables, problem_file};
 use crate::settled::settled;
@@ -48,8 +47,7 @@ pub fn problem_of(
     domain: Domain,
     names: Names,
 ) -> Result<Problem, FormFault>
-    requires room { HaveRoom names (trees_of forms.now) }
-    requires domain { DomainKeeps (length names) domain }
+    requires { CanFollow names domain (trees_of forms.now) }
     ensures problem { IfOk result (IsProblemOf names domain (trees_of forms.now)) }
     ensures lawful { OnOk result (breaks_of names domain (trees_of forms.now) ≡ []) }
     ensures fault { IfErr result (IsFirst (breaks_of names domain (trees_of forms.now))) }

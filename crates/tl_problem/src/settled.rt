@@ -43,7 +43,8 @@ fn settled_facts(alloc: Global, facts: FactSet, numbers: &[u32]) -> Result<Facts
 
 /// The list of places and their values with other numbers for the names.
 fn settled_values(alloc: Global, values: PlaceMap, numbers: &[u32]) -> Result<PlaceValues, NoMemory>
-    ensures { IfOk result (λ list. list ≡ map (renumbered_place (new_number numbers.now)) values) }
+    ensures { IfOk result
+        (λ list. list ≡ map (renumbered_place (new_number numbers.now)) values) }
 {
     let list = values.into_values(alloc)?;
     renumber_places(alloc, list, numbers)

@@ -1,5 +1,5 @@
 // Ground values.
-ghost use Rattle.std.specs.Prelude.{◌≡◌, List};
+ghost use Rattle.std.specs.Prelude.{List};
 ghost use Rattle.tl_sexpr.specs.Tree.{tree_of};
 ghost use Rattle.tl_syntax.specs.declared.value.Value.{Value};
 ghost use Rattle.tl_rules.specs.Reads.{Reads, trees_in};

@@ -3,7 +3,7 @@ use Rattle.tl_domain.proofs.FilesStand.{problem-stands, first-after, least-after
 use Rattle.tl_domain.proofs.problem.problem_of.Goals as goal
 
 pub returns-clause-problem : goal.returns-clause-problem
-returns-clause-problem c = problem-stands c.problem_of.result c.args.names c.args.domain (trees_of c.args.forms.now) c.requires.domain c.problem_of.ensures.lawful c.problem_of.ensures.problem
+returns-clause-problem c = problem-stands c.problem_of.result c.args.names c.args.domain (trees_of c.args.forms.now) c.requires.1 c.problem_of.ensures.lawful c.problem_of.ensures.problem
 
 pub returns-clause-fault : goal.returns-clause-fault
 returns-clause-fault c = first-after c.problem_of.result c.args.names c.args.domain (trees_of c.args.forms.now) c.problem_of.ensures.fault

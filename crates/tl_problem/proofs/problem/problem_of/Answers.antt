@@ -4,7 +4,7 @@ use Rattle.tl_problem.proofs.ReadProblems.{domain-read, said-read, least-read}
 use Rattle.tl_problem.proofs.problem.problem_of.Goals as goal
 
 pub settled-requires-clause-domain : goal.settled-requires-clause-domain
-settled-requires-clause-domain c = domain-read c.args.names c.said.new.names c.args.domain (trees_of c.args.forms.now) c.in-Ok.ensures.names c.requires.domain
+settled-requires-clause-domain c = domain-read c.args.names c.said.new.names c.args.domain (trees_of c.args.forms.now) c.in-Ok.ensures.names c.requires.1
 
 pub settled-requires-clause-said : goal.settled-requires-clause-said
 settled-requires-clause-said c =
