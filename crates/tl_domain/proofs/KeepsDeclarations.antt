@@ -24,7 +24,7 @@ use Rattle.tl_domain.specs.Words.{ItemWord}
 use Rattle.tl_domain.specs.Words as item
 use Rattle.tl_domain.specs.Operators.{head_name_breaks}
 use Rattle.tl_domain.specs.Items.{has_declaration_shape, has_item_shape, is_full, is_second_control, arity_breaks, declaration_breaks, declaration_of, item_list_breaks, item_parts_breaks, signature_after}
-use Rattle.tl_domain.specs.MeaningOfItems.{declared_meant, predicates_in, functions_in}
+use Rattle.tl_domain.specs.MeaningOfItems.{declared_meant, predicates_of_item, functions_of_item}
 
 -- an item that breaks nothing, by its first word and the elements after it
 pub record IsLawful (names : List (List ℕ)) (k : Declarations) (w : ItemWord) (rest : FormTrees) : Type 0 where
@@ -66,11 +66,11 @@ declaration-keeps names g (more_forms (symbol text s) (more_forms (integer z t) 
     let arity = within 0 8 z (test-passes (is_within 0 8 z) Limit t parts.1) in
     record { keeps = (record { named = number-below names text has.0; few = arity.1 }, tt); plain = not-true (is_variable text) shapes.0 }
 
-pub predicates-keep : (names : List (List ℕ)) (k : Declarations) (w : ItemWord) (rest : FormTrees) → IsLawful names k w rest → Each (DeclarationKeeps (length names)) (predicates_in names w rest)
+pub predicates-keep : (names : List (List ℕ)) (k : Declarations) (w : ItemWord) (rest : FormTrees) → IsLawful names k w rest → Each (DeclarationKeeps (length names)) (predicates_of_item names w rest)
 predicates-keep names k item.Predicate rest h = (declaration-keeps names k.signature rest h.has h.shape h.parts).keeps
 predicates-keep names k _ rest h = tt
 
-pub functions-keep : (names : List (List ℕ)) (k : Declarations) (w : ItemWord) (rest : FormTrees) → IsLawful names k w rest → Each (DeclarationKeeps (length names)) (functions_in names w rest)
+pub functions-keep : (names : List (List ℕ)) (k : Declarations) (w : ItemWord) (rest : FormTrees) → IsLawful names k w rest → Each (DeclarationKeeps (length names)) (functions_of_item names w rest)
 functions-keep names k item.Function rest h = (declaration-keeps names k.signature rest h.has h.shape h.parts).keeps
 functions-keep names k _ rest h = tt
 

@@ -33,7 +33,7 @@ use Rattle.tl_rules.specs.OneForm.{second_form_breaks}
 use Rattle.tl_domain.specs.DomainTrees.{DefinitionTree, DomainTree, definition_tree, operator_tree, domain_tree}
 use Rattle.tl_domain.specs.Items.{item_breaks, signature_after, declared_with, declared_after, items_breaks}
 use Rattle.tl_domain.specs.LawsKeeps.{DomainIsKept, NamesAreThere}
-use Rattle.tl_domain.specs.MeaningOfItems.{predicates_in, functions_in, definitions_in, operators_in, with_item, with_item_form, with_items, empty_domain, domain_meant, domain_file_meant}
+use Rattle.tl_domain.specs.MeaningOfItems.{predicates_of_item, functions_of_item, definitions_of_item, operators_of_item, with_item, with_item_form, with_items, empty_domain, domain_meant, domain_file_meant}
 use Rattle.tl_domain.specs.Words.{ItemWord, item_word}
 use Rattle.tl_domain.proofs.KeepsDeclarations.{IsLawful, is-lawful, HasNoVariables, names-only, predicates-keep, functions-keep, predicates-plain, functions-plain}
 use Rattle.tl_domain.proofs.KeepsOperators.{OperatorTreeKeeps}
@@ -63,8 +63,8 @@ record Stands (names : List (List ℕ)) (k : Declarations) (d : DomainTree) : Ty
 
 -- definitions with one more, or with none
 definitions-stand : (names : List (List ℕ)) (k : Declarations) (d : DomainTree) (w : ItemWord) (rest : FormTrees) → Stands names k d → Grows (seen k.signature) (seen (signature_after k.signature w rest)) → AddsDefinitions names k w rest
-    → (i : ℕ) (x : DefinitionTree) → slice_get (d.definitions ++ definitions_in names k.signature w rest) i ≡ Some x → DefinitionTreeKeeps (seen (signature_after k.signature w rest)) (length names) i x
-definitions-stand names k d w rest s grown adds i x at = elim (place-of-both d.definitions (definitions_in names k.signature w rest) i x at) [
+    → (i : ℕ) (x : DefinitionTree) → slice_get (d.definitions ++ definitions_of_item names k.signature w rest) i ≡ Some x → DefinitionTreeKeeps (seen (signature_after k.signature w rest)) (length names) i x
+definitions-stand names k d w rest s grown adds i x at = elim (place-of-both d.definitions (definitions_of_item names k.signature w rest) i x at) [
   | inl before ↦ definition-grows (seen k.signature) (seen (signature_after k.signature w rest)) (length names) i x grown (s.definitions i x before)
   | inr after ↦ elim adds.adds [
     | inl nothing ↦ let there : slice_get [] after.0 ≡ Some x = subst (λ (l : List DefinitionTree). slice_get l after.0 ≡ Some x) nothing after.2 in absurd (none-some x there)
@@ -81,29 +81,29 @@ definitions-stand names k d w rest s grown adds i x at = elim (place-of-both d.d
     last y keeps (suc j) place there = absurd (none-some x there)
 
 -- the number of definitions with those of an item
-few-stand : (names : List (List ℕ)) (k : Declarations) (d : DomainTree) (w : ItemWord) (rest : FormTrees) → Stands names k d → AddsDefinitions names k w rest → length (d.definitions ++ definitions_in names k.signature w rest) ≤ 64
+few-stand : (names : List (List ℕ)) (k : Declarations) (d : DomainTree) (w : ItemWord) (rest : FormTrees) → Stands names k d → AddsDefinitions names k w rest → length (d.definitions ++ definitions_of_item names k.signature w rest) ≤ 64
 few-stand names k d w rest s adds =
     let many : length k.signature.definitions ≡ length d.definitions = sym (length-map k.signature.definitions (λ e. e.1)) ∙ ap (λ (l : List ℕ). length l) s.definition_arities ∙ length-map d.definitions (λ z. length z.params) in
-    let both = length-append d.definitions (definitions_in names k.signature w rest) in
+    let both = length-append d.definitions (definitions_of_item names k.signature w rest) in
     elim adds.adds [
       | inl nothing ↦ let none = ap (λ (l : List DefinitionTree). length l) nothing in omega (arith, s.few_definitions)
       | inr one ↦ let single = ap (λ (l : List DefinitionTree). length l) one.1 in omega (arith, one.3)
     ]
 
 -- the number of predicates, of functions and of operators with those of an item
-predicates-stand : (names : List (List ℕ)) (k : Declarations) (d : DomainTree) (w : ItemWord) (rest : FormTrees) → Stands names k d → IsLawful names k w rest → length (d.predicates ++ predicates_in names w rest) ≤ 256
+predicates-stand : (names : List (List ℕ)) (k : Declarations) (d : DomainTree) (w : ItemWord) (rest : FormTrees) → Stands names k d → IsLawful names k w rest → length (d.predicates ++ predicates_of_item names w rest) ≤ 256
 predicates-stand names k d w rest s h =
     let many : length k.signature.predicates ≡ length d.predicates = sym (length-map k.signature.predicates (λ e. e.1)) ∙ ap (λ (l : List ℕ). length l) s.predicate_arities ∙ length-map d.predicates (λ x. x.arity) in
-    omega (arith, length-append d.predicates (predicates_in names w rest), predicates-few names k w rest h (omega (arith, s.few_predicates)))
+    omega (arith, length-append d.predicates (predicates_of_item names w rest), predicates-few names k w rest h (omega (arith, s.few_predicates)))
 
-functions-stand : (names : List (List ℕ)) (k : Declarations) (d : DomainTree) (w : ItemWord) (rest : FormTrees) → Stands names k d → IsLawful names k w rest → length (d.functions ++ functions_in names w rest) ≤ 256
+functions-stand : (names : List (List ℕ)) (k : Declarations) (d : DomainTree) (w : ItemWord) (rest : FormTrees) → Stands names k d → IsLawful names k w rest → length (d.functions ++ functions_of_item names w rest) ≤ 256
 functions-stand names k d w rest s h =
     let many : length k.signature.functions ≡ length d.functions = sym (length-map k.signature.functions (λ e. e.1)) ∙ ap (λ (l : List ℕ). length l) s.function_arities ∙ length-map d.functions (λ x. x.arity) in
-    omega (arith, length-append d.functions (functions_in names w rest), functions-few names k w rest h (omega (arith, s.few_functions)))
+    omega (arith, length-append d.functions (functions_of_item names w rest), functions-few names k w rest h (omega (arith, s.few_functions)))
 
-operators-stand : (names : List (List ℕ)) (k : Declarations) (d : DomainTree) (w : ItemWord) (rest : FormTrees) → Stands names k d → IsLawful names k w rest → length (d.operators ++ operators_in names k.signature w rest) ≤ 256
+operators-stand : (names : List (List ℕ)) (k : Declarations) (d : DomainTree) (w : ItemWord) (rest : FormTrees) → Stands names k d → IsLawful names k w rest → length (d.operators ++ operators_of_item names k.signature w rest) ≤ 256
 operators-stand names k d w rest s h =
-    omega (arith, length-append d.operators (operators_in names k.signature w rest), s.operator_names, operators-few names k w rest h (omega (arith, s.operator_names, s.few_operators)))
+    omega (arith, length-append d.operators (operators_of_item names k.signature w rest), s.operator_names, operators-few names k w rest h (omega (arith, s.operator_names, s.few_operators)))
 
 -- lists of numbers of arguments that grow in the same way
 both-arities : {A : Type 0} (f : A → ℕ) (xs ys : List A) (old new : List ℕ) → new ≡ old ++ map f ys → old ≡ map f xs → new ≡ map f (xs ++ ys)
@@ -115,33 +115,33 @@ item-stands names k d w rest s h =
     let adds = definitions-keep names k w rest only h in
     let after = signature_after k.signature w rest in
     let grown : Grows (seen k.signature) (seen after) = record {
-      more_predicates = map (λ x. x.arity) (predicates_in names w rest);
-      more_functions = map (λ x. x.arity) (functions_in names w rest);
-      more_definitions = map (λ x. length x.params) (definitions_in names k.signature w rest);
+      more_predicates = map (λ x. x.arity) (predicates_of_item names w rest);
+      more_functions = map (λ x. x.arity) (functions_of_item names w rest);
+      more_definitions = map (λ x. length x.params) (definitions_of_item names k.signature w rest);
       predicates = predicates-grow names k.signature w rest;
       functions = functions-grow names k.signature w rest;
       definitions = adds.grows;
     } in
-    let operators = Each-both (OperatorTreeKeeps (seen k.signature) (length names)) d.operators (operators_in names k.signature w rest) s.operators (operators-keep names k w rest only h) in
+    let operators = Each-both (OperatorTreeKeeps (seen k.signature) (length names)) d.operators (operators_of_item names k.signature w rest) s.operators (operators-keep names k w rest only h) in
     record {
       name = s.name;
-      predicates = Each-both (DeclarationKeeps (length names)) d.predicates (predicates_in names w rest) s.predicates (predicates-keep names k w rest h);
-      functions = Each-both (DeclarationKeeps (length names)) d.functions (functions_in names w rest) s.functions (functions-keep names k w rest h);
+      predicates = Each-both (DeclarationKeeps (length names)) d.predicates (predicates_of_item names w rest) s.predicates (predicates-keep names k w rest h);
+      functions = Each-both (DeclarationKeeps (length names)) d.functions (functions_of_item names w rest) s.functions (functions-keep names k w rest h);
       definitions = definitions-stand names k d w rest s grown adds;
       operators = Each-implies (OperatorTreeKeeps (seen k.signature) (length names)) (OperatorTreeKeeps (seen after) (length names)) (λ o keeps. operator-grows (seen k.signature) (seen after) (length names) o grown keeps) _ operators;
       control = formula-grows (seen k.signature) (seen after) (length names) [] 0 _ grown (control-keeps names k d.control w rest only h s.control);
-      predicate_arities = both-arities (λ x. x.arity) d.predicates (predicates_in names w rest) (arities k.signature.predicates) (arities after.predicates) (predicates-grow names k.signature w rest) s.predicate_arities;
-      function_arities = both-arities (λ x. x.arity) d.functions (functions_in names w rest) (arities k.signature.functions) (arities after.functions) (functions-grow names k.signature w rest) s.function_arities;
-      definition_arities = both-arities (λ x. length x.params) d.definitions (definitions_in names k.signature w rest) (arities k.signature.definitions) (arities after.definitions) adds.grows s.definition_arities;
+      predicate_arities = both-arities (λ x. x.arity) d.predicates (predicates_of_item names w rest) (arities k.signature.predicates) (arities after.predicates) (predicates-grow names k.signature w rest) s.predicate_arities;
+      function_arities = both-arities (λ x. x.arity) d.functions (functions_of_item names w rest) (arities k.signature.functions) (arities after.functions) (functions-grow names k.signature w rest) s.function_arities;
+      definition_arities = both-arities (λ x. length x.params) d.definitions (definitions_of_item names k.signature w rest) (arities k.signature.definitions) (arities after.definitions) adds.grows s.definition_arities;
       plain_predicates = predicates-plain names k w rest h s.plain_predicates;
       plain_functions = functions-plain names k w rest h s.plain_functions;
-      operator_names = omega (arith, s.operator_names, operators-grow names k w rest, length-append d.operators (operators_in names k.signature w rest));
+      operator_names = omega (arith, s.operator_names, operators-grow names k w rest, length-append d.operators (operators_of_item names k.signature w rest));
       few_predicates = predicates-stand names k d w rest s h;
       few_functions = functions-stand names k d w rest s h;
       few_operators = operators-stand names k d w rest s h;
       few_definitions = few-stand names k d w rest s adds;
       few_levels = adds.few s.few_levels;
-      counted = omega (arith, s.counted, adds.counted, sum_by-append (λ (x : DefinitionTree). x.levels) d.definitions (definitions_in names k.signature w rest), length-append d.definitions (definitions_in names k.signature w rest));
+      counted = omega (arith, s.counted, adds.counted, sum_by-append (λ (x : DefinitionTree). x.levels) d.definitions (definitions_of_item names k.signature w rest), length-append d.definitions (definitions_of_item names k.signature w rest));
     }
 
 -- a domain with items that break nothing, whatever they declare together

@@ -30,7 +30,7 @@ use Rattle.tl_domain.specs.Words as item
 use Rattle.tl_domain.specs.DomainTrees.{DefinitionTree}
 use Rattle.tl_domain.specs.Operators.{head_breaks, parameters_of, name_in_head, are_clauses}
 use Rattle.tl_domain.specs.Items.{levels_breaks, declaration_of, with_head, signature_after, operators_after, levels_after}
-use Rattle.tl_domain.specs.MeaningOfItems.{definition_meant, predicates_in, functions_in, definitions_in, operators_in, control_with}
+use Rattle.tl_domain.specs.MeaningOfItems.{definition_meant, predicates_of_item, functions_of_item, definitions_of_item, operators_of_item, control_with}
 use Rattle.tl_domain.proofs.KeepsDeclarations.{IsLawful, within}
 use Rattle.tl_domain.proofs.KeepsHeads.{HeadKeeps, head-keeps, parameters-keep, head-place, in-scope}
 use Rattle.tl_domain.proofs.KeepsOperators.{OperatorTreeKeeps, operator-keeps}
@@ -44,7 +44,7 @@ count-parameters names most is_old occurs head h = length-variables names (param
 arities-pushed : (table : Table) (text : List ℕ) (n : ℕ) → arities (table ++ (text, n) ∷ []) ≡ arities table ++ n ∷ []
 arities-pushed table text n = map-append (λ e. e.1) table ((text, n) ∷ [])
 
-pub predicates-grow : (names : List (List ℕ)) (g : NameSignature) (w : ItemWord) (rest : FormTrees) → arities (signature_after g w rest).predicates ≡ arities g.predicates ++ map (λ x. x.arity) (predicates_in names w rest)
+pub predicates-grow : (names : List (List ℕ)) (g : NameSignature) (w : ItemWord) (rest : FormTrees) → arities (signature_after g w rest).predicates ≡ arities g.predicates ++ map (λ x. x.arity) (predicates_of_item names w rest)
 predicates-grow names g item.Predicate rest = arities-pushed g.predicates (declaration_of rest).0 (declaration_of rest).1
 predicates-grow names g item.Function rest = sym (append-nil (arities g.predicates))
 predicates-grow names g item.Define no_form = sym (append-nil (arities g.predicates))
@@ -56,7 +56,7 @@ predicates-grow names g item.Operator rest = sym (append-nil (arities g.predicat
 predicates-grow names g item.Control rest = sym (append-nil (arities g.predicates))
 predicates-grow names g item.Other rest = sym (append-nil (arities g.predicates))
 
-pub functions-grow : (names : List (List ℕ)) (g : NameSignature) (w : ItemWord) (rest : FormTrees) → arities (signature_after g w rest).functions ≡ arities g.functions ++ map (λ x. x.arity) (functions_in names w rest)
+pub functions-grow : (names : List (List ℕ)) (g : NameSignature) (w : ItemWord) (rest : FormTrees) → arities (signature_after g w rest).functions ≡ arities g.functions ++ map (λ x. x.arity) (functions_of_item names w rest)
 functions-grow names g item.Predicate rest = sym (append-nil (arities g.functions))
 functions-grow names g item.Function rest = arities-pushed g.functions (declaration_of rest).0 (declaration_of rest).1
 functions-grow names g item.Define no_form = sym (append-nil (arities g.functions))
@@ -70,21 +70,21 @@ functions-grow names g item.Other rest = sym (append-nil (arities g.functions))
 
 -- ---- how many predicates, functions and operators there are: an item adds one only where there is room
 
-pub predicates-few : (names : List (List ℕ)) (k : Declarations) (w : ItemWord) (rest : FormTrees) → IsLawful names k w rest → length k.signature.predicates ≤ 256 → length k.signature.predicates + length (predicates_in names w rest) ≤ 256
+pub predicates-few : (names : List (List ℕ)) (k : Declarations) (w : ItemWord) (rest : FormTrees) → IsLawful names k w rest → length k.signature.predicates ≤ 256 → length k.signature.predicates + length (predicates_of_item names w rest) ≤ 256
 predicates-few names k item.Predicate rest h few = let room = ltb-true (length k.signature.predicates) 256 (not-false (nat_lt (length k.signature.predicates) 256) h.room) in omega arith
 predicates-few names k _ rest h few = omega arith
 
-pub functions-few : (names : List (List ℕ)) (k : Declarations) (w : ItemWord) (rest : FormTrees) → IsLawful names k w rest → length k.signature.functions ≤ 256 → length k.signature.functions + length (functions_in names w rest) ≤ 256
+pub functions-few : (names : List (List ℕ)) (k : Declarations) (w : ItemWord) (rest : FormTrees) → IsLawful names k w rest → length k.signature.functions ≤ 256 → length k.signature.functions + length (functions_of_item names w rest) ≤ 256
 functions-few names k item.Function rest h few = let room = ltb-true (length k.signature.functions) 256 (not-false (nat_lt (length k.signature.functions) 256) h.room) in omega arith
 functions-few names k _ rest h few = omega arith
 
-pub operators-few : (names : List (List ℕ)) (k : Declarations) (w : ItemWord) (rest : FormTrees) → IsLawful names k w rest → length k.operators ≤ 256 → length k.operators + length (operators_in names k.signature w rest) ≤ 256
+pub operators-few : (names : List (List ℕ)) (k : Declarations) (w : ItemWord) (rest : FormTrees) → IsLawful names k w rest → length k.operators ≤ 256 → length k.operators + length (operators_of_item names k.signature w rest) ≤ 256
 operators-few names k item.Operator no_form h few = omega arith
 operators-few names k item.Operator (more_forms head clauses) h few = let room = ltb-true (length k.operators) 256 (not-false (nat_lt (length k.operators) 256) h.room) in omega arith
 operators-few names k _ rest h few = omega arith
 
 -- an operator joins the domain where its name joins the names of operators
-pub operators-grow : (names : List (List ℕ)) (k : Declarations) (w : ItemWord) (rest : FormTrees) → length (operators_after k.operators w rest) ≡ length k.operators + length (operators_in names k.signature w rest)
+pub operators-grow : (names : List (List ℕ)) (k : Declarations) (w : ItemWord) (rest : FormTrees) → length (operators_after k.operators w rest) ≡ length k.operators + length (operators_of_item names k.signature w rest)
 operators-grow names k item.Operator no_form = omega arith
 operators-grow names k item.Operator (more_forms head clauses) = length-append k.operators (name_in_head head ∷ [])
 operators-grow names k _ rest = omega arith
@@ -93,9 +93,9 @@ operators-grow names k _ rest = omega arith
 
 -- what an item adds to the definitions: nothing, or one that keeps what definitions keep, where there is room
 pub record AddsDefinitions (names : List (List ℕ)) (k : Declarations) (w : ItemWord) (rest : FormTrees) : Type 0 where
-  pub adds : (definitions_in names k.signature w rest ≡ []) ⊎ ((d : DefinitionTree) × (definitions_in names k.signature w rest ≡ d ∷ []) × DefinitionTreeKeeps (seen (signature_after k.signature w rest)) (length names) (length k.signature.definitions) d × (length k.signature.definitions < 64))
-  pub grows : arities (signature_after k.signature w rest).definitions ≡ arities k.signature.definitions ++ map (λ x. length x.params) (definitions_in names k.signature w rest)
-  pub counted : k.levels + sum_by (λ x. x.levels) (definitions_in names k.signature w rest) ≤ levels_after k.levels w rest + length (definitions_in names k.signature w rest)
+  pub adds : (definitions_of_item names k.signature w rest ≡ []) ⊎ ((d : DefinitionTree) × (definitions_of_item names k.signature w rest ≡ d ∷ []) × DefinitionTreeKeeps (seen (signature_after k.signature w rest)) (length names) (length k.signature.definitions) d × (length k.signature.definitions < 64))
+  pub grows : arities (signature_after k.signature w rest).definitions ≡ arities k.signature.definitions ++ map (λ x. length x.params) (definitions_of_item names k.signature w rest)
+  pub counted : k.levels + sum_by (λ x. x.levels) (definitions_of_item names k.signature w rest) ≤ levels_after k.levels w rest + length (definitions_of_item names k.signature w rest)
   pub few : k.levels ≤ 64 → levels_after k.levels w rest ≤ 64
 
 -- the definition of a head and a body that break nothing, read where these things are declared
@@ -129,7 +129,7 @@ head-grows g head = record {
 head-length : (g : NameSignature) (head : FormTree) → length (arities (with_head g head).definitions) ≤ length g.definitions + 1
 head-length g head = omega (arith, length-map (with_head g head).definitions (λ (e : List ℕ × ℕ). e.1), length-append g.definitions ((name_in_head head, count (rest_of head)) ∷ []))
 
-none-added : (names : List (List ℕ)) (k : Declarations) (w : ItemWord) (rest : FormTrees) → definitions_in names k.signature w rest ≡ [] → arities (signature_after k.signature w rest).definitions ≡ arities k.signature.definitions → levels_after k.levels w rest ≡ k.levels → AddsDefinitions names k w rest
+none-added : (names : List (List ℕ)) (k : Declarations) (w : ItemWord) (rest : FormTrees) → definitions_of_item names k.signature w rest ≡ [] → arities (signature_after k.signature w rest).definitions ≡ arities k.signature.definitions → levels_after k.levels w rest ≡ k.levels → AddsDefinitions names k w rest
 none-added names k w rest none same levels = record {
   adds = inl none;
   grows = same ∙ sym (append-nil (arities k.signature.definitions)) ∙ ap (λ (ds : List DefinitionTree). arities k.signature.definitions ++ map (λ x. length x.params) ds) (sym none);
@@ -209,7 +209,7 @@ definitions-keep names k item.Other rest only h = none-added names k item.Other 
 
 -- ---- operators and control
 
-pub operators-keep : (names : List (List ℕ)) (k : Declarations) (w : ItemWord) (rest : FormTrees) → NamesOnly k.signature → IsLawful names k w rest → Each (OperatorTreeKeeps (seen k.signature) (length names)) (operators_in names k.signature w rest)
+pub operators-keep : (names : List (List ℕ)) (k : Declarations) (w : ItemWord) (rest : FormTrees) → NamesOnly k.signature → IsLawful names k w rest → Each (OperatorTreeKeeps (seen k.signature) (length names)) (operators_of_item names k.signature w rest)
 operators-keep names k item.Operator no_form only h = tt
 operators-keep names k item.Operator (more_forms head clauses) only h =
     (operator-keeps names k.signature k.operators head clauses only (and_parts (is_list head) (are_clauses clauses) h.shape).0 h.has.0 h.has.1 h.parts, tt)

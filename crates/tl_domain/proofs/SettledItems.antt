@@ -34,7 +34,7 @@ use Rattle.tl_domain.specs.Words as item
 use Rattle.tl_domain.specs.DomainTrees.{DefinitionTree, OperatorTree, DomainTree}
 use Rattle.tl_domain.specs.Operators.{head_breaks, parameters_of, name_in_head, after_leading, bounds_clause, pre_clause, effects_clause, occurs_in_bounds, are_clauses, clauses_breaks}
 use Rattle.tl_domain.specs.Items.{has_declaration_shape, levels_breaks, with_head, natural_of}
-use Rattle.tl_domain.specs.MeaningOfItems.{declared_meant, definition_meant, bounds_clause_meant, pre_clause_meant, effects_clause_meant, operator_meant, predicates_in, functions_in, definitions_in, operators_in, control_with, with_item}
+use Rattle.tl_domain.specs.MeaningOfItems.{declared_meant, definition_meant, bounds_clause_meant, pre_clause_meant, effects_clause_meant, operator_meant, predicates_of_item, functions_of_item, definitions_of_item, operators_of_item, control_with, with_item}
 use Rattle.tl_domain.proofs.KeepsHeads.{head-keeps}
 use Rattle.tl_domain.proofs.KeepsOperators.{ClauseHas, leading-has, after-has}
 use Rattle.tl_domain.proofs.KeepsDeclarations.{IsLawful}
@@ -160,11 +160,11 @@ module _ (old new : List (List ℕ)) (r : Renumbering) (agrees : Agrees old new 
   declared-settled (more_forms (symbol text s) (more_forms (list gs t) no_form)) has shape = let parts = and_parts (is_name (symbol text s)) false shape in cc
   declared-settled (more_forms (symbol text s) (more_forms (integer z t) no_form)) has shape = ap (λ (n : ℕ). record { name = n; arity = natural z } ∷ []) (name-settled text has.0)
 
-  predicates-settled : (k : Declarations) (w : ItemWord) (rest : FormTrees) → IsLawful old k w rest → predicates_in new w rest ≡ map (renumbered_declaration r) (predicates_in old w rest)
+  predicates-settled : (k : Declarations) (w : ItemWord) (rest : FormTrees) → IsLawful old k w rest → predicates_of_item new w rest ≡ map (renumbered_declaration r) (predicates_of_item old w rest)
   predicates-settled k item.Predicate rest h = declared-settled rest h.has h.shape
   predicates-settled k _ rest h = refl
 
-  functions-settled : (k : Declarations) (w : ItemWord) (rest : FormTrees) → IsLawful old k w rest → functions_in new w rest ≡ map (renumbered_declaration r) (functions_in old w rest)
+  functions-settled : (k : Declarations) (w : ItemWord) (rest : FormTrees) → IsLawful old k w rest → functions_of_item new w rest ≡ map (renumbered_declaration r) (functions_of_item old w rest)
   functions-settled k item.Function rest h = declared-settled rest h.has h.shape
   functions-settled k _ rest h = refl
 
@@ -181,7 +181,7 @@ module _ (old new : List (List ℕ)) (r : Renumbering) (agrees : Agrees old new 
       let later = none-parts (head_breaks 8 (is_taken k.signature) everywhere head) (formula_breaks role.Body (with_head k.signature head) (parameters_of head) body) parts.1 in
       definition-settled (with_head k.signature head) (natural_of n) head body h.has.1.0 (head-keeps old 8 (is_taken k.signature) everywhere head (and_parts (is_integer n) (is_list head) h.shape).1 h.has.1.0 later.0).name h.has.1.1.0
 
-  definitions-settled : (k : Declarations) (w : ItemWord) (rest : FormTrees) → IsLawful old k w rest → definitions_in new k.signature w rest ≡ map (renumbered_definition r) (definitions_in old k.signature w rest)
+  definitions-settled : (k : Declarations) (w : ItemWord) (rest : FormTrees) → IsLawful old k w rest → definitions_of_item new k.signature w rest ≡ map (renumbered_definition r) (definitions_of_item old k.signature w rest)
   definitions-settled k item.Define no_form h = refl
   definitions-settled k item.Define (more_forms head no_form) h = refl
   definitions-settled k item.Define (more_forms head (more_forms body no_form)) h = ap (λ (d : DefinitionTree). d ∷ []) (define-settled k head body h)
@@ -197,7 +197,7 @@ module _ (old new : List (List ℕ)) (r : Renumbering) (agrees : Agrees old new 
   definitions-settled k item.Control rest h = refl
   definitions-settled k item.Other rest h = refl
 
-  operators-settled : (k : Declarations) (w : ItemWord) (rest : FormTrees) → IsLawful old k w rest → operators_in new k.signature w rest ≡ map (renumbered_operator r) (operators_in old k.signature w rest)
+  operators-settled : (k : Declarations) (w : ItemWord) (rest : FormTrees) → IsLawful old k w rest → operators_of_item new k.signature w rest ≡ map (renumbered_operator r) (operators_of_item old k.signature w rest)
   operators-settled k item.Operator no_form h = refl
   operators-settled k item.Operator (more_forms head clauses) h =
       let is_old = λ (text : List ℕ). list_any (bytes_eq text) k.operators in
@@ -215,8 +215,8 @@ module _ (old new : List (List ℕ)) (r : Renumbering) (agrees : Agrees old new 
   -- a domain with an item
   pub item-settled : (k : Declarations) (d : DomainTree) (w : ItemWord) (rest : FormTrees) → IsLawful old k w rest → with_item new k.signature (renumbered_domain r d) w rest ≡ renumbered_domain r (with_item old k.signature d w rest)
   item-settled k d w rest h = same-domain
-      (both-mapped (renumbered_declaration r) d.predicates (predicates_in old w rest) (predicates_in new w rest) (predicates-settled k w rest h))
-      (both-mapped (renumbered_declaration r) d.functions (functions_in old w rest) (functions_in new w rest) (functions-settled k w rest h))
-      (both-mapped (renumbered_definition r) d.definitions (definitions_in old k.signature w rest) (definitions_in new k.signature w rest) (definitions-settled k w rest h))
-      (both-mapped (renumbered_operator r) d.operators (operators_in old k.signature w rest) (operators_in new k.signature w rest) (operators-settled k w rest h))
+      (both-mapped (renumbered_declaration r) d.predicates (predicates_of_item old w rest) (predicates_of_item new w rest) (predicates-settled k w rest h))
+      (both-mapped (renumbered_declaration r) d.functions (functions_of_item old w rest) (functions_of_item new w rest) (functions-settled k w rest h))
+      (both-mapped (renumbered_definition r) d.definitions (definitions_of_item old k.signature w rest) (definitions_of_item new k.signature w rest) (definitions-settled k w rest h))
+      (both-mapped (renumbered_operator r) d.operators (operators_of_item old k.signature w rest) (operators_of_item new k.signature w rest) (operators-settled k w rest h))
       (control-settled k d.control w rest h)

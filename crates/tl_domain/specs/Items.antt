@@ -128,13 +128,13 @@ item_parts_breaks k item.Control (more_forms f no_form) = formula_breaks role.Co
 item_parts_breaks k _ _ = []
 
 -- what an item at an offset breaks, with its parts; it is a list that begins with a symbol
-abbrev pub called_breaks : Declarations → Option CallTree → ℕ → List Break
-called_breaks k (Some c) at =
+abbrev pub item_call_breaks : Declarations → Option CallTree → ℕ → List Break
+item_call_breaks k (Some c) at =
     item_list_breaks k (item_word c.word) c.rest c.at ++ item_parts_breaks k (item_word c.word) c.rest
-called_breaks k None at = (Shape, at) ∷ []
+item_call_breaks k None at = (Shape, at) ∷ []
 
 abbrev pub item_breaks : Declarations → FormTree → List Break
-item_breaks k f = called_breaks k (call_in f) (offset_of f)
+item_breaks k f = item_call_breaks k (call_in f) (offset_of f)
 
 -- the signature with what an item declares
 abbrev pub signature_after : NameSignature → ItemWord → FormTrees → NameSignature

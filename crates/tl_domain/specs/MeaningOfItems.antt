@@ -66,23 +66,23 @@ operator_meant names g head clauses =
     operator_with names g (name_in_head head) (parameters_of head) (clause_trees clauses)
 
 -- the predicates, functions, definitions and operators of an item, by its first word and the elements after it
-abbrev pub predicates_in : List (List ℕ) → ItemWord → FormTrees → List Declared
-predicates_in names item.Predicate rest = declared_meant names rest
-predicates_in names _ rest = []
+abbrev pub predicates_of_item : List (List ℕ) → ItemWord → FormTrees → List Declared
+predicates_of_item names item.Predicate rest = declared_meant names rest
+predicates_of_item names _ rest = []
 
-abbrev pub functions_in : List (List ℕ) → ItemWord → FormTrees → List Declared
-functions_in names item.Function rest = declared_meant names rest
-functions_in names _ rest = []
+abbrev pub functions_of_item : List (List ℕ) → ItemWord → FormTrees → List Declared
+functions_of_item names item.Function rest = declared_meant names rest
+functions_of_item names _ rest = []
 
-abbrev pub definitions_in : List (List ℕ) → NameSignature → ItemWord → FormTrees → List DefinitionTree
-definitions_in names g item.Define (more_forms head (more_forms body no_form)) = definition_meant names g 1 head body ∷ []
-definitions_in names g item.Defined (more_forms n (more_forms head (more_forms body no_form))) =
+abbrev pub definitions_of_item : List (List ℕ) → NameSignature → ItemWord → FormTrees → List DefinitionTree
+definitions_of_item names g item.Define (more_forms head (more_forms body no_form)) = definition_meant names g 1 head body ∷ []
+definitions_of_item names g item.Defined (more_forms n (more_forms head (more_forms body no_form))) =
     definition_meant names (with_head g head) (natural_of n) head body ∷ []
-definitions_in names g _ _ = []
+definitions_of_item names g _ _ = []
 
-abbrev pub operators_in : List (List ℕ) → NameSignature → ItemWord → FormTrees → List OperatorTree
-operators_in names g item.Operator (more_forms head clauses) = operator_meant names g head clauses ∷ []
-operators_in names g _ _ = []
+abbrev pub operators_of_item : List (List ℕ) → NameSignature → ItemWord → FormTrees → List OperatorTree
+operators_of_item names g item.Operator (more_forms head clauses) = operator_meant names g head clauses ∷ []
+operators_of_item names g _ _ = []
 
 -- the control formula with that of an item
 abbrev pub control_with : List (List ℕ) → NameSignature → FormulaTree → ItemWord → FormTrees → FormulaTree
@@ -93,20 +93,20 @@ control_with names g control _ _ = control
 abbrev pub with_item : List (List ℕ) → NameSignature → DomainTree → ItemWord → FormTrees → DomainTree
 with_item names g d w rest = record {
   name = d.name;
-  predicates = d.predicates ++ predicates_in names w rest;
-  functions = d.functions ++ functions_in names w rest;
-  definitions = d.definitions ++ definitions_in names g w rest;
-  operators = d.operators ++ operators_in names g w rest;
+  predicates = d.predicates ++ predicates_of_item names w rest;
+  functions = d.functions ++ functions_of_item names w rest;
+  definitions = d.definitions ++ definitions_of_item names g w rest;
+  operators = d.operators ++ operators_of_item names g w rest;
   control = control_with names g d.control w rest;
 }
 
 -- a domain with an item
-abbrev pub with_called : List (List ℕ) → NameSignature → DomainTree → Option CallTree → DomainTree
-with_called names g d (Some c) = with_item names g d (item_word c.word) c.rest
-with_called names g d None = d
+abbrev pub with_item_call : List (List ℕ) → NameSignature → DomainTree → Option CallTree → DomainTree
+with_item_call names g d (Some c) = with_item names g d (item_word c.word) c.rest
+with_item_call names g d None = d
 
 abbrev pub with_item_form : List (List ℕ) → NameSignature → DomainTree → FormTree → DomainTree
-with_item_form names g d f = with_called names g d (call_in f)
+with_item_form names g d f = with_item_call names g d (call_in f)
 
 -- a domain with items, of which each may use what those before it declare
 abbrev pub with_items : List (List ℕ) → Declarations → DomainTree → FormTrees → DomainTree

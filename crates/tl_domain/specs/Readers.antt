@@ -1,5 +1,5 @@
 -- What the readers of this crate answer.
-use Rattle.std.specs.Prelude.{◌≡◌, ◌++◌, ℕ, List, Bool, true, Option, Result}
+use Rattle.std.specs.Prelude.{◌++◌, ℕ, List, Bool, true, Option, Result}
 use Rattle.std.specs.Borrow.{Bor}
 use Rattle.std.specs.List.{list_any}
 use Rattle.std.specs.Option.{option_map}

@@ -1,7 +1,8 @@
 // Items by their first word: what the elements after it declare, and what they stand for.
-ghost use Rattle.std.specs.Prelude.{◌≤◌, ◌<◌, ℕ, List, OnOk};
+ghost use Rattle.std.specs.Prelude.{◌≡◌, ◌≤◌, ◌<◌, ◌++◌, [], ◌∷◌, ℕ, List, OnOk, length};
 ghost use Rattle.tl_rules.specs.Calls.{call_tree};
 ghost use Rattle.tl_rules.specs.Reads.{Reads, trees_in};
+ghost use Rattle.tl_rules.specs.Symbols.{number_in};
 ghost use Rattle.tl_domain.specs.Items.{declaration_of, new_declaration_breaks};
 ghost use Rattle.tl_domain.specs.Readers.{AddsItem, ReadsArity};
 ghost use Rattle.tl_domain.specs.Words as item;
@@ -12,11 +13,11 @@ use crate::draft::Draft;
 use crate::item_shapes::{Declaration, declaration_in, define_in, defined_in};
 use crate::operators::{operator, operator_head};
 use crate::parts::list_in;
-use std::alloc::Global;
-use tl_formulas::{FormulaRole, NameSignature, Scope, formula};
+use std::alloc::{AllocError, Global};
+use tl_formulas::{FormulaRole, NameSignature, Scope, Table, formula};
 use tl_rules::parts::{one, split_first};
 use tl_rules::{Call, FormFault, Rule, Vocabulary, breaks, number_of};
-use tl_syntax::{Declared, Names};
+use tl_syntax::{Declared, Declareds, Names};
 
 /// The number of arguments of a declaration, whose name is new.
 #[tactic(auto, using(crate::proofs::Rulesets::composed))]
@@ -52,6 +53,25 @@ fn declared<'a>(
     Ok((declaration.name.text, arity))
 }
 
+/// A name of a kind with its number of arguments joins the names and the declarations of that kind.
+fn declare<'a>(
+    names: &Names,
+    text: &'a str,
+    arity: u32,
+    table: &mut Table<'a>,
+    listed: &mut Declareds,
+) -> Result<(), AllocError>
+    requires { length table.old < 256 }
+    ensures table { OnOk result (table.new ≡ table.old ++ (text.now, arity) ∷ []) }
+    ensures listed { OnOk result (listed.new ≡ listed.old
+        ++ record { name = number_in names.now text.now; arity = arity } ∷ []) }
+{
+    table.push(text, arity)?;
+    let name = number_of(names, text);
+    listed.push(Declared { name, arity })?;
+    Ok(())
+}
+
 /// An item `(predicate NAME ARITY)`.
 #[tactic(auto, using(crate::proofs::Rulesets::items))]
 pub(crate) fn predicate<'a>(
@@ -63,9 +83,11 @@ pub(crate) fn predicate<'a>(
 {
     let before = draft.signature.predicates.len();
     let (text, arity) = declared(&draft.signature, before, call)?;
-    draft.signature.predicates.push(text, arity)?;
-    let name = number_of(names, text);
-    draft.domain.predicates.push(Declared { name, arity })?;
+    let (table, listed) = (
+        &mut draft.signature.predicates,
+        &mut draft.domain.predicates,
+    );
+    declare(names, text, arity, table, listed)?;
     Ok(())
 }
 
@@ -80,9 +102,8 @@ pub(crate) fn function<'a>(
 {
     let before = draft.signature.functions.len();
     let (text, arity) = declared(&draft.signature, before, call)?;
-    draft.signature.functions.push(text, arity)?;
-    let name = number_of(names, text);
-    draft.domain.functions.push(Declared { name, arity })?;
+    let (table, listed) = (&mut draft.signature.functions, &mut draft.domain.functions);
+    declare(names, text, arity, table, listed)?;
     Ok(())
 }
 

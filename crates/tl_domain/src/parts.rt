@@ -37,7 +37,8 @@ pub(crate) struct List<'a> {
 /// A form as a name, where it is one.
 #[tactic(auto, using(crate::proofs::Rulesets::form_trees))]
 pub(crate) fn name_in(form: &Form) -> Option<Name<'_>>
-    ensures { MatchOption result (is_name (tree_of form.now) ≡ false) (IsName (tree_of form.now)) }
+    ensures { MatchOption result (is_name (tree_of form.now) ≡ false)
+        (IsName (tree_of form.now)) }
 {
     match form {
         Form::Sym(text, at) => {
