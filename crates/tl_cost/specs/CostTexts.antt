@@ -1,18 +1,13 @@
 -- The text of what a search for a cheapest plan answers.
-use Rattle.std.specs.Prelude.{ℕ, List, [], ◌∷◌, ◌++◌, length, codes}
+use Rattle.std.specs.Prelude.{ℕ, List, ◌++◌, length, codes}
 use Rattle.std.specs.Fmt.{decimal}
 use Rattle.tl_syntax.specs.declared.action.Action.{Action}
 use Rattle.tl_syntax.specs.declared.operator.Operator.{Operator}
 use Rattle.tl_syntax.specs.Lists.{Each}
-use Rattle.tl_line.specs.ActionTexts.{action_text}
+pub use Rattle.tl_line.specs.AnswerLines.{action_lines as plan_lines, none_text, spent_text}
 use Rattle.tl_line.specs.NamedActions.{ActionIsNamed}
 use Rattle.tl_cost.specs.declared.outcome.CostOutcome.{CostOutcome}
 use Rattle.tl_cost.specs.declared.outcome.CostOutcome.TheVariants as outcome
-
--- a line for each action
-abbrev pub plan_lines : List (List ℕ) → List Operator → List Action → List ℕ
-plan_lines names operators [] = []
-plan_lines names operators (a ∷ plan) = action_text names operators a ++ (codes "\n" ++ plan_lines names operators plan)
 
 -- the line that says of how many actions a plan is, and what it costs
 abbrev pub cheapest_line : ℕ → ℕ → List ℕ
@@ -21,14 +16,6 @@ cheapest_line n cost = codes "; cheapest plan of " ++ (decimal n ++ (codes " act
 -- the lines of a plan and its cost
 abbrev pub plan_text : List (List ℕ) → List Operator → List Action → ℕ → List ℕ
 plan_text names operators plan cost = cheapest_line (length plan) cost ++ plan_lines names operators plan
-
--- the line that says that there is no plan
-abbrev pub none_text : List ℕ
-none_text = codes "; none\n"
-
--- the line that says that a search met more than b pairs
-abbrev pub spent_text : ℕ → List ℕ
-spent_text b = codes "; spent " ++ (decimal b ++ codes "\n")
 
 -- the lines of what a search that keeps at most b pairs answers
 abbrev pub cost_text : List (List ℕ) → List Operator → ℕ → CostOutcome → List ℕ

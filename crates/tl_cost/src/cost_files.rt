@@ -1,14 +1,13 @@
 // Costs files.
-ghost use Rattle.std.specs.Prelude.{◌≡◌, ◌==◌, ◌<◌, ℕ, List, Option, length, map, option_map, unwrap_or, IfErr, IfOk, IfSome};
-ghost use Rattle.std.specs.List.{position};
+ghost use Rattle.std.specs.Prelude.{◌≡◌, ◌<◌, ℕ, List, Option, length, map, option_map, unwrap_or, IfErr, IfOk, IfSome};
 ghost use Rattle.tl_sexpr.specs.Offsets.{AreAsRead};
 ghost use Rattle.tl_sexpr.specs.Tree.{tree_of, trees_of};
 ghost use Rattle.tl_rules.specs.Reads.{IsLeastFault, Reads, trees_in};
-ghost use Rattle.tl_line.specs.Actions.{operator_at};
 ghost use Rattle.tl_cost.specs.CostFiles.{cost_breaks, cost_meant, costs_breaks, costs_meant, entry_breaks, entry_meant, entry_of_form, entry_of_two, given_after, integer_of, is_given, none_given};
 
 use crate::costs::Costs;
 use std::alloc::{AllocError, Global};
+use tl_line::operator_of;
 use tl_rules::parts::{offset, symbol_text, two};
 use tl_rules::{FormFault, Rule, breaks};
 use tl_sexpr::{Form, Forms};
@@ -16,25 +15,6 @@ use tl_syntax::{Names, Operator, Problem};
 
 /// The greatest cost of an operator.
 const MOST_COST: i64 = 1_000_000;
-
-/// The position of the operator with a name of this number.
-fn operator_named(operators: &[Operator], number: u32) -> Option<usize>
-    ensures place { result ≡ position (λ operator. operator.name == number) operators.now }
-    ensures within { IfSome result (λ place. place < length operators.now) }
-{
-    operators.iter().position(|one| one.name == number)
-}
-
-/// The position of the operator whose name has this text.
-fn operator_of(names: &Names, operators: &[Operator], text: &str) -> Option<usize>
-    ensures place { result ≡ operator_at names.now operators.now text.now }
-    ensures within { IfSome result (λ place. place < length operators.now) }
-{
-    match names.find(text) {
-        Some(number) => operator_named(operators, number),
-        None => None,
-    }
-}
 
 /// The integer of a form, where it is one.
 #[tactic(auto, using(crate::proofs::Rulesets::form_trees))]
@@ -50,7 +30,8 @@ fn integer_of(form: &Form) -> Option<i64>
 
 /// The text and the integer, where the two forms are a symbol and an integer.
 fn pair<'a>(first: &'a Form, second: &Form) -> Option<(&'a str, i64)>
-    ensures { option_map (λ parts. (parts.0.now, parts.1)) result ≡ entry_of_two (tree_of first.now) (tree_of second.now) }
+    ensures { option_map (λ parts. (parts.0.now, parts.1)) result
+        ≡ entry_of_two (tree_of first.now) (tree_of second.now) }
 {
     match symbol_text(first) {
         Some(text) => match integer_of(second) {
@@ -64,7 +45,8 @@ fn pair<'a>(first: &'a Form, second: &Form) -> Option<(&'a str, i64)>
 /// The name and the cost of a form, where it is a list of these two.
 #[tactic(auto, using(crate::proofs::Rulesets::form_trees))]
 fn entry_parts(form: &Form) -> Option<(&str, i64)>
-    ensures { option_map (λ parts. (parts.0.now, parts.1)) result ≡ entry_of_form (tree_of form.now) }
+    ensures { option_map (λ parts. (parts.0.now, parts.1)) result
+        ≡ entry_of_form (tree_of form.now) }
 {
     match form {
         Form::Sym(_, _) => None,
@@ -95,7 +77,8 @@ fn cost_at(
     at: u32,
 ) -> Result<(usize, u32), FormFault>
     requires { IfSome op (λ place. place < length given.now) }
-    ensures read { Reads (λ (x : ℕ × ℕ). x) result (cost_breaks given.now op cost at) (cost_meant op cost) }
+    ensures read { Reads (λ (x : ℕ × ℕ). x) result (cost_breaks given.now op cost at)
+        (cost_meant op cost) }
     ensures within { IfOk result (λ x. x.0 < length given.now) }
 {
     if is_given(given, op) {
@@ -145,7 +128,8 @@ fn given_costs(
     operators: &[Operator],
     forms: &[Form],
 ) -> Result<Vec<Option<u32>>, FormFault>
-    ensures { Reads (λ (given : _). given.items) result (costs_breaks names.now operators.now (trees_in forms.now))
+    ensures { Reads (λ (given : _). given.items) result
+        (costs_breaks names.now operators.now (trees_in forms.now))
         (given_after names.now operators.now (none_given operators.now) (trees_in forms.now)) }
 {
     let mut given = no_costs(alloc, operators)?;
@@ -174,7 +158,8 @@ fn costs_in(
     operators: &[Operator],
     forms: &[Form],
 ) -> Result<Costs, FormFault>
-    ensures { Reads (λ (costs : List ℕ). costs) result (costs_breaks names.now operators.now (trees_in forms.now))
+    ensures { Reads (λ (costs : List ℕ). costs) result
+        (costs_breaks names.now operators.now (trees_in forms.now))
         (costs_meant names.now operators.now (trees_in forms.now)) }
 {
     match given_costs(alloc, names, operators, forms) {
@@ -193,8 +178,10 @@ pub fn costs_of(alloc: Global, forms: &Forms, problem: &Problem) -> Result<Costs
         (costs_breaks problem.now.names problem.now.domain.operators (trees_of forms.now))
         (costs_meant problem.now.names problem.now.domain.operators (trees_of forms.now)) }
     ensures least { AreAsRead (trees_of forms.now) → IfErr result
-        (IsLeastFault (costs_breaks problem.now.names problem.now.domain.operators (trees_of forms.now))) }
-    ensures one_each { IfOk result (λ costs. length costs ≡ length problem.now.domain.operators) }
+        (IsLeastFault
+        (costs_breaks problem.now.names problem.now.domain.operators (trees_of forms.now))) }
+    ensures one_each { IfOk result
+        (λ costs. length costs ≡ length problem.now.domain.operators) }
 {
     costs_in(
         alloc,

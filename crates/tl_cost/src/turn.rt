@@ -47,10 +47,12 @@ impl UniformCost<'_> {
             (IsBetweenTurns (S.problem space.old) (S.task space.old)
             self.now.costs.now self.now.nodes (S.kept space.new) found.new)) }
         ensures grows { Extends (S.kept space.old) (S.kept space.new) }
-        ensures opens { IfOk result (OpensIfNone (S.kept space.old) (S.kept space.new) found.old found.new) }
+        ensures opens { IfOk result
+            (OpensIfNone (S.kept space.old) (S.kept space.new) found.old found.new) }
         ensures stay { OnOk result (StaySettled found.old found.new) }
         ensures ticks { TicksTurn (S.problem space.old) (S.kept space.new) at steps.old steps.new }
-        ensures fault { IfErr result (IsCheapestFault (S.problem space.old) self.now.costs.now self.now.nodes) }
+        ensures fault { IfErr result
+            (IsCheapestFault (S.problem space.old) self.now.costs.now self.now.nodes) }
         ensures plan_named { IfOk result (EndIsNamed (S.task space.old)) }
         ensures path_named { IfErr result (FaultIsNamed (S.task space.old)) }
     {
@@ -91,10 +93,12 @@ impl UniformCost<'_> {
             (IsInTurn (S.problem space.old) (S.task space.old)
             self.now.costs.now self.now.nodes (S.kept space.new) found.new at (Some []))) }
         ensures grows { Extends (S.kept space.old) (S.kept space.new) }
-        ensures opens { IfOk result (OpensUnlessSpent (S.kept space.old) (S.kept space.new) found.old found.new) }
+        ensures opens { IfOk result
+            (OpensUnlessSpent (S.kept space.old) (S.kept space.new) found.old found.new) }
         ensures stay { OnOk result (StaySettled found.old found.new) }
         ensures ticks { TicksTurn (S.problem space.old) (S.kept space.new) at steps.old steps.new }
-        ensures fault { IfErr result (IsCheapestFault (S.problem space.old) self.now.costs.now self.now.nodes) }
+        ensures fault { IfErr result
+            (IsCheapestFault (S.problem space.old) self.now.costs.now self.now.nodes) }
         ensures path_named { IfErr result (FaultIsNamed (S.task space.old)) }
     {
         let actions = match space.actions(at) {
@@ -132,10 +136,12 @@ impl UniformCost<'_> {
             (IsTriedAt (S.problem space.old) (S.task space.old) self.now.costs.now self.now.nodes
             (S.kept space.old) (S.kept space.new) found.old found.new at a.now)) }
         ensures grows { Extends (S.kept space.old) (S.kept space.new) }
-        ensures opens { IfOk result (OpensUnlessSpent (S.kept space.old) (S.kept space.new) found.old found.new) }
+        ensures opens { IfOk result
+            (OpensUnlessSpent (S.kept space.old) (S.kept space.new) found.old found.new) }
         ensures stay { OnOk result (StaySettled found.old found.new) }
         ensures ticks { steps.new ≡ steps.old + 1 }
-        ensures fault { IfErr result (IsCheapestFault (S.problem space.old) self.now.costs.now self.now.nodes) }
+        ensures fault { IfErr result
+            (IsCheapestFault (S.problem space.old) self.now.costs.now self.now.nodes) }
         ensures path_named { IfErr result (FaultIsNamed (S.task space.old)) }
     {
         match space.child(at, a, steps) {
@@ -161,7 +167,8 @@ impl UniformCost<'_> {
     /// The way to a pair with one more action.
     fn way_after(&self, found: &Found, at: usize, a: &Action) -> Result<Way, NoMemory>
         requires { HasRoomAfter found.now at }
-        ensures { IfOk result (λ way. ForWay found.now at (λ w. GoesOn self.now.costs.now w at a.now way)) }
+        ensures { IfOk result
+            (λ way. ForWay found.now at (λ w. GoesOn self.now.costs.now w at a.now way)) }
     {
         let before = &found.ways[at];
         let action = a.copy(self.alloc)?;
@@ -219,7 +226,8 @@ fn path_after(alloc: Global, found: &Found, at: usize, a: &Action) -> Result<Act
     requires at { at < length found.now.ways.items }
     requires linked { AreLinked found.now.ways.items }
     ensures { IfOk result (λ path.
-        (front : List Action) × Follows found.now.ways.items at front × (path ≡ front ++ a.now ∷ [])) }
+        (front : List Action) × Follows found.now.ways.items at front
+        × (path ≡ front ++ a.now ∷ [])) }
 {
     let mut path = found.path_to(alloc, at)?;
     let action = a.copy(alloc)?;

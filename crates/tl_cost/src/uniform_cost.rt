@@ -29,7 +29,8 @@ impl UniformCost<'_> {
         ensures outcome { IfOk result (IsCheapestOutcome (S.problem space.old)
             self.now.costs.now self.now.nodes (S.kept space.new)) }
         ensures steps { IsTicked (S.problem space.old) steps.old (S.kept space.new) steps.new }
-        ensures fault { IfErr result (IsCheapestFault (S.problem space.old) self.now.costs.now self.now.nodes) }
+        ensures fault { IfErr result
+            (IsCheapestFault (S.problem space.old) self.now.costs.now self.now.nodes) }
         ensures plan_named { IfOk result (CostOutcomeIsNamed (S.task space.old)) }
         ensures path_named { IfErr result (FaultIsNamed (S.task space.old)) }
     {
@@ -64,8 +65,10 @@ impl UniformCost<'_> {
         ensures problem { S.problem space.new ≡ S.problem space.old }
         ensures outcome { IfOk result (IsCheapestOutcome (S.problem space.old)
             self.now.costs.now self.now.nodes (S.kept space.new)) }
-        ensures steps { TicksRest (S.problem space.old) (S.kept space.old) (S.kept space.new) found.old steps.old steps.new }
-        ensures fault { IfErr result (IsCheapestFault (S.problem space.old) self.now.costs.now self.now.nodes) }
+        ensures steps { TicksRest (S.problem space.old) (S.kept space.old) (S.kept space.new)
+            found.old steps.old steps.new }
+        ensures fault { IfErr result
+            (IsCheapestFault (S.problem space.old) self.now.costs.now self.now.nodes) }
         ensures plan_named { IfOk result (CostOutcomeIsNamed (S.task space.old)) }
         ensures path_named { IfErr result (FaultIsNamed (S.task space.old)) }
     {
@@ -94,7 +97,8 @@ pub fn cheapest<S: Pairs, L: Ledger>(
     requires nodes { nodes ≤ 100000 }
     ensures task { S.task space.new ≡ S.task space.old }
     ensures problem { S.problem space.new ≡ S.problem space.old }
-    ensures outcome { IfOk result (IsCheapestOutcome (S.problem space.old) costs.now nodes (S.kept space.new)) }
+    ensures outcome { IfOk result
+        (IsCheapestOutcome (S.problem space.old) costs.now nodes (S.kept space.new)) }
     ensures steps { IsTicked (S.problem space.old) steps.old (S.kept space.new) steps.new }
     ensures calm { AnswersWhereCalm (S.problem space.old) costs.now nodes result }
     ensures fault { IfErr result (IsCheapestFault (S.problem space.old) costs.now nodes) }

@@ -83,11 +83,14 @@ impl Found {
 
     /// Adds the way to the next pair, which is open.
     pub(crate) fn add(&mut self, way: Way) -> Result<(), NoMemory>
-        requires { is_listed self.old.open_list (entry_of way (length self.old.ways.items)) ≡ false }
+        requires { is_listed self.old.open_list (entry_of way (length self.old.ways.items))
+            ≡ false }
         ensures ways { OnOk result (self.new.ways.items ≡ self.old.ways.items ++ way ∷ []) }
-        ensures adds { OnOk result (Adds (is_listed self.old.open_list) (is_listed self.new.open_list)
+        ensures adds { OnOk result
+            (Adds (is_listed self.old.open_list) (is_listed self.new.open_list)
             (entry_of way (length self.old.ways.items))) }
-        ensures len { OnOk result (listed_len self.new.open_list ≡ listed_len self.old.open_list + 1) }
+        ensures len { OnOk result
+            (listed_len self.new.open_list ≡ listed_len self.old.open_list + 1) }
     {
         self.open_list.add(way.entry(self.ways.len()))?;
         self.ways.push(way)?;
@@ -97,12 +100,15 @@ impl Found {
     /// Replaces the way to an open pair.
     pub(crate) fn replace(&mut self, at: usize, way: Way) -> Result<(), NoMemory>
         requires at { at < length self.old.ways.items }
-        requires was { ForWay self.old at (λ w. is_listed self.old.open_list (entry_of w at) ≡ true) }
+        requires was { ForWay self.old at
+            (λ w. is_listed self.old.open_list (entry_of w at) ≡ true) }
         requires fresh { is_listed self.old.open_list (entry_of way at) ≡ false }
         ensures ways { OnOk result (self.new.ways.items ≡ slice_set self.old.ways.items at way) }
         ensures moves { OnOk result (ForWay self.old at (λ w.
-            Moves (is_listed self.old.open_list) (is_listed self.new.open_list) (entry_of w at) (entry_of way at))) }
-        ensures len { OnOk result (listed_len self.new.open_list ≡ listed_len self.old.open_list) }
+            Moves (is_listed self.old.open_list) (is_listed self.new.open_list) (entry_of w at)
+            (entry_of way at))) }
+        ensures len { OnOk result
+            (listed_len self.new.open_list ≡ listed_len self.old.open_list) }
     {
         let old = self.ways[at].entry(at);
         self.open_list.add(way.entry(at))?;
