@@ -34,7 +34,8 @@ fn put_defined(
     line: &mut Line,
 ) -> Result<(), NoMemory>
     ensures { OnOk result (line.new ≡ after line.old
-        (formula_text problem.now.names problem.now.domain (defined number (tree_of_terms terms.now)))) }
+        (formula_text problem.now.names problem.now.domain
+        (defined number (tree_of_terms terms.now)))) }
 {
     let definitions = problem.domain.definitions.as_slice();
     line.put(b"(")?;
@@ -53,7 +54,8 @@ fn put_comparison(
     line: &mut Line,
 ) -> Result<(), NoMemory>
     ensures { OnOk result (line.new ≡ after line.old
-        (formula_text problem.now.names problem.now.domain (compare cmp (tree_of_term left.now) (tree_of_term right.now)))) }
+        (formula_text problem.now.names problem.now.domain
+        (compare cmp (tree_of_term left.now) (tree_of_term right.now)))) }
 {
     line.put(b"(")?;
     line.put(comparison_sign(cmp).as_bytes())?;

@@ -36,7 +36,8 @@ fn put_arg(names: &Names, arg: Arg, line: &mut Line) -> Result<(), NoMemory>
 /// Puts a space and an argument at the end, for each argument.
 #[tactic(auto, using(crate::proofs::Parentheses::written))]
 fn put_args(names: &Names, args: &[Arg], line: &mut Line) -> Result<(), NoMemory>
-    ensures { OnOk result (line.new ≡ after line.old (after_spaces (map (arg_text names.now) args.now))) }
+    ensures { OnOk result
+        (line.new ≡ after line.old (after_spaces (map (arg_text names.now) args.now))) }
 {
     for arg in args {
         line.put(b" ")?;
@@ -48,7 +49,8 @@ fn put_args(names: &Names, args: &[Arg], line: &mut Line) -> Result<(), NoMemory
 /// Puts a space and a variable at the end, for each variable.
 #[tactic(auto, using(crate::proofs::Parentheses::written))]
 fn put_names(names: &Names, vars: &[Var], line: &mut Line) -> Result<(), NoMemory>
-    ensures { OnOk result (line.new ≡ after line.old (after_spaces (map (variable_text names.now) vars.now))) }
+    ensures { OnOk result
+        (line.new ≡ after line.old (after_spaces (map (variable_text names.now) vars.now))) }
 {
     for var in vars {
         line.put(b" ")?;
@@ -81,7 +83,8 @@ pub(crate) fn put_fact(
     args: &Args,
     line: &mut Line,
 ) -> Result<(), NoMemory>
-    ensures { OnOk result (line.new ≡ after line.old (fact_text problem.now.names problem.now.domain pred args.now)) }
+    ensures { OnOk result (line.new
+        ≡ after line.old (fact_text problem.now.names problem.now.domain pred args.now)) }
 {
     line.put(b"(")?;
     line.put(predicate_name(problem, pred).as_bytes())?;
@@ -160,7 +163,8 @@ pub(crate) fn put_goal_place(
 
 /// Puts the bound of a quantifier at the end.
 pub(crate) fn put_bound(problem: &Problem, bound: &Bound, line: &mut Line) -> Result<(), NoMemory>
-    ensures { OnOk result (line.new ≡ after line.old (bound_text problem.now.names problem.now.domain bound.now)) }
+    ensures { OnOk result
+        (line.new ≡ after line.old (bound_text problem.now.names problem.now.domain bound.now)) }
 {
     match bound {
         Bound::Fact(pred, args) => put_fact(problem, *pred, args, line),

@@ -17,7 +17,8 @@ use tl_syntax::{Bound, NoMemory, Problem, Vars};
 /// Puts a word and a number of steps at the end.
 #[tactic(auto, using(crate::proofs::Parentheses::written))]
 fn put_steps(word: &[u8], steps: u32, line: &mut Line) -> Result<(), NoMemory>
-    ensures { OnOk result (line.new ≡ after line.old (word.now ++ after_spaces (decimal steps ∷ []))) }
+    ensures { OnOk result
+        (line.new ≡ after line.old (word.now ++ after_spaces (decimal steps ∷ []))) }
 {
     line.put(word)?;
     line.put(b" ")?;
@@ -47,7 +48,8 @@ fn put_quantifier(
 /// Puts the text of a node up to its parts at the end.
 pub(crate) fn put_head(problem: &Problem, node: &Node, line: &mut Line) -> Result<(), NoMemory>
     requires { HasBasic node.now }
-    ensures { OnOk result (line.new ≡ after line.old (head_text problem.now.names problem.now.domain node.now)) }
+    ensures { OnOk result
+        (line.new ≡ after line.old (head_text problem.now.names problem.now.domain node.now)) }
 {
     match node {
         Node::True => line.put(b"true"),

@@ -66,7 +66,8 @@ impl Line {
 
     /// The text; where it is too long, the word for that.
     pub(crate) fn finish(self, alloc: Global) -> Result<Bytes, NoMemory>
-        ensures { IfOk result (λ text. text ≡ unwrap_or (option_map (λ w. w.0) self) (codes "long")) }
+        ensures { IfOk result
+            (λ text. text ≡ unwrap_or (option_map (λ w. w.0) self) (codes "long")) }
     {
         if !self.is_long {
             return Ok(self.text);

@@ -38,7 +38,8 @@ pub(crate) fn begin(
 ) -> Result<(), NoMemory>
     requires id { id < length (trees nodes.now) }
     requires rests { AreThere nodes.now rests.old.items }
-    ensures text { OnOk result (with_rests problem.now nodes.now line.new rests.new.items ≡ after line.old
+    ensures text { OnOk result
+        (with_rests problem.now nodes.now line.new rests.new.items ≡ after line.old
         (text_at problem.now nodes.now id ++ left_text problem.now nodes.now rests.old.items)) }
     ensures rests { OnOk result (AreThere nodes.now rests.new.items) }
     ensures room { OnOk result (room line.new ≤ room line.old) }
@@ -62,7 +63,8 @@ pub(crate) fn go_on(
     requires id { rest.id < length (trees nodes.now) }
     requires rests { AreThere nodes.now rests.old.items }
     requires room { 0 < room line.old }
-    ensures text { OnOk result (with_rests problem.now nodes.now line.new rests.new.items ≡ after line.old
+    ensures text { OnOk result
+        (with_rests problem.now nodes.now line.new rests.new.items ≡ after line.old
         (rest_text problem.now nodes.now rest ++ left_text problem.now nodes.now rests.old.items)) }
     ensures rests { OnOk result (AreThere nodes.now rests.new.items) }
     ensures room { OnOk result (room line.new < room line.old) }

@@ -41,7 +41,8 @@ pub(crate) fn put_term(problem: &Problem, term: &Term, line: &mut Line) -> Resul
 #[cycle(put_term)]
 pub(crate) fn put_terms(problem: &Problem, terms: &Terms, line: &mut Line) -> Result<(), NoMemory>
     ensures { OnOk result (line.new ≡ after line.old
-        (after_spaces (term_texts problem.now.names problem.now.domain (tree_of_terms terms.now)))) }
+        (after_spaces
+        (term_texts problem.now.names problem.now.domain (tree_of_terms terms.now)))) }
 {
     for term in terms.as_slice().iter() {
         line.put(b" ")?;
