@@ -68,7 +68,8 @@ impl Checking {
         ensures task { S.task space.new ≡ S.task space.old }
         ensures problem { S.problem space.new ≡ S.problem space.old }
         ensures root { OnOk result (ListsRoot (S.problem space.old) (S.kept space.new)) }
-        ensures ready { IfOk result (IsRightSoFar (S.task space.old) (S.problem space.old) (S.kept space.new)) }
+        ensures ready { IfOk result
+            (IsRightSoFar (S.task space.old) (S.problem space.old) (S.kept space.new)) }
         ensures bound { IfOk result (λ checking. checking.bound ≡ bound) }
         ensures fault { IfErr result (IsRootCause (S.problem space.old)) }
         ensures named { IfErr result (FaultIsNamed (S.task space.old)) }

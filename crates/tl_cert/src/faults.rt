@@ -35,7 +35,8 @@ fn path_after<S: Pairs>(
 ) -> Result<Actions, NoMemory>
     requires at { at < length (S.kept space.now) }
     requires named { IsNamedIn (S.task space.now) a.now }
-    ensures path { IfOk result (λ path. ForPair (S.kept space.now) at (λ x. path ≡ x.path ++ a.now ∷ [])) }
+    ensures path { IfOk result
+        (λ path. ForPair (S.kept space.now) at (λ x. path ≡ x.path ++ a.now ∷ [])) }
     ensures named { IfOk result (AreNamedIn (S.task space.now)) }
 {
     let mut path = space.path(alloc, at)?;

@@ -1,5 +1,5 @@
 // The listed nodes are judged, one after another.
-ghost use Rattle.std.specs.Prelude.{◌≡◌, ◌<◌, ◌≤◌, ◌^◌, ◌↔◌, true, None, length, slice_index, IfOk, IfErr, IfSome, IsTrue};
+ghost use Rattle.std.specs.Prelude.{◌≡◌, ◌<◌, ◌≤◌, ◌^◌, true, None, length, slice_index, IfOk, IfErr, IfSome};
 ghost use Rattle.tl_search.specs.Calls.{IsExecutableAt, TellsAcceptance};
 ghost use Rattle.tl_search.specs.NamedAnswers.{FaultIsNamed, IsNamedIn};
 ghost use Rattle.tl_cert.specs.Checking.{depths_of, is_no_farther, IsIdlingFault, IsJudgingFault, IsNodesFault, IsTurnFault, IsVisitFault, JudgesNode, JudgesNodes, TellsClosed, TellsInside, VerdictIsNamed};
@@ -17,7 +17,8 @@ impl Checking {
     fn is_no_farther(&self, at: usize, other: usize) -> bool
         requires at { at < length self.now.depths }
         requires other { other < length self.now.depths }
-        ensures { result ≡ is_no_farther self.now.bound (slice_index self.now.depths at) (slice_index self.now.depths other) }
+        ensures { result ≡ is_no_farther self.now.bound (slice_index self.now.depths at)
+            (slice_index self.now.depths other) }
     {
         let depths = self.depths.as_slice();
         match self.bound {
@@ -40,9 +41,12 @@ impl Checking {
         requires named { IsNamedIn (S.task space.old) a.now }
         ensures task { S.task space.new ≡ S.task space.old }
         ensures problem { S.problem space.new ≡ S.problem space.old }
-        ensures kept { IfOk result (λ inside. inside ≡ true → S.kept space.new ≡ S.kept space.old) }
-        ensures inside { IfOk result (TellsInside (S.problem space.old) self.now.bound (S.kept space.old) at a.now) }
-        ensures fault { IfErr result (IsVisitFault (S.problem space.old) (S.kept space.old) at a.now) }
+        ensures kept { IfOk result
+            (λ inside. inside ≡ true → S.kept space.new ≡ S.kept space.old) }
+        ensures inside { IfOk result
+            (TellsInside (S.problem space.old) self.now.bound (S.kept space.old) at a.now) }
+        ensures fault { IfErr result
+            (IsVisitFault (S.problem space.old) (S.kept space.old) at a.now) }
         ensures path_named { IfErr result (FaultIsNamed (S.task space.old)) }
     {
         match space.child(at, a, steps) {
@@ -64,8 +68,10 @@ impl Checking {
         requires depths { self.now.depths ≡ depths_of (S.kept space.old) }
         ensures task { S.task space.new ≡ S.task space.old }
         ensures problem { S.problem space.new ≡ S.problem space.old }
-        ensures kept { IfOk result (λ out. out ≡ None → S.kept space.new ≡ S.kept space.old) }
-        ensures closed { IfOk result (TellsClosed (S.problem space.old) self.now.bound (S.kept space.old) at) }
+        ensures kept { IfOk result
+            (λ out. out ≡ None → S.kept space.new ≡ S.kept space.old) }
+        ensures closed { IfOk result
+            (TellsClosed (S.problem space.old) self.now.bound (S.kept space.old) at) }
         ensures named { IfOk result (λ out. IfSome out (IsNamedIn (S.task space.old))) }
         ensures fault { IfErr result (IsTurnFault (S.problem space.old) (S.kept space.old) at) }
         ensures path_named { IfErr result (FaultIsNamed (S.task space.old)) }
@@ -85,7 +91,8 @@ impl Checking {
         ensures task { S.task space.new ≡ S.task space.old }
         ensures problem { S.problem space.new ≡ S.problem space.old }
         ensures kept { S.kept space.new ≡ S.kept space.old }
-        ensures accepted { IfOk result (TellsAcceptance (S.problem space.old) (S.kept space.old) at) }
+        ensures accepted { IfOk result
+            (TellsAcceptance (S.problem space.old) (S.kept space.old) at) }
         ensures fault { IfErr result (IsIdlingFault (S.problem space.old) (S.kept space.old) at) }
         ensures path_named { IfErr result (FaultIsNamed (S.task space.old)) }
     {
@@ -109,10 +116,13 @@ impl Checking {
         requires few { length (S.kept space.old) ≤ 2 ^ 32 }
         ensures task { S.task space.new ≡ S.task space.old }
         ensures problem { S.problem space.new ≡ S.problem space.old }
-        ensures kept { IfOk result (λ wrong. wrong ≡ None → S.kept space.new ≡ S.kept space.old) }
-        ensures judged { IfOk result (JudgesNode (S.problem space.old) self.now.bound (S.kept space.old) at) }
+        ensures kept { IfOk result
+            (λ wrong. wrong ≡ None → S.kept space.new ≡ S.kept space.old) }
+        ensures judged { IfOk result
+            (JudgesNode (S.problem space.old) self.now.bound (S.kept space.old) at) }
         ensures named { IfOk result (λ wrong. IfSome wrong (VerdictIsNamed (S.task space.old))) }
-        ensures fault { IfErr result (IsJudgingFault (S.problem space.old) self.now.bound (S.kept space.old) at) }
+        ensures fault { IfErr result
+            (IsJudgingFault (S.problem space.old) self.now.bound (S.kept space.old) at) }
         ensures path_named { IfErr result (FaultIsNamed (S.task space.old)) }
     {
         if self.accepted(space, at)? {
@@ -137,9 +147,11 @@ impl Checking {
         requires few { length (S.kept space.old) ≤ 2 ^ 32 }
         ensures task { S.task space.new ≡ S.task space.old }
         ensures problem { S.problem space.new ≡ S.problem space.old }
-        ensures judged { IfOk result (JudgesNodes (S.problem space.old) self.now.bound (S.kept space.old)) }
+        ensures judged { IfOk result
+            (JudgesNodes (S.problem space.old) self.now.bound (S.kept space.old)) }
         ensures named { IfOk result (VerdictIsNamed (S.task space.old)) }
-        ensures fault { IfErr result (IsNodesFault (S.problem space.old) self.now.bound (S.kept space.old)) }
+        ensures fault { IfErr result
+            (IsNodesFault (S.problem space.old) self.now.bound (S.kept space.old)) }
         ensures path_named { IfErr result (FaultIsNamed (S.task space.old)) }
     {
         for at in 0..self.depths.len() {

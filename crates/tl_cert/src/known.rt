@@ -41,7 +41,8 @@ pub(crate) fn listed<S: Pairs>(
     ensures task { S.task space.new ≡ S.task space.old }
     ensures problem { S.problem space.new ≡ S.problem space.old }
     ensures kept { S.kept space.new ≡ S.kept space.old }
-    ensures known { IfOk result (AreActionsAt (S.task space.old) (S.problem space.old) (S.kept space.old)) }
+    ensures known { IfOk result
+        (AreActionsAt (S.task space.old) (S.problem space.old) (S.kept space.old)) }
     ensures place { IfOk result (λ known. known.at ≡ at) }
     ensures fault { IfErr result (IsListingFault (S.problem space.old) (S.kept space.old) at) }
     ensures named { IfErr result (FaultIsNamed (S.task space.old)) }
@@ -67,7 +68,8 @@ pub(crate) fn known_at<S: Pairs>(
     ensures task { S.task space.new ≡ S.task space.old }
     ensures problem { S.problem space.new ≡ S.problem space.old }
     ensures kept { S.kept space.new ≡ S.kept space.old }
-    ensures known { IfOk result (AreActionsAt (S.task space.old) (S.problem space.old) (S.kept space.old)) }
+    ensures known { IfOk result
+        (AreActionsAt (S.task space.old) (S.problem space.old) (S.kept space.old)) }
     ensures place { IfOk result (λ known. known.at ≡ at) }
     ensures fault { IfErr result (IsListingFault (S.problem space.old) (S.kept space.old) at) }
     ensures named { IfErr result (FaultIsNamed (S.task space.old)) }
@@ -99,8 +101,10 @@ pub(crate) fn has_step<S: Pairs>(
     ensures task { S.task space.new ≡ S.task space.old }
     ensures problem { S.problem space.new ≡ S.problem space.old }
     ensures kept { S.kept space.new ≡ S.kept space.old }
-    ensures known { OnOk result (AreKnownActions (S.task space.old) (S.problem space.old) (S.kept space.old) known.new) }
-    ensures has_step { IfOk result (λ has. IsTrue has ↔ IsExecutableAt (S.problem space.old) (S.kept space.old) at a.now) }
+    ensures known { OnOk result
+        (AreKnownActions (S.task space.old) (S.problem space.old) (S.kept space.old) known.new) }
+    ensures has_step { IfOk result
+        (λ has. IsTrue has ↔ IsExecutableAt (S.problem space.old) (S.kept space.old) at a.now) }
     ensures named { IfOk result (λ has. IsTrue has → IsNamedIn (S.task space.old) a.now) }
     ensures fault { IfErr result (IsListingFault (S.problem space.old) (S.kept space.old) at) }
     ensures path_named { IfErr result (FaultIsNamed (S.task space.old)) }

@@ -38,7 +38,8 @@ impl Checking {
         link: &Link,
         steps: &mut Steps<L>,
     ) -> Result<bool, SearchFault>
-        requires ready { IsRightSoFar (S.task space.old) (S.problem space.old) (S.kept space.old) self.old }
+        requires ready { IsRightSoFar (S.task space.old) (S.problem space.old) (S.kept space.old)
+            self.old }
         requires few { length (S.kept space.old) < 2 ^ 32 }
         ensures task { S.task space.new ≡ S.task space.old }
         ensures problem { S.problem space.new ≡ S.problem space.old }
@@ -47,7 +48,8 @@ impl Checking {
             (S.kept space.old) (S.kept space.new) link.now) }
         ensures ready { IfOk result (λ good. good ≡ true →
             IsRightSoFar (S.task space.old) (S.problem space.old) (S.kept space.new) self.new) }
-        ensures fault { IfErr result (IsVisitFault (S.problem space.old) (S.kept space.old) link.now.from link.now.action) }
+        ensures fault { IfErr result
+            (IsVisitFault (S.problem space.old) (S.kept space.old) link.now.from link.now.action) }
         ensures there { OnErr result (link.now.from < length (S.kept space.old)) }
         ensures named { IfErr result (FaultIsNamed (S.task space.old)) }
     {
@@ -80,15 +82,18 @@ impl Checking {
         steps: &mut Steps<L>,
     ) -> Result<Option<u32>, SearchFault>
         requires root { ListsRoot (S.problem space.old) (S.kept space.old) }
-        requires ready { IsRightSoFar (S.task space.old) (S.problem space.old) (S.kept space.old) self.old }
+        requires ready { IsRightSoFar (S.task space.old) (S.problem space.old) (S.kept space.old)
+            self.old }
         requires few { length links.now < 2 ^ 32 }
         ensures task { S.task space.new ≡ S.task space.old }
         ensures problem { S.problem space.new ≡ S.problem space.old }
         ensures bound { self.new.bound ≡ self.old.bound }
-        ensures listed { IfOk result (ListsLinks (S.problem space.old) self.old.bound links.now (S.kept space.new)) }
+        ensures listed { IfOk result
+            (ListsLinks (S.problem space.old) self.old.bound links.now (S.kept space.new)) }
         ensures ready { IfOk result (λ bad. bad ≡ None →
             IsRightSoFar (S.task space.old) (S.problem space.old) (S.kept space.new) self.new) }
-        ensures fault { IfErr result (IsNoneFaultOf (S.problem space.old) self.old.bound links.now) }
+        ensures fault { IfErr result
+            (IsNoneFaultOf (S.problem space.old) self.old.bound links.now) }
         ensures named { IfErr result (FaultIsNamed (S.task space.old)) }
     {
         for (before, link) in links.iter().enumerate() {

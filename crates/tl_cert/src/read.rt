@@ -25,7 +25,8 @@ const MOST_LINKS: usize = 100_000;
 
 /// The integer, where it is from 0 to `most`; else the form at this offset breaks this rule.
 fn number_within(number: i64, most: u32, broken: Rule, at: u32) -> Result<u32, FormFault>
-    ensures { Reads (λ (x : ℕ). x) result (breaks_if (not (is_within 0 most number)) broken at) (natural number) }
+    ensures { Reads (λ (x : ℕ). x) result (breaks_if (not (is_within 0 most number)) broken at)
+        (natural number) }
 {
     if number < 0 || number > i64::from(most) {
         return Err(breaks(broken, at));
@@ -83,7 +84,8 @@ fn head_parts(form: &Form) -> Option<Option<(i64, u32)>>
 
 /// The bound of the head of a proof file.
 fn head(form: &Form) -> Result<Option<u32>, FormFault>
-    ensures { Reads (λ (x : Option ℕ). x) result (proof_head_breaks (tree_of form.now)) (length_bound_meant (tree_of form.now)) }
+    ensures { Reads (λ (x : Option ℕ). x) result (proof_head_breaks (tree_of form.now))
+        (length_bound_meant (tree_of form.now)) }
 {
     match head_parts(form) {
         None => Err(breaks(Rule::Shape, offset(form))),
@@ -114,7 +116,8 @@ fn three_parts<'a>(word: &Form, from: &Form, action: &'a Form) -> Option<(i64, u
 /// The parts of a link, by its elements.
 #[tactic(auto, using(crate::proofs::ProofForms::link_elements))]
 fn link_in(forms: &[Form]) -> Option<(i64, u32, &Form)>
-    ensures { option_map (λ parts. (parts.0, parts.1, tree_of parts.2.now)) result ≡ link_in (trees_in forms.now) }
+    ensures { option_map (λ parts. (parts.0, parts.1, tree_of parts.2.now)) result
+        ≡ link_in (trees_in forms.now) }
 {
     match three(forms) {
         Some((word, from, action)) => three_parts(word, from, action),
@@ -125,7 +128,8 @@ fn link_in(forms: &[Form]) -> Option<(i64, u32, &Form)>
 /// The parts of a link; other forms are no link.
 #[tactic(auto, using(crate::proofs::Rulesets::form_trees))]
 fn link_parts(form: &Form) -> Option<(i64, u32, &Form)>
-    ensures { option_map (λ parts. (parts.0, parts.1, tree_of parts.2.now)) result ≡ link_parts (tree_of form.now) }
+    ensures { option_map (λ parts. (parts.0, parts.1, tree_of parts.2.now)) result
+        ≡ link_parts (tree_of form.now) }
 {
     match form {
         Form::Sym(_, _) => None,
@@ -139,7 +143,8 @@ fn link(alloc: Global, form: &Form, problem: &Problem, before: usize) -> Result<
     ensures read { Reads (λ (x : Link). x) result
         (link_breaks problem.now.names problem.now.domain.operators before (tree_of form.now))
         (link_meant problem.now.names problem.now.domain.operators (tree_of form.now)) }
-    ensures named { IfOk result (λ link. ActionIsNamed problem.now.names problem.now.domain.operators link.action) }
+    ensures named { IfOk result
+        (λ link. ActionIsNamed problem.now.names problem.now.domain.operators link.action) }
     ensures few { IfOk result (λ _. before < 100000) }
 {
     let Some((number, at, action)) = link_parts(form) else {
@@ -176,7 +181,8 @@ fn proof(alloc: Global, forms: &[Form], problem: &Problem) -> Result<Proof, Form
         (proof_breaks problem.now.names problem.now.domain.operators (trees_in forms.now))
         (proof_meant problem.now.names problem.now.domain.operators (trees_in forms.now)) }
     ensures few { IfOk result (λ proof. length proof.links ≤ 100000) }
-    ensures named { IfOk result (λ proof. LinksAreNamed problem.now.names problem.now.domain.operators proof.links) }
+    ensures named { IfOk result
+        (λ proof. LinksAreNamed problem.now.names problem.now.domain.operators proof.links) }
 {
     let Some((first, rest)) = split_first(forms) else {
         return Err(breaks(Rule::Shape, 0));
@@ -196,9 +202,11 @@ pub fn proof_of(alloc: Global, forms: &Forms, problem: &Problem) -> Result<Proof
         (proof_breaks problem.now.names problem.now.domain.operators (trees_of forms.now))
         (proof_meant problem.now.names problem.now.domain.operators (trees_of forms.now)) }
     ensures least { AreAsRead (trees_of forms.now) → IfErr result
-        (IsLeastFault (proof_breaks problem.now.names problem.now.domain.operators (trees_of forms.now))) }
+        (IsLeastFault
+        (proof_breaks problem.now.names problem.now.domain.operators (trees_of forms.now))) }
     ensures few { IfOk result (λ proof. length proof.links ≤ 100000) }
-    ensures named { IfOk result (λ proof. LinksAreNamed problem.now.names problem.now.domain.operators proof.links) }
+    ensures named { IfOk result
+        (λ proof. LinksAreNamed problem.now.names problem.now.domain.operators proof.links) }
 {
     proof(alloc, forms.as_slice(), problem)
 }

@@ -12,7 +12,8 @@ use tl_terms::{Action, NoMemory};
 /// Adds the link by the action of the pair of this number.
 fn add_link(alloc: Global, links: &mut Links, from: usize, action: &Action) -> Result<(), NoMemory>
     requires { from < 2 ^ 32 }
-    ensures { OnOk result (links.new ≡ links.old ++ record { from = from; action = action.now } ∷ []) }
+    ensures { OnOk result
+        (links.new ≡ links.old ++ record { from = from; action = action.now } ∷ []) }
 {
     let action = action.copy(alloc)?;
     links.push(Link {

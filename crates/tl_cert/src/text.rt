@@ -9,7 +9,7 @@ ghost use Rattle.tl_cert.specs.ProofTexts.{HasNamedAction, LinksAreNamed, head_l
 use crate::proof::{Link, Proof};
 use crate::verdict::NoneVerdict;
 use std::alloc::{AllocError, Global};
-use tl_line::put_action;
+use tl_line::{bytes_of, put_action};
 use tl_syntax::{Action, Bytes, NoMemory, Problem};
 
 /// The line of the head of a proof.
@@ -24,7 +24,8 @@ fn head_line(alloc: Global, bound: Option<u32>) -> Result<String, AllocError>
 
 /// What stands before the action of a link.
 fn link_front(alloc: Global, from: u32) -> Result<String, AllocError>
-    ensures { IfOk result (λ text. string_bytes text ≡ codes "(pair " ++ (decimal from ++ codes " ")) }
+    ensures { IfOk result
+        (λ text. string_bytes text ≡ codes "(pair " ++ (decimal from ++ codes " ")) }
 {
     format!(in alloc; "(pair {from} ")
 }
@@ -33,7 +34,8 @@ fn link_front(alloc: Global, from: u32) -> Result<String, AllocError>
 #[tactic(auto, using(crate::proofs::Rulesets::growth))]
 fn put_link(alloc: Global, problem: &Problem, link: &Link, out: &mut Bytes) -> Result<(), NoMemory>
     requires { ActionIsNamed problem.now.names problem.now.domain.operators link.now.action }
-    ensures { Puts result out.old out.new (link_line problem.now.names problem.now.domain.operators link.now) }
+    ensures { Puts result out.old out.new
+        (link_line problem.now.names problem.now.domain.operators link.now) }
 {
     let front = link_front(alloc, link.from)?;
     out.extend(front.as_bytes())?;
@@ -46,7 +48,8 @@ fn put_link(alloc: Global, problem: &Problem, link: &Link, out: &mut Bytes) -> R
 /// The actions of the links have to be those of the problem, with its names.
 pub fn proof_text(alloc: Global, problem: &Problem, proof: &Proof) -> Result<Bytes, NoMemory>
     requires { LinksAreNamed problem.now.names problem.now.domain.operators proof.now.links }
-    ensures { IfOk result (λ text. text ≡ proof_text problem.now.names problem.now.domain.operators proof.now) }
+    ensures { IfOk result
+        (λ text. text ≡ proof_text problem.now.names problem.now.domain.operators proof.now) }
 {
     let head = head_line(alloc, proof.bound)?;
     let mut text = Bytes::new(alloc);
@@ -55,15 +58,6 @@ pub fn proof_text(alloc: Global, problem: &Problem, proof: &Proof) -> Result<Byt
         put_link(alloc, problem, link, &mut text)?;
     }
     Ok(text)
-}
-
-/// The bytes of a text.
-fn bytes_of(alloc: Global, text: &str) -> Result<Bytes, NoMemory>
-    ensures { IfOk result (λ bytes. bytes ≡ text.now) }
-{
-    let mut bytes = Bytes::new(alloc);
-    bytes.extend(text.as_bytes())?;
-    Ok(bytes)
 }
 
 /// The line that says that there is no plan, or none of at most so many actions.
@@ -81,7 +75,8 @@ fn proved_line(alloc: Global, bound: Option<u32>) -> Result<Bytes, NoMemory>
 
 /// The line that says that the link of this number is not good.
 fn bad_link_line(alloc: Global, number: u32) -> Result<Bytes, NoMemory>
-    ensures { IfOk result (λ line. line ≡ codes "; bad link " ++ (decimal number ++ codes "\n")) }
+    ensures { IfOk result
+        (λ line. line ≡ codes "; bad link " ++ (decimal number ++ codes "\n")) }
 {
     let line = format!(in alloc; "; bad link {number}\n")?;
     bytes_of(alloc, line.as_str())
@@ -97,7 +92,8 @@ fn accepts_line(alloc: Global, number: u32) -> Result<Bytes, NoMemory>
 
 /// What stands before the action that leads out at the node of this number.
 fn open_front(alloc: Global, number: u32) -> Result<String, AllocError>
-    ensures { IfOk result (λ text. string_bytes text ≡ codes "; open " ++ (decimal number ++ codes " ")) }
+    ensures { IfOk result
+        (λ text. string_bytes text ≡ codes "; open " ++ (decimal number ++ codes " ")) }
 {
     format!(in alloc; "; open {number} ")
 }
@@ -105,7 +101,8 @@ fn open_front(alloc: Global, number: u32) -> Result<String, AllocError>
 /// The line that says that the action leads out at the node of this number.
 fn open_line(alloc: Global, problem: &Problem, number: u32, a: &Action) -> Result<Bytes, NoMemory>
     requires { ActionIsNamed problem.now.names problem.now.domain.operators a.now }
-    ensures { IfOk result (λ line. line ≡ open_line problem.now.names problem.now.domain.operators number a.now) }
+    ensures { IfOk result
+        (λ line. line ≡ open_line problem.now.names problem.now.domain.operators number a.now) }
 {
     let front = open_front(alloc, number)?;
     let mut line = bytes_of(alloc, front.as_str())?;
@@ -123,7 +120,8 @@ pub fn none_text(
     verdict: &NoneVerdict,
 ) -> Result<Bytes, NoMemory>
     requires { HasNamedAction problem.now.names problem.now.domain.operators verdict.now }
-    ensures { IfOk result (λ text. text ≡ none_text problem.now.names problem.now.domain.operators
+    ensures { IfOk result
+        (λ text. text ≡ none_text problem.now.names problem.now.domain.operators
         proof.now.bound verdict.now) }
 {
     match verdict {

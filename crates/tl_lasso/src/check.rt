@@ -1,5 +1,5 @@
 // The check of a plan with a repeated part.
-ghost use Rattle.std.specs.Prelude.{◌≡◌, ◌↔◌, ◌<◌, ◌≤◌, ◌+◌, ◌++◌, ◌^◌, List, length, true, Some, IfOk, IfErr, OnOk};
+ghost use Rattle.std.specs.Prelude.{◌≡◌, ◌↔◌, ◌<◌, ◌≤◌, ◌+◌, ◌++◌, ◌^◌, length, true, IfOk, IfErr, OnOk};
 ghost use Rattle.tl_action.specs.Actions.{HasOperator};
 ghost use Rattle.tl_lasso.specs.Judged.{IsJudgement, Obeys};
 ghost use Rattle.tl_lasso.specs.Lassos.{IsLasso};

@@ -15,7 +15,7 @@ use Rattle.tl_line.proofs.WrittenForms.{action_form, apart}
 use Rattle.tl_line.proofs.ReadBack.{form-item, form-breaks, form-meant, clean-text}
 use Rattle.tl_line.specs.ActionLists.{actions_breaks}
 use Rattle.tl_text.specs.MeaningOfPlans.{plan_meant}
-use Rattle.tl_text.specs.Ranges.{action_lines}
+use Rattle.tl_line.specs.AnswerLines.{action_lines}
 use Rattle.tl_text.specs.LawsReadBack.{AreReadAs}
 
 -- the forms of actions on lines of their own, from this offset on

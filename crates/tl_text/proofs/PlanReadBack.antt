@@ -23,7 +23,7 @@ use Rattle.tl_line.proofs.Tokens.{IsTokenText, decimal-token}
 use Rattle.tl_line.proofs.WrittenForms.{value_form, values_forms, action_form}
 use Rattle.tl_text.specs.LawsReadBack.{AreReadAs}
 use Rattle.tl_text.specs.Outcomes.{plan_line, plan_text}
-use Rattle.tl_text.specs.Ranges.{action_lines}
+use Rattle.tl_line.specs.AnswerLines.{action_lines}
 use Rattle.tl_text.proofs.AfterLine.{moved, moved_all, after_line, line_length, items_on, gap_of_line}
 use Rattle.tl_text.proofs.LinesReadBack.{items-later, lines_forms, lines-breaks, lines-meant, lines-spelled}
 

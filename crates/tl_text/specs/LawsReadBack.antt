@@ -11,7 +11,7 @@ use Rattle.tl_line.specs.WritableActions.{IsWritable}
 use Rattle.tl_text.specs.Plans.{plan_breaks}
 use Rattle.tl_text.specs.MeaningOfPlans.{plan_meant}
 use Rattle.tl_text.specs.Outcomes.{plan_text}
-use Rattle.tl_text.specs.Ranges.{action_lines}
+use Rattle.tl_line.specs.AnswerLines.{action_lines}
 
 -- the bytes spell forms that break no rule of plan files and stand for this plan
 pub record AreReadAs (names : List (List ℕ)) (operators : List Operator) (bytes : List ℕ) (plan : List Action) : Type 0 where

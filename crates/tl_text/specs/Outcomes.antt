@@ -7,7 +7,8 @@ use Rattle.tl_syntax.specs.Lists.{Each}
 use Rattle.tl_line.specs.NamedActions.{ActionIsNamed}
 use Rattle.tl_search.specs.declared.outcome.Outcome.{Outcome}
 use Rattle.tl_search.specs.declared.outcome.Outcome.TheVariants.{Plan, NoPlan, NoneWithin, Spent}
-use Rattle.tl_text.specs.Ranges.{action_lines}
+use Rattle.tl_line.specs.AnswerLines.{action_lines}
+pub use Rattle.tl_line.specs.AnswerLines.{none_text, spent_text}
 
 -- the line that says of how many actions a plan is
 abbrev pub plan_line : ℕ → List ℕ
@@ -17,17 +18,9 @@ plan_line n = codes "; plan of " ++ (decimal n ++ codes " actions\n")
 abbrev pub plan_text : List (List ℕ) → List Operator → List Action → List ℕ
 plan_text names operators plan = plan_line (length plan) ++ action_lines names operators plan
 
--- the line that says that there is no plan
-abbrev pub none_text : List ℕ
-none_text = codes "; none\n"
-
 -- the line that says that there is no plan of at most n actions
 abbrev pub none_within_text : ℕ → List ℕ
 none_within_text n = codes "; none within " ++ (decimal n ++ codes "\n")
-
--- the line that says that a search met more than b search nodes
-abbrev pub spent_text : ℕ → List ℕ
-spent_text b = codes "; spent " ++ (decimal b ++ codes "\n")
 
 -- the lines of what a search for plans of at most n actions, which keeps at most b search nodes, answers
 abbrev pub outcome_text : List (List ℕ) → List Operator → ℕ → ℕ → Outcome → List ℕ

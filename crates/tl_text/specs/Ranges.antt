@@ -1,12 +1,12 @@
 -- The text of the answer for an operation that is past range.
-use Rattle.std.specs.Prelude.{ℕ, List, [], ◌∷◌, ◌++◌, codes}
+use Rattle.std.specs.Prelude.{ℕ, List, ◌++◌, codes}
 use Rattle.std.specs.Fmt.{decimal, signed_decimal}
 use Rattle.tl_syntax.specs.declared.action.Action.{Action}
 use Rattle.tl_syntax.specs.declared.operator.Operator.{Operator}
 use Rattle.tl_syntax.specs.declared.value.Op.{Op}
 use Rattle.tl_syntax.specs.declared.value.Op.TheVariants.{Plus, Minus, Times}
 use Rattle.tl_eval.specs.declared.range.RangeNote.{RangeNote}
-use Rattle.tl_line.specs.ActionTexts.{action_text}
+pub use Rattle.tl_line.specs.AnswerLines.{action_lines}
 
 -- the sign of an operation
 abbrev pub op_text : Op → List ℕ
@@ -22,11 +22,6 @@ operation_line note =
 -- the line that says after how many actions
 abbrev pub after_line : ℕ → List ℕ
 after_line after = codes "; after " ++ (decimal after ++ codes " actions\n")
-
--- a line for each action
-abbrev pub action_lines : List (List ℕ) → List Operator → List Action → List ℕ
-action_lines names operators [] = []
-action_lines names operators (a ∷ actions) = action_text names operators a ++ (codes "\n" ++ action_lines names operators actions)
 
 -- the lines of the operation and of the actions before it
 abbrev pub range_text : List (List ℕ) → List Operator → RangeNote → ℕ → List Action → List ℕ

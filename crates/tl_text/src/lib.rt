@@ -8,12 +8,10 @@
 //! - `verdicts`: the text of the verdict on a plan.
 //! - `outcomes`: the text of what a search answers.
 //! - `traces`: the lines of what a search reports.
-//! - `lines`: lines of text as bytes, and a line for each action.
 //! - `laws`: the order of the breaks of a plan file.
 #![tactic(auto)]
 
 pub mod laws;
-mod lines;
 mod outcomes;
 mod plans;
 mod ranges;

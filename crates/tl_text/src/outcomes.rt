@@ -3,10 +3,10 @@ ghost use Rattle.std.specs.Prelude.{◌≡◌, IfOk};
 ghost use Rattle.std.specs.String.{string_bytes};
 ghost use Rattle.tl_syntax.specs.Lists.{Each};
 ghost use Rattle.tl_line.specs.NamedActions.{ActionIsNamed};
-ghost use Rattle.tl_text.specs.Outcomes.{HasNamedPlan, plan_line, plan_text, none_within_text, spent_text, outcome_text};
+ghost use Rattle.tl_text.specs.Outcomes.{HasNamedPlan, plan_line, plan_text, none_within_text, outcome_text};
 
-use crate::lines::{bytes_of, put_lines};
 use std::alloc::{AllocError, Global};
+use tl_line::{bytes_of, put_lines, spent_text};
 use tl_search::Outcome;
 use tl_syntax::{Action, Bytes, NoMemory, Problem};
 
@@ -20,7 +20,8 @@ fn plan_line(alloc: Global, actions: usize) -> Result<String, AllocError>
 /// The lines of a plan.
 fn plan_text(alloc: Global, problem: &Problem, plan: &[Action]) -> Result<Bytes, NoMemory>
     requires { Each (ActionIsNamed problem.now.names problem.now.domain.operators) plan.now }
-    ensures { IfOk result (λ text. text ≡ plan_text problem.now.names problem.now.domain.operators plan.now) }
+    ensures { IfOk result
+        (λ text. text ≡ plan_text problem.now.names problem.now.domain.operators plan.now) }
 {
     let first = plan_line(alloc, plan.len())?;
     let mut text = bytes_of(alloc, first.as_str())?;
@@ -36,14 +37,6 @@ fn none_within_text(alloc: Global, within: u32) -> Result<Bytes, NoMemory>
     bytes_of(alloc, line.as_str())
 }
 
-/// The line that says that a search met more than so many search nodes.
-fn spent_text(alloc: Global, nodes: u32) -> Result<Bytes, NoMemory>
-    ensures { IfOk result (λ text. text ≡ spent_text nodes) }
-{
-    let line = format!(in alloc; "; spent {nodes}\n")?;
-    bytes_of(alloc, line.as_str())
-}
-
 /// The lines of what a search answers that looks for plans of at most `within` actions among at most `nodes` search nodes: a plan has a line for each of its actions, and every other answer is one line.
 /// The actions of a plan have to be those of the problem, with its names.
 pub fn outcome_text(
@@ -54,7 +47,8 @@ pub fn outcome_text(
     nodes: u32,
 ) -> Result<Bytes, NoMemory>
     requires { HasNamedPlan problem.now.names problem.now.domain.operators outcome.now }
-    ensures { IfOk result (λ text. text ≡ outcome_text problem.now.names problem.now.domain.operators
+    ensures { IfOk result
+        (λ text. text ≡ outcome_text problem.now.names problem.now.domain.operators
         within nodes outcome.now) }
 {
     match outcome {

@@ -25,9 +25,11 @@ pub fn plan_of(alloc: Global, forms: &Forms, problem: &Problem) -> Result<Action
         (plan_breaks problem.now.names problem.now.domain.operators (trees_of forms.now))
         (plan_meant problem.now.names problem.now.domain.operators (trees_of forms.now)) }
     ensures least { AreAsRead (trees_of forms.now) → IfErr result
-        (IsLeastFault (plan_breaks problem.now.names problem.now.domain.operators (trees_of forms.now))) }
+        (IsLeastFault
+        (plan_breaks problem.now.names problem.now.domain.operators (trees_of forms.now))) }
     ensures few { IfOk result (λ plan. length plan ≤ 100000) }
-    ensures named { IfOk result (λ plan. Each (ActionIsNamed problem.now.names problem.now.domain.operators) plan) }
+    ensures named { IfOk result
+        (λ plan. Each (ActionIsNamed problem.now.names problem.now.domain.operators) plan) }
 {
     actions_of(alloc, forms.as_slice(), problem, 0)
 }

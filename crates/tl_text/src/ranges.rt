@@ -5,9 +5,9 @@ ghost use Rattle.tl_syntax.specs.Lists.{Each};
 ghost use Rattle.tl_line.specs.NamedActions.{ActionIsNamed};
 ghost use Rattle.tl_text.specs.Ranges.{op_text, operation_line, after_line, range_text};
 
-use crate::lines::{bytes_of, put_lines};
 use std::alloc::{AllocError, Global};
 use tl_eval::RangeNote;
+use tl_line::{bytes_of, put_lines};
 use tl_syntax::{Action, Bytes, NoMemory, Op, Problem};
 
 /// The sign of an operation.
@@ -49,7 +49,8 @@ pub fn range_text(
     path: &[Action],
 ) -> Result<Bytes, NoMemory>
     requires { Each (ActionIsNamed problem.now.names problem.now.domain.operators) path.now }
-    ensures { IfOk result (λ text. text ≡ range_text problem.now.names problem.now.domain.operators
+    ensures { IfOk result
+        (λ text. text ≡ range_text problem.now.names problem.now.domain.operators
         note.now after path.now) }
 {
     let first = operation(alloc, note)?;

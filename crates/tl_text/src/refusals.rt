@@ -2,8 +2,8 @@
 ghost use Rattle.std.specs.Prelude.{◌≡◌, IfOk};
 ghost use Rattle.tl_text.specs.Refusals.{refused_text};
 
-use crate::lines::bytes_of;
 use std::alloc::Global;
+use tl_line::bytes_of;
 use tl_syntax::{Bytes, NoMemory};
 
 /// The line for a file that is refused: `file` is its place among the words, from 1 on, `broken` the number of the rule, and `at` the offset in bytes.

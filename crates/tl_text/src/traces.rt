@@ -36,7 +36,8 @@ fn put_label_of(alloc: Global, space: &Space, at: usize, out: &mut Bytes) -> Res
 #[tactic(auto, using(crate::proofs::Rulesets::growth))]
 fn put_action_end(problem: &Problem, action: &Action, out: &mut Bytes) -> Result<(), NoMemory>
     requires { ActionIsNamed problem.now.names problem.now.domain.operators action.now }
-    ensures { OnOk result (out.new ≡ out.old ++ action_end problem.now.names problem.now.domain action.now) }
+    ensures { OnOk result
+        (out.new ≡ out.old ++ action_end problem.now.names problem.now.domain action.now) }
 {
     out.extend(b" ")?;
     put_action(problem, action, out)?;
@@ -46,14 +47,16 @@ fn put_action_end(problem: &Problem, action: &Action, out: &mut Bytes) -> Result
 
 /// What stands before the action where the pair `at` is kept.
 fn kept_from(alloc: Global, from: usize, at: usize) -> Result<String, AllocError>
-    ensures { IfOk result (λ text. string_bytes text ≡ codes "; kept " ++ (decimal at ++ (codes " " ++ decimal from))) }
+    ensures { IfOk result (λ text. string_bytes text ≡ codes "; kept "
+        ++ (decimal at ++ (codes " " ++ decimal from))) }
 {
     format!(in alloc; "; kept {at} {from}")
 }
 
 /// What stands before the action where the pair `at` is met again.
 fn seen_from(alloc: Global, from: usize, at: usize) -> Result<String, AllocError>
-    ensures { IfOk result (λ text. string_bytes text ≡ codes "; seen " ++ (decimal at ++ (codes " " ++ decimal from))) }
+    ensures { IfOk result (λ text. string_bytes text ≡ codes "; seen "
+        ++ (decimal at ++ (codes " " ++ decimal from))) }
 {
     format!(in alloc; "; seen {at} {from}")
 }
@@ -68,7 +71,8 @@ fn pruned_from(alloc: Global, from: usize) -> Result<String, AllocError>
 /// Puts a text, an action and the end of the line at the end.
 fn put_met(problem: &Problem, met: &str, action: &Action, out: &mut Bytes) -> Result<(), NoMemory>
     requires { ActionIsNamed problem.now.names problem.now.domain.operators action.now }
-    ensures { OnOk result (out.new ≡ out.old ++ (met.now ++ action_end problem.now.names problem.now.domain action.now)) }
+    ensures { OnOk result (out.new ≡ out.old
+        ++ (met.now ++ action_end problem.now.names problem.now.domain action.now)) }
 {
     out.extend(met.as_bytes())?;
     put_action_end(problem, action, out)
