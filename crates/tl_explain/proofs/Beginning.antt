@@ -1,9 +1,8 @@
 -- What a plan's explanation begins with, and what an action of the problem is.
-use Rattle.std.proofs.Common.{◌≡◌, ℕ, List, [], ◌∷◌, length, map, Some, refl, sym, ap, ◌∙◌, subst}
+use Rattle.std.proofs.Common.{◌≡◌, ℕ, List, [], ◌∷◌, length, map, refl, sym, ap, ◌∙◌, subst}
 use Rattle.std.proofs.lemmas.Option.{slice_get_within, get_or_from_slice_get}
 use Rattle.tl_action.specs.Actions.{HasOperator}
 use Rattle.tl_line.specs.NamedActions.{ActionIsNamed}
-use Rattle.tl_nodes.specs.NodeTrees.{tree_at}
 use Rattle.tl_nodes.specs.Numbers.{trees, Denotes}
 use Rattle.tl_progress.specs.Sentences.{IsSentence}
 use Rattle.tl_syntax.specs.declared.action.Action.{Action}

@@ -1,19 +1,17 @@
 -- Why a plan is not explained to its end.
-use Rattle.std.proofs.Common.{◌≡◌, ◌⊎◌, ℕ, ◌<◌, ◌+◌, List, length, get_or, Some, refl, sym, ap, ◌∙◌, subst, inl, inr}
+use Rattle.std.proofs.Common.{◌≡◌, ℕ, ◌<◌, List, length, get_or, sym, subst, inl, inr}
 use Rattle.tl_eval.specs.Notes.{Tells}
-use Rattle.tl_eval.specs.declared.range.RangeNote.{RangeNote}
 use Rattle.tl_syntax.specs.declared.action.Action.{Action}
 use Rattle.tl_syntax.specs.declared.problem.Problem.{Problem}
 use Rattle.tl_syntax.specs.Trees.{FormulaTree}
 use Rattle.tl_terms.specs.Looked.{looked_by_progressing}
 use Rattle.tl_terms.specs.ProblemMeaning.{plain_problem}
-use Rattle.tl_terms.specs.Step.{step}
 use Rattle.tl_terms.specs.World.{World}
 use Rattle.tl_explain.specs.Causes.{IsCause, IsPastInExplanation}
 use Rattle.tl_explain.specs.declared.explanation.Explanation.{Explanation}
 use Rattle.tl_explain.specs.declared.fault.ExplainFault.{ExplainFault}
 use Rattle.tl_explain.specs.declared.fault.ExplainFault.TheVariants as fault
-use Rattle.tl_explain.specs.Explanations.{formula_in, AwaitsFirst, IsArrivalFault, IsFollowFault}
+use Rattle.tl_explain.specs.Explanations.{formula_in, IsArrivalFault, IsFollowFault}
 use Rattle.tl_explain.proofs.Reaching.{Reached, action-past, first-past, progression-past}
 
 module _ (p : Problem) (plan : List Action) where

@@ -1,11 +1,11 @@
 // The lines that explain a plan.
-ghost use Rattle.std.specs.Prelude.{◌≡◌, ◌<◌, ◌≤◌, ◌^◌, ◌++◌, length, IfOk, IfErr, OnOk};
+ghost use Rattle.std.specs.Prelude.{◌≡◌, ◌<◌, ◌≤◌, length, IfOk, IfErr, OnOk};
 ghost use Rattle.tl_syntax.specs.Lists.{Each};
 ghost use Rattle.tl_line.specs.NamedActions.{ActionIsNamed};
 ghost use Rattle.tl_terms.specs.ProblemMeaning.{plain_problem};
 ghost use Rattle.tl_explain.specs.Causes.{IsCause};
-ghost use Rattle.tl_explain.specs.Explain.{explain_text, lines_after};
-ghost use Rattle.tl_explain.specs.Explanations.{formula_in, AwaitsFirst};
+ghost use Rattle.tl_explain.specs.Explain.{explain_text};
+ghost use Rattle.tl_explain.specs.Explanations.{AwaitsFirst};
 
 use crate::ExplainFault;
 use crate::explanation::Explanation;

@@ -1,5 +1,5 @@
 // How far a plan is explained.
-ghost use Rattle.std.specs.Prelude.{◌≡◌, ◌<◌, ◌++◌, ◌^◌, length, IfOk, IfErr, OnOk};
+ghost use Rattle.std.specs.Prelude.{◌≡◌, ◌<◌, ◌++◌, ◌^◌, IfOk, IfErr, OnOk};
 ghost use Rattle.tl_line.specs.NamedActions.{ActionIsNamed};
 ghost use Rattle.tl_terms.specs.ProblemMeaning.{plain_problem};
 ghost use Rattle.tl_explain.specs.Explain.{end_line, stopped_line};

@@ -1,5 +1,5 @@
 // Calls that are numbered from 0, some of which fail.
-ghost use Rattle.std.specs.Prelude.{◌≡◌, ◌≤◌, []};
+ghost use Rattle.std.specs.Prelude.{◌≡◌, ◌≤◌};
 ghost use Rattle.tl_outside.specs.Script.{fails_at, counted};
 
 use tl_syntax::Items;

@@ -1,5 +1,5 @@
 // A run as a whole.
-ghost use Rattle.std.specs.Prelude.{◌≡◌, ◌-◌, ◌↔◌, ◌⊎◌, ℕ, Some, None, map};
+ghost use Rattle.std.specs.Prelude.{◌≡◌, ◌-◌, ◌↔◌, ◌⊎◌, Some, None, map};
 ghost use Rattle.std.specs.String.{string_bytes};
 ghost use Rattle.tl_outside.specs.Causes.{Rose};
 ghost use Rattle.tl_outside.specs.Told.{Files};

@@ -1,5 +1,5 @@
 // What a command is over: its files, read in turn, or the texts of a sample.
-ghost use Rattle.std.specs.Prelude.{◌≡◌, ◌-◌, IfOk, IfErr};
+ghost use Rattle.std.specs.Prelude.{◌-◌, IfOk, IfErr};
 ghost use Rattle.tl_run.specs.Commands.{KeepsLimits};
 ghost use Rattle.tl_run.specs.Held.{IsHeld, KeepsBounds};
 ghost use Rattle.tl_run.specs.Inputs as inputs;

@@ -28,7 +28,7 @@ use tl_domain::{domain_of, problem_of};
 use tl_lasso::{LoopPlan, loop_of};
 use tl_outside::{Store, read_whole};
 use tl_sexpr::{Forms, offsets_rise, read_forms};
-use tl_syntax::{Actions, Bytes, Domain, Names, Problem};
+use tl_syntax::{Actions, Domain, Names, Problem};
 use tl_text::plan_of;
 
 /// What the files of a command that were read so far stand for.

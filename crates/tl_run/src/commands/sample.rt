@@ -1,5 +1,5 @@
 // The command `sample`: a generated problem is searched, and the plan that is found is checked.
-ghost use Rattle.std.specs.Prelude.{◌≡◌, ◌<◌, ◌≤◌, ◌*◌, ℕ, [], IfOk, IfErr, OnOk};
+ghost use Rattle.std.specs.Prelude.{◌≡◌, ◌<◌, ◌≤◌, ◌*◌, [], IfOk, IfErr, OnOk};
 ghost use Rattle.std.specs.String.{string_bytes};
 ghost use Rattle.tl_search.specs.KeptPairs.{pairs_of};
 ghost use Rattle.tl_search.specs.NamedAnswers.{OutcomeIsNamed, FaultIsNamed};
