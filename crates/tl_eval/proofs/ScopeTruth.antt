@@ -14,7 +14,7 @@ use Rattle.tl_syntax.specs.FreeVariables.{slots_of, arg_slots, bound_slots, is_s
 use Rattle.tl_syntax.specs.Lists.{Each}
 use Rattle.tl_syntax.specs.Trees.{TermTree, TermTrees, variable, value, place, arith, no_term, more_terms, FormulaTree, FormulaTrees, verum, falsum, atom, defined, compare, goal_fact, goal_place, goal_not, negation, conjunction, disjunction, for_all, for_some, next, always, eventually, until, within, during, no_formula, more_formulas}
 use Rattle.tl_terms.specs.Bounds.{arg_value, arg_values, fact_in, same_value, bound_true, tuples_of, tuples}
-use Rattle.tl_terms.specs.Looked.{LookedTable, is_integer, operation_on, leaves_open, followed_if, looked_in_term, looked_in_terms, looked_in_body, looked_in_turn, looked_in_state, looked_in_and, looked_in_or}
+use Rattle.tl_terms.specs.Looked.{LookedTable, is_defined_integer, operation_on, leaves_open, followed_if, looked_in_term, looked_in_terms, looked_in_body, looked_in_turn, looked_in_state, looked_in_and, looked_in_or}
 use Rattle.tl_terms.specs.Situation.{Situation}
 use Rattle.tl_terms.specs.Terms.{apply_op, prepend, place_value, term_value, term_values}
 use Rattle.tl_terms.specs.Truth.{defined_true, compared, state_true, all_true, one_true}
@@ -57,7 +57,7 @@ mutual
   looks-alike w d e (arith op a b at) h =
       let k = first (term_slots a) (term_slots b) d e h in
       let l = second (term_slots a) (term_slots b) d e h in
-      (λ i. followed_if (is_integer (value-alike w d e a k i)) (looks-alike w d e a k i) (looks-alike w d e b l i ++ operation_on at op (value-alike w d e a k i) (value-alike w d e b l i)))
+      (λ i. followed_if (is_defined_integer (value-alike w d e a k i)) (looks-alike w d e a k i) (looks-alike w d e b l i ++ operation_on at op (value-alike w d e a k i) (value-alike w d e b l i)))
 
   all-looks-alike : (w : World) (d e : Assignment) (ts : TermTrees) → Agree (terms_slots ts) d e → looked_in_terms w d ts ≡ looked_in_terms w e ts
   all-looks-alike w d e no_term h = refl
