@@ -67,6 +67,10 @@ each-of : (r : Remembered) (xs others : List Remembered) → ((x : Remembered) �
 each-of r [] others f = tt
 each-of r (x ∷ xs) others f = (inr (f x (inl refl)), each-of r xs others (λ y h. f y (inr h)))
 
+-- those that were there are from those that were there
+pub same-from : (r : Remembered) (rs : List Remembered) → AreFrom r rs rs
+same-from r rs = each-of r rs rs (λ x h. h)
+
 -- so they are with more others
 widened : (r : Remembered) (xs others more : List Remembered) → ((x : Remembered) → Among x others → Among x more) → AreFrom r others xs → AreFrom r more xs
 widened r [] others more f a = tt

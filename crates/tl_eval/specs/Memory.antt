@@ -1,5 +1,5 @@
 -- What the entries of a memory say.
-use Rattle.std.specs.Prelude.{◌==◌, ◌≤◌, ℕ, List, [], ◌∷◌, length, take, cond}
+use Rattle.std.specs.Prelude.{◌==◌, ◌<◌, ◌≤◌, ℕ, List, [], ◌∷◌, length, take, cond}
 use Rattle.tl_eval.specs.declared.memory.Entry.{Entry}
 use Rattle.tl_eval.specs.Remembered.{Remembered, remembered}
 use Rattle.tl_syntax.specs.Lists.{Each}
@@ -13,7 +13,7 @@ unfoldable pub said_in : ℕ → List Entry → List Remembered
 said_in g [] = []
 said_in g (e ∷ es) = cond (e.generation == g) (said e ∷ said_in g es) (said_in g es)
 
--- there are at least 8 entries, none of a generation after g
+-- there are at least 8 entries, or none at all, and none of a generation after g
 pub record AreUpTo (g : ℕ) (es : List Entry) : Type 0 where
-  pub several : 8 ≤ length es
+  pub several : 0 < length es → 8 ≤ length es
   pub before : Each (λ e. e.generation ≤ g) es

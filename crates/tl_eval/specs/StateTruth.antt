@@ -2,6 +2,7 @@
 use Rattle.std.specs.Prelude.{◌≤◌, ◌+◌, ◌*◌, ℕ, List, Bool, Option, Result}
 use Rattle.tl_eval.specs.Frames.{assignment_in, current_assignment}
 use Rattle.tl_eval.specs.Notes.{Evaluates}
+use Rattle.tl_eval.specs.Remembered.{Remembered, AreTruths}
 use Rattle.tl_eval.specs.Reading.{situation_in, situation_read, looked_read, rank}
 use Rattle.tl_eval.specs.declared.range.RangeNote.{RangeNote}
 use Rattle.tl_eval.specs.declared.reading.Reading.{Reading}
@@ -59,3 +60,7 @@ true_in_frame task w frame f = state_true (situation_in task w) (assignment_in f
 -- the operations that are looked at for it
 abbrev pub looked_in_frame : Task → World → List (Option Value) → FormulaTree → List Operation
 looked_in_frame task w frame f = looked_in_state (looks_of (plain_problem task.problem) w) (situation_in task w) (assignment_in frame) f
+
+-- each truth of a definition that is remembered is the truth in this world of the task
+abbrev pub Remembers : Task → World → List Remembered → Type 0
+Remembers task w rs = AreTruths (plain_problem task.problem) w rs

@@ -1,5 +1,5 @@
 // Values of variables, scope by scope.
-ghost use Rattle.std.specs.Prelude.{◌≡◌, ◌<◌, ◌≤◌, ◌==◌, ℕ, cond, length, IfOk, Some, None, slice_set};
+ghost use Rattle.std.specs.Prelude.{◌≡◌, [], ◌<◌, ◌≤◌, ◌==◌, ℕ, cond, length, IfOk, Some, None, slice_set};
 ghost use Rattle.tl_eval.specs.Frames.{assignment_in, given_back, AgreeElsewhere, AreKept, GivesBack};
 ghost use Rattle.tl_syntax.specs.Assignment.{bind};
 ghost use Rattle.tl_syntax.specs.Lists.{Each};
@@ -9,6 +9,7 @@ use crate::memory::{Memory, TRIES};
 use crate::scope::{put_in_scope, restore, saved};
 use std::alloc::Global;
 use std::marker::Model;
+use std::mem;
 use tl_syntax::{NoMemory, Value, Var};
 use tl_world::Task;
 
@@ -25,7 +26,7 @@ const PLACES: usize = 2047 + TRIES;
 const FEW_PLACES: usize = 255 + TRIES;
 
 /// Frames of variable values. A frame holds the variables of one scope, by their slots; the body of a definition has a frame of its own.
-/// Contracts see the caller's frame: for each of its 32 slots the value, where it has one. Beside the frames stands what one call of `state` remembers of definitions.
+/// Contracts see the caller's frame: for each of its 32 slots the value, where it has one. Beside the frames stands what one call of `state` remembers of definitions, or calls of `state_in` in one world, to which it is lent.
 #[derive(Drop)]
 pub struct Env {
     pub(crate) values: Vec<Option<Value>>,
@@ -140,6 +141,24 @@ impl Env {
         restore(values.as_mut_slice(), &frame);
         let memory = Memory::new(alloc, FEW_PLACES)?;
         Ok(Env { values, memory })
+    }
+
+    /// Lends what there is to remember truths of definitions, with nothing remembered, so that it is right in any world: for all that is read in one world by `state_in`.
+    /// Until it is taken back, a call of `state` remembers nothing. It takes no memory.
+    pub fn lend_memory(&mut self, alloc: Global) -> Memory
+        ensures nothing { result ≡ [] }
+        ensures frame { self.new ≡ self.old }
+    {
+        let mut memory = mem::replace(&mut self.memory, Memory::without_places(alloc));
+        memory.forget_all();
+        memory
+    }
+
+    /// Takes back what was lent. It takes no memory.
+    pub fn take_back(&mut self, memory: Memory)
+        ensures frame { self.new ≡ self.old }
+    {
+        self.memory = memory;
     }
 
     /// The values of the caller's frame, to be put back later. It takes no memory.

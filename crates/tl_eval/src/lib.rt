@@ -5,7 +5,7 @@
 //! - `env`: frames of variable values.
 //! - `kept`: the values of a quantifier's own slots, kept while its tuples stand there.
 //! - `laws`: what is proved of the tuples of bounds.
-//! - `memory`: the truths of definitions that a call remembers.
+//! - `memory`: the truths of definitions that are remembered in one world.
 //! - `pattern_of`: the pattern of a bound.
 //! - `range`: operations in 64 bits, and the note of one that is past range.
 //! - `reader`: the tuples of a bound, one after another.
@@ -35,8 +35,9 @@ mod tuples;
 
 pub use bound_truth::bound_holds;
 pub use env::Env;
+pub use memory::Memory;
 pub use range::RangeNote;
 pub use reader::TupleReader;
-pub use state_truth::state;
+pub use state_truth::{state, state_in};
 pub use term_value::term;
 pub use tuples::next_tuple;

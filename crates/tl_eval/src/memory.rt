@@ -1,4 +1,4 @@
-// The truths of definitions that a call remembers.
+// The truths of definitions that are remembered in one world.
 ghost use Rattle.std.specs.Prelude.{◌≡◌, ◌≤◌, ◌<◌, ◌+◌, [], length, take, IfOk, IfSome, IsTrue};
 ghost use Rattle.tl_eval.specs.Memory.{said};
 ghost use Rattle.tl_eval.specs.Remembered.{remembered, AreFrom};
@@ -129,9 +129,9 @@ fn place_from(entries: &[Entry], generation: u32, home: usize) -> usize
 }
 
 /// Truths of definitions, each with its definition, level and values. They stand in a table of fixed size: a new one may take the place of an old one.
-/// Contracts see the list of those that are remembered.
+/// Contracts see the list of those that are remembered. `Env::lend_memory` gives one in which nothing is remembered, and which so is right in any world.
 #[derive(Drop)]
-pub(crate) struct Memory {
+pub struct Memory {
     generation: u32,
     entries: Vec<Entry>,
 }
@@ -165,6 +165,16 @@ impl Memory {
         })
     }
 
+    /// Nothing remembered, and no place for anything. It takes no memory.
+    pub(crate) fn without_places(alloc: Global) -> Memory
+        ensures { result ≡ [] }
+    {
+        Memory {
+            generation: 1,
+            entries: Vec::new(alloc),
+        }
+    }
+
     /// Forgets all: no entry is of the next generation. It takes no memory, and a time that does not depend on the table's size, but for one call of 2^32.
     pub(crate) fn forget_all(&mut self)
         ensures { self.new ≡ [] }
@@ -181,6 +191,9 @@ impl Memory {
         requires { length values.now ≤ 8 }
         ensures { IfSome result (λ b. Among (remembered number level values.now b) self.now) }
     {
+        if self.entries.is_empty() {
+            return None;
+        }
         let home = home_of(hash, self.entries.len());
         for at in home..home + TRIES {
             let entry = &self.entries[at];
@@ -194,11 +207,14 @@ impl Memory {
         None
     }
 
-    /// Remembers whether a definition at a level holds of the values. Something else may be forgotten for it. It takes no memory.
+    /// Remembers whether a definition at a level holds of the values, where there is a place for it. Something else may be forgotten for it. It takes no memory.
     pub(crate) fn put(&mut self, hash: u64, number: u32, level: u32, values: &[Value], truth: bool)
         requires { length values.now ≤ 8 }
         ensures { AreFrom (remembered number level values.now truth) self.old self.new }
     {
+        if self.entries.is_empty() {
+            return;
+        }
         let generation = self.generation;
         let home = home_of(hash, self.entries.len());
         let at = place_from(self.entries.as_slice(), generation, home);

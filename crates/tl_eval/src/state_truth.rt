@@ -3,7 +3,7 @@ ghost use Rattle.std.specs.Prelude.{◌≡◌, ◌<◌, length, take, IfOk, IfEr
 ghost use Rattle.tl_eval.specs.Frames.{current_assignment, AgreeElsewhere};
 ghost use Rattle.tl_eval.specs.Notes.{AreInRange, Tells};
 ghost use Rattle.tl_eval.specs.Remembered.{AreTruths};
-ghost use Rattle.tl_eval.specs.StateTruth.{true_in_frame, looked_in_frame, IsTruthIn, IsDefinitionTruth, FitsIn, TakesIn, HasRoomIn};
+ghost use Rattle.tl_eval.specs.StateTruth.{true_in_frame, looked_in_frame, Remembers, IsTruthIn, IsDefinitionTruth, FitsIn, TakesIn, HasRoomIn};
 ghost use Rattle.tl_syntax.specs.Fits.{Fits};
 ghost use Rattle.tl_syntax.specs.Junctions.{joined, quantified};
 ghost use Rattle.tl_syntax.specs.Signature.{signature_of, Takes};
@@ -326,4 +326,26 @@ pub fn state(task: &Task, w: &World, env: &mut Env, f: &Formula) -> Result<bool,
         reading,
         f,
     )
+}
+
+/// `state` for whoever reads many formulas in one world: what it remembers of definitions is kept for the next one. Each truth that is remembered is the one in this world, before and after the call.
+/// It takes no memory, and leaves the caller's frame as it was.
+pub fn state_in(
+    task: &Task,
+    w: &World,
+    env: &mut Env,
+    memory: &mut Memory,
+    f: &Formula,
+) -> Result<bool, RangeNote>
+    requires fits { Fits (signature_of task.now.problem.domain) [] (tree_of_formula f.now) }
+    requires state { IsState (tree_of_formula f.now) }
+    requires remembers { Remembers task.now w.now memory.old }
+    ensures value { IfOk result (λ b. b ≡ true_in_frame task.now w.now env.old (tree_of_formula f.now)) }
+    ensures in_range { IfOk result (λ b. AreInRange (looked_in_frame task.now w.now env.old (tree_of_formula f.now))) }
+    ensures note { IfErr result (λ n. Tells (looked_in_frame task.now w.now env.old (tree_of_formula f.now)) n) }
+    ensures frame { env.new ≡ env.old }
+    ensures remembers { Remembers task.now w.now memory.new }
+{
+    let reading = Reading::whole(task);
+    truth_of(task, w, env.values.as_mut_slice(), memory, reading, f)
 }

@@ -1,0 +1,53 @@
+use Rattle.std.proofs.Common.{◌≡◌, length, take, List, Option, sym, ap, ◌∙◌, subst, arith, rules}
+use Rattle.std.proofs.lemmas.List.{length-map}
+use Rattle.tl_eval.specs.Frames.{assignment_in}
+use Rattle.tl_eval.specs.StateTruth.{IsTruth, HaveSlots}
+use Rattle.tl_eval.proofs.BodyLaws.{count-plain, room-whole}
+use Rattle.tl_eval.proofs.WholeLaws.{same-frames, whole-fits, whole-is, the-value, the-range, the-note}
+use Rattle.tl_syntax.specs.declared.definition.Definition.{Definition}
+use Rattle.tl_syntax.specs.declared.value.Value.{Value}
+use Rattle.tl_syntax.specs.Signature.{signature_of}
+use Rattle.tl_syntax.specs.TreeOfFormula.{tree_of_formula}
+use Rattle.tl_terms.specs.Definitions.{situation_of}
+use Rattle.tl_terms.specs.Looked.{looked_in_state, looks_of}
+use Rattle.tl_terms.specs.Truth.{state_true}
+use Rattle.tl_terms.specs.ProblemMeaning.{plain_problem}
+use Rattle.tl_eval.proofs.state_truth.state_in.Goals as goal
+
+pub truth_of-requires-clause-fits : goal.truth_of-requires-clause-fits
+truth_of-requires-clause-fits c =
+    whole-fits (signature_of c.args.task.now.problem.domain) c.whole-reading.result.number (tree_of_formula c.args.f.now)
+    (omega (arith, length-map c.args.task.now.problem.domain.definitions (λ (x : Definition). length x.params), c.whole-reading.ensures.number)) c.requires.fits
+
+pub truth_of-requires-clause-room : goal.truth_of-requires-clause-room
+truth_of-requires-clause-room c =
+    let size : length c.as_mut_slice.result.now ≡ 4128 = ap (λ (xs : List (Option Value)). length xs) c.as_mut_slice.ensures.value ∙ c.env.invariant in
+    subst (λ l. HaveSlots (plain_problem c.args.task.now.problem) c.whole-reading.result.number l (length c.as_mut_slice.result.now)) (sym c.whole-reading.ensures.level)
+    (room-whole c.args.task.now.problem c.whole-reading.result.number (length c.as_mut_slice.result.now) (omega (arith, c.whole-reading.ensures.number)) (omega arith))
+
+pub returns-clause-value : goal.returns-clause-value
+returns-clause-value c =
+    let same : take 32 c.as_mut_slice.result.now ≡ c.args.env.now = ap (take 32) c.as_mut_slice.ensures.value ∙ c.env.view_is in
+    let given = subst (λ (x : List (Option Value)). IsTruth (plain_problem c.args.task.now.problem) c.args.w.now c.whole-reading.result.number c.whole-reading.result.level (assignment_in x) (tree_of_formula c.args.f.now) c.truth_of.result) same c.truth_of.ensures.truth in
+    let whole = whole-is (plain_problem c.args.task.now.problem) c.args.w.now c.whole-reading.result.number c.whole-reading.result.level (assignment_in c.args.env.now) (tree_of_formula c.args.f.now) c.truth_of.result (omega (arith, count-plain c.args.task.now.problem, c.whole-reading.ensures.number)) given in
+    the-value (state_true (situation_of (plain_problem c.args.task.now.problem) c.args.w.now) (assignment_in c.args.env.now) (tree_of_formula c.args.f.now)) (looked_in_state (looks_of (plain_problem c.args.task.now.problem) c.args.w.now) (situation_of (plain_problem c.args.task.now.problem) c.args.w.now) (assignment_in c.args.env.now) (tree_of_formula c.args.f.now)) c.truth_of.result whole
+
+pub returns-clause-in_range : goal.returns-clause-in_range
+returns-clause-in_range c =
+    let same : take 32 c.as_mut_slice.result.now ≡ c.args.env.now = ap (take 32) c.as_mut_slice.ensures.value ∙ c.env.view_is in
+    let given = subst (λ (x : List (Option Value)). IsTruth (plain_problem c.args.task.now.problem) c.args.w.now c.whole-reading.result.number c.whole-reading.result.level (assignment_in x) (tree_of_formula c.args.f.now) c.truth_of.result) same c.truth_of.ensures.truth in
+    let whole = whole-is (plain_problem c.args.task.now.problem) c.args.w.now c.whole-reading.result.number c.whole-reading.result.level (assignment_in c.args.env.now) (tree_of_formula c.args.f.now) c.truth_of.result (omega (arith, count-plain c.args.task.now.problem, c.whole-reading.ensures.number)) given in
+    the-range (state_true (situation_of (plain_problem c.args.task.now.problem) c.args.w.now) (assignment_in c.args.env.now) (tree_of_formula c.args.f.now)) (looked_in_state (looks_of (plain_problem c.args.task.now.problem) c.args.w.now) (situation_of (plain_problem c.args.task.now.problem) c.args.w.now) (assignment_in c.args.env.now) (tree_of_formula c.args.f.now)) c.truth_of.result whole
+
+pub returns-clause-note : goal.returns-clause-note
+returns-clause-note c =
+    let same : take 32 c.as_mut_slice.result.now ≡ c.args.env.now = ap (take 32) c.as_mut_slice.ensures.value ∙ c.env.view_is in
+    let given = subst (λ (x : List (Option Value)). IsTruth (plain_problem c.args.task.now.problem) c.args.w.now c.whole-reading.result.number c.whole-reading.result.level (assignment_in x) (tree_of_formula c.args.f.now) c.truth_of.result) same c.truth_of.ensures.truth in
+    let whole = whole-is (plain_problem c.args.task.now.problem) c.args.w.now c.whole-reading.result.number c.whole-reading.result.level (assignment_in c.args.env.now) (tree_of_formula c.args.f.now) c.truth_of.result (omega (arith, count-plain c.args.task.now.problem, c.whole-reading.ensures.number)) given in
+    the-note (state_true (situation_of (plain_problem c.args.task.now.problem) c.args.w.now) (assignment_in c.args.env.now) (tree_of_formula c.args.f.now)) (looked_in_state (looks_of (plain_problem c.args.task.now.problem) c.args.w.now) (situation_of (plain_problem c.args.task.now.problem) c.args.w.now) (assignment_in c.args.env.now) (tree_of_formula c.args.f.now)) c.truth_of.result whole
+
+pub returns-clause-frame : goal.returns-clause-frame
+returns-clause-frame c =
+    let kept : length c.truth_of.new.frames ≡ length c.env.inside.values.items = c.truth_of.auto.frames ∙ ap (λ (xs : List (Option Value)). length xs) c.as_mut_slice.ensures.value in
+    same-frames 32 c.env.inside.values.len c.env.inside.values.items c.truth_of.new.frames kept c.env.inside.values.ok.0
+    ∙ (c.truth_of.ensures.frame ∙ (ap (take 32) c.as_mut_slice.ensures.value ∙ c.env.view_is))
