@@ -41,3 +41,5 @@ pub mod Beside
 pub mod Falling
 pub mod Unchanged
 pub mod Unset
+pub mod TableNumbers
+pub mod KnownAfter

@@ -33,7 +33,7 @@ module _ {X : Type 0} where
         | false ↦ find-append q es fs
       ]
 
-  find-keyed : (n m : ℕ) (a : List Value) (rs : PlainRows X) → dict.find key_cmp (n, a) (keyed m rs) ≡ cond (is_eq (nat_cmp n m)) (dict.find row_cmp a rs) None
+  pub find-keyed : (n m : ℕ) (a : List Value) (rs : PlainRows X) → dict.find key_cmp (n, a) (keyed m rs) ≡ cond (is_eq (nat_cmp n m)) (dict.find row_cmp a rs) None
   find-keyed n m a [] = elim (nat_cmp n m) as (λ r. ◌≡◌ {A = Option X} None (cond (is_eq r) None None)) [ Less ↦ refl | Equal ↦ refl | Greater ↦ refl ]
   find-keyed n m a (r ∷ rs) =
       ap (λ u. cond (is_eq (ordering_then (nat_cmp n m) (row_cmp a r.0))) (Some r.1) u) (find-keyed n m a rs)

@@ -47,7 +47,7 @@ named-passes p (f ∷ fs) q h m =
       | false ↦ λ e t. named-passes p fs q k.1 t
     ]) refl m
 
-contains-without : (s : set.FinSet key_cmp) (fs : List Fact) (q : Key) → set.contains (without_all s (map fact_key fs)) q ≡ (not (lists_fact fs q) && set.contains s q)
+pub contains-without : (s : set.FinSet key_cmp) (fs : List Fact) (q : Key) → set.contains (without_all s (map fact_key fs)) q ≡ (not (lists_fact fs q) && set.contains s q)
 contains-without s [] q = refl
 contains-without s (f ∷ fs) q =
     set.contains-remove key_total (without_all s (map fact_key fs)) (fact_key f) q
@@ -84,19 +84,20 @@ number-after ws from n before found dels adds sets p q f g w e =
     let places = g ∙ ap (λ (v : World). changed_places v.places sets) same in
     q ∙ λ i. Some (record { facts = facts i; places = places i })
 
+-- the facts of a table are its keys
+pub rows-keyed : (n : ℕ) (rows : List (List Value)) → map (λ e. e.0) (keyed n (map fact_row rows)) ≡ row_keys n rows
+rows-keyed n [] = refl
+rows-keyed n (r ∷ rows) = ap (λ ks. (n, r) ∷ ks) (rows-keyed n rows)
+
 -- the facts of the tables are their keys
 keys-any : (p : Key → Bool) (ts : List (Named (List (List Value)))) → list_any p (map (λ e. e.0) (entries_of (fact_tables ts))) ≡ list_any p (table_keys ts)
 keys-any p ts = ap (list_any p) (same ts)
   where
-    same-rows : (n : ℕ) (rows : List (List Value)) → map (λ e. e.0) (keyed n (map fact_row rows)) ≡ row_keys n rows
-    same-rows n [] = refl
-    same-rows n (r ∷ rows) = ap (λ ks. (n, r) ∷ ks) (same-rows n rows)
-
     same : (us : List (Named (List (List Value)))) → map (λ e. e.0) (entries_of (fact_tables us)) ≡ table_keys us
     same [] = refl
     same (u ∷ us) =
         map-append (λ e. e.0) (keyed u.name (map fact_row u.rows.value)) (entries_of (fact_tables us))
-        ∙ λ i. same-rows u.name u.rows.value i ++ same us i
+        ∙ λ i. rows-keyed u.name u.rows.value i ++ same us i
 
 module _ (fs : List Fact) where
   pub alike-facts : (ts us : List (Named (List (List Value)))) → AreAlikeBeside fs (table_keys ts) (table_keys us) → AreSameBeside fs (facts_of ts) (facts_of us)

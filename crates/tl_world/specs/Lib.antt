@@ -20,3 +20,4 @@ pub mod Edits
 pub mod Calls
 pub mod Unchanged
 pub mod Unset
+pub mod TableNumbers

@@ -1,5 +1,5 @@
 -- Facts that changes do not name, and the world that changes make.
-use Rattle.std.specs.Prelude.{◌≡◌, ◌||◌, ℕ, Bool, false, not, List, [], ◌∷◌, ◌++◌, map, slice_get, Some}
+use Rattle.std.specs.Prelude.{◌≡◌, ◌<◌, ◌||◌, ℕ, Bool, false, not, List, [], ◌∷◌, ◌++◌, map, length, slice_get, slice_index_or, Some}
 use Rattle.std.specs.List.{list_any}
 use Rattle.std.specs.Ordering.{eq_by_cmp}
 use Rattle.tl_syntax.specs.declared.fact.Fact.{Fact}
@@ -39,6 +39,10 @@ AreRowsBeside dels adds n rows others = AreAlikeBeside (dels ++ adds) (row_keys 
 -- the tables of two worlds have them so
 abbrev pub AreTablesBeside : List Fact → List Fact → List (Named (List (List Value))) → List (Named (List (List Value))) → Type 0
 AreTablesBeside dels adds ts us = AreAlikeBeside (dels ++ adds) (table_keys ts) (table_keys us)
+
+-- where tables have one number and one predicate, they have the same facts
+abbrev pub TellRows : List (Named (List (List Value))) → List ℕ → List (Named (List (List Value))) → List ℕ → Type 0
+TellRows ts ks us ls = (i j k : ℕ) (t u : Named (List (List Value))) → i < length ts → j < length us → t ≡ slice_index_or ts i t → u ≡ slice_index_or us j u → t.name ≡ u.name → slice_get ks i ≡ Some k → slice_get ls j ≡ Some k → AreRowsBeside [] [] t.name t.rows.value u.rows.value
 
 -- the world without some facts, with others, and with the values that are set; of two for one place the earlier counts
 abbrev pub changed_world : World → List Fact → List Fact → List PlaceValue → World

@@ -1,10 +1,11 @@
 // Whether a world is the one that changes make of another.
 ghost use Rattle.std.specs.List.{list_all};
-ghost use Rattle.std.specs.Prelude.{◌≡◌, true};
+ghost use Rattle.std.specs.Prelude.{◌≡◌, [], true};
 ghost use Rattle.tl_syntax.specs.Keys.{fact_key};
 ghost use Rattle.tl_terms.specs.World.{has_fact};
 ghost use Rattle.tl_world.specs.Edits.{changed_places};
 ghost use Rattle.tl_world.specs.Moves.{changed_facts};
+ghost use Rattle.tl_world.specs.TableNumbers.{TellAlike};
 ghost use Rattle.tl_world.specs.Unchanged.{is_gone};
 ghost use Rattle.tl_world.specs.Unset.{has_value};
 
@@ -27,19 +28,6 @@ impl World {
         dels.iter().all(|f| {
             !self.holds(f.pred, f.args.as_slice()) || is_one_of(adds, f.pred, f.args.as_slice())
         })
-    }
-
-    /// Whether the facts of this world are found to be those that the changes make of the facts of the world `from`. It takes no memory.
-    fn has_changed_facts(&self, from: &World, dels: &[Fact], adds: &[Fact]) -> bool
-        ensures { result ≡ true → self.now.facts ≡ changed_facts from.now.facts dels.now adds.now }
-    {
-        if !self.holds_added(adds) {
-            return false;
-        }
-        if !self.lacks_deleted(dels, adds) {
-            return false;
-        }
-        self.is_beside(from, dels, adds)
     }
 
     /// Whether the places that are set have their values. It takes no memory.
@@ -68,6 +56,55 @@ impl World {
             → self.now.facts ≡ changed_facts from.now.facts dels.now adds.now }
         ensures places { result ≡ true → self.now.places ≡ changed_places from.now.places sets.now }
     {
-        self.has_changed_facts(from, dels, adds) && self.has_changed_places(from, sets)
+        let this = Numbered {
+            world: self,
+            numbers: &[],
+        };
+        let before = Numbered {
+            world: from,
+            numbers: &[],
+        };
+        this.is_after(&before, dels, adds, sets)
+    }
+}
+
+/// A world with the numbers of its tables of facts, from the first one on, as far as these are known.
+#[derive(Clone, Copy)]
+pub(crate) struct Numbered<'a> {
+    pub(crate) world: &'a World,
+    pub(crate) numbers: &'a [u32],
+}
+
+impl<'a> Numbered<'a> {
+    /// Whether the facts of this world are found to be those that the changes make of the facts of the world `from`. It takes no memory.
+    fn has_changed_facts(&self, from: &Numbered<'a>, dels: &[Fact], adds: &[Fact]) -> bool
+        requires { TellAlike self.now.world.now self.now.numbers.now from.now.world.now from.now.numbers.now }
+        ensures { result ≡ true
+            → self.now.world.now.facts ≡ changed_facts from.now.world.now.facts dels.now adds.now }
+    {
+        if !self.world.holds_added(adds) {
+            return false;
+        }
+        if !self.world.lacks_deleted(dels, adds) {
+            return false;
+        }
+        self.world.is_beside(self.numbers, from, dels, adds)
+    }
+
+    /// Whether this world is found to be the one that the changes make of the world `from`, as `World::is_after` finds it. Tables of facts with one number are passed without a look at their rows. It takes no memory.
+    pub(crate) fn is_after(
+        &self,
+        from: &Numbered<'a>,
+        dels: &[Fact],
+        adds: &[Fact],
+        sets: &[PlaceValue],
+    ) -> bool
+        requires { TellAlike self.now.world.now self.now.numbers.now from.now.world.now from.now.numbers.now }
+        ensures facts { result ≡ true
+            → self.now.world.now.facts ≡ changed_facts from.now.world.now.facts dels.now adds.now }
+        ensures places { result ≡ true
+            → self.now.world.now.places ≡ changed_places from.now.world.now.places sets.now }
+    {
+        self.has_changed_facts(from, dels, adds) && self.world.has_changed_places(from.world, sets)
     }
 }

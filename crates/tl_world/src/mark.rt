@@ -14,11 +14,16 @@ fn part(code: u64, name: u32, factor: u64) -> u64 {
     code.wrapping_mul(u64::from(name).wrapping_mul(factor) | 1)
 }
 
+/// The mark of the facts of a predicate: the sum of those of each.
+pub(crate) fn mark_of_rows(rows: &Rows, pred: u32) -> u64 {
+    part(rows.code(), pred, FACTORS[0])
+}
+
 /// The mark of tables of facts: the sum of those of their facts.
 pub(crate) fn mark_of_facts(tables: &[Named<Rows>]) -> u64 {
     let mut mark = 0u64;
     for t in tables {
-        mark = mark.wrapping_add(part(t.rows.code(), t.name, FACTORS[0]));
+        mark = mark.wrapping_add(mark_of_rows(t.rows.as_ref(), t.name));
     }
     mark
 }

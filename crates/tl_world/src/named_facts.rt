@@ -2,6 +2,7 @@
 ghost use Rattle.std.specs.Ordering.{eq_by_cmp};
 ghost use Rattle.std.specs.Prelude.{◌≡◌, ◌++◌};
 ghost use Rattle.tl_syntax.specs.Keys.{key_cmp, fact_key};
+ghost use Rattle.tl_world.specs.TableNumbers.{lists_pred};
 ghost use Rattle.tl_world.specs.Unchanged.{lists_fact};
 
 use crate::same_row::is_same_row;
@@ -29,6 +30,8 @@ pub(crate) fn is_named(dels: &[Fact], adds: &[Fact], pred: u32, args: &[Value]) 
 }
 
 /// Whether one of the facts is of the predicate. It takes no memory.
-pub(crate) fn has_pred(facts: &[Fact], pred: u32) -> bool {
+pub(crate) fn has_pred(facts: &[Fact], pred: u32) -> bool
+    ensures { result ≡ lists_pred facts.now pred }
+{
     facts.iter().any(|f| f.pred == pred)
 }

@@ -1,6 +1,6 @@
 // Tables of two worlds that have the same facts but for those that changes name.
-ghost use Rattle.std.specs.Prelude.{◌≡◌, ◌<◌, [], length, drop, true};
-ghost use Rattle.tl_world.specs.Unchanged.{AreRowsBeside, AreTablesBeside};
+ghost use Rattle.std.specs.Prelude.{◌≡◌, ◌<◌, ℕ, [], length, drop, slice_get, Some, true};
+ghost use Rattle.tl_world.specs.Unchanged.{AreRowsBeside, AreTablesBeside, TellRows};
 
 use crate::Rows;
 use crate::named::Named;
@@ -8,7 +8,21 @@ use crate::named_facts::has_pred;
 use crate::rows_beside::{are_named_from, are_rows_beside};
 use tl_syntax::Fact;
 
-/// Whether the two tables of one predicate are found to have the same facts, but for those that the changes name. It takes no memory.
+/// Tables of facts with their numbers, as far as these are known: where two tables of one predicate have one number, their facts are the same.
+#[derive(Clone, Copy)]
+pub(crate) struct NumberedTables<'a> {
+    pub(crate) tables: &'a [Named<Rows>],
+    pub(crate) numbers: &'a [u32],
+}
+
+/// Whether there is a number at both places, and the same one. It takes no memory.
+fn is_same_number(numbers: &[u32], i: usize, others: &[u32], j: usize) -> bool
+    ensures { result ≡ true → (k : ℕ) × (slice_get numbers.now i ≡ Some k) × (slice_get others.now j ≡ Some k) }
+{
+    i < numbers.len() && j < others.len() && numbers[i] == others[j]
+}
+
+/// Whether the two tables of one predicate, which have different numbers or none, are found to have the same facts, but for those that the changes name. It takes no memory.
 fn is_table_beside(pred: u32, rows: &Rows, others: &Rows, dels: &[Fact], adds: &[Fact]) -> bool
     ensures { result ≡ true → AreRowsBeside dels.now adds.now pred rows.now others.now }
 {
@@ -36,22 +50,27 @@ fn are_tables_named_from(tables: &[Named<Rows>], from: usize, dels: &[Fact], add
 
 /// Whether the two lists of tables are found to have the same facts, but for those that the changes name. It takes no memory.
 ///
-/// Both lists are gone over once, side by side.
+/// Both lists are gone over once, side by side. Tables with one number are passed without a look at their rows.
 pub(crate) fn are_tables_beside(
-    tables: &[Named<Rows>],
-    others: &[Named<Rows>],
+    these: &NumberedTables<'_>,
+    those: &NumberedTables<'_>,
     dels: &[Fact],
     adds: &[Fact],
 ) -> bool
-    ensures { result ≡ true → AreTablesBeside dels.now adds.now tables.now others.now }
+    requires { TellRows these.now.tables.now these.now.numbers.now those.now.tables.now those.now.numbers.now }
+    ensures { result ≡ true → AreTablesBeside dels.now adds.now these.now.tables.now those.now.tables.now }
 {
+    let tables = these.tables;
+    let others = those.tables;
     let mut i = 0;
     let mut j = 0;
     while i < tables.len() && j < others.len() {
         let t = &tables[i];
         let u = &others[j];
         if t.name == u.name {
-            if !is_table_beside(t.name, t.rows.as_ref(), u.rows.as_ref(), dels, adds) {
+            if !is_same_number(these.numbers, i, those.numbers, j)
+                && !is_table_beside(t.name, t.rows.as_ref(), u.rows.as_ref(), dels, adds)
+            {
                 return false;
             }
             i += 1;

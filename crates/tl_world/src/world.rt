@@ -3,7 +3,7 @@ ghost use Rattle.std.specs.FinMap as dict;
 ghost use Rattle.std.specs.FinSet as set;
 ghost use Rattle.std.specs.Hash.{same_Alike};
 ghost use Rattle.std.specs.List.{list_all};
-ghost use Rattle.std.specs.Prelude.{◌≡◌, ◌↔◌, ◌<◌, ◌&&◌, ◌++◌, List, [], map, length, not, true, false, Some, None, IfNone, IfSome, IfOk};
+ghost use Rattle.std.specs.Prelude.{◌≡◌, ◌↔◌, ◌<◌, ◌&&◌, ◌++◌, List, [], map, length, slice_get, not, true, false, Some, None, IfNone, IfSome, IfOk};
 ghost use Rattle.tl_syntax.proofs.Telling.{tells-partial, tells-equivalence};
 ghost use Rattle.tl_syntax.specs.Lists.{Among, Rises};
 ghost use Rattle.tl_terms.proofs.SameWorlds.{world-tells};
@@ -13,6 +13,7 @@ ghost use Rattle.tl_terms.specs.SameWorlds.{world_eq};
 ghost use Rattle.tl_terms.specs.World.{has_fact, value_at};
 ghost use Rattle.tl_world.specs.Calls.{ArePlacesOf, IsNamedByParts, StaysNamedWith, gives_row};
 ghost use Rattle.tl_world.specs.Codes.{tables_code};
+ghost use Rattle.tl_world.specs.TableNumbers.{preds_in, AreAlikeOf, TellAlike};
 ghost use Rattle.tl_world.specs.Tables.{InOrder, fact_tables, place_tables, set_of, map_of, row_cmp};
 ghost use Rattle.tl_world.specs.WorldCode.{world_fed};
 ghost use Rattle.tl_world.specs.Edits.{changed_places};
@@ -20,12 +21,13 @@ ghost use Rattle.tl_world.specs.Unset.{AreSameUnset};
 ghost use Rattle.tl_world.specs.Moves.{AreSameBeside, changed_facts};
 
 use crate::facts::change_facts;
-use crate::mark::{changed_mark, mark_of_facts, mark_of_places, set_mark};
+use crate::is_after::Numbered;
+use crate::mark::{changed_mark, mark_of_facts, mark_of_places, mark_of_rows, set_mark};
 use crate::named::{Named, find_table, share};
 use crate::places::{change_places, find_place};
 use crate::places_beside::are_place_tables_beside;
 use crate::runs::find_row;
-use crate::tables_beside::are_tables_beside;
+use crate::tables_beside::{NumberedTables, are_tables_beside};
 use crate::{PlaceRow, PlaceRows, Rows};
 use std::alloc::Global;
 use std::hash::{FoldHasher, Hash, Hasher};
@@ -217,12 +219,72 @@ impl World {
         Ok(whole(facts, places))
     }
 
-    /// Whether the worlds are found to have the same facts, but for those that the changes name. It takes no memory.
-    pub(crate) fn is_beside(&self, other: &World, dels: &[Fact], adds: &[Fact]) -> bool
-        ensures { result ≡ true
-            → AreSameBeside (dels.now ++ adds.now) self.now.facts other.now.facts }
+    /// How many predicates have facts.
+    pub(crate) fn pred_count(&self) -> usize
+        ensures { result ≡ length (preds_in self.now) }
     {
-        are_tables_beside(self.facts.as_slice(), other.facts.as_slice(), dels, adds)
+        let tables = self.facts.as_slice();
+        tables.len()
+    }
+
+    /// The predicate at place `i` of those that have facts.
+    pub(crate) fn pred(&self, i: usize) -> u32
+        requires { i < length (preds_in self.now) }
+        ensures { slice_get (preds_in self.now) i ≡ Some result }
+    {
+        self.facts[i].name
+    }
+
+    /// The place of the predicate among those that have facts.
+    pub(crate) fn place_of_pred(&self, pred: u32) -> Option<usize>
+        ensures { IfSome result (λ i. slice_get (preds_in self.now) i ≡ Some pred) }
+    {
+        match find_table(self.facts.as_slice(), pred) {
+            Ok(i) => Some(i),
+            Err(_) => None,
+        }
+    }
+
+    /// A number that is the same for worlds with the same facts of the predicate, and seldom for others. It takes no memory.
+    pub(crate) fn mark_of_pred(&self, pred: u32) -> u64 {
+        match self.rows(pred) {
+            Some(rows) => mark_of_rows(rows, pred),
+            None => 0,
+        }
+    }
+
+    /// Whether the worlds are found to have the same facts of the predicate. It takes no memory.
+    pub(crate) fn is_alike(&self, other: &World, pred: u32) -> bool
+        ensures { result ≡ true → AreAlikeOf pred self.now other.now }
+    {
+        match (self.rows(pred), other.rows(pred)) {
+            (Some(rows), Some(others)) => *rows == *others,
+            _ => false,
+        }
+    }
+
+    /// Whether the worlds are found to have the same facts, but for those that the changes name. It takes no memory.
+    pub(crate) fn is_beside<'a>(
+        &'a self,
+        numbers: &'a [u32],
+        other: &Numbered<'a>,
+        dels: &[Fact],
+        adds: &[Fact],
+    ) -> bool
+        requires { TellAlike self.now numbers.now other.now.world.now other.now.numbers.now }
+        ensures { result ≡ true
+            → AreSameBeside (dels.now ++ adds.now) self.now.facts other.now.world.now.facts }
+    {
+        let these = NumberedTables {
+            tables: self.facts.as_slice(),
+            numbers,
+        };
+        let world = other.world;
+        let those = NumberedTables {
+            tables: world.facts.as_slice(),
+            numbers: other.numbers,
+        };
+        are_tables_beside(&these, &those, dels, adds)
     }
 
     /// Whether the places of the worlds are found to have the same values, but for those that are set. It takes no memory.

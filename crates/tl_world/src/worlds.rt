@@ -1,21 +1,28 @@
 // Worlds by numbers.
 ghost use Rattle.std.specs.Prelude.{◌≡◌, ◌<◌, ℕ, [], length, slice_get, Some, Ok, IfOk, IfSome, OnErr};
+ghost use Rattle.tl_terms.specs.World.{World as PlainWorld};
 ghost use Rattle.tl_world.specs.NumberedLists.{IsOnce, IsAdded, Stay};
-ghost use Rattle.tl_world.specs.Unchanged.{IsNumberAfter};
+ghost use Rattle.tl_world.specs.TableNumbers.{AreNumbered, AreTableNumbers, ComesFrom};
+ghost use Rattle.tl_world.specs.Unchanged.{IsNumberAfter, changed_world};
 
 use crate::World;
+use crate::is_after::Numbered;
+use crate::table_numbers::{Source, TableNumbers};
 use indexmap::{IndexMap, IndexSet};
 use std::alloc::Global;
 use tl_syntax::{Fact, NoMemory, PlaceValue};
 
 /// Worlds by numbers: each number below `len` is of one world, and equal worlds have one number. Numbers keep their worlds after every call, a refused one included.
 ///
-/// A world is found by its code, and then compared with the kept worlds of that code. One that changes make of a kept world is guessed by its mark before it is made.
+/// A world is found by its code, and then compared with the kept worlds of that code. One that changes make of a kept world is guessed by its mark before it is made. Tables of facts have numbers too, so that those which the changes leave alone are compared by their numbers.
 #[derive(Drop)]
 pub struct Worlds {
+    alloc: Global,
     table: IndexSet<World>,
     by_mark: IndexMap<u64, usize>,
+    numbers: TableNumbers,
     pub ghost one_to_one: { IsOnce table.keys },
+    ghost numbered: { AreNumbered table.keys numbers.starts.items numbers.all.items },
 }
 
 /// Notes the number of a new world with the mark, where there is memory for it.
@@ -36,8 +43,10 @@ impl Worlds {
         ensures { worlds_in result ≡ [] }
     {
         Worlds {
+            alloc,
             table: IndexSet::new(alloc),
             by_mark: IndexMap::new(alloc),
+            numbers: TableNumbers::new(alloc),
         }
     }
 
@@ -65,10 +74,40 @@ impl Worlds {
         ensures stay { Stay (worlds_in self.old) (worlds_in self.new) }
         ensures refused { OnErr result (worlds_in self.new ≡ worlds_in self.old) }
     {
+        let source = Source {
+            from: self.len(),
+            dels: &[],
+            adds: &[],
+        };
+        self.keep(world, &source)
+    }
+
+    /// The number of the world, which comes from a source: the one that it has, or else the next one.
+    fn keep(&mut self, world: World, source: &Source<'_>) -> Result<usize, NoMemory>
+        requires { ComesFrom (worlds_in self.old) source.now.from source.now.dels.now source.now.adds.now world }
+        ensures number { IfOk result (λ n. slice_get (worlds_in self.new) n ≡ Some world) }
+        ensures known { (n : ℕ) → slice_get (worlds_in self.old) n ≡ Some world → result ≡ Ok n }
+        ensures kept { IsAdded (worlds_in self.old) world (worlds_in self.new) }
+        ensures stay { Stay (worlds_in self.old) (worlds_in self.new) }
+        ensures refused { OnErr result (worlds_in self.new ≡ worlds_in self.old) }
+    {
         let mark = world.mark();
         let (number, is_new) = self.table.insert_full(world)?;
         note(&mut self.by_mark, is_new, mark, number);
+        self.numbers.add(&self.table, number, source);
         Ok(number)
+    }
+
+    /// The world of the number, with the numbers of its tables. It takes no memory.
+    fn numbered(&self, number: usize) -> Numbered<'_>
+        requires { number < length (worlds_in self.now) }
+        ensures world { slice_get (worlds_in self.now) number ≡ Some result.world.now }
+        ensures numbers { AreTableNumbers (worlds_in self.now) result.world.now result.numbers.now }
+    {
+        Numbered {
+            world: self.get(number),
+            numbers: self.numbers.of(number),
+        }
     }
 
     /// The number of the world that the changes make of the world of the number `from`, where it is found without making that world. It may have a number where none is found. It takes no memory.
@@ -85,12 +124,41 @@ impl Worlds {
         ensures { IfSome result
             (IsNumberAfter (worlds_in self.now) from dels.now adds.now sets.now) }
     {
-        let before = self.get(from);
-        let number = *self.by_mark.get(&before.mark_after(dels, adds, sets))?;
-        if number < self.table.len() && self.get(number).is_after(before, dels, adds, sets) {
+        let before = self.numbered(from);
+        let number = *self
+            .by_mark
+            .get(&before.world.mark_after(dels, adds, sets))?;
+        if number < self.table.len() && self.numbered(number).is_after(&before, dels, adds, sets) {
             Some(number)
         } else {
             None
         }
+    }
+
+    /// The number of the world that the changes make of the world of the number `from`: the one that it has, or else the next one. It fails for want of memory alone.
+    ///
+    /// A world that has a number is seldom made, but is found as by `find_after`. The tables of a new world that the changes leave alone keep the numbers that they have in the world of `from`.
+    pub fn number_after(
+        &mut self,
+        from: usize,
+        dels: &[Fact],
+        adds: &[Fact],
+        sets: &[PlaceValue],
+    ) -> Result<usize, NoMemory>
+        requires { from < length (worlds_in self.old) }
+        ensures number { IfOk result
+            (IsNumberAfter (worlds_in self.new) from dels.now adds.now sets.now) }
+        ensures known { IfOk result (λ r. (n : ℕ)
+            → IsNumberAfter (worlds_in self.old) from dels.now adds.now sets.now n → r ≡ n) }
+        ensures kept { (w : PlainWorld) → slice_get (worlds_in self.old) from ≡ Some w
+            → IsAdded (worlds_in self.old) (changed_world w dels.now adds.now sets.now) (worlds_in self.new) }
+        ensures stay { Stay (worlds_in self.old) (worlds_in self.new) }
+        ensures refused { OnErr result (worlds_in self.new ≡ worlds_in self.old) }
+    {
+        if let Some(known) = self.find_after(from, dels, adds, sets) {
+            return Ok(known);
+        }
+        let next = self.get(from).changed(self.alloc, dels, adds, sets)?;
+        self.keep(next, &Source { from, dels, adds })
     }
 }

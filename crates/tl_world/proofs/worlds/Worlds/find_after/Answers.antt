@@ -1,8 +1,13 @@
-use Rattle.tl_world.proofs.Unchanged.{number-after}
 use Rattle.tl_world.specs.WorldNumbers.{worlds_in}
+use Rattle.tl_world.proofs.TableNumbers.{numbers-tell}
+use Rattle.tl_world.proofs.Unchanged.{number-after}
 use Rattle.tl_world.proofs.worlds.Worlds.find_after.Goals as goal
+
+pub is_after-requires : goal.is_after-requires
+is_after-requires c =
+    numbers-tell (worlds_in c.args.self.now) c.numbered.result.world.now c.numbered-before.result.world.now c.numbered.result.numbers.now c.numbered-before.result.numbers.now c.numbered.ensures.numbers c.numbered-before.ensures.numbers
 
 pub returns-then-is_after : goal.returns-then-is_after
 returns-then-is_after c =
-    number-after (worlds_in c.args.self.now) c.args.from c.in_ok-number.field-0.now c.get-before.result.now c.get-then-number-len.result.now c.args.dels.now c.args.adds.now c.args.sets.now
-    c.get-before.ensures c.get-then-number-len.ensures (c.is_after.ensures.facts c.if-is_after.true) (c.is_after.ensures.places c.if-is_after.true)
+    number-after (worlds_in c.args.self.now) c.args.from c.in_ok-number.field-0.now c.numbered-before.result.world.now c.numbered.result.world.now c.args.dels.now c.args.adds.now c.args.sets.now
+    c.numbered-before.ensures.world c.numbered.ensures.world (c.is_after.ensures.facts c.if-is_after.true) (c.is_after.ensures.places c.if-is_after.true)

@@ -1,34 +1,7 @@
-use Rattle.std.proofs.Common.{ap, inl}
-use Rattle.std.specs.Prelude.{Ok}
-use Rattle.tl_terms.proofs.SameWorlds.{world-tells}
-use Rattle.tl_terms.specs.SameWorlds.{world_eq}
-use Rattle.tl_world.proofs.Numbering.{once, stored, added, absent, stay-added}
+use Rattle.std.proofs.Common.{[], arith}
+use Rattle.tl_world.specs.WorldNumbers.{worlds_in}
+use Rattle.tl_world.proofs.TableNumbers.{comes-from-none}
 use Rattle.tl_world.proofs.worlds.Worlds.number.Goals as goal
 
-pub invariant_of-self : goal.invariant_of-self
-invariant_of-self c = record { one_to_one = once world_eq world-tells _ c.insert_full.ensures.unique }
-
-pub returns-in_err-number-clause-kept : goal.returns-in_err-number-clause-kept
-returns-in_err-number-clause-kept c = inl c.in_err-number.ensures.err
-
-pub returns-in_err-number-clause-known : goal.returns-in_err-number-clause-known
-returns-in_err-number-clause-known c n e = absurd (absent world_eq world-tells c.args.world _ c.in_err-number.ensures.absent n e)
-
-pub returns-clause-number : goal.returns-clause-number
-returns-clause-number c = let s = c.in_ok-number.ensures.stored in stored world_eq world-tells c.args.world s.0 c.insert_full.new.self.keys c.in_ok-number.number s.1 s.2
-
-pub returns-clause-kept : goal.returns-clause-kept
-returns-clause-kept c = added world_eq world-tells _ _ _ c.in_ok-number.ensures.keys
-
-pub returns-clause-stay : goal.returns-clause-stay
-returns-clause-stay c = stay-added _ _ c.args.world (added world_eq world-tells _ _ _ c.in_ok-number.ensures.keys)
-
-pub returns-clause-known : goal.returns-clause-known
-returns-clause-known c n e =
-    let s = c.in_ok-number.ensures.stored in
-    let at = stored world_eq world-tells c.args.world s.0 c.insert_full.new.self.keys c.in_ok-number.number s.1 s.2 in
-    let still = stay-added _ _ c.args.world (added world_eq world-tells _ _ _ c.in_ok-number.ensures.keys) n c.args.world e in
-    ap (λ i. Ok i) (once world_eq world-tells _ c.insert_full.ensures.unique c.in_ok-number.number n c.args.world at still)
-
-pub invariant_of-self-2 : goal.invariant_of-self-2
-invariant_of-self-2 c = record { one_to_one = once world_eq world-tells _ c.insert_full.ensures.unique }
+pub keep-requires : goal.keep-requires
+keep-requires c = comes-from-none (worlds_in c.args.self.now) c.len.result [] [] c.args.world (let next = c.len.ensures.len in omega (arith, next))

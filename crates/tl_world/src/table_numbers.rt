@@ -1,0 +1,211 @@
+// Numbers of the tables of worlds, by which tables that two worlds have in common are told.
+ghost use Rattle.std.specs.Prelude.{◌≡◌, ◌<◌, ◌⊎◌, ◌++◌, ◌∷◌, [], length, slice_get, Some, IfOk, IfSome, OnOk, OnErr};
+ghost use Rattle.tl_terms.specs.World.{World as PlainWorld};
+ghost use Rattle.tl_world.specs.TableNumbers.{preds_in, standing, AreNumbered, AreTableNumbers, ComesFrom, IsTableNumber};
+
+use crate::World;
+use crate::named_facts::has_pred;
+use indexmap::{IndexMap, IndexSet};
+use std::alloc::Global;
+use tl_syntax::{Fact, NoMemory};
+
+/// The numbers of the tables of facts of worlds. That of a table is the number of the first world that was found to have the same facts of its predicate.
+///
+/// Those of the first worlds are known, each from its own place of one list on: of all worlds, where there was memory for them.
+#[derive(Drop)]
+pub(crate) struct TableNumbers {
+    pub(crate) alloc: Global,
+    pub(crate) starts: Vec<usize>,
+    pub(crate) all: Vec<u32>,
+    by_mark: IndexMap<u64, u32>,
+}
+
+/// Where a world comes from: the number of another one, and the facts that are deleted and added.
+#[derive(Clone, Copy)]
+pub(crate) struct Source<'a> {
+    pub(crate) from: usize,
+    pub(crate) dels: &'a [Fact],
+    pub(crate) adds: &'a [Fact],
+}
+
+/// The world of the number.
+fn world_at(worlds: &IndexSet<World>, number: u32) -> &World
+    requires { number < length worlds.now.keys }
+    ensures { slice_get worlds.now.keys number ≡ Some result.now }
+{
+    worlds.get_index(number as usize).unwrap()
+}
+
+/// The number of the table of the predicate, where a world before is found that has the same facts of it.
+fn known(
+    by_mark: &IndexMap<u64, u32>,
+    worlds: &IndexSet<World>,
+    world: &World,
+    pred: u32,
+) -> Option<u32>
+    ensures { IfSome result (IsTableNumber worlds.now.keys pred world.now) }
+{
+    let number = *by_mark.get(&world.mark_of_pred(pred))?;
+    let other = worlds.get_index(number as usize)?;
+    if other.is_alike(world, pred) {
+        Some(number)
+    } else {
+        None
+    }
+}
+
+/// The number of the table of the predicate that the world of a number has: that of a world before, or else its own, which is noted then.
+fn number_anew(
+    by_mark: &mut IndexMap<u64, u32>,
+    worlds: &IndexSet<World>,
+    number: u32,
+    pred: u32,
+) -> u32
+    requires { number < length worlds.now.keys }
+    ensures { (w : PlainWorld) → slice_get worlds.now.keys number ≡ Some w
+        → IsTableNumber worlds.now.keys pred w result }
+{
+    let world = world_at(worlds, number);
+    match known(by_mark, worlds, world, pred) {
+        Some(before) => before,
+        None => {
+            match by_mark.insert(world.mark_of_pred(pred), number) {
+                Ok(_) => {}
+                Err(_) => {}
+            }
+            number
+        }
+    }
+}
+
+impl TableNumbers {
+    /// No numbers. It takes no memory.
+    pub(crate) fn new(alloc: Global) -> TableNumbers
+        ensures starts { result.starts.items ≡ [] }
+        ensures all { result.all.items ≡ [] }
+    {
+        TableNumbers {
+            alloc,
+            starts: Vec::new(alloc),
+            all: Vec::new(alloc),
+            by_mark: IndexMap::new(alloc),
+        }
+    }
+
+    /// The numbers of the tables of the world of a number, from its first table on; those of other worlds follow. It takes no memory.
+    pub(crate) fn of(&self, number: usize) -> &[u32]
+        ensures { result.now ≡ standing self.now.all.items (slice_get self.now.starts.items number) }
+    {
+        match self.starts.get(number) {
+            Some(start) => {
+                if *start <= self.all.len() {
+                    &self.all[*start..]
+                } else {
+                    &[]
+                }
+            }
+            None => &[],
+        }
+    }
+
+    /// The number of the table of the predicate that a world comes by with its source: None where the changes name the predicate, or where the table has no number there.
+    fn inherited(&self, worlds: &IndexSet<World>, source: &Source<'_>, pred: u32) -> Option<u32>
+        requires { AreNumbered worlds.now.keys self.now.starts.items self.now.all.items }
+        ensures { IfSome result (λ k. (w : PlainWorld)
+            → ComesFrom worlds.now.keys source.now.from source.now.dels.now source.now.adds.now w
+            → IsTableNumber worlds.now.keys pred w k) }
+    {
+        if has_pred(source.dels, pred) || has_pred(source.adds, pred) {
+            return None;
+        }
+        let place = worlds.get_index(source.from)?.place_of_pred(pred)?;
+        let numbers = self.of(source.from);
+        if place < numbers.len() {
+            Some(numbers[place])
+        } else {
+            None
+        }
+    }
+
+    /// The number of the table of the predicate that the world of a number has, which comes from a source.
+    fn number_of(
+        &mut self,
+        worlds: &IndexSet<World>,
+        number: u32,
+        source: &Source<'_>,
+        pred: u32,
+    ) -> u32
+        requires number { number < length worlds.now.keys }
+        requires numbered { AreNumbered worlds.now.keys self.old.starts.items self.old.all.items }
+        ensures starts { self.new.starts.items ≡ self.old.starts.items }
+        ensures all { self.new.all.items ≡ self.old.all.items }
+        ensures number { (w : PlainWorld) → slice_get worlds.now.keys number ≡ Some w
+            → ComesFrom worlds.now.keys source.now.from source.now.dels.now source.now.adds.now w
+            → IsTableNumber worlds.now.keys pred w result }
+    {
+        match self.inherited(worlds, source, pred) {
+            Some(before) => before,
+            None => number_anew(&mut self.by_mark, worlds, number, pred),
+        }
+    }
+
+    /// The numbers of all tables of the world of a number, which comes from a source.
+    fn numbers_of(
+        &mut self,
+        worlds: &IndexSet<World>,
+        number: u32,
+        source: &Source<'_>,
+    ) -> Result<Vec<u32>, NoMemory>
+        requires number { number < length worlds.now.keys }
+        requires numbered { AreNumbered worlds.now.keys self.old.starts.items self.old.all.items }
+        ensures starts { self.new.starts.items ≡ self.old.starts.items }
+        ensures all { self.new.all.items ≡ self.old.all.items }
+        ensures many { IfOk result (λ v. (w : PlainWorld) → slice_get worlds.now.keys number ≡ Some w
+            → length v.items ≡ length (preds_in w)) }
+        ensures numbers { IfOk result (λ v. (w : PlainWorld) → slice_get worlds.now.keys number ≡ Some w
+            → ComesFrom worlds.now.keys source.now.from source.now.dels.now source.now.adds.now w
+            → AreTableNumbers worlds.now.keys w v.items) }
+    {
+        let world = world_at(worlds, number);
+        let count = world.pred_count();
+        let mut numbers = Vec::with_capacity(self.alloc, count)?;
+        for i in 0..count {
+            let one = self.number_of(worlds, number, source, world.pred(i));
+            numbers.push(one)?;
+        }
+        Ok(numbers)
+    }
+
+    /// Puts the numbers of the tables of one more world after the others, where there is memory for them.
+    fn push(&mut self, numbers: &[u32]) -> Result<(), NoMemory>
+        ensures starts { OnOk result (self.new.starts.items ≡ self.old.starts.items ++ length self.old.all.items ∷ []) }
+        ensures refused { OnErr result (self.new.starts.items ≡ self.old.starts.items) }
+        ensures all { OnOk result (self.new.all.items ≡ self.old.all.items ++ numbers.now) }
+        ensures rest { OnErr result ((self.new.all.items ≡ self.old.all.items) ⊎ (self.new.all.items ≡ self.old.all.items ++ numbers.now)) }
+    {
+        let start = self.all.len();
+        self.all.extend_from_slice(numbers)?;
+        self.starts.push(start)?;
+        Ok(())
+    }
+
+    /// Adds the numbers of the tables of the world of a number, which comes from a source, where those of all worlds before are known and there is memory for them.
+    pub(crate) fn add(&mut self, worlds: &IndexSet<World>, number: usize, source: &Source<'_>)
+        requires number { number < length worlds.now.keys }
+        requires numbered { AreNumbered worlds.now.keys self.old.starts.items self.old.all.items }
+        requires source { (w : PlainWorld) → slice_get worlds.now.keys number ≡ Some w
+            → ComesFrom worlds.now.keys source.now.from source.now.dels.now source.now.adds.now w }
+        ensures { AreNumbered worlds.now.keys self.new.starts.items self.new.all.items }
+    {
+        if number != self.starts.len() || number > u32::MAX as usize {
+            return;
+        }
+        match self.numbers_of(worlds, number as u32, source) {
+            Ok(numbers) => match self.push(numbers.as_slice()) {
+                Ok(()) => {}
+                Err(_) => {}
+            },
+            Err(_) => {}
+        }
+    }
+}
