@@ -83,11 +83,13 @@ pub(crate) fn predicate<'a>(
 {
     let before = draft.signature.predicates.len();
     let (text, arity) = declared(&draft.signature, before, call)?;
-    let (table, listed) = (
+    declare(
+        names,
+        text,
+        arity,
         &mut draft.signature.predicates,
         &mut draft.domain.predicates,
-    );
-    declare(names, text, arity, table, listed)?;
+    )?;
     Ok(())
 }
 
@@ -102,8 +104,13 @@ pub(crate) fn function<'a>(
 {
     let before = draft.signature.functions.len();
     let (text, arity) = declared(&draft.signature, before, call)?;
-    let (table, listed) = (&mut draft.signature.functions, &mut draft.domain.functions);
-    declare(names, text, arity, table, listed)?;
+    declare(
+        names,
+        text,
+        arity,
+        &mut draft.signature.functions,
+        &mut draft.domain.functions,
+    )?;
     Ok(())
 }
 
