@@ -3,7 +3,6 @@ use Rattle.std.proofs.Common.{◌≡◌, ◌≢◌, ◌<◌, ℕ, Bool, true, Li
 use Rattle.std.specs.Option.{option_map}
 use Rattle.std.proofs.lemmas.List.{map-append, length-map}
 use Rattle.std.proofs.lemmas.Option.{slice_get-get_or, slice_get-map, get_or_from_slice_get, slice_get_within}
-use Rattle.indexmap.specs.IndexMap.{insert_entry}
 use Rattle.tl_syntax.proofs.Plain.{Tells, both, with_both}
 use Rattle.tl_syntax.specs.declared.action.Action.{Action}
 use Rattle.tl_syntax.specs.Signature.{signature_of}
@@ -25,6 +24,7 @@ use Rattle.tl_space.specs.declared.numbers.Met.{Met}
 use Rattle.tl_space.specs.declared.numbers.Met.TheVariants as met
 use Rattle.tl_space.specs.declared.numbers.Numbers.{Numbers}
 use Rattle.tl_space.specs.declared.space.Space.{Space}
+use Rattle.tl_space.specs.Entries.{HasOneMore}
 use Rattle.tl_space.specs.Inner.{node_in, nodes_in, arriving_in, AreNumbersIn, IsKnownIn}
 use Rattle.tl_space.specs.Kept.{node_at, nodes_at, path_at, path_by, paths_of, kept_over, IsNamedMet, MayMeet, AreKeptBy}
 use Rattle.tl_world.specs.NumberedLists.{Stay}
@@ -32,7 +32,7 @@ use Rattle.tl_space.specs.Remembered.{pair_in_at, IsKnown, IsRemembered, AreReme
 use Rattle.tl_space.specs.Spaces.{problem_of, name_count, kept_of, labels_of}
 use Rattle.tl_world.specs.WorldNumbers.{worlds_in}
 use Rattle.tl_space.proofs.Growing.{kept-at, kept-with, kept-by-more, empty-length}
-use Rattle.tl_space.proofs.Remembering.{nodes-more, all-remembered-more, inserted-each}
+use Rattle.tl_space.proofs.Remembering.{nodes-more, all-remembered-more, each-more}
 use Rattle.tl_space.proofs.SpaceLaws.{lengths, count}
 
 -- ---- numbers
@@ -78,8 +78,8 @@ known-arrives s x (arrival.Seen k) h path = (refl, by_numbers (slice_get s.pairs
 
 -- one more arrival is remembered, that of the pair which is kept last
 pub remembered-with : (p : PlainProblem) (ws : List World) (ts : List FormulaTree) (ns : List Numbers) (n key : Numbers) (k : ℕ) (es : List (Numbers × Arrival)) → AreRemembered p ws ts ns es
-    → key.world < length ws → key.label < length ts → k ≡ length ns → node_at ws ts n ≡ pair_in_at p ws ts key → AreRemembered p ws ts (ns ++ n ∷ []) (insert_entry numbers_eq es key (arrival.Seen k))
-remembered-with p ws ts ns n key k es h l m e q = inserted-each (IsRemembered p ws ts (ns ++ n ∷ [])) numbers_eq numbers-tells key (arrival.Seen k) es (all-remembered-more p ws ts ns n es h) (record { world = l; label = m; known = known })
+    → key.world < length ws → key.label < length ts → k ≡ length ns → node_at ws ts n ≡ pair_in_at p ws ts key → (fs : List (Numbers × Arrival)) → HasOneMore es (key, arrival.Seen k) fs → AreRemembered p ws ts (ns ++ n ∷ []) fs
+remembered-with p ws ts ns n key k es h l m e q fs more = each-more (IsRemembered p ws ts (ns ++ n ∷ [])) es (key, arrival.Seen k) fs more (all-remembered-more p ws ts ns n es h) (record { world = l; label = m; known = known })
   where
     at_last : slice_get (nodes_at ws ts ns ++ node_at ws ts n ∷ []) k ≡ Some (node_at ws ts n)
     at_last = ap (slice_get (nodes_at ws ts ns ++ node_at ws ts n ∷ [])) (e ∙ sym (length-map ns (node_at ws ts))) ∙ get-new (nodes_at ws ts ns) (node_at ws ts n)
@@ -106,24 +106,16 @@ module _ (s : Space) (n : Numbers) (m : Met) (ks : List Numbers) (ms : List Met)
       (subst (AreKeptBy (signature_of s.task.problem.domain) (name_count s) (problem_of s) (worlds_in s.worlds) (trees s.nodes) (s.pairs.keys ++ n ∷ [])) (sym f)
       (kept-by-more (signature_of s.task.problem.domain) (name_count s) (problem_of s) (worlds_in s.worlds) (trees s.nodes) s.pairs.keys s.from.items n m s.kept numbers absent may named reaches))
 
-  pub remembered-after : (key : Numbers) (k : ℕ) (es : List (Numbers × Arrival)) → AreNumbersIn s key → k ≡ length s.pairs.keys → node_in s n ≡ arriving_in s key → es ≡ insert_entry numbers_eq s.arrivals.entries key (arrival.Seen k)
+  pub remembered-after : (key : Numbers) (k : ℕ) (es : List (Numbers × Arrival)) → AreNumbersIn s key → k ≡ length s.pairs.keys → node_in s n ≡ arriving_in s key → HasOneMore s.arrivals (key, arrival.Seen k) es
       → AreRemembered (problem_of s) (worlds_in s.worlds) (trees s.nodes) ks es
   remembered-after key k es numbers is arrives g =
       subst (λ (ns : List Numbers). AreRemembered (problem_of s) (worlds_in s.worlds) (trees s.nodes) ns es) (sym e)
-      (subst (AreRemembered (problem_of s) (worlds_in s.worlds) (trees s.nodes) (s.pairs.keys ++ n ∷ [])) (sym g)
-      (remembered-with (problem_of s) (worlds_in s.worlds) (trees s.nodes) s.pairs.keys n key k s.arrivals.entries s.remembered numbers.world numbers.label.inside is arrives))
-
-  -- what was remembered stays right, where the pair's arrival is not remembered
-  pub remembered-still-with : AreRemembered (problem_of s) (worlds_in s.worlds) (trees s.nodes) ks s.arrivals.entries
-  remembered-still-with =
-      subst (λ (ns : List Numbers). AreRemembered (problem_of s) (worlds_in s.worlds) (trees s.nodes) ns s.arrivals.entries) (sym e)
-      (all-remembered-more (problem_of s) (worlds_in s.worlds) (trees s.nodes) s.pairs.keys n s.arrivals.entries s.remembered)
+      (remembered-with (problem_of s) (worlds_in s.worlds) (trees s.nodes) s.pairs.keys n key k s.arrivals s.remembered numbers.world numbers.label.inside is arrives es g)
 
 -- one more arrival is remembered, which is known
-pub remembered-known : (s : Space) (key : Numbers) (r : Arrival) (es : List (Numbers × Arrival)) → AreNumbersIn s key → IsKnownIn s key r → es ≡ insert_entry numbers_eq s.arrivals.entries key r → AreRemembered (problem_of s) (worlds_in s.worlds) (trees s.nodes) s.pairs.keys es
+pub remembered-known : (s : Space) (key : Numbers) (r : Arrival) (es : List (Numbers × Arrival)) → AreNumbersIn s key → IsKnownIn s key r → HasOneMore s.arrivals (key, r) es → AreRemembered (problem_of s) (worlds_in s.worlds) (trees s.nodes) s.pairs.keys es
 remembered-known s key r es numbers known g =
-    subst (AreRemembered (problem_of s) (worlds_in s.worlds) (trees s.nodes) s.pairs.keys) (sym g)
-    (inserted-each (IsRemembered (problem_of s) (worlds_in s.worlds) (trees s.nodes) s.pairs.keys) numbers_eq numbers-tells key r s.arrivals.entries s.remembered (record { world = numbers.world; label = numbers.label.inside; known = known }))
+    each-more (IsRemembered (problem_of s) (worlds_in s.worlds) (trees s.nodes) s.pairs.keys) s.arrivals (key, r) es g s.remembered (record { world = numbers.world; label = numbers.label.inside; known = known })
 
 -- the item that was pushed stands behind those before
 pub pushed-behind : (old after : List Met) (done : Bool) (m : Met) → done ≡ true → after ≡ (if done then old ++ m ∷ [] else old) → after ≡ old ++ m ∷ []

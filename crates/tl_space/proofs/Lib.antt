@@ -1,6 +1,7 @@
 pub mod Inserting
 pub mod Growing
 pub mod Remembering
+pub mod EntryLaws
 pub mod SpaceLaws
 pub mod Keeping
 pub mod Arriving

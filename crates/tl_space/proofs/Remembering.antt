@@ -1,11 +1,11 @@
 -- What is remembered of arrivals stays right.
-use Rattle.std.proofs.Common.{◌≡◌, Bool, true, false, cond, List, [], ◌∷◌, ◌++◌, slice_get, Some, refl, sym, ap, subst, ◌∙◌, if◌then◌else◌}
+use Rattle.std.proofs.Common.{◌≡◌, Bool, true, false, cond, List, [], ◌∷◌, ◌++◌, slice_get, Some, ◌⊎◌, inl, inr, refl, sym, ap, subst, ◌∙◌, if◌then◌else◌}
 use Rattle.std.proofs.lemmas.List.{map-append}
 use Rattle.std.specs.Map.{lookup}
 use Rattle.indexmap.specs.IndexMap.{insert_entry}
 use Rattle.tl_syntax.proofs.Plain.{Tells}
 use Rattle.tl_syntax.specs.Assignment.{no_values}
-use Rattle.tl_syntax.specs.Lists.{Each}
+use Rattle.tl_syntax.specs.Lists.{Among, Each}
 use Rattle.tl_syntax.specs.Trees.{FormulaTree}
 use Rattle.tl_terms.specs.Definitions.{situation_of}
 use Rattle.tl_terms.specs.Pairs.{Pair}
@@ -16,6 +16,7 @@ use Rattle.tl_search.specs.declared.arrival.Arrival.{Arrival}
 use Rattle.tl_search.specs.declared.arrival.Arrival.TheVariants as arrival
 use Rattle.tl_search.proofs.ListLaws.{get-old}
 use Rattle.tl_space.specs.declared.numbers.Numbers.{Numbers}
+use Rattle.tl_space.specs.Entries.{HasOneMore}
 use Rattle.tl_space.specs.Kept.{node_at, nodes_at}
 use Rattle.tl_world.specs.NumberedLists.{Stay}
 use Rattle.tl_space.specs.Remembered.{pair_in_at, IsKnown, IsRemembered, AreRemembered}
@@ -60,6 +61,24 @@ all-remembered-more p ws ts ns n (e ∷ es) h = (
   record { world = h.0.world; label = h.0.label; known = known-more (nodes_at ws ts ns) (nodes_at ws ts (ns ++ n ∷ [])) (pair_in_at p ws ts e.0) e.1 (λ i x g. subst (λ (xs : List Pair). slice_get xs i ≡ Some x) (sym (nodes-more ws ts ns n)) (get-old (nodes_at ws ts ns) (node_at ws ts n ∷ []) i x g)) h.0.known },
   all-remembered-more p ws ts ns n es h.1,
 )
+
+-- ---- one more entry
+
+pub each-among : {A : Type 0} (P : A → Type 0) (xs : List A) (x : A) → Each P xs → Among x xs → P x
+each-among P [] x h a = absurd a
+each-among P (y ∷ ys) x h a = by a (each-among P ys x h.1)
+  where
+    by : (y ≡ x) ⊎ Among x ys → (Among x ys → P x) → P x
+    by (inl e) rest = subst P e h.0
+    by (inr b) rest = rest b
+
+pub each-more : {A : Type 0} (P : A → Type 0) (xs : List A) (x : A) (ys : List A) → HasOneMore xs x ys → Each P xs → P x → Each P ys
+each-more P xs x [] h e p = tt
+each-more P xs x (y ∷ ys) h e p = (by h.0, each-more P xs x ys h.1 e p)
+  where
+    by : Among y xs ⊎ (y ≡ x) → P y
+    by (inl a) = each-among P xs y e a
+    by (inr q) = subst P (sym q) p
 
 -- ---- the entries of a map
 

@@ -73,8 +73,8 @@ given-of s n h = (h.world, h.label.inside)
 pub kept-still : (s : Space) (vs : List World) (us : List FormulaTree) → Stay (worlds_in s.worlds) vs → Stay (trees s.nodes) us → AreKeptBy (signature_of s.task.problem.domain) (name_count s) (problem_of s) vs us s.pairs.keys s.from.items
 kept-still s vs us h k = kept-by-stays (signature_of s.task.problem.domain) (name_count s) (problem_of s) (worlds_in s.worlds) vs (trees s.nodes) us s.pairs.keys s.from.items h k s.kept
 
-pub remembered-still : (s : Space) (vs : List World) (us : List FormulaTree) → Stay (worlds_in s.worlds) vs → Stay (trees s.nodes) us → AreRemembered (problem_of s) vs us s.pairs.keys s.arrivals.entries
-remembered-still s vs us h k = all-remembered-stay (problem_of s) (worlds_in s.worlds) vs (trees s.nodes) us s.pairs.keys s.arrivals.entries (given-in s) h k s.remembered
+pub remembered-still : (s : Space) (vs : List World) (us : List FormulaTree) → Stay (worlds_in s.worlds) vs → Stay (trees s.nodes) us → AreRemembered (problem_of s) vs us s.pairs.keys s.arrivals
+remembered-still s vs us h k = all-remembered-stay (problem_of s) (worlds_in s.worlds) vs (trees s.nodes) us s.pairs.keys s.arrivals (given-in s) h k s.remembered
 
 -- ---- a later space whose pairs stay
 

@@ -1,6 +1,5 @@
 -- What the parts of a space say to each other.
 use Rattle.std.specs.Prelude.{◌≡◌, ◌≢◌, ◌<◌, ◌++◌, ◌∷◌, [], ℕ, List, slice_get, Some, vec_len, vec_capacity}
-use Rattle.indexmap.specs.IndexMap.{spare}
 use Rattle.tl_syntax.specs.Assignment.{no_values}
 use Rattle.tl_syntax.specs.Signature.{signature_of}
 use Rattle.tl_syntax.specs.declared.action.Action.{Action}
@@ -64,10 +63,9 @@ pub record KeepsPairs (old new : Space) : Type 0 where
   pub pairs : new.pairs.keys ≡ old.pairs.keys
   pub from : new.from.items ≡ old.from.items
 
--- one more pair, and one more arrival, take no memory beside that of the set of pairs
-pub record HasRoom (s : Space) : Type 0 where
-  pub from : vec_len s.from < vec_capacity s.from
-  pub arrivals : 0 < spare s.arrivals
+-- one more pair takes no memory beside that of the set of pairs
+abbrev pub HasRoom : Space → Type 0
+HasRoom s = vec_len s.from < vec_capacity s.from
 
 -- the pair of these numbers is not pruned, and is not kept
 pub record IsNew (s : Space) (n : Numbers) : Type 0 where

@@ -21,20 +21,20 @@ mod path;
 mod root;
 mod view;
 
+use crate::arrivals::Arrivals;
 use crate::numbers::{Met, Numbers};
-use indexmap::{IndexMap, IndexSet};
+use indexmap::IndexSet;
 use std::alloc::Global;
 use tl_eval::Env;
 use tl_nodes::Nodes;
 use tl_progress::Residuals;
-use tl_search::Arrival;
 use tl_terms::NoMemory;
 use tl_world::{Task, Worlds};
 
 /// Pairs of a world and a residual, each kept once under a number, with the path by which it was met first.
 ///
 /// No call changes the task, the tree of a number, or the number, label, world or path of a kept pair. A pair is kept as the last growth of a call: after a refused call the kept pairs are as before, and the same call can be made again.
-/// A pair is two numbers, that of its world and that of its residual. What came of an arrival is remembered by its world and the formula that came in, so progression is asked once for each; and what formulas that come in to one world have in common is progressed once for the world.
+/// A pair is two numbers, that of its world and that of its residual. What came of an arrival is remembered by its world and the formula that came in, where there is memory for it, so progression is asked once for each; and what formulas that come in to one world have in common is progressed once for the world.
 #[derive(Drop)]
 pub struct Space {
     pub(crate) alloc: Global,
@@ -44,11 +44,11 @@ pub struct Space {
     pub(crate) nodes: Nodes,
     pub(crate) pairs: IndexSet<Numbers>,
     pub(crate) from: Vec<Met>,
-    pub(crate) arrivals: IndexMap<Numbers, Arrival>,
+    pub(crate) arrivals: Arrivals,
     pub(crate) residuals: Residuals,
     ghost named_worlds: { Each (WorldIsNamed (length task.problem.names)) (worlds_in worlds) } by { worlds_named-prop (length task.problem.names) (worlds_in worlds) },
     ghost kept: { AreKeptBy (signature_of task.problem.domain) (length task.problem.names) (plain_problem task.problem) (worlds_in worlds) (trees nodes) pairs.keys from.items } by { kept-prop (signature_of task.problem.domain) (length task.problem.names) (plain_problem task.problem) (worlds_in worlds) (trees nodes) pairs.keys from.items },
-    ghost remembered: { AreRemembered (plain_problem task.problem) (worlds_in worlds) (trees nodes) pairs.keys arrivals.entries } by { all-remembered-prop (plain_problem task.problem) (worlds_in worlds) (trees nodes) pairs.keys arrivals.entries },
+    ghost remembered: { AreRemembered (plain_problem task.problem) (worlds_in worlds) (trees nodes) pairs.keys arrivals } by { all-remembered-prop (plain_problem task.problem) (worlds_in worlds) (trees nodes) pairs.keys arrivals },
     ghost found: { AreFound (plain_problem task.problem) (worlds_in worlds) (trees nodes) residuals } by { found-prop (plain_problem task.problem) (worlds_in worlds) (trees nodes) residuals },
 }
 
@@ -89,7 +89,7 @@ impl Space {
             nodes,
             pairs: IndexSet::new(alloc),
             from: Vec::new(alloc),
-            arrivals: IndexMap::new(alloc),
+            arrivals: Arrivals::new(alloc),
             residuals: Residuals::new(alloc),
         }
     }

@@ -7,10 +7,9 @@ use super::Space;
 use crate::numbers::{Found, Numbers};
 use tl_progress::ProgressFault;
 use tl_search::Arrival;
-use tl_terms::NoMemory;
 
 /// The number of the formula TRUE.
-pub(crate) const TRUE: usize = 0;
+const TRUE: usize = 0;
 
 /// The number of the formula FALSE.
 const FALSE: usize = 1;
@@ -20,10 +19,7 @@ impl Space {
     fn remembered(&self, key: Numbers) -> Option<Arrival>
         ensures { IfSome result (IsKnownIn self.now key) }
     {
-        match self.arrivals.get(&key) {
-            Some(arrival) => Some(*arrival),
-            None => None,
-        }
+        self.arrivals.get(key)
     }
 
     /// What is known of the pair of these numbers: it is pruned where its formula is FALSE, or is kept already.
@@ -41,16 +37,13 @@ impl Space {
         }
     }
 
-    /// Remembers what came of the arrival.
-    fn remember(&mut self, key: Numbers, arrival: Arrival) -> Result<(), NoMemory>
+    /// Remembers what came of the arrival, where there is memory for it.
+    fn remember(&mut self, key: Numbers, arrival: Arrival)
         requires key { AreNumbersIn self.old key }
         requires known { IsKnownIn self.old key arrival }
         ensures { KeepsPairs self.old self.new }
     {
-        match self.arrivals.insert(key, arrival) {
-            Ok(_) => Ok(()),
-            Err(_) => Err(NoMemory),
-        }
+        self.arrivals.remember(key, arrival);
     }
 
     /// Whether TRUE comes in. It is what it leaves then. It takes no memory.
@@ -61,7 +54,7 @@ impl Space {
         key.label == TRUE
     }
 
-    /// What is found of the arrival whose pair has its own numbers. Such arrivals are not remembered.
+    /// What is found of the arrival whose pair has its own numbers.
     fn find_itself(&mut self, key: Numbers) -> Result<Found, ProgressFault>
         requires key { AreNumbersIn self.old key }
         requires itself { node_in self.old key ≡ arriving_in self.old key }
@@ -78,19 +71,30 @@ impl Space {
         }
     }
 
-    /// What is found of the arrival in this world with this formula: at once, by memory, or else by progression. Nothing is kept yet.
+    /// What is found of the arrival in this world with this formula: by memory, or else anew. Nothing is kept yet.
     pub(crate) fn find(&mut self, key: Numbers) -> Result<Found, ProgressFault>
         requires { AreNumbersIn self.old key }
         ensures keeps { KeepsPairs self.old self.new }
         ensures found { IfOk result (IsArrivalFound self.new key) }
         ensures cause { IfErr result (IsProgressFault self.old key) }
     {
-        if self.leaves_itself(key) {
-            return self.find_itself(key);
-        }
         match self.remembered(key) {
             Some(arrival) => Ok(Found::Known(arrival)),
-            None => self.find_anew(key),
+            None => self.find_first(key),
+        }
+    }
+
+    /// What is found of the arrival that is not remembered: at once where TRUE comes in, or else by progression.
+    fn find_first(&mut self, key: Numbers) -> Result<Found, ProgressFault>
+        requires { AreNumbersIn self.old key }
+        ensures keeps { KeepsPairs self.old self.new }
+        ensures found { IfOk result (IsArrivalFound self.new key) }
+        ensures cause { IfErr result (IsProgressFault self.old key) }
+    {
+        if self.leaves_itself(key) {
+            self.find_itself(key)
+        } else {
+            self.find_anew(key)
         }
     }
 
@@ -110,10 +114,10 @@ impl Space {
             label,
         };
         match self.known(numbers) {
-            Some(arrival) => match self.remember(key, arrival) {
-                Ok(()) => Ok(Found::Known(arrival)),
-                Err(_) => Err(ProgressFault::NoMemory),
-            },
+            Some(arrival) => {
+                self.remember(key, arrival);
+                Ok(Found::Known(arrival))
+            }
             None => match self.make_room() {
                 Ok(()) => Ok(Found::New(numbers)),
                 Err(_) => Err(ProgressFault::NoMemory),

@@ -5,23 +5,21 @@ ghost use Rattle.tl_space.specs.Kept.{IsNamedMet, MayMeet};
 ghost use Rattle.tl_space.specs.Spaces.{name_count, kept_of, Grows};
 
 use super::Space;
-use super::arriving::TRUE;
 use crate::numbers::{Met, Numbers};
 use tl_search::Arrival;
 use tl_terms::NoMemory;
 
 impl Space {
-    /// Room for one pair more and for its arrival.
+    /// Room for the way of one pair more.
     pub(crate) fn make_room(&mut self) -> Result<(), NoMemory>
         ensures keeps { KeepsPairs self.old self.new }
         ensures room { OnOk result (HasRoom self.new) }
     {
         self.from.reserve(1)?;
-        self.arrivals.reserve(1)?;
         Ok(())
     }
 
-    /// Keeps the new pair of these numbers, met first in this way, and remembers its arrival, unless it is one of TRUE. The pair is the only growth that can fail.
+    /// Keeps the new pair of these numbers, met first in this way, and remembers its arrival. The pair is the only growth that can fail.
     pub(crate) fn keep(
         &mut self,
         key: Numbers,
@@ -41,9 +39,7 @@ impl Space {
         match self.pairs.insert_full(numbers) {
             Ok((at, _)) => {
                 self.from.push(met).unwrap();
-                if key.label != TRUE {
-                    self.arrivals.insert(key, Arrival::Seen(at)).unwrap();
-                }
+                self.arrivals.remember(key, Arrival::Seen(at));
                 Ok(at)
             }
             Err(_) => Err(NoMemory),

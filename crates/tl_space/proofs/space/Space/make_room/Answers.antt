@@ -2,4 +2,4 @@ use Rattle.std.proofs.Common.{arith}
 use Rattle.tl_space.proofs.space.Space.make_room.Goals as goal
 
 pub returns-clause-room : goal.returns-clause-room
-returns-clause-room c = record { from = omega (arith, c.in_ok-reserve.ensures.ok); arrivals = omega (arith, c.in_ok-reserve-2.ensures.ok) }
+returns-clause-room c = omega (arith, c.in_ok-reserve.ensures.ok)

@@ -1,14 +1,18 @@
-use Rattle.std.proofs.Common.{sym, ap, ◌∙◌}
-use Rattle.std.specs.Prelude.{option_copied}
 use Rattle.tl_nodes.specs.Numbers.{trees}
 use Rattle.tl_space.specs.Remembered.{IsRemembered}
 use Rattle.tl_space.specs.Spaces.{problem_of}
 use Rattle.tl_world.specs.WorldNumbers.{worlds_in}
-use Rattle.tl_space.proofs.Keeping.{numbers_eq, numbers-tells}
-use Rattle.tl_space.proofs.Remembering.{picked}
+use Rattle.std.proofs.Common.{Option, Some, None, IfSome}
+use Rattle.tl_search.specs.declared.arrival.Arrival.{Arrival}
+use Rattle.tl_syntax.specs.Lists.{Among}
+use Rattle.tl_space.specs.Inner.{IsKnownIn}
+use Rattle.tl_space.proofs.Remembering.{each-among}
 use Rattle.tl_space.proofs.space.Space.remembered.Goals as goal
 
-pub returns-in-Some : goal.returns-in-Some
-returns-in-Some c =
-    let s = c.args.self.now in
-    (picked (IsRemembered (problem_of s) (worlds_in s.worlds) (trees s.nodes) s.pairs.keys) numbers_eq numbers-tells c.args.key c.in-Some.arrival.now s.arrivals.entries s.remembered (sym c.get.ensures.value ∙ ap option_copied c.in-Some.is)).known
+pub returns : goal.returns
+returns c = by c.get.result c.get.ensures
+  where
+    s = c.args.self.now
+    by : (o : Option Arrival) → IfSome o (λ r. Among (c.args.key, r) s.arrivals) → IfSome o (IsKnownIn s c.args.key)
+    by None h = tt
+    by (Some r) h = (each-among (IsRemembered (problem_of s) (worlds_in s.worlds) (trees s.nodes) s.pairs.keys) s.arrivals (c.args.key, r) s.remembered h).known
