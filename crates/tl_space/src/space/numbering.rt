@@ -1,11 +1,12 @@
 // Worlds and formulas get their numbers. The pairs stay.
-ghost use Rattle.std.specs.Prelude.{◌≡◌, ◌<◌, length, slice_get, Some, IfOk, IfErr, IfSome};
+ghost use Rattle.std.specs.Prelude.{◌≡◌, ◌<◌, length, slice_get, Some, IfOk, IfErr};
 ghost use Rattle.tl_action.specs.ChangedWorlds.{world_after};
 ghost use Rattle.tl_nodes.specs.Numbering.{Keeps};
 ghost use Rattle.tl_nodes.specs.Numbers.{trees, Denotes};
 ghost use Rattle.tl_space.specs.Inner.{arriving_in, IsLabelIn, AreNumbersIn, KeepsPairs, IsProgressFault};
 ghost use Rattle.tl_space.specs.Kept.{world_at};
 ghost use Rattle.tl_space.specs.Spaces.{problem_of, name_count};
+ghost use Rattle.tl_world.specs.NumberedLists.{IsAdded};
 ghost use Rattle.tl_world.specs.WorldNumbers.{worlds_in};
 ghost use Rattle.tl_terms.specs.NamedWorlds.{WorldIsNamed};
 ghost use Rattle.tl_terms.specs.ProblemMeaning.{plain_problem};
@@ -34,13 +35,15 @@ fn number_control(nodes: &mut Nodes, task: &Task) -> Result<usize, NoMemory>
     nodes.of_tree(&task.problem.domain.control)
 }
 
-/// The number of the world that the changes make of the world of a number, where it is found without making that world. It takes no memory.
-fn found_after(worlds: &Worlds, from: usize, changes: &Changes) -> Option<usize>
-    requires { from < length (worlds_in worlds.now) }
-    ensures { IfSome result (λ n. slice_get (worlds_in worlds.now) n
-        ≡ Some (world_after (world_at (worlds_in worlds.now) from) changes.now)) }
+/// The number of the world that the changes make of the world of a number: the one that it has, or else the next one.
+fn number_changed(worlds: &mut Worlds, from: usize, changes: &Changes) -> Result<usize, NoMemory>
+    requires { from < length (worlds_in worlds.old) }
+    ensures number { IfOk result (λ n. slice_get (worlds_in worlds.new) n
+        ≡ Some (world_after (world_at (worlds_in worlds.old) from) changes.now)) }
+    ensures kept { IsAdded (worlds_in worlds.old)
+        (world_after (world_at (worlds_in worlds.old) from) changes.now) (worlds_in worlds.new) }
 {
-    worlds.find_after(
+    worlds.number_after(
         from,
         changes.dels.as_slice(),
         changes.adds.as_slice(),
@@ -66,11 +69,7 @@ impl Space {
         ensures number { IfOk result (λ n. slice_get (worlds_in self.new.worlds) n
             ≡ Some (world_after (world_at (worlds_in self.old.worlds) from) changes.now)) }
     {
-        if let Some(known) = found_after(&self.worlds, from, changes) {
-            return Ok(known);
-        }
-        let next = changes.world_after(self.alloc, self.worlds.get(from))?;
-        self.number_of_world(next)
+        number_changed(&mut self.worlds, from, changes)
     }
 
     /// The number of the first world.

@@ -1,21 +1,26 @@
-use Rattle.std.proofs.Common.{◌≡◌, Some, slice_get, IfOk, sym, ap, ◌∙◌, subst}
+use Rattle.std.proofs.Common.{refl}
 use Rattle.tl_action.specs.ChangedWorlds.{world_after}
+use Rattle.tl_space.specs.Kept.{world_at}
 use Rattle.tl_terms.specs.NamedWorlds.{WorldIsNamed}
-use Rattle.tl_terms.specs.World.{World}
 use Rattle.tl_space.specs.Spaces.{name_count}
-use Rattle.tl_space.proofs.SpaceLaws.{world-at, keeps-same}
+use Rattle.tl_space.proofs.FoundStay.{found-stays}
+use Rattle.tl_nodes.specs.Numbers.{trees}
 use Rattle.tl_world.specs.WorldNumbers.{worlds_in}
+use Rattle.tl_space.specs.Spaces.{problem_of}
+use Rattle.tl_space.proofs.Growing.{added-stay, each-added}
+use Rattle.tl_space.proofs.SpaceLaws.{kept-still, remembered-still}
 use Rattle.tl_space.proofs.space.Space.number_after.Goals as goal
 
-pub number_of_world-requires : goal.number_of_world-requires
-number_of_world-requires c =
-    let is = world-at (worlds_in c.args.self.now.worlds) c.args.from c.get.result.now c.get.ensures in
-    record { named = subst (WorldIsNamed (name_count c.args.self.now)) (ap (λ (v : World). world_after v c.args.changes.now) is ∙ sym c.in_ok-next.ensures) c.requires.named }
+pub invariant_of-self : goal.invariant_of-self
+invariant_of-self c =
+    let s = c.args.self.now in
+    let stay = added-stay _ (world_after (world_at (worlds_in s.worlds) c.args.from) c.args.changes.now) _ c.number_changed.ensures.kept in
+    record {
+      named_worlds = each-added (WorldIsNamed (name_count s)) _ (world_after (world_at (worlds_in s.worlds) c.args.from) c.args.changes.now) _ c.number_changed.ensures.kept s.named_worlds c.requires.named;
+      kept = kept-still s _ _ stay (λ i x e. e);
+      remembered = remembered-still s _ _ stay (λ i x e. e);
+      found = found-stays (problem_of s) (worlds_in s.worlds) _ (trees s.nodes) (trees s.nodes) s.residuals stay (λ i x e. e) s.found;
+    }
 
-pub returns-clause-number : goal.returns-clause-number
-returns-clause-number c =
-    let is = world-at (worlds_in c.args.self.now.worlds) c.args.from c.get.result.now c.get.ensures in
-    subst (λ (v : World). IfOk c.number_of_world.result (λ n. slice_get (worlds_in c.number_of_world.new.self.worlds) n ≡ Some v)) (c.in_ok-next.ensures ∙ ap (λ (v : World). world_after v c.args.changes.now) (sym is)) c.number_of_world.ensures.number
-
-pub returns-in-Some-clause-keeps : goal.returns-in-Some-clause-keeps
-returns-in-Some-clause-keeps c = keeps-same c.args.self.now
+pub returns-clause-keeps : goal.returns-clause-keeps
+returns-clause-keeps c = let s = c.args.self.now in record { task = refl; worlds = added-stay _ (world_after (world_at (worlds_in s.worlds) c.args.from) c.args.changes.now) _ c.number_changed.ensures.kept; trees = λ i x e. e; pairs = refl; from = refl }
