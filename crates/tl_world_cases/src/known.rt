@@ -5,35 +5,35 @@ use crate::worlds::{Said, all_names, said_in, world_in};
 use std::alloc::Global;
 use std::process::Abort;
 use std::test::Fail;
-use tl_syntax::Names;
+use tl_syntax::{Names, NoMemory};
 use tl_tables::{column, is_row};
 use tl_world::{World, Worlds};
 
-/// Rows of a world, facts that are deleted, facts that are added and places that are set, another world, whether that is the world after the changes, and its number, 1, or that of the first world, 0, where it is found by the changes.
+/// Rows of a world, facts that are deleted, facts that are added and places that are set, another world, whether that is the world after the changes, the number of that world, 1, or of the first one, 0, where it is found by the changes, and the number that it has then, 2 or 1 for one that had none.
 ///
-/// None is found where a deleted fact is not there or an added one is: such a world is made, and then found.
+/// None is found where a deleted fact is not there or an added one is: such a world is made, and then has its number.
 const AFTER: &str = "
-(p a) (edge a b) | (p a) | (p b) | (p b) (edge a b) | true | 1
-(p a) (edge a b) | (p a) | (p b) | (p b) (edge a b) (edge b a) | false | none
-(p a) (edge a b) | (p a) | (p b) | (p b) | false | none
-(p a) (edge a b) | (p a) | (p b) | (p a) (p b) (edge a b) | false | none
-(p a) (edge a b) | (p a) | (p b) | (edge a b) | false | none
-(edge a a) (edge a c) (edge b b) | (edge a c) | (edge b a) | (edge a a) (edge b a) (edge b b) | true | 1
-(edge a a) (edge a c) (edge b b) | (edge a c) | (edge b a) | (edge a a) (edge b a) (edge b c) | false | none
-(p a) | (p a) (p b) | (p b) | (p b) | true | 1
-(p a) | (p a) | (q a) | (q a) | true | 1
-(p a) (r c) | (p a) | (q b) | (q b) (r c) | true | 1
-(p a) | - | (q b) | (p a) (q b) (r c) | false | none
-(p a) | (p a) | (p a) | (p a) | true | none
-(p a) | - | (p a) | (p a) | true | none
-(p a) | (p b) | - | (p a) | true | none
-(p a) | - | - | (p a) | true | 0
-(p a) (= (n) 10) | - | (= (n) -1) | (p a) (= (n) -1) | true | 1
-(p a) (= (n) 10) | - | (= (n) -1) | (p a) (= (n) 10) | false | none
-(p a) (= (n) 10) | - | (= (f a) b) | (p a) (= (n) 10) (= (f a) b) | true | 1
-(p a) (= (n) 10) | - | (= (f a) b) | (p a) (= (f a) b) | false | none
-(= (f a) a) (= (f c) c) | - | (= (f b) b) | (= (f a) a) (= (f b) b) (= (f c) c) | true | 1
-(= (f a) a) (= (f c) c) | - | (= (f b) b) | (= (f a) a) (= (f b) b) (= (f c) b) | false | none
+(p a) (edge a b) | (p a) | (p b) | (p b) (edge a b) | true | 1 | 1
+(p a) (edge a b) | (p a) | (p b) | (p b) (edge a b) (edge b a) | false | none | 2
+(p a) (edge a b) | (p a) | (p b) | (p b) | false | none | 2
+(p a) (edge a b) | (p a) | (p b) | (p a) (p b) (edge a b) | false | none | 2
+(p a) (edge a b) | (p a) | (p b) | (edge a b) | false | none | 2
+(edge a a) (edge a c) (edge b b) | (edge a c) | (edge b a) | (edge a a) (edge b a) (edge b b) | true | 1 | 1
+(edge a a) (edge a c) (edge b b) | (edge a c) | (edge b a) | (edge a a) (edge b a) (edge b c) | false | none | 2
+(p a) | (p a) (p b) | (p b) | (p b) | true | 1 | 1
+(p a) | (p a) | (q a) | (q a) | true | 1 | 1
+(p a) (r c) | (p a) | (q b) | (q b) (r c) | true | 1 | 1
+(p a) | - | (q b) | (p a) (q b) (r c) | false | none | 2
+(p a) | (p a) | (p a) | (p a) | true | none | 0
+(p a) | - | (p a) | (p a) | true | none | 0
+(p a) | (p b) | - | (p a) | true | none | 0
+(p a) | - | - | (p a) | true | 0 | 0
+(p a) (= (n) 10) | - | (= (n) -1) | (p a) (= (n) -1) | true | 1 | 1
+(p a) (= (n) 10) | - | (= (n) -1) | (p a) (= (n) 10) | false | none | 1
+(p a) (= (n) 10) | - | (= (f a) b) | (p a) (= (n) 10) (= (f a) b) | true | 1 | 1
+(p a) (= (n) 10) | - | (= (f a) b) | (p a) (= (f a) b) | false | none | 2
+(= (f a) a) (= (f c) c) | - | (= (f b) b) | (= (f a) a) (= (f b) b) (= (f c) c) | true | 1 | 1
+(= (f a) a) (= (f c) c) | - | (= (f b) b) | (= (f a) a) (= (f b) b) (= (f c) b) | false | none | 2
 ";
 
 /// Whether a world is found to be the one after the changes.
@@ -67,18 +67,31 @@ fn text_of(alloc: Global, number: Option<usize>) -> Result<String, Fail> {
     }
 }
 
-/// The number of the world after the changes among the two worlds of a row, as a text.
-fn number_found(
-    alloc: Global,
-    old: World,
-    other: World,
+/// The number that the world after the changes has then.
+fn kept_in(
+    worlds: &mut Worlds,
+    first: usize,
     less: &Said,
     more: &Said,
-) -> Result<String, Fail> {
+) -> Result<Option<usize>, NoMemory> {
+    if first >= worlds.len() {
+        return Ok(None);
+    }
+    let number = worlds.number_after(
+        first,
+        less.facts.as_slice(),
+        more.facts.as_slice(),
+        more.places.as_slice(),
+    )?;
+    Ok(Some(number))
+}
+
+/// The two worlds of a row.
+fn both_worlds(alloc: Global, old: World, other: World) -> Result<Worlds, NoMemory> {
     let mut worlds = Worlds::new(alloc);
-    let first = worlds.number(old)?;
+    worlds.number(old)?;
     worlds.number(other)?;
-    text_of(alloc, found_in(&worlds, first, less, more))
+    Ok(worlds)
 }
 
 /// Compares what is found of the worlds of a row.
@@ -89,8 +102,11 @@ fn is_found<R: Abort>(rt: &R, alloc: Global, names: &Names, row: &str) -> Result
     let other = world_in(alloc, names, column(row, 3))?;
     let wanted = column(row, 4) == "true";
     is_true(rt, is_after(&other, &old, &less, &more) == wanted, row);
-    let found = number_found(alloc, old, other, &less, &more)?;
+    let mut worlds = both_worlds(alloc, old, other)?;
+    let found = text_of(alloc, found_in(&worlds, 0, &less, &more))?;
     is_text(rt, found.as_str(), column(row, 5), row);
+    let kept = text_of(alloc, kept_in(&mut worlds, 0, &less, &more)?)?;
+    is_text(rt, kept.as_str(), column(row, 6), row);
     Ok(())
 }
 
