@@ -11,8 +11,8 @@ remember-requires-clause-key c = numbers-later c.args.self.now c.number_of_resid
 pub remember-requires-clause-known : goal.remember-requires-clause-known
 remember-requires-clause-known c = known-as c.args.self.now c.number_of_residual.new.self c.args.key c.in-Ok.label c.number_of_residual.ensures.keeps c.requires c.in-Ok.ensures.number c.in-Some.arrival c.in-Some.ensures.known
 
-pub returns-in-Ok-remember-clause-found : goal.returns-in-Ok-remember-clause-found
-returns-in-Ok-remember-clause-found c =
+pub returns-in-Some-clause-found : goal.returns-in-Some-clause-found
+returns-in-Some-clause-found c =
     let a = c.args.self.now in
     let b = c.number_of_residual.new.self in
     let k = c.number_of_residual.ensures.keeps in

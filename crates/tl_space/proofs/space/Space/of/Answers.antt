@@ -11,7 +11,7 @@ pub invariant_of-result : goal.invariant_of-result
 invariant_of-result c = record {
   named_worlds = subst (Each (WorldIsNamed _)) (sym c.new.ensures) tt;
   kept = kept-by-none _ _ _ _ _ _ _ c.new-2.ensures.empty c.new-3.ensures.items;
-  remembered = subst (AreRemembered (plain_problem c.args.task.problem) _ _ _) (sym c.new-4.ensures.empty) tt;
+  remembered = subst (AreRemembered (plain_problem c.args.task.problem) _ _ _) (sym c.new-4.ensures) tt;
   found = none-found (plain_problem c.args.task.problem) _ _ _ c.new-5.ensures;
 }
 

@@ -5,14 +5,15 @@ use Rattle.tl_world.specs.WorldNumbers.{worlds_in}
 use Rattle.std.proofs.Common.{Option, Some, None, IfSome}
 use Rattle.tl_search.specs.declared.arrival.Arrival.{Arrival}
 use Rattle.tl_syntax.specs.Lists.{Among}
+use Rattle.tl_space.specs.declared.numbers.Numbers.{Numbers}
+use Rattle.tl_space.specs.declared.space.Space.{Space}
 use Rattle.tl_space.specs.Inner.{IsKnownIn}
 use Rattle.tl_space.proofs.Remembering.{each-among}
 use Rattle.tl_space.proofs.space.Space.remembered.Goals as goal
 
+known : (s : Space) (key : Numbers) (o : Option Arrival) → IfSome o (λ r. Among (key, r) s.arrivals) → IfSome o (IsKnownIn s key)
+known s key None h = tt
+known s key (Some r) h = (each-among (IsRemembered (problem_of s) (worlds_in s.worlds) (trees s.nodes) s.pairs.keys) s.arrivals (key, r) s.remembered h).known
+
 pub returns : goal.returns
-returns c = by c.get.result c.get.ensures
-  where
-    s = c.args.self.now
-    by : (o : Option Arrival) → IfSome o (λ r. Among (c.args.key, r) s.arrivals) → IfSome o (IsKnownIn s c.args.key)
-    by None h = tt
-    by (Some r) h = (each-among (IsRemembered (problem_of s) (worlds_in s.worlds) (trees s.nodes) s.pairs.keys) s.arrivals (c.args.key, r) s.remembered h).known
+returns c = known c.args.self.now c.args.key c.get.result c.get.ensures
