@@ -74,7 +74,7 @@ past [] (suc n) h = refl
 past (x ∷ xs) zero h = absurd (omega arith)
 past (x ∷ xs) (suc n) h = past xs n (omega arith)
 
-opened : {A : Type 0} (xs : List A) (i : ℕ) (x : A) → i < length xs → x ≡ get_or xs i x → drop i xs ≡ x ∷ drop (i + 1) xs
+pub opened : {A : Type 0} (xs : List A) (i : ℕ) (x : A) → i < length xs → x ≡ get_or xs i x → drop i xs ≡ x ∷ drop (i + 1) xs
 opened xs i x h q = drop-cons xs i x h ∙ ap₂ (λ y (k : ℕ). y ∷ drop k xs) (sym q) (sym (add-one i))
 
 module _ (e : Assignment) (args : List Arg) where

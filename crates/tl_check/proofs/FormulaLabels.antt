@@ -1,22 +1,16 @@
 -- The labels of a formula come from those of its parts.
-use Rattle.std.proofs.Common.{◌≡◌, ◌≤◌, ◌<◌, ◌+◌, ◌-◌, ℕ, zero, suc, List, [], ◌∷◌, ◌++◌, map, take, drop, length, get_or, Bool, false, not, None, Ok, Err, Result, IsErrAnd, Box, Global, inl, inr, refl, sym, ap, ap₂, ◌∙◌, subst, arith, append-nil, length-drop}
-use Rattle.std.specs.Prelude.{slice_get}
-use Rattle.tl_check.proofs.CursorLaws.{found-among, whole}
+use Rattle.std.proofs.Common.{◌≡◌, ◌≤◌, ◌<◌, ◌+◌, ◌-◌, ℕ, zero, suc, List, [], ◌∷◌, map, take, drop, length, get_or, Bool, false, not, Ok, Err, Result, IsErrAnd, Box, Global, inl, inr, refl, sym, ap, ap₂, ◌∙◌, subst, arith}
 use Rattle.tl_check.proofs.LabelLaws.{marks-not, marks-next, marks-always, marks-eventually, marks-until, marks-within, marks-during}
-use Rattle.tl_check.proofs.LookedLaws.{not-looked, next-looked, always-looked, eventually-looked, within-looked, during-looked, until-first-looked, until-second-looked, part-looked, instance-looked}
+use Rattle.tl_check.proofs.LookedLaws.{not-looked, next-looked, always-looked, eventually-looked, within-looked, during-looked, until-first-looked, until-second-looked, part-looked}
 use Rattle.tl_check.proofs.SpanLaws.{marks_in-by, marks_in-at, marks_in-length, marks_in-rest}
 use Rattle.tl_check.proofs.Sizes.{size, sizes}
 use Rattle.tl_check.specs.Ahead.{Ahead, true_ahead, next_of, marks}
-use Rattle.tl_check.specs.Cursors.{Quantifier, AreAt}
-use Rattle.tl_check.specs.Found.{IsTupleFound}
 use Rattle.tl_check.specs.Labelled.{looked_at, AreLabels}
 use Rattle.tl_check.specs.Later.{later_tree, later_labels}
 use Rattle.tl_check.specs.Passes.{next_labels, until_labels}
 use Rattle.tl_check.specs.Spans.{IsWithin, marks_in}
-use Rattle.tl_check.specs.declared.cursor.Cursor.{Cursor}
 use Rattle.tl_action.specs.declared.check_fault.CheckFault.{CheckFault}
 use Rattle.tl_action.specs.declared.check_fault.CheckFault.TheVariants as fault
-use Rattle.tl_check.specs.declared.found.Found.{Found}
 use Rattle.tl_check.specs.declared.later.Later.{Later}
 use Rattle.tl_check.specs.declared.later.Later.TheVariants as later
 use Rattle.tl_check.specs.declared.span.Span.{Span}
@@ -34,7 +28,7 @@ use Rattle.tl_syntax.specs.declared.term.Terms.{Terms}
 use Rattle.tl_syntax.specs.declared.value.Cmp.{Cmp}
 use Rattle.tl_syntax.specs.declared.variable.Arg.{Arg}
 use Rattle.tl_syntax.specs.declared.variable.Var.{Var}
-use Rattle.tl_syntax.specs.Assignment.{Assignment, bind}
+use Rattle.tl_syntax.specs.Assignment.{Assignment}
 use Rattle.tl_syntax.specs.Fits.{Fits}
 use Rattle.tl_syntax.specs.Lists.{Among}
 use Rattle.tl_syntax.specs.Signature.{Signature}
@@ -44,7 +38,6 @@ use Rattle.tl_syntax.specs.Trees.{FormulaTree, FormulaTrees, negation, conjuncti
 use Rattle.tl_terms.specs.Operations.{Operation}
 use Rattle.tl_terms.specs.Problem.{PlainProblem}
 use Rattle.tl_terms.specs.World.{World}
-use Rattle.tl_world.specs.Patterns.{tuple_of}
 
 -- ---- formulas that have none below them
 
@@ -315,59 +308,6 @@ body-Exists f g ss b x q r =
     let tree : tree_of_formula f ≡ for_some ss b (tree_of_formula g) = ap tree_of_formula q ∙ (tree-Exists ss b x ∙ ap (λ (y : Formula). for_some ss b (tree_of_formula y)) (sym r)) in
     let total : size (tree_of_formula f) ≡ 2 + size (tree_of_formula g) = ap size tree in
     record { tree = tree; smaller = omega arith }
-
-pub rest-whole : {A : Type 0} (xs : List A) (from : ℕ) → take (length xs - from) (drop from xs) ≡ drop from xs
-rest-whole xs from = whole (drop from xs) (length xs - from) (omega (arith, length-drop from xs))
-
-pub same-items : {A : Type 0} (count : ℕ) (old new : List A) → length new ≡ length old → count ≡ length old → take count (new ++ drop (length new) old) ≡ new
-same-items {A = A} count old new h k =
-    let none : drop (length new) old ≡ [] = ap (λ (m : ℕ). drop m old) h ∙ dropped old in
-    ap (λ (xs : List A). take count (new ++ xs)) none ∙ (ap (take count) (append-nil new) ∙ whole new count (omega arith))
-  where
-    dropped : (xs : List A) → drop (length xs) xs ≡ []
-    dropped [] = refl
-    dropped (x ∷ xs) = dropped xs
-
-drop-both : (from at : ℕ) (ws : List World) → drop at (drop from ws) ≡ drop (from + at) ws
-drop-both zero at ws = ap (λ (k : ℕ). drop k ws) (let e : at ≡ zero + at = omega arith in e)
-drop-both (suc from) zero [] = drop-nothing (suc from + zero)
-  where
-    drop-nothing : (k : ℕ) → [] ≡ drop k (let none : List World = [] in none)
-    drop-nothing zero = refl
-    drop-nothing (suc k) = refl
-drop-both (suc from) (suc at) [] = drop-nothing (suc from + suc at)
-  where
-    drop-nothing : (k : ℕ) → [] ≡ drop k (let none : List World = [] in none)
-    drop-nothing zero = refl
-    drop-nothing (suc k) = refl
-drop-both (suc from) at (w ∷ ws) = drop-both from at ws ∙ ap (λ (k : ℕ). drop k (w ∷ ws)) (let e : suc (from + at) ≡ suc from + at = omega arith in e)
-
-slice_get-both : (from at : ℕ) (ws : List World) → slice_get (drop from ws) at ≡ slice_get ws (from + at)
-slice_get-both zero at ws = ap (slice_get ws) (let e : at ≡ zero + at = omega arith in e)
-slice_get-both (suc from) at [] = nothing at ∙ sym (nothing (suc from + at))
-  where
-    nothing : (k : ℕ) → slice_get (let none : List World = [] in none) k ≡ None
-    nothing zero = refl
-    nothing (suc k) = refl
-slice_get-both (suc from) at (w ∷ ws) = slice_get-both from at ws ∙ ap (slice_get (w ∷ ws)) (let e : suc (from + at) ≡ suc from + at = omega arith in e)
-
-module _ (p : PlainProblem) (ws : List World) (span : Span) (within : IsWithin span (length ws)) (e d : Assignment) (q : Quantifier) (x : Found) where
-  -- the cursors after an instance
-  pub instance-on : (rest : List World) (cs old new : List Cursor) (labels : List Bool) → rest ≡ drop span.from ws → cs ≡ old → d ≡ bind q.vars (tuple_of x.tuple) e
-      → (labels ≡ marks (true_ahead p (bind q.vars (tuple_of x.tuple) e) q.part) (drop x.at rest) → AreAt p e q cs rest → AreAt p e q new rest)
-      → labels ≡ marks (true_ahead p d q.part) (drop (span.from + x.at) ws) → AreAt p e q old (drop span.from ws) → AreAt p e q new (drop span.from ws)
-  instance-on rest cs old new labels r c s moves told at =
-      subst (λ (vs : List World). AreAt p e q new vs) r
-      (moves (told ∙ ap₂ (λ (y : Assignment) (vs : List World). marks (true_ahead p y q.part) vs) s (sym (ap (drop x.at) r ∙ drop-both span.from x.at ws)))
-      (subst (λ (ds : List Cursor). AreAt p e q ds rest) (sym c) (subst (λ (vs : List World). AreAt p e q old vs) (sym r) at)))
-
-  -- a note of an instance is one of the quantified formula
-  pub instance-noted : (cs : List Cursor) → AreAt p e q cs (drop span.from ws) → IsTupleFound cs x → d ≡ bind q.vars (tuple_of x.tuple) e → (y : CheckFault) → AreLabels p ws (record { from = span.from + x.at; to = length ws }) d q.part (Err y) → AreLabels p ws span e (quantified q.junction q.vars q.bound q.part) (Err y)
-  instance-noted cs at f s fault.NoMemory h = tt
-  instance-noted cs at f s (fault.Range k n) h =
-      let found = found-among p e q cs (drop span.from ws) x at f in
-      let told : Among (operation_of n) (looked_at p ws k (bind q.vars (tuple_of x.tuple) e) q.part) = subst (λ (z : Assignment). Among (operation_of n) (looked_at p ws k z q.part)) s h.1.0 in
-      (let later = h.0 in omega arith, (instance-looked p ws (operation_of n) e q.junction q.vars q.bound q.part (tuple_of x.tuple) (span.from + x.at) k found.0 (sym (slice_get-both span.from x.at ws) ∙ found.1) h.0 found.2 told, h.1.1))
 
 -- ---- the exit of a `?`
 

@@ -3,12 +3,12 @@ use Rattle.std.proofs.Common.{◌≡◌, ◌<◌, ◌+◌, ◌-◌, ◌&&◌, �
 use Rattle.std.specs.Prelude.{slice_get}
 use Rattle.std.proofs.lemmas.List.{length-replicate, get_or-replicate}
 use Rattle.tl_check.proofs.AtomLaws.{opened-at}
-use Rattle.tl_check.proofs.CursorLaws.{joins-idle, joins-idle_right, joins-assoc, quantified-joined}
+use Rattle.tl_check.proofs.JoinLaws.{joins-idle, joins-idle_right, joins-assoc, quantified-joined}
 use Rattle.tl_check.proofs.HistoryLaws.{there-is}
 use Rattle.tl_check.proofs.LookedLaws.{instance-looked}
 use Rattle.tl_check.proofs.SpanLaws.{marks_in-at, marks_in-by, marks_in-length, where-not, where-there}
 use Rattle.tl_check.specs.Ahead.{true_ahead}
-use Rattle.tl_check.specs.Cursors.{Quantifier, joined_truths}
+use Rattle.tl_check.specs.Quantifiers.{Quantifier, joined_truths}
 use Rattle.tl_check.specs.Facts.{Guides, bound_ahead}
 use Rattle.tl_check.specs.Instances.{instance_ahead, JoinsInstance}
 use Rattle.tl_check.specs.Labelled.{AreLabels}
@@ -37,7 +37,7 @@ use Rattle.tl_world.specs.Next.{IsNext}
 
 -- ---- truths together
 
-same-by : (d a b : Bool) → (a ≡ d → b ≡ d) → (b ≡ d → a ≡ d) → a ≡ b
+pub same-by : (d a b : Bool) → (a ≡ d → b ≡ d) → (b ≡ d → a ≡ d) → a ≡ b
 same-by true true b h k = sym (h refl)
 same-by true false true h k = k refl
 same-by true false false h k = refl
@@ -45,7 +45,7 @@ same-by false false b h k = sym (h refl)
 same-by false true false h k = k refl
 same-by false true true h k = refl
 
-some-decides : {A : Type 0} (j : Junction) (truth : A → Bool) (xs : List A) → joined_truths j truth xs ≡ deciding_truth j → One (λ x. truth x ≡ deciding_truth j) xs
+pub some-decides : {A : Type 0} (j : Junction) (truth : A → Bool) (xs : List A) → joined_truths j truth xs ≡ deciding_truth j → One (λ x. truth x ≡ deciding_truth j) xs
 some-decides Any truth [] h = absurd (true≢false (sym h))
 some-decides All truth [] h = absurd (true≢false h)
 some-decides Any truth (x ∷ xs) h = (elim (truth x) as (λ b. truth x ≡ b → One (λ y. truth y ≡ true) (x ∷ xs)) [
@@ -57,7 +57,7 @@ some-decides All truth (x ∷ xs) h = (elim (truth x) as (λ b. truth x ≡ b �
   | true ↦ λ q. inr (some-decides All truth xs (ap (λ (c : Bool). c && joined_truths All truth xs) (sym q) ∙ h))
 ]) refl
 
-decided-by_some : {A : Type 0} (j : Junction) (truth : A → Bool) (xs : List A) → One (λ x. truth x ≡ deciding_truth j) xs → joined_truths j truth xs ≡ deciding_truth j
+pub decided-by_some : {A : Type 0} (j : Junction) (truth : A → Bool) (xs : List A) → One (λ x. truth x ≡ deciding_truth j) xs → joined_truths j truth xs ≡ deciding_truth j
 decided-by_some j truth [] h = absurd h
 decided-by_some Any truth (x ∷ xs) h = elim h [
   | inl q ↦ ap (λ (b : Bool). b || joined_truths Any truth xs) q
@@ -76,25 +76,25 @@ decided-by_some All truth (x ∷ xs) h = elim h [
     later true h = h
     later false h = refl
 
-one-out : {A : Type 0} (P : A → Type 0) (xs : List A) → One P xs → (x : A) × Among x xs × P x
+pub one-out : {A : Type 0} (P : A → Type 0) (xs : List A) → One P xs → (x : A) × Among x xs × P x
 one-out P [] h = absurd h
 one-out P (x ∷ xs) h = elim h [
   | inl k ↦ (x, inl refl, k)
   | inr k ↦ (let found = one-out P xs k in (found.0, inr found.1, found.2))
 ]
 
-open-is_not : (j : Junction) → not (deciding_truth j) ≡ deciding_truth j → ⊥
+pub open-is_not : (j : Junction) → not (deciding_truth j) ≡ deciding_truth j → ⊥
 open-is_not Any h = true≢false (sym h)
 open-is_not All h = true≢false h
 
 -- ---- an instance at one position
 
 module _ (p : PlainProblem) (q : Quantifier) (e : Assignment) where
-  instance-in : (w : World) (vs : List World) (b : Bool) → bound_true (situation_of p w) e q.bound ≡ b → instance_ahead p q e (w ∷ vs) ≡ cond b (true_ahead p e q.part (w ∷ vs)) (not (deciding_truth q.junction))
+  pub instance-in : (w : World) (vs : List World) (b : Bool) → bound_true (situation_of p w) e q.bound ≡ b → instance_ahead p q e (w ∷ vs) ≡ cond b (true_ahead p e q.part (w ∷ vs)) (not (deciding_truth q.junction))
   instance-in w vs b h = ap (λ (x : Bool). cond x (true_ahead p e q.part (w ∷ vs)) (not (deciding_truth q.junction))) h
 
 -- the world in which a bound is true at a position
-bound-world : (p : PlainProblem) (e : Assignment) (b : Bound) (ws : List World) (j : ℕ) → bound_ahead p e b (drop j ws) ≡ true → (w : World) × (slice_get ws j ≡ Some w) × (bound_true (situation_of p w) e b ≡ true)
+pub bound-world : (p : PlainProblem) (e : Assignment) (b : Bound) (ws : List World) (j : ℕ) → bound_ahead p e b (drop j ws) ≡ true → (w : World) × (slice_get ws j ≡ Some w) × (bound_true (situation_of p w) e b ≡ true)
 bound-world p e b [] zero h = absurd (true≢false (sym h))
 bound-world p e b [] (suc j) h = absurd (true≢false (sym h))
 bound-world p e b (w ∷ ws) zero h = (w, refl, h)

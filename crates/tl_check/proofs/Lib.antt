@@ -4,7 +4,7 @@ pub mod TemporalLaws
 pub mod LabelLaws
 pub mod StateLabelLaws
 pub mod VariableLaws
-pub mod CursorLaws
+pub mod JoinLaws
 pub mod Sizes
 pub mod PartLabels
 pub mod FitLaws
@@ -26,3 +26,5 @@ pub mod HistoryLaws
 pub mod AtomLaws
 pub mod GuidedLaws
 pub mod SteadyLaws
+pub mod GatheredLaws
+pub mod SamePlaces

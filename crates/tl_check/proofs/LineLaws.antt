@@ -41,10 +41,13 @@ pub truth-before_change : (b : Bool) (cs : List Change) (c : Change) (i : ℕ) �
 truth-before_change b [] c i h = ap (λ (x : Bool). cond x c.truth b) (after c.at i h)
 truth-before_change b (d ∷ cs) c i h = ap (λ (x : Bool). cond (nat_le d.at i) x b) (truth-before_change d.truth cs c i h)
 
+pub truth-past_change : (b : Bool) (cs : List Change) (c : Change) (i : ℕ) → AreBefore (i + 1) cs → c.at ≤ i → truth_from b (cs ++ c ∷ []) i ≡ c.truth
+truth-past_change b [] c i h l = ap (λ (x : Bool). cond x c.truth b) (up-to c.at i l)
+truth-past_change b (d ∷ cs) c i h l = let first = h.0 in
+    ap (λ (x : Bool). cond x (truth_from d.truth (cs ++ c ∷ []) i) b) (up-to d.at i (omega (arith, first))) ∙ truth-past_change d.truth cs c i h.1 l
+
 pub truth-at_change : (b : Bool) (cs : List Change) (c : Change) (i : ℕ) → AreBefore (i + 1) cs → c.at ≡ i → truth_from b (cs ++ c ∷ []) i ≡ c.truth
-truth-at_change b [] c i h q = ap (λ (x : Bool). cond x c.truth b) (up-to c.at i (omega arith))
-truth-at_change b (d ∷ cs) c i h q = let first = h.0 in
-    ap (λ (x : Bool). cond x (truth_from d.truth (cs ++ c ∷ []) i) b) (up-to d.at i (omega (arith, first))) ∙ truth-at_change d.truth cs c i h.1 q
+truth-at_change b cs c i h q = truth-past_change b cs c i h (omega (arith, q))
 
 -- where no change comes after the position before, the truth stays
 pub truth-stays : (b : Bool) (cs : List Change) (i : ℕ) → AreBefore (i + 1) cs → truth_from b cs (i + 1) ≡ truth_from b cs i

@@ -1,6 +1,6 @@
 -- The labels of parts together.
 use Rattle.std.proofs.Common.{◌≡◌, ◌<◌, ◌≤◌, ◌+◌, ◌-◌, ℕ, zero, suc, List, [], ◌∷◌, map, take, drop, length, replicate, get_or, Bool, not, refl, sym, ap, ap₂, ◌∙◌, arith, drop-cons, add-one}
-use Rattle.tl_check.proofs.CursorLaws.{joins-assoc, joins-idle_right, joins-idle}
+use Rattle.tl_check.proofs.JoinLaws.{joins-assoc, joins-idle_right, joins-idle}
 use Rattle.tl_check.proofs.AtomLaws.{marks_in-agree, same-marks}
 use Rattle.tl_check.proofs.LabelLaws.{marks-joined}
 use Rattle.tl_check.specs.Ahead.{Ahead, true_ahead, marks}

@@ -46,10 +46,13 @@ test_from-at t i (suc n) zero d h = ap t (let e : i ≡ i + 0 = omega arith in e
 test_from-at t i (suc n) (suc k) d h = test_from-at t (suc i) n k d (omega arith) ∙ ap t (let e : suc i + k ≡ i + suc k = omega arith in e)
 
 -- labels of a test of positions
-pub test_from-marks : (t : ℕ → Bool) (u : Ahead) (ws : List World) (span : Span) → IsWithin span (length ws) → ((i : ℕ) → i < length ws → t i ≡ u (drop i ws)) → test_from t span.from (span.to - span.from) ≡ marks_in u ws span
-test_from-marks t u ws span within right =
+pub test_from-marks_in : (t : ℕ → Bool) (u : Ahead) (ws : List World) (span : Span) → IsWithin span (length ws) → ((i : ℕ) → span.from ≤ i → i < span.to → t i ≡ u (drop i ws)) → test_from t span.from (span.to - span.from) ≡ marks_in u ws span
+test_from-marks_in t u ws span within right =
     marks_in-by u ws span within (test_from t span.from (span.to - span.from)) (test_from-length t span.from (span.to - span.from))
-    (λ k h. test_from-at t span.from (span.to - span.from) k false h ∙ right (span.from + k) (let room = within.within in omega arith))
+    (λ k h. test_from-at t span.from (span.to - span.from) k false h ∙ right (span.from + k) (omega arith) (omega arith))
+
+pub test_from-marks : (t : ℕ → Bool) (u : Ahead) (ws : List World) (span : Span) → IsWithin span (length ws) → ((i : ℕ) → i < length ws → t i ≡ u (drop i ws)) → test_from t span.from (span.to - span.from) ≡ marks_in u ws span
+test_from-marks t u ws span within right = test_from-marks_in t u ws span within (λ i h l. right i (let room = within.within in omega arith))
 
 -- one more label
 pub test_from-more : (t : ℕ → Bool) (i to : ℕ) → i < to → test_from t i (to - i) ≡ t i ∷ test_from t (i + 1) (to - (i + 1))

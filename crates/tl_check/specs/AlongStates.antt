@@ -2,7 +2,7 @@
 use Rattle.std.specs.Prelude.{ℕ, List, [], Bool, Option, Result}
 use Rattle.tl_action.specs.declared.check_fault.CheckFault.{CheckFault}
 use Rattle.tl_check.specs.Ahead.{true_ahead}
-use Rattle.tl_check.specs.Cursors.{Quantifier}
+use Rattle.tl_check.specs.Quantifiers.{Quantifier}
 use Rattle.tl_check.specs.Facts.{Guides, fact_ahead, bound_ahead}
 use Rattle.tl_check.specs.Instances.{JoinsInstance}
 use Rattle.tl_check.specs.Labelled.{AreLabels}

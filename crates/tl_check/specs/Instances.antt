@@ -1,7 +1,7 @@
 -- The labels of the instances of a quantifier.
 use Rattle.std.specs.Prelude.{◌≡◌, ◌<◌, ◌≤◌, ◌+◌, ℕ, List, drop, length, Bool, true, false, not, cond, Result, Ok, Err, slice_index_or}
 use Rattle.tl_check.specs.Ahead.{Ahead, true_ahead}
-use Rattle.tl_check.specs.Cursors.{Quantifier}
+use Rattle.tl_check.specs.Quantifiers.{Quantifier}
 use Rattle.tl_check.specs.Facts.{bound_ahead}
 use Rattle.tl_check.specs.Labelled.{looked_at}
 use Rattle.tl_check.specs.Passes.{joins}

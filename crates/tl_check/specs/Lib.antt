@@ -16,14 +16,13 @@ pub mod Ends
 pub mod Picked
 pub mod Later
 pub mod Labelled
-pub mod Cursors
-pub mod Reading
+pub mod Quantifiers
 pub mod PartTrees
 pub mod Instances
 pub mod FixedTerms
 pub mod Steady
 pub mod AlongStates
-pub mod Found
+pub mod Gathered
 pub mod Verdicts
 pub mod Judged
 pub mod Executions

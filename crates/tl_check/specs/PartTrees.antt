@@ -1,5 +1,5 @@
 -- The formulas that are labelled from their parts.
-use Rattle.tl_check.specs.Cursors.{Quantifier, with_part}
+use Rattle.tl_check.specs.Quantifiers.{Quantifier, with_part}
 use Rattle.tl_check.specs.declared.binder.Binder.{Binder}
 use Rattle.tl_syntax.specs.declared.formula.Formula.{Formula}
 use Rattle.tl_syntax.specs.Junctions.{quantified}

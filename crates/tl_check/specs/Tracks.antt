@@ -1,5 +1,5 @@
 -- The changes of facts, as they are found.
-use Rattle.std.specs.Prelude.{◌≡◌, List, [], ◌∷◌, ◌++◌, cond, Option, Some, None, IsSome}
+use Rattle.std.specs.Prelude.{◌≡◌, ◌⊎◌, List, [], ◌∷◌, ◌++◌, cond, Option, Some, None, IsSome}
 use Rattle.std.specs.HashMap.{HashMap, get}
 use Rattle.std.specs.Global.{Vec}
 use Rattle.std.specs.declared.hash.FoldHasher.{FoldHasher}
@@ -34,3 +34,7 @@ TakesLine fact old new = (g : Fact) → get fact_eq new g ≡ cond (fact_eq fact
 -- the change is added after the other ones of the fact
 abbrev pub AddsChange : Fact → Change → Lines → Lines → Type 0
 AddsChange fact change old new = (g : Fact) → line_in new g ≡ cond (fact_eq fact g) (line_in old g ++ change ∷ []) (line_in old g)
+
+-- those that were seen are as before, or this one is new among them
+abbrev pub SeesOne : Fact → List Fact → List Fact → Type 0
+SeesOne fact old new = (new ≡ old) ⊎ (new ≡ old ++ fact ∷ [])

@@ -1,6 +1,6 @@
 // The labels of formulas.
 ghost use Rattle.std.specs.Prelude.{◌≡◌, ◌+◌, length, OnOk};
-ghost use Rattle.tl_check.specs.AlongStates.{FitsAlong, AreLabelsAlong, JoinsAlong, GuidesAlong};
+ghost use Rattle.tl_check.specs.AlongStates.{FitsAlong, AreLabelsAlong, JoinsAlong, GuidesAlong, bound_along};
 ghost use Rattle.tl_check.specs.Facts.{IsAlong};
 ghost use Rattle.tl_check.specs.Later.{later_tree};
 ghost use Rattle.tl_check.specs.PartTrees.{until_tree, quantifier_of, quantified_tree};
@@ -13,13 +13,15 @@ use crate::CheckFault;
 use crate::along::Along;
 use crate::atoms::{atom_labels, bound_labels, guide_of};
 use crate::binder::Binder;
-use crate::cursors::{advance, cursors_at, least, truths_of};
+use crate::gathered::gathered;
 use crate::labels::Labels;
 use crate::later::Later;
+use crate::line::line_labels;
 use crate::plain::is_plain;
 use crate::span::Span;
 use crate::state_labels::state_labels;
 use crate::temporal::is_state;
+use crate::tracks::line_of;
 use tl_eval::{Env, TupleReader};
 use tl_syntax::{Formula, Formulas, Junction};
 use tl_world::World;
@@ -258,20 +260,23 @@ fn guided_labels(
         span.to - span.from,
         !binder.junction.deciding_truth(),
     )?;
-    let mut tuples = TupleReader::open(along.task, env, binder.vars, binder.bound);
+    let mut tuples = TupleReader::unopened();
+    tuples.open_in_place(along.task, env, binder.vars, binder.bound);
     'instances: while tuples.next(along.task, guide, binder.bound) {
         env.put_values(binder.vars.as_slice(), tuples.values());
-        join_instance(part, binder, along, span, env, &mut all)?;
+        let there = bound_labels(binder.bound, along, span, env)?;
+        join_instance(part, binder, &there, along, span, env, &mut all)?;
     }
     env.give_back(binder.vars.as_slice(), &outer);
     Ok(all)
 }
 
-/// Joins the labels of an instance, whose values are in the frame, with those of the ones before.
+/// Joins the labels of an instance, whose values are in the frame, with those of the ones before, where `there` says that the bound is true.
 #[cycle(labels_of)]
 fn join_instance(
     part: &Formula,
     binder: &Binder,
+    there: &Labels,
     along: &Along,
     span: Span,
     env: &mut Env,
@@ -281,16 +286,16 @@ fn join_instance(
     requires span { IsWithin span (length along.now.worlds.now) }
     requires frame { length env.old ≡ 32 }
     requires fits { FitsAlong along.now (quantified_tree binder.now part.now) }
+    requires there { there.now ≡ bound_along along.now span env.old binder.now.bound.now }
     requires size { span.from + length all.old ≡ span.to }
     ensures joined { JoinsAlong along.now span env.old (quantifier_of binder.now part.now) all.old all.new result }
     ensures frame { OnOk result (env.new ≡ env.old) }
 {
-    let there = bound_labels(binder.bound, along, span, env)?;
     match there.hull(span) {
         None => Ok(()),
         Some(hull) => {
             let found = labels_of(part, along, hull, env)?;
-            all.join_where(&there, &found, hull.from - span.from, binder.junction)?;
+            all.join_where(there, &found, hull.from - span.from, binder.junction)?;
             Ok(())
         }
     }
@@ -298,8 +303,7 @@ fn join_instance(
 
 /// The labels of a quantified formula whose tuples are found state by state.
 ///
-/// Each instance is labelled once, from the first position on at which its tuple makes the bound true; its labels count at those positions where the tuple does.
-/// So a tuple costs one comparison at each position, and one look-up where it makes the bound true.
+/// Each instance is labelled once, as where the tuples are among those of one world.
 #[cycle(labels_of)]
 fn stepped_labels(
     part: &Formula,
@@ -315,27 +319,18 @@ fn stepped_labels(
     ensures labels { AreLabelsAlong along.now span env.old (quantified_tree binder.now part.now) result }
     ensures frame { OnOk result (env.new ≡ env.old) }
 {
-    let mut inner = env.copy(along.alloc)?;
-    let rest = &along.worlds[span.from..];
-    let mut cursors = cursors_at(along.alloc, along.task, rest, env, binder)?;
-    while let Some(found) = least(cursors.as_slice(), binder.vars.len()) {
-        inner.put_values(binder.vars.as_slice(), found.tuple.counted_values());
-        let later = Span {
-            from: span.from + found.at,
-            to: along.worlds.len(),
-        };
-        let instance = labels_of(part, along, later, &mut inner)?;
-        advance(
-            along.task,
-            rest,
-            env,
-            binder,
-            cursors.as_mut_slice(),
-            &found,
-            &instance,
-        );
+    let tracks = gathered(binder, along, span, env)?;
+    let outer = env.kept(binder.vars.as_slice());
+    let mut all = Labels::all(
+        along.alloc,
+        span.to - span.from,
+        !binder.junction.deciding_truth(),
+    )?;
+    for tuple in tracks.seen.iter() {
+        env.put_values(binder.vars.as_slice(), tuple.args.as_slice());
+        let there = line_labels(along.alloc, line_of(&tracks.lines, tuple), span)?;
+        join_instance(part, binder, &there, along, span, env, &mut all)?;
     }
-    let mut labels = truths_of(along.alloc, cursors.as_slice())?;
-    labels.truncate(span.to - span.from);
-    Ok(labels)
+    env.give_back(binder.vars.as_slice(), &outer);
+    Ok(all)
 }

@@ -5,7 +5,7 @@ ghost use Rattle.tl_check.specs.Histories.{IsFactHistory, AreTracks, AreRowsBefo
 ghost use Rattle.tl_check.specs.Tracks.{line_in};
 
 use crate::line::Change;
-use crate::tracks::Tracks;
+use crate::tracks::{Tracks, line_of};
 use std::alloc::Global;
 use std::collections::HashMap;
 use tl_syntax::{Fact, NoMemory};
@@ -67,9 +67,6 @@ impl History {
     pub(crate) fn line(&self, fact: &Fact) -> &[Change]
         ensures { result.now ≡ line_in self.now.lines fact.now }
     {
-        match self.lines.get(fact) {
-            Some(line) => line.as_slice(),
-            None => &[],
-        }
+        line_of(&self.lines, fact)
     }
 }

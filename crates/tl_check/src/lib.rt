@@ -21,8 +21,8 @@
 //! - `picked`: labels that count at some positions alone.
 //! - `ends`: where a label is true for the first time, and for the last time.
 //! - `binder`: quantifiers.
-//! - `cursor`, `cursors`: where the reading of a quantifier stands, at one position and at some in a row.
-//! - `found`: the next instance of a quantifier.
+//! - `gathered`: the tuples of a quantifier's bound, and where each makes it true.
+//! - `same_places`: whether a bound reads the same in two states.
 //! - `laws`: what is proved of labels and verdicts.
 #![tactic(auto)]
 
@@ -30,14 +30,12 @@ mod along;
 mod atoms;
 mod binder;
 mod checker;
-mod cursor;
-mod cursors;
 mod cuts;
 mod differences;
 mod ends;
 mod execution;
 mod formula_labels;
-mod found;
+mod gathered;
 mod history;
 mod labels;
 mod later;
@@ -50,6 +48,7 @@ mod predicates;
 mod rest;
 mod run;
 mod runs;
+mod same_places;
 mod span;
 mod state_labels;
 mod steady;

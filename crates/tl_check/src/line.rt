@@ -1,5 +1,6 @@
 // When a fact holds along some states.
-ghost use Rattle.std.specs.Prelude.{◌≡◌, ◌≤◌, ◌<◌, ℕ, IfOk, false};
+ghost use Rattle.std.specs.Prelude.{◌≡◌, ◌≤◌, ◌<◌, ℕ, IfOk, OnOk, false, true};
+ghost use Rattle.tl_check.specs.Gathered.{GoesOn, BeginsAt, HoldsIn};
 ghost use Rattle.tl_check.specs.Lines.{truth_from, test_in};
 
 use crate::labels::Labels;
@@ -49,4 +50,44 @@ pub(crate) fn line_labels(alloc: Global, line: &[Change], span: Span) -> Result<
     }
     labels.add(truth, span.to - at)?;
     Ok(labels)
+}
+
+/// Whether the last change is at this position, and the fact holds before it. It takes no memory.
+fn goes_on(line: &[Change], at: usize) -> bool
+    ensures { result ≡ true → GoesOn at line.now }
+{
+    let count = line.len();
+    if count < 2 {
+        return false;
+    }
+    let last = line[count - 1];
+    let before = line[count - 2];
+    last.at == at && before.truth
+}
+
+/// Has the fact hold from a position on that no change comes after: by a change, or without the last one, where that is at this position and ends what held. It fails for want of memory alone.
+fn begin(line: &mut Vec<Change>, at: usize) -> Result<(), NoMemory>
+    ensures { OnOk result (BeginsAt at line.old.items line.new.items) }
+{
+    if goes_on(line.as_slice(), at) {
+        line.pop();
+        return Ok(());
+    }
+    line.push(Change { at, truth: true })?;
+    Ok(())
+}
+
+/// Has the fact hold at the positions of a span, which no change comes after. It fails for want of memory alone.
+///
+/// Spans that follow one another take the memory of one.
+pub(crate) fn add_span(line: &mut Vec<Change>, span: Span) -> Result<(), NoMemory>
+    requires { span.from < span.to }
+    ensures { OnOk result (HoldsIn span line.old.items line.new.items) }
+{
+    begin(line, span.from)?;
+    line.push(Change {
+        at: span.to,
+        truth: false,
+    })?;
+    Ok(())
 }

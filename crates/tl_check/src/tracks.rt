@@ -1,10 +1,13 @@
 // The changes of facts, as they are found.
-ghost use Rattle.std.specs.Prelude.{◌≡◌, [], IfOk, OnOk};
-ghost use Rattle.tl_check.specs.Tracks.{line_in, HaveSeenAll, TakesLine, AddsChange};
+ghost use Rattle.std.specs.Prelude.{◌≡◌, ◌<◌, [], IfOk, OnOk, false};
+ghost use Rattle.tl_check.specs.Gathered.{HoldsIn};
+ghost use Rattle.tl_check.specs.Tracks.{line_in, HaveSeenAll, TakesLine, AddsChange, SeesOne};
+ghost use Rattle.tl_syntax.specs.DerivedTests.{fact_eq};
 ghost use Rattle.tl_syntax.specs.Lists.{Among};
 ghost use Rattle.tl_syntax.specs.declared.fact.Fact.{Fact as PlainFact};
 
-use crate::line::Change;
+use crate::line::{Change, add_span};
+use crate::span::Span;
 use std::alloc::Global;
 use std::collections::HashMap;
 use tl_syntax::{Fact, NoMemory};
@@ -18,11 +21,22 @@ pub(crate) struct Tracks {
     pub(crate) seen: Vec<Fact>,
 }
 
+/// The changes of a fact. It takes no memory.
+pub(crate) fn line_of<'a>(lines: &'a HashMap<Fact, Vec<Change>>, fact: &Fact) -> &'a [Change]
+    ensures { result.now ≡ line_in lines.now fact.now }
+{
+    match lines.get(fact) {
+        Some(line) => line.as_slice(),
+        None => &[],
+    }
+}
+
 impl Tracks {
     /// No fact has changed. It takes no memory.
     pub(crate) fn new(alloc: Global) -> Tracks
         ensures none { (g : PlainFact) → line_in result.lines g ≡ [] }
         ensures covered { HaveSeenAll result }
+        ensures unseen { result.seen.items ≡ [] }
     {
         Tracks {
             lines: HashMap::new(alloc),
@@ -37,6 +51,7 @@ impl Tracks {
         ensures lines { OnOk result (TakesLine fact.now self.old.lines self.new.lines) }
         ensures seen { OnOk result (Among fact.now self.new.seen.items) }
         ensures stay { OnOk result ((g : PlainFact) → Among g self.old.seen.items → Among g self.new.seen.items) }
+        ensures one { OnOk result (SeesOne fact.now self.old.seen.items self.new.seen.items) }
     {
         match self.lines.remove(fact) {
             Some(line) => Ok(line),
@@ -56,6 +71,26 @@ impl Tracks {
     {
         let mut line = self.take_line(alloc, &fact)?;
         line.push(change)?;
+        self.lines.insert(fact, line)?;
+        Ok(())
+    }
+
+    /// Adds that the fact holds at the positions of a span, after its other changes. It fails for want of memory alone.
+    pub(crate) fn note_span(
+        &mut self,
+        alloc: Global,
+        fact: Fact,
+        span: Span,
+    ) -> Result<(), NoMemory>
+        requires covered { HaveSeenAll self.old }
+        requires some { span.from < span.to }
+        ensures here { OnOk result (HoldsIn span (line_in self.old.lines fact) (line_in self.new.lines fact)) }
+        ensures others { OnOk result ((g : PlainFact) → fact_eq fact g ≡ false → line_in self.new.lines g ≡ line_in self.old.lines g) }
+        ensures covered { OnOk result (HaveSeenAll self.new) }
+        ensures one { OnOk result (SeesOne fact self.old.seen.items self.new.seen.items) }
+    {
+        let mut line = self.take_line(alloc, &fact)?;
+        add_span(&mut line, span)?;
         self.lines.insert(fact, line)?;
         Ok(())
     }

@@ -2,7 +2,7 @@
 use Rattle.std.proofs.Common.{◌≡◌, ◌≤◌, ◌<◌, ◌-◌, ℕ, List, length, get_or, Bool, true, false, Option, Result, Ok, Err, IsErrAnd, sym, ap, ◌∙◌, subst, inr, arith}
 use Rattle.tl_action.specs.declared.check_fault.CheckFault.{CheckFault}
 use Rattle.tl_check.proofs.SpanLaws.{where-not, where-there}
-use Rattle.tl_check.specs.Cursors.{Quantifier}
+use Rattle.tl_check.specs.Quantifiers.{Quantifier}
 use Rattle.tl_check.specs.Passes.{joins}
 use Rattle.tl_check.specs.Spans.{joined_where}
 use Rattle.tl_lasso.proofs.LassoLaws.{situation-there}

@@ -4,7 +4,7 @@ use Rattle.std.proofs.lemmas.List.{length-replicate, get_or-replicate}
 use native.Mathlib.Decide.{dec_lt}
 use Rattle.tl_lasso.specs.Instances.{IsNoStronger, Includes, Joins, Gathers, WasTrue}
 use Rattle.tl_check.specs.Passes.{joins}
-use Rattle.tl_check.specs.Cursors.{Quantifier}
+use Rattle.tl_check.specs.Quantifiers.{Quantifier}
 use Rattle.tl_syntax.proofs.ListLaws.{one_in, one_out, Each-Among}
 use Rattle.tl_syntax.specs.declared.junction.Junction.{Junction}
 use Rattle.tl_syntax.specs.declared.junction.Junction.TheVariants.{All, Any}

@@ -1,7 +1,7 @@
 -- What the parts of the checker say along the states of a lasso, under the values of a frame.
 use Rattle.std.specs.Prelude.{ℕ, List, [], Bool, Option, Result, length}
 use Rattle.tl_action.specs.declared.check_fault.CheckFault.{CheckFault}
-use Rattle.tl_check.specs.Cursors.{Quantifier}
+use Rattle.tl_check.specs.Quantifiers.{Quantifier}
 use Rattle.tl_eval.specs.Frames.{assignment_in}
 use Rattle.tl_lasso.specs.Gathered.{GathersNext, JoinsIfNew, JoinsInstance}
 use Rattle.tl_lasso.specs.Instances.{BoundLabels, Gathers, WasTrue}

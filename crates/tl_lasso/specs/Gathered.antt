@@ -1,7 +1,7 @@
 -- What the joining of instances answers.
 use Rattle.std.specs.Prelude.{◌≡◌, ◌⊎◌, ◌+◌, ℕ, List, Bool, length, Result, Ok, Err}
 use Rattle.tl_action.specs.declared.check_fault.CheckFault.{CheckFault}
-use Rattle.tl_check.specs.Cursors.{Quantifier}
+use Rattle.tl_check.specs.Quantifiers.{Quantifier}
 use Rattle.tl_lasso.specs.Instances.{Gathers, Joins, WasTrue}
 use Rattle.tl_lasso.specs.Labelled.{AreLabels}
 use Rattle.tl_lasso.specs.Lassos.{situations_round}

@@ -1,7 +1,7 @@
 -- What labels say of a quantified formula while its instances are joined.
 use Rattle.std.specs.Prelude.{◌≡◌, ◌↔◌, ◌<◌, ℕ, List, length, Bool, true, false, slice_index_or}
 use Rattle.tl_check.specs.Passes.{joins}
-use Rattle.tl_check.specs.Cursors.{Quantifier}
+use Rattle.tl_check.specs.Quantifiers.{Quantifier}
 use Rattle.tl_syntax.specs.declared.bound.Bound.{Bound}
 use Rattle.tl_syntax.specs.declared.junction.Junction.{Junction}
 use Rattle.tl_syntax.specs.declared.junction.Junction.TheVariants.{All, Any}

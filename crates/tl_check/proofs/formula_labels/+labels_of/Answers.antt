@@ -1,23 +1,23 @@
-use Rattle.std.proofs.Common.{◌≡◌, ◌<◌, ◌+◌, ◌-◌, [], List, length, take, drop, map, replicate, Bool, not, Ok, Err, None, Option, IfNone, IfSome, refl, sym, ap, ◌∙◌, subst, arith, length-drop}
-use Rattle.tl_check.proofs.CursorLaws.{at-counts, at-size, at-end, found-count, found-within}
+use Rattle.std.proofs.Common.{◌≡◌, ◌<◌, ◌+◌, ◌-◌, [], List, length, replicate, Bool, false, not, Ok, Err, Option, IfSome, refl, sym, ap, ◌∙◌, subst, arith}
 use Rattle.tl_check.proofs.FitLaws.{quantified-parts, item-fits}
-use Rattle.tl_check.proofs.FormulaLabels.{state-True, state-False, state-Atom, state-Defined, state-Compare, state-GoalFact, state-GoalPlace, state-GoalNot, one-Not, one-Next, one-Always, one-Eventually, one-Within, one-During, not-made, not-noted, shifted-within, next-handed, next-last, next-noted, rest, rest-within, later-made, later-noted, until-parts, until-made, until-first-noted, until-second-noted, same-length, fits-not, fits-next, fits-word, two-Until, all-And, all-Or, item-noted, body-ForAll, body-Exists, rest-whole, same-items, instance-on, instance-noted, handed}
+use Rattle.tl_check.proofs.FormulaLabels.{state-True, state-False, state-Atom, state-Defined, state-Compare, state-GoalFact, state-GoalPlace, state-GoalNot, one-Not, one-Next, one-Always, one-Eventually, one-Within, one-During, not-made, not-noted, shifted-within, next-handed, next-last, next-noted, rest, rest-within, later-made, later-noted, until-parts, until-made, until-first-noted, until-second-noted, same-length, fits-not, fits-next, fits-word, two-Until, all-And, all-Or, item-noted, body-ForAll, body-Exists, handed}
+use Rattle.tl_check.proofs.GatheredLaws.{stepped-begun, stepped-on, stepped-noted, stepped-end, tuple-labels}
 use Rattle.tl_check.proofs.GuidedLaws.{Guided, guided-begun, guided-on, guided-fewer, guided-noted, guided-end, hull-within, instance-nowhere, instance-joined}
 use Rattle.tl_check.proofs.GuidedLaws as guided
-use Rattle.tl_check.proofs.LabelLaws.{marks-length}
-use Rattle.tl_check.proofs.NoValue.{none-left}
+use Rattle.tl_check.proofs.HistoryLaws.{each-among, among-item}
 use Rattle.tl_check.proofs.PartLabels.{parts-begun, parts-on, parts-end}
 use Rattle.tl_check.proofs.Sizes.{size-at}
-use Rattle.tl_check.proofs.SpanLaws.{marks_in-length, marks_in-rest}
+use Rattle.tl_check.proofs.SpanLaws.{marks_in-length}
 use Rattle.tl_check.specs.Ahead.{true_ahead}
-use Rattle.tl_check.specs.Cursors.{Quantifier, AreAt, with_part}
+use Rattle.tl_check.specs.Quantifiers.{Quantifier, with_part}
 use Rattle.tl_check.specs.Facts.{bound_ahead}
-use Rattle.tl_check.specs.Found.{IsTupleFound, HaveCounts}
+use Rattle.tl_check.specs.Gathered.{IsTuple}
 use Rattle.tl_check.specs.Instances.{JoinsInstance}
 use Rattle.tl_check.specs.Labelled.{AreLabels}
 use Rattle.tl_check.specs.Later.{later_tree}
+use Rattle.tl_check.specs.Lines.{truth_from, test_from}
 use Rattle.tl_check.specs.Spans.{marks_in}
-use Rattle.tl_check.specs.declared.cursor.Cursor.{Cursor}
+use Rattle.tl_check.specs.declared.line.Change.{Change}
 use Rattle.tl_eval.proofs.BindLaws.{bind-through}
 use Rattle.tl_eval.proofs.TupleRest.{rest_after}
 use Rattle.tl_eval.specs.Frames.{assignment_in}
@@ -36,7 +36,6 @@ use Rattle.tl_terms.specs.Bounds.{bound_true, tuples}
 use Rattle.tl_terms.specs.Definitions.{situation_of}
 use Rattle.tl_terms.specs.ProblemMeaning.{plain_problem}
 use Rattle.tl_world.specs.Next.{IsNext}
-use Rattle.tl_world.specs.Patterns.{tuple_of}
 use Rattle.tl_check.proofs.formula_labels.+labels_of.Goals as goal
 
 pub labels_of-state_labels-requires-in-True-clause-state : goal.labels_of-state_labels-requires-in-True-clause-state
@@ -309,18 +308,18 @@ guided_labels-kept-outer-requires t c =
     let parts = quantified-parts c.args.along.now.task.now.problem c.args.binder.now.junction c.args.binder.now.vars.now c.args.binder.now.bound.now (tree_of_formula c.args.part.now) c.requires.fits in
     record { few = omega (arith, ap length c.as_slice.ensures, parts.few) }
 
-pub guided_labels-open-tuples-requires-clause-differ : goal.guided_labels-open-tuples-requires-clause-differ
-guided_labels-open-tuples-requires-clause-differ t c =
+pub guided_labels-open_in_place-requires-clause-differ : goal.guided_labels-open_in_place-requires-clause-differ
+guided_labels-open_in_place-requires-clause-differ t c =
     let parts = quantified-parts c.args.along.now.task.now.problem c.args.binder.now.junction c.args.binder.now.vars.now c.args.binder.now.bound.now (tree_of_formula c.args.part.now) c.requires.fits in
     parts.differ
 
-pub guided_labels-open-tuples-requires-clause-occur : goal.guided_labels-open-tuples-requires-clause-occur
-guided_labels-open-tuples-requires-clause-occur t c =
+pub guided_labels-open_in_place-requires-clause-occur : goal.guided_labels-open_in_place-requires-clause-occur
+guided_labels-open_in_place-requires-clause-occur t c =
     let parts = quantified-parts c.args.along.now.task.now.problem c.args.binder.now.junction c.args.binder.now.vars.now c.args.binder.now.bound.now (tree_of_formula c.args.part.now) c.requires.fits in
     parts.occur
 
-pub guided_labels-open-tuples-requires-clause-fits : goal.guided_labels-open-tuples-requires-clause-fits
-guided_labels-open-tuples-requires-clause-fits t c =
+pub guided_labels-open_in_place-requires-clause-fits : goal.guided_labels-open_in_place-requires-clause-fits
+guided_labels-open_in_place-requires-clause-fits t c =
     let parts = quantified-parts c.args.along.now.task.now.problem c.args.binder.now.junction c.args.binder.now.vars.now c.args.binder.now.bound.now (tree_of_formula c.args.part.now) c.requires.fits in
     parts.bound
 
@@ -328,10 +327,10 @@ pub guided_labels-instances-init : goal.guided_labels-instances-init
 guided_labels-instances-init t c =
     let parts = quantified-parts c.args.along.now.task.now.problem c.args.binder.now.junction c.args.binder.now.vars.now c.args.binder.now.bound.now (tree_of_formula c.args.part.now) c.requires.fits in
     record {
-      reads = c.open-tuples.ensures.reads;
+      reads = c.open_in_place.ensures.reads;
       scope = λ u. refl;
       slots = c.requires.frame;
-      so_far = guided-begun (plain_problem c.args.along.now.task.now.problem) c.args.along.now.worlds.now (assignment_in c.args.env.now) (with_part c.args.binder.now (tree_of_formula c.args.part.now)) parts.differ parts.occur c.args.guide.now c.requires.guide c.args.span c.requires.span c.in_ok-all.all c.open-tuples.result.tuple c.open-tuples.ensures.before (c.in_ok-all.ensures.same ∙ ap (λ (b : Bool). replicate (c.args.span.to - c.args.span.from) (not b)) c.deciding_truth.ensures);
+      so_far = guided-begun (plain_problem c.args.along.now.task.now.problem) c.args.along.now.worlds.now (assignment_in c.args.env.now) (with_part c.args.binder.now (tree_of_formula c.args.part.now)) parts.differ parts.occur c.args.guide.now c.requires.guide c.args.span c.requires.span c.in_ok-all.all c.open_in_place.new.self.tuple c.open_in_place.ensures.before (c.in_ok-all.ensures.same ∙ ap (λ (b : Bool). replicate (c.args.span.to - c.args.span.from) (not b)) c.deciding_truth.ensures);
     }
 
 pub guided_labels-values-requires : goal.guided_labels-values-requires
@@ -349,7 +348,7 @@ guided_labels-put_values-requires-clause-same t c =
 
 pub guided_labels-join_instance-requires : goal.guided_labels-join_instance-requires
 guided_labels-join_instance-requires t c =
-    (omega (arith, c.decreases), (c.requires.along, (c.requires.span, (c.put_values.ensures.slots ∙ c.instances.invariant.slots, (c.requires.fits, omega (arith, c.instances.invariant.so_far.size, c.requires.span.order))))))
+    (omega (arith, c.decreases), (c.requires.along, (c.requires.span, (c.put_values.ensures.slots ∙ c.instances.invariant.slots, (c.requires.fits, (c.in_ok-there.ensures, omega (arith, c.instances.invariant.so_far.size, c.requires.span.order)))))))
 
 pub guided_labels-instances-smaller : goal.guided_labels-instances-smaller
 guided_labels-instances-smaller t c =
@@ -390,19 +389,19 @@ guided_labels-returns-in_err-join_instance-clause-labels t c =
     (guided-noted (plain_problem c.args.along.now.task.now.problem) c.args.along.now.worlds.now (assignment_in c.args.env.now) (with_part c.args.binder.now (tree_of_formula c.args.part.now)) parts.differ parts.occur c.args.guide.now c.requires.guide c.args.span c.requires.span c.instances.all c.instances.tuples.tuple c.instances.invariant.so_far c.values.result.now next c.join_instance.new.all c.in_err-join_instance.field-0.0
     (subst (λ (y : Assignment). JoinsInstance (plain_problem c.args.along.now.task.now.problem) c.args.along.now.worlds.now c.args.span y (with_part c.args.binder.now (tree_of_formula c.args.part.now)) c.instances.all c.join_instance.new.all (Err c.in_err-join_instance.field-0.0)) here c.in_err-join_instance.ensures.joined))
 
-pub join_instance-bound_labels-requires-clause-fits : goal.join_instance-bound_labels-requires-clause-fits
-join_instance-bound_labels-requires-clause-fits t c =
+pub guided_labels-bound_labels-requires-clause-fits : goal.guided_labels-bound_labels-requires-clause-fits
+guided_labels-bound_labels-requires-clause-fits t c =
     let parts = quantified-parts c.args.along.now.task.now.problem c.args.binder.now.junction c.args.binder.now.vars.now c.args.binder.now.bound.now (tree_of_formula c.args.part.now) c.requires.fits in
     parts.bound
 
 pub join_instance-hull-requires : goal.join_instance-hull-requires
 join_instance-hull-requires t c =
-    omega (arith, ap length c.in_ok-there.ensures, marks_in-length (bound_ahead (plain_problem c.args.along.now.task.now.problem) (assignment_in c.args.env.now) c.args.binder.now.bound.now) c.args.along.now.worlds.now c.args.span c.requires.span, c.requires.span.order)
+    omega (arith, ap length c.requires.there, marks_in-length (bound_ahead (plain_problem c.args.along.now.task.now.problem) (assignment_in c.args.env.now) c.args.binder.now.bound.now) c.args.along.now.worlds.now c.args.span c.requires.span, c.requires.span.order)
 
 pub join_instance-labels_of-requires : goal.join_instance-labels_of-requires
 join_instance-labels_of-requires t c =
     let parts = quantified-parts c.args.along.now.task.now.problem c.args.binder.now.junction c.args.binder.now.vars.now c.args.binder.now.bound.now (tree_of_formula c.args.part.now) c.requires.fits in
-    (omega (arith, c.decreases), (c.requires.along, (hull-within (plain_problem c.args.along.now.task.now.problem) c.args.along.now.worlds.now c.args.span (assignment_in c.args.env.now) (with_part c.args.binder.now (tree_of_formula c.args.part.now)) c.requires.span c.in_ok-there.there c.in_ok-there.ensures c.in-Some.hull c.in-Some.ensures.hull, (c.requires.frame, parts.body))))
+    (omega (arith, c.decreases), (c.requires.along, (hull-within (plain_problem c.args.along.now.task.now.problem) c.args.along.now.worlds.now c.args.span (assignment_in c.args.env.now) (with_part c.args.binder.now (tree_of_formula c.args.part.now)) c.requires.span c.args.there.now c.requires.there c.in-Some.hull c.in-Some.ensures.hull, (c.requires.frame, parts.body))))
 
 pub join_instance-overflow_sub-hull : goal.join_instance-overflow_sub-hull
 join_instance-overflow_sub-hull t c =
@@ -410,169 +409,140 @@ join_instance-overflow_sub-hull t c =
 
 pub join_instance-join_where-requires-clause-size : goal.join_instance-join_where-requires-clause-size
 join_instance-join_where-requires-clause-size t c =
-    omega (arith, ap length c.in_ok-there.ensures, marks_in-length (bound_ahead (plain_problem c.args.along.now.task.now.problem) (assignment_in c.args.env.now) c.args.binder.now.bound.now) c.args.along.now.worlds.now c.args.span c.requires.span, c.requires.span.order, c.requires.size)
+    omega (arith, ap length c.requires.there, marks_in-length (bound_ahead (plain_problem c.args.along.now.task.now.problem) (assignment_in c.args.env.now) c.args.binder.now.bound.now) c.args.along.now.worlds.now c.args.span c.requires.span, c.requires.span.order, c.requires.size)
 
 pub join_instance-join_where-requires-clause-within : goal.join_instance-join_where-requires-clause-within
 join_instance-join_where-requires-clause-within t c =
     let hull = c.in-Some.ensures.hull in
-    omega (arith, ap length c.in_ok-there.ensures, marks_in-length (bound_ahead (plain_problem c.args.along.now.task.now.problem) (assignment_in c.args.env.now) c.args.binder.now.bound.now) c.args.along.now.worlds.now c.args.span c.requires.span, c.requires.span.order, ap length c.in_ok-found-in-Some.ensures.labels, marks_in-length (true_ahead (plain_problem c.args.along.now.task.now.problem) (assignment_in c.args.env.now) (tree_of_formula c.args.part.now)) c.args.along.now.worlds.now c.in-Some.hull (hull-within (plain_problem c.args.along.now.task.now.problem) c.args.along.now.worlds.now c.args.span (assignment_in c.args.env.now) (with_part c.args.binder.now (tree_of_formula c.args.part.now)) c.requires.span c.in_ok-there.there c.in_ok-there.ensures c.in-Some.hull hull), hull.from, hull.order, hull.to)
+    omega (arith, ap length c.requires.there, marks_in-length (bound_ahead (plain_problem c.args.along.now.task.now.problem) (assignment_in c.args.env.now) c.args.binder.now.bound.now) c.args.along.now.worlds.now c.args.span c.requires.span, c.requires.span.order, ap length c.in_ok-found-in-Some.ensures.labels, marks_in-length (true_ahead (plain_problem c.args.along.now.task.now.problem) (assignment_in c.args.env.now) (tree_of_formula c.args.part.now)) c.args.along.now.worlds.now c.in-Some.hull (hull-within (plain_problem c.args.along.now.task.now.problem) c.args.along.now.worlds.now c.args.span (assignment_in c.args.env.now) (with_part c.args.binder.now (tree_of_formula c.args.part.now)) c.requires.span c.args.there.now c.requires.there c.in-Some.hull hull), hull.from, hull.order, hull.to)
 
 pub join_instance-returns-in-None-clause-joined : goal.join_instance-returns-in-None-clause-joined
 join_instance-returns-in-None-clause-joined t c =
-    instance-nowhere (plain_problem c.args.along.now.task.now.problem) c.args.along.now.worlds.now c.args.span (assignment_in c.args.env.now) (with_part c.args.binder.now (tree_of_formula c.args.part.now)) c.requires.span c.in_ok-there.there c.in_ok-there.ensures c.args.all.now tt (omega (arith, c.requires.size)) c.in-None.ensures.none
+    instance-nowhere (plain_problem c.args.along.now.task.now.problem) c.args.along.now.worlds.now c.args.span (assignment_in c.args.env.now) (with_part c.args.binder.now (tree_of_formula c.args.part.now)) c.requires.span c.args.there.now c.requires.there c.args.all.now tt (omega (arith, c.requires.size)) c.in-None.ensures.none
 
-pub join_instance-returns-clause-joined : goal.join_instance-returns-clause-joined
-join_instance-returns-clause-joined t c =
-    instance-joined (plain_problem c.args.along.now.task.now.problem) c.args.along.now.worlds.now c.args.span (assignment_in c.args.env.now) (with_part c.args.binder.now (tree_of_formula c.args.part.now)) c.requires.span c.in_ok-there.there c.in_ok-there.ensures c.in-Some.hull c.in-Some.ensures.hull c.args.all.now c.join_where.new.self c.in_ok-found-in-Some.found tt (omega (arith, c.requires.size)) c.in_ok-found-in-Some.ensures.labels c.in_ok-join_where-in-Some.ensures.size c.in_ok-join_where-in-Some.ensures.joined
+pub join_instance-returns-in_ok-join_where-in-Some-clause-joined : goal.join_instance-returns-in_ok-join_where-in-Some-clause-joined
+join_instance-returns-in_ok-join_where-in-Some-clause-joined t c =
+    instance-joined (plain_problem c.args.along.now.task.now.problem) c.args.along.now.worlds.now c.args.span (assignment_in c.args.env.now) (with_part c.args.binder.now (tree_of_formula c.args.part.now)) c.requires.span c.args.there.now c.requires.there c.in-Some.hull c.in-Some.ensures.hull c.args.all.now c.join_where.new.self c.in_ok-found-in-Some.found tt (omega (arith, c.requires.size)) c.in_ok-found-in-Some.ensures.labels c.in_ok-join_where-in-Some.ensures.size c.in_ok-join_where-in-Some.ensures.joined
 
 pub join_instance-returns-in_err-found-in-Some-clause-joined : goal.join_instance-returns-in_err-found-in-Some-clause-joined
 join_instance-returns-in_err-found-in-Some-clause-joined t c =
-    handed (λ r. JoinsInstance (plain_problem c.args.along.now.task.now.problem) c.args.along.now.worlds.now c.args.span (assignment_in c.args.env.now) (with_part c.args.binder.now (tree_of_formula c.args.part.now)) c.args.all.now c.args.all.now r) c.from_residual-in_err-found-in-Some.result c.in_err-found-in-Some.field-0.0 c.from_residual-in_err-found-in-Some.ensures.1 (guided.instance-noted (plain_problem c.args.along.now.task.now.problem) c.args.along.now.worlds.now c.args.span (assignment_in c.args.env.now) (with_part c.args.binder.now (tree_of_formula c.args.part.now)) c.requires.span c.in_ok-there.there c.in_ok-there.ensures c.in-Some.hull c.in-Some.ensures.hull c.args.all.now c.args.all.now c.in_err-found-in-Some.field-0.0 c.in_err-found-in-Some.ensures.labels)
+    handed (λ r. JoinsInstance (plain_problem c.args.along.now.task.now.problem) c.args.along.now.worlds.now c.args.span (assignment_in c.args.env.now) (with_part c.args.binder.now (tree_of_formula c.args.part.now)) c.args.all.now c.args.all.now r) c.from_residual.result c.in_err-found-in-Some.field-0.0 c.from_residual.ensures.1 (guided.instance-noted (plain_problem c.args.along.now.task.now.problem) c.args.along.now.worlds.now c.args.span (assignment_in c.args.env.now) (with_part c.args.binder.now (tree_of_formula c.args.part.now)) c.requires.span c.args.there.now c.requires.there c.in-Some.hull c.in-Some.ensures.hull c.args.all.now c.args.all.now c.in_err-found-in-Some.field-0.0 c.in_err-found-in-Some.ensures.labels)
 
-pub stepped_labels-cursors_at-requires-clause-differ : goal.stepped_labels-cursors_at-requires-clause-differ
-stepped_labels-cursors_at-requires-clause-differ t c =
+pub stepped_labels-gathered-requires-clause-differ : goal.stepped_labels-gathered-requires-clause-differ
+stepped_labels-gathered-requires-clause-differ t c =
     let parts = quantified-parts c.args.along.now.task.now.problem c.args.binder.now.junction c.args.binder.now.vars.now c.args.binder.now.bound.now (tree_of_formula c.args.part.now) c.requires.fits in
     parts.differ
 
-pub stepped_labels-advance-requires-clause-differ : goal.stepped_labels-advance-requires-clause-differ
-stepped_labels-advance-requires-clause-differ t c =
-    let parts = quantified-parts c.args.along.now.task.now.problem c.args.binder.now.junction c.args.binder.now.vars.now c.args.binder.now.bound.now (tree_of_formula c.args.part.now) c.requires.fits in
-    parts.differ
-
-pub stepped_labels-cursors_at-requires-clause-occur : goal.stepped_labels-cursors_at-requires-clause-occur
-stepped_labels-cursors_at-requires-clause-occur t c =
+pub stepped_labels-gathered-requires-clause-occur : goal.stepped_labels-gathered-requires-clause-occur
+stepped_labels-gathered-requires-clause-occur t c =
     let parts = quantified-parts c.args.along.now.task.now.problem c.args.binder.now.junction c.args.binder.now.vars.now c.args.binder.now.bound.now (tree_of_formula c.args.part.now) c.requires.fits in
     parts.occur
 
-pub stepped_labels-advance-requires-clause-occur : goal.stepped_labels-advance-requires-clause-occur
-stepped_labels-advance-requires-clause-occur t c =
-    let parts = quantified-parts c.args.along.now.task.now.problem c.args.binder.now.junction c.args.binder.now.vars.now c.args.binder.now.bound.now (tree_of_formula c.args.part.now) c.requires.fits in
-    parts.occur
-
-pub stepped_labels-cursors_at-requires-clause-fits : goal.stepped_labels-cursors_at-requires-clause-fits
-stepped_labels-cursors_at-requires-clause-fits t c =
+pub stepped_labels-gathered-requires-clause-fits : goal.stepped_labels-gathered-requires-clause-fits
+stepped_labels-gathered-requires-clause-fits t c =
     let parts = quantified-parts c.args.along.now.task.now.problem c.args.binder.now.junction c.args.binder.now.vars.now c.args.binder.now.bound.now (tree_of_formula c.args.part.now) c.requires.fits in
     parts.bound
 
-pub stepped_labels-advance-requires-clause-fits : goal.stepped_labels-advance-requires-clause-fits
-stepped_labels-advance-requires-clause-fits t c =
+pub stepped_labels-kept-outer-requires : goal.stepped_labels-kept-outer-requires
+stepped_labels-kept-outer-requires t c =
     let parts = quantified-parts c.args.along.now.task.now.problem c.args.binder.now.junction c.args.binder.now.vars.now c.args.binder.now.bound.now (tree_of_formula c.args.part.now) c.requires.fits in
-    parts.bound
+    record { few = omega (arith, ap length c.as_slice.ensures, parts.few) }
 
-pub stepped_labels-advance-requires-clause-few : goal.stepped_labels-advance-requires-clause-few
-stepped_labels-advance-requires-clause-few t c =
-    let parts = quantified-parts c.args.along.now.task.now.problem c.args.binder.now.junction c.args.binder.now.vars.now c.args.binder.now.bound.now (tree_of_formula c.args.part.now) c.requires.fits in
-    parts.few
-
-pub stepped_labels-least-requires : goal.stepped_labels-least-requires
-stepped_labels-least-requires t c =
-    let parts = quantified-parts c.args.along.now.task.now.problem c.args.binder.now.junction c.args.binder.now.vars.now c.args.binder.now.bound.now (tree_of_formula c.args.part.now) c.requires.fits in
-    omega (arith, parts.few, c.len.ensures)
-
-pub stepped_labels-counted_values-requires : goal.stepped_labels-counted_values-requires
-stepped_labels-counted_values-requires t c =
+pub stepped_labels-loop-tuple-init : goal.stepped_labels-loop-tuple-init
+stepped_labels-loop-tuple-init t c =
     let parts = quantified-parts c.args.along.now.task.now.problem c.args.binder.now.junction c.args.binder.now.vars.now c.args.binder.now.bound.now (tree_of_formula c.args.part.now) c.requires.fits in
     let p = plain_problem c.args.along.now.task.now.problem in
     let e = assignment_in c.args.env.now in
+    let ws = c.args.along.now.worlds.now in
     let q : Quantifier = with_part c.args.binder.now (tree_of_formula c.args.part.now) in
-    let found = subst (λ (cs : List Cursor). IsTupleFound cs c.in-Some.found) c.as_slice.ensures.value c.in-Some.ensures.some in
-    omega (arith, parts.few, found-count (length c.args.binder.now.vars.now) c.loop-found.cursors.items c.in-Some.found (at-counts p e q c.loop-found.cursors.items (drop c.args.span.from c.args.along.now.worlds.now) c.loop-found.invariant.at) found)
+    let tracks = c.in_ok-tracks.tracks in
+    record {
+      scope = λ u. refl;
+      slots = c.requires.frame;
+      so_far = stepped-begun p ws e q parts.differ parts.occur c.args.span c.requires.span tracks c.in_ok-tracks.ensures c.in_ok-all.all c.deref-tuple-items.result.now c.deref-tuple-items.ensures.value (c.in_ok-all.ensures.same ∙ ap (λ (b : Bool). replicate (c.args.span.to - c.args.span.from) (not b)) c.deciding_truth.ensures);
+    }
 
 pub stepped_labels-put_values-requires-clause-slots : goal.stepped_labels-put_values-requires-clause-slots
 stepped_labels-put_values-requires-clause-slots t c =
     let parts = quantified-parts c.args.along.now.task.now.problem c.args.binder.now.junction c.args.binder.now.vars.now c.args.binder.now.bound.now (tree_of_formula c.args.part.now) c.requires.fits in
-    subst (Each (λ (s : Var). s.slot < 32)) (sym c.as_slice-in-Some.ensures) parts.in_frame
+    subst (Each (λ (s : Var). s.slot < 32)) (sym c.as_slice-in-loop-tuple.ensures) parts.in_frame
 
 pub stepped_labels-put_values-requires-clause-same : goal.stepped_labels-put_values-requires-clause-same
 stepped_labels-put_values-requires-clause-same t c =
     let parts = quantified-parts c.args.along.now.task.now.problem c.args.binder.now.junction c.args.binder.now.vars.now c.args.binder.now.bound.now (tree_of_formula c.args.part.now) c.requires.fits in
     let p = plain_problem c.args.along.now.task.now.problem in
     let e = assignment_in c.args.env.now in
+    let ws = c.args.along.now.worlds.now in
     let q : Quantifier = with_part c.args.binder.now (tree_of_formula c.args.part.now) in
-    let found = subst (λ (cs : List Cursor). IsTupleFound cs c.in-Some.found) c.as_slice.ensures.value c.in-Some.ensures.some in
-    omega (arith, ap length c.as_slice-in-Some.ensures, c.counted_values.ensures.count, found-count (length c.args.binder.now.vars.now) c.loop-found.cursors.items c.in-Some.found (at-counts p e q c.loop-found.cursors.items (drop c.args.span.from c.args.along.now.worlds.now) c.loop-found.invariant.at) found)
+    let tracks = c.in_ok-tracks.tracks in
+    let f = c.tuple-item.result in
+    let items = c.deref-tuple-items.result.now in
+    let known = each-among (IsTuple (length q.vars)) items f (subst (Each (IsTuple (length q.vars))) (sym c.deref-tuple-items.ensures.value) c.in_ok-tracks.ensures.counts) (among-item items c.loop-tuple.tuple-index f c.loop-tuple-test.true c.tuple-item.is) in
+    ap length c.as_slice-in-loop-tuple.ensures ∙ sym (ap length c.as_slice-in-loop-tuple-2.ensures ∙ known.1)
 
-pub stepped_labels-overflow_add-later : goal.stepped_labels-overflow_add-later
-stepped_labels-overflow_add-later t c =
+pub stepped_labels-join_instance-requires : goal.stepped_labels-join_instance-requires
+stepped_labels-join_instance-requires t c =
     let parts = quantified-parts c.args.along.now.task.now.problem c.args.binder.now.junction c.args.binder.now.vars.now c.args.binder.now.bound.now (tree_of_formula c.args.part.now) c.requires.fits in
     let p = plain_problem c.args.along.now.task.now.problem in
     let e = assignment_in c.args.env.now in
+    let ws = c.args.along.now.worlds.now in
     let q : Quantifier = with_part c.args.binder.now (tree_of_formula c.args.part.now) in
-    let found = subst (λ (cs : List Cursor). IsTupleFound cs c.in-Some.found) c.as_slice.ensures.value c.in-Some.ensures.some in
-    omega (arith, found-within c.loop-found.cursors.items c.in-Some.found found, at-size p e q c.loop-found.cursors.items (drop c.args.span.from c.args.along.now.worlds.now) c.loop-found.invariant.at, length-drop c.args.span.from c.args.along.now.worlds.now, c.requires.along.few, c.requires.span.order, c.requires.span.within)
+    let tracks = c.in_ok-tracks.tracks in
+    let f = c.tuple-item.result in
+    let items = c.deref-tuple-items.result.now in
+    let known = each-among (IsTuple (length q.vars)) items f (subst (Each (IsTuple (length q.vars))) (sym c.deref-tuple-items.ensures.value) c.in_ok-tracks.ensures.counts) (among-item items c.loop-tuple.tuple-index f c.loop-tuple-test.true c.tuple-item.is) in
+    let here = c.put_values.ensures.values ∙ (ap (λ (ss : List Var). bind ss c.as_slice-in-loop-tuple-2.result.now (assignment_in c.loop-tuple.env)) c.as_slice-in-loop-tuple.ensures ∙ (ap (λ (u : List Value). bind q.vars u (assignment_in c.loop-tuple.env)) c.as_slice-in-loop-tuple-2.ensures ∙ c.loop-tuple.invariant.scope f.args)) in
+    let there = c.in_ok-there.ensures
+    ∙ (ap (λ (cs : List Change). test_from (truth_from false cs) c.args.span.from (c.args.span.to - c.args.span.from)) c.line_of.ensures
+    ∙ (tuple-labels p ws e q parts.differ parts.occur c.args.span c.requires.span tracks c.in_ok-tracks.ensures f known ∙ ap (λ (x : Assignment). marks_in (bound_ahead p x q.bound) ws c.args.span) (sym here))) in
+    (omega (arith, c.decreases), (c.requires.along, (c.requires.span, (c.put_values.ensures.slots ∙ c.loop-tuple.invariant.slots, (c.requires.fits, (there, omega (arith, c.loop-tuple.invariant.so_far.size, c.requires.span.order)))))))
 
-pub stepped_labels-labels_of-requires : goal.stepped_labels-labels_of-requires
-stepped_labels-labels_of-requires t c =
+pub stepped_labels-loop-tuple-preserved : goal.stepped_labels-loop-tuple-preserved
+stepped_labels-loop-tuple-preserved t c =
     let parts = quantified-parts c.args.along.now.task.now.problem c.args.binder.now.junction c.args.binder.now.vars.now c.args.binder.now.bound.now (tree_of_formula c.args.part.now) c.requires.fits in
     let p = plain_problem c.args.along.now.task.now.problem in
     let e = assignment_in c.args.env.now in
+    let ws = c.args.along.now.worlds.now in
     let q : Quantifier = with_part c.args.binder.now (tree_of_formula c.args.part.now) in
-    let found = subst (λ (cs : List Cursor). IsTupleFound cs c.in-Some.found) c.as_slice.ensures.value c.in-Some.ensures.some in
-    let size = at-size p e q c.loop-found.cursors.items (drop c.args.span.from c.args.along.now.worlds.now) c.loop-found.invariant.at in
-    let within = found-within c.loop-found.cursors.items c.in-Some.found found in
-    let count = length-drop c.args.span.from c.args.along.now.worlds.now in
-    (omega (arith, c.decreases), (c.requires.along, (record { order = omega (arith, within, size, count, c.requires.span.order, c.requires.span.within); within = omega arith }, (c.put_values.ensures.slots ∙ c.loop-found.invariant.slots, parts.body))))
-
-pub stepped_labels-advance-requires-clause-size : goal.stepped_labels-advance-requires-clause-size
-stepped_labels-advance-requires-clause-size t c =
-    let parts = quantified-parts c.args.along.now.task.now.problem c.args.binder.now.junction c.args.binder.now.vars.now c.args.binder.now.bound.now (tree_of_formula c.args.part.now) c.requires.fits in
-    let p = plain_problem c.args.along.now.task.now.problem in
-    let e = assignment_in c.args.env.now in
-    let q : Quantifier = with_part c.args.binder.now (tree_of_formula c.args.part.now) in
-    ap length c.as_mut_slice.ensures.value ∙ (at-size p e q c.loop-found.cursors.items (drop c.args.span.from c.args.along.now.worlds.now) c.loop-found.invariant.at ∙ sym (ap length (rest-whole c.args.along.now.worlds.now c.args.span.from)))
-
-pub stepped_labels-advance-requires-clause-counts : goal.stepped_labels-advance-requires-clause-counts
-stepped_labels-advance-requires-clause-counts t c =
-    let parts = quantified-parts c.args.along.now.task.now.problem c.args.binder.now.junction c.args.binder.now.vars.now c.args.binder.now.bound.now (tree_of_formula c.args.part.now) c.requires.fits in
-    let p = plain_problem c.args.along.now.task.now.problem in
-    let e = assignment_in c.args.env.now in
-    let q : Quantifier = with_part c.args.binder.now (tree_of_formula c.args.part.now) in
-    subst (λ (cs : List Cursor). HaveCounts (length c.args.binder.now.vars.now) cs) (sym c.as_mut_slice.ensures.value) (at-counts p e q c.loop-found.cursors.items (drop c.args.span.from c.args.along.now.worlds.now) c.loop-found.invariant.at)
-
-pub stepped_labels-advance-requires-clause-labels : goal.stepped_labels-advance-requires-clause-labels
-stepped_labels-advance-requires-clause-labels t c =
-    let parts = quantified-parts c.args.along.now.task.now.problem c.args.binder.now.junction c.args.binder.now.vars.now c.args.binder.now.bound.now (tree_of_formula c.args.part.now) c.requires.fits in
-    let p = plain_problem c.args.along.now.task.now.problem in
-    let e = assignment_in c.args.env.now in
-    let q : Quantifier = with_part c.args.binder.now (tree_of_formula c.args.part.now) in
-    let found = subst (λ (cs : List Cursor). IsTupleFound cs c.in-Some.found) c.as_slice.ensures.value c.in-Some.ensures.some in
-    omega (arith, ap length (c.in_ok-instance.ensures.labels ∙ marks_in-rest (true_ahead p (assignment_in c.put_values.new.self) (tree_of_formula c.args.part.now)) c.args.along.now.worlds.now (record { from = c.args.span.from + c.in-Some.found.at; to = length c.args.along.now.worlds.now }) (record { order = omega (arith, found-within c.loop-found.cursors.items c.in-Some.found found, at-size p e q c.loop-found.cursors.items (drop c.args.span.from c.args.along.now.worlds.now) c.loop-found.invariant.at, length-drop c.args.span.from c.args.along.now.worlds.now, c.requires.span.order, c.requires.span.within); within = omega arith }) refl), marks-length (true_ahead p (assignment_in c.put_values.new.self) (tree_of_formula c.args.part.now)) (drop (c.args.span.from + c.in-Some.found.at) c.args.along.now.worlds.now), length-drop (c.args.span.from + c.in-Some.found.at) c.args.along.now.worlds.now, ap length (rest-whole c.args.along.now.worlds.now c.args.span.from), found-within c.loop-found.cursors.items c.in-Some.found found, at-size p e q c.loop-found.cursors.items (drop c.args.span.from c.args.along.now.worlds.now) c.loop-found.invariant.at, length-drop c.args.span.from c.args.along.now.worlds.now, c.requires.span.order, c.requires.span.within)
-
-pub stepped_labels-loop-found-preserved : goal.stepped_labels-loop-found-preserved
-stepped_labels-loop-found-preserved t c =
-    let parts = quantified-parts c.args.along.now.task.now.problem c.args.binder.now.junction c.args.binder.now.vars.now c.args.binder.now.bound.now (tree_of_formula c.args.part.now) c.requires.fits in
-    let p = plain_problem c.args.along.now.task.now.problem in
-    let e = assignment_in c.args.env.now in
-    let q : Quantifier = with_part c.args.binder.now (tree_of_formula c.args.part.now) in
-    let scope : assignment_in c.put_values.new.self ≡ bind c.args.binder.now.vars.now (tuple_of c.in-Some.found.tuple) e =
-    c.put_values.ensures.values ∙ (ap (λ (ss : List Var). bind ss c.counted_values.result.now (assignment_in c.loop-found.inner)) c.as_slice-in-Some.ensures ∙ (ap (λ (u : List Value). bind c.args.binder.now.vars.now u (assignment_in c.loop-found.inner)) c.counted_values.ensures.values ∙ c.loop-found.invariant.scope (tuple_of c.in-Some.found.tuple))) in
-    let found = subst (λ (cs : List Cursor). IsTupleFound cs c.in-Some.found) c.as_slice.ensures.value c.in-Some.ensures.some in
+    let tracks = c.in_ok-tracks.tracks in
+    let f = c.tuple-item.result in
+    let items = c.deref-tuple-items.result.now in
+    let known = each-among (IsTuple (length q.vars)) items f (subst (Each (IsTuple (length q.vars))) (sym c.deref-tuple-items.ensures.value) c.in_ok-tracks.ensures.counts) (among-item items c.loop-tuple.tuple-index f c.loop-tuple-test.true c.tuple-item.is) in
+    let here = c.put_values.ensures.values ∙ (ap (λ (ss : List Var). bind ss c.as_slice-in-loop-tuple-2.result.now (assignment_in c.loop-tuple.env)) c.as_slice-in-loop-tuple.ensures ∙ (ap (λ (u : List Value). bind q.vars u (assignment_in c.loop-tuple.env)) c.as_slice-in-loop-tuple-2.ensures ∙ c.loop-tuple.invariant.scope f.args)) in
     record {
-      slots = ap length c.in_ok-instance.ensures.frame ∙ (c.put_values.ensures.slots ∙ c.loop-found.invariant.slots);
-      scope = λ u. bind-through c.args.binder.now.vars.now u (tuple_of c.in-Some.found.tuple) (assignment_in c.labels_of.new.env) e (ap assignment_in c.in_ok-instance.ensures.frame ∙ scope);
-      at = subst (λ (cs : List Cursor). AreAt p e q cs (drop c.args.span.from c.args.along.now.worlds.now)) (sym (same-items c.loop-found.cursors.len c.loop-found.cursors.items c.advance.new.cursors (c.advance.auto.cursors ∙ ap length c.as_mut_slice.ensures.value) c.loop-found.cursors.ok.0))
-          (instance-on p c.args.along.now.worlds.now c.args.span c.requires.span e (assignment_in c.put_values.new.self) q c.in-Some.found _ c.as_mut_slice.result.now c.loop-found.cursors.items c.advance.new.cursors c.in_ok-instance.instance (rest-whole c.args.along.now.worlds.now c.args.span.from) c.as_mut_slice.ensures.value scope (c.advance.ensures.at q.part) (c.in_ok-instance.ensures.labels ∙ marks_in-rest (true_ahead p (assignment_in c.put_values.new.self) (tree_of_formula c.args.part.now)) c.args.along.now.worlds.now (record { from = c.args.span.from + c.in-Some.found.at; to = length c.args.along.now.worlds.now }) (record { order = omega (arith, found-within c.loop-found.cursors.items c.in-Some.found found, at-size p e q c.loop-found.cursors.items (drop c.args.span.from c.args.along.now.worlds.now) c.loop-found.invariant.at, length-drop c.args.span.from c.args.along.now.worlds.now, c.requires.span.order, c.requires.span.within); within = omega arith }) refl) c.loop-found.invariant.at);
+      scope = λ u. bind-through q.vars u f.args (assignment_in c.join_instance.new.env) e (ap assignment_in c.in_ok-join_instance.ensures.frame ∙ here);
+      slots = ap length c.in_ok-join_instance.ensures.frame ∙ (c.put_values.ensures.slots ∙ c.loop-tuple.invariant.slots);
+      so_far = stepped-on p ws e q parts.differ parts.occur c.args.span c.requires.span tracks c.in_ok-tracks.ensures c.loop-tuple.all items c.loop-tuple.tuple-index f c.loop-tuple.invariant.so_far c.loop-tuple-test.true c.tuple-item.is c.join_instance.new.all c.in_ok-join_instance.field-0
+          (subst (λ (x : Assignment). JoinsInstance p ws c.args.span x q c.loop-tuple.all c.join_instance.new.all (Ok c.in_ok-join_instance.field-0)) here c.in_ok-join_instance.ensures.joined);
     }
 
-pub stepped_labels-returns-in_err-instance-clause-labels : goal.stepped_labels-returns-in_err-instance-clause-labels
-stepped_labels-returns-in_err-instance-clause-labels t c =
+pub stepped_labels-give_back-requires-clause-slots : goal.stepped_labels-give_back-requires-clause-slots
+stepped_labels-give_back-requires-clause-slots t c =
     let parts = quantified-parts c.args.along.now.task.now.problem c.args.binder.now.junction c.args.binder.now.vars.now c.args.binder.now.bound.now (tree_of_formula c.args.part.now) c.requires.fits in
-    let p = plain_problem c.args.along.now.task.now.problem in
-    let e = assignment_in c.args.env.now in
-    let q : Quantifier = with_part c.args.binder.now (tree_of_formula c.args.part.now) in
-    let scope : assignment_in c.put_values.new.self ≡ bind c.args.binder.now.vars.now (tuple_of c.in-Some.found.tuple) e =
-    c.put_values.ensures.values ∙ (ap (λ (ss : List Var). bind ss c.counted_values.result.now (assignment_in c.loop-found.inner)) c.as_slice-in-Some.ensures ∙ (ap (λ (u : List Value). bind c.args.binder.now.vars.now u (assignment_in c.loop-found.inner)) c.counted_values.ensures.values ∙ c.loop-found.invariant.scope (tuple_of c.in-Some.found.tuple))) in
-    let found = subst (λ (cs : List Cursor). IsTupleFound cs c.in-Some.found) c.as_slice.ensures.value c.in-Some.ensures.some in
-    handed (λ r. AreLabels p c.args.along.now.worlds.now c.args.span e (quantified q.junction q.vars q.bound q.part) r) c.from_residual-in_err-instance.result c.in_err-instance.field-0.0 c.from_residual-in_err-instance.ensures.1
-    (instance-noted p c.args.along.now.worlds.now c.args.span c.requires.span e (assignment_in c.put_values.new.self) q c.in-Some.found c.loop-found.cursors.items c.loop-found.invariant.at found scope c.in_err-instance.field-0.0 c.in_err-instance.ensures.labels)
+    subst (Each (λ (s : Var). s.slot < 32)) (sym c.as_slice-2.ensures) parts.in_frame
 
 pub stepped_labels-returns-clause-labels : goal.stepped_labels-returns-clause-labels
 stepped_labels-returns-clause-labels t c =
     let parts = quantified-parts c.args.along.now.task.now.problem c.args.binder.now.junction c.args.binder.now.vars.now c.args.binder.now.bound.now (tree_of_formula c.args.part.now) c.requires.fits in
     let p = plain_problem c.args.along.now.task.now.problem in
     let e = assignment_in c.args.env.now in
+    let ws = c.args.along.now.worlds.now in
     let q : Quantifier = with_part c.args.binder.now (tree_of_formula c.args.part.now) in
-    let none = subst (λ (o : Option _). IfNone o (Each (λ (x : Cursor). x.next ≡ None) c.as_slice.result.now)) (none-left c.least.result c.in_default.not-Some) c.least.ensures.none in
-    let all = subst (λ (cs : List Cursor). Each (λ (x : Cursor). x.next ≡ None) cs) c.as_slice.ensures.value none in
-    c.truncate.ensures
-    ∙ ap (take (c.args.span.to - c.args.span.from)) (c.in_ok-labels.ensures ∙ (ap (map (λ (x : Cursor). x.truth)) c.as_slice-2.ensures.value ∙ at-end p e q c.loop-found.cursors.items (drop c.args.span.from c.args.along.now.worlds.now) c.loop-found.invariant.at all))
+    let tracks = c.in_ok-tracks.tracks in
+    stepped-end p ws e q parts.differ parts.occur c.args.span c.requires.span tracks c.in_ok-tracks.ensures c.loop-tuple.all c.deref-tuple-items.result.now c.loop-tuple.tuple-index c.loop-tuple-test.false c.loop-tuple.invariant.so_far
+
+pub stepped_labels-returns-in_err-join_instance-clause-labels : goal.stepped_labels-returns-in_err-join_instance-clause-labels
+stepped_labels-returns-in_err-join_instance-clause-labels t c =
+    let parts = quantified-parts c.args.along.now.task.now.problem c.args.binder.now.junction c.args.binder.now.vars.now c.args.binder.now.bound.now (tree_of_formula c.args.part.now) c.requires.fits in
+    let p = plain_problem c.args.along.now.task.now.problem in
+    let e = assignment_in c.args.env.now in
+    let ws = c.args.along.now.worlds.now in
+    let q : Quantifier = with_part c.args.binder.now (tree_of_formula c.args.part.now) in
+    let tracks = c.in_ok-tracks.tracks in
+    let f = c.tuple-item.result in
+    let items = c.deref-tuple-items.result.now in
+    let known = each-among (IsTuple (length q.vars)) items f (subst (Each (IsTuple (length q.vars))) (sym c.deref-tuple-items.ensures.value) c.in_ok-tracks.ensures.counts) (among-item items c.loop-tuple.tuple-index f c.loop-tuple-test.true c.tuple-item.is) in
+    let here = c.put_values.ensures.values ∙ (ap (λ (ss : List Var). bind ss c.as_slice-in-loop-tuple-2.result.now (assignment_in c.loop-tuple.env)) c.as_slice-in-loop-tuple.ensures ∙ (ap (λ (u : List Value). bind q.vars u (assignment_in c.loop-tuple.env)) c.as_slice-in-loop-tuple-2.ensures ∙ c.loop-tuple.invariant.scope f.args)) in
+    handed (λ r. AreLabels p ws c.args.span e (quantified q.junction q.vars q.bound q.part) r) c.from_residual-in_err-join_instance.result c.in_err-join_instance.field-0.0 c.from_residual-in_err-join_instance.ensures.1
+    (stepped-noted p ws e q parts.differ parts.occur c.args.span c.requires.span tracks c.in_ok-tracks.ensures f known.1 c.loop-tuple.all c.join_instance.new.all c.in_err-join_instance.field-0.0
+    (subst (λ (y : Assignment). JoinsInstance p ws c.args.span y q c.loop-tuple.all c.join_instance.new.all (Err c.in_err-join_instance.field-0.0)) here c.in_err-join_instance.ensures.joined))

@@ -1,13 +1,12 @@
-use Rattle.std.proofs.Common.{◌≡◌, ◌+◌, ◌*◌, List, drop, length}
+use Rattle.std.proofs.Common.{◌≡◌, ◌+◌, ◌*◌, drop, length}
+use Rattle.tl_check.proofs.GatheredLaws.{Stepped}
 use Rattle.tl_check.proofs.GuidedLaws.{Guided}
 use Rattle.tl_check.proofs.PartLabels.{PartsSoFar}
 use Rattle.tl_check.proofs.Sizes.{size, sizes}
-use Rattle.tl_check.specs.Cursors.{AreAt, work_left, with_part}
+use Rattle.tl_check.specs.Quantifiers.{with_part}
 use Rattle.tl_eval.proofs.TupleRest.{rest_after}
 use Rattle.tl_eval.specs.Frames.{assignment_in, AgreeElsewhere}
 use Rattle.tl_eval.specs.Reader.{Reads}
-use Rattle.tl_syntax.specs.declared.value.Value.{Value}
-use Rattle.tl_syntax.specs.Assignment.{bind}
 use Rattle.tl_syntax.specs.TreeOfFormula.{tree_of_formula, tree_of_formulas}
 use Rattle.tl_terms.specs.Bounds.{tuples}
 use Rattle.tl_terms.specs.Definitions.{situation_of}
@@ -61,12 +60,9 @@ invariant-guided_labels-instances l = record {
   so_far : Guided (plain_problem l.along.task.now.problem) l.along.worlds.now (assignment_in l.fn.env) (with_part l.binder (tree_of_formula l.part)) l.guide l.span l.all l.tuples.tuple;
 }
 
-abbrev pub invariant-stepped_labels-loop-found : goal.invariant-stepped_labels-loop-found
-invariant-stepped_labels-loop-found l = record {
-  slots : length l.inner ≡ 32;
-  scope : (t : List Value) → bind l.binder.vars.now t (assignment_in l.inner) ≡ bind l.binder.vars.now t (assignment_in l.env);
-  at : AreAt (plain_problem l.along.task.now.problem) (assignment_in l.env) (with_part l.binder (tree_of_formula l.part)) l.cursors.items (drop l.span.from l.along.worlds.now);
+abbrev pub invariant-stepped_labels-loop-tuple : goal.invariant-stepped_labels-loop-tuple
+invariant-stepped_labels-loop-tuple l = record {
+  scope : AgreeElsewhere l.binder.vars.now (assignment_in l.env) (assignment_in l.fn.env);
+  slots : length l.env ≡ 32;
+  so_far : Stepped (plain_problem l.along.task.now.problem) l.along.worlds.now (assignment_in l.fn.env) (with_part l.binder (tree_of_formula l.part)) l.span l.all (drop l.tuple-index l.tuple-items);
 }
-
-abbrev pub decreases-stepped_labels-loop-found : goal.decreases-stepped_labels-loop-found
-decreases-stepped_labels-loop-found l = work_left (plain_problem l.along.task.now.problem) (assignment_in l.env) l.binder.vars.now l.binder.bound.now l.cursors.items (drop l.span.from l.along.worlds.now)

@@ -2,7 +2,7 @@ use Rattle.std.proofs.Common.{◌<◌, ◌+◌, [], List, length, get_or, replic
 use Rattle.tl_check.proofs.FitLaws.{quantified-parts, item-fits}
 use Rattle.tl_check.proofs.FormulaLabels.{state-True, state-False, state-Atom, state-Defined, state-Compare, state-GoalFact, state-GoalPlace, state-GoalNot, one-Not, one-Next, one-Always, one-Eventually, one-Within, one-During, until-parts, fits-not, fits-next, fits-word, two-Until, all-And, all-Or, body-ForAll, body-Exists, handed}
 use Rattle.tl_check.proofs.Sizes.{size-at}
-use Rattle.tl_check.specs.Cursors.{with_part}
+use Rattle.tl_check.specs.Quantifiers.{with_part}
 use Rattle.tl_check.specs.Later.{later_tree}
 use Rattle.tl_eval.proofs.BindLaws.{bind-through}
 use Rattle.tl_eval.proofs.TupleRest.{rest_after, all-after-none, rest-none, rest-some}

@@ -1,6 +1,6 @@
 use Rattle.std.proofs.Common.{◌≡◌, ◌+◌, ◌*◌, drop, length}
 use Rattle.tl_check.proofs.Sizes.{size, sizes}
-use Rattle.tl_check.specs.Cursors.{with_part}
+use Rattle.tl_check.specs.Quantifiers.{with_part}
 use Rattle.tl_eval.proofs.TupleRest.{rest_after}
 use Rattle.tl_eval.specs.Frames.{assignment_in, AgreeElsewhere}
 use Rattle.tl_eval.specs.Reader.{Reads}

@@ -1,0 +1,25 @@
+-- Quantified formulas, and the truths of their instances together.
+use Rattle.std.specs.Prelude.{List, [], ◌∷◌, Bool, not}
+use Rattle.tl_check.specs.Passes.{joins}
+use Rattle.tl_check.specs.declared.binder.Binder.{Binder}
+use Rattle.tl_syntax.specs.declared.bound.Bound.{Bound}
+use Rattle.tl_syntax.specs.declared.junction.Junction.{Junction}
+use Rattle.tl_syntax.specs.declared.variable.Var.{Var}
+use Rattle.tl_syntax.specs.Junctions.{deciding_truth}
+use Rattle.tl_syntax.specs.Trees.{FormulaTree}
+
+-- a quantified formula: universal or existential
+pub record Quantifier : Type 0 where
+  pub junction : Junction
+  pub vars : List Var
+  pub bound : Bound
+  pub part : FormulaTree
+
+-- a quantifier with the formula below it
+abbrev pub with_part : Binder → FormulaTree → Quantifier
+with_part b f = record { junction = b.junction; vars = b.vars.now; bound = b.bound.now; part = f }
+
+-- the truths of all together
+abbrev pub joined_truths : {A : Type 0} → Junction → (A → Bool) → List A → Bool
+joined_truths j truth [] = not (deciding_truth j)
+joined_truths j truth (x ∷ xs) = joins j (truth x) (joined_truths j truth xs)
