@@ -41,7 +41,7 @@ abbrev pub decreases-join_instance : goal.decreases-join_instance
 decreases-join_instance l = 1 + 4 * size (tree_of_formula l.part.now)
 
 abbrev pub decreases-stepped_labels : goal.decreases-stepped_labels
-decreases-stepped_labels l = 1 + 4 * size (tree_of_formula l.part.now)
+decreases-stepped_labels l = 2 + 4 * size (tree_of_formula l.part.now)
 
 abbrev pub invariant-parts_labels-loop-part : goal.invariant-parts_labels-loop-part
 invariant-parts_labels-loop-part l = record {
