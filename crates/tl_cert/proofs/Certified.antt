@@ -18,10 +18,10 @@ use Rattle.tl_search.specs.declared.outcome.Report.{Report}
 use Rattle.tl_search.proofs.ListLaws.{get-old, get-new, get-one, get-either, get-single, take-next}
 use Rattle.tl_search.proofs.PathLaws.{pair-onward, walk-pair, walk-open, walk-accepted}
 use Rattle.tl_search.proofs.WalkLaws.{length-snoc}
-use Rattle.tl_cert.specs.Covers.{Covers, IsListedNear, IsNoFarther, IsRight, MustBeClosed, StaysInside}
+use Rattle.tl_cert.specs.Covers.{Covers, IsListedNear, IsNoFarther, IsRightNode, MustBeClosed, StaysInside}
 use Rattle.tl_cert.specs.Links.{AreGood, IsWithinBound, Lists}
 use Rattle.tl_cert.specs.LawsReadBack.{StartBefore}
-use Rattle.tl_cert.specs.Reports.{bound_of, links_of, IsNoneReport, IsOf, IsRightNone, IsSmall}
+use Rattle.tl_cert.specs.Reports.{bound_of, links_of, IsNoneReport, IsOf, IsRightNone, HasSmallStart}
 use Rattle.tl_cert.specs.declared.proof.Link.{Link}
 use Rattle.tl_cert.specs.declared.proof.Proof.{Proof}
 use Rattle.tl_cert.proofs.GoodLinks.{lists-end}
@@ -239,7 +239,7 @@ module _ (p : PlainProblem) where
           by_met (inl f) = inl f
           by_met (inr h) = inr (h.0, h.1, h.2, h.3, no-farther (bound_of n report.outcome) a h.0 h.1 y e h.2 h.3)
 
-      is-right : IsRight p (bound_of n report.outcome) kept x
+      is-right : IsRightNode p (bound_of n report.outcome) kept x
       is-right = record {
         unaccepted = λ h. not-accepted report.outcome r.none (lists-within (bound_of n report.outcome) (links_of report.events) kept (within-root report.outcome) listed k x there) ((walk-accepted p x.path).1 (x.node, (walk-pair p x.path x.node).1 end, h));
         closed = stays;
@@ -249,7 +249,7 @@ module _ (p : PlainProblem) where
     certified proof e f = record {
       listed = kept;
       lists = subst (λ b. Lists p b proof.links kept) (sym e) (subst (λ ls. Lists p (bound_of n report.outcome) ls kept) (sym f) listed);
-      right = λ k x s. subst (λ b. IsRight p b kept x) (sym e) (is-right k x s);
+      right = λ k x s. subst (λ b. IsRightNode p b kept x) (sym e) (is-right k x s);
     }
 
 -- ---- links from events, one after another
@@ -266,12 +266,12 @@ links-more es k e at = ap links_of (take-next es k e at) ∙ links-both (take k 
     links-both (event.Pruned j a ∷ us) vs = links-both us vs
 
 -- the pairs that events start from are kept, so their numbers are small where few pairs are kept
-pub events-small : (p : PlainProblem) (old : List KeptPair) (es : List Event) (new : List KeptPair) (k : ℕ) (e : Event) → AreTrueEvents p old es new → slice_get es k ≡ Some e → length new < 2 ^ 32 → IsSmall e
+pub events-small : (p : PlainProblem) (old : List KeptPair) (es : List Event) (new : List KeptPair) (k : ℕ) (e : Event) → AreTrueEvents p old es new → slice_get es k ≡ Some e → length new < 2 ^ 32 → HasSmallStart e
 events-small p old [] new k e t at few = let b : ⊥ = cc in absurd b
 events-small p old (f ∷ es) new (suc k) e t at few = events-small p t.0 es new k e t.2 at few
-events-small p old (f ∷ es) new zero e t at few = subst IsSmall (let d : f ≡ e = cc in d) (small f t.1)
+events-small p old (f ∷ es) new zero e t at few = subst HasSmallStart (let d : f ≡ e = cc in d) (small f t.1)
   where
-    small : (g : Event) → IsTrueEvent p old g t.0 → IsSmall g
+    small : (g : Event) → IsTrueEvent p old g t.0 → HasSmallStart g
     small event.RootKept u = tt
     small event.RootPruned u = tt
     small (event.Kept j a m) u =

@@ -10,7 +10,7 @@ use Rattle.tl_search.specs.KeptPairs.{KeptPair}
 use Rattle.tl_search.specs.PairGraph.{next_pair, pair_graph}
 use Rattle.tl_search.proofs.PathLaws.{unless-pruned, walk-accepted}
 use Rattle.tl_search.proofs.WalkLaws.{by_last, length-snoc, walk-back}
-use Rattle.tl_cert.specs.Covers.{Covers, HasNone, IsListedNear, IsNoFarther, IsRight, MustBeClosed}
+use Rattle.tl_cert.specs.Covers.{Covers, HasNone, IsListedNear, IsNoFarther, IsRightNode, MustBeClosed}
 use Rattle.tl_cert.specs.Links.{IsWithinBound}
 use Rattle.tl_cert.specs.declared.proof.Proof.{Proof}
 use Rattle.tl_cert.proofs.GoodLinks.{root-listed}
@@ -49,7 +49,7 @@ leads-on : (p : PlainProblem) (x : Pair) (a : Action) (v : Pair) → (pair_graph
 unfolding pair_graph
 leads-on p x a v e = (unless-pruned (next_pair p x a) v).0 e
 
-module _ (p : PlainProblem) (bound : Option ℕ) (listed : List KeptPair) (right : (k : ℕ) (x : KeptPair) → slice_get listed k ≡ Some x → IsRight p bound listed x) where
+module _ (p : PlainProblem) (bound : Option ℕ) (listed : List KeptPair) (right : (k : ℕ) (x : KeptPair) → slice_get listed k ≡ Some x → IsRightNode p bound listed x) where
   -- the node is listed, by a path that is no longer
   abbrev IsReached : List Action → Pair → Type 0
   IsReached path v = (m : ℕ) × (z : KeptPair) × (slice_get listed m ≡ Some z) × (z.node ≡ v) × IsNoLonger bound z.path path

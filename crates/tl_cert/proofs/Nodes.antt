@@ -10,7 +10,7 @@ use Rattle.tl_search.proofs.ListLaws.{get-inside, take-next}
 use Rattle.tl_search.proofs.WalkLaws.{length-snoc}
 use Rattle.tl_cert.specs.Causes.{IsNoneFault}
 use Rattle.tl_cert.specs.Checking.{IsJudgingFault, IsNodesFault, JudgesNode, JudgesNodes, ListsLink, ListsLinks}
-use Rattle.tl_cert.specs.Covers.{IsRight}
+use Rattle.tl_cert.specs.Covers.{IsRightNode}
 use Rattle.tl_cert.specs.Links.{AreGood, Lists, ListsRoot}
 use Rattle.tl_cert.specs.Verdicts.{IsFirstBad, IsNoneVerdict}
 use Rattle.tl_cert.specs.declared.proof.Link.{Link}
@@ -23,7 +23,7 @@ use Rattle.tl_cert.proofs.GoodLinks.{good-more}
 module _ (p : PlainProblem) (bound : Option ℕ) (kept : List KeptPair) where
   -- all nodes before this number are right
   abbrev pub AreRightBelow : ℕ → Type 0
-  AreRightBelow k = (i : ℕ) (x : KeptPair) → slice_get kept i ≡ Some x → i < k → IsRight p bound kept x
+  AreRightBelow k = (i : ℕ) (x : KeptPair) → slice_get kept i ≡ Some x → i < k → IsRightNode p bound kept x
 
   pub right-more : (at : ℕ) → AreRightBelow at → JudgesNode p bound kept at None → AreRightBelow (at + 1)
   right-more at h j i x e less = elim (dec_lt i at) [

@@ -9,7 +9,7 @@ use Rattle.tl_terms.specs.Problem.{PlainProblem}
 use Rattle.tl_terms.proofs.OrderLaws.{actions-total}
 use Rattle.tl_search.specs.KeptPairs.{KeptPair}
 use Rattle.tl_search.proofs.ListLaws.{get-one}
-use Rattle.tl_cert.specs.Covers.{IsRight, StaysInside}
+use Rattle.tl_cert.specs.Covers.{IsRightNode, StaysInside}
 use Rattle.tl_cert.specs.Links.{IsGood, Lists}
 use Rattle.tl_cert.specs.Verdicts.{IsFirstBad, ComesTo, IsFirstAccepted, LeadsOut, IsFirstOpen, IsNoneVerdict}
 use Rattle.tl_cert.specs.declared.proof.Link.{Link}
@@ -48,7 +48,7 @@ module _ (p : PlainProblem) (bound : Option ℕ) (links : List Link) where
     lists : Lists p bound links listed
     node : KeptPair
     comes : ComesTo p bound listed k node
-    wrong : IsRight p bound listed node → ⊥
+    wrong : IsRightNode p bound listed node → ⊥
 
   accepted-wrong : (k : ℕ) → IsFirstAccepted p bound links k → IsWrong k
   accepted-wrong k h = record { listed = h.listed; lists = h.lists; node = h.node; comes = h.comes; wrong = λ r. r.unaccepted h.accepted }
@@ -67,7 +67,7 @@ module _ (p : PlainProblem) (bound : Option ℕ) (links : List Link) where
   wrong-before k j w v less =
       let e = wrong-listed k j w v in
       let at : slice_get v.listed k ≡ Some w.node = subst (λ zs. slice_get zs k ≡ Some w.node) e w.comes.node in
-      w.wrong (subst (λ zs. IsRight p bound zs w.node) (sym e) (v.comes.right k w.node at less))
+      w.wrong (subst (λ zs. IsRightNode p bound zs w.node) (sym e) (v.comes.right k w.node at less))
 
   wrong-one : (k j : ℕ) → IsWrong k → IsWrong j → k ≡ j
   wrong-one k j w v = elim (dec_lt k j) [
@@ -81,10 +81,10 @@ module _ (p : PlainProblem) (bound : Option ℕ) (links : List Link) where
       let at : slice_get v.listed j ≡ Some w.node = subst (λ i. slice_get v.listed i ≡ Some w.node) (wrong-one k j w v) (subst (λ zs. slice_get zs k ≡ Some w.node) e w.comes.node) in
       get-one v.listed j w.node v.node at v.comes.node
 
-  covers-not-wrong : (k : ℕ) (listed : List KeptPair) → Lists p bound links listed → ((i : ℕ) (x : KeptPair) → slice_get listed i ≡ Some x → IsRight p bound listed x) → IsWrong k → ⊥
+  covers-not-wrong : (k : ℕ) (listed : List KeptPair) → Lists p bound links listed → ((i : ℕ) (x : KeptPair) → slice_get listed i ≡ Some x → IsRightNode p bound listed x) → IsWrong k → ⊥
   covers-not-wrong k listed l right w =
       let e : listed ≡ w.listed = lists-one p bound links listed w.listed l w.lists in
-      w.wrong (subst (λ zs. IsRight p bound zs w.node) e (right k w.node (subst (λ zs. slice_get zs k ≡ Some w.node) (sym e) w.comes.node)))
+      w.wrong (subst (λ zs. IsRightNode p bound zs w.node) e (right k w.node (subst (λ zs. slice_get zs k ≡ Some w.node) (sym e) w.comes.node)))
 
   accepted-not-open : (k j : ℕ) (a : Action) → IsFirstAccepted p bound links k → IsFirstOpen p bound links j a → ⊥
   unfolding accepted-wrong open-wrong

@@ -14,7 +14,8 @@ use Rattle.tl_rules.proofs.Offsets.{form-within}
 use Rattle.tl_rules.proofs.Order.{first-least, IsInOrder, from, up_to, both, none, one, tested}
 use Rattle.tl_line.specs.Actions.{action_breaks}
 use Rattle.tl_line.proofs.ActionOrder.{call-order}
-use Rattle.tl_cert.specs.ProofFiles.{head_in, length_bound_breaks, proof_head_breaks_at, proof_head_breaks, link_in, limit_breaks, link_breaks_at, link_breaks, links_breaks, proof_breaks}
+use Rattle.tl_line.specs.ActionLists.{limit_breaks}
+use Rattle.tl_cert.specs.ProofFiles.{head_in, length_bound_breaks, proof_head_breaks_at, proof_head_breaks, link_in, link_breaks_at, link_breaks, links_breaks, proof_breaks}
 use Rattle.tl_cert.specs.MeaningOfProofs.{proof_meant}
 use Rattle.tl_cert.specs.declared.proof.Proof.{Proof}
 use Rattle.tl_cert.proofs.ProofForms.{link-back, head-back}

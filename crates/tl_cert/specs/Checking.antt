@@ -14,7 +14,7 @@ use Rattle.tl_search.specs.KeptPairs.{KeptPair}
 use Rattle.tl_search.specs.NamedAnswers.{IsNamedIn}
 use Rattle.tl_search.specs.declared.fault.SearchFault.{SearchFault}
 use Rattle.tl_search.specs.declared.fault.SearchFault.TheVariants as fault
-use Rattle.tl_cert.specs.Covers.{IsRight, MustBeClosed, StaysInside}
+use Rattle.tl_cert.specs.Covers.{IsRightNode, MustBeClosed, StaysInside}
 use Rattle.tl_cert.specs.Links.{IsGood, Lists}
 use Rattle.tl_cert.specs.Verdicts.{ComesTo, IsFirstBad, IsFirstOut, IsOpenBy, LeadsOut}
 use Rattle.tl_cert.specs.declared.checking.Checking.{Checking}
@@ -152,7 +152,7 @@ TellsClosed p bound kept at (Some a) = ForPair kept at (λ x. IsFirstOut p bound
 
 -- the node of the number is right; or this verdict says why not
 abbrev pub JudgesNode : PlainProblem → Option ℕ → List KeptPair → ℕ → Option NoneVerdict → Type 0
-JudgesNode p bound kept at None = ForPair kept at (λ x. IsRight p bound kept x)
+JudgesNode p bound kept at None = ForPair kept at (λ x. IsRightNode p bound kept x)
 JudgesNode p bound kept at (Some Proved) = ⊥
 JudgesNode p bound kept at (Some (BadLink k)) = ⊥
 JudgesNode p bound kept at (Some (Accepts k)) = (k ≡ at) × ForPair kept at (λ x. IsPairAccepted p x.node)
@@ -160,7 +160,7 @@ JudgesNode p bound kept at (Some (Open k a)) = (k ≡ at) × ForPair kept at (λ
 
 -- each node is right; or the first that is not has this verdict
 abbrev pub JudgesNodes : PlainProblem → Option ℕ → List KeptPair → NoneVerdict → Type 0
-JudgesNodes p bound kept Proved = (k : ℕ) (x : KeptPair) → slice_get kept k ≡ Some x → IsRight p bound kept x
+JudgesNodes p bound kept Proved = (k : ℕ) (x : KeptPair) → slice_get kept k ≡ Some x → IsRightNode p bound kept x
 JudgesNodes p bound kept (BadLink k) = ⊥
 JudgesNodes p bound kept (Accepts k) = (x : KeptPair) × ComesTo p bound kept k x × IsPairAccepted p x.node
 JudgesNodes p bound kept (Open k a) = (x : KeptPair) × ComesTo p bound kept k x × IsOpenBy p bound kept x a

@@ -29,7 +29,7 @@ MustBeClosed None path = Unit {0}
 MustBeClosed (Some n) path = length path < n
 
 -- the node is not accepted, and where it has to be closed, it is: every successor is pruned or listed
-pub record IsRight (p : PlainProblem) (bound : Option ℕ) (listed : List KeptPair) (x : KeptPair) : Type 0 where
+pub record IsRightNode (p : PlainProblem) (bound : Option ℕ) (listed : List KeptPair) (x : KeptPair) : Type 0 where
   pub unaccepted : IsPairAccepted p x.node → ⊥
   pub closed : MustBeClosed bound x.path → (a : Action) → StaysInside p bound listed x a
 
@@ -37,7 +37,7 @@ pub record IsRight (p : PlainProblem) (bound : Option ℕ) (listed : List KeptPa
 pub record Covers (p : PlainProblem) (proof : Proof) : Type 0 where
   pub listed : List KeptPair
   pub lists : Lists p proof.bound proof.links listed
-  pub right : (k : ℕ) (x : KeptPair) → slice_get listed k ≡ Some x → IsRight p proof.bound listed x
+  pub right : (k : ℕ) (x : KeptPair) → slice_get listed k ≡ Some x → IsRightNode p proof.bound listed x
 
 -- no plan is accepted, or with a bound none of at most so many actions
 abbrev pub HasNone : PlainProblem → Option ℕ → Type 0

@@ -3,12 +3,13 @@
 -- A proof file is a head `(none)` or `(none-within N)`, and then links `(pair J ACTION)`. N is an integer from 0 to
 -- 100000, and J is the number of a pair: 0, or that of a link before. A link asks for an action of the shape of a
 -- call, so that the rules on actions that it can break are those after the shape.
-use Rattle.std.specs.Prelude.{ℕ, ℤ, ◌+◌, List, [], ◌∷◌, ◌++◌, ◌&&◌, not, nat_lt, if◌then◌else◌, codes, Option, Some, None}
+use Rattle.std.specs.Prelude.{ℕ, ℤ, ◌+◌, List, [], ◌∷◌, ◌++◌, ◌&&◌, not, if◌then◌else◌, codes, Option, Some, None}
 use Rattle.tl_sexpr.specs.Tree.{FormTree, FormTrees, integer, list, no_form, more_forms}
 use Rattle.tl_syntax.specs.declared.operator.Operator.{Operator}
 use Rattle.tl_rules.specs.declared.rule.Rule.TheVariants.{Shape, Limit, NoPair}
 use Rattle.tl_rules.specs.Parts.{offset_of, is_call, is_within, is_word}
 use Rattle.tl_rules.specs.Rules.{Break, breaks_if}
+use Rattle.tl_line.specs.ActionLists.{limit_breaks}
 use Rattle.tl_line.specs.Actions.{action_breaks}
 
 -- ---- the head
@@ -60,11 +61,7 @@ abbrev pub link_parts : FormTree → Option (ℤ × ℕ × FormTree)
 link_parts (list fs at) = link_in fs
 link_parts _ = None
 
--- what a link at this offset breaks with so many links before it: a proof has at most 100000
-abbrev pub limit_breaks : ℕ → ℕ → List Break
-limit_breaks before at = breaks_if (not (nat_lt before 100000)) Limit at
-
--- what the form at this offset breaks in the role of a link, with so many links before it, by its parts
+-- what the form at this offset breaks in the role of a link, with so many links before it, by its parts; a proof has at most as many links as a plan has actions
 abbrev pub link_breaks_at : List (List ℕ) → List Operator → ℕ → ℕ → Option (ℤ × ℕ × FormTree) → List Break
 link_breaks_at names operators before at None = (Shape, at) ∷ limit_breaks before at
 link_breaks_at names operators before at (Some parts) = limit_breaks before at ++ (breaks_if (not (is_within 0 before parts.0)) NoPair parts.1 ++ action_breaks names operators parts.2)

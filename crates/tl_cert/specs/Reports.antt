@@ -48,12 +48,12 @@ IsOf j a (event.Seen i b k) = (i ≡ j) × (b ≡ a)
 IsOf j a (event.Pruned i b) = (i ≡ j) × (b ≡ a)
 
 -- the number of the pair that an event which keeps one starts from has 32 bits
-abbrev pub IsSmall : Event → Type 0
-IsSmall event.RootKept = Unit {0}
-IsSmall event.RootPruned = Unit {0}
-IsSmall (event.Kept j a k) = j < 2 ^ 32
-IsSmall (event.Seen j a k) = Unit {0}
-IsSmall (event.Pruned j a) = Unit {0}
+abbrev pub HasSmallStart : Event → Type 0
+HasSmallStart event.RootKept = Unit {0}
+HasSmallStart event.RootPruned = Unit {0}
+HasSmallStart (event.Kept j a k) = j < 2 ^ 32
+HasSmallStart (event.Seen j a k) = Unit {0}
+HasSmallStart (event.Pruned j a) = Unit {0}
 
 -- the report of a breadth-first search within n actions that says that there is no plan: its events are true and tell of all kept pairs, they begin at the root and go on from pairs of fewer than n actions, each such pair has an event for each of its executable actions, and the path of each kept pair is as long as its distance
 pub record IsNoneReport (p : PlainProblem) (n : ℕ) (kept : List KeptPair) (report : Report) : Type 0 where

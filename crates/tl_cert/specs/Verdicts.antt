@@ -8,7 +8,7 @@ use Rattle.tl_terms.specs.Pairs.{Pair, IsPairAccepted}
 use Rattle.tl_terms.specs.Problem.{PlainProblem}
 use Rattle.tl_search.specs.KeptPairs.{KeptPair}
 use Rattle.tl_search.specs.PairGraph.{next_pair}
-use Rattle.tl_cert.specs.Covers.{Covers, IsListedNear, IsRight, MustBeClosed, StaysInside}
+use Rattle.tl_cert.specs.Covers.{Covers, IsListedNear, IsRightNode, MustBeClosed, StaysInside}
 use Rattle.tl_cert.specs.Links.{IsGood, Lists}
 use Rattle.tl_cert.specs.declared.proof.Link.{Link}
 use Rattle.tl_cert.specs.declared.proof.Proof.{Proof}
@@ -28,7 +28,7 @@ pub record IsFirstBad (p : PlainProblem) (bound : Option ℕ) (links : List Link
 -- this is the node of number k, and all nodes before it are right
 pub record ComesTo (p : PlainProblem) (bound : Option ℕ) (listed : List KeptPair) (k : ℕ) (x : KeptPair) : Type 0 where
   pub node : slice_get listed k ≡ Some x
-  pub right : (i : ℕ) (y : KeptPair) → slice_get listed i ≡ Some y → i < k → IsRight p bound listed y
+  pub right : (i : ℕ) (y : KeptPair) → slice_get listed i ≡ Some y → i < k → IsRightNode p bound listed y
 
 -- the action has a step at the node, and leads neither to the formula FALSE nor to a listed pair
 pub record LeadsOut (p : PlainProblem) (bound : Option ℕ) (listed : List KeptPair) (x : KeptPair) (a : Action) : Type 0 where

@@ -2,7 +2,7 @@
 ghost use Rattle.std.specs.Prelude.{◌≡◌, ◌<◌, ◌≤◌, ◌^◌, [], ◌∷◌, ◌++◌, length, IfOk, OnOk};
 ghost use Rattle.tl_cert.specs.Covers.{Covers};
 ghost use Rattle.tl_cert.specs.LawsReadBack.{StartBefore};
-ghost use Rattle.tl_cert.specs.Reports.{bound_of, links_of, IsNoneReport, IsSmall};
+ghost use Rattle.tl_cert.specs.Reports.{bound_of, links_of, IsNoneReport, HasSmallStart};
 
 use crate::proof::{Link, Links, Proof};
 use std::alloc::Global;
@@ -25,7 +25,7 @@ fn add_link(alloc: Global, links: &mut Links, from: usize, action: &Action) -> R
 
 /// Adds the link of an event that keeps a pair after the root.
 fn add_event(alloc: Global, links: &mut Links, event: &Event) -> Result<(), NoMemory>
-    requires { IsSmall event.now }
+    requires { HasSmallStart event.now }
     ensures { OnOk result (links.new ≡ links.old ++ links_of (event.now ∷ [])) }
 {
     match event {

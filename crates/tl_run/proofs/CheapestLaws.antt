@@ -16,7 +16,7 @@ use Rattle.tl_syntax.specs.declared.action.Action.{Action}
 use Rattle.tl_syntax.specs.declared.problem.Problem.{Problem}
 use Rattle.tl_terms.specs.Problem.{PlainProblem}
 use Rattle.tl_terms.specs.ProblemMeaning.{plain_problem}
-use Rattle.tl_run.specs.Answers.{Answer, past_range, costed, IsRight, status_of, text_of}
+use Rattle.tl_run.specs.Answers.{Answer, past_range, costed, IsRightAnswer, status_of, text_of}
 use Rattle.tl_run.specs.Cheapest.{AreAlike, IsCostOutcome, cost_status}
 use Rattle.tl_run.specs.Commands.{cheapest}
 use Rattle.tl_run.specs.Inputs.{Input, some_costs}
@@ -110,20 +110,20 @@ outcome_agrees b m q costs others n r o u same e f g right (inl alike) = inl (
 )
 outcome_agrees b m q costs others n r o u same e f g right (inr y) = inr (yields_to_cost n o u y)
 
-costed_agrees : (b : ℕ) (d p k : List ℕ) (m : Problem) (costs : List ℕ) (n : ℕ) (o : CostOutcome) (y : Input) (a : Answer) → SameInput (some_costs m costs) y → n ≡ b → IsCostOutcome b (plain_problem m) costs o → IsRight (cheapest b d p k) y a → Agrees (some_costs m costs) (costed n o) (status_of a) (text_of y a)
+costed_agrees : (b : ℕ) (d p k : List ℕ) (m : Problem) (costs : List ℕ) (n : ℕ) (o : CostOutcome) (y : Input) (a : Answer) → SameInput (some_costs m costs) y → n ≡ b → IsCostOutcome b (plain_problem m) costs o → IsRightAnswer (cheapest b d p k) y a → Agrees (some_costs m costs) (costed n o) (status_of a) (text_of y a)
 costed_agrees b d p k m costs n o (some_costs q others) (costed r u) same e h right =
     outcome_agrees b m q costs others n r o u same.0 same.1 e right.0 right.1
     (one_cost_outcome b (plain_problem m) costs o u h (moved b m q costs others u same.0 same.1 right.1))
 costed_agrees b d p k m costs n o (some_costs q others) (past_range after note path) same e h right = inr tt
 costed_agrees b d p k m costs n o y a same e h right = absurd right
 
-past_range_agrees : (b : ℕ) (d p k : List ℕ) (x y : Input) (after : ℕ) (note : RangeNote) (path : List Action) (a : Answer) → IsRight (cheapest b d p k) y a → Agrees x (past_range after note path) (status_of a) (text_of y a)
+past_range_agrees : (b : ℕ) (d p k : List ℕ) (x y : Input) (after : ℕ) (note : RangeNote) (path : List Action) (a : Answer) → IsRightAnswer (cheapest b d p k) y a → Agrees x (past_range after note path) (status_of a) (text_of y a)
 past_range_agrees b d p k x (some_costs q others) after note path (costed r u) right = inr (past_range_yields after note path u)
 past_range_agrees b d p k x (some_costs q others) after note path (past_range since told route) right = inr tt
 past_range_agrees b d p k x y after note path a right = absurd right
 
 -- of two right answers over the same input each agrees with the other
-pub cheapest_agrees : (n : ℕ) (d p q : List ℕ) (x y : Input) (a b : Answer) → SameInput x y → IsRight (cheapest n d p q) x a → IsRight (cheapest n d p q) y b → Agrees x a (status_of b) (text_of y b)
+pub cheapest_agrees : (n : ℕ) (d p q : List ℕ) (x y : Input) (a b : Answer) → SameInput x y → IsRightAnswer (cheapest n d p q) x a → IsRightAnswer (cheapest n d p q) y b → Agrees x a (status_of b) (text_of y b)
 cheapest_agrees n d p q (some_costs m costs) y (costed t o) b same h k = costed_agrees n d p q m costs t o y b same h.0 h.1 k
 cheapest_agrees n d p q (some_costs m costs) y (past_range after note path) b same h k = past_range_agrees n d p q (some_costs m costs) y after note path b k
 cheapest_agrees n d p q x y a b same h k = absurd h
@@ -135,7 +135,7 @@ outcome_says files b d p k m costs n outcome.NoPlan text stand right line = reco
 outcome_says files b d p k m costs n outcome.Spent text stand right line = tt
 
 -- what the headline says of a right answer
-pub cheapest_says : (files : Option Files) (b : ℕ) (d p k : List ℕ) (x : Input) (a : Answer) (text : List ℕ) → HoldInput files (cheapest b d p k) x → IsRight (cheapest b d p k) x a → text ≡ text_of x a → Headline files (cheapest b d p k) (status_of a) text
+pub cheapest_says : (files : Option Files) (b : ℕ) (d p k : List ℕ) (x : Input) (a : Answer) (text : List ℕ) → HoldInput files (cheapest b d p k) x → IsRightAnswer (cheapest b d p k) x a → text ≡ text_of x a → Headline files (cheapest b d p k) (status_of a) text
 cheapest_says files b d p k (some_costs m costs) (costed n o) text stand right line = outcome_says files b d p k m costs n o text stand right.1 line
 cheapest_says files b d p k (some_costs m costs) (past_range after note path) text stand right line = tt
 cheapest_says files b d p k x a text stand right line = absurd right
@@ -150,7 +150,7 @@ calm_outcome b p costs outcome.Spent few right =
     absurd (omega (arith, most, spent.many))
 
 -- where nothing past range is looked at, and few search nodes are near, every right answer is a plan or none
-pub cheapest_calm : (b : ℕ) (d p k : List ℕ) (m : Problem) (costs : List ℕ) (x : Input) (a : Answer) → SameInput (some_costs m costs) x → IsCalmAtLeastCost (plain_problem m) costs b → HasFewNearPairs (plain_problem m) costs b → IsRight (cheapest b d p k) x a → IsCalmStatus (status_of a)
+pub cheapest_calm : (b : ℕ) (d p k : List ℕ) (m : Problem) (costs : List ℕ) (x : Input) (a : Answer) → SameInput (some_costs m costs) x → IsCalmAtLeastCost (plain_problem m) costs b → HasFewNearPairs (plain_problem m) costs b → IsRightAnswer (cheapest b d p k) x a → IsCalmStatus (status_of a)
 cheapest_calm b d p k m costs (some_costs q others) (costed n o) same calm few right =
     calm_outcome b (plain_problem m) costs o few (moved b m q costs others o same.0 same.1 right.1)
 cheapest_calm b d p k m costs (some_costs q others) (past_range after note path) same calm few right =

@@ -14,7 +14,7 @@ use Rattle.tl_syntax.specs.declared.action.Action.{Action}
 use Rattle.tl_syntax.specs.declared.problem.Problem.{Problem}
 use Rattle.tl_terms.specs.Problem.{PlainProblem}
 use Rattle.tl_terms.specs.ProblemMeaning.{plain_problem}
-use Rattle.tl_run.specs.Answers.{Answer, past_range, judged_loop, IsRight, status_of, text_of}
+use Rattle.tl_run.specs.Answers.{Answer, past_range, judged_loop, IsRightAnswer, status_of, text_of}
 use Rattle.tl_run.specs.CheckLoop.{loop_status}
 use Rattle.tl_run.specs.Commands.{check_loop}
 use Rattle.tl_run.specs.Inputs.{Input, a_loop}
@@ -36,20 +36,20 @@ yields_to_verdict after note path NotClosed = tt
 yields_to_verdict after note path GoalUnmet = tt
 yields_to_verdict after note path Disobeys = tt
 
-judged_agrees : OneLoopVerdict → (d p q : List ℕ) (m : Problem) (plan : LoopPlan) (v : LoopVerdict) (y : Input) (b : Answer) → SameInput (a_loop m plan) y → IsLoopVerdict (plain_problem m) plan.stem plan.cycle v → IsRight (check_loop d p q) y b → Agrees (a_loop m plan) (judged_loop v) (status_of b) (text_of y b)
+judged_agrees : OneLoopVerdict → (d p q : List ℕ) (m : Problem) (plan : LoopPlan) (v : LoopVerdict) (y : Input) (b : Answer) → SameInput (a_loop m plan) y → IsLoopVerdict (plain_problem m) plan.stem plan.cycle v → IsRightAnswer (check_loop d p q) y b → Agrees (a_loop m plan) (judged_loop v) (status_of b) (text_of y b)
 judged_agrees law d p q m plan v (a_loop n other) (judged_loop w) same h k =
     let e = one_verdict law m n plan other v w same.0 same.1 h k in
     inl (ap loop_status e, ap loop_text e)
 judged_agrees law d p q m plan v (a_loop n other) (past_range after note path) same h k = inr tt
 judged_agrees law d p q m plan v y b same h k = absurd k
 
-past_range_agrees : (d p q : List ℕ) (x y : Input) (after : ℕ) (note : RangeNote) (path : List Action) (b : Answer) → IsRight (check_loop d p q) y b → Agrees x (past_range after note path) (status_of b) (text_of y b)
+past_range_agrees : (d p q : List ℕ) (x y : Input) (after : ℕ) (note : RangeNote) (path : List Action) (b : Answer) → IsRightAnswer (check_loop d p q) y b → Agrees x (past_range after note path) (status_of b) (text_of y b)
 past_range_agrees d p q x (a_loop n other) after note path (judged_loop w) k = inr (yields_to_verdict after note path w)
 past_range_agrees d p q x (a_loop n other) after note path (past_range since told route) k = inr tt
 past_range_agrees d p q x y after note path b k = absurd k
 
 -- of two right answers over the same input each agrees with the other
-pub check_loop_agrees : OneLoopVerdict → (d p q : List ℕ) (x y : Input) (a b : Answer) → SameInput x y → IsRight (check_loop d p q) x a → IsRight (check_loop d p q) y b → Agrees x a (status_of b) (text_of y b)
+pub check_loop_agrees : OneLoopVerdict → (d p q : List ℕ) (x y : Input) (a b : Answer) → SameInput x y → IsRightAnswer (check_loop d p q) x a → IsRightAnswer (check_loop d p q) y b → Agrees x a (status_of b) (text_of y b)
 check_loop_agrees law d p q (a_loop m plan) y (judged_loop v) b same h k = judged_agrees law d p q m plan v y b same h k
 check_loop_agrees law d p q (a_loop m plan) y (past_range after note path) b same h k = past_range_agrees d p q (a_loop m plan) y after note path b k
 check_loop_agrees law d p q x y a b same h k = absurd h
@@ -62,7 +62,7 @@ verdict_says files d p q problem plan GoalUnmet text stand right line = tt
 verdict_says files d p q problem plan Disobeys text stand right line = tt
 
 -- what the headline says of a right answer
-pub check_loop_says : (files : Option Files) (d p q : List ℕ) (x : Input) (a : Answer) (text : List ℕ) → HoldInput files (check_loop d p q) x → IsRight (check_loop d p q) x a → text ≡ text_of x a → Headline files (check_loop d p q) (status_of a) text
+pub check_loop_says : (files : Option Files) (d p q : List ℕ) (x : Input) (a : Answer) (text : List ℕ) → HoldInput files (check_loop d p q) x → IsRightAnswer (check_loop d p q) x a → text ≡ text_of x a → Headline files (check_loop d p q) (status_of a) text
 check_loop_says files d p q (a_loop problem plan) (judged_loop v) text stand right line = verdict_says files d p q problem plan v text stand right line
 check_loop_says files d p q (a_loop problem plan) (past_range after note path) text stand right line = tt
 check_loop_says files d p q x a text stand right line = absurd right
@@ -75,7 +75,7 @@ verdict_is_calm GoalUnmet = tt
 verdict_is_calm Disobeys = tt
 
 -- where nothing past range is looked at, no right answer has the status Range
-pub check_loop_calm : (d p q : List ℕ) (problem : Problem) (plan : LoopPlan) (x : Input) (a : Answer) → SameInput (a_loop problem plan) x → ((after : ℕ) (note : RangeNote) → ¬ IsLoopCause (plain_problem problem) plan.stem plan.cycle (fault.Range after note)) → IsRight (check_loop d p q) x a → IsCalmStatus (status_of a)
+pub check_loop_calm : (d p q : List ℕ) (problem : Problem) (plan : LoopPlan) (x : Input) (a : Answer) → SameInput (a_loop problem plan) x → ((after : ℕ) (note : RangeNote) → ¬ IsLoopCause (plain_problem problem) plan.stem plan.cycle (fault.Range after note)) → IsRightAnswer (check_loop d p q) x a → IsCalmStatus (status_of a)
 check_loop_calm d p q problem plan (a_loop other parts) (judged_loop v) same calm right = verdict_is_calm v
 check_loop_calm d p q problem plan (a_loop other parts) (past_range after note path) same calm right =
     let m = same.0 in

@@ -15,7 +15,7 @@ use Rattle.tl_search.specs.declared.outcome.Outcome.TheVariants as outcome
 use Rattle.tl_run.specs.declared.status.Status.{Status}
 use Rattle.tl_run.specs.declared.status.Status.TheVariants.{Refused}
 use Rattle.tl_run.specs.declared.stop.Broken.{Broken}
-use Rattle.tl_run.specs.Answers.{Answer, refusal, past_range, judged, searched, traced, IsRight, status_of, text_of, outcome_status, verdict_status, explained, certified, unproved, judged_proof, sampled, costed, judged_loop}
+use Rattle.tl_run.specs.Answers.{Answer, refusal, past_range, judged, searched, traced, IsRightAnswer, status_of, text_of, outcome_status, verdict_status, explained, certified, unproved, judged_proof, sampled, costed, judged_loop}
 use Rattle.tl_run.specs.CheckLoop.{loop_status}
 use Rattle.tl_run.specs.CheckNone.{none_status}
 use Rattle.tl_run.specs.Commands.{Command, check, search, trace, explain, prove_none, check_none, sample, cheapest, check_loop}
@@ -107,7 +107,7 @@ refused_says files (cheapest b d p k) text = tt
 refused_says files (check_loop d p q) text = tt
 
 -- what it says of a right answer: one line for each command
-right_says : Laws → (files : Option Files) (c : Command) (x : Input) (a : Answer) (text : List ℕ) → HoldInput files c x → IsRight c x a → text ≡ text_of x a → Headline files c (status_of a) text
+right_says : Laws → (files : Option Files) (c : Command) (x : Input) (a : Answer) (text : List ℕ) → HoldInput files c x → IsRightAnswer c x a → text ≡ text_of x a → Headline files c (status_of a) text
 right_says laws files (check d p q) x a text stand right line = check_says files d p q x a text stand right line
 right_says laws files (search s d p) x a text stand right line = search_says files s d p x a text stand right line
 right_says laws files (trace s d p) x a text stand right line = trace_says files s d p x a text stand right line
@@ -137,7 +137,7 @@ pub headline_of : Laws → (files : Option Files) (c : Command) (begun : Begun) 
 headline_of laws files c begun status text h = subst (λ (s : Status). Headline files c s text) (sym h.status_is) (allowed_says laws files c h.input h.answer text h.allowed h.text_is)
 
 -- two right answers over the same input: one line for each command
-right_agrees : Laws → (c : Command) (x y : Input) (a b : Answer) → SameInput x y → IsRight c x a → IsRight c y b → Agrees x a (status_of b) (text_of y b)
+right_agrees : Laws → (c : Command) (x y : Input) (a b : Answer) → SameInput x y → IsRightAnswer c x a → IsRightAnswer c y b → Agrees x a (status_of b) (text_of y b)
 right_agrees laws (check d p q) x y a b same h k = check_agrees laws.verdicts d p q x y a b same h k
 right_agrees laws (search s d p) x y a b same h k = search_agrees laws s d p x y a b same h k
 right_agrees laws (trace s d p) x y a b same h k = trace_agrees laws s d p x y a b same h k
@@ -150,7 +150,7 @@ right_agrees laws (check_loop d p q) x y a b same h k = check_loop_agrees laws.l
 
 -- over told files, an answer that is right of what they stand for is no refusal
 abbrev Stands : Files → Command → Input → Answer → Type 0
-Stands files c x a = HoldInput (Some files) c x × IsRight c x a
+Stands files c x a = HoldInput (Some files) c x × IsRightAnswer c x a
 
 stand_agree : Laws → (files : Files) (c : Command) (x y : Input) (a b : Answer) → Stands files c x a → Stands files c y b → Agrees x a (status_of b) (text_of y b)
 stand_agree laws files c x y a b h k = right_agrees laws c x y a b (one_input laws.problems files c x y h.0 k.0) h.1 k.1

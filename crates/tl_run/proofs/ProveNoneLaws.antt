@@ -18,7 +18,7 @@ use Rattle.tl_terms.specs.ProblemMeaning.{plain_problem}
 use Rattle.tl_text.specs.Outcomes.{outcome_text}
 use Rattle.tl_run.specs.declared.search.Search.{Search}
 use Rattle.tl_run.specs.declared.status.Status.TheVariants.{Yes}
-use Rattle.tl_run.specs.Answers.{Answer, past_range, certified, unproved, IsRight, outcome_status, status_of, text_of}
+use Rattle.tl_run.specs.Answers.{Answer, past_range, certified, unproved, IsRightAnswer, outcome_status, status_of, text_of}
 use Rattle.tl_run.specs.Commands.{prove_none}
 use Rattle.tl_run.specs.Inputs.{Input, a_problem}
 use Rattle.tl_run.specs.Laws.{Laws}
@@ -123,13 +123,13 @@ module _ (laws : Laws) (s : Search) (m n : Problem) (same : SameProblem m n) whe
       inl (ap unproved_status is, (λ i. outcome_text (names i) n.domain.operators (back i).within (back i).nodes (is i)) ∙ same_outcome_text m.names n.domain.operators m.domain.operators t.within t.nodes o (sym same.heads))
   both_unproved t r o u e f h k (inr y) = inr (both_yield t o u h k y)
 
-certified_agrees : Laws → (s : Search) (d p : List ℕ) (m : Problem) (t : Search) (proof : Proof) (y : Input) (b : Answer) → SameInput (a_problem m) y → t ≡ s → IsCertificate s (plain_problem m) proof → IsRight (prove_none s d p) y b → Agrees (a_problem m) (certified t proof) (status_of b) (text_of y b)
+certified_agrees : Laws → (s : Search) (d p : List ℕ) (m : Problem) (t : Search) (proof : Proof) (y : Input) (b : Answer) → SameInput (a_problem m) y → t ≡ s → IsCertificate s (plain_problem m) proof → IsRightAnswer (prove_none s d p) y b → Agrees (a_problem m) (certified t proof) (status_of b) (text_of y b)
 certified_agrees laws s d p m t proof (a_problem n) (certified r other) same e h k = both_certified laws s m n same t r proof other e h k.1
 certified_agrees laws s d p m t proof (a_problem n) (unproved r u) same e h k = inr (certified_yields t proof s.within h.ended u proof.bound h.bound k.2 (one laws s m n same h.ended u h.right k.1))
 certified_agrees laws s d p m t proof (a_problem n) (past_range after note path) same e h k = inr tt
 certified_agrees laws s d p m t proof y b same e h k = absurd k
 
-unproved_agrees : Laws → (s : Search) (d p : List ℕ) (m : Problem) (t : Search) (o : Outcome) (y : Input) (b : Answer) → SameInput (a_problem m) y → t ≡ s → IsOutcome s (plain_problem m) o → LeavesNoProof o → IsRight (prove_none s d p) y b → Agrees (a_problem m) (unproved t o) (status_of b) (text_of y b)
+unproved_agrees : Laws → (s : Search) (d p : List ℕ) (m : Problem) (t : Search) (o : Outcome) (y : Input) (b : Answer) → SameInput (a_problem m) y → t ≡ s → IsOutcome s (plain_problem m) o → LeavesNoProof o → IsRightAnswer (prove_none s d p) y b → Agrees (a_problem m) (unproved t o) (status_of b) (text_of y b)
 unproved_agrees laws s d p m t o (a_problem n) (certified r other) same e h leaves k =
     let c = k.1 in
     inr (unproved_yields t s.within o c.ended other.bound leaves c.bound (one laws s m n same o c.ended h c.right))
@@ -137,14 +137,14 @@ unproved_agrees laws s d p m t o (a_problem n) (unproved r u) same e h leaves k 
 unproved_agrees laws s d p m t o (a_problem n) (past_range after note path) same e h leaves k = inr tt
 unproved_agrees laws s d p m t o y b same e h leaves k = absurd k
 
-past_range_agrees : (s : Search) (d p : List ℕ) (x y : Input) (after : ℕ) (note : RangeNote) (path : List Action) (b : Answer) → IsRight (prove_none s d p) y b → Agrees x (past_range after note path) (status_of b) (text_of y b)
+past_range_agrees : (s : Search) (d p : List ℕ) (x y : Input) (after : ℕ) (note : RangeNote) (path : List Action) (b : Answer) → IsRightAnswer (prove_none s d p) y b → Agrees x (past_range after note path) (status_of b) (text_of y b)
 past_range_agrees s d p x (a_problem n) after note path (certified r other) k = inr tt
 past_range_agrees s d p x (a_problem n) after note path (unproved r u) k = inr (past_range_yields after note path u)
 past_range_agrees s d p x (a_problem n) after note path (past_range since told route) k = inr tt
 past_range_agrees s d p x y after note path b k = absurd k
 
 -- of two right answers over the same input each agrees with the other
-pub prove_none_agrees : Laws → (s : Search) (d p : List ℕ) (x y : Input) (a b : Answer) → SameInput x y → IsRight (prove_none s d p) x a → IsRight (prove_none s d p) y b → Agrees x a (status_of b) (text_of y b)
+pub prove_none_agrees : Laws → (s : Search) (d p : List ℕ) (x y : Input) (a b : Answer) → SameInput x y → IsRightAnswer (prove_none s d p) x a → IsRightAnswer (prove_none s d p) y b → Agrees x a (status_of b) (text_of y b)
 prove_none_agrees laws s d p (a_problem m) y (certified t proof) b same h k = certified_agrees laws s d p m t proof y b same h.0 h.1 k
 prove_none_agrees laws s d p (a_problem m) y (unproved t o) b same h k = unproved_agrees laws s d p m t o y b same h.0 h.1 h.2 k
 prove_none_agrees laws s d p (a_problem m) y (past_range after note path) b same h k = past_range_agrees s d p (a_problem m) y after note path b k
@@ -157,7 +157,7 @@ unproved_says files s d p m outcome.NoneWithin text stand right leaves line = ab
 unproved_says files s d p m outcome.Spent text stand right leaves line = tt
 
 -- what the headline says of a right answer
-pub prove_none_says : Laws → (files : Option Files) (s : Search) (d p : List ℕ) (x : Input) (a : Answer) (text : List ℕ) → HoldInput files (prove_none s d p) x → IsRight (prove_none s d p) x a → text ≡ text_of x a → Headline files (prove_none s d p) (status_of a) text
+pub prove_none_says : Laws → (files : Option Files) (s : Search) (d p : List ℕ) (x : Input) (a : Answer) (text : List ℕ) → HoldInput files (prove_none s d p) x → IsRightAnswer (prove_none s d p) x a → text ≡ text_of x a → Headline files (prove_none s d p) (status_of a) text
 prove_none_says laws files s d p (a_problem m) (certified t proof) text stand right line =
     let c = right.1 in
     record { problem = m; stand = stand; proof = proof; lines = line; covers = c.covers; none = laws.covered (plain_problem m) proof c.covers }
@@ -173,7 +173,7 @@ unproved_is_calm outcome.NoneWithin leaves calm = absurd leaves
 unproved_is_calm outcome.Spent leaves calm = absurd calm
 
 -- where nothing past range is looked at, and there are few search nodes, every right answer is a proof or a plan
-pub prove_none_calm : Laws → (s : Search) (d p : List ℕ) (m : Problem) (x : Input) (a : Answer) → SameInput (a_problem m) x → calm.IsCalm (plain_problem m) s.within → HasFewPairs (plain_problem m) s.within s.nodes → IsRight (prove_none s d p) x a → IsCalmStatus (status_of a)
+pub prove_none_calm : Laws → (s : Search) (d p : List ℕ) (m : Problem) (x : Input) (a : Answer) → SameInput (a_problem m) x → calm.IsCalm (plain_problem m) s.within → HasFewPairs (plain_problem m) s.within s.nodes → IsRightAnswer (prove_none s d p) x a → IsCalmStatus (status_of a)
 prove_none_calm laws s d p m (a_problem n) (certified t proof) same calm few right = tt
 prove_none_calm laws s d p m (a_problem n) (unproved t o) same calm few right =
     unproved_is_calm o right.2 (calm_outcome laws s.mode s.within s.nodes (plain_problem m) o few (subst (λ (u : PlainProblem). IsOutcome s u o) (sym same.meaning) right.1))

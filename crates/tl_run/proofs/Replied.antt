@@ -32,7 +32,7 @@ use Rattle.tl_run.specs.declared.status.Status.{Status}
 use Rattle.tl_run.specs.declared.status.Status.TheVariants.{Yes, Refused, Range}
 use Rattle.tl_run.specs.declared.stop.Broken.{Broken}
 use Rattle.tl_run.specs.declared.search.Search.{Search}
-use Rattle.tl_run.specs.Answers.{Answer, refusal, past_range, judged, searched, traced, IsRight, verdict_status, explained, certified, unproved, judged_proof, sampled, costed, judged_loop}
+use Rattle.tl_run.specs.Answers.{Answer, refusal, past_range, judged, searched, traced, IsRightAnswer, verdict_status, explained, certified, unproved, judged_proof, sampled, costed, judged_loop}
 use Rattle.tl_run.specs.Commands.{Command, check, search, trace, explain, prove_none, check_none, sample, cheapest, check_loop}
 use Rattle.tl_run.specs.Inputs.{Input, nothing, a_problem, a_plan, a_proof, some_costs, a_loop}
 use Rattle.tl_run.specs.Cheapest.{CheapestEndsPastRange}
@@ -126,7 +126,7 @@ pub loop_range_replied : (d p q : List ℕ) (problem : Problem) (plan : LoopPlan
 loop_range_replied d p q problem plan after note text cause t = record { answer = past_range after note []; right = (cause, refl); status_is = refl; text_is = t }
 
 -- a refusal is not right of what files stand for: one line for each command
-never_right : (c : Command) (x : Input) (number : ℕ) (m : Broken) → IsRight c x (refusal number m) → ⊥
+never_right : (c : Command) (x : Input) (number : ℕ) (m : Broken) → IsRightAnswer c x (refusal number m) → ⊥
 never_right (check d p q) (a_plan problem plan) number m right = right
 never_right (check d p q) x number m right = right
 never_right (search s d p) (a_problem problem) number m right = right
@@ -146,7 +146,7 @@ never_right (cheapest b d p k) x number m right = right
 never_right (check_loop d p q) (a_loop problem plan) number m right = right
 never_right (check_loop d p q) x number m right = right
 
-right_allowed : (files : Option Files) (c : Command) (x : Input) (a : Answer) → HoldInput files c x → IsRight c x a → Allows files c x a
+right_allowed : (files : Option Files) (c : Command) (x : Input) (a : Answer) → HoldInput files c x → IsRightAnswer c x a → Allows files c x a
 right_allowed files c x (refusal number m) stand right = absurd (never_right c x number m right)
 right_allowed files c x (past_range after note path) stand right = (stand, right)
 right_allowed files c x (judged v) stand right = (stand, right)
@@ -160,7 +160,7 @@ right_allowed files c x (sampled n kept o v) stand right = (stand, right)
 right_allowed files c x (costed b o) stand right = (stand, right)
 right_allowed files c x (judged_loop v) stand right = (stand, right)
 
-right_leaves : (files : Option Files) (c : Command) (begun : Begun) (x : Input) (a : Answer) → IsRight c x a → LeavesOff files c begun a
+right_leaves : (files : Option Files) (c : Command) (begun : Begun) (x : Input) (a : Answer) → IsRightAnswer c x a → LeavesOff files c begun a
 right_leaves files c begun x (refusal number m) right = absurd (never_right c x number m right)
 right_leaves files c begun x (past_range after note path) right = tt
 right_leaves files c begun x (judged v) right = tt

@@ -8,9 +8,10 @@ use Rattle.tl_syntax.specs.declared.operator.Operator.{Operator}
 use Rattle.tl_rules.specs.declared.rule.Rule.TheVariants.{NoPair}
 use Rattle.tl_rules.specs.Rules.{breaks_if}
 use Rattle.tl_rules.specs.Parts.{offset_of, is_within, natural}
+use Rattle.tl_line.specs.ActionLists.{limit_breaks}
 use Rattle.tl_line.specs.ActionTexts.{action_text, values_text}
 use Rattle.tl_cert.specs.MeaningOfProofs.{length_bound_meant, link_meant_by, links_meant, proof_meant}
-use Rattle.tl_cert.specs.ProofFiles.{proof_head_breaks, limit_breaks, link_breaks_at, link_parts, links_breaks, proof_breaks}
+use Rattle.tl_cert.specs.ProofFiles.{proof_head_breaks, link_breaks_at, link_parts, links_breaks, proof_breaks}
 use Rattle.tl_cert.specs.ProofTexts.{head_line, link_line, link_lines, none_text, proof_text}
 use Rattle.tl_cert.specs.declared.proof.Link.{Link}
 use Rattle.tl_cert.specs.declared.proof.Proof.{Proof}

@@ -18,7 +18,7 @@ use Rattle.tl_terms.specs.Calm as calm
 use Rattle.tl_terms.specs.Problem.{PlainProblem}
 use Rattle.tl_terms.specs.ProblemMeaning.{plain_problem}
 use Rattle.tl_run.specs.declared.search.Mode.TheVariants.{Depth}
-use Rattle.tl_run.specs.Answers.{Answer, past_range, sampled, IsRight, status_of, text_of}
+use Rattle.tl_run.specs.Answers.{Answer, past_range, sampled, IsRightAnswer, status_of, text_of}
 use Rattle.tl_run.specs.Commands.{sample}
 use Rattle.tl_run.specs.Inputs.{Input, a_problem}
 use Rattle.tl_run.specs.Laws.{Laws}
@@ -29,7 +29,7 @@ use Rattle.tl_run.proofs.Agreement.{Agrees}
 use Rattle.tl_run.proofs.OneOutcome.{one_outcome, plan_within, no_plan, no_plan_within}
 use Rattle.tl_run.proofs.SameInputs.{SameInput}
 
-summary_agrees : Laws → (m n : ℕ) (p : Problem) (kept : ℕ) (o : Outcome) (v : Option Verdict) (y : Input) (b : Answer) → SameInput (a_problem p) y → n ≡ m → IsSummary m (plain_problem p) kept o v → IsRight (sample m) y b → Agrees (a_problem p) (sampled n kept o v) (status_of b) (text_of y b)
+summary_agrees : Laws → (m n : ℕ) (p : Problem) (kept : ℕ) (o : Outcome) (v : Option Verdict) (y : Input) (b : Answer) → SameInput (a_problem p) y → n ≡ m → IsSummary m (plain_problem p) kept o v → IsRightAnswer (sample m) y b → Agrees (a_problem p) (sampled n kept o v) (status_of b) (text_of y b)
 summary_agrees laws m n p kept o v (a_problem q) (sampled l other u w) same e h k =
     let there : IsSummary m (plain_problem p) other u w = subst (λ (x : PlainProblem). IsSummary m x other u w) (sym same.meaning) k.1 in
     inl (
@@ -46,13 +46,13 @@ summary_agrees laws m n p kept o v (a_problem q) (sampled l other u w) same e h 
 summary_agrees laws m n p kept o v (a_problem q) (past_range after note path) same e h k = inr tt
 summary_agrees laws m n p kept o v y b same e h k = absurd k
 
-past_range_agrees : (m : ℕ) (x y : Input) (after : ℕ) (note : RangeNote) (path : List Action) (b : Answer) → IsRight (sample m) y b → Agrees x (past_range after note path) (status_of b) (text_of y b)
+past_range_agrees : (m : ℕ) (x y : Input) (after : ℕ) (note : RangeNote) (path : List Action) (b : Answer) → IsRightAnswer (sample m) y b → Agrees x (past_range after note path) (status_of b) (text_of y b)
 past_range_agrees m x (a_problem q) after note path (sampled n kept o v) k = inr tt
 past_range_agrees m x (a_problem q) after note path (past_range since told route) k = inr tt
 past_range_agrees m x y after note path b k = absurd k
 
 -- of two right answers over the same input each agrees with the other
-pub sample_agrees : Laws → (m : ℕ) (x y : Input) (a b : Answer) → SameInput x y → IsRight (sample m) x a → IsRight (sample m) y b → Agrees x a (status_of b) (text_of y b)
+pub sample_agrees : Laws → (m : ℕ) (x y : Input) (a b : Answer) → SameInput x y → IsRightAnswer (sample m) x a → IsRightAnswer (sample m) y b → Agrees x a (status_of b) (text_of y b)
 sample_agrees laws m (a_problem p) y (sampled n kept o v) b same h k = summary_agrees laws m n p kept o v y b same h.0 h.1 k
 sample_agrees laws m (a_problem p) y (past_range after note path) b same h k = past_range_agrees m (a_problem p) y after note path b k
 sample_agrees laws m x y a b same h k = absurd h
@@ -74,7 +74,7 @@ summarizes laws m p kept outcome.Spent None text h line = line
 summarizes laws m p kept outcome.Spent (Some v) text h line = absurd h.judged
 
 -- what the headline says of a right answer
-pub sample_says : Laws → (files : Option Files) (m : ℕ) (x : Input) (a : Answer) (text : List ℕ) → HoldInput files (sample m) x → IsRight (sample m) x a → text ≡ text_of x a → Headline files (sample m) (status_of a) text
+pub sample_says : Laws → (files : Option Files) (m : ℕ) (x : Input) (a : Answer) (text : List ℕ) → HoldInput files (sample m) x → IsRightAnswer (sample m) x a → text ≡ text_of x a → Headline files (sample m) (status_of a) text
 sample_says laws files m (a_problem p) (sampled n kept o v) text stand right line =
     let summary = right.1 in
     record {
@@ -98,7 +98,7 @@ module _ (laws : Laws) (m : ℕ) (p : Problem) (search_is_calm : calm.IsCalm (pl
       checks_are_calm c.plan after note within.short c.cause
 
 -- where nothing past range is looked at, no right answer has the status Range
-pub sample_calm : Laws → (m : ℕ) (p : Problem) (x : Input) (a : Answer) → SameInput (a_problem p) x → calm.IsCalm (plain_problem p) (3 * m) → ((plan : List Action) (after : ℕ) (note : RangeNote) → length plan ≤ 3 * m → ¬ IsCause (plain_problem p) plan (fault.Range after note)) → IsRight (sample m) x a → IsCalmStatus (status_of a)
+pub sample_calm : Laws → (m : ℕ) (p : Problem) (x : Input) (a : Answer) → SameInput (a_problem p) x → calm.IsCalm (plain_problem p) (3 * m) → ((plan : List Action) (after : ℕ) (note : RangeNote) → length plan ≤ 3 * m → ¬ IsCause (plain_problem p) plan (fault.Range after note)) → IsRightAnswer (sample m) x a → IsCalmStatus (status_of a)
 sample_calm laws m p (a_problem q) (sampled n kept o v) same searched checked right = tt
 sample_calm laws m p (a_problem q) (past_range after note path) same searched checked right =
     absurd (no_range laws m p searched checked after note path (subst (λ (u : PlainProblem). SampleEndsPastRange m u after note path) (sym same.meaning) right))

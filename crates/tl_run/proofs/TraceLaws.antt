@@ -22,7 +22,7 @@ use Rattle.tl_text.specs.Traces.{trace_text}
 use Rattle.tl_run.specs.declared.search.Mode.{Mode}
 use Rattle.tl_run.specs.declared.search.Mode.TheVariants.{Breadth, Depth}
 use Rattle.tl_run.specs.declared.search.Search.{Search}
-use Rattle.tl_run.specs.Answers.{Answer, past_range, traced, IsRight, outcome_status, status_of, text_of}
+use Rattle.tl_run.specs.Answers.{Answer, past_range, traced, IsRightAnswer, outcome_status, status_of, text_of}
 use Rattle.tl_run.specs.Commands.{trace}
 use Rattle.tl_run.specs.Inputs.{Input, a_problem}
 use Rattle.tl_run.specs.Laws.{Laws}
@@ -84,20 +84,20 @@ traced_agrees m n s t r kept others events told o u same e f right (inl is) = in
 )
 traced_agrees m n s t r kept others events told o u same e f right (inr y) = inr (yields_to_outcome t kept events o u y)
 
-right_agrees : Laws → (s : Search) (d p : List ℕ) (m : Problem) (t : Search) (kept : List KeptPair) (events : List Event) (o : Outcome) (y : Input) (b : Answer) → SameInput (a_problem m) y → t ≡ s → IsTrace s (plain_problem m) kept events o → IsRight (trace s d p) y b → Agrees (a_problem m) (traced t kept events o) (status_of b) (text_of y b)
+right_agrees : Laws → (s : Search) (d p : List ℕ) (m : Problem) (t : Search) (kept : List KeptPair) (events : List Event) (o : Outcome) (y : Input) (b : Answer) → SameInput (a_problem m) y → t ≡ s → IsTrace s (plain_problem m) kept events o → IsRightAnswer (trace s d p) y b → Agrees (a_problem m) (traced t kept events o) (status_of b) (text_of y b)
 right_agrees laws s d p m t kept events o (a_problem n) (traced r others told u) same e h k =
     let one = one_outcome laws s.mode s.within s.nodes (plain_problem m) o u (trace_outcome s (plain_problem m) kept events o h) (subst (λ (x : PlainProblem). IsOutcome s x u) (sym same.meaning) (trace_outcome s (plain_problem n) others told u k.1)) in
     traced_agrees m n s t r kept others events told o u same e k.0 k.1 one
 right_agrees laws s d p m t kept events o (a_problem n) (past_range after note path) same e h k = inr tt
 right_agrees laws s d p m t kept events o y b same e h k = absurd k
 
-past_range_agrees : (s : Search) (d p : List ℕ) (x y : Input) (after : ℕ) (note : RangeNote) (path : List Action) (b : Answer) → IsRight (trace s d p) y b → Agrees x (past_range after note path) (status_of b) (text_of y b)
+past_range_agrees : (s : Search) (d p : List ℕ) (x y : Input) (after : ℕ) (note : RangeNote) (path : List Action) (b : Answer) → IsRightAnswer (trace s d p) y b → Agrees x (past_range after note path) (status_of b) (text_of y b)
 past_range_agrees s d p x (a_problem n) after note path (traced r others told u) k = inr (past_range_yields after note path u)
 past_range_agrees s d p x (a_problem n) after note path (past_range since told route) k = inr tt
 past_range_agrees s d p x y after note path b k = absurd k
 
 -- of two right answers over the same input each agrees with the other
-pub trace_agrees : Laws → (s : Search) (d p : List ℕ) (x y : Input) (a b : Answer) → SameInput x y → IsRight (trace s d p) x a → IsRight (trace s d p) y b → Agrees x a (status_of b) (text_of y b)
+pub trace_agrees : Laws → (s : Search) (d p : List ℕ) (x y : Input) (a b : Answer) → SameInput x y → IsRightAnswer (trace s d p) x a → IsRightAnswer (trace s d p) y b → Agrees x a (status_of b) (text_of y b)
 trace_agrees laws s d p (a_problem m) y (traced t kept events o) b same h k = right_agrees laws s d p m t kept events o y b same h.0 h.1 k
 trace_agrees laws s d p (a_problem m) y (past_range after note path) b same h k = past_range_agrees s d p (a_problem m) y after note path b k
 trace_agrees laws s d p x y a b same h k = absurd h
@@ -127,13 +127,13 @@ outcome_says files s d p m kept events outcome.Spent text stand right line =
     tells_events files s d p m kept events outcome.Spent _ text stand right line refl
 
 -- what the headline says of a right answer
-pub trace_says : (files : Option Files) (s : Search) (d p : List ℕ) (x : Input) (a : Answer) (text : List ℕ) → HoldInput files (trace s d p) x → IsRight (trace s d p) x a → text ≡ text_of x a → Headline files (trace s d p) (status_of a) text
+pub trace_says : (files : Option Files) (s : Search) (d p : List ℕ) (x : Input) (a : Answer) (text : List ℕ) → HoldInput files (trace s d p) x → IsRightAnswer (trace s d p) x a → text ≡ text_of x a → Headline files (trace s d p) (status_of a) text
 trace_says files s d p (a_problem m) (traced t kept events o) text stand right line = outcome_says files s d p m kept events o text stand right.1 (line ∙ ap (λ (r : Search). text_of (a_problem m) (traced r kept events o)) right.0)
 trace_says files s d p (a_problem m) (past_range after note path) text stand right line = tt
 trace_says files s d p x a text stand right line = absurd right
 
 -- where nothing past range is looked at, and there are few search nodes, every right answer is a plan or none
-pub trace_calm : Laws → (s : Search) (d p : List ℕ) (m : Problem) (x : Input) (a : Answer) → SameInput (a_problem m) x → calm.IsCalm (plain_problem m) s.within → HasFewPairs (plain_problem m) s.within s.nodes → IsRight (trace s d p) x a → IsCalmStatus (status_of a)
+pub trace_calm : Laws → (s : Search) (d p : List ℕ) (m : Problem) (x : Input) (a : Answer) → SameInput (a_problem m) x → calm.IsCalm (plain_problem m) s.within → HasFewPairs (plain_problem m) s.within s.nodes → IsRightAnswer (trace s d p) x a → IsCalmStatus (status_of a)
 trace_calm laws s d p m (a_problem n) (traced t kept events o) same calm few right = calm_outcome laws s.mode s.within s.nodes (plain_problem m) o few (subst (λ (u : PlainProblem). IsOutcome s u o) (sym same.meaning) (trace_outcome s (plain_problem n) kept events o right.1))
 trace_calm laws s d p m (a_problem n) (past_range after note path) same calm few right =
     let cause = right.0 in

@@ -60,27 +60,27 @@ pub data Answer : Type 0 where
   judged_loop : LoopVerdict → Answer
 
 -- over what its files stand for, the answer is right for the command: one line for each command and answer
-abbrev pub IsRight : Command → Input → Answer → Type 0
-IsRight (check d p q) (a_plan problem plan) (judged v) = IsVerdict (plain_problem problem) plan v
-IsRight (check d p q) (a_plan problem plan) (past_range after note path) = IsCause (plain_problem problem) plan (fault.Range after note) × (path ≡ [])
-IsRight (search s d p) (a_problem problem) (searched t o) = (t ≡ s) × IsOutcome s (plain_problem problem) o
-IsRight (search s d p) (a_problem problem) (past_range after note path) = EndsPastRange s (plain_problem problem) path note × (after ≡ length path)
-IsRight (trace s d p) (a_problem problem) (traced t kept events o) = (t ≡ s) × IsTrace s (plain_problem problem) kept events o
-IsRight (trace s d p) (a_problem problem) (past_range after note path) = EndsPastRange s (plain_problem problem) path note × (after ≡ length path)
-IsRight (explain d p q) (a_plan problem plan) explained = ⊤
-IsRight (explain d p q) (a_plan problem plan) (past_range after note path) = IsPastInExplanation (plain_problem problem) plan after note × (path ≡ [])
-IsRight (prove_none s d p) (a_problem problem) (certified t proof) = (t ≡ s) × IsCertificate s (plain_problem problem) proof
-IsRight (prove_none s d p) (a_problem problem) (unproved t o) = (t ≡ s) × IsOutcome s (plain_problem problem) o × LeavesNoProof o
-IsRight (prove_none s d p) (a_problem problem) (past_range after note path) = EndsPastRange s (plain_problem problem) path note × (after ≡ length path)
-IsRight (check_none d p q) (a_proof problem proof) (judged_proof v) = IsNoneVerdict (plain_problem problem) proof v
-IsRight (check_none d p q) (a_proof problem proof) (past_range after note path) = IsNoneCause (plain_problem problem) proof.bound proof.links path (operation_of note) × (after ≡ length path)
-IsRight (sample m) (a_problem problem) (sampled n kept o v) = (n ≡ m) × IsSummary m (plain_problem problem) kept o v
-IsRight (sample m) (a_problem problem) (past_range after note path) = SampleEndsPastRange m (plain_problem problem) after note path
-IsRight (cheapest b d p k) (some_costs problem costs) (costed n o) = (n ≡ b) × IsCostOutcome b (plain_problem problem) costs o
-IsRight (cheapest b d p k) (some_costs problem costs) (past_range after note path) = CheapestEndsPastRange b (plain_problem problem) costs path note × (after ≡ length path)
-IsRight (check_loop d p q) (a_loop problem plan) (judged_loop v) = IsLoopVerdict (plain_problem problem) plan.stem plan.cycle v
-IsRight (check_loop d p q) (a_loop problem plan) (past_range after note path) = IsLoopCause (plain_problem problem) plan.stem plan.cycle (fault.Range after note) × (path ≡ [])
-IsRight command input answer = ⊥
+abbrev pub IsRightAnswer : Command → Input → Answer → Type 0
+IsRightAnswer (check d p q) (a_plan problem plan) (judged v) = IsVerdict (plain_problem problem) plan v
+IsRightAnswer (check d p q) (a_plan problem plan) (past_range after note path) = IsCause (plain_problem problem) plan (fault.Range after note) × (path ≡ [])
+IsRightAnswer (search s d p) (a_problem problem) (searched t o) = (t ≡ s) × IsOutcome s (plain_problem problem) o
+IsRightAnswer (search s d p) (a_problem problem) (past_range after note path) = EndsPastRange s (plain_problem problem) path note × (after ≡ length path)
+IsRightAnswer (trace s d p) (a_problem problem) (traced t kept events o) = (t ≡ s) × IsTrace s (plain_problem problem) kept events o
+IsRightAnswer (trace s d p) (a_problem problem) (past_range after note path) = EndsPastRange s (plain_problem problem) path note × (after ≡ length path)
+IsRightAnswer (explain d p q) (a_plan problem plan) explained = ⊤
+IsRightAnswer (explain d p q) (a_plan problem plan) (past_range after note path) = IsPastInExplanation (plain_problem problem) plan after note × (path ≡ [])
+IsRightAnswer (prove_none s d p) (a_problem problem) (certified t proof) = (t ≡ s) × IsCertificate s (plain_problem problem) proof
+IsRightAnswer (prove_none s d p) (a_problem problem) (unproved t o) = (t ≡ s) × IsOutcome s (plain_problem problem) o × LeavesNoProof o
+IsRightAnswer (prove_none s d p) (a_problem problem) (past_range after note path) = EndsPastRange s (plain_problem problem) path note × (after ≡ length path)
+IsRightAnswer (check_none d p q) (a_proof problem proof) (judged_proof v) = IsNoneVerdict (plain_problem problem) proof v
+IsRightAnswer (check_none d p q) (a_proof problem proof) (past_range after note path) = IsNoneCause (plain_problem problem) proof.bound proof.links path (operation_of note) × (after ≡ length path)
+IsRightAnswer (sample m) (a_problem problem) (sampled n kept o v) = (n ≡ m) × IsSummary m (plain_problem problem) kept o v
+IsRightAnswer (sample m) (a_problem problem) (past_range after note path) = SampleEndsPastRange m (plain_problem problem) after note path
+IsRightAnswer (cheapest b d p k) (some_costs problem costs) (costed n o) = (n ≡ b) × IsCostOutcome b (plain_problem problem) costs o
+IsRightAnswer (cheapest b d p k) (some_costs problem costs) (past_range after note path) = CheapestEndsPastRange b (plain_problem problem) costs path note × (after ≡ length path)
+IsRightAnswer (check_loop d p q) (a_loop problem plan) (judged_loop v) = IsLoopVerdict (plain_problem problem) plan.stem plan.cycle v
+IsRightAnswer (check_loop d p q) (a_loop problem plan) (past_range after note path) = IsLoopCause (plain_problem problem) plan.stem plan.cycle (fault.Range after note) × (path ≡ [])
+IsRightAnswer command input answer = ⊥
 
 -- the status with a verdict
 abbrev pub verdict_status : Verdict → Status

@@ -13,7 +13,7 @@ use Rattle.tl_search.specs.declared.outcome.Outcome.TheVariants as outcome
 use Rattle.tl_run.specs.declared.status.Status.{Status}
 use Rattle.tl_run.specs.declared.status.Status.TheVariants.{Yes, No, Spent, Range, ReadFault, WriteFault, NoMemory, Usage}
 use Rattle.tl_text.specs.Outcomes.{spent_text}
-use Rattle.tl_run.specs.Answers.{Answer, refusal, past_range, judged, searched, traced, IsRight, status_of, text_of, explained, certified, unproved, judged_proof, sampled, outcome_status, costed, judged_loop}
+use Rattle.tl_run.specs.Answers.{Answer, refusal, past_range, judged, searched, traced, IsRightAnswer, status_of, text_of, explained, certified, unproved, judged_proof, sampled, outcome_status, costed, judged_loop}
 use Rattle.tl_run.specs.Check.{SaysAccepted, HasCalmPlan}
 use Rattle.tl_run.specs.CheckLoop.{SaysAcceptedForEver, HasCalmLoop}
 use Rattle.tl_run.specs.CheckNone.{SaysProved, HasCalmProof}
@@ -30,7 +30,7 @@ use Rattle.tl_run.specs.Sample.{IsSummaryOver, SaysSummary, HasCalmSample, sampl
 -- the files allow this answer to the command: the refusal of a file in its turn, or what is right over all of them
 abbrev pub Allows : Option Files → Command → Input → Answer → Type 0
 Allows files c input (refusal number broken) = IsRefused files c number broken
-Allows files c input answer = HoldInput files c input × IsRight c input answer
+Allows files c input answer = HoldInput files c input × IsRightAnswer c input answer
 
 -- after a refusal no file was begun that comes after the refused one
 abbrev pub LeavesOff : Option Files → Command → Begun → Answer → Type 0
