@@ -27,21 +27,21 @@ pub record Reader : Type 0 where
   pub tuple : Option (List Value)
 
 -- it reads the tuples that make the bound true, where all other variables have their values in e
-pub record Reads (ss : List Var) (e : Assignment) (b : Bound) (r : Reader) : Type 0 where
+pub record ReadsTuples (ss : List Var) (e : Assignment) (b : Bound) (r : Reader) : Type 0 where
   pub stands : IsPatternOf ss e b r.pattern
   pub size : IfSome r.tuple (λ t. length t ≡ length ss)
 
 -- the new reader has come to the tuple of the bound after that of the old
 abbrev pub ReadsNext : Situation → Bound → Reader → Reader → Type 0
-ReadsNext s b old new = (ss : List Var) (e : Assignment) → Reads ss e b old → IsNextTuple s ss e b old.tuple new.tuple
+ReadsNext s b old new = (ss : List Var) (e : Assignment) → ReadsTuples ss e b old → IsNextTuple s ss e b old.tuple new.tuple
 
 -- the new reader reads what the old one reads
 abbrev pub ReadsAsBefore : Bound → Reader → Reader → Type 0
-ReadsAsBefore b old new = (ss : List Var) (e : Assignment) → Reads ss e b old → Reads ss e b new
+ReadsAsBefore b old new = (ss : List Var) (e : Assignment) → ReadsTuples ss e b old → ReadsTuples ss e b new
 
 -- of whatever variables the reader reads the tuples, there are as many as of these values
 abbrev pub HasAsMany : Reader → List Value → Type 0
-HasAsMany r values = (ss : List Var) (e : Assignment) (b : Bound) → Reads ss e b r → length values ≡ length ss
+HasAsMany r values = (ss : List Var) (e : Assignment) (b : Bound) → ReadsTuples ss e b r → length values ≡ length ss
 
 -- what each reader keeps: the pattern is lawful, and the tuple that it has come to has a value for each variable; without a pattern it has come to none
 abbrev pub CanGoOn : Option Pattern → Bool → Match → Type 0

@@ -1,7 +1,7 @@
 // The tuples of a bound, one after another.
 ghost use Rattle.std.specs.Prelude.{◌≡◌, ◌≤◌, length, true, false, None, Some, IsSome};
 ghost use Rattle.tl_eval.specs.Frames.{assignment_in};
-ghost use Rattle.tl_eval.specs.Reader.{Reads, ReadsNext, ReadsAsBefore, HasAsMany};
+ghost use Rattle.tl_eval.specs.Reader.{ReadsTuples, ReadsNext, ReadsAsBefore, HasAsMany};
 ghost use Rattle.tl_eval.specs.Reading.{situation_in};
 ghost use Rattle.tl_syntax.specs.BoundVariables.{DifferInSlot, OccurIn};
 ghost use Rattle.tl_syntax.specs.Fits.{BoundFits};
@@ -44,7 +44,7 @@ impl TupleReader {
         requires differ { DifferInSlot vars.now }
         requires occur { OccurIn vars.now b.now }
         requires fits { BoundFits (signature_of task.now.problem.domain) b.now }
-        ensures reads { Reads vars.now (assignment_in env.now) b.now result }
+        ensures reads { ReadsTuples vars.now (assignment_in env.now) b.now result }
         ensures before { result.tuple ≡ None }
         ensures few { length vars.now ≤ 9 }
     {
@@ -59,7 +59,7 @@ impl TupleReader {
         requires differ { DifferInSlot vars.now }
         requires occur { OccurIn vars.now b.now }
         requires fits { BoundFits (signature_of task.now.problem.domain) b.now }
-        ensures reads { Reads vars.now (assignment_in env.now) b.now self.new }
+        ensures reads { ReadsTuples vars.now (assignment_in env.now) b.now self.new }
         ensures before { self.new.tuple ≡ None }
         ensures few { length vars.now ≤ 9 }
     {
@@ -89,7 +89,7 @@ impl TupleReader {
         requires differ { DifferInSlot vars.now }
         requires occur { OccurIn vars.now b.now }
         requires fits { BoundFits (signature_of task.now.problem.domain) b.now }
-        ensures reads { Reads vars.now (assignment_in frame.now) b.now self.new }
+        ensures reads { ReadsTuples vars.now (assignment_in frame.now) b.now self.new }
         ensures before { self.new.tuple ≡ None }
         ensures few { length vars.now ≤ 9 }
     {

@@ -1,7 +1,7 @@
 -- A step from one instance of a quantifier to the next.
 use Rattle.std.proofs.Common.{◌≡◌, ◌<◌, List, [], ◌∷◌, length, Bool, true, false, Option, Some, sym, ap, ◌∙◌, subst}
 use Rattle.tl_eval.specs.Frames.{assignment_in, AgreeElsewhere}
-use Rattle.tl_eval.specs.Reader.{Reader, Reads}
+use Rattle.tl_eval.specs.Reader.{Reader, ReadsTuples}
 use Rattle.tl_syntax.specs.declared.bound.Bound.{Bound}
 use Rattle.tl_syntax.specs.declared.value.Value.{Value}
 use Rattle.tl_syntax.specs.declared.variable.Var.{Var}
@@ -28,7 +28,7 @@ pub record HasCome (p : PlainProblem) (w : World) (e : Assignment) (ss : List Va
   pub fewer : length (left_after p w e ss b f after) < length (left_after p w e ss b f before)
 
 module _ (p : PlainProblem) (w : World) (e : Assignment) (ss : List Var) (b : Bound) (f : FormulaTree) (before after : Reader) (old new : List (Option Value)) (found : Bool)
-    (s : HasStepped (situation_of p w) ss b before after old new found) (reads : Reads ss e b before) where
+    (s : HasStepped (situation_of p w) ss b before after old new found) (reads : ReadsTuples ss e b before) where
   pub has-come : DifferInSlot ss → OccurIn ss b → AgreeElsewhere ss (assignment_in old) e → found ≡ true → HasCome p w e ss b f before.tuple after.tuple new
   has-come d o others h =
       let put = s.put h in

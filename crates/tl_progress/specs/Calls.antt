@@ -9,7 +9,7 @@ use Rattle.tl_progress.specs.declared.joined.Joined.{Joined}
 use Rattle.tl_progress.specs.declared.known.WorkedOut.{WorkedOut}
 use Rattle.tl_progress.specs.Answers.{idly_true, looked_idly, residual, looked_for_residual}
 use Rattle.tl_progress.specs.KeptResiduals.{AreOpen}
-use Rattle.tl_progress.specs.Known.{AreTruths, AreResiduals, IsRight}
+use Rattle.tl_progress.specs.Known.{AreTruths, AreResiduals, IsRightlyKnown}
 use Rattle.tl_progress.specs.Sentences.{IsSentence, FitsSomewhere}
 use Rattle.tl_syntax.specs.declared.bound.Bound.{Bound}
 use Rattle.tl_syntax.specs.declared.junction.Junction.{Junction}
@@ -49,7 +49,7 @@ AreResidualsIn task w nodes found = AreResiduals (plain_problem task.problem) w 
 
 -- what is known is right of the task's world
 abbrev pub IsRightIn : Task → World → Nodes → WorkedOut → Type 0
-IsRightIn task w nodes known = IsRight (plain_problem task.problem) w (trees nodes) known
+IsRightIn task w nodes known = IsRightlyKnown (plain_problem task.problem) w (trees nodes) known
 
 -- truth of a formula without temporal words in the world, under the values of the frame
 abbrev pub state_true_in : Task → World → List (Option Value) → FormulaTree → Bool

@@ -18,6 +18,6 @@ abbrev pub AreResiduals : PlainProblem → World → List FormulaTree → (ℕ �
 AreResiduals p w ts found = (k i : ℕ) → found k ≡ Some i → (k < length ts) × ((e : Assignment) → slice_get ts i ≡ Some (residual p w e (tree_at ts k)))
 
 -- what is known is right
-pub record IsRight (p : PlainProblem) (w : World) (ts : List FormulaTree) (known : WorkedOut) : Type 0 where
+pub record IsRightlyKnown (p : PlainProblem) (w : World) (ts : List FormulaTree) (known : WorkedOut) : Type 0 where
   pub truths : AreTruths p w ts (get nat_eq known.truths)
   pub residuals : AreResiduals p w ts (get nat_eq known.residuals)

@@ -1,7 +1,7 @@
 -- Quantifiers that stand in nodes, and steps from one instance to the next.
 use Rattle.std.specs.Prelude.{◌≡◌, List, [], length, Bool, true, false, Option, None, Some}
 use Rattle.tl_eval.specs.Frames.{assignment_in, AgreeElsewhere, AreKept}
-use Rattle.tl_eval.specs.Reader.{Reader, Reads}
+use Rattle.tl_eval.specs.Reader.{Reader, ReadsTuples}
 use Rattle.tl_nodes.specs.declared.nodes.Nodes.{Nodes}
 use Rattle.tl_nodes.specs.NodeTrees.{tree_at}
 use Rattle.tl_nodes.specs.Numbers.{trees}
@@ -57,16 +57,16 @@ bound_at nodes q = node_bound (trees nodes) q
 
 -- it reads the tuples of the quantifier's bound under the values of the frame
 abbrev pub ReadsAt : Nodes → Quantifier → List (Option Value) → Reader → Type 0
-ReadsAt nodes q frame r = Reads (node_vars (trees nodes) q) (assignment_in frame) (node_bound (trees nodes) q) r
+ReadsAt nodes q frame r = ReadsTuples (node_vars (trees nodes) q) (assignment_in frame) (node_bound (trees nodes) q) r
 
 -- it reads the tuples of the bound under some assignment
 abbrev pub IsReader : List Var → Bound → Reader → Type 0
-IsReader ss b r = (e : Assignment) × Reads ss e b r
+IsReader ss b r = (e : Assignment) × ReadsTuples ss e b r
 
 -- a step to the next instance: the reader goes on, and the variables get the values of the tuple that is found
 pub record HasStepped (s : Situation) (ss : List Var) (b : Bound) (before after : Reader) (old new : List (Option Value)) (found : Bool) : Type 0 where
-  pub reads : (e : Assignment) → Reads ss e b before → Reads ss e b after
-  pub next : (e : Assignment) → Reads ss e b before → IsNext (length ss) (λ t. bound_true s (bind ss t e) b) before.tuple after.tuple
+  pub reads : (e : Assignment) → ReadsTuples ss e b before → ReadsTuples ss e b after
+  pub next : (e : Assignment) → ReadsTuples ss e b before → IsNext (length ss) (λ t. bound_true s (bind ss t e) b) before.tuple after.tuple
   pub put : found ≡ true → (t : List Value) × (after.tuple ≡ Some t) × (assignment_in new ≡ bind ss t (assignment_in old))
   pub done : found ≡ false → after.tuple ≡ None
   pub elsewhere : AgreeElsewhere ss (assignment_in new) (assignment_in old)

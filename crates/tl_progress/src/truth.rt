@@ -2,7 +2,7 @@
 ghost use Rattle.std.specs.Prelude.{◌≡◌, ◌<◌, true, length, None, IfOk, IfErr, nat_eq};
 ghost use Rattle.indexmap.specs.IndexMap.{get};
 ghost use Rattle.tl_eval.specs.Frames.{assignment_in, AgreeElsewhere};
-ghost use Rattle.tl_eval.specs.Reader.{Reads};
+ghost use Rattle.tl_eval.specs.Reader.{ReadsTuples};
 ghost use Rattle.tl_nodes.specs.Fits.{all_below};
 ghost use Rattle.tl_nodes.specs.Numbers.{trees, tree_in};
 ghost use Rattle.tl_progress.specs.Answers.{IsCausedBy};
@@ -214,7 +214,7 @@ fn instances_truth(
     requires part { part < length (trees nodes.now) }
     requires fits { FitsTask task.now (quantified_at nodes.now junction vars.now bound.now part) }
     requires known { AreTruthsIn task.now w.now nodes.now (get nat_eq known.now) }
-    requires reads { Reads vars.now (assignment_in env.old) bound.now tuples.old }
+    requires reads { ReadsTuples vars.now (assignment_in env.old) bound.now tuples.old }
     requires before { tuples.old.tuple ≡ None }
     ensures truth { IfOk result (λ b. b ≡ idly_true_over task.now w.now env.old nodes.now junction vars.now bound.now part) }
     ensures cause { IfErr result (IsCausedBy (looked_idly_over task.now w.now env.old nodes.now junction vars.now bound.now part)) }

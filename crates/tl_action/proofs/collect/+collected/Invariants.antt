@@ -5,7 +5,7 @@ use Rattle.tl_action.proofs.EffectSizes.{effect_nodes, effects_nodes}
 use Rattle.tl_action.proofs.EffectLists.{EffectsPassed}
 use Rattle.tl_action.proofs.EffectTuples.{TuplesPassed}
 use Rattle.tl_eval.specs.Frames.{assignment_in}
-use Rattle.tl_eval.specs.Reader.{Reads}
+use Rattle.tl_eval.specs.Reader.{ReadsTuples}
 use Rattle.tl_syntax.specs.Signature.{signature_of}
 use Rattle.tl_syntax.specs.TreeOfEffect.{tree_of_effect, tree_of_effects, effects_of_list}
 use Rattle.tl_terms.specs.Definitions.{situation_of}
@@ -36,7 +36,7 @@ invariant-collect_each-loop-vars l =
     let s = situation_of p l.here.world.now in
     let e = assignment_in l.fn.env in
     record {
-      reads : Reads l.vars e l.bound l.tuples;
+      reads : ReadsTuples l.vars e l.bound l.tuples;
       frame : EachLeaves (signature_of l.here.task.now.problem.domain) l.vars (tree_of_effects l.each.effects.now) e (assignment_in l.env);
       passed : TuplesPassed p l.here.world.now e l.vars (tree_of_effects l.each.effects.now) (all s e l.vars l.bound) (left s e l.vars l.bound l.tuples.tuple) l.fn.changes l.changes;
     }

@@ -6,7 +6,7 @@ use Rattle.tl_check.proofs.Sizes.{size, sizes}
 use Rattle.tl_check.specs.Quantifiers.{with_part}
 use Rattle.tl_eval.proofs.TupleRest.{rest_after}
 use Rattle.tl_eval.specs.Frames.{assignment_in, AgreeElsewhere}
-use Rattle.tl_eval.specs.Reader.{Reads}
+use Rattle.tl_eval.specs.Reader.{ReadsTuples}
 use Rattle.tl_syntax.specs.TreeOfFormula.{tree_of_formula, tree_of_formulas}
 use Rattle.tl_terms.specs.Bounds.{tuples}
 use Rattle.tl_terms.specs.Definitions.{situation_of}
@@ -54,7 +54,7 @@ decreases-guided_labels-instances l = length (rest_after l.tuples.tuple (tuples 
 
 abbrev pub invariant-guided_labels-instances : goal.invariant-guided_labels-instances
 invariant-guided_labels-instances l = record {
-  reads : Reads l.binder.vars.now (assignment_in l.fn.env) l.binder.bound.now l.tuples;
+  reads : ReadsTuples l.binder.vars.now (assignment_in l.fn.env) l.binder.bound.now l.tuples;
   scope : AgreeElsewhere l.binder.vars.now (assignment_in l.env) (assignment_in l.fn.env);
   slots : length l.env ≡ 32;
   so_far : Guided (plain_problem l.along.task.now.problem) l.along.worlds.now (assignment_in l.fn.env) (with_part l.binder (tree_of_formula l.part)) l.guide l.span l.all l.tuples.tuple;

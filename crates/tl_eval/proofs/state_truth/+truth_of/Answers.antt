@@ -2,7 +2,7 @@ use Rattle.std.proofs.Common.{◌≡◌, ◌<◌, ◌+◌, ◌-◌, List, length
 use Rattle.std.proofs.lemmas.List.{length-take, length-drop}
 use Rattle.std.proofs.lemmas.Slice.{take-put_mid_below}
 use Rattle.tl_eval.specs.Frames.{assignment_in}
-use Rattle.tl_eval.specs.Reader.{Reads}
+use Rattle.tl_eval.specs.Reader.{ReadsTuples}
 use Rattle.tl_eval.specs.Remembered.{remembered}
 use Rattle.tl_eval.specs.StateTruth.{IsTruth}
 use Rattle.tl_eval.specs.declared.range.RangeNote.{RangeNote}
@@ -449,7 +449,7 @@ pub tuples_true-loop-reading-init : goal.tuples_true-loop-reading-init
 tuples_true-loop-reading-init t c =
     let same : assignment_in c.current.result.now ≡ assignment_in (take 32 c.args.frames.now) = ap assignment_in c.current.ensures in
     record {
-      reads = subst (λ (x : Assignment). Reads c.args.vars.now x c.args.bound.now c.open_at.new.self) same c.open_at.ensures.reads;
+      reads = subst (λ (x : Assignment). ReadsTuples c.args.vars.now x c.args.bound.now c.open_at.new.self) same c.open_at.ensures.reads;
       scope = λ u. refl;
       truths = c.requires.truths;
       passed = subst (TuplesPassed (plain_problem c.args.task.now.problem) c.args.w.now c.args.reading.number c.args.reading.level (assignment_in (take 32 c.args.frames.now)) c.args.vars.now c.args.bound.now (tree_of_formula c.args.part.now) c.deciding_truth-stop.result) (sym c.open_at.ensures.before)

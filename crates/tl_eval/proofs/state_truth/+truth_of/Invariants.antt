@@ -1,6 +1,6 @@
 use Rattle.std.proofs.Common.{◌≡◌, ◌+◌, drop, take, length}
 use Rattle.tl_eval.specs.Frames.{assignment_in, AgreeElsewhere}
-use Rattle.tl_eval.specs.Reader.{Reads}
+use Rattle.tl_eval.specs.Reader.{ReadsTuples}
 use Rattle.tl_eval.specs.Remembered.{AreTruths}
 use Rattle.tl_eval.proofs.FormulaSizes.{formula_nodes, formulas_nodes, weight}
 use Rattle.tl_eval.proofs.StateLaws.{PartsPassed, TuplesPassed, tuples_read}
@@ -42,7 +42,7 @@ decreases-tuples_true-loop-reading l = length (rest_after l.tuples.tuple (tuples
 
 abbrev pub invariant-tuples_true-loop-reading : goal.invariant-tuples_true-loop-reading
 invariant-tuples_true-loop-reading l = record {
-  reads : Reads l.vars (assignment_in (take 32 l.fn.frames)) l.bound l.tuples;
+  reads : ReadsTuples l.vars (assignment_in (take 32 l.fn.frames)) l.bound l.tuples;
   scope : AgreeElsewhere l.vars (assignment_in (take 32 l.frames)) (assignment_in (take 32 l.fn.frames));
   truths : AreTruths (plain_problem l.task.problem) l.w l.memory;
   passed : TuplesPassed (plain_problem l.task.problem) l.w l.reading.number l.reading.level (assignment_in (take 32 l.fn.frames)) l.vars l.bound (tree_of_formula l.part) l.stop l.tuples.tuple;

@@ -3,7 +3,7 @@ use Rattle.tl_check.proofs.Sizes.{size, sizes}
 use Rattle.tl_check.specs.Quantifiers.{with_part}
 use Rattle.tl_eval.proofs.TupleRest.{rest_after}
 use Rattle.tl_eval.specs.Frames.{assignment_in, AgreeElsewhere}
-use Rattle.tl_eval.specs.Reader.{Reads}
+use Rattle.tl_eval.specs.Reader.{ReadsTuples}
 use Rattle.tl_lasso.proofs.QuantifierLaws.{GathersHere}
 use Rattle.tl_lasso.proofs.WordLaws.{PartsSoFar}
 use Rattle.tl_lasso.specs.Instances.{Gathers}
@@ -57,7 +57,7 @@ invariant-quantified_labels-loop-i l = record {
 
 abbrev pub invariant-join_new_instances-tuples : goal.invariant-join_new_instances-tuples
 invariant-join_new_instances-tuples l = record {
-  reads : Reads l.binder.vars.now (assignment_in l.fn.env) l.binder.bound.now l.tuples;
+  reads : ReadsTuples l.binder.vars.now (assignment_in l.fn.env) l.binder.bound.now l.tuples;
   scope : AgreeElsewhere l.binder.vars.now (assignment_in l.env) (assignment_in l.fn.env);
   slots : length l.env ≡ 32;
   so_far : GathersHere (situations_round (plain_problem l.lasso.task.now.problem) l.lasso.stem l.lasso.worlds.now) (length l.lasso.worlds.now) (assignment_in l.fn.env) (with_part l.binder (tree_of_formula l.part)) l.i

@@ -3,7 +3,7 @@ use Rattle.tl_nodes.specs.Numbering.{Keeps}
 use Rattle.tl_nodes.specs.Numbers.{trees}
 use Rattle.tl_syntax.specs.Lists.{Each}
 use Rattle.tl_terms.specs.ProblemMeaning.{plain_problem}
-use Rattle.tl_progress.specs.Known.{IsRight}
+use Rattle.tl_progress.specs.Known.{IsRightlyKnown}
 use Rattle.tl_progress.specs.Parts.{IsBelow}
 use Rattle.tl_progress.proofs.progression.ordered_residual.Given as goal
 
@@ -12,7 +12,7 @@ invariant-loop-at l = record {
   frame : l.env ≡ l.fn.env;
   kept : Keeps (trees l.fn.nodes) (trees l.nodes);
   order : Each (IsBelow false (trees l.fn.nodes) l.id) l.order.items;
-  known : IsRight (plain_problem l.task.problem) l.w (trees l.nodes) l.known;
+  known : IsRightlyKnown (plain_problem l.task.problem) l.w (trees l.nodes) l.known;
 }
 
 abbrev pub decreases-loop-at : goal.decreases-loop-at

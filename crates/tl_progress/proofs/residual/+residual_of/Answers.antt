@@ -1,7 +1,7 @@
 use Rattle.std.proofs.Common.{◌≡◌, ◌<◌, ◌≤◌, ◌+◌, ℕ, List, true, false, map, drop, length, inl, inr, Option, Some, slice_get, refl, sym, ap, ◌∙◌, subst, arith}
 use Rattle.std.proofs.lemmas.Option.{slice_get_within}
 use Rattle.tl_eval.specs.Frames.{assignment_in, AgreeElsewhere, AreKept}
-use Rattle.tl_eval.specs.Reader.{Reads}
+use Rattle.tl_eval.specs.Reader.{ReadsTuples}
 use Rattle.tl_nodes.specs.Fits.{all_below}
 use Rattle.tl_nodes.specs.Joins.{simplified_join}
 use Rattle.tl_nodes.specs.NodeTrees.{tree_at, trees_at}
@@ -383,7 +383,7 @@ instances_residual-put_next-requires-clause-slots t c =
 
 pub instances_residual-put_next-requires-clause-reads : goal.instances_residual-put_next-requires-clause-reads
 instances_residual-put_next-requires-clause-reads t c =
-    ((assignment_in c.args.env.now), subst (λ (f : FormulaTree). Reads (vars_in f) (assignment_in c.args.env.now) (bound_in f) c.tuples.tuples) (sym (same-node (trees c.args.nodes.now) (trees c.tuples.nodes) c.tuples.invariant.kept c.args.quantifier c.requires.at)) c.tuples.invariant.reads)
+    ((assignment_in c.args.env.now), subst (λ (f : FormulaTree). ReadsTuples (vars_in f) (assignment_in c.args.env.now) (bound_in f) c.tuples.tuples) (sym (same-node (trees c.args.nodes.now) (trees c.tuples.nodes) c.tuples.invariant.kept c.args.quantifier c.requires.at)) c.tuples.invariant.reads)
 
 pub instances_residual-residual_of-requires : goal.instances_residual-residual_of-requires
 instances_residual-residual_of-requires t c =

@@ -1,6 +1,6 @@
 use Rattle.std.proofs.Common.{◌≡◌, ◌+◌, ◌*◌, map, drop, length}
 use Rattle.tl_eval.specs.Frames.{assignment_in, AgreeElsewhere}
-use Rattle.tl_eval.specs.Reader.{Reads}
+use Rattle.tl_eval.specs.Reader.{ReadsTuples}
 use Rattle.tl_nodes.specs.NodeTrees.{tree_at}
 use Rattle.tl_nodes.specs.Numbering.{Keeps}
 use Rattle.tl_nodes.specs.Numbers.{trees}
@@ -41,7 +41,7 @@ decreases-instances_residual-tuples l = length (left_after (plain_problem l.task
 abbrev pub invariant-instances_residual-tuples : goal.invariant-instances_residual-tuples
 invariant-instances_residual-tuples l = record {
   kept : Keeps (trees l.fn.nodes) (trees l.nodes);
-  reads : Reads (node_vars (trees l.fn.nodes) l.quantifier) (assignment_in l.fn.env) (node_bound (trees l.fn.nodes) l.quantifier) l.tuples;
+  reads : ReadsTuples (node_vars (trees l.fn.nodes) l.quantifier) (assignment_in l.fn.env) (node_bound (trees l.fn.nodes) l.quantifier) l.tuples;
   others : AgreeElsewhere (node_vars (trees l.fn.nodes) l.quantifier) (assignment_in l.env) (assignment_in l.fn.env);
   passed : Gathered l.quantifier.junction (trees l.nodes) l.answers (next_after (plain_problem l.task.problem) l.w (assignment_in l.fn.env) (node_vars (trees l.fn.nodes) l.quantifier) (node_bound (trees l.fn.nodes) l.quantifier) (tree_at (trees l.fn.nodes) l.quantifier.part) l.tuples.tuple)
       (next_of_all (plain_problem l.task.problem) l.w (assignment_in l.fn.env) (node_vars (trees l.fn.nodes) l.quantifier) (node_bound (trees l.fn.nodes) l.quantifier) (tree_at (trees l.fn.nodes) l.quantifier.part));

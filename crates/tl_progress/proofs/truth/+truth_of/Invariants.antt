@@ -1,6 +1,6 @@
 use Rattle.std.proofs.Common.{◌≡◌, ◌+◌, ◌*◌, ℕ, drop, length}
 use Rattle.tl_eval.specs.Frames.{assignment_in, AgreeElsewhere}
-use Rattle.tl_eval.specs.Reader.{Reads}
+use Rattle.tl_eval.specs.Reader.{ReadsTuples}
 use Rattle.tl_nodes.specs.NodeTrees.{tree_at}
 use Rattle.tl_nodes.specs.Numbers.{trees}
 use Rattle.tl_terms.specs.ProblemMeaning.{plain_problem}
@@ -35,7 +35,7 @@ decreases-instances_truth-tuples l = length (left_after (plain_problem l.task.pr
 
 abbrev pub invariant-instances_truth-tuples : goal.invariant-instances_truth-tuples
 invariant-instances_truth-tuples l = record {
-  reads : Reads l.vars (assignment_in l.fn.env) l.bound l.tuples;
+  reads : ReadsTuples l.vars (assignment_in l.fn.env) l.bound l.tuples;
   others : AgreeElsewhere l.vars (assignment_in l.env) (assignment_in l.fn.env);
   passed : Open (plain_problem l.task.problem) l.w (assignment_in l.fn.env) l.vars l.bound (tree_at (trees l.nodes) l.part) l.stop l.tuples.tuple;
 }

@@ -4,7 +4,7 @@ use Rattle.tl_check.specs.Gathered.{HaveCounts}
 use Rattle.tl_check.specs.Tracks.{HaveSeenAll}
 use Rattle.tl_eval.proofs.TupleRest.{rest_after}
 use Rattle.tl_eval.specs.Frames.{assignment_in}
-use Rattle.tl_eval.specs.Reader.{Reads}
+use Rattle.tl_eval.specs.Reader.{ReadsTuples}
 use Rattle.tl_terms.specs.Bounds.{tuples}
 use Rattle.tl_terms.specs.Definitions.{situation_of}
 use Rattle.tl_terms.specs.ProblemMeaning.{plain_problem}
@@ -15,7 +15,7 @@ decreases-reading l = length (rest_after l.tuples.tuple (tuples (situation_of (p
 
 abbrev pub invariant-reading : goal.invariant-reading
 invariant-reading l = record {
-  reads : Reads l.binder.vars.now (assignment_in l.env) l.binder.bound.now l.tuples;
+  reads : ReadsTuples l.binder.vars.now (assignment_in l.env) l.binder.bound.now l.tuples;
   noted : Noting (tuples (situation_of (plain_problem l.along.task.now.problem) l.w) (assignment_in l.env) l.binder.vars.now l.binder.bound.now) l.here l.fn.self.lines
       (rest_after l.tuples.tuple (tuples (situation_of (plain_problem l.along.task.now.problem) l.w) (assignment_in l.env) l.binder.vars.now l.binder.bound.now)) l.self.lines;
   covered : HaveSeenAll l.self;

@@ -1,6 +1,6 @@
 use Rattle.std.proofs.Common.{◌≤◌, List, length, refl, sym, subst}
 use Rattle.tl_eval.specs.Frames.{assignment_in}
-use Rattle.tl_eval.specs.Reader.{Reads}
+use Rattle.tl_eval.specs.Reader.{ReadsTuples}
 use Rattle.tl_nodes.specs.NodeTrees.{tree_at}
 use Rattle.tl_nodes.specs.Numbers.{trees}
 use Rattle.tl_syntax.specs.declared.bound.Bound.{Bound}
@@ -32,8 +32,8 @@ open-requires-clause-fits c =
 
 pub returns-in-ForAll-clause-reads : goal.returns-in-ForAll-clause-reads
 returns-in-ForAll-clause-reads c =
-    subst (λ (ss : List Var). Reads ss (assignment_in c.args.env.now) (node_bound (trees c.args.nodes.now) c.args.self) c.open.result) (sym (vars-ForAll (trees c.args.nodes.now) c.args.self.at c.get.result.now c.get.ensures.tree c.in-ForAll.vars c.in-ForAll.bound c.in-ForAll.field-2 c.in-ForAll.is))
-    (subst (λ (b : Bound). Reads c.in-ForAll.vars (assignment_in c.args.env.now) b c.open.result) (sym (bound-ForAll (trees c.args.nodes.now) c.args.self.at c.get.result.now c.get.ensures.tree c.in-ForAll.vars c.in-ForAll.bound c.in-ForAll.field-2 c.in-ForAll.is)) c.open.ensures.reads)
+    subst (λ (ss : List Var). ReadsTuples ss (assignment_in c.args.env.now) (node_bound (trees c.args.nodes.now) c.args.self) c.open.result) (sym (vars-ForAll (trees c.args.nodes.now) c.args.self.at c.get.result.now c.get.ensures.tree c.in-ForAll.vars c.in-ForAll.bound c.in-ForAll.field-2 c.in-ForAll.is))
+    (subst (λ (b : Bound). ReadsTuples c.in-ForAll.vars (assignment_in c.args.env.now) b c.open.result) (sym (bound-ForAll (trees c.args.nodes.now) c.args.self.at c.get.result.now c.get.ensures.tree c.in-ForAll.vars c.in-ForAll.bound c.in-ForAll.field-2 c.in-ForAll.is)) c.open.ensures.reads)
 
 pub open-requires-in-Exists-clause-differ : goal.open-requires-in-Exists-clause-differ
 open-requires-in-Exists-clause-differ c =
@@ -53,8 +53,8 @@ open-requires-in-Exists-clause-fits c =
 
 pub returns-in-Exists-clause-reads : goal.returns-in-Exists-clause-reads
 returns-in-Exists-clause-reads c =
-    subst (λ (ss : List Var). Reads ss (assignment_in c.args.env.now) (node_bound (trees c.args.nodes.now) c.args.self) c.open-in-Exists.result) (sym (vars-Exists (trees c.args.nodes.now) c.args.self.at c.get.result.now c.get.ensures.tree c.in-Exists.vars c.in-Exists.bound c.in-Exists.field-2 c.in-Exists.is))
-    (subst (λ (b : Bound). Reads c.in-Exists.vars (assignment_in c.args.env.now) b c.open-in-Exists.result) (sym (bound-Exists (trees c.args.nodes.now) c.args.self.at c.get.result.now c.get.ensures.tree c.in-Exists.vars c.in-Exists.bound c.in-Exists.field-2 c.in-Exists.is)) c.open-in-Exists.ensures.reads)
+    subst (λ (ss : List Var). ReadsTuples ss (assignment_in c.args.env.now) (node_bound (trees c.args.nodes.now) c.args.self) c.open-in-Exists.result) (sym (vars-Exists (trees c.args.nodes.now) c.args.self.at c.get.result.now c.get.ensures.tree c.in-Exists.vars c.in-Exists.bound c.in-Exists.field-2 c.in-Exists.is))
+    (subst (λ (b : Bound). ReadsTuples c.in-Exists.vars (assignment_in c.args.env.now) b c.open-in-Exists.result) (sym (bound-Exists (trees c.args.nodes.now) c.args.self.at c.get.result.now c.get.ensures.tree c.in-Exists.vars c.in-Exists.bound c.in-Exists.field-2 c.in-Exists.is)) c.open-in-Exists.ensures.reads)
 
 pub returns-in-ForAll-clause-few : goal.returns-in-ForAll-clause-few
 returns-in-ForAll-clause-few c = subst (λ (ss : List Var). length ss ≤ 9) (sym (vars-ForAll (trees c.args.nodes.now) c.args.self.at c.get.result.now c.get.ensures.tree c.in-ForAll.vars c.in-ForAll.bound c.in-ForAll.field-2 c.in-ForAll.is)) c.open.ensures.few
