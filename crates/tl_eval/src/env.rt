@@ -7,6 +7,7 @@ ghost use Rattle.tl_syntax.specs.Lists.{Each};
 use crate::kept::{give_back, keep};
 use crate::memory::{Memory, TRIES};
 use crate::scope::{put_in_scope, restore, saved};
+use crate::term_value::value_in;
 use std::alloc::Global;
 use std::marker::Model;
 use std::mem;
@@ -86,6 +87,24 @@ impl Env {
         ensures others { (q : ℕ) → assignment_in self.new q ≡ cond (q == slot) (Some value) (assignment_in self.old q) }
     {
         self.values[slot as usize] = Some(value);
+    }
+
+    /// The value of a slot of the caller's frame, where it has one. It takes no memory.
+    #[inline(always)]
+    pub fn value(&self, slot: u32) -> Option<Value>
+        ensures { result ≡ assignment_in self.now slot }
+    {
+        value_in(self.frame(), slot)
+    }
+
+    /// What the slots of the caller's frame have, in their order. It takes no memory.
+    #[inline(always)]
+    pub fn slots(&self) -> &[Option<Value>]
+        ensures values { result.now ≡ self.now }
+        ensures slots { length result.now ≡ 32 }
+    {
+        let _ = &self.values;
+        self.frame()
     }
 
     /// Gives the variables their values in the caller's frame; of two with the same slot the first counts. It takes no memory.

@@ -110,6 +110,7 @@ fn value_of_place(
 
 /// Puts the values of terms under a frame into an empty row, and says whether all are defined. It takes no memory.
 #[cycle(value_of_term)]
+#[inline(always)]
 pub(crate) fn put_values_of_terms(
     w: &World,
     frame: &[Option<Value>],
@@ -133,6 +134,7 @@ pub(crate) fn put_values_of_terms(
 
 /// The value of a term in a world, under the frame's values, where it is defined; or a note of an operation that is looked at and past range.
 /// It takes no memory.
+#[inline(always)]
 pub fn term(task: &Task, w: &World, env: &mut Env, t: &Term) -> Result<Option<Value>, RangeNote>
     requires fits { TermFits (signature_of task.now.problem.domain) (tree_of_term t.now) }
     ensures value { IfOk result (λ v. v ≡ value_under w.now env.old (tree_of_term t.now)) }
