@@ -1,5 +1,5 @@
 // Frames as they are read by a call.
-ghost use Rattle.std.specs.Prelude.{◌≡◌, [], IfOk, OnOk, IsTrue};
+ghost use Rattle.std.specs.Prelude.{◌≡◌, [], length, IfOk, OnOk, IsTrue};
 ghost use Rattle.tl_eval.specs.Frames.{assignment_in};
 ghost use Rattle.tl_progress.specs.FrameValues.{with_slot};
 ghost use Rattle.tl_syntax.specs.Assignment.{no_values};
@@ -33,7 +33,8 @@ fn bind_slot(out: &mut Bindings, slot: u32, value: Option<Value>) -> Result<(), 
 }
 
 /// The values of a frame, as bindings of their slots.
-pub(crate) fn bindings_in(alloc: Global, frame: &[Option<Value>; 32]) -> Result<Bindings, NoMemory>
+pub(crate) fn bindings_in(alloc: Global, frame: &[Option<Value>]) -> Result<Bindings, NoMemory>
+    requires { length frame.now ≡ 32 }
     ensures { IfOk result (λ bindings. assignment_of bindings ≡ assignment_in frame.now) }
 {
     let mut out = Bindings::new(alloc);
@@ -57,8 +58,9 @@ fn bind_few(out: &mut FewBindings, slot: u32, value: Option<Value>) -> bool
 }
 
 /// Puts the values of a frame to no bindings, as bindings of their slots. False: they are more than a few. It takes no memory.
-pub(crate) fn put_few(out: &mut FewBindings, frame: &[Option<Value>; 32]) -> bool
-    requires { out.old ≡ [] }
+pub(crate) fn put_few(out: &mut FewBindings, frame: &[Option<Value>]) -> bool
+    requires none { out.old ≡ [] }
+    requires slots { length frame.now ≡ 32 }
     ensures { IsTrue result → assignment_of out.new ≡ assignment_in frame.now }
 {
     for slot in 0..32_u32 {
@@ -70,7 +72,7 @@ pub(crate) fn put_few(out: &mut FewBindings, frame: &[Option<Value>; 32]) -> boo
 }
 
 /// Whether no slot of the frame has a value.
-pub(crate) fn is_empty_frame(frame: &[Option<Value>; 32]) -> bool
+pub(crate) fn is_empty_frame(frame: &[Option<Value>]) -> bool
     ensures { IsTrue result → assignment_in frame.now ≡ no_values }
 {
     frame.iter().all(|value| value.is_none())

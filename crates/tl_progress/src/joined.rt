@@ -1,5 +1,6 @@
 // What has to hold next for a conjunction or a disjunction without free variables, from its parts with temporal words: the others are read first, and most residuals that prune a search are decided by one of them.
 ghost use Rattle.std.specs.Prelude.{◌≡◌, ◌<◌, length, IfOk, IfErr, IfSome, IfNone, false};
+ghost use Rattle.tl_eval.specs.StateTruth.{Remembers};
 ghost use Rattle.tl_nodes.specs.Numbering.{Keeps};
 ghost use Rattle.tl_nodes.specs.Numbers.{trees, Denotes, tree_in};
 ghost use Rattle.tl_progress.specs.Answers.{IsCausedBy};
@@ -21,7 +22,7 @@ use crate::residuals::{Incoming, Residuals};
 use crate::truth::{basic_truth, truth_of};
 use indexmap::IndexMap;
 use std::alloc::Global;
-use tl_eval::Env;
+use tl_eval::{Env, Memory};
 use tl_nodes::{Node, Nodes};
 use tl_syntax::Junction;
 use tl_world::{Task, World};
@@ -44,24 +45,67 @@ fn state_part(
     task: &Task,
     w: &World,
     env: &mut Env,
+    memory: &mut Memory,
     part: usize,
 ) -> Result<bool, ProgressFault>
     requires part { part < length (trees nodes.now) }
     requires sentence { IsSentenceIn task.now (tree_in nodes.now part) }
     requires state { IsState (tree_in nodes.now part) }
+    requires remembers { Remembers task.now w.now memory.old }
     ensures truth { IfOk result (λ b. residual_at task.now w.now env.old nodes.now part ≡ constant b) }
     ensures cause { IfErr result (IsCausedBy (looked_for_residual_at task.now w.now env.old nodes.now part)) }
     ensures frame { env.new ≡ env.old }
+    ensures remembers { Remembers task.now w.now memory.new }
 {
     match nodes.get(part) {
-        Node::Basic(f) => return basic_truth(task, w, env, f),
+        Node::Basic(f) => return basic_truth(task, w, env, memory, f),
         _ => {}
     }
     if is_shallow(nodes, part) {
         let nothing = IndexMap::new(alloc);
-        return truth_of(nodes, task, w, env, &nothing, part);
+        return truth_of(nodes, task, w, env, memory, &nothing, part);
     }
-    sentence_truth(alloc, nodes, task, w, env, part)
+    sentence_truth(alloc, nodes, task, w, env, memory, part)
+}
+
+// The parts with temporal words, by a memory for the truths of definitions in this world: None where one of the others decides the join.
+fn remembering_open_parts(
+    alloc: Global,
+    nodes: &Nodes,
+    task: &Task,
+    w: &World,
+    env: &mut Env,
+    memory: &mut Memory,
+    joined: Joined,
+) -> Result<Option<Numbers>, ProgressFault>
+    requires at { joined.at < length (trees nodes.now) }
+    requires join { IsJoin joined.junction (tree_in nodes.now joined.at) }
+    requires sentence { IsSentenceIn task.now (tree_in nodes.now joined.at) }
+    requires remembers { Remembers task.now w.now memory.old }
+    ensures decided { IfOk result (λ o. IfNone o (IsDecided task.now w.now env.old nodes.now joined)) }
+    ensures parts { IfOk result (λ o. IfSome o (λ v. AreOpenIn task.now w.now env.old nodes.now joined v)) }
+    ensures cause { IfErr result (IsCausedBy (looked_for_residual_at task.now w.now env.old nodes.now joined.at)) }
+    ensures frame { env.new ≡ env.old }
+    ensures remembers { Remembers task.now w.now memory.new }
+{
+    let stop = joined.junction.deciding_truth();
+    let mut parts = Numbers::new(alloc);
+    for i in 0..part_count(nodes, joined.at) {
+        let part = part_at(nodes, joined.at, i);
+        if nodes.temporal(part) {
+            parts.push(part)?;
+            continue;
+        }
+        match state_part(alloc, nodes, task, w, env, memory, part) {
+            Ok(truth) => {
+                if truth == stop {
+                    return Ok(None);
+                }
+            }
+            Err(fault) => return Err(fault),
+        }
+    }
+    Ok(Some(parts))
 }
 
 // The parts with temporal words: None where one of the others decides the join.
@@ -81,24 +125,10 @@ fn open_parts(
     ensures cause { IfErr result (IsCausedBy (looked_for_residual_at task.now w.now env.old nodes.now joined.at)) }
     ensures frame { env.new ≡ env.old }
 {
-    let stop = joined.junction.deciding_truth();
-    let mut parts = Numbers::new(alloc);
-    for i in 0..part_count(nodes, joined.at) {
-        let part = part_at(nodes, joined.at, i);
-        if nodes.temporal(part) {
-            parts.push(part)?;
-            continue;
-        }
-        match state_part(alloc, nodes, task, w, env, part) {
-            Ok(truth) => {
-                if truth == stop {
-                    return Ok(None);
-                }
-            }
-            Err(fault) => return Err(fault),
-        }
-    }
-    Ok(Some(parts))
+    let mut memory = env.lend_memory(alloc);
+    let answer = remembering_open_parts(alloc, nodes, task, w, env, &mut memory, joined);
+    env.take_back(memory);
+    answer
 }
 
 // The number of what has to hold next for a number's tree, which has a temporal word and no free variable, where it is not kept. It is kept then.

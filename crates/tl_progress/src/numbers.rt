@@ -51,6 +51,7 @@ impl Numbers {
     }
 
     /// Adds a number at the end.
+    #[inline(always)]
     pub fn push(&mut self, number: usize) -> Result<(), NoMemory>
         ensures { OnOk result (self.new ≡ self.old ++ number ∷ []) }
     {

@@ -1,5 +1,6 @@
 // Progression.
 ghost use Rattle.std.specs.Prelude.{◌≡◌, ◌<◌, length, IfOk, IfErr, OnOk};
+ghost use Rattle.tl_eval.specs.StateTruth.{Remembers};
 ghost use Rattle.tl_nodes.specs.Numbering.{Keeps};
 ghost use Rattle.tl_nodes.specs.Numbers.{trees, Denotes, tree_in};
 ghost use Rattle.tl_progress.specs.Answers.{IsCausedBy};
@@ -19,7 +20,7 @@ use crate::residual::residual_of;
 use crate::residuals::{Incoming, Residuals};
 use crate::truth::truth_of;
 use std::alloc::Global;
-use tl_eval::Env;
+use tl_eval::{Env, Memory};
 use tl_nodes::{Node, Nodes};
 use tl_syntax::Junction;
 use tl_world::{Task, World};
@@ -31,19 +32,22 @@ fn learn(
     task: &Task,
     w: &World,
     env: &mut Env,
+    memory: &mut Memory,
     known: &mut WorkedOut,
     at: usize,
 ) -> Result<(), ProgressFault>
     requires at { at < length (trees nodes.old) }
     requires sentence { IsSentenceIn task.now (tree_in nodes.old at) }
     requires known { IsRightIn task.now w.now nodes.old known.old }
+    requires remembers { Remembers task.now w.now memory.old }
     ensures kept { Keeps (trees nodes.old) (trees nodes.new) }
     ensures known { OnOk result (IsRightIn task.now w.now nodes.new known.new) }
     ensures cause { IfErr result (IsCausedBy (looked_for_residual_at task.now w.now env.old nodes.old at)) }
     ensures frame { env.new ≡ env.old }
+    ensures remembers { Remembers task.now w.now memory.new }
 {
     if nodes.temporal(at) {
-        match residual_of(alloc, nodes, task, w, env, known, at) {
+        match residual_of(alloc, nodes, task, w, env, memory, known, at) {
             Ok(number) => {
                 known.residuals.insert(at, number)?;
                 Ok(())
@@ -51,7 +55,7 @@ fn learn(
             Err(fault) => Err(fault),
         }
     } else {
-        match truth_of(nodes, task, w, env, &known.truths, at) {
+        match truth_of(nodes, task, w, env, memory, &known.truths, at) {
             Ok(truth) => {
                 known.truths.insert(at, truth)?;
                 Ok(())
@@ -68,27 +72,60 @@ fn ordered_residual(
     task: &Task,
     w: &World,
     env: &mut Env,
+    memory: &mut Memory,
     id: usize,
 ) -> Result<usize, ProgressFault>
     requires id { id < length (trees nodes.old) }
     requires sentence { IsSentenceIn task.now (tree_in nodes.old id) }
+    requires remembers { Remembers task.now w.now memory.old }
     ensures kept { Keeps (trees nodes.old) (trees nodes.new) }
     ensures number { IfOk result (λ i. Denotes nodes.new i (residual_at task.now w.now env.old nodes.old id)) }
     ensures cause { IfErr result (IsCausedBy (looked_for_residual_at task.now w.now env.old nodes.old id)) }
     ensures frame { env.new ≡ env.old }
+    ensures remembers { Remembers task.now w.now memory.new }
 {
     let mut order = reached(alloc, nodes, id, false)?;
     let mut known = WorkedOut::new(alloc);
     while let Some(at) = order.pop() {
-        match learn(alloc, nodes, task, w, env, &mut known, at) {
+        match learn(alloc, nodes, task, w, env, memory, &mut known, at) {
             Ok(()) => {}
             Err(fault) => return Err(fault),
         }
     }
-    residual_of(alloc, nodes, task, w, env, &known, id)
+    residual_of(alloc, nodes, task, w, env, memory, &known, id)
 }
 
-/// The number of what has to hold next for a number's tree, which has no free variable: a part that decides it, or else what its parts give. Nothing is kept between calls.
+// The number of what has to hold next for a number's tree, which has no free variable: a part that decides it, or else what its parts give. Nothing is kept between calls but truths of definitions in this world.
+fn remembering_residual(
+    alloc: Global,
+    nodes: &mut Nodes,
+    task: &Task,
+    w: &World,
+    env: &mut Env,
+    memory: &mut Memory,
+    id: usize,
+) -> Result<usize, ProgressFault>
+    requires id { id < length (trees nodes.old) }
+    requires sentence { IsSentenceIn task.now (tree_in nodes.old id) }
+    requires remembers { Remembers task.now w.now memory.old }
+    ensures kept { Keeps (trees nodes.old) (trees nodes.new) }
+    ensures number { IfOk result (λ i. Denotes nodes.new i (residual_at task.now w.now env.old nodes.old id)) }
+    ensures cause { IfErr result (IsCausedBy (looked_for_residual_at task.now w.now env.old nodes.old id)) }
+    ensures frame { env.new ≡ env.old }
+    ensures remembers { Remembers task.now w.now memory.new }
+{
+    let nothing = WorkedOut::new(alloc);
+    if is_direct(nodes, id) {
+        return residual_of(alloc, nodes, task, w, env, memory, &nothing, id);
+    }
+    match early_residual(nodes, task, w, env, memory, &nothing.truths, id) {
+        Ok(Some(number)) => Ok(number),
+        Ok(None) => ordered_residual(alloc, nodes, task, w, env, memory, id),
+        Err(fault) => Err(fault),
+    }
+}
+
+/// The number of what has to hold next for a number's tree, which has no free variable: a part that decides it, or else what its parts give. Nothing is kept between calls, and within one a definition is read once for its values and level, where that is still remembered.
 pub(crate) fn temporal_residual(
     alloc: Global,
     nodes: &mut Nodes,
@@ -104,15 +141,10 @@ pub(crate) fn temporal_residual(
     ensures cause { IfErr result (IsCausedBy (looked_for_residual_at task.now w.now env.old nodes.old id)) }
     ensures frame { env.new ≡ env.old }
 {
-    let nothing = WorkedOut::new(alloc);
-    if is_direct(nodes, id) {
-        return residual_of(alloc, nodes, task, w, env, &nothing, id);
-    }
-    match early_residual(nodes, task, w, env, &nothing.truths, id) {
-        Ok(Some(number)) => Ok(number),
-        Ok(None) => ordered_residual(alloc, nodes, task, w, env, id),
-        Err(fault) => Err(fault),
-    }
+    let mut memory = env.lend_memory(alloc);
+    let answer = remembering_residual(alloc, nodes, task, w, env, &mut memory, id);
+    env.take_back(memory);
+    answer
 }
 
 // The number of what has to hold next for a number's tree, which has a temporal word and no free variable, by what is kept of the world.
@@ -179,7 +211,11 @@ fn sentence_residual(
     if nodes.temporal(incoming.formula) {
         return found_residual(nodes, task, w, env, residuals, incoming);
     }
-    match sentence_truth(residuals.alloc, nodes, task, w, env, incoming.formula) {
+    let alloc = residuals.alloc;
+    let mut memory = env.lend_memory(alloc);
+    let answer = sentence_truth(alloc, nodes, task, w, env, &mut memory, incoming.formula);
+    env.take_back(memory);
+    match answer {
         Ok(truth) => Ok(constant_number(nodes, truth)),
         Err(fault) => Err(fault),
     }
@@ -206,10 +242,10 @@ fn lone_residual(
     ensures cause { IfErr result (IsCausedBy (looked_by_progressing_at task.now w.now nodes.old incoming.formula)) }
     ensures frame { env.new ≡ env.old }
 {
-    let frame = env.saved();
-    if is_empty_frame(&frame) {
+    if is_empty_frame(env.slots()) {
         return sentence_residual(nodes, task, w, env, residuals, incoming);
     }
+    let frame = env.saved();
     let empty = empty_frame();
     env.restore(&empty);
     let answer = sentence_residual(nodes, task, w, env, residuals, incoming);

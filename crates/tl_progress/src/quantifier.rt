@@ -43,34 +43,34 @@ pub(crate) struct Quantifier {
 }
 
 impl Quantifier {
-    /// The tuples of its bound under the frame, before the first one.
+    /// Opens a reader of the tuples of its bound under the frame, before the first one, in the place of another reader, which ends.
     #[inline(always)]
-    pub fn open(self, nodes: &Nodes, task: &Task, env: &Env) -> TupleReader
+    pub fn open(self, nodes: &Nodes, task: &Task, env: &Env, tuples: &mut TupleReader)
         requires at { self.at < length (trees nodes.now) }
         requires stands { Stands (trees nodes.now) self }
         requires fits { FitsTask task.now (tree_in nodes.now self.at) }
-        ensures reads { ReadsAt nodes.now self env.now result }
-        ensures before { result.tuple ≡ None }
+        ensures reads { ReadsAt nodes.now self env.now tuples.new }
+        ensures before { tuples.new.tuple ≡ None }
         ensures few { length (vars_at nodes.now self) ≤ 9 }
     {
         match nodes.get(self.at) {
-            Node::ForAll(vars, bound, _) => TupleReader::open(task, env, vars, bound),
-            Node::Exists(vars, bound, _) => TupleReader::open(task, env, vars, bound),
+            Node::ForAll(vars, bound, _) => tuples.open_in_place(task, env, vars, bound),
+            Node::Exists(vars, bound, _) => tuples.open_in_place(task, env, vars, bound),
             _ => unreachable!(),
         }
     }
 
-    /// What the slots of its variables have in the frame, for `give_back`.
+    /// Puts what the slots of its variables have in the frame in place, for `give_back`.
     #[inline(always)]
-    pub fn kept(self, nodes: &Nodes, env: &Env) -> [Option<Value>; 9]
+    pub fn keep(self, nodes: &Nodes, env: &Env, outer: &mut [Option<Value>; 9])
         requires at { self.at < length (trees nodes.now) }
         requires stands { Stands (trees nodes.now) self }
         requires few { length (vars_at nodes.now self) ≤ 9 }
-        ensures { AreKept (vars_at nodes.now self) env.now result }
+        ensures { AreKept (vars_at nodes.now self) env.now outer.new }
     {
         match nodes.get(self.at) {
-            Node::ForAll(vars, _, _) => env.kept(vars.as_slice()),
-            Node::Exists(vars, _, _) => env.kept(vars.as_slice()),
+            Node::ForAll(vars, _, _) => env.keep(vars.as_slice(), outer),
+            Node::Exists(vars, _, _) => env.keep(vars.as_slice(), outer),
             _ => unreachable!(),
         }
     }

@@ -61,12 +61,12 @@ pub(crate) fn remaining(
     ensures kept { Keeps (trees nodes.old) (trees nodes.new) }
     ensures number { IfOk result (λ i. Denotes nodes.new i (remaining_at nodes.old env.now at)) }
 {
-    let frame = env.saved();
+    let frame = env.slots();
     let mut few = FewBindings::new();
-    if put_few(&mut few, &frame) {
+    if put_few(&mut few, frame) {
         return filled(alloc, nodes, few.as_slice(), at);
     }
-    let bindings = bindings_in(alloc, &frame)?;
+    let bindings = bindings_in(alloc, frame)?;
     filled(alloc, nodes, bindings.as_slice(), at)
 }
 

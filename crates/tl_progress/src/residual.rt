@@ -2,6 +2,7 @@
 ghost use Rattle.std.specs.Prelude.{◌≡◌, ◌<◌, length, None, IfOk, IfErr, nat_eq};
 ghost use Rattle.indexmap.specs.IndexMap.{get};
 ghost use Rattle.tl_eval.specs.Frames.{assignment_in, AgreeElsewhere};
+ghost use Rattle.tl_eval.specs.StateTruth.{Remembers};
 ghost use Rattle.tl_nodes.specs.Numbering.{Keeps};
 ghost use Rattle.tl_nodes.specs.Numbers.{trees, Denotes, tree_in};
 ghost use Rattle.tl_progress.specs.Answers.{IsCausedBy};
@@ -20,17 +21,19 @@ use crate::remaining::{remaining, until_remaining, with_fewer_steps, with_remain
 use crate::truth::truth_of;
 use indexmap::IndexMap;
 use std::alloc::Global;
-use tl_eval::{Env, TupleReader};
+use tl_eval::{Env, Memory, TupleReader};
 use tl_nodes::{Node, Nodes};
 use tl_syntax::Junction;
 use tl_world::{Task, World};
 
 /// The number of what has to hold next, where the number's tree has no temporal word: a constant. No node is added, and it takes no memory.
+#[inline(always)]
 pub(crate) fn state_residual(
     nodes: &Nodes,
     task: &Task,
     w: &World,
     env: &mut Env,
+    memory: &mut Memory,
     known: &IndexMap<usize, bool>,
     at: usize,
 ) -> Result<usize, ProgressFault>
@@ -38,12 +41,14 @@ pub(crate) fn state_residual(
     requires fits { FitsTask task.now (tree_in nodes.now at) }
     requires state { IsState (tree_in nodes.now at) }
     requires known { AreTruthsIn task.now w.now nodes.now (get nat_eq known.now) }
+    requires remembers { Remembers task.now w.now memory.old }
     ensures number { IfOk result (λ i. Denotes nodes.now i (residual_at task.now w.now env.old nodes.now at)) }
     ensures constant { IfOk result (λ i. i < 2) }
     ensures cause { IfErr result (IsCausedBy (looked_for_residual_at task.now w.now env.old nodes.now at)) }
     ensures frame { env.new ≡ env.old }
+    ensures remembers { Remembers task.now w.now memory.new }
 {
-    match truth_of(nodes, task, w, env, known, at) {
+    match truth_of(nodes, task, w, env, memory, known, at) {
         Ok(truth) => Ok(constant_number(nodes, truth)),
         Err(fault) => Err(fault),
     }
@@ -57,60 +62,67 @@ pub(crate) fn residual_of(
     task: &Task,
     w: &World,
     env: &mut Env,
+    memory: &mut Memory,
     known: &WorkedOut,
     at: usize,
 ) -> Result<usize, ProgressFault>
     requires at { at < length (trees nodes.old) }
     requires fits { FitsTask task.now (tree_in nodes.old at) }
     requires known { IsRightIn task.now w.now nodes.old known.now }
+    requires remembers { Remembers task.now w.now memory.old }
     ensures kept { Keeps (trees nodes.old) (trees nodes.new) }
     ensures number { IfOk result (λ i. Denotes nodes.new i (residual_at task.now w.now env.old nodes.old at)) }
     ensures cause { IfErr result (IsCausedBy (looked_for_residual_at task.now w.now env.old nodes.old at)) }
     ensures frame { env.new ≡ env.old }
+    ensures remembers { Remembers task.now w.now memory.new }
 {
     if !nodes.temporal(at) {
-        return state_residual(nodes, task, w, env, &known.truths, at);
+        return state_residual(nodes, task, w, env, memory, &known.truths, at);
     }
     if known.residuals.is_empty() {
-        return layer_residual(alloc, nodes, task, w, env, known, at);
+        return layer_residual(alloc, nodes, task, w, env, memory, known, at);
     }
     match known.residuals.get(&at) {
         Some(number) => Ok(*number),
-        None => layer_residual(alloc, nodes, task, w, env, known, at),
+        None => layer_residual(alloc, nodes, task, w, env, memory, known, at),
     }
 }
 
 // The number of what has to hold next for a number's tree, from those of its parts.
 #[cycle(residual_of)]
+#[inline(always)]
 fn layer_residual(
     alloc: Global,
     nodes: &mut Nodes,
     task: &Task,
     w: &World,
     env: &mut Env,
+    memory: &mut Memory,
     known: &WorkedOut,
     at: usize,
 ) -> Result<usize, ProgressFault>
     requires at { at < length (trees nodes.old) }
     requires fits { FitsTask task.now (tree_in nodes.old at) }
     requires known { IsRightIn task.now w.now nodes.old known.now }
+    requires remembers { Remembers task.now w.now memory.old }
     ensures kept { Keeps (trees nodes.old) (trees nodes.new) }
     ensures number { IfOk result (λ i. Denotes nodes.new i (residual_at task.now w.now env.old nodes.old at)) }
     ensures cause { IfErr result (IsCausedBy (looked_for_residual_at task.now w.now env.old nodes.old at)) }
     ensures frame { env.new ≡ env.old }
+    ensures remembers { Remembers task.now w.now memory.new }
 {
     match nodes.get(at) {
-        Node::True => state_residual(nodes, task, w, env, &known.truths, at),
-        Node::False => state_residual(nodes, task, w, env, &known.truths, at),
-        Node::Basic(_) => state_residual(nodes, task, w, env, &known.truths, at),
+        Node::True => state_residual(nodes, task, w, env, memory, &known.truths, at),
+        Node::False => state_residual(nodes, task, w, env, memory, &known.truths, at),
+        Node::Basic(_) => state_residual(nodes, task, w, env, memory, &known.truths, at),
         Node::Not(part) => {
             let part = *part;
-            let answer = residual_of(alloc, nodes, task, w, env, known, part)?;
+            let answer = residual_of(alloc, nodes, task, w, env, memory, known, part)?;
             let number = nodes.not(answer)?;
             Ok(number)
         }
-        Node::And(_) => join_residual(alloc, nodes, task, w, env, known, at, Junction::All),
-        Node::Or(_) => join_residual(alloc, nodes, task, w, env, known, at, Junction::Any),
+        Node::And(_) => join_residual(alloc, nodes, task, w, env, memory, known, at, Junction::All),
+        Node::Or(_) => join_residual(alloc, nodes, task, w, env, memory, known, at, Junction::Any),
         Node::Next(part) => {
             let part = *part;
             let number = remaining(alloc, nodes, env, part)?;
@@ -118,38 +130,38 @@ fn layer_residual(
         }
         Node::Always(part) => {
             let part = *part;
-            let answer = residual_of(alloc, nodes, task, w, env, known, part)?;
+            let answer = residual_of(alloc, nodes, task, w, env, memory, known, part)?;
             let number = with_remaining(alloc, nodes, env, answer, at, Junction::All)?;
             Ok(number)
         }
         Node::Eventually(part) => {
             let part = *part;
-            let answer = residual_of(alloc, nodes, task, w, env, known, part)?;
+            let answer = residual_of(alloc, nodes, task, w, env, memory, known, part)?;
             let number = with_remaining(alloc, nodes, env, answer, at, Junction::Any)?;
             Ok(number)
         }
         Node::Until(first, second) => {
             let first = *first;
             let second = *second;
-            let after = residual_of(alloc, nodes, task, w, env, known, second)?;
+            let after = residual_of(alloc, nodes, task, w, env, memory, known, second)?;
             if decides(nodes, after, Junction::Any) {
                 return Ok(after);
             }
-            let before = residual_of(alloc, nodes, task, w, env, known, first)?;
+            let before = residual_of(alloc, nodes, task, w, env, memory, known, first)?;
             let number = until_remaining(alloc, nodes, env, after, before, at)?;
             Ok(number)
         }
         Node::Within(steps, part) => {
             let steps = *steps;
             let part = *part;
-            let answer = residual_of(alloc, nodes, task, w, env, known, part)?;
+            let answer = residual_of(alloc, nodes, task, w, env, memory, known, part)?;
             let number = with_fewer_steps(alloc, nodes, env, Junction::Any, steps, answer, part)?;
             Ok(number)
         }
         Node::During(steps, part) => {
             let steps = *steps;
             let part = *part;
-            let answer = residual_of(alloc, nodes, task, w, env, known, part)?;
+            let answer = residual_of(alloc, nodes, task, w, env, memory, known, part)?;
             let number = with_fewer_steps(alloc, nodes, env, Junction::All, steps, answer, part)?;
             Ok(number)
         }
@@ -159,7 +171,7 @@ fn layer_residual(
                 at,
                 part: *part,
             };
-            quantifier_residual(alloc, nodes, task, w, env, quantifier)
+            quantifier_residual(alloc, nodes, task, w, env, memory, quantifier)
         }
         Node::Exists(_, _, part) => {
             let quantifier = Quantifier {
@@ -167,7 +179,7 @@ fn layer_residual(
                 at,
                 part: *part,
             };
-            quantifier_residual(alloc, nodes, task, w, env, quantifier)
+            quantifier_residual(alloc, nodes, task, w, env, memory, quantifier)
         }
     }
 }
@@ -180,6 +192,7 @@ fn join_residual(
     task: &Task,
     w: &World,
     env: &mut Env,
+    memory: &mut Memory,
     known: &WorkedOut,
     at: usize,
     junction: Junction,
@@ -188,15 +201,17 @@ fn join_residual(
     requires join { IsJoin junction (tree_in nodes.old at) }
     requires fits { FitsTask task.now (tree_in nodes.old at) }
     requires known { IsRightIn task.now w.now nodes.old known.now }
+    requires remembers { Remembers task.now w.now memory.old }
     ensures kept { Keeps (trees nodes.old) (trees nodes.new) }
     ensures number { IfOk result (λ i. Denotes nodes.new i (residual_at task.now w.now env.old nodes.old at)) }
     ensures cause { IfErr result (IsCausedBy (looked_for_residual_at task.now w.now env.old nodes.old at)) }
     ensures frame { env.new ≡ env.old }
+    ensures remembers { Remembers task.now w.now memory.new }
 {
     let mut answers = Numbers::new(alloc);
     for i in 0..part_count(nodes, at) {
         let part = part_at(nodes, at, i);
-        match residual_of(alloc, nodes, task, w, env, known, part) {
+        match residual_of(alloc, nodes, task, w, env, memory, known, part) {
             Ok(answer) => {
                 if decides(nodes, answer, junction) {
                     return Ok(answer);
@@ -218,21 +233,36 @@ fn quantifier_residual(
     task: &Task,
     w: &World,
     env: &mut Env,
+    memory: &mut Memory,
     quantifier: Quantifier,
 ) -> Result<usize, ProgressFault>
     requires at { quantifier.at < length (trees nodes.old) }
     requires part { quantifier.part < length (trees nodes.old) }
     requires stands { Stands (trees nodes.old) quantifier }
     requires fits { FitsTask task.now (tree_in nodes.old quantifier.at) }
+    requires remembers { Remembers task.now w.now memory.old }
     ensures kept { Keeps (trees nodes.old) (trees nodes.new) }
     ensures number { IfOk result (λ i. Denotes nodes.new i (residual_at task.now w.now env.old nodes.old quantifier.at)) }
     ensures cause { IfErr result (IsCausedBy (looked_for_residual_at task.now w.now env.old nodes.old quantifier.at)) }
     ensures frame { env.new ≡ env.old }
+    ensures remembers { Remembers task.now w.now memory.new }
 {
-    let mut tuples = quantifier.open(nodes, task, env);
-    let outer = quantifier.kept(nodes, env);
+    let mut tuples = TupleReader::unopened();
+    quantifier.open(nodes, task, env, &mut tuples);
+    let mut outer = [None; 9];
+    quantifier.keep(nodes, env, &mut outer);
     let known = WorkedOut::new(alloc);
-    let answer = instances_residual(alloc, nodes, task, w, env, &known, quantifier, &mut tuples);
+    let answer = instances_residual(
+        alloc,
+        nodes,
+        task,
+        w,
+        env,
+        memory,
+        &known,
+        quantifier,
+        &mut tuples,
+    );
     quantifier.give_back(nodes, env, &outer);
     answer
 }
@@ -245,6 +275,7 @@ fn instances_residual(
     task: &Task,
     w: &World,
     env: &mut Env,
+    memory: &mut Memory,
     known: &WorkedOut,
     quantifier: Quantifier,
     tuples: &mut TupleReader,
@@ -256,14 +287,16 @@ fn instances_residual(
     requires known { IsRightIn task.now w.now nodes.old known.now }
     requires reads { ReadsAt nodes.old quantifier env.old tuples.old }
     requires before { tuples.old.tuple ≡ None }
+    requires remembers { Remembers task.now w.now memory.old }
     ensures kept { Keeps (trees nodes.old) (trees nodes.new) }
     ensures number { IfOk result (λ i. Denotes nodes.new i (residual_at task.now w.now env.old nodes.old quantifier.at)) }
     ensures cause { IfErr result (IsCausedBy (looked_for_residual_at task.now w.now env.old nodes.old quantifier.at)) }
     ensures others { AgreeElsewhere (vars_at nodes.old quantifier) (assignment_in env.new) (assignment_in env.old) }
+    ensures remembers { Remembers task.now w.now memory.new }
 {
     let mut answers = Numbers::new(alloc);
     'tuples: while quantifier.put_next(nodes, task, w, env, tuples) {
-        match residual_of(alloc, nodes, task, w, env, known, quantifier.part) {
+        match residual_of(alloc, nodes, task, w, env, memory, known, quantifier.part) {
             Ok(number) => {
                 if decides(nodes, number, quantifier.junction) {
                     return Ok(number);

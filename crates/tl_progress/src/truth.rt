@@ -3,6 +3,7 @@ ghost use Rattle.std.specs.Prelude.{◌≡◌, ◌<◌, true, length, None, IfOk
 ghost use Rattle.indexmap.specs.IndexMap.{get};
 ghost use Rattle.tl_eval.specs.Frames.{assignment_in, AgreeElsewhere};
 ghost use Rattle.tl_eval.specs.Reader.{ReadsTuples};
+ghost use Rattle.tl_eval.specs.StateTruth.{Remembers};
 ghost use Rattle.tl_nodes.specs.Fits.{all_below};
 ghost use Rattle.tl_nodes.specs.Numbers.{trees, tree_in};
 ghost use Rattle.tl_progress.specs.Answers.{IsCausedBy};
@@ -13,25 +14,29 @@ ghost use Rattle.tl_syntax.specs.TreeOfFormula.{tree_of_formula};
 use crate::ProgressFault;
 use crate::quantifier::put_instance;
 use indexmap::IndexMap;
-use tl_eval::{Env, TupleReader, state};
+use tl_eval::{Env, Memory, TupleReader, state_in};
 use tl_nodes::{Node, Nodes};
 use tl_syntax::{Bound, Formula, Ids, Junction, Vars};
 use tl_world::{Task, World};
 
 /// The truth of a basic formula. It takes no memory.
+#[inline(always)]
 pub(crate) fn basic_truth(
     task: &Task,
     w: &World,
     env: &mut Env,
+    memory: &mut Memory,
     f: &Formula,
 ) -> Result<bool, ProgressFault>
     requires fits { FitsTask task.now (tree_of_formula f.now) }
     requires basic { is_basic (tree_of_formula f.now) ≡ true }
+    requires remembers { Remembers task.now w.now memory.old }
     ensures truth { IfOk result (λ b. b ≡ state_true_in task.now w.now env.old (tree_of_formula f.now)) }
     ensures cause { IfErr result (IsCausedBy (looked_in_world task.now w.now env.old (tree_of_formula f.now))) }
     ensures frame { env.new ≡ env.old }
+    ensures remembers { Remembers task.now w.now memory.new }
 {
-    match state(task, w, env, f) {
+    match state_in(task, w, env, memory, f) {
         Ok(truth) => Ok(truth),
         Err(note) => Err(ProgressFault::Range(note)),
     }
@@ -44,64 +49,82 @@ pub(crate) fn truth_of(
     task: &Task,
     w: &World,
     env: &mut Env,
+    memory: &mut Memory,
     known: &IndexMap<usize, bool>,
     at: usize,
 ) -> Result<bool, ProgressFault>
     requires at { at < length (trees nodes.now) }
     requires fits { FitsTask task.now (tree_in nodes.now at) }
     requires known { AreTruthsIn task.now w.now nodes.now (get nat_eq known.now) }
+    requires remembers { Remembers task.now w.now memory.old }
     ensures truth { IfOk result (λ b. b ≡ idly_true_at task.now w.now env.old nodes.now at) }
     ensures cause { IfErr result (IsCausedBy (looked_idly_at task.now w.now env.old nodes.now at)) }
     ensures frame { env.new ≡ env.old }
+    ensures remembers { Remembers task.now w.now memory.new }
 {
     if known.is_empty() {
-        return layer_truth(nodes, task, w, env, known, at);
+        return layer_truth(nodes, task, w, env, memory, known, at);
     }
     match known.get(&at) {
         Some(truth) => Ok(*truth),
-        None => layer_truth(nodes, task, w, env, known, at),
+        None => layer_truth(nodes, task, w, env, memory, known, at),
     }
 }
 
 // The truth of a number's tree, from the truth of its parts.
 #[cycle(truth_of)]
+#[inline(always)]
 fn layer_truth(
     nodes: &Nodes,
     task: &Task,
     w: &World,
     env: &mut Env,
+    memory: &mut Memory,
     known: &IndexMap<usize, bool>,
     at: usize,
 ) -> Result<bool, ProgressFault>
     requires at { at < length (trees nodes.now) }
     requires fits { FitsTask task.now (tree_in nodes.now at) }
     requires known { AreTruthsIn task.now w.now nodes.now (get nat_eq known.now) }
+    requires remembers { Remembers task.now w.now memory.old }
     ensures truth { IfOk result (λ b. b ≡ idly_true_at task.now w.now env.old nodes.now at) }
     ensures cause { IfErr result (IsCausedBy (looked_idly_at task.now w.now env.old nodes.now at)) }
     ensures frame { env.new ≡ env.old }
+    ensures remembers { Remembers task.now w.now memory.new }
 {
     match nodes.get(at) {
         Node::True => Ok(true),
         Node::False => Ok(false),
-        Node::Basic(f) => basic_truth(task, w, env, f),
-        Node::Not(part) => match truth_of(nodes, task, w, env, known, *part) {
+        Node::Basic(f) => basic_truth(task, w, env, memory, f),
+        Node::Not(part) => match truth_of(nodes, task, w, env, memory, known, *part) {
             Ok(truth) => Ok(!truth),
             Err(fault) => Err(fault),
         },
-        Node::And(parts) => join_truth(nodes, task, w, env, known, at, parts, Junction::All),
-        Node::Or(parts) => join_truth(nodes, task, w, env, known, at, parts, Junction::Any),
-        Node::Next(part) => truth_of(nodes, task, w, env, known, *part),
-        Node::Always(part) => truth_of(nodes, task, w, env, known, *part),
-        Node::Eventually(part) => truth_of(nodes, task, w, env, known, *part),
-        Node::Until(_, second) => truth_of(nodes, task, w, env, known, *second),
-        Node::Within(_, part) => truth_of(nodes, task, w, env, known, *part),
-        Node::During(_, part) => truth_of(nodes, task, w, env, known, *part),
+        Node::And(parts) => join_truth(
+            nodes,
+            task,
+            w,
+            env,
+            memory,
+            known,
+            at,
+            parts,
+            Junction::All,
+        ),
+        Node::Or(parts) => join_truth(nodes, task, w, env, memory, known, at, parts, Junction::Any),
+        Node::Next(part) => truth_of(nodes, task, w, env, memory, known, *part),
+        Node::Always(part) => truth_of(nodes, task, w, env, memory, known, *part),
+        Node::Eventually(part) => truth_of(nodes, task, w, env, memory, known, *part),
+        Node::Until(_, second) => truth_of(nodes, task, w, env, memory, known, *second),
+        Node::Within(_, part) => truth_of(nodes, task, w, env, memory, known, *part),
+        Node::During(_, part) => truth_of(nodes, task, w, env, memory, known, *part),
         Node::ForAll(vars, bound, part) => {
             quantifier_truth(
                 nodes,
                 task,
                 w,
                 env,
+                memory,
                 known,
                 vars,
                 bound,
@@ -115,6 +138,7 @@ fn layer_truth(
                 task,
                 w,
                 env,
+                memory,
                 known,
                 vars,
                 bound,
@@ -132,6 +156,7 @@ fn join_truth(
     task: &Task,
     w: &World,
     env: &mut Env,
+    memory: &mut Memory,
     known: &IndexMap<usize, bool>,
     at: usize,
     parts: &Ids,
@@ -141,13 +166,15 @@ fn join_truth(
     requires below { all_below at parts.now ≡ true }
     requires fits { FitsTask task.now (join_at nodes.now junction parts.now) }
     requires known { AreTruthsIn task.now w.now nodes.now (get nat_eq known.now) }
+    requires remembers { Remembers task.now w.now memory.old }
     ensures truth { IfOk result (λ b. b ≡ idly_true_join task.now w.now env.old nodes.now junction parts.now) }
     ensures cause { IfErr result (IsCausedBy (looked_idly_join task.now w.now env.old nodes.now junction parts.now)) }
     ensures frame { env.new ≡ env.old }
+    ensures remembers { Remembers task.now w.now memory.new }
 {
     let stop = junction.deciding_truth();
     for part in parts.as_slice().iter() {
-        match truth_of(nodes, task, w, env, known, *part) {
+        match truth_of(nodes, task, w, env, memory, known, *part) {
             Ok(truth) => {
                 if truth == stop {
                     return Ok(stop);
@@ -166,6 +193,7 @@ fn quantifier_truth(
     task: &Task,
     w: &World,
     env: &mut Env,
+    memory: &mut Memory,
     known: &IndexMap<usize, bool>,
     vars: &Vars,
     bound: &Bound,
@@ -175,17 +203,22 @@ fn quantifier_truth(
     requires part { part < length (trees nodes.now) }
     requires fits { FitsTask task.now (quantified_at nodes.now junction vars.now bound.now part) }
     requires known { AreTruthsIn task.now w.now nodes.now (get nat_eq known.now) }
+    requires remembers { Remembers task.now w.now memory.old }
     ensures truth { IfOk result (λ b. b ≡ idly_true_over task.now w.now env.old nodes.now junction vars.now bound.now part) }
     ensures cause { IfErr result (IsCausedBy (looked_idly_over task.now w.now env.old nodes.now junction vars.now bound.now part)) }
     ensures frame { env.new ≡ env.old }
+    ensures remembers { Remembers task.now w.now memory.new }
 {
-    let mut tuples = TupleReader::open(task, env, vars, bound);
-    let outer = env.kept(vars.as_slice());
+    let mut tuples = TupleReader::unopened();
+    tuples.open_in_place(task, env, vars, bound);
+    let mut outer = [None; 9];
+    env.keep(vars.as_slice(), &mut outer);
     let truth = instances_truth(
         nodes,
         task,
         w,
         env,
+        memory,
         known,
         vars,
         bound,
@@ -204,6 +237,7 @@ fn instances_truth(
     task: &Task,
     w: &World,
     env: &mut Env,
+    memory: &mut Memory,
     known: &IndexMap<usize, bool>,
     vars: &Vars,
     bound: &Bound,
@@ -216,13 +250,15 @@ fn instances_truth(
     requires known { AreTruthsIn task.now w.now nodes.now (get nat_eq known.now) }
     requires reads { ReadsTuples vars.now (assignment_in env.old) bound.now tuples.old }
     requires before { tuples.old.tuple ≡ None }
+    requires remembers { Remembers task.now w.now memory.old }
     ensures truth { IfOk result (λ b. b ≡ idly_true_over task.now w.now env.old nodes.now junction vars.now bound.now part) }
     ensures cause { IfErr result (IsCausedBy (looked_idly_over task.now w.now env.old nodes.now junction vars.now bound.now part)) }
     ensures others { AgreeElsewhere vars.now (assignment_in env.new) (assignment_in env.old) }
+    ensures remembers { Remembers task.now w.now memory.new }
 {
     let stop = junction.deciding_truth();
     'tuples: while put_instance(task, w, env, vars, bound, tuples) {
-        match truth_of(nodes, task, w, env, known, part) {
+        match truth_of(nodes, task, w, env, memory, known, part) {
             Ok(truth) => {
                 if truth == stop {
                     return Ok(stop);

@@ -1,5 +1,10 @@
 use Rattle.std.proofs.Common.{◌≡◌}
+use Rattle.tl_eval.specs.Remembered.{AreTruths}
+use Rattle.tl_terms.specs.ProblemMeaning.{plain_problem}
 use Rattle.tl_progress.proofs.early.early_join.Given as goal
 
 abbrev pub invariant-loop-i : goal.invariant-loop-i
-invariant-loop-i l = l.env ≡ l.fn.env
+invariant-loop-i l = record {
+  frame : l.env ≡ l.fn.env;
+  remembers : AreTruths (plain_problem l.task.problem) l.w l.memory;
+}

@@ -3,10 +3,10 @@ use Rattle.tl_progress.proofs.FrameBindings.{binds-none, binds-next, binds-all, 
 use Rattle.tl_progress.proofs.frames.put_few.Goals as goal
 
 pub loop-slot-init : goal.loop-slot-init
-loop-slot-init c = binds-none _ _ c.requires
+loop-slot-init c = binds-none _ _ c.requires.none
 
 pub loop-slot-preserved : goal.loop-slot-preserved
-loop-slot-preserved c = binds-next c.loop-slot.slot _ _ c.loop-slot.invariant _ (slot-is _ c.loop-slot.slot _ _ (omega (arith, c.told-frame, c.loop-slot-test.true)) refl) _ (c.bind_few.ensures c.if-not-bind_few.false)
+loop-slot-preserved c = binds-next c.loop-slot.slot _ _ c.loop-slot.invariant _ (slot-is _ c.loop-slot.slot _ _ (omega (arith, c.requires.slots, c.loop-slot-test.true)) refl) _ (c.bind_few.ensures c.if-not-bind_few.false)
 
 pub returns : goal.returns
-returns c = λ h. binds-all c.loop-slot.slot _ _ c.loop-slot.invariant (omega (arith, c.told-frame, c.loop-slot-test.false))
+returns c = λ h. binds-all c.loop-slot.slot _ _ c.loop-slot.invariant (omega (arith, c.requires.slots, c.loop-slot-test.false))

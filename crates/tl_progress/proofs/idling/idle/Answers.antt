@@ -1,5 +1,6 @@
 use Rattle.std.proofs.Common.{◌≡◌, ◌↔◌, Bool, IsTrue, IfOk, IfErr, Result, Ok, Err, sym, ap, ◌∙◌, subst}
 use Rattle.tl_eval.specs.Frames.{assignment_in}
+use Rattle.tl_eval.specs.Remembered.{AreTruths}
 use Rattle.tl_nodes.specs.NodeTrees.{tree_at}
 use Rattle.tl_nodes.specs.Numbers.{trees}
 use Rattle.tl_syntax.specs.Assignment.{Assignment, no_values}
@@ -24,12 +25,15 @@ by_cause p w f r h = h
 
 pub returns-clause-truth : goal.returns-clause-truth
 returns-clause-truth c =
-    let none = ap assignment_in c.restore.ensures ∙ c.empty_frame-empty.ensures in
+    let none = ap assignment_in (c.lend_memory-memory.ensures.frame ∙ c.restore.ensures) ∙ c.empty_frame-empty.ensures in
     holds (plain_problem c.args.task.now.problem) c.args.w.now (tree_at (trees c.args.nodes.now) c.args.id) c.sentence_truth-answer.result
     (subst (λ (e : Assignment). IfOk c.sentence_truth-answer.result (λ b. b ≡ idly_true (plain_problem c.args.task.now.problem) c.args.w.now e (tree_at (trees c.args.nodes.now) c.args.id))) none c.sentence_truth-answer.ensures.truth)
 
 pub returns-clause-cause : goal.returns-clause-cause
 returns-clause-cause c =
-    let none = ap assignment_in c.restore.ensures ∙ c.empty_frame-empty.ensures in
+    let none = ap assignment_in (c.lend_memory-memory.ensures.frame ∙ c.restore.ensures) ∙ c.empty_frame-empty.ensures in
     by_cause (plain_problem c.args.task.now.problem) c.args.w.now (tree_at (trees c.args.nodes.now) c.args.id) c.sentence_truth-answer.result
     (subst (λ (e : Assignment). IfErr c.sentence_truth-answer.result (IsCausedBy (looked_idly (plain_problem c.args.task.now.problem) c.args.w.now e (tree_at (trees c.args.nodes.now) c.args.id)))) none c.sentence_truth-answer.ensures.cause)
+
+pub sentence_truth-answer-requires-clause-remembers : goal.sentence_truth-answer-requires-clause-remembers
+sentence_truth-answer-requires-clause-remembers c = subst (AreTruths (plain_problem c.args.task.now.problem) c.args.w.now) (sym c.lend_memory-memory.ensures.nothing) tt

@@ -15,6 +15,7 @@ use Rattle.tl_progress.proofs.idling.sentence_truth.Goals as goal
 
 pub loop-at-init : goal.loop-at-init
 loop-at-init c = record {
+  remembers = c.requires.remembers;
   frame = refl;
   order = c.in_ok-order.ensures;
   known = λ k b h. let z : None ≡ Some b = sym (ap (lookup (nat_eq k)) c.new-known.ensures.empty) ∙ h in absurd (let f : ⊥ = cc in f);
@@ -28,6 +29,7 @@ truth_of-requires c =
       at = omega (arith, under, c.requires.id);
       fits = fits-below true (trees c.args.nodes.now) (signature_of c.args.task.now.problem.domain) c.args.id c.in-Some.at last.1 (record { around = []; fits = c.requires.sentence.fits });
       known = c.loop-at.invariant.known;
+      remembers = c.loop-at.invariant.remembers;
     }
 
 pub returns-in-Err-clause-cause : goal.returns-in-Err-clause-cause
@@ -48,6 +50,7 @@ loop-at-preserved c =
     let under = last.1.under in
     let inside : c.in-Some.at < length (trees c.args.nodes.now) = omega (arith, under, c.requires.id) in
     record {
+      remembers = c.truth_of.ensures.remembers;
       frame = c.truth_of.ensures.frame ∙ c.loop-at.invariant.frame;
       order = last.0;
       known = truths-more (plain_problem c.args.task.now.problem) c.args.w.now (assignment_in c.args.env.now) (trees c.args.nodes.now) c.in-Some.at inside (last.1.scope [] c.requires.sentence.closed) (get nat_eq c.loop-at.known) (get nat_eq c.insert.new.self) c.in-Ok.truth c.in_ok-insert-in-Ok.ensures.updates.0
@@ -59,6 +62,7 @@ truth_of-requires-2 c = record {
   at = c.requires.id;
   fits = record { around = []; fits = c.requires.sentence.fits };
   known = c.loop-at.invariant.known;
+  remembers = c.loop-at.invariant.remembers;
 }
 
 pub returns-clause-truth : goal.returns-clause-truth

@@ -1,5 +1,6 @@
 use Rattle.std.proofs.Common.{◌≡◌, true, length, nat_eq}
 use Rattle.indexmap.specs.IndexMap.{get}
+use Rattle.tl_eval.specs.Remembered as Remembered
 use Rattle.tl_nodes.specs.Numbers.{trees}
 use Rattle.tl_syntax.specs.Lists.{Each}
 use Rattle.tl_terms.specs.ProblemMeaning.{plain_problem}
@@ -9,6 +10,7 @@ use Rattle.tl_progress.proofs.idling.sentence_truth.Given as goal
 
 abbrev pub invariant-loop-at : goal.invariant-loop-at
 invariant-loop-at l = record {
+  remembers : Remembered.AreTruths (plain_problem l.task.problem) l.w l.memory;
   frame : l.env ≡ l.fn.env;
   order : Each (IsBelow true (trees l.nodes) l.id) l.order.items;
   known : AreTruths (plain_problem l.task.problem) l.w (trees l.nodes) (get nat_eq l.known);

@@ -13,10 +13,11 @@ use Rattle.tl_progress.specs.Parts.{IsBelow}
 use Rattle.tl_progress.proofs.Below.{part-among}
 use Rattle.tl_progress.proofs.Found.{residual-fault}
 use Rattle.tl_progress.proofs.OpenParts.{sentence-below, passed-none, passed-open, passed-on, passed-decided, passed-all, each-more}
-use Rattle.tl_progress.proofs.joined.open_parts.Goals as goal
+use Rattle.tl_progress.proofs.joined.remembering_open_parts.Goals as goal
 
 pub loop-i-init : goal.loop-i-init
 loop-i-init c = record {
+  remembers = c.requires.remembers;
   frame = refl;
   below = subst (Each (IsBelow false (trees c.args.nodes.now) c.args.joined.at)) (sym c.new-parts.ensures) tt;
   passed = passed-none (plain_problem c.args.task.now.problem) c.args.w.now (assignment_in c.args.env.now) (trees c.args.nodes.now) c.args.joined.at c.args.joined.junction c.new-parts.result c.new-parts.ensures;
@@ -34,6 +35,7 @@ pub loop-i-preserved-then-temporal : goal.loop-i-preserved-then-temporal
 loop-i-preserved-then-temporal c =
     let low = part-among false (trees c.args.nodes.now) c.args.joined.at c.args.joined.junction c.requires.join c.loop-i.i c.part_at-part.result c.part_at-part.ensures.smaller c.part_at-part.ensures.tree in
     record {
+      remembers = c.loop-i.invariant.remembers;
       frame = c.loop-i.invariant.frame;
       below = each-more (IsBelow false (trees c.args.nodes.now) c.args.joined.at) c.loop-i.parts c.push.new.self c.part_at-part.result c.in_ok-push.ensures c.loop-i.invariant.below low;
       passed = passed-open (plain_problem c.args.task.now.problem) c.args.w.now (assignment_in c.args.env.now) (trees c.args.nodes.now) c.args.joined.at c.args.joined.junction c.loop-i.parts c.loop-i.i c.part_at-part.result c.part_at-part.ensures.tree c.loop-i.invariant.passed c.push.new.self c.in_ok-push.ensures;
@@ -50,6 +52,7 @@ returns-then-truth-stop-clause-frame c = c.state_part.ensures.frame ∙ c.loop-i
 
 pub loop-i-preserved : goal.loop-i-preserved
 loop-i-preserved c = record {
+  remembers = c.state_part.ensures.remembers;
   frame = c.state_part.ensures.frame ∙ c.loop-i.invariant.frame;
   below = c.loop-i.invariant.below;
   passed = passed-on (plain_problem c.args.task.now.problem) c.args.w.now (assignment_in c.args.env.now) (trees c.args.nodes.now) c.args.joined.at c.args.joined.junction c.loop-i.parts c.loop-i.i c.part_at-part.result c.part_at-part.ensures.tree c.loop-i.invariant.passed c.in-Ok.truth

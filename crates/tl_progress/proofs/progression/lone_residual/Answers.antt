@@ -22,12 +22,12 @@ by_cause p w f e r n h = subst (λ (d : Assignment). IfErr r (IsCausedBy (looked
 pub returns-then-is_empty_frame-clause-number : goal.returns-then-is_empty_frame-clause-number
 returns-then-is_empty_frame-clause-number c =
     by_number (plain_problem c.args.task.now.problem) c.args.w.now (tree_at (trees c.args.nodes.now) c.args.incoming.formula) (trees c.sentence_residual.new.nodes) (assignment_in c.args.env.now) c.sentence_residual.result
-    (sym (ap assignment_in c.saved-frame.ensures) ∙ c.is_empty_frame.ensures c.if-is_empty_frame.true) c.sentence_residual.ensures.number
+    (sym (ap assignment_in c.slots.ensures.values) ∙ c.is_empty_frame.ensures c.if-is_empty_frame.true) c.sentence_residual.ensures.number
 
 pub returns-then-is_empty_frame-clause-cause : goal.returns-then-is_empty_frame-clause-cause
 returns-then-is_empty_frame-clause-cause c =
     by_cause (plain_problem c.args.task.now.problem) c.args.w.now (tree_at (trees c.args.nodes.now) c.args.incoming.formula) (assignment_in c.args.env.now) c.sentence_residual.result
-    (sym (ap assignment_in c.saved-frame.ensures) ∙ c.is_empty_frame.ensures c.if-is_empty_frame.true) c.sentence_residual.ensures.cause
+    (sym (ap assignment_in c.slots.ensures.values) ∙ c.is_empty_frame.ensures c.if-is_empty_frame.true) c.sentence_residual.ensures.cause
 
 pub returns-clause-number : goal.returns-clause-number
 returns-clause-number c =

@@ -14,7 +14,7 @@ use Rattle.tl_progress.proofs.PutLayers.{stays, longer}
 use Rattle.tl_progress.proofs.progression.ordered_residual.Goals as goal
 
 pub loop-at-init : goal.loop-at-init
-loop-at-init c = record { frame = refl; kept = λ i f h. h; order = c.in_ok-order.ensures; known = c.new-known.ensures _ _ _ }
+loop-at-init c = record { remembers = c.requires.remembers; frame = refl; kept = λ i f h. h; order = c.in_ok-order.ensures; known = c.new-known.ensures _ _ _ }
 
 pub learn-requires : goal.learn-requires
 learn-requires c =
@@ -26,6 +26,7 @@ learn-requires c =
       at = longer (trees c.args.nodes.now) (trees c.loop-at.nodes) c.loop-at.invariant.kept c.in-Some.at inside;
       sentence = subst (IsSentence (signature_of c.args.task.now.problem.domain)) (sym same) (record { fits = last.1.fits (signature_of c.args.task.now.problem.domain) [] c.requires.sentence.fits; closed = last.1.scope [] c.requires.sentence.closed });
       known = c.loop-at.invariant.known;
+      remembers = c.loop-at.invariant.remembers;
     }
 
 pub returns-in-Err-clause-kept : goal.returns-in-Err-clause-kept
@@ -48,6 +49,7 @@ pub loop-at-preserved : goal.loop-at-preserved
 loop-at-preserved c =
     let last = last-of (IsBelow false (trees c.args.nodes.now) c.args.id) c.loop-at.order.items c.pop.new.self.items c.in-Some.at c.in-Some.ensures.items c.loop-at.invariant.order in
     record {
+      remembers = c.learn.ensures.remembers;
       frame = c.learn.ensures.frame ∙ c.loop-at.invariant.frame;
       kept = λ i f h. c.in-Ok.ensures.kept i f (c.loop-at.invariant.kept i f h);
       order = last.0;
@@ -59,6 +61,7 @@ residual_of-requires c = record {
   at = longer (trees c.args.nodes.now) (trees c.loop-at.nodes) c.loop-at.invariant.kept c.args.id c.requires.id;
   fits = subst (FitsSomewhere (signature_of c.args.task.now.problem.domain)) (sym (stays (trees c.args.nodes.now) (trees c.loop-at.nodes) c.loop-at.invariant.kept c.args.id c.requires.id)) (record { around = []; fits = c.requires.sentence.fits });
   known = c.loop-at.invariant.known;
+  remembers = c.loop-at.invariant.remembers;
 }
 
 pub returns-clause-kept : goal.returns-clause-kept

@@ -1,4 +1,5 @@
 use Rattle.std.proofs.Common.{◌≡◌, false, length}
+use Rattle.tl_eval.specs.Remembered.{AreTruths}
 use Rattle.tl_nodes.specs.Numbering.{Keeps}
 use Rattle.tl_nodes.specs.Numbers.{trees}
 use Rattle.tl_syntax.specs.Lists.{Each}
@@ -9,6 +10,7 @@ use Rattle.tl_progress.proofs.progression.ordered_residual.Given as goal
 
 abbrev pub invariant-loop-at : goal.invariant-loop-at
 invariant-loop-at l = record {
+  remembers : AreTruths (plain_problem l.task.problem) l.w l.memory;
   frame : l.env ≡ l.fn.env;
   kept : Keeps (trees l.fn.nodes) (trees l.nodes);
   order : Each (IsBelow false (trees l.fn.nodes) l.id) l.order.items;

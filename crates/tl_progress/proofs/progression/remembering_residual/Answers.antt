@@ -1,6 +1,6 @@
 use Rattle.tl_nodes.specs.Numbers.{trees}
 use Rattle.tl_terms.specs.ProblemMeaning.{plain_problem}
-use Rattle.tl_progress.proofs.progression.temporal_residual.Goals as goal
+use Rattle.tl_progress.proofs.progression.remembering_residual.Goals as goal
 
 pub early_residual-requires-clause-known : goal.early_residual-requires-clause-known
 early_residual-requires-clause-known c =

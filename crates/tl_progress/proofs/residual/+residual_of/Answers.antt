@@ -49,7 +49,7 @@ pub layer_residual-residual_of-requires : goal.layer_residual-residual_of-requir
 layer_residual-residual_of-requires t c =
     let low = part-lower false (trees c.args.nodes.now) c.args.at c.in-Not.part c.get.result.now c.get.ensures.tree c.get.ensures.parts (subst (λ n. Among c.in-Not.part (parts false n)) (sym c.in-Not.is) (inl refl)) in
     let less = low.less in
-    (omega (arith, less, c.decreases), (omega (arith, less, c.requires.at), (fits-below false (trees c.args.nodes.now) (signature_of c.args.task.now.problem.domain) c.args.at c.in-Not.part low.below c.requires.fits, c.requires.known)))
+    (omega (arith, less, c.decreases), (omega (arith, less, c.requires.at), (fits-below false (trees c.args.nodes.now) (signature_of c.args.task.now.problem.domain) c.args.at c.in-Not.part low.below c.requires.fits, (c.requires.known, c.requires.remembers))))
 
 pub layer_residual-returns-in_err-answer-in-Not-clause-cause : goal.layer_residual-returns-in_err-answer-in-Not-clause-cause
 layer_residual-returns-in_err-answer-in-Not-clause-cause t c =
@@ -67,10 +67,10 @@ layer_residual-returns-in_ok-number-in-Not-clause-number t c =
     c.in_ok-number-in-Not.ensures.number ∙ ap (λ (f : FormulaTree). Some f) (next-Not (plain_problem c.args.task.now.problem) c.args.w.now (assignment_in c.args.env.now) (trees c.args.nodes.now) c.args.at c.get.result.now c.get.ensures.tree c.requires.at (trees c.residual_of.new.nodes) c.in_ok-answer-in-Not.ensures.kept c.in-Not.part c.in_ok-answer-in-Not.answer c.in-Not.is c.in_ok-answer-in-Not.ensures.number)
 
 pub layer_residual-join_residual-requires : goal.layer_residual-join_residual-requires
-layer_residual-join_residual-requires t c = (omega (arith, c.decreases), (c.requires.at, (is-and (trees c.args.nodes.now) c.args.at c.get.result.now c.get.ensures.tree c.in-And.field-0 c.in-And.is, (c.requires.fits, c.requires.known))))
+layer_residual-join_residual-requires t c = (omega (arith, c.decreases), (c.requires.at, (is-and (trees c.args.nodes.now) c.args.at c.get.result.now c.get.ensures.tree c.in-And.field-0 c.in-And.is, (c.requires.fits, (c.requires.known, c.requires.remembers)))))
 
 pub layer_residual-join_residual-requires-in-Or : goal.layer_residual-join_residual-requires-in-Or
-layer_residual-join_residual-requires-in-Or t c = (omega (arith, c.decreases), (c.requires.at, (is-or (trees c.args.nodes.now) c.args.at c.get.result.now c.get.ensures.tree c.in-Or.field-0 c.in-Or.is, (c.requires.fits, c.requires.known))))
+layer_residual-join_residual-requires-in-Or t c = (omega (arith, c.decreases), (c.requires.at, (is-or (trees c.args.nodes.now) c.args.at c.get.result.now c.get.ensures.tree c.in-Or.field-0 c.in-Or.is, (c.requires.fits, (c.requires.known, c.requires.remembers)))))
 
 pub layer_residual-remaining-requires : goal.layer_residual-remaining-requires
 layer_residual-remaining-requires t c = let less = less-Next (trees c.args.nodes.now) c.args.at c.get.result.now c.get.ensures.parts c.in-Next.part c.in-Next.is in let k = c.requires.at in omega arith
@@ -82,7 +82,7 @@ pub layer_residual-residual_of-requires-in-Always : goal.layer_residual-residual
 layer_residual-residual_of-requires-in-Always t c =
     let low = part-lower false (trees c.args.nodes.now) c.args.at c.in-Always.part c.get.result.now c.get.ensures.tree c.get.ensures.parts (subst (λ n. Among c.in-Always.part (parts false n)) (sym c.in-Always.is) (inl refl)) in
     let less = low.less in
-    (omega (arith, less, c.decreases), (omega (arith, less, c.requires.at), (fits-below false (trees c.args.nodes.now) (signature_of c.args.task.now.problem.domain) c.args.at c.in-Always.part low.below c.requires.fits, c.requires.known)))
+    (omega (arith, less, c.decreases), (omega (arith, less, c.requires.at), (fits-below false (trees c.args.nodes.now) (signature_of c.args.task.now.problem.domain) c.args.at c.in-Always.part low.below c.requires.fits, (c.requires.known, c.requires.remembers))))
 
 pub layer_residual-returns-in_err-answer-in-Always-clause-cause : goal.layer_residual-returns-in_err-answer-in-Always-clause-cause
 layer_residual-returns-in_err-answer-in-Always-clause-cause t c =
@@ -106,7 +106,7 @@ pub layer_residual-residual_of-requires-in-Eventually : goal.layer_residual-resi
 layer_residual-residual_of-requires-in-Eventually t c =
     let low = part-lower false (trees c.args.nodes.now) c.args.at c.in-Eventually.part c.get.result.now c.get.ensures.tree c.get.ensures.parts (subst (λ n. Among c.in-Eventually.part (parts false n)) (sym c.in-Eventually.is) (inl refl)) in
     let less = low.less in
-    (omega (arith, less, c.decreases), (omega (arith, less, c.requires.at), (fits-below false (trees c.args.nodes.now) (signature_of c.args.task.now.problem.domain) c.args.at c.in-Eventually.part low.below c.requires.fits, c.requires.known)))
+    (omega (arith, less, c.decreases), (omega (arith, less, c.requires.at), (fits-below false (trees c.args.nodes.now) (signature_of c.args.task.now.problem.domain) c.args.at c.in-Eventually.part low.below c.requires.fits, (c.requires.known, c.requires.remembers))))
 
 pub layer_residual-returns-in_err-answer-in-Eventually-clause-cause : goal.layer_residual-returns-in_err-answer-in-Eventually-clause-cause
 layer_residual-returns-in_err-answer-in-Eventually-clause-cause t c =
@@ -130,7 +130,7 @@ pub layer_residual-residual_of-requires-in-Until : goal.layer_residual-residual_
 layer_residual-residual_of-requires-in-Until t c =
     let low = part-lower false (trees c.args.nodes.now) c.args.at c.in-Until.second c.get.result.now c.get.ensures.tree c.get.ensures.parts (subst (λ n. Among c.in-Until.second (parts false n)) (sym c.in-Until.is) (inr (inl refl))) in
     let less = low.less in
-    (omega (arith, less, c.decreases), (omega (arith, less, c.requires.at), (fits-below false (trees c.args.nodes.now) (signature_of c.args.task.now.problem.domain) c.args.at c.in-Until.second low.below c.requires.fits, c.requires.known)))
+    (omega (arith, less, c.decreases), (omega (arith, less, c.requires.at), (fits-below false (trees c.args.nodes.now) (signature_of c.args.task.now.problem.domain) c.args.at c.in-Until.second low.below c.requires.fits, (c.requires.known, c.requires.remembers))))
 
 pub layer_residual-returns-in_err-after-in-Until-clause-cause : goal.layer_residual-returns-in_err-after-in-Until-clause-cause
 layer_residual-returns-in_err-after-in-Until-clause-cause t c =
@@ -148,7 +148,7 @@ layer_residual-residual_of-requires-in-Until-2 t c =
     let low = part-lower false (trees c.args.nodes.now) c.args.at c.in-Until.first c.get.result.now c.get.ensures.tree c.get.ensures.parts (subst (λ n. Among c.in-Until.first (parts false n)) (sym c.in-Until.is) (inl refl)) in
     let less = low.less in
     let first : c.in-Until.first < length (trees c.args.nodes.now) = omega (arith, less, c.requires.at) in
-    (omega (arith, less, c.decreases), (longer (trees c.args.nodes.now) (trees c.residual_of-in-Until.new.nodes) c.in_ok-after-in-Until.ensures.kept c.in-Until.first first, (subst (FitsSomewhere (signature_of c.args.task.now.problem.domain)) (sym (stays (trees c.args.nodes.now) (trees c.residual_of-in-Until.new.nodes) c.in_ok-after-in-Until.ensures.kept c.in-Until.first first)) (fits-below false (trees c.args.nodes.now) (signature_of c.args.task.now.problem.domain) c.args.at c.in-Until.first low.below c.requires.fits), right-still (plain_problem c.args.task.now.problem) c.args.w.now (trees c.args.nodes.now) (trees c.residual_of-in-Until.new.nodes) c.in_ok-after-in-Until.ensures.kept c.args.known.now c.requires.known)))
+    (omega (arith, less, c.decreases), (longer (trees c.args.nodes.now) (trees c.residual_of-in-Until.new.nodes) c.in_ok-after-in-Until.ensures.kept c.in-Until.first first, (subst (FitsSomewhere (signature_of c.args.task.now.problem.domain)) (sym (stays (trees c.args.nodes.now) (trees c.residual_of-in-Until.new.nodes) c.in_ok-after-in-Until.ensures.kept c.in-Until.first first)) (fits-below false (trees c.args.nodes.now) (signature_of c.args.task.now.problem.domain) c.args.at c.in-Until.first low.below c.requires.fits), (right-still (plain_problem c.args.task.now.problem) c.args.w.now (trees c.args.nodes.now) (trees c.residual_of-in-Until.new.nodes) c.in_ok-after-in-Until.ensures.kept c.args.known.now c.requires.known, c.residual_of-in-Until.ensures.remembers))))
 
 pub layer_residual-returns-in_err-before-in-Until-clause-kept : goal.layer_residual-returns-in_err-before-in-Until-clause-kept
 layer_residual-returns-in_err-before-in-Until-clause-kept t c = λ i f h. c.in_err-before-in-Until.ensures.kept i f (c.in_ok-after-in-Until.ensures.kept i f h)
@@ -169,7 +169,7 @@ pub layer_residual-residual_of-requires-in-Within : goal.layer_residual-residual
 layer_residual-residual_of-requires-in-Within t c =
     let low = part-lower false (trees c.args.nodes.now) c.args.at c.in-Within.part c.get.result.now c.get.ensures.tree c.get.ensures.parts (subst (λ n. Among c.in-Within.part (parts false n)) (sym c.in-Within.is) (inl refl)) in
     let less = low.less in
-    (omega (arith, less, c.decreases), (omega (arith, less, c.requires.at), (fits-below false (trees c.args.nodes.now) (signature_of c.args.task.now.problem.domain) c.args.at c.in-Within.part low.below c.requires.fits, c.requires.known)))
+    (omega (arith, less, c.decreases), (omega (arith, less, c.requires.at), (fits-below false (trees c.args.nodes.now) (signature_of c.args.task.now.problem.domain) c.args.at c.in-Within.part low.below c.requires.fits, (c.requires.known, c.requires.remembers))))
 
 pub layer_residual-returns-in_err-answer-in-Within-clause-cause : goal.layer_residual-returns-in_err-answer-in-Within-clause-cause
 layer_residual-returns-in_err-answer-in-Within-clause-cause t c =
@@ -180,7 +180,7 @@ pub layer_residual-residual_of-requires-in-During : goal.layer_residual-residual
 layer_residual-residual_of-requires-in-During t c =
     let low = part-lower false (trees c.args.nodes.now) c.args.at c.in-During.part c.get.result.now c.get.ensures.tree c.get.ensures.parts (subst (λ n. Among c.in-During.part (parts false n)) (sym c.in-During.is) (inl refl)) in
     let less = low.less in
-    (omega (arith, less, c.decreases), (omega (arith, less, c.requires.at), (fits-below false (trees c.args.nodes.now) (signature_of c.args.task.now.problem.domain) c.args.at c.in-During.part low.below c.requires.fits, c.requires.known)))
+    (omega (arith, less, c.decreases), (omega (arith, less, c.requires.at), (fits-below false (trees c.args.nodes.now) (signature_of c.args.task.now.problem.domain) c.args.at c.in-During.part low.below c.requires.fits, (c.requires.known, c.requires.remembers))))
 
 pub layer_residual-returns-in_err-answer-in-During-clause-cause : goal.layer_residual-returns-in_err-answer-in-During-clause-cause
 layer_residual-returns-in_err-answer-in-During-clause-cause t c =
@@ -253,18 +253,18 @@ pub layer_residual-quantifier_residual-requires : goal.layer_residual-quantifier
 layer_residual-quantifier_residual-requires t c =
     let less = less-ForAll (trees c.args.nodes.now) c.args.at c.get.result.now c.get.ensures.tree c.get.ensures.parts c.in-ForAll.field-0 c.in-ForAll.field-1 c.in-ForAll.part c.in-ForAll.is in
     let stands = stands-ForAll (trees c.args.nodes.now) c.args.at c.get.result.now c.get.ensures.tree c.in-ForAll.field-0 c.in-ForAll.field-1 c.in-ForAll.part c.in-ForAll.is in
-    (omega (arith, less, c.decreases), (c.requires.at, (omega (arith, less, c.requires.at), (stands, c.requires.fits))))
+    (omega (arith, less, c.decreases), (c.requires.at, (omega (arith, less, c.requires.at), (stands, (c.requires.fits, c.requires.remembers)))))
 
 pub layer_residual-quantifier_residual-requires-in-Exists : goal.layer_residual-quantifier_residual-requires-in-Exists
 layer_residual-quantifier_residual-requires-in-Exists t c =
     let less = less-Exists (trees c.args.nodes.now) c.args.at c.get.result.now c.get.ensures.tree c.get.ensures.parts c.in-Exists.field-0 c.in-Exists.field-1 c.in-Exists.part c.in-Exists.is in
     let stands = stands-Exists (trees c.args.nodes.now) c.args.at c.get.result.now c.get.ensures.tree c.in-Exists.field-0 c.in-Exists.field-1 c.in-Exists.part c.in-Exists.is in
-    (omega (arith, less, c.decreases), (c.requires.at, (omega (arith, less, c.requires.at), (stands, c.requires.fits))))
+    (omega (arith, less, c.decreases), (c.requires.at, (omega (arith, less, c.requires.at), (stands, (c.requires.fits, c.requires.remembers)))))
 
 -- ---- the parts of a join
 
 pub join_residual-loop-i-init : goal.join_residual-loop-i-init
-join_residual-loop-i-init t c = record { frame = refl; kept = λ i f h. h; passed = gather-begun c.args.junction (trees c.args.nodes.now) _ (map (residual (plain_problem c.args.task.now.problem) c.args.w.now (assignment_in c.args.env.now)) (join_parts (tree_at (trees c.args.nodes.now) c.args.at))) c.new-answers.ensures }
+join_residual-loop-i-init t c = record { remembers = c.requires.remembers; frame = refl; kept = λ i f h. h; passed = gather-begun c.args.junction (trees c.args.nodes.now) _ (map (residual (plain_problem c.args.task.now.problem) c.args.w.now (assignment_in c.args.env.now)) (join_parts (tree_at (trees c.args.nodes.now) c.args.at))) c.new-answers.ensures }
 
 pub join_residual-part_at-part-requires : goal.join_residual-part_at-part-requires
 join_residual-part_at-part-requires t c = record {
@@ -278,7 +278,7 @@ join_residual-residual_of-requires t c =
     let part : c.part_at-part.result < length (trees c.args.nodes.now) = omega (arith, less, c.requires.at) in
     let there = subst (λ (f : FormulaTree). slice_get (join_parts f) c.loop-i.i ≡ Some (tree_at (trees c.loop-i.nodes) c.part_at-part.result)) (stays (trees c.args.nodes.now) (trees c.loop-i.nodes) c.loop-i.invariant.kept c.args.at c.requires.at) c.part_at-part.ensures.tree ∙ ap Some (stays (trees c.args.nodes.now) (trees c.loop-i.nodes) c.loop-i.invariant.kept c.part_at-part.result part) in
     let low = part-among false (trees c.args.nodes.now) c.args.at c.args.junction c.requires.join c.loop-i.i c.part_at-part.result less there in
-    (omega (arith, less, c.decreases), (longer (trees c.args.nodes.now) (trees c.loop-i.nodes) c.loop-i.invariant.kept c.part_at-part.result part, (subst (FitsSomewhere (signature_of c.args.task.now.problem.domain)) (sym (stays (trees c.args.nodes.now) (trees c.loop-i.nodes) c.loop-i.invariant.kept c.part_at-part.result part)) (fits-below false (trees c.args.nodes.now) (signature_of c.args.task.now.problem.domain) c.args.at c.part_at-part.result low c.requires.fits), right-still (plain_problem c.args.task.now.problem) c.args.w.now (trees c.args.nodes.now) (trees c.loop-i.nodes) c.loop-i.invariant.kept c.args.known.now c.requires.known)))
+    (omega (arith, less, c.decreases), (longer (trees c.args.nodes.now) (trees c.loop-i.nodes) c.loop-i.invariant.kept c.part_at-part.result part, (subst (FitsSomewhere (signature_of c.args.task.now.problem.domain)) (sym (stays (trees c.args.nodes.now) (trees c.loop-i.nodes) c.loop-i.invariant.kept c.part_at-part.result part)) (fits-below false (trees c.args.nodes.now) (signature_of c.args.task.now.problem.domain) c.args.at c.part_at-part.result low c.requires.fits), (right-still (plain_problem c.args.task.now.problem) c.args.w.now (trees c.args.nodes.now) (trees c.loop-i.nodes) c.loop-i.invariant.kept c.args.known.now c.requires.known, c.loop-i.invariant.remembers))))
 
 pub join_residual-decides-requires : goal.join_residual-decides-requires
 join_residual-decides-requires t c = slice_get_within (trees c.residual_of.new.nodes) c.in-Ok.answer _ c.in-Ok.ensures.number
@@ -315,6 +315,7 @@ join_residual-loop-i-preserved t c =
     let there = subst (λ (f : FormulaTree). slice_get (join_parts f) c.loop-i.i ≡ Some (tree_at (trees c.loop-i.nodes) c.part_at-part.result)) (stays (trees c.args.nodes.now) (trees c.loop-i.nodes) c.loop-i.invariant.kept c.args.at c.requires.at) c.part_at-part.ensures.tree ∙ ap Some (stays (trees c.args.nodes.now) (trees c.loop-i.nodes) c.loop-i.invariant.kept c.part_at-part.result part) in
     let low = part-among false (trees c.args.nodes.now) c.args.at c.args.junction c.requires.join c.loop-i.i c.part_at-part.result less there in
     record {
+      remembers = c.residual_of.ensures.remembers;
       frame = c.residual_of.ensures.frame ∙ c.loop-i.invariant.frame;
       kept = λ i f h. c.in-Ok.ensures.kept i f (c.loop-i.invariant.kept i f h);
       passed = gather-on c.args.junction (trees c.loop-i.nodes) (trees c.residual_of.new.nodes) c.in-Ok.ensures.kept c.loop-i.answers ((residual (plain_problem c.args.task.now.problem) c.args.w.now (assignment_in c.args.env.now)) (tree_at (trees c.args.nodes.now) c.part_at-part.result)) (map (residual (plain_problem c.args.task.now.problem) c.args.w.now (assignment_in c.args.env.now)) (drop (c.loop-i.i + 1) (join_parts (tree_at (trees c.args.nodes.now) c.args.at)))) (map (residual (plain_problem c.args.task.now.problem) c.args.w.now (assignment_in c.args.env.now)) (join_parts (tree_at (trees c.args.nodes.now) c.args.at))) (subst (λ (fs : List FormulaTree). Gathered c.args.junction (trees c.loop-i.nodes) c.loop-i.answers fs (map (residual (plain_problem c.args.task.now.problem) c.args.w.now (assignment_in c.args.env.now)) (join_parts (tree_at (trees c.args.nodes.now) c.args.at)))) (part-next (residual (plain_problem c.args.task.now.problem) c.args.w.now (assignment_in c.args.env.now)) (join_parts (tree_at (trees c.args.nodes.now) c.args.at)) c.loop-i.i (tree_at (trees c.args.nodes.now) c.part_at-part.result) there) c.loop-i.invariant.passed) c.in-Ok.answer (subst (λ (f : FormulaTree). slice_get (trees c.residual_of.new.nodes) c.in-Ok.answer ≡ Some (residual (plain_problem c.args.task.now.problem) c.args.w.now (assignment_in c.args.env.now) f)) (stays (trees c.args.nodes.now) (trees c.loop-i.nodes) c.loop-i.invariant.kept c.part_at-part.result part) (subst (λ (v : List (Option Value)). slice_get (trees c.residual_of.new.nodes) c.in-Ok.answer ≡ Some (residual (plain_problem c.args.task.now.problem) c.args.w.now (assignment_in v) (tree_at (trees c.loop-i.nodes) c.part_at-part.result))) c.loop-i.invariant.frame c.in-Ok.ensures.number)) c.gather.new.parts c.in_ok-gather-in-Ok.ensures.below c.in_ok-gather-in-Ok.ensures.same;
@@ -362,6 +363,7 @@ join_residual-returns-clause-number t c =
 pub instances_residual-tuples-init : goal.instances_residual-tuples-init
 instances_residual-tuples-init t c =
     record {
+      remembers = c.requires.remembers;
       kept = λ i f h. h;
       reads = c.requires.reads;
       others = λ u. refl;
@@ -388,7 +390,7 @@ instances_residual-put_next-requires-clause-reads t c =
 pub instances_residual-residual_of-requires : goal.instances_residual-residual_of-requires
 instances_residual-residual_of-requires t c =
     let fit = quantifier-fits c.args.task.now.problem c.args.quantifier.junction (node_vars (trees c.args.nodes.now) c.args.quantifier) (node_bound (trees c.args.nodes.now) c.args.quantifier) (tree_at (trees c.args.nodes.now) c.args.quantifier.part) (subst (FitsSomewhere (signature_of c.args.task.now.problem.domain)) c.requires.stands c.requires.fits) in
-    (omega (arith, c.decreases), (longer (trees c.args.nodes.now) (trees c.tuples.nodes) c.tuples.invariant.kept c.args.quantifier.part c.requires.part, (subst (FitsSomewhere (signature_of c.args.task.now.problem.domain)) (sym (stays (trees c.args.nodes.now) (trees c.tuples.nodes) c.tuples.invariant.kept c.args.quantifier.part c.requires.part)) fit.part, right-still (plain_problem c.args.task.now.problem) c.args.w.now (trees c.args.nodes.now) (trees c.tuples.nodes) c.tuples.invariant.kept c.args.known.now c.requires.known)))
+    (omega (arith, c.decreases), (longer (trees c.args.nodes.now) (trees c.tuples.nodes) c.tuples.invariant.kept c.args.quantifier.part c.requires.part, (subst (FitsSomewhere (signature_of c.args.task.now.problem.domain)) (sym (stays (trees c.args.nodes.now) (trees c.tuples.nodes) c.tuples.invariant.kept c.args.quantifier.part c.requires.part)) fit.part, (right-still (plain_problem c.args.task.now.problem) c.args.w.now (trees c.args.nodes.now) (trees c.tuples.nodes) c.tuples.invariant.kept c.args.known.now c.requires.known, c.tuples.invariant.remembers))))
 
 pub instances_residual-returns-in-Err-clause-kept : goal.instances_residual-returns-in-Err-clause-kept
 instances_residual-returns-in-Err-clause-kept t c =
@@ -455,6 +457,7 @@ instances_residual-tuples-preserved t c =
     let step = stepped-then (trees c.args.nodes.now) (trees c.tuples.nodes) c.tuples.invariant.kept c.args.quantifier c.requires.at (situation_of (plain_problem c.args.task.now.problem) c.args.w.now) c.tuples.tuples c.put_next.new.tuples c.tuples.env c.put_next.new.env c.put_next.result c.put_next.ensures in
     let come = has-come (plain_problem c.args.task.now.problem) c.args.w.now (assignment_in c.args.env.now) (node_vars (trees c.args.nodes.now) c.args.quantifier) (node_bound (trees c.args.nodes.now) c.args.quantifier) (tree_at (trees c.args.nodes.now) c.args.quantifier.part) c.tuples.tuples c.put_next.new.tuples c.tuples.env c.put_next.new.env c.put_next.result step c.tuples.invariant.reads fit.differ fit.occur c.tuples.invariant.others c.tuples-test.true in
     record {
+      remembers = c.residual_of.ensures.remembers;
       kept = λ i f h. c.in-Ok.ensures.kept i f (c.tuples.invariant.kept i f h);
       reads = step.reads (assignment_in c.args.env.now) c.tuples.invariant.reads;
       others = still-others (plain_problem c.args.task.now.problem) c.args.w.now (assignment_in c.args.env.now) (node_vars (trees c.args.nodes.now) c.args.quantifier) (node_bound (trees c.args.nodes.now) c.args.quantifier) (tree_at (trees c.args.nodes.now) c.args.quantifier.part) c.tuples.tuples c.put_next.new.tuples c.tuples.env c.put_next.new.env c.put_next.result step c.tuples.invariant.reads c.tuples.invariant.others c.residual_of.new.env c.residual_of.ensures.frame;
@@ -514,10 +517,10 @@ quantifier_residual-give_back-requires-clause-few t c =
 
 pub quantifier_residual-returns-clause-frame : goal.quantifier_residual-returns-clause-frame
 quantifier_residual-returns-clause-frame t c =
-    c.give_back.ensures c.args.env.now (subst (λ (f : FormulaTree). AreKept (vars_in f) c.args.env.now c.kept-outer.result) (sym (same-node (trees c.args.nodes.now) (trees c.instances_residual-answer.new.nodes) c.instances_residual-answer.ensures.kept c.args.quantifier c.requires.at)) c.kept-outer.ensures)
+    c.give_back.ensures c.args.env.now (subst (λ (f : FormulaTree). AreKept (vars_in f) c.args.env.now c.keep.new.outer) (sym (same-node (trees c.args.nodes.now) (trees c.instances_residual-answer.new.nodes) c.instances_residual-answer.ensures.kept c.args.quantifier c.requires.at)) c.keep.ensures)
     (subst (λ (f : FormulaTree). AgreeElsewhere (vars_in f) (assignment_in c.instances_residual-answer.new.env) (assignment_in c.args.env.now)) (sym (same-node (trees c.args.nodes.now) (trees c.instances_residual-answer.new.nodes) c.instances_residual-answer.ensures.kept c.args.quantifier c.requires.at)) c.instances_residual-answer.ensures.others)
 
 pub quantifier_residual-instances_residual-answer-requires : goal.quantifier_residual-instances_residual-answer-requires
 quantifier_residual-instances_residual-answer-requires t c =
     let known = c.new-known.ensures (plain_problem c.args.task.now.problem) c.args.w.now (trees c.args.nodes.now) in
-    (omega (arith, c.decreases), (c.requires.at, (c.requires.part, (c.requires.stands, (c.requires.fits, (known, (c.open-tuples.ensures.reads, c.open-tuples.ensures.before)))))))
+    (omega (arith, c.decreases), (c.requires.at, (c.requires.part, (c.requires.stands, (c.requires.fits, (known, (c.open.ensures.reads, (c.open.ensures.before, c.requires.remembers))))))))

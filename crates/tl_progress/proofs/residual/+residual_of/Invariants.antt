@@ -1,6 +1,7 @@
 use Rattle.std.proofs.Common.{◌≡◌, ◌+◌, ◌*◌, map, drop, length}
 use Rattle.tl_eval.specs.Frames.{assignment_in, AgreeElsewhere}
 use Rattle.tl_eval.specs.Reader.{ReadsTuples}
+use Rattle.tl_eval.specs.Remembered.{AreTruths}
 use Rattle.tl_nodes.specs.NodeTrees.{tree_at}
 use Rattle.tl_nodes.specs.Numbering.{Keeps}
 use Rattle.tl_nodes.specs.Numbers.{trees}
@@ -30,6 +31,7 @@ decreases-instances_residual l = 4 * l.quantifier.part + 3
 
 abbrev pub invariant-join_residual-loop-i : goal.invariant-join_residual-loop-i
 invariant-join_residual-loop-i l = record {
+  remembers : AreTruths (plain_problem l.task.problem) l.w l.memory;
   frame : l.env ≡ l.fn.env;
   kept : Keeps (trees l.fn.nodes) (trees l.nodes);
   passed : Gathered l.junction (trees l.nodes) l.answers (map (residual (plain_problem l.task.problem) l.w (assignment_in l.fn.env)) (drop l.i (join_parts (tree_at (trees l.fn.nodes) l.at)))) (map (residual (plain_problem l.task.problem) l.w (assignment_in l.fn.env)) (join_parts (tree_at (trees l.fn.nodes) l.at)));
@@ -40,6 +42,7 @@ decreases-instances_residual-tuples l = length (left_after (plain_problem l.task
 
 abbrev pub invariant-instances_residual-tuples : goal.invariant-instances_residual-tuples
 invariant-instances_residual-tuples l = record {
+  remembers : AreTruths (plain_problem l.task.problem) l.w l.memory;
   kept : Keeps (trees l.fn.nodes) (trees l.nodes);
   reads : ReadsTuples (node_vars (trees l.fn.nodes) l.quantifier) (assignment_in l.fn.env) (node_bound (trees l.fn.nodes) l.quantifier) l.tuples;
   others : AgreeElsewhere (node_vars (trees l.fn.nodes) l.quantifier) (assignment_in l.env) (assignment_in l.fn.env);

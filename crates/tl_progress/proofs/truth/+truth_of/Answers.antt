@@ -48,7 +48,7 @@ pub layer_truth-truth_of-requires : goal.layer_truth-truth_of-requires
 layer_truth-truth_of-requires t c =
     let low = part-lower true (trees c.args.nodes.now) c.args.at c.in-Not.part c.get.result.now c.get.ensures.tree c.get.ensures.parts (subst (λ n. Among c.in-Not.part (parts true n)) (sym c.in-Not.is) (inl refl)) in
     let less = low.less in
-    (omega (arith, less, c.decreases), (omega (arith, less, c.requires.at), (fits-below true (trees c.args.nodes.now) (signature_of c.args.task.now.problem.domain) c.args.at c.in-Not.part low.below c.requires.fits, c.requires.known)))
+    (omega (arith, less, c.decreases), (omega (arith, less, c.requires.at), (fits-below true (trees c.args.nodes.now) (signature_of c.args.task.now.problem.domain) c.args.at c.in-Not.part low.below c.requires.fits, (c.requires.known, c.requires.remembers))))
 
 pub layer_truth-returns-in-Ok-clause-truth : goal.layer_truth-returns-in-Ok-clause-truth
 layer_truth-returns-in-Ok-clause-truth t c = idle-Not (trees c.args.nodes.now) c.args.at c.get.result.now c.get.ensures.tree (plain_problem c.args.task.now.problem) c.args.w.now (assignment_in c.args.env.now) c.in-Not.part c.in-Ok.truth c.in-Not.is c.in-Ok.ensures.truth
@@ -62,7 +62,7 @@ pub layer_truth-truth_of-requires-in-Next : goal.layer_truth-truth_of-requires-i
 layer_truth-truth_of-requires-in-Next t c =
     let low = part-lower true (trees c.args.nodes.now) c.args.at c.in-Next.part c.get.result.now c.get.ensures.tree c.get.ensures.parts (subst (λ n. Among c.in-Next.part (parts true n)) (sym c.in-Next.is) (inl refl)) in
     let less = low.less in
-    (omega (arith, less, c.decreases), (omega (arith, less, c.requires.at), (fits-below true (trees c.args.nodes.now) (signature_of c.args.task.now.problem.domain) c.args.at c.in-Next.part low.below c.requires.fits, c.requires.known)))
+    (omega (arith, less, c.decreases), (omega (arith, less, c.requires.at), (fits-below true (trees c.args.nodes.now) (signature_of c.args.task.now.problem.domain) c.args.at c.in-Next.part low.below c.requires.fits, (c.requires.known, c.requires.remembers))))
 
 pub layer_truth-returns-in-Next-clause-truth : goal.layer_truth-returns-in-Next-clause-truth
 layer_truth-returns-in-Next-clause-truth t c = subst (λ (x : Bool). IfOk c.truth_of-in-Next.result (λ b. b ≡ x)) (idle-Next (trees c.args.nodes.now) c.args.at c.get.result.now c.get.ensures.tree (plain_problem c.args.task.now.problem) c.args.w.now (assignment_in c.args.env.now) c.in-Next.part c.in-Next.is) c.truth_of-in-Next.ensures.truth
@@ -76,7 +76,7 @@ pub layer_truth-truth_of-requires-in-Always : goal.layer_truth-truth_of-requires
 layer_truth-truth_of-requires-in-Always t c =
     let low = part-lower true (trees c.args.nodes.now) c.args.at c.in-Always.part c.get.result.now c.get.ensures.tree c.get.ensures.parts (subst (λ n. Among c.in-Always.part (parts true n)) (sym c.in-Always.is) (inl refl)) in
     let less = low.less in
-    (omega (arith, less, c.decreases), (omega (arith, less, c.requires.at), (fits-below true (trees c.args.nodes.now) (signature_of c.args.task.now.problem.domain) c.args.at c.in-Always.part low.below c.requires.fits, c.requires.known)))
+    (omega (arith, less, c.decreases), (omega (arith, less, c.requires.at), (fits-below true (trees c.args.nodes.now) (signature_of c.args.task.now.problem.domain) c.args.at c.in-Always.part low.below c.requires.fits, (c.requires.known, c.requires.remembers))))
 
 pub layer_truth-returns-in-Always-clause-truth : goal.layer_truth-returns-in-Always-clause-truth
 layer_truth-returns-in-Always-clause-truth t c = subst (λ (x : Bool). IfOk c.truth_of-in-Always.result (λ b. b ≡ x)) (idle-Always (trees c.args.nodes.now) c.args.at c.get.result.now c.get.ensures.tree (plain_problem c.args.task.now.problem) c.args.w.now (assignment_in c.args.env.now) c.in-Always.part c.in-Always.is) c.truth_of-in-Always.ensures.truth
@@ -90,7 +90,7 @@ pub layer_truth-truth_of-requires-in-Eventually : goal.layer_truth-truth_of-requ
 layer_truth-truth_of-requires-in-Eventually t c =
     let low = part-lower true (trees c.args.nodes.now) c.args.at c.in-Eventually.part c.get.result.now c.get.ensures.tree c.get.ensures.parts (subst (λ n. Among c.in-Eventually.part (parts true n)) (sym c.in-Eventually.is) (inl refl)) in
     let less = low.less in
-    (omega (arith, less, c.decreases), (omega (arith, less, c.requires.at), (fits-below true (trees c.args.nodes.now) (signature_of c.args.task.now.problem.domain) c.args.at c.in-Eventually.part low.below c.requires.fits, c.requires.known)))
+    (omega (arith, less, c.decreases), (omega (arith, less, c.requires.at), (fits-below true (trees c.args.nodes.now) (signature_of c.args.task.now.problem.domain) c.args.at c.in-Eventually.part low.below c.requires.fits, (c.requires.known, c.requires.remembers))))
 
 pub layer_truth-returns-in-Eventually-clause-truth : goal.layer_truth-returns-in-Eventually-clause-truth
 layer_truth-returns-in-Eventually-clause-truth t c = subst (λ (x : Bool). IfOk c.truth_of-in-Eventually.result (λ b. b ≡ x)) (idle-Eventually (trees c.args.nodes.now) c.args.at c.get.result.now c.get.ensures.tree (plain_problem c.args.task.now.problem) c.args.w.now (assignment_in c.args.env.now) c.in-Eventually.part c.in-Eventually.is) c.truth_of-in-Eventually.ensures.truth
@@ -104,7 +104,7 @@ pub layer_truth-truth_of-requires-in-Until : goal.layer_truth-truth_of-requires-
 layer_truth-truth_of-requires-in-Until t c =
     let low = part-lower true (trees c.args.nodes.now) c.args.at c.in-Until.second c.get.result.now c.get.ensures.tree c.get.ensures.parts (subst (λ n. Among c.in-Until.second (parts true n)) (sym c.in-Until.is) (inl refl)) in
     let less = low.less in
-    (omega (arith, less, c.decreases), (omega (arith, less, c.requires.at), (fits-below true (trees c.args.nodes.now) (signature_of c.args.task.now.problem.domain) c.args.at c.in-Until.second low.below c.requires.fits, c.requires.known)))
+    (omega (arith, less, c.decreases), (omega (arith, less, c.requires.at), (fits-below true (trees c.args.nodes.now) (signature_of c.args.task.now.problem.domain) c.args.at c.in-Until.second low.below c.requires.fits, (c.requires.known, c.requires.remembers))))
 
 pub layer_truth-returns-in-Until-clause-truth : goal.layer_truth-returns-in-Until-clause-truth
 layer_truth-returns-in-Until-clause-truth t c = subst (λ (x : Bool). IfOk c.truth_of-in-Until.result (λ b. b ≡ x)) (idle-Until (trees c.args.nodes.now) c.args.at c.get.result.now c.get.ensures.tree (plain_problem c.args.task.now.problem) c.args.w.now (assignment_in c.args.env.now) c.in-Until.field-0 c.in-Until.second c.in-Until.is) c.truth_of-in-Until.ensures.truth
@@ -118,7 +118,7 @@ pub layer_truth-truth_of-requires-in-Within : goal.layer_truth-truth_of-requires
 layer_truth-truth_of-requires-in-Within t c =
     let low = part-lower true (trees c.args.nodes.now) c.args.at c.in-Within.part c.get.result.now c.get.ensures.tree c.get.ensures.parts (subst (λ n. Among c.in-Within.part (parts true n)) (sym c.in-Within.is) (inl refl)) in
     let less = low.less in
-    (omega (arith, less, c.decreases), (omega (arith, less, c.requires.at), (fits-below true (trees c.args.nodes.now) (signature_of c.args.task.now.problem.domain) c.args.at c.in-Within.part low.below c.requires.fits, c.requires.known)))
+    (omega (arith, less, c.decreases), (omega (arith, less, c.requires.at), (fits-below true (trees c.args.nodes.now) (signature_of c.args.task.now.problem.domain) c.args.at c.in-Within.part low.below c.requires.fits, (c.requires.known, c.requires.remembers))))
 
 pub layer_truth-returns-in-Within-clause-truth : goal.layer_truth-returns-in-Within-clause-truth
 layer_truth-returns-in-Within-clause-truth t c = subst (λ (x : Bool). IfOk c.truth_of-in-Within.result (λ b. b ≡ x)) (idle-Within (trees c.args.nodes.now) c.args.at c.get.result.now c.get.ensures.tree (plain_problem c.args.task.now.problem) c.args.w.now (assignment_in c.args.env.now) c.in-Within.field-0 c.in-Within.part c.in-Within.is) c.truth_of-in-Within.ensures.truth
@@ -132,7 +132,7 @@ pub layer_truth-truth_of-requires-in-During : goal.layer_truth-truth_of-requires
 layer_truth-truth_of-requires-in-During t c =
     let low = part-lower true (trees c.args.nodes.now) c.args.at c.in-During.part c.get.result.now c.get.ensures.tree c.get.ensures.parts (subst (λ n. Among c.in-During.part (parts true n)) (sym c.in-During.is) (inl refl)) in
     let less = low.less in
-    (omega (arith, less, c.decreases), (omega (arith, less, c.requires.at), (fits-below true (trees c.args.nodes.now) (signature_of c.args.task.now.problem.domain) c.args.at c.in-During.part low.below c.requires.fits, c.requires.known)))
+    (omega (arith, less, c.decreases), (omega (arith, less, c.requires.at), (fits-below true (trees c.args.nodes.now) (signature_of c.args.task.now.problem.domain) c.args.at c.in-During.part low.below c.requires.fits, (c.requires.known, c.requires.remembers))))
 
 pub layer_truth-returns-in-During-clause-truth : goal.layer_truth-returns-in-During-clause-truth
 layer_truth-returns-in-During-clause-truth t c = subst (λ (x : Bool). IfOk c.truth_of-in-During.result (λ b. b ≡ x)) (idle-During (trees c.args.nodes.now) c.args.at c.get.result.now c.get.ensures.tree (plain_problem c.args.task.now.problem) c.args.w.now (assignment_in c.args.env.now) c.in-During.field-0 c.in-During.part c.in-During.is) c.truth_of-in-During.ensures.truth
@@ -144,7 +144,7 @@ layer_truth-returns-in-During-clause-cause t c =
 
 pub layer_truth-join_truth-requires : goal.layer_truth-join_truth-requires
 layer_truth-join_truth-requires t c =
-    (omega (arith, c.decreases), (c.requires.at, (below-And (trees c.args.nodes.now) c.args.at c.get.result.now c.get.ensures.parts c.in-And.parts c.in-And.is, (subst (FitsSomewhere (signature_of c.args.task.now.problem.domain)) (shown-And (trees c.args.nodes.now) c.args.at c.get.result.now c.get.ensures.tree c.in-And.parts c.in-And.is) c.requires.fits, c.requires.known))))
+    (omega (arith, c.decreases), (c.requires.at, (below-And (trees c.args.nodes.now) c.args.at c.get.result.now c.get.ensures.parts c.in-And.parts c.in-And.is, (subst (FitsSomewhere (signature_of c.args.task.now.problem.domain)) (shown-And (trees c.args.nodes.now) c.args.at c.get.result.now c.get.ensures.tree c.in-And.parts c.in-And.is) c.requires.fits, (c.requires.known, c.requires.remembers)))))
 
 pub layer_truth-returns-in-And-clause-truth : goal.layer_truth-returns-in-And-clause-truth
 layer_truth-returns-in-And-clause-truth t c =
@@ -156,7 +156,7 @@ layer_truth-returns-in-And-clause-cause t c =
 
 pub layer_truth-join_truth-requires-in-Or : goal.layer_truth-join_truth-requires-in-Or
 layer_truth-join_truth-requires-in-Or t c =
-    (omega (arith, c.decreases), (c.requires.at, (below-Or (trees c.args.nodes.now) c.args.at c.get.result.now c.get.ensures.parts c.in-Or.parts c.in-Or.is, (subst (FitsSomewhere (signature_of c.args.task.now.problem.domain)) (shown-Or (trees c.args.nodes.now) c.args.at c.get.result.now c.get.ensures.tree c.in-Or.parts c.in-Or.is) c.requires.fits, c.requires.known))))
+    (omega (arith, c.decreases), (c.requires.at, (below-Or (trees c.args.nodes.now) c.args.at c.get.result.now c.get.ensures.parts c.in-Or.parts c.in-Or.is, (subst (FitsSomewhere (signature_of c.args.task.now.problem.domain)) (shown-Or (trees c.args.nodes.now) c.args.at c.get.result.now c.get.ensures.tree c.in-Or.parts c.in-Or.is) c.requires.fits, (c.requires.known, c.requires.remembers)))))
 
 pub layer_truth-returns-in-Or-clause-truth : goal.layer_truth-returns-in-Or-clause-truth
 layer_truth-returns-in-Or-clause-truth t c =
@@ -169,7 +169,7 @@ layer_truth-returns-in-Or-clause-cause t c =
 pub layer_truth-quantifier_truth-requires : goal.layer_truth-quantifier_truth-requires
 layer_truth-quantifier_truth-requires t c =
     let less = less-ForAll (trees c.args.nodes.now) c.args.at c.get.result.now c.get.ensures.tree c.get.ensures.parts c.in-ForAll.vars c.in-ForAll.bound c.in-ForAll.part c.in-ForAll.is in
-    (omega (arith, less, c.decreases), (omega (arith, less, c.requires.at), (subst (FitsSomewhere (signature_of c.args.task.now.problem.domain)) (shown-ForAll (trees c.args.nodes.now) c.args.at c.get.result.now c.get.ensures.tree c.in-ForAll.vars c.in-ForAll.bound c.in-ForAll.part c.in-ForAll.is) c.requires.fits, c.requires.known)))
+    (omega (arith, less, c.decreases), (omega (arith, less, c.requires.at), (subst (FitsSomewhere (signature_of c.args.task.now.problem.domain)) (shown-ForAll (trees c.args.nodes.now) c.args.at c.get.result.now c.get.ensures.tree c.in-ForAll.vars c.in-ForAll.bound c.in-ForAll.part c.in-ForAll.is) c.requires.fits, (c.requires.known, c.requires.remembers))))
 
 pub layer_truth-returns-in-ForAll-clause-truth : goal.layer_truth-returns-in-ForAll-clause-truth
 layer_truth-returns-in-ForAll-clause-truth t c =
@@ -182,7 +182,7 @@ layer_truth-returns-in-ForAll-clause-cause t c =
 pub layer_truth-quantifier_truth-requires-in-Exists : goal.layer_truth-quantifier_truth-requires-in-Exists
 layer_truth-quantifier_truth-requires-in-Exists t c =
     let less = less-Exists (trees c.args.nodes.now) c.args.at c.get.result.now c.get.ensures.tree c.get.ensures.parts c.in-Exists.vars c.in-Exists.bound c.in-Exists.part c.in-Exists.is in
-    (omega (arith, less, c.decreases), (omega (arith, less, c.requires.at), (subst (FitsSomewhere (signature_of c.args.task.now.problem.domain)) (shown-Exists (trees c.args.nodes.now) c.args.at c.get.result.now c.get.ensures.tree c.in-Exists.vars c.in-Exists.bound c.in-Exists.part c.in-Exists.is) c.requires.fits, c.requires.known)))
+    (omega (arith, less, c.decreases), (omega (arith, less, c.requires.at), (subst (FitsSomewhere (signature_of c.args.task.now.problem.domain)) (shown-Exists (trees c.args.nodes.now) c.args.at c.get.result.now c.get.ensures.tree c.in-Exists.vars c.in-Exists.bound c.in-Exists.part c.in-Exists.is) c.requires.fits, (c.requires.known, c.requires.remembers))))
 
 pub layer_truth-returns-in-Exists-clause-truth : goal.layer_truth-returns-in-Exists-clause-truth
 layer_truth-returns-in-Exists-clause-truth t c =
@@ -195,7 +195,7 @@ layer_truth-returns-in-Exists-clause-cause t c =
 -- ---- the parts of a join
 
 pub join_truth-loop-part-init : goal.join_truth-loop-part-init
-join_truth-loop-part-init t c = record { frame = refl; passed = refl }
+join_truth-loop-part-init t c = record { frame = refl; passed = refl; remembers = c.requires.remembers }
 
 pub join_truth-truth_of-requires : goal.join_truth-truth_of-requires
 join_truth-truth_of-requires t c =
@@ -203,7 +203,7 @@ join_truth-truth_of-requires t c =
     let below = subst (λ (ids : List ℕ). all_below c.args.at ids ≡ true) (sym c.as_slice-part-items.ensures) c.requires.below in
     let less = at-below c.args.at c.as_slice-part-items.result.now c.loop-part.part-index below within in
     let fits = subst (λ (ids : List ℕ). FitsSomewhere (signature_of c.args.task.now.problem.domain) (tree_of_node (trees c.args.nodes.now) (join_node c.args.junction ids))) (sym c.as_slice-part-items.ensures) c.requires.fits in
-    (omega (arith, less, c.decreases), (omega (arith, less, c.requires.at), (part-fits true (trees c.args.nodes.now) c.args.junction c.as_slice-part-items.result.now (get_or c.as_slice-part-items.result.now c.loop-part.part-index 0) (among-at c.as_slice-part-items.result.now c.loop-part.part-index within) (signature_of c.args.task.now.problem.domain) fits, c.requires.known)))
+    (omega (arith, less, c.decreases), (omega (arith, less, c.requires.at), (part-fits true (trees c.args.nodes.now) c.args.junction c.as_slice-part-items.result.now (get_or c.as_slice-part-items.result.now c.loop-part.part-index 0) (among-at c.as_slice-part-items.result.now c.loop-part.part-index within) (signature_of c.args.task.now.problem.domain) fits, (c.requires.known, c.loop-part.invariant.remembers))))
 
 pub join_truth-returns-in-Err-clause-cause : goal.join_truth-returns-in-Err-clause-cause
 join_truth-returns-in-Err-clause-cause t c =
@@ -217,6 +217,7 @@ join_truth-returns-in-Err-clause-frame t c = c.truth_of.ensures.frame ∙ c.loop
 
 pub join_truth-loop-part-preserved : goal.join_truth-loop-part-preserved
 join_truth-loop-part-preserved t c = record {
+  remembers = c.truth_of.ensures.remembers;
   frame = c.truth_of.ensures.frame ∙ c.loop-part.invariant.frame;
   passed = ids-on (λ (k : ℕ). idly_true (plain_problem c.args.task.now.problem) c.args.w.now (assignment_in c.args.env.now) (tree_at (trees c.args.nodes.now) k)) c.deciding_truth-stop.result c.as_slice-part-items.result.now c.loop-part.part-index c.loop-part.invariant.passed c.loop-part-test.true c.in-Ok.truth (subst (λ (v : List (Option Value)). c.in-Ok.truth ≡ idly_true (plain_problem c.args.task.now.problem) c.args.w.now (assignment_in v) (tree_at (trees c.args.nodes.now) (get_or c.as_slice-part-items.result.now c.loop-part.part-index 0))) c.loop-part.invariant.frame c.in-Ok.ensures.truth) c.if-truth-stop.false;
 }
@@ -239,18 +240,18 @@ join_truth-returns-clause-frame t c = c.loop-part.invariant.frame
 
 -- ---- the instances of a quantifier
 
-pub quantifier_truth-open-tuples-requires-clause-differ : goal.quantifier_truth-open-tuples-requires-clause-differ
-quantifier_truth-open-tuples-requires-clause-differ t c =
+pub quantifier_truth-open_in_place-requires-clause-differ : goal.quantifier_truth-open_in_place-requires-clause-differ
+quantifier_truth-open_in_place-requires-clause-differ t c =
     let fit = quantifier-fits c.args.task.now.problem c.args.junction c.args.vars.now c.args.bound.now (tree_at (trees c.args.nodes.now) c.args.part) c.requires.fits in
     fit.differ
 
-pub quantifier_truth-open-tuples-requires-clause-occur : goal.quantifier_truth-open-tuples-requires-clause-occur
-quantifier_truth-open-tuples-requires-clause-occur t c =
+pub quantifier_truth-open_in_place-requires-clause-occur : goal.quantifier_truth-open_in_place-requires-clause-occur
+quantifier_truth-open_in_place-requires-clause-occur t c =
     let fit = quantifier-fits c.args.task.now.problem c.args.junction c.args.vars.now c.args.bound.now (tree_at (trees c.args.nodes.now) c.args.part) c.requires.fits in
     fit.occur
 
-pub quantifier_truth-open-tuples-requires-clause-fits : goal.quantifier_truth-open-tuples-requires-clause-fits
-quantifier_truth-open-tuples-requires-clause-fits t c =
+pub quantifier_truth-open_in_place-requires-clause-fits : goal.quantifier_truth-open_in_place-requires-clause-fits
+quantifier_truth-open_in_place-requires-clause-fits t c =
     let fit = quantifier-fits c.args.task.now.problem c.args.junction c.args.vars.now c.args.bound.now (tree_at (trees c.args.nodes.now) c.args.part) c.requires.fits in
     fit.bound
 
@@ -261,7 +262,7 @@ quantifier_truth-give_back-requires-clause-slots t c =
 
 pub instances_truth-tuples-init : goal.instances_truth-tuples-init
 instances_truth-tuples-init t c =
-    record { reads = c.requires.reads; others = λ u. refl; passed = subst (Open (plain_problem c.args.task.now.problem) c.args.w.now (assignment_in c.args.env.now) c.args.vars.now c.args.bound.now (tree_at (trees c.args.nodes.now) c.args.part) c.deciding_truth-stop.result) (sym c.requires.before) (open-begun (plain_problem c.args.task.now.problem) c.args.w.now (assignment_in c.args.env.now) c.args.vars.now c.args.bound.now (tree_at (trees c.args.nodes.now) c.args.part) c.deciding_truth-stop.result) }
+    record { remembers = c.requires.remembers; reads = c.requires.reads; others = λ u. refl; passed = subst (Open (plain_problem c.args.task.now.problem) c.args.w.now (assignment_in c.args.env.now) c.args.vars.now c.args.bound.now (tree_at (trees c.args.nodes.now) c.args.part) c.deciding_truth-stop.result) (sym c.requires.before) (open-begun (plain_problem c.args.task.now.problem) c.args.w.now (assignment_in c.args.env.now) c.args.vars.now c.args.bound.now (tree_at (trees c.args.nodes.now) c.args.part) c.deciding_truth-stop.result) }
 
 pub instances_truth-put_instance-requires-clause-slots : goal.instances_truth-put_instance-requires-clause-slots
 instances_truth-put_instance-requires-clause-slots t c =
@@ -271,7 +272,7 @@ instances_truth-put_instance-requires-clause-slots t c =
 pub instances_truth-truth_of-requires : goal.instances_truth-truth_of-requires
 instances_truth-truth_of-requires t c =
     let fit = quantifier-fits c.args.task.now.problem c.args.junction c.args.vars.now c.args.bound.now (tree_at (trees c.args.nodes.now) c.args.part) c.requires.fits in
-    (omega (arith, c.decreases), (c.requires.part, (fit.part, c.requires.known)))
+    (omega (arith, c.decreases), (c.requires.part, (fit.part, (c.requires.known, c.tuples.invariant.remembers))))
 
 pub instances_truth-returns-then-truth-stop-clause-truth : goal.instances_truth-returns-then-truth-stop-clause-truth
 instances_truth-returns-then-truth-stop-clause-truth t c =
@@ -296,6 +297,7 @@ instances_truth-tuples-preserved t c =
     let fit = quantifier-fits c.args.task.now.problem c.args.junction c.args.vars.now c.args.bound.now (tree_at (trees c.args.nodes.now) c.args.part) c.requires.fits in
     let come = has-come (plain_problem c.args.task.now.problem) c.args.w.now (assignment_in c.args.env.now) c.args.vars.now c.args.bound.now (tree_at (trees c.args.nodes.now) c.args.part) c.tuples.tuples c.put_instance.new.tuples c.tuples.env c.put_instance.new.env c.put_instance.result c.put_instance.ensures c.tuples.invariant.reads fit.differ fit.occur c.tuples.invariant.others c.tuples-test.true in
     record {
+      remembers = c.truth_of.ensures.remembers;
       reads = c.put_instance.ensures.reads (assignment_in c.args.env.now) c.tuples.invariant.reads;
       others = still-others (plain_problem c.args.task.now.problem) c.args.w.now (assignment_in c.args.env.now) c.args.vars.now c.args.bound.now (tree_at (trees c.args.nodes.now) c.args.part) c.tuples.tuples c.put_instance.new.tuples c.tuples.env c.put_instance.new.env c.put_instance.result c.put_instance.ensures c.tuples.invariant.reads c.tuples.invariant.others c.truth_of.new.env c.truth_of.ensures.frame;
       passed = subst (Open (plain_problem c.args.task.now.problem) c.args.w.now (assignment_in c.args.env.now) c.args.vars.now c.args.bound.now (tree_at (trees c.args.nodes.now) c.args.part) c.deciding_truth-stop.result) (sym come.is) (open-on (plain_problem c.args.task.now.problem) c.args.w.now (assignment_in c.args.env.now) c.args.vars.now c.args.bound.now (tree_at (trees c.args.nodes.now) c.args.part) fit.differ fit.occur c.tuples.tuples.tuple c.put_instance.new.tuples.tuple come.tuple come.next come.is c.deciding_truth-stop.result c.in-Ok.truth c.tuples.invariant.passed (subst (λ (d : Assignment). c.in-Ok.truth ≡ idly_true (plain_problem c.args.task.now.problem) c.args.w.now d (tree_at (trees c.args.nodes.now) c.args.part)) come.here c.in-Ok.ensures.truth) c.if-truth-stop.false);

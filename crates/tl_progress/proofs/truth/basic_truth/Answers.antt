@@ -3,5 +3,5 @@ use Rattle.tl_syntax.specs.TreeOfFormula.{tree_of_formula}
 use Rattle.tl_progress.proofs.Basics.{basic-fits}
 use Rattle.tl_progress.proofs.truth.basic_truth.Goals as goal
 
-pub state-requires-clause-fits : goal.state-requires-clause-fits
-state-requires-clause-fits c = basic-fits (signature_of c.args.task.now.problem.domain) c.requires.fits.around (tree_of_formula c.args.f.now) c.requires.basic c.requires.fits.fits
+pub state_in-requires-clause-fits : goal.state_in-requires-clause-fits
+state_in-requires-clause-fits c = basic-fits (signature_of c.args.task.now.problem.domain) c.requires.fits.around (tree_of_formula c.args.f.now) c.requires.basic c.requires.fits.fits

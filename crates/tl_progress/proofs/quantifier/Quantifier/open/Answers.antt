@@ -14,53 +14,53 @@ use Rattle.tl_progress.proofs.Instances.{quantifier-fits}
 use Rattle.tl_progress.proofs.QuantifierNodes.{vars-ForAll, vars-Exists, bound-ForAll, bound-Exists, no-quantifier}
 use Rattle.tl_progress.proofs.quantifier.Quantifier.open.Goals as goal
 
-pub open-requires-clause-differ : goal.open-requires-clause-differ
-open-requires-clause-differ c =
+pub open_in_place-requires-clause-differ : goal.open_in_place-requires-clause-differ
+open_in_place-requires-clause-differ c =
     let q = quantifier-fits c.args.task.now.problem c.args.self.junction (node_vars (trees c.args.nodes.now) c.args.self) (node_bound (trees c.args.nodes.now) c.args.self) (tree_at (trees c.args.nodes.now) c.args.self.part) (subst (FitsSomewhere (signature_of c.args.task.now.problem.domain)) c.requires.stands c.requires.fits) in
     subst DifferInSlot (vars-ForAll (trees c.args.nodes.now) c.args.self.at c.get.result.now c.get.ensures.tree c.in-ForAll.vars c.in-ForAll.bound c.in-ForAll.field-2 c.in-ForAll.is) q.differ
 
-pub open-requires-clause-occur : goal.open-requires-clause-occur
-open-requires-clause-occur c =
+pub open_in_place-requires-clause-occur : goal.open_in_place-requires-clause-occur
+open_in_place-requires-clause-occur c =
     let q = quantifier-fits c.args.task.now.problem c.args.self.junction (node_vars (trees c.args.nodes.now) c.args.self) (node_bound (trees c.args.nodes.now) c.args.self) (tree_at (trees c.args.nodes.now) c.args.self.part) (subst (FitsSomewhere (signature_of c.args.task.now.problem.domain)) c.requires.stands c.requires.fits) in
     subst (λ (ss : List Var). OccurIn ss c.in-ForAll.bound) (vars-ForAll (trees c.args.nodes.now) c.args.self.at c.get.result.now c.get.ensures.tree c.in-ForAll.vars c.in-ForAll.bound c.in-ForAll.field-2 c.in-ForAll.is)
     (subst (OccurIn (node_vars (trees c.args.nodes.now) c.args.self)) (bound-ForAll (trees c.args.nodes.now) c.args.self.at c.get.result.now c.get.ensures.tree c.in-ForAll.vars c.in-ForAll.bound c.in-ForAll.field-2 c.in-ForAll.is) q.occur)
 
-pub open-requires-clause-fits : goal.open-requires-clause-fits
-open-requires-clause-fits c =
+pub open_in_place-requires-clause-fits : goal.open_in_place-requires-clause-fits
+open_in_place-requires-clause-fits c =
     let q = quantifier-fits c.args.task.now.problem c.args.self.junction (node_vars (trees c.args.nodes.now) c.args.self) (node_bound (trees c.args.nodes.now) c.args.self) (tree_at (trees c.args.nodes.now) c.args.self.part) (subst (FitsSomewhere (signature_of c.args.task.now.problem.domain)) c.requires.stands c.requires.fits) in
     subst (BoundFits (signature_of c.args.task.now.problem.domain)) (bound-ForAll (trees c.args.nodes.now) c.args.self.at c.get.result.now c.get.ensures.tree c.in-ForAll.vars c.in-ForAll.bound c.in-ForAll.field-2 c.in-ForAll.is) q.bound
 
 pub returns-in-ForAll-clause-reads : goal.returns-in-ForAll-clause-reads
 returns-in-ForAll-clause-reads c =
-    subst (λ (ss : List Var). ReadsTuples ss (assignment_in c.args.env.now) (node_bound (trees c.args.nodes.now) c.args.self) c.open.result) (sym (vars-ForAll (trees c.args.nodes.now) c.args.self.at c.get.result.now c.get.ensures.tree c.in-ForAll.vars c.in-ForAll.bound c.in-ForAll.field-2 c.in-ForAll.is))
-    (subst (λ (b : Bound). ReadsTuples c.in-ForAll.vars (assignment_in c.args.env.now) b c.open.result) (sym (bound-ForAll (trees c.args.nodes.now) c.args.self.at c.get.result.now c.get.ensures.tree c.in-ForAll.vars c.in-ForAll.bound c.in-ForAll.field-2 c.in-ForAll.is)) c.open.ensures.reads)
+    subst (λ (ss : List Var). ReadsTuples ss (assignment_in c.args.env.now) (node_bound (trees c.args.nodes.now) c.args.self) c.open_in_place.new.self) (sym (vars-ForAll (trees c.args.nodes.now) c.args.self.at c.get.result.now c.get.ensures.tree c.in-ForAll.vars c.in-ForAll.bound c.in-ForAll.field-2 c.in-ForAll.is))
+    (subst (λ (b : Bound). ReadsTuples c.in-ForAll.vars (assignment_in c.args.env.now) b c.open_in_place.new.self) (sym (bound-ForAll (trees c.args.nodes.now) c.args.self.at c.get.result.now c.get.ensures.tree c.in-ForAll.vars c.in-ForAll.bound c.in-ForAll.field-2 c.in-ForAll.is)) c.open_in_place.ensures.reads)
 
-pub open-requires-in-Exists-clause-differ : goal.open-requires-in-Exists-clause-differ
-open-requires-in-Exists-clause-differ c =
+pub open_in_place-requires-in-Exists-clause-differ : goal.open_in_place-requires-in-Exists-clause-differ
+open_in_place-requires-in-Exists-clause-differ c =
     let q = quantifier-fits c.args.task.now.problem c.args.self.junction (node_vars (trees c.args.nodes.now) c.args.self) (node_bound (trees c.args.nodes.now) c.args.self) (tree_at (trees c.args.nodes.now) c.args.self.part) (subst (FitsSomewhere (signature_of c.args.task.now.problem.domain)) c.requires.stands c.requires.fits) in
     subst DifferInSlot (vars-Exists (trees c.args.nodes.now) c.args.self.at c.get.result.now c.get.ensures.tree c.in-Exists.vars c.in-Exists.bound c.in-Exists.field-2 c.in-Exists.is) q.differ
 
-pub open-requires-in-Exists-clause-occur : goal.open-requires-in-Exists-clause-occur
-open-requires-in-Exists-clause-occur c =
+pub open_in_place-requires-in-Exists-clause-occur : goal.open_in_place-requires-in-Exists-clause-occur
+open_in_place-requires-in-Exists-clause-occur c =
     let q = quantifier-fits c.args.task.now.problem c.args.self.junction (node_vars (trees c.args.nodes.now) c.args.self) (node_bound (trees c.args.nodes.now) c.args.self) (tree_at (trees c.args.nodes.now) c.args.self.part) (subst (FitsSomewhere (signature_of c.args.task.now.problem.domain)) c.requires.stands c.requires.fits) in
     subst (λ (ss : List Var). OccurIn ss c.in-Exists.bound) (vars-Exists (trees c.args.nodes.now) c.args.self.at c.get.result.now c.get.ensures.tree c.in-Exists.vars c.in-Exists.bound c.in-Exists.field-2 c.in-Exists.is)
     (subst (OccurIn (node_vars (trees c.args.nodes.now) c.args.self)) (bound-Exists (trees c.args.nodes.now) c.args.self.at c.get.result.now c.get.ensures.tree c.in-Exists.vars c.in-Exists.bound c.in-Exists.field-2 c.in-Exists.is) q.occur)
 
-pub open-requires-in-Exists-clause-fits : goal.open-requires-in-Exists-clause-fits
-open-requires-in-Exists-clause-fits c =
+pub open_in_place-requires-in-Exists-clause-fits : goal.open_in_place-requires-in-Exists-clause-fits
+open_in_place-requires-in-Exists-clause-fits c =
     let q = quantifier-fits c.args.task.now.problem c.args.self.junction (node_vars (trees c.args.nodes.now) c.args.self) (node_bound (trees c.args.nodes.now) c.args.self) (tree_at (trees c.args.nodes.now) c.args.self.part) (subst (FitsSomewhere (signature_of c.args.task.now.problem.domain)) c.requires.stands c.requires.fits) in
     subst (BoundFits (signature_of c.args.task.now.problem.domain)) (bound-Exists (trees c.args.nodes.now) c.args.self.at c.get.result.now c.get.ensures.tree c.in-Exists.vars c.in-Exists.bound c.in-Exists.field-2 c.in-Exists.is) q.bound
 
 pub returns-in-Exists-clause-reads : goal.returns-in-Exists-clause-reads
 returns-in-Exists-clause-reads c =
-    subst (λ (ss : List Var). ReadsTuples ss (assignment_in c.args.env.now) (node_bound (trees c.args.nodes.now) c.args.self) c.open-in-Exists.result) (sym (vars-Exists (trees c.args.nodes.now) c.args.self.at c.get.result.now c.get.ensures.tree c.in-Exists.vars c.in-Exists.bound c.in-Exists.field-2 c.in-Exists.is))
-    (subst (λ (b : Bound). ReadsTuples c.in-Exists.vars (assignment_in c.args.env.now) b c.open-in-Exists.result) (sym (bound-Exists (trees c.args.nodes.now) c.args.self.at c.get.result.now c.get.ensures.tree c.in-Exists.vars c.in-Exists.bound c.in-Exists.field-2 c.in-Exists.is)) c.open-in-Exists.ensures.reads)
+    subst (λ (ss : List Var). ReadsTuples ss (assignment_in c.args.env.now) (node_bound (trees c.args.nodes.now) c.args.self) c.open_in_place-in-Exists.new.self) (sym (vars-Exists (trees c.args.nodes.now) c.args.self.at c.get.result.now c.get.ensures.tree c.in-Exists.vars c.in-Exists.bound c.in-Exists.field-2 c.in-Exists.is))
+    (subst (λ (b : Bound). ReadsTuples c.in-Exists.vars (assignment_in c.args.env.now) b c.open_in_place-in-Exists.new.self) (sym (bound-Exists (trees c.args.nodes.now) c.args.self.at c.get.result.now c.get.ensures.tree c.in-Exists.vars c.in-Exists.bound c.in-Exists.field-2 c.in-Exists.is)) c.open_in_place-in-Exists.ensures.reads)
 
 pub returns-in-ForAll-clause-few : goal.returns-in-ForAll-clause-few
-returns-in-ForAll-clause-few c = subst (λ (ss : List Var). length ss ≤ 9) (sym (vars-ForAll (trees c.args.nodes.now) c.args.self.at c.get.result.now c.get.ensures.tree c.in-ForAll.vars c.in-ForAll.bound c.in-ForAll.field-2 c.in-ForAll.is)) c.open.ensures.few
+returns-in-ForAll-clause-few c = subst (λ (ss : List Var). length ss ≤ 9) (sym (vars-ForAll (trees c.args.nodes.now) c.args.self.at c.get.result.now c.get.ensures.tree c.in-ForAll.vars c.in-ForAll.bound c.in-ForAll.field-2 c.in-ForAll.is)) c.open_in_place.ensures.few
 
 pub returns-in-Exists-clause-few : goal.returns-in-Exists-clause-few
-returns-in-Exists-clause-few c = subst (λ (ss : List Var). length ss ≤ 9) (sym (vars-Exists (trees c.args.nodes.now) c.args.self.at c.get.result.now c.get.ensures.tree c.in-Exists.vars c.in-Exists.bound c.in-Exists.field-2 c.in-Exists.is)) c.open-in-Exists.ensures.few
+returns-in-Exists-clause-few c = subst (λ (ss : List Var). length ss ≤ 9) (sym (vars-Exists (trees c.args.nodes.now) c.args.self.at c.get.result.now c.get.ensures.tree c.in-Exists.vars c.in-Exists.bound c.in-Exists.field-2 c.in-Exists.is)) c.open_in_place-in-Exists.ensures.few
 
 pub unreachable-requires : goal.unreachable-requires
 unreachable-requires c = (no-quantifier (trees c.args.nodes.now) c.args.self.at c.get.result.now c.get.ensures.tree c.get.ensures.parts c.in_default.not-ForAll c.in_default.not-Exists c.args.self refl c.requires.stands)
