@@ -12,6 +12,7 @@ use tl_eval::{Env, TupleReader, state, term};
 use tl_syntax::{Bound, Effect, Effects, Fact, Facts, PlaceValue, PlaceValues, Term, Terms, Vars};
 
 /// Collects a fact whose arguments are the values of terms: false where one of them is undefined. The frame stays as it was.
+#[inline(always)]
 fn collect_fact(
     here: &Here,
     env: &mut Env,
@@ -163,7 +164,8 @@ fn collect_each(
 {
     let vars = each.vars;
     let bound = each.bound;
-    let mut tuples = TupleReader::open(here.task, env, vars, bound);
+    let mut tuples = TupleReader::unopened();
+    tuples.open_in_place(here.task, env, vars, bound);
     while tuples.next(here.task, here.world, bound) {
         env.put_values(vars.as_slice(), tuples.values());
         match collect_all(here, env, each.effects, changes) {

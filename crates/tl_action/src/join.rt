@@ -75,7 +75,8 @@ fn join_bound(
     let new_parameters = order.new_parameters.as_slice();
     let vars = &new_parameters[j];
     let bound = order.bounds.bound(j);
-    let mut tuples = TupleReader::open(here.task, env, vars, bound);
+    let mut tuples = TupleReader::unopened();
+    tuples.open_in_place(here.task, env, vars, bound);
     while tuples.next(here.task, here.world, bound) {
         env.put_values(vars.as_slice(), tuples.values());
         match join(here, env, order, j + 1, rows) {

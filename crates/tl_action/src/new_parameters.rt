@@ -26,6 +26,7 @@ fn is_among(var: &Var, args: &[Arg]) -> bool
 }
 
 /// Whether the variable stands in the bound. It takes no memory.
+#[inline(always)]
 pub(crate) fn stands_in(var: &Var, b: &Bound) -> bool
     ensures { result ≡ stands_in var.now b.now }
 {

@@ -1,16 +1,15 @@
 // The values of terms and of variables.
-ghost use Rattle.std.specs.Prelude.{◌≡◌, ◌<◌, IfOk};
+ghost use Rattle.std.specs.Prelude.{◌≡◌, IfOk};
 ghost use Rattle.tl_action.specs.UnderFrames.{row_here, TermsFitHere, AnswersValues};
-ghost use Rattle.tl_eval.specs.Frames.{assignment_in};
-ghost use Rattle.tl_syntax.specs.Lists.{Each};
 
 use crate::ActFault;
 use crate::here::Here;
 use tl_eval::{Env, term};
-use tl_syntax::{NoMemory, Term, Terms, Value, Values, Var};
+use tl_syntax::{NoMemory, Terms, Values, Var};
 
 /// The values of terms in a world, under the frame's values, where all are defined; or a fault. The frame stays as it was.
 /// The terms are evaluated from left to right up to the first undefined one.
+#[inline(always)]
 pub(crate) fn values_of(
     here: &Here,
     env: &mut Env,
@@ -31,27 +30,13 @@ pub(crate) fn values_of(
     Ok(Some(values))
 }
 
-/// The value of the variable in the frame, where it has one. The frame stays as it was. It takes no memory.
-fn value_of_variable(here: &Here, env: &mut Env, var: &Var) -> Option<Value>
-    requires { var.now.slot < 32 }
-    ensures value { result ≡ assignment_in env.old var.now.slot }
-    ensures frame { env.new ≡ env.old }
-{
-    match term(here.task, here.world, env, &Term::Var(*var)) {
-        Ok(value) => value,
-        Err(_) => None,
-    }
-}
-
-/// The values of variables in the frame, in their order, where all have one. The frame stays as it was. It fails for want of memory alone.
-pub(crate) fn row_of(here: &Here, env: &mut Env, vars: &[Var]) -> Result<Option<Values>, NoMemory>
-    requires { Each (λ s. s.slot < 32) vars.now }
-    ensures row { IfOk result (λ row. row ≡ row_here here.now env.old vars.now) }
-    ensures frame { env.new ≡ env.old }
+/// The values of variables in the frame, in their order, where all have one. It fails for want of memory alone.
+pub(crate) fn row_of(here: &Here, env: &Env, vars: &[Var]) -> Result<Option<Values>, NoMemory>
+    ensures { IfOk result (λ row. row ≡ row_here here.now env.now vars.now) }
 {
     let mut row = Values::new(here.alloc);
     for var in vars {
-        match value_of_variable(here, env, var) {
+        match env.value(var.slot) {
             Some(value) => row.push(value)?,
             None => return Ok(None),
         }

@@ -150,9 +150,9 @@ collect_all-returns-clause-changes t c =
 pub collect_each-loop-vars-init : goal.collect_each-loop-vars-init
 collect_each-loop-vars-init t c =
     record {
-      reads = c.open-tuples.ensures.reads;
+      reads = c.open_in_place.ensures.reads;
       frame = λ around fresh fits. agree-self around (assignment_in c.args.env.now);
-      passed = tuples-begun (plain_problem c.args.here.now.task.now.problem) c.args.here.now.world.now (assignment_in c.args.env.now) c.args.each.now.vars.now (tree_of_effects c.args.each.now.effects.now) (all (situation_of (plain_problem c.args.here.now.task.now.problem) c.args.here.now.world.now) (assignment_in c.args.env.now) c.args.each.now.vars.now c.args.each.now.bound.now) (left (situation_of (plain_problem c.args.here.now.task.now.problem) c.args.here.now.world.now) (assignment_in c.args.env.now) c.args.each.now.vars.now c.args.each.now.bound.now c.open-tuples.result.tuple) c.args.changes.now (ap (left (situation_of (plain_problem c.args.here.now.task.now.problem) c.args.here.now.world.now) (assignment_in c.args.env.now) c.args.each.now.vars.now c.args.each.now.bound.now) c.open-tuples.ensures.before ∙ none-done (situation_of (plain_problem c.args.here.now.task.now.problem) c.args.here.now.world.now) (assignment_in c.args.env.now) c.args.each.now.vars.now c.args.each.now.bound.now);
+      passed = tuples-begun (plain_problem c.args.here.now.task.now.problem) c.args.here.now.world.now (assignment_in c.args.env.now) c.args.each.now.vars.now (tree_of_effects c.args.each.now.effects.now) (all (situation_of (plain_problem c.args.here.now.task.now.problem) c.args.here.now.world.now) (assignment_in c.args.env.now) c.args.each.now.vars.now c.args.each.now.bound.now) (left (situation_of (plain_problem c.args.here.now.task.now.problem) c.args.here.now.world.now) (assignment_in c.args.env.now) c.args.each.now.vars.now c.args.each.now.bound.now c.open_in_place.new.self.tuple) c.args.changes.now (ap (left (situation_of (plain_problem c.args.here.now.task.now.problem) c.args.here.now.world.now) (assignment_in c.args.env.now) c.args.each.now.vars.now c.args.each.now.bound.now) c.open_in_place.ensures.before ∙ none-done (situation_of (plain_problem c.args.here.now.task.now.problem) c.args.here.now.world.now) (assignment_in c.args.env.now) c.args.each.now.vars.now c.args.each.now.bound.now);
     }
 
 pub collect_each-put_values-requires-clause-same : goal.collect_each-put_values-requires-clause-same

@@ -33,8 +33,8 @@ join_bound-overflow_add-j t c =
     let below : c.args.j < length c.as_slice-new_parameters.result.now = omega (arith, c.requires.within, many) in
     search rules
 
-pub join_bound-open-tuples-requires-clause-differ : goal.join_bound-open-tuples-requires-clause-differ
-join_bound-open-tuples-requires-clause-differ t c =
+pub join_bound-open_in_place-requires-clause-differ : goal.join_bound-open_in_place-requires-clause-differ
+join_bound-open_in_place-requires-clause-differ t c =
     let keep = c.args.here.now.task.now.problem.domain_keeps in
     let below = c.requires.within in
     let b-is = c.bound-bound.ensures in
@@ -42,8 +42,8 @@ join_bound-open-tuples-requires-clause-differ t c =
     let node : Node (signature_of c.args.here.now.task.now.problem.domain) (arranged c.args.order.now.bounds) c.args.j c.bound-bound.result.now c.index-new_parameters-j.result = node-at (signature_of c.args.here.now.task.now.problem.domain) (length c.args.here.now.task.now.problem.names) c.args.order.now.bounds c.args.order.now.new_parameters.items c.args.j c.bound-bound.result.now c.index-new_parameters-j.result (declared-few _ _ keep.predicates) (declared-few _ _ keep.functions) c.requires.keeps c.args.order.now.new_parameters_are below b-is vars-is in
     node.differ
 
-pub join_bound-open-tuples-requires-clause-occur : goal.join_bound-open-tuples-requires-clause-occur
-join_bound-open-tuples-requires-clause-occur t c =
+pub join_bound-open_in_place-requires-clause-occur : goal.join_bound-open_in_place-requires-clause-occur
+join_bound-open_in_place-requires-clause-occur t c =
     let keep = c.args.here.now.task.now.problem.domain_keeps in
     let below = c.requires.within in
     let b-is = c.bound-bound.ensures in
@@ -51,8 +51,8 @@ join_bound-open-tuples-requires-clause-occur t c =
     let node : Node (signature_of c.args.here.now.task.now.problem.domain) (arranged c.args.order.now.bounds) c.args.j c.bound-bound.result.now c.index-new_parameters-j.result = node-at (signature_of c.args.here.now.task.now.problem.domain) (length c.args.here.now.task.now.problem.names) c.args.order.now.bounds c.args.order.now.new_parameters.items c.args.j c.bound-bound.result.now c.index-new_parameters-j.result (declared-few _ _ keep.predicates) (declared-few _ _ keep.functions) c.requires.keeps c.args.order.now.new_parameters_are below b-is vars-is in
     node.occur
 
-pub join_bound-open-tuples-requires-clause-fits : goal.join_bound-open-tuples-requires-clause-fits
-join_bound-open-tuples-requires-clause-fits t c =
+pub join_bound-open_in_place-requires-clause-fits : goal.join_bound-open_in_place-requires-clause-fits
+join_bound-open_in_place-requires-clause-fits t c =
     let keep = c.args.here.now.task.now.problem.domain_keeps in
     let below = c.requires.within in
     let b-is = c.bound-bound.ensures in
@@ -62,9 +62,9 @@ join_bound-open-tuples-requires-clause-fits t c =
 
 pub join_bound-loop-vars-init : goal.join_bound-loop-vars-init
 join_bound-loop-vars-init t c = record {
-  reads = c.open-tuples.ensures.reads;
+  reads = c.open_in_place.ensures.reads;
   frame = known-agree (take c.args.j (arranged c.args.order.now.bounds).bounds) c.args.order.now.bounds.operator.now.params (assignment_in c.args.env.now) (assignment_in c.args.env.now) (agree-self (slots_of c.args.order.now.bounds.operator.now.params) (assignment_in c.args.env.now));
-  found = read-begun (plain_problem c.args.here.now.task.now.problem) c.args.here.now.world.now (plain_operator (arranged c.args.order.now.bounds)) (take (c.args.j + 1) (arranged c.args.order.now.bounds).bounds) (drop (c.args.j + 1) (arranged c.args.order.now.bounds).bounds) (assignment_in c.args.env.now) c.index-new_parameters-j.result c.bound-bound.result.now c.open-tuples.result.tuple c.args.rows.now.items c.open-tuples.ensures.before;
+  found = read-begun (plain_problem c.args.here.now.task.now.problem) c.args.here.now.world.now (plain_operator (arranged c.args.order.now.bounds)) (take (c.args.j + 1) (arranged c.args.order.now.bounds).bounds) (drop (c.args.j + 1) (arranged c.args.order.now.bounds).bounds) (assignment_in c.args.env.now) c.index-new_parameters-j.result c.bound-bound.result.now c.open_in_place.new.self.tuple c.args.rows.now.items c.open_in_place.ensures.before;
 }
 
 pub join_bound-put_values-requires-clause-slots : goal.join_bound-put_values-requires-clause-slots
