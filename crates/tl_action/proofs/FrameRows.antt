@@ -3,37 +3,16 @@ use Rattle.std.proofs.Common.{◌≡◌, ◌<◌, ◌≤◌, ◌+◌, ℕ, List,
 use Rattle.tl_action.specs.Join.{variables}
 use Rattle.tl_action.proofs.TermLists.{prefixed-nothing, prefixed-more}
 use Rattle.tl_action.proofs.Walks.{drop-opened, drop-past}
-use Rattle.tl_eval.specs.Notes.{Tells, prefixed}
-use Rattle.tl_eval.specs.declared.range.RangeNote.{RangeNote}
-use Rattle.tl_syntax.specs.declared.term.Term.TheVariants as variant
+use Rattle.tl_eval.specs.Notes.{prefixed}
 use Rattle.tl_syntax.specs.declared.value.Value.{Value}
 use Rattle.tl_syntax.specs.declared.variable.Var.{Var}
 use Rattle.tl_syntax.specs.Assignment.{Assignment}
-use Rattle.tl_syntax.specs.Fits.{TermFits}
-use Rattle.tl_syntax.specs.Signature.{Signature}
-use Rattle.tl_syntax.specs.TreeOfTerm.{tree_of_term}
-use Rattle.tl_syntax.proofs.TermTrees.{tree-Var}
-use Rattle.tl_terms.specs.Looked.{looked_in_term}
-use Rattle.tl_terms.specs.Operations.{Operation}
-use Rattle.tl_terms.specs.Terms.{prepend, term_value, term_values}
+use Rattle.tl_terms.specs.Terms.{prepend, term_values}
 use Rattle.tl_terms.specs.World.{World}
 
 -- the values so far, of all variables but the rest
 abbrev pub RowPassed : World → Assignment → List Var → List Var → List Value → Type 0
 RowPassed w e all rest row = term_values w e (variables all) ≡ prefixed row (term_values w e (variables rest))
-
--- the value of a variable, which looks at nothing
-pub variable-value : (w : World) (e : Assignment) (s : Var) → term_value w e (tree_of_term (variant.Var s)) ≡ e s.slot
-unfolding term_value
-variable-value w e s = ap (term_value w e) (tree-Var s)
-
-pub variable-fits : (g : Signature) (s : Var) → s.slot < 32 → TermFits g (tree_of_term (variant.Var s))
-unfolding TermFits
-variable-fits g s h = subst (TermFits g) (sym (tree-Var s)) h
-
-pub variable-noted : (w : World) (e : Assignment) (s : Var) (note : RangeNote) → Tells (looked_in_term w e (tree_of_term (variant.Var s))) note → ⊥
-unfolding looked_in_term
-variable-noted w e s note h = let k : Tells [] note = subst (λ (ls : List Operation). Tells ls note) (ap (looked_in_term w e) (tree-Var s)) h in k.0
 
 pub row-begun : (w : World) (e : Assignment) (ss : List Var) (row : List Value) → row ≡ [] → RowPassed w e ss ss row
 row-begun w e ss row z =
