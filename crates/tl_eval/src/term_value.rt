@@ -123,10 +123,17 @@ pub(crate) fn put_values_of_terms(
     ensures { AreValues w.now frame.now (tree_of_terms ts.now) (row_found row.new result) }
 {
     for term in ts.as_slice().iter() {
-        match value_of_term(w, frame, term) {
-            Ok(Some(value)) => row.push(value),
-            Ok(None) => return Ok(false),
-            Err(note) => return Err(note),
+        match term {
+            Term::Var(var) => match value_in(frame, var.slot) {
+                Some(value) => row.push(value),
+                None => return Ok(false),
+            },
+            Term::Val(value) => row.push(*value),
+            _ => match value_of_term(w, frame, term) {
+                Ok(Some(value)) => row.push(value),
+                Ok(None) => return Ok(false),
+                Err(note) => return Err(note),
+            },
         }
     }
     Ok(true)

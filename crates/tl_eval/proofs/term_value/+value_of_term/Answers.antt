@@ -1,9 +1,10 @@
-use Rattle.std.proofs.Common.{arith, rules, subst, sym, to_z, of_z, w64}
+use Rattle.std.proofs.Common.{Some, arith, refl, rules, subst, sym, ◌∙◌, to_z, of_z, w64}
 use Rattle.std.proofs.lemmas.Int.{to_z-of_z}
 use mir.Val.{SFits}
 use Rattle.tl_eval.specs.Frames.{assignment_in}
 use Rattle.tl_syntax.specs.TreeOfTerm.{tree_of_term, tree_of_terms}
 use Rattle.tl_eval.proofs.TermLaws.{few-Place, few-Arith, some-nodes, at-Var, at-Val, at-Place, at-Arith, on-None, on-Err, IsInteger, operand-is, on-second-None, on-second-Err, on-both, begun, item-few, pushed, undefined, noted, ended}
+use Rattle.tl_eval.proofs.term_value.+value_of_term.Goals.{put_values_of_terms-in-Var+in-Some, put_values_of_terms-in-Val, put_values_of_terms-in_default+in-Ok-Some}
 use Rattle.tl_eval.proofs.term_value.+value_of_term.Goals as goal
 
 pub value_of_term-value_of_place-requires : goal.value_of_term-value_of_place-requires
@@ -84,9 +85,24 @@ pub put_values_of_terms-returns-in-Err : goal.put_values_of_terms-returns-in-Err
 put_values_of_terms-returns-in-Err t c =
     noted c.args.w.now (assignment_in c.args.frame.now) (tree_of_terms c.args.ts.now) c.as_slice-term-items.result.now c.loop-term.term-index c.term-item.result c.loop-term.row c.in-Err.note c.loop-term-test.true c.term-item.is c.loop-term.invariant c.in-Err.ensures
 
+pub put_values_of_terms-returns-in-None : goal.put_values_of_terms-returns-in-None
+put_values_of_terms-returns-in-None t c =
+    undefined c.args.w.now (assignment_in c.args.frame.now) (tree_of_terms c.args.ts.now) c.as_slice-term-items.result.now c.loop-term.term-index c.term-item.result c.loop-term.row c.value_in.result c.loop-term-test.true c.term-item.is c.loop-term.invariant
+    (at-Var c.args.w.now (assignment_in c.args.frame.now) c.term-item.result c.in-Var.var c.value_in.result c.in-Var.is c.value_in.ensures) c.in-None.is
+
 pub put_values_of_terms-loop-term-preserved : goal.put_values_of_terms-loop-term-preserved
 put_values_of_terms-loop-term-preserved t c =
-    pushed c.args.w.now (assignment_in c.args.frame.now) (tree_of_terms c.args.ts.now) c.as_slice-term-items.result.now c.loop-term.term-index c.term-item.result c.loop-term.row c.push.new.self c.in-Ok-Some.field-0 c.in-Ok-Some.value c.loop-term-test.true c.term-item.is c.loop-term.invariant c.in-Ok-Some.ensures c.in-Ok-Some.field-0-is c.push.ensures
+    elim c.match-term.branch [
+      | put_values_of_terms-in-Var+in-Some w ↦
+          pushed c.args.w.now (assignment_in c.args.frame.now) (tree_of_terms c.args.ts.now) c.as_slice-term-items.result.now c.loop-term.term-index c.term-item.result c.loop-term.row _ w.value_in.result w.in-Some.value c.loop-term-test.true c.term-item.is c.loop-term.invariant
+          (at-Var c.args.w.now (assignment_in c.args.frame.now) c.term-item.result w.in-Var.var w.value_in.result w.in-Var.is w.value_in.ensures) w.in-Some.is (w.row-is ∙ w.push.ensures)
+      | put_values_of_terms-in-Val w ↦
+          pushed c.args.w.now (assignment_in c.args.frame.now) (tree_of_terms c.args.ts.now) c.as_slice-term-items.result.now c.loop-term.term-index c.term-item.result c.loop-term.row _ (Some w.in-Val.value) w.in-Val.value c.loop-term-test.true c.term-item.is c.loop-term.invariant
+          (at-Val c.args.w.now (assignment_in c.args.frame.now) c.term-item.result w.in-Val.value w.in-Val.is) refl (w.row-is ∙ w.push-in-Val.ensures)
+      | put_values_of_terms-in_default+in-Ok-Some w ↦
+          pushed c.args.w.now (assignment_in c.args.frame.now) (tree_of_terms c.args.ts.now) c.as_slice-term-items.result.now c.loop-term.term-index c.term-item.result c.loop-term.row _ w.in-Ok-Some.field-0 w.in-Ok-Some.value c.loop-term-test.true c.term-item.is c.loop-term.invariant
+          w.in-Ok-Some.ensures w.in-Ok-Some.field-0-is (w.row-is ∙ w.push-in-Ok-Some.ensures)
+    ]
 
 pub put_values_of_terms-returns : goal.put_values_of_terms-returns
 put_values_of_terms-returns t c =
