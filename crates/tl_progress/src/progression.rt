@@ -245,9 +245,8 @@ fn lone_residual(
     if is_empty_frame(env.slots()) {
         return sentence_residual(nodes, task, w, env, residuals, incoming);
     }
-    let frame = env.saved();
-    let empty = empty_frame();
-    env.restore(&empty);
+    let mut frame = empty_frame();
+    env.exchange(&mut frame);
     let answer = sentence_residual(nodes, task, w, env, residuals, incoming);
     env.restore(&frame);
     answer
