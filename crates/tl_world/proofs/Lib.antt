@@ -41,5 +41,6 @@ pub mod Beside
 pub mod Falling
 pub mod Unchanged
 pub mod Unset
+pub mod TableNames
 pub mod TableNumbers
 pub mod KnownAfter

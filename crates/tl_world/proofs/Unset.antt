@@ -20,7 +20,7 @@ use Rattle.tl_world.proofs.Lookup.{find-append, or_else, get-map_of}
 use Rattle.tl_world.proofs.Unchanged.{key-is}
 
 -- the value is there
-there : (o : Option Value) (v : Value) → is_value o v ≡ true → o ≡ Some v
+pub there : (o : Option Value) (v : Value) → is_value o v ≡ true → o ≡ Some v
 there None v h = absurd (true≢false (sym h))
 there (Some u) v h = ap (λ x. Some x) (value_ties u v ((Equal-is (value_cmp u v)).0 h))
 

@@ -1,5 +1,5 @@
 -- Places that are not set.
-use Rattle.std.specs.Prelude.{◌≡◌, ℕ, Bool, false, List, map}
+use Rattle.std.specs.Prelude.{◌≡◌, ◌<◌, ℕ, Bool, false, List, [], map, length, slice_get, slice_index_or, Some}
 use Rattle.std.specs.FinMap as dict
 use Rattle.std.specs.List.{list_any}
 use Rattle.std.specs.Ordering.{eq_by_cmp}
@@ -31,6 +31,10 @@ ArePlacesBeside sets n rows others = AreValuesBeside sets (keyed n (map place_ro
 -- and those of the tables of two worlds
 abbrev pub ArePlaceTablesBeside : List PlaceValue → List (Named (List PlaceRow)) → List (Named (List PlaceRow)) → Type 0
 ArePlaceTablesBeside sets ts us = AreValuesBeside sets (entries_of (place_tables ts)) (entries_of (place_tables us))
+
+-- where tables have one number and one function, their places have the same values
+abbrev pub TellPlaces : List (Named (List PlaceRow)) → List ℕ → List (Named (List PlaceRow)) → List ℕ → Type 0
+TellPlaces ts ks us ls = (i j k : ℕ) (t u : Named (List PlaceRow)) → i < length ts → j < length us → t ≡ slice_index_or ts i t → u ≡ slice_index_or us j u → t.name ≡ u.name → slice_get ks i ≡ Some k → slice_get ls j ≡ Some k → ArePlacesBeside [] t.name t.rows.value u.rows.value
 
 -- places have the same values in both maps, but for those that are set
 abbrev pub AreSameUnset : List PlaceValue → dict.FinMap key_cmp Value → dict.FinMap key_cmp Value → Type 0

@@ -38,16 +38,6 @@ impl World {
             .all(|p| self.value(p.fun, p.args.as_slice()) == Some(p.value))
     }
 
-    /// Whether the places of this world are found to have the values that the settings leave of those of the world `from`. It takes no memory.
-    fn has_changed_places(&self, from: &World, sets: &[PlaceValue]) -> bool
-        ensures { result ≡ true → self.now.places ≡ changed_places from.now.places sets.now }
-    {
-        if !self.has_set_values(sets) {
-            return false;
-        }
-        self.has_values_beside(from, sets)
-    }
-
     /// Whether this world is found to be the one that the changes make of the world `from`, without making it. It may be so where the answer is no, as where one place is set to two values. It takes no memory.
     ///
     /// The facts and the places of both worlds are gone over once, side by side.
@@ -68,7 +58,7 @@ impl World {
     }
 }
 
-/// A world with the numbers of its tables of facts, from the first one on, as far as these are known.
+/// A world with the numbers of its tables, from the first one on, as far as these are known.
 #[derive(Clone, Copy)]
 pub(crate) struct Numbered<'a> {
     pub(crate) world: &'a World,
@@ -91,7 +81,19 @@ impl<'a> Numbered<'a> {
         self.world.is_beside(self.numbers, from, dels, adds)
     }
 
-    /// Whether this world is found to be the one that the changes make of the world `from`, as `World::is_after` finds it. Tables of facts with one number are passed without a look at their rows. It takes no memory.
+    /// Whether the places of this world are found to have the values that the settings leave of those of the world `from`. It takes no memory.
+    fn has_changed_places(&self, from: &Numbered<'a>, sets: &[PlaceValue]) -> bool
+        requires { TellAlike self.now.world.now self.now.numbers.now from.now.world.now from.now.numbers.now }
+        ensures { result ≡ true
+            → self.now.world.now.places ≡ changed_places from.now.world.now.places sets.now }
+    {
+        if !self.world.has_set_values(sets) {
+            return false;
+        }
+        self.world.has_values_beside(self.numbers, from, sets)
+    }
+
+    /// Whether this world is found to be the one that the changes make of the world `from`, as `World::is_after` finds it. Tables with one number are passed without a look at what they hold. It takes no memory.
     pub(crate) fn is_after(
         &self,
         from: &Numbered<'a>,
@@ -105,6 +107,6 @@ impl<'a> Numbered<'a> {
         ensures places { result ≡ true
             → self.now.world.now.places ≡ changed_places from.now.world.now.places sets.now }
     {
-        self.has_changed_facts(from, dels, adds) && self.world.has_changed_places(from.world, sets)
+        self.has_changed_facts(from, dels, adds) && self.has_changed_places(from, sets)
     }
 }

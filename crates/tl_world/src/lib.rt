@@ -11,7 +11,7 @@
 //! - `kept`: which tables keep their rows by the second value too.
 //! - `world`: the world itself, with its look-ups, its matches and its changes.
 //! - `worlds`: worlds by numbers.
-//! - `table_numbers`: numbers of the tables of facts of worlds, by which equal ones are told.
+//! - `table_name`, `table_numbers`: names of the tables of worlds, and their numbers, by which equal ones are told.
 //! - `task`: a problem with its initial world and its goal as worlds, and the goal test.
 //! - `pattern`: patterns of facts and of places, and the tuples that make them true.
 //! - `laws`: what is proved of the equality of worlds and of the matches of a pattern.
@@ -44,11 +44,13 @@ mod row_search;
 mod rows;
 mod rows_beside;
 mod runs;
+mod same_number;
 mod same_row;
 mod second;
 mod second_made;
 mod shared;
 mod table;
+mod table_name;
 mod table_numbers;
 mod tables_beside;
 mod task;

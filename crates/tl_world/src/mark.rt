@@ -28,11 +28,16 @@ pub(crate) fn mark_of_facts(tables: &[Named<Rows>]) -> u64 {
     mark
 }
 
+/// The mark of the places of a function: the sum of those of each with its value.
+pub(crate) fn mark_of_place_rows(rows: &PlaceRows, fun: u32) -> u64 {
+    part(rows.code(), fun, FACTORS[1])
+}
+
 /// The mark of tables of places: the sum of those of their places with their values.
 pub(crate) fn mark_of_places(tables: &[Named<PlaceRows>]) -> u64 {
     let mut mark = 0u64;
     for t in tables {
-        mark = mark.wrapping_add(part(t.rows.code(), t.name, FACTORS[1]));
+        mark = mark.wrapping_add(mark_of_place_rows(t.rows.as_ref(), t.name));
     }
     mark
 }

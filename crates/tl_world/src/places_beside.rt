@@ -2,12 +2,21 @@
 ghost use Rattle.std.specs.Ordering.{eq_by_cmp};
 ghost use Rattle.std.specs.Prelude.{◌≡◌, [], drop, true};
 ghost use Rattle.tl_syntax.specs.Keys.{key_cmp, place_entry};
-ghost use Rattle.tl_world.specs.Unset.{is_set, ArePlacesBeside, ArePlaceTablesBeside};
+ghost use Rattle.tl_world.specs.TableNumbers.{sets_fun};
+ghost use Rattle.tl_world.specs.Unset.{is_set, ArePlacesBeside, ArePlaceTablesBeside, TellPlaces};
 
 use crate::named::Named;
+use crate::same_number::is_same_number;
 use crate::same_row::is_same_row;
 use crate::{PlaceRow, PlaceRows};
 use tl_syntax::{PlaceValue, Value};
+
+/// Tables of places with their numbers, as far as these are known: where two tables of one function have one number, their places have the same values.
+#[derive(Clone, Copy)]
+pub(crate) struct NumberedPlaces<'a> {
+    pub(crate) tables: &'a [Named<PlaceRows>],
+    pub(crate) numbers: &'a [u32],
+}
 
 /// Whether the place is that of the function with these arguments.
 fn is_place(place: &PlaceValue, fun: u32, args: &[Value]) -> bool
@@ -21,6 +30,13 @@ fn is_one_set(sets: &[PlaceValue], fun: u32, args: &[Value]) -> bool
     ensures { result ≡ is_set sets.now (fun, args.now) }
 {
     sets.iter().any(|p| is_place(p, fun, args))
+}
+
+/// Whether one of the places is of the function. It takes no memory.
+pub(crate) fn has_fun(sets: &[PlaceValue], fun: u32) -> bool
+    ensures { result ≡ sets_fun sets.now fun }
+{
+    sets.iter().any(|p| p.fun == fun)
 }
 
 /// Whether all places from one on are set. It takes no memory.
@@ -80,21 +96,28 @@ fn are_tables_set_from(tables: &[Named<PlaceRows>], from: usize, sets: &[PlaceVa
 
 /// Whether the places of the two lists of tables are found to have the same values, but for those that are set. It takes no memory.
 ///
-/// Both lists are gone over once, side by side.
+/// Both lists are gone over once, side by side. Tables with one number are passed without a look at their places.
 pub(crate) fn are_place_tables_beside(
-    tables: &[Named<PlaceRows>],
-    others: &[Named<PlaceRows>],
+    these: &NumberedPlaces<'_>,
+    those: &NumberedPlaces<'_>,
     sets: &[PlaceValue],
 ) -> bool
-    ensures { result ≡ true → ArePlaceTablesBeside sets.now tables.now others.now }
+    requires { TellPlaces these.now.tables.now these.now.numbers.now
+        those.now.tables.now those.now.numbers.now }
+    ensures { result ≡ true
+        → ArePlaceTablesBeside sets.now these.now.tables.now those.now.tables.now }
 {
+    let tables = these.tables;
+    let others = those.tables;
     let mut i = 0;
     let mut j = 0;
     while i < tables.len() && j < others.len() {
         let t = &tables[i];
         let u = &others[j];
         if t.name == u.name {
-            if !are_places_beside(t.name, t.rows.as_slice(), u.rows.as_slice(), sets) {
+            if !is_same_number(these.numbers, i, those.numbers, j)
+                && !are_places_beside(t.name, t.rows.as_slice(), u.rows.as_slice(), sets)
+            {
                 return false;
             }
             i += 1;

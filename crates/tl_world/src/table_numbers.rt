@@ -1,15 +1,17 @@
 // Numbers of the tables of worlds, by which tables that two worlds have in common are told.
 ghost use Rattle.std.specs.Prelude.{◌≡◌, ◌<◌, ◌⊎◌, ◌++◌, ◌∷◌, [], length, slice_get, Some, IfOk, IfSome, OnOk, OnErr};
 ghost use Rattle.tl_terms.specs.World.{World as PlainWorld};
-ghost use Rattle.tl_world.specs.TableNumbers.{preds_in, standing, AreNumbered, AreTableNumbers, ComesFrom, IsTableNumber};
+ghost use Rattle.tl_world.specs.TableNumbers.{changes_table, standing, tables_in, AreNumbered, AreTableNumbers, ComesFrom, IsTableNumber};
 
 use crate::World;
 use crate::named_facts::has_pred;
+use crate::places_beside::has_fun;
+use crate::table_name::TableName;
 use indexmap::{IndexMap, IndexSet};
 use std::alloc::Global;
-use tl_syntax::{Fact, NoMemory};
+use tl_syntax::{Fact, NoMemory, PlaceValue};
 
-/// The numbers of the tables of facts of worlds. That of a table is the number of the first world that was found to have the same facts of its predicate.
+/// The numbers of the tables of worlds. That of a table is the number of the first world that was found to have the same facts of its predicate, or the same values at the places of its function.
 ///
 /// Those of the first worlds are known, each from its own place of one list on: of all worlds, where there was memory for them.
 #[derive(Drop)]
@@ -20,12 +22,26 @@ pub(crate) struct TableNumbers {
     by_mark: IndexMap<u64, u32>,
 }
 
-/// Where a world comes from: the number of another one, and the facts that are deleted and added.
+/// Where a world comes from: the number of another one, the facts that are deleted and added, and the places that are set.
 #[derive(Clone, Copy)]
 pub(crate) struct Source<'a> {
     pub(crate) from: usize,
     pub(crate) dels: &'a [Fact],
     pub(crate) adds: &'a [Fact],
+    pub(crate) sets: &'a [PlaceValue],
+}
+
+impl<'a> Source<'a> {
+    /// Whether the changes name a fact of the predicate, or a place of the function. It takes no memory.
+    fn changes(&self, table: TableName) -> bool
+        ensures { result
+            ≡ changes_table self.now.dels.now self.now.adds.now self.now.sets.now table }
+    {
+        match table {
+            TableName::Pred(pred) => has_pred(self.dels, pred) || has_pred(self.adds, pred),
+            TableName::Fun(fun) => has_fun(self.sets, fun),
+        }
+    }
 }
 
 /// The world of the number.
@@ -36,40 +52,40 @@ fn world_at(worlds: &IndexSet<World>, number: u32) -> &World
     worlds.get_index(number as usize).unwrap()
 }
 
-/// The number of the table of the predicate, where a world before is found that has the same facts of it.
+/// The number of the table, where a world before is found that has the same one.
 fn known(
     by_mark: &IndexMap<u64, u32>,
     worlds: &IndexSet<World>,
     world: &World,
-    pred: u32,
+    table: TableName,
 ) -> Option<u32>
-    ensures { IfSome result (IsTableNumber worlds.now.keys pred world.now) }
+    ensures { IfSome result (IsTableNumber worlds.now.keys table world.now) }
 {
-    let number = *by_mark.get(&world.mark_of_pred(pred))?;
+    let number = *by_mark.get(&world.mark_of_table(table))?;
     let other = worlds.get_index(number as usize)?;
-    if other.is_alike(world, pred) {
+    if other.is_alike(world, table) {
         Some(number)
     } else {
         None
     }
 }
 
-/// The number of the table of the predicate that the world of a number has: that of a world before, or else its own, which is noted then.
+/// The number of the table that the world of a number has: that of a world before, or else its own, which is noted then.
 fn number_anew(
     by_mark: &mut IndexMap<u64, u32>,
     worlds: &IndexSet<World>,
     number: u32,
-    pred: u32,
+    table: TableName,
 ) -> u32
     requires { number < length worlds.now.keys }
     ensures { (w : PlainWorld) → slice_get worlds.now.keys number ≡ Some w
-        → IsTableNumber worlds.now.keys pred w result }
+        → IsTableNumber worlds.now.keys table w result }
 {
     let world = world_at(worlds, number);
-    match known(by_mark, worlds, world, pred) {
+    match known(by_mark, worlds, world, table) {
         Some(before) => before,
         None => {
-            match by_mark.insert(world.mark_of_pred(pred), number) {
+            match by_mark.insert(world.mark_of_table(table), number) {
                 Ok(_) => {}
                 Err(_) => {}
             }
@@ -108,17 +124,23 @@ impl TableNumbers {
         }
     }
 
-    /// The number of the table of the predicate that a world comes by with its source: None where the changes name the predicate, or where the table has no number there.
-    fn inherited(&self, worlds: &IndexSet<World>, source: &Source<'_>, pred: u32) -> Option<u32>
+    /// The number of the table that a world comes by with its source: None where the changes name its predicate or its function, or where the table has no number there.
+    fn inherited(
+        &self,
+        worlds: &IndexSet<World>,
+        source: &Source<'_>,
+        table: TableName,
+    ) -> Option<u32>
         requires { AreNumbered worlds.now.keys self.now.starts.items self.now.all.items }
         ensures { IfSome result (λ k. (w : PlainWorld)
-            → ComesFrom worlds.now.keys source.now.from source.now.dels.now source.now.adds.now w
-            → IsTableNumber worlds.now.keys pred w k) }
+            → ComesFrom worlds.now.keys source.now.from
+            source.now.dels.now source.now.adds.now source.now.sets.now w
+            → IsTableNumber worlds.now.keys table w k) }
     {
-        if has_pred(source.dels, pred) || has_pred(source.adds, pred) {
+        if source.changes(table) {
             return None;
         }
-        let place = worlds.get_index(source.from)?.place_of_pred(pred)?;
+        let place = worlds.get_index(source.from)?.place_of_table(table)?;
         let numbers = self.of(source.from);
         if place < numbers.len() {
             Some(numbers[place])
@@ -127,25 +149,26 @@ impl TableNumbers {
         }
     }
 
-    /// The number of the table of the predicate that the world of a number has, which comes from a source.
+    /// The number of the table that the world of a number has, which comes from a source.
     fn number_of(
         &mut self,
         worlds: &IndexSet<World>,
         number: u32,
         source: &Source<'_>,
-        pred: u32,
+        table: TableName,
     ) -> u32
         requires number { number < length worlds.now.keys }
         requires numbered { AreNumbered worlds.now.keys self.old.starts.items self.old.all.items }
         ensures starts { self.new.starts.items ≡ self.old.starts.items }
         ensures all { self.new.all.items ≡ self.old.all.items }
         ensures number { (w : PlainWorld) → slice_get worlds.now.keys number ≡ Some w
-            → ComesFrom worlds.now.keys source.now.from source.now.dels.now source.now.adds.now w
-            → IsTableNumber worlds.now.keys pred w result }
+            → ComesFrom worlds.now.keys source.now.from
+            source.now.dels.now source.now.adds.now source.now.sets.now w
+            → IsTableNumber worlds.now.keys table w result }
     {
-        match self.inherited(worlds, source, pred) {
+        match self.inherited(worlds, source, table) {
             Some(before) => before,
-            None => number_anew(&mut self.by_mark, worlds, number, pred),
+            None => number_anew(&mut self.by_mark, worlds, number, table),
         }
     }
 
@@ -161,16 +184,17 @@ impl TableNumbers {
         ensures starts { self.new.starts.items ≡ self.old.starts.items }
         ensures all { self.new.all.items ≡ self.old.all.items }
         ensures many { IfOk result (λ v. (w : PlainWorld) → slice_get worlds.now.keys number ≡ Some w
-            → length v.items ≡ length (preds_in w)) }
+            → length v.items ≡ length (tables_in w)) }
         ensures numbers { IfOk result (λ v. (w : PlainWorld) → slice_get worlds.now.keys number ≡ Some w
-            → ComesFrom worlds.now.keys source.now.from source.now.dels.now source.now.adds.now w
+            → ComesFrom worlds.now.keys source.now.from
+            source.now.dels.now source.now.adds.now source.now.sets.now w
             → AreTableNumbers worlds.now.keys w v.items) }
     {
         let world = world_at(worlds, number);
-        let count = world.pred_count();
+        let count = world.table_count();
         let mut numbers = Vec::with_capacity(self.alloc, count)?;
         for i in 0..count {
-            let one = self.number_of(worlds, number, source, world.pred(i));
+            let one = self.number_of(worlds, number, source, world.table(i));
             numbers.push(one)?;
         }
         Ok(numbers)
@@ -194,7 +218,8 @@ impl TableNumbers {
         requires number { number < length worlds.now.keys }
         requires numbered { AreNumbered worlds.now.keys self.old.starts.items self.old.all.items }
         requires source { (w : PlainWorld) → slice_get worlds.now.keys number ≡ Some w
-            → ComesFrom worlds.now.keys source.now.from source.now.dels.now source.now.adds.now w }
+            → ComesFrom worlds.now.keys source.now.from
+            source.now.dels.now source.now.adds.now source.now.sets.now w }
         ensures { AreNumbered worlds.now.keys self.new.starts.items self.new.all.items }
     {
         if number != self.starts.len() || number > u32::MAX as usize {

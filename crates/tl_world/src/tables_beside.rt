@@ -1,11 +1,12 @@
 // Tables of two worlds that have the same facts but for those that changes name.
-ghost use Rattle.std.specs.Prelude.{◌≡◌, ◌<◌, ℕ, [], length, drop, slice_get, Some, true};
+ghost use Rattle.std.specs.Prelude.{◌≡◌, [], drop, true};
 ghost use Rattle.tl_world.specs.Unchanged.{AreRowsBeside, AreTablesBeside, TellRows};
 
 use crate::Rows;
 use crate::named::Named;
 use crate::named_facts::has_pred;
 use crate::rows_beside::{are_named_from, are_rows_beside};
+use crate::same_number::is_same_number;
 use tl_syntax::Fact;
 
 /// Tables of facts with their numbers, as far as these are known: where two tables of one predicate have one number, their facts are the same.
@@ -13,13 +14,6 @@ use tl_syntax::Fact;
 pub(crate) struct NumberedTables<'a> {
     pub(crate) tables: &'a [Named<Rows>],
     pub(crate) numbers: &'a [u32],
-}
-
-/// Whether there is a number at both places, and the same one. It takes no memory.
-fn is_same_number(numbers: &[u32], i: usize, others: &[u32], j: usize) -> bool
-    ensures { result ≡ true → (k : ℕ) × (slice_get numbers.now i ≡ Some k) × (slice_get others.now j ≡ Some k) }
-{
-    i < numbers.len() && j < others.len() && numbers[i] == others[j]
 }
 
 /// Whether the two tables of one predicate, which have different numbers or none, are found to have the same facts, but for those that the changes name. It takes no memory.

@@ -13,7 +13,8 @@ ghost use Rattle.tl_terms.specs.SameWorlds.{world_eq};
 ghost use Rattle.tl_terms.specs.World.{has_fact, value_at};
 ghost use Rattle.tl_world.specs.Calls.{ArePlacesOf, IsNamedByParts, StaysNamedWith, gives_row};
 ghost use Rattle.tl_world.specs.Codes.{tables_code};
-ghost use Rattle.tl_world.specs.TableNumbers.{preds_in, AreAlikeOf, TellAlike};
+ghost use Rattle.tl_world.specs.TableNumbers.{tables_in, AreAlikeOf, TellAlike};
+ghost use Rattle.tl_world.specs.declared.table_name.TableName.TheVariants.{Pred, Fun};
 ghost use Rattle.tl_world.specs.Tables.{InOrder, fact_tables, place_tables, set_of, map_of, row_cmp};
 ghost use Rattle.tl_world.specs.WorldCode.{world_fed};
 ghost use Rattle.tl_world.specs.Edits.{changed_places};
@@ -22,11 +23,15 @@ ghost use Rattle.tl_world.specs.Moves.{AreSameBeside, changed_facts};
 
 use crate::facts::change_facts;
 use crate::is_after::Numbered;
-use crate::mark::{changed_mark, mark_of_facts, mark_of_places, mark_of_rows, set_mark};
+use crate::mark::{
+    changed_mark, mark_of_facts, mark_of_place_rows, mark_of_places, mark_of_rows, set_mark,
+};
 use crate::named::{Named, find_table, share};
 use crate::places::{change_places, find_place};
-use crate::places_beside::are_place_tables_beside;
+use crate::places_beside::{NumberedPlaces, are_place_tables_beside};
 use crate::runs::find_row;
+use crate::same_number::numbers_from;
+use crate::table_name::TableName;
 use crate::tables_beside::{NumberedTables, are_tables_beside};
 use crate::{PlaceRow, PlaceRows, Rows};
 use std::alloc::Global;
@@ -219,25 +224,31 @@ impl World {
         Ok(whole(facts, places))
     }
 
-    /// How many predicates have facts.
-    pub(crate) fn pred_count(&self) -> usize
-        ensures { result ≡ length (preds_in self.now) }
+    /// How many predicates have facts, and how many functions have places with a value, together.
+    pub(crate) fn table_count(&self) -> usize
+        ensures { result ≡ length (tables_in self.now) }
     {
-        let tables = self.facts.as_slice();
-        tables.len()
+        let facts = self.facts.as_slice();
+        let places = self.places.as_slice();
+        facts.len() + places.len()
     }
 
-    /// The predicate at place `i` of those that have facts.
-    pub(crate) fn pred(&self, i: usize) -> u32
-        requires { i < length (preds_in self.now) }
-        ensures { slice_get (preds_in self.now) i ≡ Some result }
+    /// The name of the table at place `i`: those of facts come first.
+    pub(crate) fn table(&self, i: usize) -> TableName
+        requires { i < length (tables_in self.now) }
+        ensures { slice_get (tables_in self.now) i ≡ Some result }
     {
-        self.facts[i].name
+        let facts = self.facts.as_slice();
+        if i < facts.len() {
+            TableName::Pred(facts[i].name)
+        } else {
+            TableName::Fun(self.places[i - facts.len()].name)
+        }
     }
 
-    /// The place of the predicate among those that have facts.
-    pub(crate) fn place_of_pred(&self, pred: u32) -> Option<usize>
-        ensures { IfSome result (λ i. slice_get (preds_in self.now) i ≡ Some pred) }
+    /// The place of the table of the predicate.
+    fn place_of_pred(&self, pred: u32) -> Option<usize>
+        ensures { IfSome result (λ i. slice_get (tables_in self.now) i ≡ Some (Pred pred)) }
     {
         match find_table(self.facts.as_slice(), pred) {
             Ok(i) => Some(i),
@@ -245,21 +256,68 @@ impl World {
         }
     }
 
-    /// A number that is the same for worlds with the same facts of the predicate, and seldom for others. It takes no memory.
-    pub(crate) fn mark_of_pred(&self, pred: u32) -> u64 {
-        match self.rows(pred) {
-            Some(rows) => mark_of_rows(rows, pred),
-            None => 0,
+    /// The place of the table of the function.
+    fn place_of_fun(&self, fun: u32) -> Option<usize>
+        ensures { IfSome result (λ i. slice_get (tables_in self.now) i ≡ Some (Fun fun)) }
+    {
+        let facts = self.facts.as_slice();
+        match find_table(self.places.as_slice(), fun) {
+            Ok(i) => Some(facts.len() + i),
+            Err(_) => None,
+        }
+    }
+
+    /// The place of the table of this name.
+    pub(crate) fn place_of_table(&self, table: TableName) -> Option<usize>
+        ensures { IfSome result (λ i. slice_get (tables_in self.now) i ≡ Some table) }
+    {
+        match table {
+            TableName::Pred(pred) => self.place_of_pred(pred),
+            TableName::Fun(fun) => self.place_of_fun(fun),
+        }
+    }
+
+    /// A number that is the same for worlds with the same table of this name, and seldom for others. It takes no memory.
+    pub(crate) fn mark_of_table(&self, table: TableName) -> u64 {
+        match table {
+            TableName::Pred(pred) => match self.rows(pred) {
+                Some(rows) => mark_of_rows(rows, pred),
+                None => 0,
+            },
+            TableName::Fun(fun) => match self.places(fun) {
+                Some(rows) => mark_of_place_rows(rows, fun),
+                None => 0,
+            },
         }
     }
 
     /// Whether the worlds are found to have the same facts of the predicate. It takes no memory.
-    pub(crate) fn is_alike(&self, other: &World, pred: u32) -> bool
-        ensures { result ≡ true → AreAlikeOf pred self.now other.now }
+    fn has_same_facts(&self, other: &World, pred: u32) -> bool
+        ensures { result ≡ true → AreAlikeOf (Pred pred) self.now other.now }
     {
         match (self.rows(pred), other.rows(pred)) {
             (Some(rows), Some(others)) => *rows == *others,
             _ => false,
+        }
+    }
+
+    /// Whether the worlds are found to have the same values at the places of the function. It takes no memory.
+    fn has_same_values(&self, other: &World, fun: u32) -> bool
+        ensures { result ≡ true → AreAlikeOf (Fun fun) self.now other.now }
+    {
+        match (self.places(fun), other.places(fun)) {
+            (Some(rows), Some(others)) => *rows == *others,
+            _ => false,
+        }
+    }
+
+    /// Whether the worlds are found to have the same table of this name. It takes no memory.
+    pub(crate) fn is_alike(&self, other: &World, table: TableName) -> bool
+        ensures { result ≡ true → AreAlikeOf table self.now other.now }
+    {
+        match table {
+            TableName::Pred(pred) => self.has_same_facts(other, pred),
+            TableName::Fun(fun) => self.has_same_values(other, fun),
         }
     }
 
@@ -288,10 +346,26 @@ impl World {
     }
 
     /// Whether the places of the worlds are found to have the same values, but for those that are set. It takes no memory.
-    pub(crate) fn has_values_beside(&self, other: &World, sets: &[PlaceValue]) -> bool
-        ensures { result ≡ true → AreSameUnset sets.now self.now.places other.now.places }
+    pub(crate) fn has_values_beside<'a>(
+        &'a self,
+        numbers: &'a [u32],
+        other: &Numbered<'a>,
+        sets: &[PlaceValue],
+    ) -> bool
+        requires { TellAlike self.now numbers.now other.now.world.now other.now.numbers.now }
+        ensures { result ≡ true
+            → AreSameUnset sets.now self.now.places other.now.world.now.places }
     {
-        are_place_tables_beside(self.places.as_slice(), other.places.as_slice(), sets)
+        let these = NumberedPlaces {
+            tables: self.places.as_slice(),
+            numbers: numbers_from(numbers, self.facts.len()),
+        };
+        let world = other.world;
+        let those = NumberedPlaces {
+            tables: world.places.as_slice(),
+            numbers: numbers_from(other.numbers, world.facts.len()),
+        };
+        are_place_tables_beside(&these, &those, sets)
     }
 
     /// A number that is the same for equal worlds, and seldom for others. It takes no memory.

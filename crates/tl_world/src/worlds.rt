@@ -14,7 +14,7 @@ use tl_syntax::{Fact, NoMemory, PlaceValue};
 
 /// Worlds by numbers: each number below `len` is of one world, and equal worlds have one number. Numbers keep their worlds after every call, a refused one included.
 ///
-/// A world is found by its code, and then compared with the kept worlds of that code. One that changes make of a kept world is guessed by its mark before it is made. Tables of facts have numbers too, so that those which the changes leave alone are compared by their numbers.
+/// A world is found by its code, and then compared with the kept worlds of that code. One that changes make of a kept world is guessed by its mark before it is made. Tables of facts and of places have numbers too, so that those which the changes leave alone are compared by their numbers.
 #[derive(Drop)]
 pub struct Worlds {
     alloc: Global,
@@ -78,13 +78,15 @@ impl Worlds {
             from: self.len(),
             dels: &[],
             adds: &[],
+            sets: &[],
         };
         self.keep(world, &source)
     }
 
     /// The number of the world, which comes from a source: the one that it has, or else the next one.
     fn keep(&mut self, world: World, source: &Source<'_>) -> Result<usize, NoMemory>
-        requires { ComesFrom (worlds_in self.old) source.now.from source.now.dels.now source.now.adds.now world }
+        requires { ComesFrom (worlds_in self.old) source.now.from
+            source.now.dels.now source.now.adds.now source.now.sets.now world }
         ensures number { IfOk result (λ n. slice_get (worlds_in self.new) n ≡ Some world) }
         ensures known { (n : ℕ) → slice_get (worlds_in self.old) n ≡ Some world → result ≡ Ok n }
         ensures kept { IsAdded (worlds_in self.old) world (worlds_in self.new) }
@@ -159,6 +161,12 @@ impl Worlds {
             return Ok(known);
         }
         let next = self.get(from).changed(self.alloc, dels, adds, sets)?;
-        self.keep(next, &Source { from, dels, adds })
+        let source = Source {
+            from,
+            dels,
+            adds,
+            sets,
+        };
+        self.keep(next, &source)
     }
 }

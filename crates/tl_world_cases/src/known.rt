@@ -34,6 +34,11 @@ const AFTER: &str = "
 (p a) (= (n) 10) | - | (= (f a) b) | (p a) (= (f a) b) | false | none | 2
 (= (f a) a) (= (f c) c) | - | (= (f b) b) | (= (f a) a) (= (f b) b) (= (f c) c) | true | 1 | 1
 (= (f a) a) (= (f c) c) | - | (= (f b) b) | (= (f a) a) (= (f b) b) (= (f c) b) | false | none | 2
+(= (f a) a) (= (f b) b) (= (n) 1) | - | (= (n) 2) | (= (f a) a) (= (f b) b) (= (n) 2) | true | 1 | 1
+(= (f a) a) (= (f b) b) (= (n) 1) | - | (= (n) 2) | (= (f a) a) (= (f b) c) (= (n) 2) | false | none | 2
+(p a) (= (f a) a) (= (n) 1) | (p a) | (q b) (= (f a) b) | (q b) (= (f a) b) (= (n) 1) | true | 1 | 1
+(p a) (= (f a) a) (= (n) 1) | (p a) | (= (n) 2) | (= (f a) a) (= (n) 2) | true | 1 | 1
+(p a) (= (f a) a) (= (n) 1) | (p a) | (= (n) 2) | (= (f a) b) (= (n) 2) | false | none | 2
 ";
 
 /// Whether a world is found to be the one after the changes.

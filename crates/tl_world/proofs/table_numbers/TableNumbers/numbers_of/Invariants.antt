@@ -1,4 +1,4 @@
-use Rattle.std.proofs.Common.{◌≡◌, List, length, slice_get, Some}
+use Rattle.std.proofs.Common.{◌≡◌, length, slice_get, Some}
 use Rattle.tl_terms.specs.World.{World}
 use Rattle.tl_world.specs.TableNumbers.{AreTableNumbers, ComesFrom}
 use Rattle.tl_world.proofs.table_numbers.TableNumbers.numbers_of.Given as goal
@@ -8,5 +8,5 @@ invariant-loop-i l = record {
   starts : l.self.starts.items ≡ l.fn.self.starts.items;
   all : l.self.all.items ≡ l.fn.self.all.items;
   many : length l.numbers.items ≡ l.i;
-  are : (w : World) → slice_get l.worlds.keys l.number ≡ Some w → ComesFrom l.worlds.keys l.source.from l.source.dels.now l.source.adds.now w → AreTableNumbers l.worlds.keys w l.numbers.items;
+  are : (w : World) → slice_get l.worlds.keys l.number ≡ Some w → ComesFrom l.worlds.keys l.source.from l.source.dels.now l.source.adds.now l.source.sets.now w → AreTableNumbers l.worlds.keys w l.numbers.items;
 }

@@ -1,14 +1,9 @@
-use Rattle.std.proofs.Common.{◌≡◌, sym, subst, ◌∙◌}
-use Rattle.tl_syntax.proofs.Telling.{told_alike}
-use Rattle.tl_syntax.specs.Lists.{Among}
-use Rattle.tl_world.specs.RowTests.{rows-tell}
+use Rattle.std.proofs.Common.{sym, subst}
+use Rattle.tl_world.specs.TableNumbers.{AreAlikeOf}
 use Rattle.tl_world.proofs.world.World.is_alike.Goals as goal
 
-pub returns-in-Some-Some : goal.returns-in-Some-Some
-returns-in-Some-Some c = λ t a.
-    let rows = c.in-Some-Some.rows.now in
-    let others = c.in-Some-Some.others.now in
-    let same : rows ≡ others = (rows-tell rows others).0 (sym c.eq.ensures ∙ t) in
-    let these = c.in-Some-Some.ensures.facts a in
-    let those = c.in-Some-Some.ensures'.facts a in
-    told_alike {P = Among a rows} _ _ (these.1, these.0) ((λ h. subst (Among a) (sym same) (those.1 h)), (λ m. those.0 (subst (Among a) same m)))
+pub returns-in-Pred : goal.returns-in-Pred
+returns-in-Pred c = λ t. subst (λ n. AreAlikeOf n c.args.self.now c.args.other.now) (sym c.in-Pred.is) (c.has_same_facts.ensures t)
+
+pub returns-in-Fun : goal.returns-in-Fun
+returns-in-Fun c = λ t. subst (λ n. AreAlikeOf n c.args.self.now c.args.other.now) (sym c.in-Fun.is) (c.has_same_values.ensures t)

@@ -24,7 +24,7 @@ add-requires-clause-source c w e =
     let s = c.in_ok-number.ensures.stored in
     let at = stored world_eq world-tells c.args.world s.0 c.insert_full.new.self.keys c.in_ok-number.number s.1 s.2 in
     let source = c.args.source.now in
-    later-of (worlds_in c.args.self.now) c.insert_full.new.self.keys c.in_ok-number.number source.from source.dels.now source.adds.now c.args.world w (added world_eq world-tells _ _ _ c.in_ok-number.ensures.keys) at e c.requires
+    later-of (worlds_in c.args.self.now) c.insert_full.new.self.keys c.in_ok-number.number source.from source.dels.now source.adds.now source.sets.now c.args.world w (added world_eq world-tells _ _ _ c.in_ok-number.ensures.keys) at e c.requires
 
 pub returns-in_err-number-clause-kept : goal.returns-in_err-number-clause-kept
 returns-in_err-number-clause-kept c = inl c.in_err-number.ensures.err
