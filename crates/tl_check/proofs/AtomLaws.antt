@@ -12,6 +12,7 @@ use Rattle.tl_check.specs.Facts.{IsAlong, IsOverGoal, Guides, fact_ahead, bound_
 use Rattle.tl_check.specs.Histories.{IsFactHistory}
 use Rattle.tl_check.specs.Lines.{truth_from, test_from}
 use Rattle.tl_check.specs.Spans.{IsWithin, marks_in}
+use Rattle.tl_check.specs.StatesAlong.{states_along}
 use Rattle.tl_check.specs.Tracks.{line_in}
 use Rattle.tl_check.specs.declared.along.Along.{Along}
 use Rattle.tl_check.specs.declared.history.History.{History}
@@ -135,8 +136,8 @@ history-marks ws h span q a within so pred = test_from-marks (truth_from false (
     ∙ (so.tell a i v.0 l v.1 ∙ (ap (λ (k : ℕ). has_fact v.0 (k, a)) pred ∙ sym (ap (fact_ahead (q, a)) (opened-at ws i v.0 v.1))))
     ))
 
-pub history-known : (along : Along) (h : History) → IsAlong along → Among h along.histories.now → IsFactHistory along.worlds.now h
-history-known along h is m = each-among (IsFactHistory along.worlds.now) along.histories.now h is.histories m
+pub history-known : (along : Along) (h : History) → IsAlong along → Among h along.histories.now → IsFactHistory (states_along along) h
+history-known along h is m = each-among (IsFactHistory (states_along along)) along.histories.now h is.histories m
 
 pub marks_in-agree : (t u : Ahead) → ((s : List World) → t s ≡ u s) → (ws : List World) (span : Span) → marks_in t ws span ≡ marks_in u ws span
 marks_in-agree t u h ws span = ap (take (span.to - span.from)) (marks-agree_all t u h (drop span.from ws))

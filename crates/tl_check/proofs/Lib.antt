@@ -13,6 +13,7 @@ pub mod VerdictLaws
 pub mod ExecutionLaws
 pub mod JudgeLaws
 pub mod NoValue
+pub mod StatesLaws
 pub mod SpanLaws
 pub mod RunLaws
 pub mod CutLaws
@@ -23,6 +24,8 @@ pub mod LineLaws
 pub mod TrackLaws
 pub mod DifferenceLaws
 pub mod HistoryLaws
+pub mod TrailLaws
+pub mod KeptLaws
 pub mod AtomLaws
 pub mod GuidedLaws
 pub mod SteadyLaws

@@ -7,8 +7,10 @@ use Rattle.tl_check.specs.Facts.{Guides, fact_ahead, bound_ahead}
 use Rattle.tl_check.specs.Instances.{JoinsInstance}
 use Rattle.tl_check.specs.Labelled.{AreLabels}
 use Rattle.tl_check.specs.Spans.{marks_in}
+use Rattle.tl_check.specs.StatesAlong.{states_along, UnlessFew}
 use Rattle.tl_check.specs.declared.along.Along.{Along}
 use Rattle.tl_check.specs.declared.span.Span.{Span}
+use Rattle.tl_check.specs.declared.unlabelled.Unlabelled.{Unlabelled}
 use Rattle.tl_eval.specs.Frames.{assignment_in}
 use Rattle.tl_syntax.specs.declared.bound.Bound.{Bound}
 use Rattle.tl_syntax.specs.declared.term.Terms.{Terms}
@@ -25,26 +27,30 @@ use Rattle.tl_terms.specs.World.{World}
 abbrev pub FitsAlong : Along → FormulaTree → Type 0
 FitsAlong along f = Fits (signature_of along.task.now.problem.domain) [] f
 
--- the labels of the formula at the span's positions, or a note of an operation that it looks at
-abbrev pub AreLabelsAlong : Along → Span → List (Option Value) → FormulaTree → Result (List Bool) CheckFault → Type 0
-AreLabelsAlong along span frame f r = AreLabels (plain_problem along.task.now.problem) along.worlds.now span (assignment_in frame) f r
+-- the labels of the formula at the span's positions in these worlds, or a note of an operation that it looks at
+abbrev pub AreLabelsIn : Along → List World → Span → List (Option Value) → FormulaTree → Result (List Bool) CheckFault → Type 0
+AreLabelsIn along ws span frame f r = AreLabels (plain_problem along.task.now.problem) ws span (assignment_in frame) f r
 
--- the instance under the frame's values is joined with the labels, or an operation that it looks at is noted
-abbrev pub JoinsAlong : Along → Span → List (Option Value) → Quantifier → List Bool → List Bool → Result (Unit {0}) CheckFault → Type 0
-JoinsAlong along span frame q old new r = JoinsInstance (plain_problem along.task.now.problem) along.worlds.now span (assignment_in frame) q old new r
+-- the labels of the formula at the span's positions, or a note of an operation that it looks at, or the states are not all kept
+abbrev pub AreLabelsAlong : Along → Span → List (Option Value) → FormulaTree → Result (List Bool) Unlabelled → Type 0
+AreLabelsAlong along span frame f r = UnlessFew along (AreLabels (plain_problem along.task.now.problem) (states_along along) span (assignment_in frame) f) r
+
+-- the instance under the frame's values is joined with the labels, or an operation that it looks at is noted, or the states are not all kept
+abbrev pub JoinsAlong : Along → Span → List (Option Value) → Quantifier → List Bool → List Bool → Result (Unit {0}) Unlabelled → Type 0
+JoinsAlong along span frame q old new r = UnlessFew along (JoinsInstance (plain_problem along.task.now.problem) (states_along along) span (assignment_in frame) q old new) r
 
 -- what makes the bound true in one of the states makes it true in this world
 abbrev pub GuidesAlong : Along → Bound → World → Type 0
-GuidesAlong along b guide = Guides (plain_problem along.task.now.problem) along.worlds.now b guide
+GuidesAlong along b guide = Guides (plain_problem along.task.now.problem) (states_along along) b guide
 
 -- whether the fact is there, at each position of the span
 abbrev pub fact_along : Along → Span → Key → List Bool
-fact_along along span k = marks_in (fact_ahead k) along.worlds.now span
+fact_along along span k = marks_in (fact_ahead k) (states_along along) span
 
 -- the truth of the atom at each position of the span
 abbrev pub atom_along : Along → Span → List (Option Value) → ℕ → Terms → List Bool
-atom_along along span frame q ts = marks_in (true_ahead (plain_problem along.task.now.problem) (assignment_in frame) (atom q (tree_of_terms ts))) along.worlds.now span
+atom_along along span frame q ts = marks_in (true_ahead (plain_problem along.task.now.problem) (assignment_in frame) (atom q (tree_of_terms ts))) (states_along along) span
 
 -- the truth of the bound at each position of the span
 abbrev pub bound_along : Along → Span → List (Option Value) → Bound → List Bool
-bound_along along span frame b = marks_in (bound_ahead (plain_problem along.task.now.problem) (assignment_in frame) b) along.worlds.now span
+bound_along along span frame b = marks_in (bound_ahead (plain_problem along.task.now.problem) (assignment_in frame) b) (states_along along) span

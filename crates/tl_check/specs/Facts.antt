@@ -2,6 +2,7 @@
 use Rattle.std.specs.Prelude.{◌≡◌, ◌≤◌, ◌^◌, List, [], ◌∷◌, length, true, false}
 use Rattle.tl_check.specs.Ahead.{Ahead, in_first}
 use Rattle.tl_check.specs.Histories.{IsFactHistory}
+use Rattle.tl_check.specs.StatesAlong.{states_along}
 use Rattle.tl_check.specs.declared.along.Along.{Along}
 use Rattle.tl_syntax.specs.declared.bound.Bound.{Bound}
 use Rattle.tl_syntax.specs.declared.bound.Bound.TheVariants as bound
@@ -13,10 +14,12 @@ use Rattle.tl_terms.specs.Definitions.{situation_of}
 use Rattle.tl_terms.specs.Problem.{PlainProblem}
 use Rattle.tl_terms.specs.World.{World, has_fact}
 
--- the states are at most as many as a plan has, and the histories are theirs
+-- the states are as many as is said and at most as many as a plan has, they are those that are kept where as many are, and the histories are theirs
 pub record IsAlong (along : Along) : Type 0 where
-  pub few : length along.worlds.now ≤ 2 ^ 32
-  pub histories : Each (IsFactHistory along.worlds.now) along.histories.now
+  pub few : length (states_along along) ≤ 2 ^ 32
+  pub count : along.count ≡ length (states_along along)
+  pub kept : length along.kept.now ≡ along.count → along.kept.now ≡ states_along along
+  pub histories : Each (IsFactHistory (states_along along)) along.histories.now
 
 -- the fact is in the first world, where there is one
 abbrev pub fact_ahead : Key → Ahead

@@ -2,6 +2,7 @@
 use Rattle.std.specs.Prelude.{◌≡◌, ◌↔◌, ◌≤◌, ◌<◌, ◌+◌, ◌⊎◌, ℕ, List, [], ◌∷◌, ◌++◌, length, Option, Some, true, false, slice_get}
 use Rattle.tl_check.specs.Differences.{AreBefore, fact_with}
 use Rattle.tl_check.specs.Lines.{truth_from}
+use Rattle.tl_check.specs.StatesAlong.{states_along}
 use Rattle.tl_check.specs.Tracks.{Lines, line_in, HaveSeenAll}
 use Rattle.tl_check.specs.declared.along.Along.{Along}
 use Rattle.tl_check.specs.declared.binder.Binder.{Binder}
@@ -55,9 +56,9 @@ HoldsIn span old new = AreBefore (span.from + 1) old → HoldsThere span old new
 abbrev pub IsNoted : List (List Value) → Span → List Value → List Change → List Change → Type 0
 IsNoted all here a old new = ((Among a all → ⊥) × (new ≡ old)) ⊎ (Among a all × HoldsIn here old new)
 
--- the tuples of the bound in the first state of the span are told to hold in the span, and no others
-abbrev pub NoteTuples : Along → List (Option Value) → Binder → Span → Lines → Lines → Type 0
-NoteTuples along frame b here old new = (w : World) → slice_get along.worlds.now here.from ≡ Some w → (a : List Value)
+-- the tuples of the bound in this world are told to hold in the span, and no others
+abbrev pub NoteTuples : Along → List (Option Value) → Binder → World → Span → Lines → Lines → Type 0
+NoteTuples along frame b w here old new = (a : List Value)
     → IsNoted (tuples (situation_of (plain_problem along.task.now.problem) w) (assignment_in frame) b.vars.now b.bound.now) here a (line_in old (fact_with 0 a)) (line_in new (fact_with 0 a))
 
 -- the fact is that of a tuple with so many values
@@ -75,7 +76,7 @@ pub record TellTuples (p : PlainProblem) (ws : List World) (e : Assignment) (ss 
   pub counts : Each (IsTuple (length ss)) t.seen.items
 
 abbrev pub AreGathered : Along → List (Option Value) → Binder → Span → Tracks → Type 0
-AreGathered along frame b span t = TellTuples (plain_problem along.task.now.problem) along.worlds.now (assignment_in frame) b.vars.now b.bound.now span t
+AreGathered along frame b span t = TellTuples (plain_problem along.task.now.problem) (states_along along) (assignment_in frame) b.vars.now b.bound.now span t
 
 -- the places of the function have the same values in both worlds
 abbrev pub HaveSamePlaces : ℕ → World → World → Type 0

@@ -1,18 +1,24 @@
--- The verdict on a plan with known states.
-use Rattle.std.specs.Prelude.{◌≡◌, List, Result, Some, IfOk, IfErr}
-use Rattle.tl_action.specs.declared.check_fault.CheckFault.{CheckFault}
-use Rattle.tl_check.specs.Verdicts.{IsVerdict, IsCause}
-use Rattle.tl_check.specs.declared.verdict.Verdict.{Verdict}
+-- The verdict on a plan by what is kept of its states.
+use Rattle.std.specs.Prelude.{◌≡◌, Bool, false, List}
+use Rattle.tl_check.specs.StatesAlong.{states_of}
+use Rattle.tl_check.specs.Trails.{Follows}
+use Rattle.tl_check.specs.Verdicts.{IsCause}
+use Rattle.tl_check.specs.declared.trail.Trail.{Trail}
+use Rattle.tl_check.specs.declared.unlabelled.Unlabelled.{Unlabelled}
+use Rattle.tl_check.specs.declared.unlabelled.Unlabelled.TheVariants as unlabelled
 use Rattle.tl_syntax.specs.declared.action.Action.{Action}
-use Rattle.tl_terms.specs.Acceptance.{states}
-use Rattle.tl_terms.specs.ProblemMeaning.{plain_problem}
-use Rattle.tl_terms.specs.World.{World}
-use Rattle.tl_world.specs.declared.task.Task.{Task}
+use Rattle.tl_terms.specs.Problem.{PlainProblem}
 
--- a verdict is right of each plan with these states
-abbrev pub IsVerdictByStates : Task → List World → Result Verdict CheckFault → Type 0
-IsVerdictByStates task ws r = (plan : List Action) → states (plain_problem task.problem) plan ≡ Some ws → IfOk r (IsVerdict (plain_problem task.problem) plan)
+-- this is kept of the plan's states, with all of them or none
+abbrev pub IsTrailOf : PlainProblem → List Action → Trail → Type 0
+IsTrailOf p plan trail = (keeps : Bool) × Follows keeps (states_of p plan) trail
 
--- a fault is a cause of each plan with these states
-abbrev pub IsCauseByStates : Task → List World → Result Verdict CheckFault → Type 0
-IsCauseByStates task ws r = (plan : List Action) → states (plain_problem task.problem) plan ≡ Some ws → IfErr r (IsCause (plain_problem task.problem) plan)
+-- a cause why there is no verdict, or the states are not kept
+abbrev pub IsCauseByTrail : PlainProblem → List Action → Trail → Unlabelled → Type 0
+IsCauseByTrail p plan trail (unlabelled.Fault fault) = IsCause p plan fault
+IsCauseByTrail p plan trail unlabelled.NotKept = trail.kept.items ≡ states_of p plan → ⊥
+
+-- a cause why there is no verdict, or the states are not to be kept
+abbrev pub IsCauseUnlessKept : PlainProblem → List Action → Bool → Unlabelled → Type 0
+IsCauseUnlessKept p plan keeps (unlabelled.Fault fault) = IsCause p plan fault
+IsCauseUnlessKept p plan keeps unlabelled.NotKept = keeps ≡ false

@@ -5,6 +5,7 @@ pub mod Lines
 pub mod Tracks
 pub mod Differences
 pub mod Histories
+pub mod StatesAlong
 pub mod Facts
 pub mod Spans
 pub mod Runs
@@ -24,6 +25,7 @@ pub mod Steady
 pub mod AlongStates
 pub mod Gathered
 pub mod Verdicts
+pub mod Trails
 pub mod Judged
 pub mod Executions
 pub mod LawsVerdict

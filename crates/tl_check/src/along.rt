@@ -1,9 +1,12 @@
 // What formulas are labelled along.
-ghost use Rattle.std.specs.Prelude.{◌≡◌, IfSome};
+ghost use Rattle.std.specs.Prelude.{◌≡◌, IfSome, IfNone};
+ghost use Rattle.tl_check.specs.Facts.{IsAlong};
+ghost use Rattle.tl_check.specs.StatesAlong.{states_along, KeepsFew};
 ghost use Rattle.tl_syntax.specs.Lists.{Among};
 
 use crate::history::History;
 use std::alloc::Global;
+use tl_syntax::Action;
 use tl_world::{Task, World};
 
 /// What formulas are labelled along: the states of a plan.
@@ -13,13 +16,30 @@ pub(crate) struct Along<'a> {
     pub(crate) alloc: Global,
     /// The task of the plan.
     pub(crate) task: &'a Task,
-    /// The states in their order, the last of which is repeated for ever.
-    pub(crate) worlds: &'a [World],
+    /// The plan.
+    pub(crate) plan: &'a [Action],
+    /// How many states it has, the last of which is repeated for ever.
+    pub(crate) count: usize,
+    /// These states in their order, or none where they are not kept.
+    pub(crate) kept: &'a [World],
     /// When the facts of some predicates hold in them.
     pub(crate) histories: &'a [History],
 }
 
 impl Along<'_> {
+    /// All the states, where they are kept. It takes no memory.
+    pub(crate) fn states(&self) -> Option<&[World]>
+        requires { IsAlong self.now }
+        ensures all { IfSome result (λ worlds. worlds.now ≡ states_along self.now) }
+        ensures few { IfNone result (KeepsFew self.now) }
+    {
+        if self.kept.len() == self.count {
+            Some(self.kept)
+        } else {
+            None
+        }
+    }
+
     /// When the facts of a predicate hold, where that is known. It takes no memory.
     pub(crate) fn history(&self, pred: u32) -> Option<&History>
         ensures { IfSome result (λ h. (h.now.pred ≡ pred) × Among h.now self.now.histories.now) }

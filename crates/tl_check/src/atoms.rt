@@ -1,9 +1,10 @@
 // The labels of atoms and of bounds, by when their facts hold.
-ghost use Rattle.std.specs.Prelude.{◌≡◌, length, IfOk, IfSome};
+ghost use Rattle.std.specs.Prelude.{◌≡◌, length, IfOk, IfSome, IfNone};
 ghost use Rattle.tl_check.specs.AlongStates.{GuidesAlong, fact_along, atom_along, bound_along};
 ghost use Rattle.tl_check.specs.Facts.{IsAlong, IsOverGoal};
 ghost use Rattle.tl_check.specs.FixedTerms.{HasFixedValue, HaveFixedValues};
 ghost use Rattle.tl_check.specs.Spans.{IsWithin};
+ghost use Rattle.tl_check.specs.StatesAlong.{states_along, KeepsFew};
 ghost use Rattle.tl_eval.specs.Frames.{assignment_in};
 ghost use Rattle.tl_syntax.specs.Fits.{BoundFits};
 ghost use Rattle.tl_syntax.specs.Signature.{signature_of};
@@ -79,7 +80,7 @@ fn fact_labels(
     span: Span,
 ) -> Result<Option<Labels>, NoMemory>
     requires along { IsAlong along.now }
-    requires span { IsWithin span (length along.now.worlds.now) }
+    requires span { IsWithin span (length (states_along along.now)) }
     ensures { IfOk result (λ found. IfSome found (λ labels. labels ≡ fact_along along.now span (pred, row))) }
 {
     match along.history(pred) {
@@ -101,7 +102,7 @@ pub(crate) fn atom_labels(
     env: &Env,
 ) -> Result<Option<Labels>, NoMemory>
     requires along { IsAlong along.now }
-    requires span { IsWithin span (length along.now.worlds.now) }
+    requires span { IsWithin span (length (states_along along.now)) }
     ensures { IfOk result (λ found. IfSome found (λ labels. labels ≡ atom_along along.now span env.now pred terms.now)) }
 {
     match row_of_terms(along.alloc, env, terms)? {
@@ -110,18 +111,46 @@ pub(crate) fn atom_labels(
     }
 }
 
-/// Whether the bound is true in each state of the span, where it speaks of the states. It fails for want of memory alone.
-fn bound_read(bound: &Bound, along: &Along, span: Span, env: &Env) -> Result<Labels, NoMemory>
-    requires span { IsWithin span (length along.now.worlds.now) }
+/// Whether the bound is true in each state of the span. It fails for want of memory alone.
+fn bound_read(
+    bound: &Bound,
+    along: &Along,
+    worlds: &[World],
+    span: Span,
+    env: &Env,
+) -> Result<Labels, NoMemory>
+    requires worlds { worlds.now ≡ states_along along.now }
+    requires span { IsWithin span (length (states_along along.now)) }
     requires fits { BoundFits (signature_of along.now.task.now.problem.domain) bound.now }
     ensures { IfOk result (λ labels. labels ≡ bound_along along.now span env.now bound.now) }
 {
-    let worlds = along.worlds;
     let mut labels = Labels::new(along.alloc);
     for i in span.from..span.to {
         labels.push(bound_holds(along.task, &worlds[i], env, bound))?;
     }
     Ok(labels)
+}
+
+/// The truth of the bound in each state of the span, where the states are kept. It fails for want of memory alone.
+fn bound_in_states(
+    bound: &Bound,
+    along: &Along,
+    span: Span,
+    env: &Env,
+) -> Result<Option<Labels>, NoMemory>
+    requires along { IsAlong along.now }
+    requires span { IsWithin span (length (states_along along.now)) }
+    requires fits { BoundFits (signature_of along.now.task.now.problem.domain) bound.now }
+    ensures labels { IfOk result (λ found. IfSome found (λ labels. labels ≡ bound_along along.now span env.now bound.now)) }
+    ensures few { IfOk result (λ found. IfNone found (KeepsFew along.now)) }
+{
+    match along.states() {
+        Some(worlds) => {
+            let labels = bound_read(bound, along, worlds, span, env)?;
+            Ok(Some(labels))
+        }
+        None => Ok(None),
+    }
 }
 
 /// The label of a bound over the goal list, which is the same at each position of the span. It fails for want of memory alone.
@@ -130,18 +159,19 @@ fn goal_bound_labels(
     along: &Along,
     span: Span,
     env: &Env,
-) -> Result<Labels, NoMemory>
-    requires span { IsWithin span (length along.now.worlds.now) }
+) -> Result<Option<Labels>, NoMemory>
+    requires span { IsWithin span (length (states_along along.now)) }
     requires fits { BoundFits (signature_of along.now.task.now.problem.domain) bound.now }
     requires goal { IsOverGoal bound.now }
-    ensures { IfOk result (λ labels. labels ≡ bound_along along.now span env.now bound.now) }
+    ensures labels { IfOk result (λ found. IfSome found (λ labels. labels ≡ bound_along along.now span env.now bound.now)) }
+    ensures few { IfOk result (λ found. IfNone found (KeepsFew along.now)) }
 {
     let truth = bound_holds(along.task, &along.task.first, env, bound);
     let labels = Labels::all(along.alloc, span.to - span.from, truth)?;
-    Ok(labels)
+    Ok(Some(labels))
 }
 
-/// The labels of a bound over the facts of the states. It fails for want of memory alone.
+/// The labels of a bound over the facts of the states, where they are known or the states are kept. It fails for want of memory alone.
 fn fact_bound_labels(
     bound: &Bound,
     pred: u32,
@@ -149,36 +179,38 @@ fn fact_bound_labels(
     along: &Along,
     span: Span,
     env: &Env,
-) -> Result<Labels, NoMemory>
+) -> Result<Option<Labels>, NoMemory>
     requires along { IsAlong along.now }
-    requires span { IsWithin span (length along.now.worlds.now) }
+    requires span { IsWithin span (length (states_along along.now)) }
     requires fits { BoundFits (signature_of along.now.task.now.problem.domain) bound.now }
     requires bound { bound.now ≡ Bound.Fact pred args.now }
-    ensures { IfOk result (λ labels. labels ≡ bound_along along.now span env.now bound.now) }
+    ensures labels { IfOk result (λ found. IfSome found (λ labels. labels ≡ bound_along along.now span env.now bound.now)) }
+    ensures few { IfOk result (λ found. IfNone found (KeepsFew along.now)) }
 {
     if let Some(row) = row_of_args(along.alloc, env, args.as_slice())? {
         if let Some(labels) = fact_labels(pred, row, along, span)? {
-            return Ok(labels);
+            return Ok(Some(labels));
         }
     }
-    bound_read(bound, along, span, env)
+    bound_in_states(bound, along, span, env)
 }
 
-/// The truth of a bound at each position of the span. It fails for want of memory alone.
+/// The truth of a bound at each position of the span, where it is known or the states are kept. It fails for want of memory alone.
 pub(crate) fn bound_labels(
     bound: &Bound,
     along: &Along,
     span: Span,
     env: &Env,
-) -> Result<Labels, NoMemory>
+) -> Result<Option<Labels>, NoMemory>
     requires along { IsAlong along.now }
-    requires span { IsWithin span (length along.now.worlds.now) }
+    requires span { IsWithin span (length (states_along along.now)) }
     requires fits { BoundFits (signature_of along.now.task.now.problem.domain) bound.now }
-    ensures { IfOk result (λ labels. labels ≡ bound_along along.now span env.now bound.now) }
+    ensures labels { IfOk result (λ found. IfSome found (λ labels. labels ≡ bound_along along.now span env.now bound.now)) }
+    ensures few { IfOk result (λ found. IfNone found (KeepsFew along.now)) }
 {
     match bound {
         Bound::Fact(pred, args) => fact_bound_labels(bound, *pred, args, along, span, env),
-        Bound::Place(_, _, _) => bound_read(bound, along, span, env),
+        Bound::Place(_, _, _) => bound_in_states(bound, along, span, env),
         Bound::GoalFact(_, _) => goal_bound_labels(bound, along, span, env),
         Bound::GoalPlace(_, _, _) => goal_bound_labels(bound, along, span, env),
         Bound::GoalNot(_, _) => goal_bound_labels(bound, along, span, env),

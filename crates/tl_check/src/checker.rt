@@ -1,8 +1,9 @@
 // The check of a plan.
-ghost use Rattle.std.specs.Prelude.{◌≡◌, ◌↔◌, ◌<◌, ◌≤◌, ◌^◌, length, IfOk, IfErr};
+ghost use Rattle.std.specs.Prelude.{◌≡◌, ◌↔◌, ◌<◌, ◌≤◌, ◌^◌, length, true, IfOk, IfErr};
 ghost use Rattle.tl_action.specs.Actions.{HasOperator};
 ghost use Rattle.tl_check.specs.Executions.{IsExecution};
-ghost use Rattle.tl_check.specs.Judged.{IsVerdictByStates, IsCauseByStates};
+ghost use Rattle.tl_check.specs.Judged.{IsTrailOf, IsCauseByTrail, IsCauseUnlessKept};
+ghost use Rattle.tl_check.specs.Trails.{HasStates, IsFollowed};
 ghost use Rattle.tl_check.specs.Verdicts.{IsVerdict, IsCause};
 ghost use Rattle.tl_syntax.specs.Lists.{Each};
 ghost use Rattle.tl_terms.specs.Acceptance.{IsAccepted};
@@ -10,9 +11,14 @@ ghost use Rattle.tl_terms.specs.ProblemMeaning.{plain_problem};
 
 use crate::along::Along;
 use crate::execution::{Execution, executed};
+use crate::following::{Follow, Followed, follow_plan};
 use crate::formula_labels::labels_of;
-use crate::predicates::histories_of;
+use crate::history::histories_of;
+use crate::plain::is_plain;
+use crate::predicates::predicates_of;
 use crate::span::Span;
+use crate::trail::Trail;
+use crate::unlabelled::Unlabelled;
 use crate::{CheckFault, Verdict};
 use std::alloc::Global;
 use std::marker::Brand;
@@ -20,7 +26,7 @@ use std::sync::ledger::{Blank, Ledger};
 use tl_eval::Env;
 use tl_syntax::Action;
 use tl_terms::Steps;
-use tl_world::{Task, World};
+use tl_world::Task;
 
 /// The execution of a plan, over a count of steps and a frame of its own.
 pub fn execution_of<L: Ledger>(
@@ -41,21 +47,25 @@ pub fn execution_of<L: Ledger>(
     executed(alloc, task, plan, &mut env, &mut steps)
 }
 
-/// The verdict on a plan with these states.
-fn judged(alloc: Global, task: &Task, worlds: &[World]) -> Result<Verdict, CheckFault>
-    requires some { 0 < length worlds.now }
-    requires few { length worlds.now ≤ 2 ^ 32 }
-    ensures verdict { IsVerdictByStates task.now worlds.now result }
-    ensures cause { IsCauseByStates task.now worlds.now result }
+/// The verdict on a plan all of whose actions execute, by what is kept of its states.
+fn judged(alloc: Global, task: &Task, plan: &[Action], trail: Trail) -> Result<Verdict, Unlabelled>
+    requires short { length plan.now < 2 ^ 32 }
+    requires executes { HasStates (plain_problem task.now.problem) plan.now }
+    requires trail { IsTrailOf (plain_problem task.now.problem) plan.now trail }
+    ensures verdict { IfOk result (IsVerdict (plain_problem task.now.problem) plan.now) }
+    ensures cause { IfErr result (IsCauseByTrail (plain_problem task.now.problem) plan.now trail) }
 {
-    if !task.met(&worlds[worlds.len() - 1]) {
+    if !task.met(&trail.world) {
         return Ok(Verdict::GoalUnmet);
     }
-    let histories = histories_of(alloc, &task.problem.domain.control, worlds)?;
+    let Trail { kept, tracks, .. } = trail;
+    let histories = histories_of(alloc, tracks)?;
     let along = Along {
         alloc,
         task,
-        worlds,
+        plan,
+        count: plan.len() + 1,
+        kept: kept.as_slice(),
         histories: histories.as_slice(),
     };
     let first = Span { from: 0, to: 1 };
@@ -68,12 +78,59 @@ fn judged(alloc: Global, task: &Task, worlds: &[World]) -> Result<Verdict, Check
     }
 }
 
+/// What comes of following a plan, over a count of steps and a frame of its own.
+fn followed_by<L: Ledger>(
+    follow: &Follow,
+    plan: &[Action],
+    blank: Blank,
+) -> Result<Followed, CheckFault>
+    requires operators { Each (HasOperator (plain_problem follow.now.task.now.problem)) plan.now }
+    requires short { length plan.now < 2 ^ 32 }
+    requires name { blank.name ≡ L.name }
+    requires parts { blank.parts ≡ L.parts }
+    requires some { 0 < blank.parts }
+    ensures { IsFollowed (plain_problem follow.now.task.now.problem) follow.now.keeps plan.now result }
+{
+    let mut env = Env::for_task(follow.alloc, follow.task)?;
+    let mut steps: Steps<L> = Steps::new(blank);
+    follow_plan(follow, plan, &mut env, &mut steps)
+}
+
+/// The verdict on a plan, which is followed with its states kept or not. Where they are kept, none is missed.
+fn verdict_by(follow: &Follow, plan: &[Action]) -> Result<Verdict, Unlabelled>
+    requires operators { Each (HasOperator (plain_problem follow.now.task.now.problem)) plan.now }
+    requires short { length plan.now < 2 ^ 32 }
+    ensures verdict { IfOk result (IsVerdict (plain_problem follow.now.task.now.problem) plan.now) }
+    ensures cause { IfErr result (IsCauseUnlessKept (plain_problem follow.now.task.now.problem) plan.now follow.now.keeps) }
+{
+    match followed_by::<Brand>(follow, plan, Blank::new(1)) {
+        Ok(Followed::Stopped(k)) => Ok(Verdict::NotExecutable(k)),
+        Ok(Followed::Ended(trail)) => judged(follow.alloc, follow.task, plan, trail),
+        Err(fault) => Err(Unlabelled::Fault(fault)),
+    }
+}
+
+/// The verdict on a plan that is followed with its states kept.
+fn verdict_by_states(follow: &Follow, plan: &[Action]) -> Result<Verdict, CheckFault>
+    requires operators { Each (HasOperator (plain_problem follow.now.task.now.problem)) plan.now }
+    requires short { length plan.now < 2 ^ 32 }
+    requires kept { follow.now.keeps ≡ true }
+    ensures verdict { IfOk result (IsVerdict (plain_problem follow.now.task.now.problem) plan.now) }
+    ensures cause { IfErr result (IsCause (plain_problem follow.now.task.now.problem) plan.now) }
+{
+    match verdict_by(follow, plan) {
+        Ok(verdict) => Ok(verdict),
+        Err(Unlabelled::Fault(fault)) => Err(fault),
+        Err(Unlabelled::NotKept) => unreachable!(),
+    }
+}
+
 /// The verdict on a plan: `Valid` exactly where it is accepted, and each other verdict exactly where it is right.
 ///
-/// The plan is executed first. Then each subformula of the control formula is labelled with its truth at the states where it is asked for, as runs of states with the same truth, and no formula is progressed.
+/// The plan is executed first, and on the way the changes of the facts of the control formula's predicates are noted. Then each subformula of the control formula is labelled with its truth at the states where it is asked for, as runs of states with the same truth, and no formula is progressed.
 /// It fails for want of memory, or where an operation is past range that an action looks at in its turn, or the control formula along the states.
 ///
-/// When the facts of the control formula's predicates hold is found by one pass over their rows in each state, and which tuples make a bound over places true by one over its places. After that an instance of a quantifier over facts takes the time of the changes of its labels and of those of the instances so far; functions, arithmetic and definitions in it are read in each state from the first to the last at which its tuple makes the bound true, and below temporal words up to the last one. The labels of one instance are kept at a time. Worlds share the tables that stay as they were.
+/// Of the states one is held at a time, and they are kept only where functions, arithmetic, definitions or bounds over places stand in the control formula, which are read in them. When the facts of its predicates hold is found by going over their rows in each state and the one before, where these differ, and which tuples make a bound over places true by one over its places. After that an instance of a quantifier over facts takes the time of the changes of its labels and of those of the instances so far; functions, arithmetic and definitions in it are read in each state from the first to the last at which its tuple makes the bound true, and below temporal words up to the last one. The labels of one instance are kept at a time. Worlds share the tables that stay as they were.
 pub fn check(alloc: Global, task: &Task, plan: &[Action]) -> Result<Verdict, CheckFault>
     requires operators { Each (HasOperator (plain_problem task.now.problem)) plan.now }
     requires short { length plan.now < 2 ^ 32 }
@@ -81,9 +138,26 @@ pub fn check(alloc: Global, task: &Task, plan: &[Action]) -> Result<Verdict, Che
     ensures valid { IfOk result (λ v. (v ≡ Verdict.Valid) ↔ IsAccepted (plain_problem task.now.problem) plan.now) }
     ensures cause { IfErr result (IsCause (plain_problem task.now.problem) plan.now) }
 {
-    match execution_of::<Brand>(alloc, task, plan, Blank::new(1)) {
-        Ok(Execution::Stopped(k)) => Ok(Verdict::NotExecutable(k)),
-        Ok(Execution::Executed(worlds)) => judged(alloc, task, worlds.as_slice()),
-        Err(fault) => Err(fault),
+    let control = &task.problem.domain.control;
+    let preds = predicates_of(alloc, control)?;
+    let with_states = Follow {
+        alloc,
+        task,
+        preds: preds.as_slice(),
+        keeps: true,
+    };
+    if !is_plain(control) {
+        return verdict_by_states(&with_states, plan);
+    }
+    let follow = Follow {
+        alloc,
+        task,
+        preds: preds.as_slice(),
+        keeps: false,
+    };
+    match verdict_by(&follow, plan) {
+        Ok(verdict) => Ok(verdict),
+        Err(Unlabelled::Fault(fault)) => Err(fault),
+        Err(Unlabelled::NotKept) => verdict_by_states(&with_states, plan),
     }
 }

@@ -5,11 +5,11 @@ ghost use Rattle.tl_check.specs.Facts.{IsAlong};
 ghost use Rattle.tl_check.specs.Later.{later_tree};
 ghost use Rattle.tl_check.specs.PartTrees.{until_tree, quantifier_of, quantified_tree};
 ghost use Rattle.tl_check.specs.Spans.{IsWithin};
+ghost use Rattle.tl_check.specs.StatesAlong.{states_along};
 ghost use Rattle.tl_syntax.specs.Junctions.{joined};
 ghost use Rattle.tl_syntax.specs.TreeOfFormula.{tree_of_formula, tree_of_formulas};
 ghost use Rattle.tl_syntax.specs.Trees.{negation, next};
 
-use crate::CheckFault;
 use crate::along::Along;
 use crate::atoms::{atom_labels, bound_labels, guide_of};
 use crate::binder::Binder;
@@ -22,6 +22,7 @@ use crate::span::Span;
 use crate::state_labels::state_labels;
 use crate::temporal::is_state;
 use crate::tracks::line_of;
+use crate::unlabelled::Unlabelled;
 use tl_eval::{Env, TupleReader};
 use tl_syntax::{Formula, Formulas, Junction};
 use tl_world::World;
@@ -35,9 +36,9 @@ pub(crate) fn labels_of(
     along: &Along,
     span: Span,
     env: &mut Env,
-) -> Result<Labels, CheckFault>
+) -> Result<Labels, Unlabelled>
     requires along { IsAlong along.now }
-    requires span { IsWithin span (length along.now.worlds.now) }
+    requires span { IsWithin span (length (states_along along.now)) }
     requires frame { length env.old ≡ 32 }
     requires fits { FitsAlong along.now (tree_of_formula f.now) }
     ensures labels { AreLabelsAlong along.now span env.old (tree_of_formula f.now) result }
@@ -97,9 +98,9 @@ fn negated_labels(
     along: &Along,
     span: Span,
     env: &mut Env,
-) -> Result<Labels, CheckFault>
+) -> Result<Labels, Unlabelled>
     requires along { IsAlong along.now }
-    requires span { IsWithin span (length along.now.worlds.now) }
+    requires span { IsWithin span (length (states_along along.now)) }
     requires frame { length env.old ≡ 32 }
     requires fits { FitsAlong along.now (negation (tree_of_formula part.now)) }
     ensures labels { AreLabelsAlong along.now span env.old (negation (tree_of_formula part.now)) result }
@@ -117,15 +118,15 @@ fn next_labels(
     along: &Along,
     span: Span,
     env: &mut Env,
-) -> Result<Labels, CheckFault>
+) -> Result<Labels, Unlabelled>
     requires along { IsAlong along.now }
-    requires span { IsWithin span (length along.now.worlds.now) }
+    requires span { IsWithin span (length (states_along along.now)) }
     requires frame { length env.old ≡ 32 }
     requires fits { FitsAlong along.now (next (tree_of_formula part.now)) }
     ensures labels { AreLabelsAlong along.now span env.old (next (tree_of_formula part.now)) result }
     ensures frame { OnOk result (env.new ≡ env.old) }
 {
-    if span.to < along.worlds.len() {
+    if span.to < along.count {
         let later = Span {
             from: span.from + 1,
             to: span.to + 1,
@@ -145,9 +146,9 @@ fn later_labels(
     along: &Along,
     span: Span,
     env: &mut Env,
-) -> Result<Labels, CheckFault>
+) -> Result<Labels, Unlabelled>
     requires along { IsAlong along.now }
-    requires span { IsWithin span (length along.now.worlds.now) }
+    requires span { IsWithin span (length (states_along along.now)) }
     requires frame { length env.old ≡ 32 }
     requires fits { FitsAlong along.now (later_tree word (tree_of_formula part.now)) }
     ensures labels { AreLabelsAlong along.now span env.old (later_tree word (tree_of_formula part.now)) result }
@@ -155,7 +156,7 @@ fn later_labels(
 {
     let rest = Span {
         from: span.from,
-        to: along.worlds.len(),
+        to: along.count,
     };
     let mut found = labels_of(part, along, rest, env)?;
     found.later(word)?;
@@ -171,9 +172,9 @@ fn until_labels(
     along: &Along,
     span: Span,
     env: &mut Env,
-) -> Result<Labels, CheckFault>
+) -> Result<Labels, Unlabelled>
     requires along { IsAlong along.now }
-    requires span { IsWithin span (length along.now.worlds.now) }
+    requires span { IsWithin span (length (states_along along.now)) }
     requires frame { length env.old ≡ 32 }
     requires fits { FitsAlong along.now (until_tree first.now second.now) }
     ensures labels { AreLabelsAlong along.now span env.old (until_tree first.now second.now) result }
@@ -181,7 +182,7 @@ fn until_labels(
 {
     let rest = Span {
         from: span.from,
-        to: along.worlds.len(),
+        to: along.count,
     };
     let mut found = labels_of(first, along, rest, env)?;
     let other = labels_of(second, along, rest, env)?;
@@ -198,9 +199,9 @@ fn parts_labels(
     along: &Along,
     span: Span,
     env: &mut Env,
-) -> Result<Labels, CheckFault>
+) -> Result<Labels, Unlabelled>
     requires along { IsAlong along.now }
-    requires span { IsWithin span (length along.now.worlds.now) }
+    requires span { IsWithin span (length (states_along along.now)) }
     requires frame { length env.old ≡ 32 }
     requires fits { FitsAlong along.now (joined junction (tree_of_formulas parts.now)) }
     ensures labels { AreLabelsAlong along.now span env.old (joined junction (tree_of_formulas parts.now)) result }
@@ -222,9 +223,9 @@ fn quantified_labels(
     along: &Along,
     span: Span,
     env: &mut Env,
-) -> Result<Labels, CheckFault>
+) -> Result<Labels, Unlabelled>
     requires along { IsAlong along.now }
-    requires span { IsWithin span (length along.now.worlds.now) }
+    requires span { IsWithin span (length (states_along along.now)) }
     requires frame { length env.old ≡ 32 }
     requires fits { FitsAlong along.now (quantified_tree binder.now part.now) }
     ensures labels { AreLabelsAlong along.now span env.old (quantified_tree binder.now part.now) result }
@@ -245,9 +246,9 @@ fn guided_labels(
     along: &Along,
     span: Span,
     env: &mut Env,
-) -> Result<Labels, CheckFault>
+) -> Result<Labels, Unlabelled>
     requires along { IsAlong along.now }
-    requires span { IsWithin span (length along.now.worlds.now) }
+    requires span { IsWithin span (length (states_along along.now)) }
     requires frame { length env.old ≡ 32 }
     requires fits { FitsAlong along.now (quantified_tree binder.now part.now) }
     requires guide { GuidesAlong along.now binder.now.bound.now guide.now }
@@ -264,8 +265,10 @@ fn guided_labels(
     tuples.open_in_place(along.task, env, binder.vars, binder.bound);
     'instances: while tuples.next(along.task, guide, binder.bound) {
         env.put_values(binder.vars.as_slice(), tuples.values());
-        let there = bound_labels(binder.bound, along, span, env)?;
-        join_instance(part, binder, &there, along, span, env, &mut all)?;
+        match bound_labels(binder.bound, along, span, env)? {
+            Some(there) => join_instance(part, binder, &there, along, span, env, &mut all)?,
+            None => return Err(Unlabelled::NotKept),
+        }
     }
     env.give_back(binder.vars.as_slice(), &outer);
     Ok(all)
@@ -281,9 +284,9 @@ fn join_instance(
     span: Span,
     env: &mut Env,
     all: &mut Labels,
-) -> Result<(), CheckFault>
+) -> Result<(), Unlabelled>
     requires along { IsAlong along.now }
-    requires span { IsWithin span (length along.now.worlds.now) }
+    requires span { IsWithin span (length (states_along along.now)) }
     requires frame { length env.old ≡ 32 }
     requires fits { FitsAlong along.now (quantified_tree binder.now part.now) }
     requires there { there.now ≡ bound_along along.now span env.old binder.now.bound.now }
@@ -311,15 +314,18 @@ fn stepped_labels(
     along: &Along,
     span: Span,
     env: &mut Env,
-) -> Result<Labels, CheckFault>
+) -> Result<Labels, Unlabelled>
     requires along { IsAlong along.now }
-    requires span { IsWithin span (length along.now.worlds.now) }
+    requires span { IsWithin span (length (states_along along.now)) }
     requires frame { length env.old ≡ 32 }
     requires fits { FitsAlong along.now (quantified_tree binder.now part.now) }
     ensures labels { AreLabelsAlong along.now span env.old (quantified_tree binder.now part.now) result }
     ensures frame { OnOk result (env.new ≡ env.old) }
 {
-    let tracks = gathered(binder, along, span, env)?;
+    let tracks = match gathered(binder, along, span, env)? {
+        Some(tracks) => tracks,
+        None => return Err(Unlabelled::NotKept),
+    };
     let outer = env.kept(binder.vars.as_slice());
     let mut all = Labels::all(
         along.alloc,

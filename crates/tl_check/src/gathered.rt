@@ -1,7 +1,9 @@
 // The tuples of a bound along some states, and where each makes it true.
-ghost use Rattle.std.specs.Prelude.{◌≤◌, ◌<◌, length, IfOk, OnOk};
+ghost use Rattle.std.specs.Prelude.{◌≡◌, ◌<◌, length, IfOk, IfSome, IfNone, OnOk};
+ghost use Rattle.tl_check.specs.Facts.{IsAlong};
 ghost use Rattle.tl_check.specs.Gathered.{AreGathered, NoteTuples, HaveCounts};
 ghost use Rattle.tl_check.specs.Spans.{IsWithin};
+ghost use Rattle.tl_check.specs.StatesAlong.{states_along, KeepsFew};
 ghost use Rattle.tl_check.specs.Tracks.{HaveSeenAll};
 ghost use Rattle.tl_syntax.specs.BoundVariables.{DifferInSlot, OccurIn};
 ghost use Rattle.tl_syntax.specs.Fits.{BoundFits};
@@ -15,30 +17,29 @@ use crate::span::Span;
 use crate::tracks::Tracks;
 use tl_eval::{Env, TupleReader};
 use tl_syntax::NoMemory;
+use tl_world::World;
 
 impl Tracks {
-    /// Adds that each tuple of the bound in the first state of a span makes it true at all positions of the span. It fails for want of memory alone.
+    /// Adds that each tuple of the bound in a world makes it true at all positions of the span. It fails for want of memory alone.
     ///
     /// A tuple is kept as a fact of predicate 0.
     fn note_tuples(
         &mut self,
         binder: &Binder,
         along: &Along,
+        w: &World,
         here: Span,
         env: &Env,
     ) -> Result<(), NoMemory>
         requires covered { HaveSeenAll self.old }
         requires some { here.from < here.to }
-        requires within { here.to ≤ length along.now.worlds.now }
         requires differ { DifferInSlot binder.now.vars.now }
         requires occur { OccurIn binder.now.vars.now binder.now.bound.now }
         requires fits { BoundFits (signature_of along.now.task.now.problem.domain) binder.now.bound.now }
-        ensures noted { OnOk result (NoteTuples along.now env.now binder.now here self.old.lines self.new.lines) }
+        ensures noted { OnOk result (NoteTuples along.now env.now binder.now w.now here self.old.lines self.new.lines) }
         ensures covered { OnOk result (HaveSeenAll self.new) }
         ensures counts { OnOk result (HaveCounts binder.now self.old.seen.items → HaveCounts binder.now self.new.seen.items) }
     {
-        let worlds = along.worlds;
-        let w = &worlds[here.from];
         let mut tuples = TupleReader::unopened();
         tuples.open_in_place(along.task, env, binder.vars, binder.bound);
         'reading: while tuples.next(along.task, w, binder.bound) {
@@ -49,16 +50,18 @@ impl Tracks {
     }
 }
 
-/// The tuples of the bound at the positions of a span, with the positions at which each makes it true. It fails for want of memory alone.
+/// The tuples of the bound in these states at the positions of a span, with the positions at which each makes it true. It fails for want of memory alone.
 ///
 /// The tuples are read once for states in a row whose places are the same.
-pub(crate) fn gathered(
+fn gathered_in(
+    worlds: &[World],
     binder: &Binder,
     along: &Along,
     span: Span,
     env: &Env,
 ) -> Result<Tracks, NoMemory>
-    requires span { IsWithin span (length along.now.worlds.now) }
+    requires worlds { worlds.now ≡ states_along along.now }
+    requires span { IsWithin span (length (states_along along.now)) }
     requires differ { DifferInSlot binder.now.vars.now }
     requires occur { OccurIn binder.now.vars.now binder.now.bound.now }
     requires fits { BoundFits (signature_of along.now.task.now.problem.domain) binder.now.bound.now }
@@ -71,9 +74,34 @@ pub(crate) fn gathered(
             from: i,
             to: span.to,
         };
-        let end = same_up_to(binder.bound, along.worlds, rest);
-        tracks.note_tuples(binder, along, Span { from: i, to: end }, env)?;
+        let end = same_up_to(binder.bound, worlds, rest);
+        let w = &worlds[i];
+        tracks.note_tuples(binder, along, w, Span { from: i, to: end }, env)?;
         i = end;
     }
     Ok(tracks)
+}
+
+/// The tuples of the bound at the positions of a span, with the positions at which each makes it true, where the states are kept. It fails for want of memory alone.
+pub(crate) fn gathered(
+    binder: &Binder,
+    along: &Along,
+    span: Span,
+    env: &Env,
+) -> Result<Option<Tracks>, NoMemory>
+    requires along { IsAlong along.now }
+    requires span { IsWithin span (length (states_along along.now)) }
+    requires differ { DifferInSlot binder.now.vars.now }
+    requires occur { OccurIn binder.now.vars.now binder.now.bound.now }
+    requires fits { BoundFits (signature_of along.now.task.now.problem.domain) binder.now.bound.now }
+    ensures gathered { IfOk result (λ found. IfSome found (AreGathered along.now env.now binder.now span)) }
+    ensures few { IfOk result (λ found. IfNone found (KeepsFew along.now)) }
+{
+    match along.states() {
+        Some(worlds) => {
+            let tracks = gathered_in(worlds, binder, along, span, env)?;
+            Ok(Some(tracks))
+        }
+        None => Ok(None),
+    }
 }

@@ -1,15 +1,18 @@
 // When the facts of a predicate hold along some states.
-ghost use Rattle.std.specs.Option.{option_copied};
-ghost use Rattle.std.specs.Prelude.{◌≡◌, ◌<◌, [], length, unwrap_or, IfOk};
-ghost use Rattle.tl_check.specs.Histories.{IsFactHistory, AreTracks, AreRowsBefore};
+ghost use Rattle.std.specs.Prelude.{◌≡◌, List, IfOk};
+ghost use Rattle.tl_check.specs.Histories.{IsFactHistory};
 ghost use Rattle.tl_check.specs.Tracks.{line_in};
+ghost use Rattle.tl_check.specs.Trails.{IsTracked};
+ghost use Rattle.tl_syntax.specs.Lists.{Each};
+ghost use Rattle.tl_terms.specs.World.{World as PlainWorld};
 
 use crate::line::Change;
-use crate::tracks::{Tracks, line_of};
+use crate::predicate_tracks::PredicateTracks;
+use crate::tracks::line_of;
 use std::alloc::Global;
 use std::collections::HashMap;
 use tl_syntax::{Fact, NoMemory};
-use tl_world::{Rows, World};
+use tl_world::World;
 
 /// When the facts of one predicate hold along some states.
 #[derive(Drop)]
@@ -22,39 +25,12 @@ pub(crate) struct History {
     pub(crate) ever: World,
 }
 
-/// The rows of a predicate in the state before the one at a position, where there is one with such rows. It takes no memory.
-fn rows_before(pred: u32, worlds: &[World], i: usize) -> Option<&Rows>
-    requires { i < length worlds.now }
-    ensures { AreRowsBefore pred worlds.now i (unwrap_or (option_copied result) []) }
-{
-    if i == 0 {
-        None
-    } else {
-        worlds[i - 1].rows(pred)
-    }
-}
-
-/// The changes of the facts of a predicate along some states. It fails for want of memory alone.
-fn tracks_of(alloc: Global, pred: u32, worlds: &[World]) -> Result<Tracks, NoMemory>
-    ensures { IfOk result (AreTracks pred worlds.now) }
-{
-    let mut tracks = Tracks::new(alloc);
-    for i in 0..worlds.len() {
-        let earlier = rows_before(pred, worlds, i);
-        tracks.note_state(alloc, pred, earlier, &worlds[i], i)?;
-    }
-    Ok(tracks)
-}
-
 impl History {
-    /// When the facts of a predicate hold along some states. It fails for want of memory alone.
-    ///
-    /// It takes the time of going over the predicate's rows in each state, and memory for each change.
-    pub(crate) fn of(alloc: Global, pred: u32, worlds: &[World]) -> Result<History, NoMemory>
-        ensures pred { IfOk result (λ h. h.pred ≡ pred) }
-        ensures history { IfOk result (IsFactHistory worlds.now) }
+    /// When the facts of a predicate hold along the states from which these changes are. It fails for want of memory alone.
+    pub(crate) fn of(alloc: Global, tracked: PredicateTracks) -> Result<History, NoMemory>
+        ensures { IfOk result (λ history. (ws : List PlainWorld) → IsTracked ws tracked → IsFactHistory ws history) }
     {
-        let tracks = tracks_of(alloc, pred, worlds)?;
+        let PredicateTracks { pred, tracks } = tracked;
         let ever = World::of(alloc, tracks.seen.as_slice(), &[])?;
         Ok(History {
             pred,
@@ -69,4 +45,19 @@ impl History {
     {
         line_of(&self.lines, fact)
     }
+}
+
+/// When the facts of each predicate hold along the states from which these changes are. It fails for want of memory alone.
+pub(crate) fn histories_of(
+    alloc: Global,
+    all: Vec<PredicateTracks>,
+) -> Result<Vec<History>, NoMemory>
+    ensures { IfOk result (λ histories. (ws : List PlainWorld) → Each (IsTracked ws) all.items → Each (IsFactHistory ws) histories.items) }
+{
+    let mut histories = Vec::new(alloc);
+    for tracked in all {
+        let history = History::of(alloc, tracked)?;
+        histories.push(history)?;
+    }
+    Ok(histories)
 }

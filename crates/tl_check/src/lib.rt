@@ -3,11 +3,13 @@
 //! - `checker`: the verdict on a plan.
 //! - `verdict`: what a verdict says.
 //! - `execution`: the states of a plan.
+//! - `following`, `trail`, `predicate_tracks`: a plan is followed from state to state, and what is kept of them.
 //! - `predicates`: the predicates of which a formula speaks.
 //! - `history`: when the facts of a predicate hold along the states of a plan.
 //! - `line`: when one fact holds, by its changes.
 //! - `tracks`, `differences`: the changes, as they are found from state to state.
 //! - `along`: the states of a plan, with these histories.
+//! - `unlabelled`: why a formula is not labelled.
 //! - `span`: positions in a row.
 //! - `formula_labels`: the labels of formulas, from those of their parts.
 //! - `atoms`: the labels of atoms and bounds.
@@ -34,6 +36,7 @@ mod cuts;
 mod differences;
 mod ends;
 mod execution;
+mod following;
 mod formula_labels;
 mod gathered;
 mod history;
@@ -44,6 +47,7 @@ mod line;
 mod passes;
 mod picked;
 mod plain;
+mod predicate_tracks;
 mod predicates;
 mod rest;
 mod run;
@@ -54,6 +58,8 @@ mod state_labels;
 mod steady;
 mod temporal;
 mod tracks;
+mod trail;
+mod unlabelled;
 mod verdict;
 mod waiting;
 

@@ -1,12 +1,7 @@
-// The predicates of which a formula speaks, and when their facts hold.
-ghost use Rattle.std.specs.Prelude.{IfOk};
-ghost use Rattle.tl_check.specs.Histories.{IsFactHistory};
-ghost use Rattle.tl_syntax.specs.Lists.{Each};
+// The predicates of which a formula speaks.
 
-use crate::history::History;
 use std::alloc::Global;
 use tl_syntax::{Bound, Formula, Formulas, NoMemory};
-use tl_world::World;
 
 /// Adds a predicate, where it is new. It fails for want of memory alone.
 fn add_predicate(preds: &mut Vec<u32>, pred: u32) -> Result<(), NoMemory> {
@@ -71,19 +66,9 @@ fn add_of_each(preds: &mut Vec<u32>, parts: &Formulas) -> Result<(), NoMemory> {
     Ok(())
 }
 
-/// When the facts of the predicates hold of which the formula speaks, along some states. It fails for want of memory alone.
-pub(crate) fn histories_of(
-    alloc: Global,
-    f: &Formula,
-    worlds: &[World],
-) -> Result<Vec<History>, NoMemory>
-    ensures { IfOk result (λ histories. Each (IsFactHistory worlds.now) histories.items) }
-{
+/// The predicates of which the formula speaks by atoms and bounds, each once. It fails for want of memory alone.
+pub(crate) fn predicates_of(alloc: Global, f: &Formula) -> Result<Vec<u32>, NoMemory> {
     let mut preds = Vec::new(alloc);
     add_of(&mut preds, f)?;
-    let mut histories = Vec::new(alloc);
-    for pred in preds.iter() {
-        histories.push(History::of(alloc, *pred, worlds)?)?;
-    }
-    Ok(histories)
+    Ok(preds)
 }

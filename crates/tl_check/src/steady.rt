@@ -1,9 +1,9 @@
 // The labels of formulas that read no state.
-ghost use Rattle.std.specs.Prelude.{◌≡◌, OnOk, length, true};
-ghost use Rattle.tl_check.specs.AlongStates.{FitsAlong, AreLabelsAlong};
-ghost use Rattle.tl_check.specs.Facts.{IsAlong};
+ghost use Rattle.std.specs.Prelude.{◌≡◌, ◌≤◌, ◌^◌, OnOk, length, true};
+ghost use Rattle.tl_check.specs.AlongStates.{FitsAlong, AreLabelsIn, AreLabelsAlong};
 ghost use Rattle.tl_check.specs.FixedTerms.{AreFixed};
 ghost use Rattle.tl_check.specs.Spans.{IsWithin};
+ghost use Rattle.tl_check.specs.StatesAlong.{states_along, KeepsFew};
 ghost use Rattle.tl_check.specs.Steady.{IsSteady};
 ghost use Rattle.tl_eval.specs.Frames.{assignment_in};
 ghost use Rattle.tl_syntax.specs.StateFormulas.{IsState};
@@ -14,8 +14,10 @@ use crate::along::Along;
 use crate::atoms::plain_value;
 use crate::labels::Labels;
 use crate::span::Span;
+use crate::unlabelled::Unlabelled;
 use tl_eval::{Env, state};
 use tl_syntax::{Formula, Term};
+use tl_world::World;
 
 /// Whether both terms are variables with values, or values. It takes no memory.
 fn are_fixed(env: &Env, x: &Term, y: &Term) -> bool
@@ -57,25 +59,25 @@ pub(crate) fn is_steady(f: &Formula, env: &Env) -> bool
     }
 }
 
-/// The labels of a formula that reads no state. It is evaluated once, in the first state of the span.
+/// The labels of a formula that reads no state. It is evaluated once, in the first of these states in the span.
 pub(crate) fn steady_labels(
     f: &Formula,
     along: &Along,
+    worlds: &[World],
     span: Span,
     env: &mut Env,
 ) -> Result<Labels, CheckFault>
-    requires along { IsAlong along.now }
-    requires span { IsWithin span (length along.now.worlds.now) }
+    requires span { IsWithin span (length worlds.now) }
+    requires few { length worlds.now ≤ 2 ^ 32 }
     requires fits { FitsAlong along.now (tree_of_formula f.now) }
     requires state { IsState (tree_of_formula f.now) }
     requires steady { IsSteady (assignment_in env.old) (tree_of_formula f.now) }
-    ensures labels { AreLabelsAlong along.now span env.old (tree_of_formula f.now) result }
+    ensures labels { AreLabelsIn along.now worlds.now span env.old (tree_of_formula f.now) result }
     ensures frame { OnOk result (env.new ≡ env.old) }
 {
     if span.to <= span.from {
         return Ok(Labels::new(along.alloc));
     }
-    let worlds = along.worlds;
     let first = span.from;
     match state(along.task, &worlds[first], env, f) {
         Ok(truth) => {
@@ -86,5 +88,31 @@ pub(crate) fn steady_labels(
             after: first as u32,
             note,
         }),
+    }
+}
+
+/// The labels of a formula that reads no state, where the states are not kept. It is evaluated once, in the first world.
+pub(crate) fn labels_unread(
+    f: &Formula,
+    along: &Along,
+    span: Span,
+    env: &mut Env,
+) -> Result<Labels, Unlabelled>
+    requires few { KeepsFew along.now }
+    requires span { IsWithin span (length (states_along along.now)) }
+    requires fits { FitsAlong along.now (tree_of_formula f.now) }
+    requires state { IsState (tree_of_formula f.now) }
+    ensures labels { AreLabelsAlong along.now span env.old (tree_of_formula f.now) result }
+    ensures frame { OnOk result (env.new ≡ env.old) }
+{
+    if !is_steady(f, env) {
+        return Err(Unlabelled::NotKept);
+    }
+    match state(along.task, &along.task.first, env, f) {
+        Ok(truth) => {
+            let labels = Labels::all(along.alloc, span.to - span.from, truth)?;
+            Ok(labels)
+        }
+        Err(_) => Err(Unlabelled::NotKept),
     }
 }

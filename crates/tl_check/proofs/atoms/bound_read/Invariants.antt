@@ -7,5 +7,5 @@ use Rattle.tl_check.proofs.atoms.bound_read.Given as goal
 
 abbrev pub invariant-loop-i : goal.invariant-loop-i
 invariant-loop-i l =
-    let t = λ (i : ℕ). bound_ahead (plain_problem l.along.task.now.problem) (assignment_in l.env) l.bound (drop i l.along.worlds.now) in
+    let t = λ (i : ℕ). bound_ahead (plain_problem l.along.task.now.problem) (assignment_in l.env) l.bound (drop i l.worlds) in
     l.labels ++ test_from t l.i (l.fn.span.to - l.i) ≡ test_from t l.fn.span.from (l.fn.span.to - l.fn.span.from)

@@ -1,6 +1,6 @@
-use Rattle.std.proofs.Common.{◌≡◌, ◌<◌, ◌+◌, ◌-◌, [], List, length, replicate, Bool, false, not, Ok, Err, Option, IfSome, refl, sym, ap, ◌∙◌, subst, arith}
+use Rattle.std.proofs.Common.{◌≡◌, ◌<◌, ◌-◌, ℕ, [], List, length, replicate, Bool, false, not, Ok, Err, Option, Some, IfSome, refl, sym, ap, ◌∙◌, subst, arith}
 use Rattle.tl_check.proofs.FitLaws.{quantified-parts, item-fits}
-use Rattle.tl_check.proofs.FormulaLabels.{state-True, state-False, state-Atom, state-Defined, state-Compare, state-GoalFact, state-GoalPlace, state-GoalNot, one-Not, one-Next, one-Always, one-Eventually, one-Within, one-During, not-made, not-noted, shifted-within, next-handed, next-last, next-noted, rest, rest-within, later-made, later-noted, until-parts, until-made, until-first-noted, until-second-noted, same-length, fits-not, fits-next, fits-word, two-Until, all-And, all-Or, item-noted, body-ForAll, body-Exists, handed}
+use Rattle.tl_check.proofs.FormulaLabels.{state-True, state-False, state-Atom, state-Defined, state-Compare, state-GoalFact, state-GoalPlace, state-GoalNot, one-Not, one-Next, one-Always, one-Eventually, one-Within, one-During, not-made, not-noted, shifted, shifted-within, next-handed, next-last, next-noted, rest, later-made, later-noted, until-parts, until-made, until-first-noted, until-second-noted, same-length, fits-not, fits-next, fits-word, two-Until, all-And, all-Or, item-noted, body-ForAll, body-Exists}
 use Rattle.tl_check.proofs.GatheredLaws.{stepped-begun, stepped-on, stepped-noted, stepped-end, tuple-labels}
 use Rattle.tl_check.proofs.GuidedLaws.{Guided, guided-begun, guided-on, guided-fewer, guided-noted, guided-end, hull-within, instance-nowhere, instance-joined}
 use Rattle.tl_check.proofs.GuidedLaws as guided
@@ -8,16 +8,23 @@ use Rattle.tl_check.proofs.HistoryLaws.{each-among, among-item}
 use Rattle.tl_check.proofs.PartLabels.{parts-begun, parts-on, parts-end}
 use Rattle.tl_check.proofs.Sizes.{size-at}
 use Rattle.tl_check.proofs.SpanLaws.{marks_in-length}
+use Rattle.tl_check.proofs.StatesLaws.{by-cases, passed-on}
 use Rattle.tl_check.specs.Ahead.{true_ahead}
+use Rattle.tl_check.specs.AlongStates.{AreLabelsAlong, bound_along}
 use Rattle.tl_check.specs.Quantifiers.{Quantifier, with_part}
 use Rattle.tl_check.specs.Facts.{bound_ahead}
-use Rattle.tl_check.specs.Gathered.{IsTuple}
+use Rattle.tl_check.specs.Gathered.{AreGathered, IsTuple}
 use Rattle.tl_check.specs.Instances.{JoinsInstance}
 use Rattle.tl_check.specs.Labelled.{AreLabels}
 use Rattle.tl_check.specs.Later.{later_tree}
 use Rattle.tl_check.specs.Lines.{truth_from, test_from}
-use Rattle.tl_check.specs.Spans.{marks_in}
+use Rattle.tl_check.specs.Spans.{IsWithin, marks_in}
+use Rattle.tl_check.specs.StatesAlong.{states_along, UnlessFew}
+use Rattle.tl_check.specs.declared.along.Along.{Along}
+use Rattle.tl_check.specs.declared.binder.Binder.{Binder}
 use Rattle.tl_check.specs.declared.line.Change.{Change}
+use Rattle.tl_check.specs.declared.span.Span.{Span}
+use Rattle.tl_check.specs.declared.tracks.Tracks.{Tracks}
 use Rattle.tl_eval.proofs.BindLaws.{bind-through}
 use Rattle.tl_eval.proofs.TupleRest.{rest_after}
 use Rattle.tl_eval.specs.Frames.{assignment_in}
@@ -37,6 +44,16 @@ use Rattle.tl_terms.specs.Definitions.{situation_of}
 use Rattle.tl_terms.specs.ProblemMeaning.{plain_problem}
 use Rattle.tl_world.specs.Next.{IsNext}
 use Rattle.tl_check.proofs.formula_labels.+labels_of.Goals as goal
+
+-- a span up to the last position
+to-end : (a : Along) (P : Span → Type 0) (span : Span) → a.count ≡ length (states_along a) → P (record { from = span.from; to = a.count }) → P (record { from = span.from; to = length (states_along a) })
+to-end a P span q h = subst (λ (n : ℕ). P (record { from = span.from; to = n })) q h
+
+to-end-within : (a : Along) (span : Span) → a.count ≡ length (states_along a) → IsWithin span (length (states_along a)) → IsWithin (record { from = span.from; to = a.count }) (length (states_along a))
+to-end-within a span q within = record { order = (let order = within.order in let room = within.within in omega (arith, q)); within = omega (arith, q) }
+
+gathers-known : (a : Along) (frame : List (Option Value)) (b : Binder) (span : Span) (o : Option Tracks) (t : Tracks) → o ≡ Some t → IfSome o (AreGathered a frame b span) → AreGathered a frame b span t
+gathers-known a frame b span o t q h = subst (λ (x : Option Tracks). IfSome x (AreGathered a frame b span)) q h
 
 pub labels_of-state_labels-requires-in-True-clause-state : goal.labels_of-state_labels-requires-in-True-clause-state
 labels_of-state_labels-requires-in-True-clause-state t c =
@@ -72,8 +89,8 @@ labels_of-state_labels-requires-in-None-clause-state t c =
 
 pub labels_of-returns-in-Some-clause-labels : goal.labels_of-returns-in-Some-clause-labels
 labels_of-returns-in-Some-clause-labels t c =
-    let found = subst (λ (o : Option (List Bool)). IfSome o (λ labels. labels ≡ marks_in (true_ahead (plain_problem c.args.along.now.task.now.problem) (assignment_in c.args.env.now) (atom c.in-Atom.pred (tree_of_terms c.in-Atom.terms))) c.args.along.now.worlds.now c.args.span)) c.in-Some.is c.in_ok-labels-in-Atom.ensures in
-    subst (λ (x : FormulaTree). c.in-Some.labels ≡ marks_in (true_ahead (plain_problem c.args.along.now.task.now.problem) (assignment_in c.args.env.now) x) c.args.along.now.worlds.now c.args.span) (sym (ap tree_of_formula c.in-Atom.is ∙ tree-Atom c.in-Atom.pred c.in-Atom.terms)) found
+    let found = subst (λ (o : Option (List Bool)). IfSome o (λ labels. labels ≡ marks_in (true_ahead (plain_problem c.args.along.now.task.now.problem) (assignment_in c.args.env.now) (atom c.in-Atom.pred (tree_of_terms c.in-Atom.terms))) (states_along c.args.along.now) c.args.span)) c.in-Some.is c.in_ok-labels-in-Atom.ensures in
+    subst (λ (x : FormulaTree). c.in-Some.labels ≡ marks_in (true_ahead (plain_problem c.args.along.now.task.now.problem) (assignment_in c.args.env.now) x) (states_along c.args.along.now) c.args.span) (sym (ap tree_of_formula c.in-Atom.is ∙ tree-Atom c.in-Atom.pred c.in-Atom.terms)) found
 
 pub labels_of-negated_labels-requires : goal.labels_of-negated_labels-requires
 labels_of-negated_labels-requires t c =
@@ -83,7 +100,7 @@ labels_of-negated_labels-requires t c =
 pub labels_of-returns-in-Not-clause-labels : goal.labels_of-returns-in-Not-clause-labels
 labels_of-returns-in-Not-clause-labels t c =
     let one = one-Not c.args.f.now c.deref.result.now c.in-Not.part c.in-Not.is c.deref.ensures in
-    subst (λ (x : FormulaTree). AreLabels (plain_problem c.args.along.now.task.now.problem) c.args.along.now.worlds.now c.args.span (assignment_in c.args.env.now) x c.negated_labels.result) (sym one.tree) c.negated_labels.ensures.labels
+    subst (λ (x : FormulaTree). AreLabelsAlong c.args.along.now c.args.span c.args.env.now x c.negated_labels.result) (sym one.tree) c.negated_labels.ensures.labels
 
 pub labels_of-parts_labels-requires : goal.labels_of-parts_labels-requires
 labels_of-parts_labels-requires t c =
@@ -93,7 +110,7 @@ labels_of-parts_labels-requires t c =
 pub labels_of-returns-in-And-clause-labels : goal.labels_of-returns-in-And-clause-labels
 labels_of-returns-in-And-clause-labels t c =
     let one = all-And c.args.f.now c.in-And.parts c.in-And.is in
-    subst (λ (x : FormulaTree). AreLabels (plain_problem c.args.along.now.task.now.problem) c.args.along.now.worlds.now c.args.span (assignment_in c.args.env.now) x c.parts_labels.result) (sym one.tree) c.parts_labels.ensures.labels
+    subst (λ (x : FormulaTree). AreLabelsAlong c.args.along.now c.args.span c.args.env.now x c.parts_labels.result) (sym one.tree) c.parts_labels.ensures.labels
 
 pub labels_of-parts_labels-requires-in-Or : goal.labels_of-parts_labels-requires-in-Or
 labels_of-parts_labels-requires-in-Or t c =
@@ -103,7 +120,7 @@ labels_of-parts_labels-requires-in-Or t c =
 pub labels_of-returns-in-Or-clause-labels : goal.labels_of-returns-in-Or-clause-labels
 labels_of-returns-in-Or-clause-labels t c =
     let one = all-Or c.args.f.now c.in-Or.parts c.in-Or.is in
-    subst (λ (x : FormulaTree). AreLabels (plain_problem c.args.along.now.task.now.problem) c.args.along.now.worlds.now c.args.span (assignment_in c.args.env.now) x c.parts_labels-in-Or.result) (sym one.tree) c.parts_labels-in-Or.ensures.labels
+    subst (λ (x : FormulaTree). AreLabelsAlong c.args.along.now c.args.span c.args.env.now x c.parts_labels-in-Or.result) (sym one.tree) c.parts_labels-in-Or.ensures.labels
 
 pub labels_of-quantified_labels-requires : goal.labels_of-quantified_labels-requires
 labels_of-quantified_labels-requires t c =
@@ -113,7 +130,7 @@ labels_of-quantified_labels-requires t c =
 pub labels_of-returns-in-ForAll-clause-labels : goal.labels_of-returns-in-ForAll-clause-labels
 labels_of-returns-in-ForAll-clause-labels t c =
     let one = body-ForAll c.args.f.now c.deref-in-ForAll.result.now c.in-ForAll.vars c.in-ForAll.bound c.in-ForAll.part c.in-ForAll.is c.deref-in-ForAll.ensures in
-    subst (λ (x : FormulaTree). AreLabels (plain_problem c.args.along.now.task.now.problem) c.args.along.now.worlds.now c.args.span (assignment_in c.args.env.now) x c.quantified_labels.result) (sym one.tree) c.quantified_labels.ensures.labels
+    subst (λ (x : FormulaTree). AreLabelsAlong c.args.along.now c.args.span c.args.env.now x c.quantified_labels.result) (sym one.tree) c.quantified_labels.ensures.labels
 
 pub labels_of-quantified_labels-requires-in-Exists : goal.labels_of-quantified_labels-requires-in-Exists
 labels_of-quantified_labels-requires-in-Exists t c =
@@ -123,7 +140,7 @@ labels_of-quantified_labels-requires-in-Exists t c =
 pub labels_of-returns-in-Exists-clause-labels : goal.labels_of-returns-in-Exists-clause-labels
 labels_of-returns-in-Exists-clause-labels t c =
     let one = body-Exists c.args.f.now c.deref-in-Exists.result.now c.in-Exists.vars c.in-Exists.bound c.in-Exists.part c.in-Exists.is c.deref-in-Exists.ensures in
-    subst (λ (x : FormulaTree). AreLabels (plain_problem c.args.along.now.task.now.problem) c.args.along.now.worlds.now c.args.span (assignment_in c.args.env.now) x c.quantified_labels-in-Exists.result) (sym one.tree) c.quantified_labels-in-Exists.ensures.labels
+    subst (λ (x : FormulaTree). AreLabelsAlong c.args.along.now c.args.span c.args.env.now x c.quantified_labels-in-Exists.result) (sym one.tree) c.quantified_labels-in-Exists.ensures.labels
 
 pub labels_of-next_labels-requires : goal.labels_of-next_labels-requires
 labels_of-next_labels-requires t c =
@@ -133,7 +150,7 @@ labels_of-next_labels-requires t c =
 pub labels_of-returns-in-Next-clause-labels : goal.labels_of-returns-in-Next-clause-labels
 labels_of-returns-in-Next-clause-labels t c =
     let one = one-Next c.args.f.now c.deref-in-Next.result.now c.in-Next.part c.in-Next.is c.deref-in-Next.ensures in
-    subst (λ (x : FormulaTree). AreLabels (plain_problem c.args.along.now.task.now.problem) c.args.along.now.worlds.now c.args.span (assignment_in c.args.env.now) x c.next_labels.result) (sym one.tree) c.next_labels.ensures.labels
+    subst (λ (x : FormulaTree). AreLabelsAlong c.args.along.now c.args.span c.args.env.now x c.next_labels.result) (sym one.tree) c.next_labels.ensures.labels
 
 pub labels_of-later_labels-requires : goal.labels_of-later_labels-requires
 labels_of-later_labels-requires t c =
@@ -143,7 +160,7 @@ labels_of-later_labels-requires t c =
 pub labels_of-returns-in-Always-clause-labels : goal.labels_of-returns-in-Always-clause-labels
 labels_of-returns-in-Always-clause-labels t c =
     let one = one-Always c.args.f.now c.deref-in-Always.result.now c.in-Always.part c.in-Always.is c.deref-in-Always.ensures in
-    subst (λ (x : FormulaTree). AreLabels (plain_problem c.args.along.now.task.now.problem) c.args.along.now.worlds.now c.args.span (assignment_in c.args.env.now) x c.later_labels.result) (sym one.tree) c.later_labels.ensures.labels
+    subst (λ (x : FormulaTree). AreLabelsAlong c.args.along.now c.args.span c.args.env.now x c.later_labels.result) (sym one.tree) c.later_labels.ensures.labels
 
 pub labels_of-later_labels-requires-in-Eventually : goal.labels_of-later_labels-requires-in-Eventually
 labels_of-later_labels-requires-in-Eventually t c =
@@ -153,7 +170,7 @@ labels_of-later_labels-requires-in-Eventually t c =
 pub labels_of-returns-in-Eventually-clause-labels : goal.labels_of-returns-in-Eventually-clause-labels
 labels_of-returns-in-Eventually-clause-labels t c =
     let one = one-Eventually c.args.f.now c.deref-in-Eventually.result.now c.in-Eventually.part c.in-Eventually.is c.deref-in-Eventually.ensures in
-    subst (λ (x : FormulaTree). AreLabels (plain_problem c.args.along.now.task.now.problem) c.args.along.now.worlds.now c.args.span (assignment_in c.args.env.now) x c.later_labels-in-Eventually.result) (sym one.tree) c.later_labels-in-Eventually.ensures.labels
+    subst (λ (x : FormulaTree). AreLabelsAlong c.args.along.now c.args.span c.args.env.now x c.later_labels-in-Eventually.result) (sym one.tree) c.later_labels-in-Eventually.ensures.labels
 
 pub labels_of-until_labels-requires : goal.labels_of-until_labels-requires
 labels_of-until_labels-requires t c =
@@ -163,7 +180,7 @@ labels_of-until_labels-requires t c =
 pub labels_of-returns-in-Until-clause-labels : goal.labels_of-returns-in-Until-clause-labels
 labels_of-returns-in-Until-clause-labels t c =
     let one = two-Until c.args.f.now c.deref-in-Until.result.now c.deref-in-Until-2.result.now c.in-Until.first c.in-Until.second c.in-Until.is c.deref-in-Until.ensures c.deref-in-Until-2.ensures in
-    subst (λ (x : FormulaTree). AreLabels (plain_problem c.args.along.now.task.now.problem) c.args.along.now.worlds.now c.args.span (assignment_in c.args.env.now) x c.until_labels.result) (sym one.tree) c.until_labels.ensures.labels
+    subst (λ (x : FormulaTree). AreLabelsAlong c.args.along.now c.args.span c.args.env.now x c.until_labels.result) (sym one.tree) c.until_labels.ensures.labels
 
 pub labels_of-later_labels-requires-in-Within : goal.labels_of-later_labels-requires-in-Within
 labels_of-later_labels-requires-in-Within t c =
@@ -173,7 +190,7 @@ labels_of-later_labels-requires-in-Within t c =
 pub labels_of-returns-in-Within-clause-labels : goal.labels_of-returns-in-Within-clause-labels
 labels_of-returns-in-Within-clause-labels t c =
     let one = one-Within c.args.f.now c.deref-in-Within.result.now c.in-Within.steps c.in-Within.part c.in-Within.is c.deref-in-Within.ensures in
-    subst (λ (x : FormulaTree). AreLabels (plain_problem c.args.along.now.task.now.problem) c.args.along.now.worlds.now c.args.span (assignment_in c.args.env.now) x c.later_labels-in-Within.result) (sym one.tree) c.later_labels-in-Within.ensures.labels
+    subst (λ (x : FormulaTree). AreLabelsAlong c.args.along.now c.args.span c.args.env.now x c.later_labels-in-Within.result) (sym one.tree) c.later_labels-in-Within.ensures.labels
 
 pub labels_of-later_labels-requires-in-During : goal.labels_of-later_labels-requires-in-During
 labels_of-later_labels-requires-in-During t c =
@@ -183,7 +200,7 @@ labels_of-later_labels-requires-in-During t c =
 pub labels_of-returns-in-During-clause-labels : goal.labels_of-returns-in-During-clause-labels
 labels_of-returns-in-During-clause-labels t c =
     let one = one-During c.args.f.now c.deref-in-During.result.now c.in-During.steps c.in-During.part c.in-During.is c.deref-in-During.ensures in
-    subst (λ (x : FormulaTree). AreLabels (plain_problem c.args.along.now.task.now.problem) c.args.along.now.worlds.now c.args.span (assignment_in c.args.env.now) x c.later_labels-in-During.result) (sym one.tree) c.later_labels-in-During.ensures.labels
+    subst (λ (x : FormulaTree). AreLabelsAlong c.args.along.now c.args.span c.args.env.now x c.later_labels-in-During.result) (sym one.tree) c.later_labels-in-During.ensures.labels
 
 pub negated_labels-labels_of-requires : goal.negated_labels-labels_of-requires
 negated_labels-labels_of-requires t c =
@@ -191,15 +208,25 @@ negated_labels-labels_of-requires t c =
 
 pub negated_labels-returns-clause-labels : goal.negated_labels-returns-clause-labels
 negated_labels-returns-clause-labels t c =
-    not-made (plain_problem c.args.along.now.task.now.problem) c.args.along.now.worlds.now c.args.span c.requires.span (assignment_in c.args.env.now) (tree_of_formula c.args.part.now) c.in_ok-found.found c.negate.new.self c.in_ok-found.ensures.labels c.negate.ensures
+    not-made (plain_problem c.args.along.now.task.now.problem) (states_along c.args.along.now) c.args.span c.requires.span (assignment_in c.args.env.now) (tree_of_formula c.args.part.now) c.in_ok-found.found c.negate.new.self c.in_ok-found.ensures.labels c.negate.ensures
 
 pub negated_labels-returns-in_err-found-clause-labels : goal.negated_labels-returns-in_err-found-clause-labels
 negated_labels-returns-in_err-found-clause-labels t c =
-    handed (λ r. AreLabels (plain_problem c.args.along.now.task.now.problem) c.args.along.now.worlds.now c.args.span (assignment_in c.args.env.now) (negation (tree_of_formula c.args.part.now)) r) c.from_residual.result c.in_err-found.field-0.0 c.from_residual.ensures.1 (not-noted (plain_problem c.args.along.now.task.now.problem) c.args.along.now.worlds.now c.args.span c.requires.span (assignment_in c.args.env.now) (tree_of_formula c.args.part.now) c.in_err-found.field-0.0 c.in_err-found.ensures.labels)
+    let a = c.args.along.now in
+    let p = plain_problem a.task.now.problem in
+    let ws = states_along a in
+    let e = assignment_in c.args.env.now in
+    let f = tree_of_formula c.args.part.now in
+    passed-on a (AreLabels p ws c.args.span e f) (AreLabels p ws c.args.span e (negation f)) (λ y h. not-noted p ws c.args.span c.requires.span e f y h) c.from_residual.result c.in_err-found.field-0.0 c.from_residual.ensures.1 c.in_err-found.ensures.labels
 
 pub next_labels-labels_of-requires : goal.next_labels-labels_of-requires
 next_labels-labels_of-requires t c =
-    (omega (arith, c.decreases), (c.requires.along, (shifted-within (plain_problem c.args.along.now.task.now.problem) c.args.along.now.worlds.now c.args.span c.requires.span (assignment_in c.args.env.now) (tree_of_formula c.args.part.now) c.if-span-along.true, (c.requires.frame, fits-next (signature_of c.args.along.now.task.now.problem.domain) (tree_of_formula c.args.part.now) c.requires.fits))))
+    let a = c.args.along.now in
+    let p = plain_problem a.task.now.problem in
+    let ws = states_along a in
+    let e = assignment_in c.args.env.now in
+    let f = tree_of_formula c.args.part.now in
+    (omega (arith, c.decreases), (c.requires.along, (shifted-within p ws c.args.span c.requires.span e f (omega (arith, c.requires.along.count, c.if-span-along.true)), (c.requires.frame, fits-next (signature_of a.task.now.problem.domain) f c.requires.fits))))
 
 pub next_labels-labels_of-requires-2 : goal.next_labels-labels_of-requires-2
 next_labels-labels_of-requires-2 t c =
@@ -207,59 +234,135 @@ next_labels-labels_of-requires-2 t c =
 
 pub next_labels-returns-then-span-along-clause-labels : goal.next_labels-returns-then-span-along-clause-labels
 next_labels-returns-then-span-along-clause-labels t c =
-    next-handed (plain_problem c.args.along.now.task.now.problem) c.args.along.now.worlds.now c.args.span c.requires.span (assignment_in c.args.env.now) (tree_of_formula c.args.part.now) c.if-span-along.true c.labels_of.result c.labels_of.ensures.labels
+    let a = c.args.along.now in
+    let p = plain_problem a.task.now.problem in
+    let ws = states_along a in
+    let e = assignment_in c.args.env.now in
+    let f = tree_of_formula c.args.part.now in
+    let shift = shifted p ws c.args.span c.requires.span e f in
+    by-cases a (AreLabels p ws shift e f) (AreLabels p ws c.args.span e (next f)) (λ r h. next-handed p ws c.args.span c.requires.span e f (omega (arith, c.requires.along.count, c.if-span-along.true)) r h) c.labels_of.result c.labels_of.ensures.labels
 
 pub next_labels-returns-clause-labels : goal.next_labels-returns-clause-labels
 next_labels-returns-clause-labels t c =
-    next-last (plain_problem c.args.along.now.task.now.problem) c.args.along.now.worlds.now c.args.span c.requires.span (assignment_in c.args.env.now) (tree_of_formula c.args.part.now) (omega (arith, c.if-span-along.false, c.requires.span.within)) c.in_ok-found.found c.shift.new.self c.in_ok-found.ensures.labels c.in_ok-shift.ensures.shifted
+    let a = c.args.along.now in
+    let p = plain_problem a.task.now.problem in
+    let ws = states_along a in
+    let e = assignment_in c.args.env.now in
+    let f = tree_of_formula c.args.part.now in
+    next-last p ws c.args.span c.requires.span e f (omega (arith, c.requires.along.count, c.if-span-along.false, c.requires.span.within)) c.in_ok-found.found c.shift.new.self c.in_ok-found.ensures.labels c.in_ok-shift.ensures.shifted
 
 pub next_labels-returns-in_err-found-clause-labels : goal.next_labels-returns-in_err-found-clause-labels
 next_labels-returns-in_err-found-clause-labels t c =
-    handed (λ r. AreLabels (plain_problem c.args.along.now.task.now.problem) c.args.along.now.worlds.now c.args.span (assignment_in c.args.env.now) (next (tree_of_formula c.args.part.now)) r) c.from_residual.result c.in_err-found.field-0.0 c.from_residual.ensures.1 (next-noted (plain_problem c.args.along.now.task.now.problem) c.args.along.now.worlds.now c.args.span c.requires.span (assignment_in c.args.env.now) (tree_of_formula c.args.part.now) c.args.span (omega arith) c.in_err-found.field-0.0 c.in_err-found.ensures.labels)
+    let a = c.args.along.now in
+    let p = plain_problem a.task.now.problem in
+    let ws = states_along a in
+    let e = assignment_in c.args.env.now in
+    let f = tree_of_formula c.args.part.now in
+    passed-on a (AreLabels p ws c.args.span e f) (AreLabels p ws c.args.span e (next f)) (λ y h. next-noted p ws c.args.span c.requires.span e f c.args.span (omega arith) y h) c.from_residual.result c.in_err-found.field-0.0 c.from_residual.ensures.1 c.in_err-found.ensures.labels
 
 pub later_labels-labels_of-requires : goal.later_labels-labels_of-requires
 later_labels-labels_of-requires t c =
-    (omega (arith, c.decreases), (c.requires.along, (rest-within (plain_problem c.args.along.now.task.now.problem) c.args.along.now.worlds.now c.args.span c.requires.span (assignment_in c.args.env.now) (tree_of_formula c.args.part.now), (c.requires.frame, fits-word (signature_of c.args.along.now.task.now.problem.domain) (tree_of_formula c.args.part.now) c.args.word c.requires.fits))))
+    let a = c.args.along.now in
+    let p = plain_problem a.task.now.problem in
+    let ws = states_along a in
+    let e = assignment_in c.args.env.now in
+    let f = tree_of_formula c.args.part.now in
+    (omega (arith, c.decreases), (c.requires.along, (to-end-within a c.args.span c.requires.along.count c.requires.span, (c.requires.frame, fits-word (signature_of a.task.now.problem.domain) f c.args.word c.requires.fits))))
 
 pub later_labels-returns-clause-labels : goal.later_labels-returns-clause-labels
 later_labels-returns-clause-labels t c =
-    later-made (plain_problem c.args.along.now.task.now.problem) c.args.along.now.worlds.now c.args.span c.requires.span (assignment_in c.args.env.now) (tree_of_formula c.args.part.now) c.args.word c.in_ok-found.found c.later.new.self c.truncate.new.self c.in_ok-found.ensures.labels c.in_ok-later.ensures.later c.truncate.ensures
+    let a = c.args.along.now in
+    let p = plain_problem a.task.now.problem in
+    let ws = states_along a in
+    let e = assignment_in c.args.env.now in
+    let f = tree_of_formula c.args.part.now in
+    later-made p ws c.args.span c.requires.span e f c.args.word c.in_ok-found.found c.later.new.self c.truncate.new.self (to-end a (λ s. c.in_ok-found.found ≡ marks_in (true_ahead p e f) ws s) c.args.span c.requires.along.count c.in_ok-found.ensures.labels) c.in_ok-later.ensures.later c.truncate.ensures
 
 pub later_labels-returns-in_err-found-clause-labels : goal.later_labels-returns-in_err-found-clause-labels
 later_labels-returns-in_err-found-clause-labels t c =
-    handed (λ r. AreLabels (plain_problem c.args.along.now.task.now.problem) c.args.along.now.worlds.now c.args.span (assignment_in c.args.env.now) (later_tree c.args.word (tree_of_formula c.args.part.now)) r) c.from_residual.result c.in_err-found.field-0.0 c.from_residual.ensures.1 (later-noted (plain_problem c.args.along.now.task.now.problem) c.args.along.now.worlds.now c.args.span c.requires.span (assignment_in c.args.env.now) (tree_of_formula c.args.part.now) c.args.word c.in_err-found.field-0.0 c.in_err-found.ensures.labels)
+    let a = c.args.along.now in
+    let p = plain_problem a.task.now.problem in
+    let ws = states_along a in
+    let e = assignment_in c.args.env.now in
+    let f = tree_of_formula c.args.part.now in
+    passed-on a (AreLabels p ws (rest p ws c.args.span c.requires.span e f) e f) (AreLabels p ws c.args.span e (later_tree c.args.word f)) (λ y h. later-noted p ws c.args.span c.requires.span e f c.args.word y h) c.from_residual.result c.in_err-found.field-0.0 c.from_residual.ensures.1
+    (to-end a (λ s. AreLabelsAlong a s c.args.env.now f (Err c.in_err-found.field-0.0)) c.args.span c.requires.along.count c.in_err-found.ensures.labels)
 
 pub until_labels-labels_of-requires : goal.until_labels-labels_of-requires
 until_labels-labels_of-requires t c =
-    let parts = until-parts (signature_of c.args.along.now.task.now.problem.domain) (tree_of_formula c.args.first.now) (tree_of_formula c.args.second.now) c.requires.fits in
-    (omega (arith, c.decreases), (c.requires.along, (rest-within (plain_problem c.args.along.now.task.now.problem) c.args.along.now.worlds.now c.args.span c.requires.span (assignment_in c.args.env.now) (tree_of_formula c.args.first.now), (c.requires.frame, parts.0))))
+    let a = c.args.along.now in
+    let p = plain_problem a.task.now.problem in
+    let ws = states_along a in
+    let e = assignment_in c.args.env.now in
+    let f = tree_of_formula c.args.first.now in
+    let g = tree_of_formula c.args.second.now in
+    let parts = until-parts (signature_of a.task.now.problem.domain) f g c.requires.fits in
+    (omega (arith, c.decreases), (c.requires.along, (to-end-within a c.args.span c.requires.along.count c.requires.span, (c.requires.frame, parts.0))))
 
 pub until_labels-labels_of-requires-2 : goal.until_labels-labels_of-requires-2
 until_labels-labels_of-requires-2 t c =
-    let parts = until-parts (signature_of c.args.along.now.task.now.problem.domain) (tree_of_formula c.args.first.now) (tree_of_formula c.args.second.now) c.requires.fits in
-    (omega (arith, c.decreases), (c.requires.along, (rest-within (plain_problem c.args.along.now.task.now.problem) c.args.along.now.worlds.now c.args.span c.requires.span (assignment_in c.args.env.now) (tree_of_formula c.args.first.now), (ap length c.in_ok-found.ensures.frame ∙ c.requires.frame, parts.1))))
+    let a = c.args.along.now in
+    let p = plain_problem a.task.now.problem in
+    let ws = states_along a in
+    let e = assignment_in c.args.env.now in
+    let f = tree_of_formula c.args.first.now in
+    let g = tree_of_formula c.args.second.now in
+    let parts = until-parts (signature_of a.task.now.problem.domain) f g c.requires.fits in
+    (omega (arith, c.decreases), (c.requires.along, (to-end-within a c.args.span c.requires.along.count c.requires.span, (ap length c.in_ok-found.ensures.frame ∙ c.requires.frame, parts.1))))
 
 pub until_labels-until-requires : goal.until_labels-until-requires
 until_labels-until-requires t c =
-    same-length c.args.along.now.worlds.now (rest (plain_problem c.args.along.now.task.now.problem) c.args.along.now.worlds.now c.args.span c.requires.span (assignment_in c.args.env.now) (tree_of_formula c.args.first.now)) (rest-within (plain_problem c.args.along.now.task.now.problem) c.args.along.now.worlds.now c.args.span c.requires.span (assignment_in c.args.env.now) (tree_of_formula c.args.first.now)) (true_ahead (plain_problem c.args.along.now.task.now.problem) (assignment_in c.args.env.now) (tree_of_formula c.args.first.now)) (true_ahead (plain_problem c.args.along.now.task.now.problem) (assignment_in c.labels_of.new.env) (tree_of_formula c.args.second.now)) c.in_ok-found.found c.in_ok-other.other c.in_ok-found.ensures.labels c.in_ok-other.ensures.labels
+    let a = c.args.along.now in
+    let p = plain_problem a.task.now.problem in
+    let ws = states_along a in
+    let e = assignment_in c.args.env.now in
+    let f = tree_of_formula c.args.first.now in
+    let g = tree_of_formula c.args.second.now in
+    let d = assignment_in c.labels_of.new.env in
+    same-length ws (record { from = c.args.span.from; to = a.count }) (to-end-within a c.args.span c.requires.along.count c.requires.span) (true_ahead p e f) (true_ahead p d g) c.in_ok-found.found c.in_ok-other.other c.in_ok-found.ensures.labels c.in_ok-other.ensures.labels
 
 pub until_labels-returns-clause-labels : goal.until_labels-returns-clause-labels
 until_labels-returns-clause-labels t c =
-    until-made (plain_problem c.args.along.now.task.now.problem) c.args.along.now.worlds.now c.args.span c.requires.span (assignment_in c.args.env.now) (tree_of_formula c.args.first.now) (assignment_in c.labels_of.new.env) (tree_of_formula c.args.second.now) c.in_ok-found.found c.in_ok-other.other c.until.new.self c.truncate.new.self (ap assignment_in c.in_ok-found.ensures.frame) c.in_ok-found.ensures.labels c.in_ok-other.ensures.labels c.in_ok-until.ensures.until c.truncate.ensures
+    let a = c.args.along.now in
+    let p = plain_problem a.task.now.problem in
+    let ws = states_along a in
+    let e = assignment_in c.args.env.now in
+    let f = tree_of_formula c.args.first.now in
+    let g = tree_of_formula c.args.second.now in
+    let d = assignment_in c.labels_of.new.env in
+    until-made p ws c.args.span c.requires.span e f d g c.in_ok-found.found c.in_ok-other.other c.until.new.self c.truncate.new.self (ap assignment_in c.in_ok-found.ensures.frame)
+    (to-end a (λ s. c.in_ok-found.found ≡ marks_in (true_ahead p e f) ws s) c.args.span c.requires.along.count c.in_ok-found.ensures.labels)
+    (to-end a (λ s. c.in_ok-other.other ≡ marks_in (true_ahead p d g) ws s) c.args.span c.requires.along.count c.in_ok-other.ensures.labels)
+    c.in_ok-until.ensures.until c.truncate.ensures
 
 pub until_labels-returns-in_err-found-clause-labels : goal.until_labels-returns-in_err-found-clause-labels
 until_labels-returns-in_err-found-clause-labels t c =
-    handed (λ r. AreLabels (plain_problem c.args.along.now.task.now.problem) c.args.along.now.worlds.now c.args.span (assignment_in c.args.env.now) (until (tree_of_formula c.args.first.now) (tree_of_formula c.args.second.now)) r) c.from_residual.result c.in_err-found.field-0.0 c.from_residual.ensures.1 (until-first-noted (plain_problem c.args.along.now.task.now.problem) c.args.along.now.worlds.now c.args.span c.requires.span (assignment_in c.args.env.now) (tree_of_formula c.args.first.now) (assignment_in c.args.env.now) (tree_of_formula c.args.second.now) c.in_err-found.field-0.0 c.in_err-found.ensures.labels)
+    let a = c.args.along.now in
+    let p = plain_problem a.task.now.problem in
+    let ws = states_along a in
+    let e = assignment_in c.args.env.now in
+    let f = tree_of_formula c.args.first.now in
+    let g = tree_of_formula c.args.second.now in
+    passed-on a (AreLabels p ws (rest p ws c.args.span c.requires.span e f) e f) (AreLabels p ws c.args.span e (until f g)) (λ y h. until-first-noted p ws c.args.span c.requires.span e f e g y h) c.from_residual.result c.in_err-found.field-0.0 c.from_residual.ensures.1
+    (to-end a (λ s. AreLabelsAlong a s c.args.env.now f (Err c.in_err-found.field-0.0)) c.args.span c.requires.along.count c.in_err-found.ensures.labels)
 
 pub until_labels-returns-in_err-other-clause-labels : goal.until_labels-returns-in_err-other-clause-labels
 until_labels-returns-in_err-other-clause-labels t c =
-    handed (λ r. AreLabels (plain_problem c.args.along.now.task.now.problem) c.args.along.now.worlds.now c.args.span (assignment_in c.args.env.now) (until (tree_of_formula c.args.first.now) (tree_of_formula c.args.second.now)) r) c.from_residual-in_err-other.result c.in_err-other.field-0.0 c.from_residual-in_err-other.ensures.1 (until-second-noted (plain_problem c.args.along.now.task.now.problem) c.args.along.now.worlds.now c.args.span c.requires.span (assignment_in c.args.env.now) (tree_of_formula c.args.first.now) (assignment_in c.labels_of.new.env) (tree_of_formula c.args.second.now) c.in_err-other.field-0.0 (ap assignment_in c.in_ok-found.ensures.frame) c.in_err-other.ensures.labels)
+    let a = c.args.along.now in
+    let p = plain_problem a.task.now.problem in
+    let ws = states_along a in
+    let e = assignment_in c.args.env.now in
+    let f = tree_of_formula c.args.first.now in
+    let g = tree_of_formula c.args.second.now in
+    let d = assignment_in c.labels_of.new.env in
+    passed-on a (AreLabels p ws (rest p ws c.args.span c.requires.span e f) d g) (AreLabels p ws c.args.span e (until f g)) (λ y h. until-second-noted p ws c.args.span c.requires.span e f d g y (ap assignment_in c.in_ok-found.ensures.frame) h) c.from_residual-in_err-other.result c.in_err-other.field-0.0 c.from_residual-in_err-other.ensures.1
+    (to-end a (λ s. AreLabelsAlong a s c.labels_of.new.env g (Err c.in_err-other.field-0.0)) c.args.span c.requires.along.count c.in_err-other.ensures.labels)
 
 pub parts_labels-loop-part-init : goal.parts_labels-loop-part-init
 parts_labels-loop-part-init t c =
     record {
       frame = refl;
-      so_far = parts-begun (plain_problem c.args.along.now.task.now.problem) (assignment_in c.args.env.now) c.args.along.now.worlds.now c.args.span c.requires.span c.args.junction c.as_slice-part-items.result.now c.in_ok-all.all (c.in_ok-all.ensures.same ∙ ap (λ (b : Bool). replicate (c.args.span.to - c.args.span.from) (not b)) c.deciding_truth.ensures);
+      so_far = parts-begun (plain_problem c.args.along.now.task.now.problem) (assignment_in c.args.env.now) (states_along c.args.along.now) c.args.span c.requires.span c.args.junction c.as_slice-part-items.result.now c.in_ok-all.all (c.in_ok-all.ensures.same ∙ ap (λ (b : Bool). replicate (c.args.span.to - c.args.span.from) (not b)) c.deciding_truth.ensures);
     }
 
 pub parts_labels-labels_of-requires : goal.parts_labels-labels_of-requires
@@ -269,23 +372,29 @@ parts_labels-labels_of-requires t c =
 
 pub parts_labels-join-requires : goal.parts_labels-join-requires
 parts_labels-join-requires t c =
-    same-length c.args.along.now.worlds.now c.args.span c.requires.span c.loop-part.invariant.so_far.so_far (true_ahead (plain_problem c.args.along.now.task.now.problem) (assignment_in c.loop-part.env) (tree_of_formula c.part-item.result)) c.loop-part.all c.in_ok-found.found c.loop-part.invariant.so_far.labels c.in_ok-found.ensures.labels
+    same-length (states_along c.args.along.now) c.args.span c.requires.span c.loop-part.invariant.so_far.so_far (true_ahead (plain_problem c.args.along.now.task.now.problem) (assignment_in c.loop-part.env) (tree_of_formula c.part-item.result)) c.loop-part.all c.in_ok-found.found c.loop-part.invariant.so_far.labels c.in_ok-found.ensures.labels
 
 pub parts_labels-loop-part-preserved : goal.parts_labels-loop-part-preserved
 parts_labels-loop-part-preserved t c =
     record {
       frame = c.in_ok-found.ensures.frame ∙ c.loop-part.invariant.frame;
-      so_far = parts-on (plain_problem c.args.along.now.task.now.problem) (assignment_in c.args.env.now) c.args.along.now.worlds.now c.args.span c.requires.span c.args.junction c.as_slice-part-items.result.now c.loop-part.all c.in_ok-found.found c.join.new.self c.loop-part.part-index c.part-item.result c.loop-part-test.true c.part-item.is c.loop-part.invariant.so_far
-          (c.in_ok-found.ensures.labels ∙ ap (λ (x : Assignment). marks_in (true_ahead (plain_problem c.args.along.now.task.now.problem) x (tree_of_formula c.part-item.result)) c.args.along.now.worlds.now c.args.span) (ap assignment_in c.loop-part.invariant.frame)) c.in_ok-join.ensures.joined;
+      so_far = parts-on (plain_problem c.args.along.now.task.now.problem) (assignment_in c.args.env.now) (states_along c.args.along.now) c.args.span c.requires.span c.args.junction c.as_slice-part-items.result.now c.loop-part.all c.in_ok-found.found c.join.new.self c.loop-part.part-index c.part-item.result c.loop-part-test.true c.part-item.is c.loop-part.invariant.so_far
+          (c.in_ok-found.ensures.labels ∙ ap (λ (x : Assignment). marks_in (true_ahead (plain_problem c.args.along.now.task.now.problem) x (tree_of_formula c.part-item.result)) (states_along c.args.along.now) c.args.span) (ap assignment_in c.loop-part.invariant.frame)) c.in_ok-join.ensures.joined;
     }
 
 pub parts_labels-returns-clause-labels : goal.parts_labels-returns-clause-labels
 parts_labels-returns-clause-labels t c =
-    parts-end (plain_problem c.args.along.now.task.now.problem) (assignment_in c.args.env.now) c.args.along.now.worlds.now c.args.span c.requires.span c.args.junction c.as_slice-part-items.result.now c.args.parts.now c.loop-part.all c.loop-part.part-index c.as_slice-part-items.ensures c.loop-part-test.false c.loop-part.invariant.so_far
+    parts-end (plain_problem c.args.along.now.task.now.problem) (assignment_in c.args.env.now) (states_along c.args.along.now) c.args.span c.requires.span c.args.junction c.as_slice-part-items.result.now c.args.parts.now c.loop-part.all c.loop-part.part-index c.as_slice-part-items.ensures c.loop-part-test.false c.loop-part.invariant.so_far
 
 pub parts_labels-returns-in_err-found-clause-labels : goal.parts_labels-returns-in_err-found-clause-labels
 parts_labels-returns-in_err-found-clause-labels t c =
-    handed (λ r. AreLabels (plain_problem c.args.along.now.task.now.problem) c.args.along.now.worlds.now c.args.span (assignment_in c.args.env.now) (joined c.args.junction (tree_of_formulas c.args.parts.now)) r) c.from_residual-in_err-found.result c.in_err-found.field-0.0 c.from_residual-in_err-found.ensures.1 (item-noted (plain_problem c.args.along.now.task.now.problem) c.args.along.now.worlds.now c.args.span (assignment_in c.args.env.now) (assignment_in c.loop-part.env) c.args.junction c.args.parts.now c.as_slice-part-items.result.now c.loop-part.part-index c.part-item.result c.as_slice-part-items.ensures c.loop-part-test.true c.part-item.is (ap assignment_in c.loop-part.invariant.frame) c.in_err-found.field-0.0 c.in_err-found.ensures.labels)
+    let a = c.args.along.now in
+    let p = plain_problem a.task.now.problem in
+    let ws = states_along a in
+    let e = assignment_in c.args.env.now in
+    let d = assignment_in c.loop-part.env in
+    let f = tree_of_formula c.part-item.result in
+    passed-on a (AreLabels p ws c.args.span d f) (AreLabels p ws c.args.span e (joined c.args.junction (tree_of_formulas c.args.parts.now))) (λ y h. item-noted p ws c.args.span e d c.args.junction c.args.parts.now c.as_slice-part-items.result.now c.loop-part.part-index c.part-item.result c.as_slice-part-items.ensures c.loop-part-test.true c.part-item.is (ap assignment_in c.loop-part.invariant.frame) y h) c.from_residual-in_err-found.result c.in_err-found.field-0.0 c.from_residual-in_err-found.ensures.1 c.in_err-found.ensures.labels
 
 pub quantified_labels-guided_labels-requires : goal.quantified_labels-guided_labels-requires
 quantified_labels-guided_labels-requires t c =
@@ -330,7 +439,7 @@ guided_labels-instances-init t c =
       reads = c.open_in_place.ensures.reads;
       scope = λ u. refl;
       slots = c.requires.frame;
-      so_far = guided-begun (plain_problem c.args.along.now.task.now.problem) c.args.along.now.worlds.now (assignment_in c.args.env.now) (with_part c.args.binder.now (tree_of_formula c.args.part.now)) parts.differ parts.occur c.args.guide.now c.requires.guide c.args.span c.requires.span c.in_ok-all.all c.open_in_place.new.self.tuple c.open_in_place.ensures.before (c.in_ok-all.ensures.same ∙ ap (λ (b : Bool). replicate (c.args.span.to - c.args.span.from) (not b)) c.deciding_truth.ensures);
+      so_far = guided-begun (plain_problem c.args.along.now.task.now.problem) (states_along c.args.along.now) (assignment_in c.args.env.now) (with_part c.args.binder.now (tree_of_formula c.args.part.now)) parts.differ parts.occur c.args.guide.now c.requires.guide c.args.span c.requires.span c.in_ok-all.all c.open_in_place.new.self.tuple c.open_in_place.ensures.before (c.in_ok-all.ensures.same ∙ ap (λ (b : Bool). replicate (c.args.span.to - c.args.span.from) (not b)) c.deciding_truth.ensures);
     }
 
 pub guided_labels-values-requires : goal.guided_labels-values-requires
@@ -348,13 +457,14 @@ guided_labels-put_values-requires-clause-same t c =
 
 pub guided_labels-join_instance-requires : goal.guided_labels-join_instance-requires
 guided_labels-join_instance-requires t c =
-    (omega (arith, c.decreases), (c.requires.along, (c.requires.span, (c.put_values.ensures.slots ∙ c.instances.invariant.slots, (c.requires.fits, (c.in_ok-there.ensures, omega (arith, c.instances.invariant.so_far.size, c.requires.span.order)))))))
+    let there = subst (λ (o : Option (List Bool)). IfSome o (λ labels. labels ≡ bound_along c.args.along.now c.args.span c.put_values.new.self c.args.binder.now.bound.now)) c.in-Some.is c.in_ok-there.ensures.labels in
+    (omega (arith, c.decreases), (c.requires.along, (c.requires.span, (c.put_values.ensures.slots ∙ c.instances.invariant.slots, (c.requires.fits, (there, omega (arith, c.instances.invariant.so_far.size, c.requires.span.order)))))))
 
 pub guided_labels-instances-smaller : goal.guided_labels-instances-smaller
 guided_labels-instances-smaller t c =
     let parts = quantified-parts c.args.along.now.task.now.problem c.args.binder.now.junction c.args.binder.now.vars.now c.args.binder.now.bound.now (tree_of_formula c.args.part.now) c.requires.fits in
     let next = subst (IsNext (length c.args.binder.now.vars.now) (λ t. bound_true (situation_of (plain_problem c.args.along.now.task.now.problem) c.args.guide.now) (bind c.args.binder.now.vars.now t (assignment_in c.args.env.now)) c.args.binder.now.bound.now) c.instances.tuples.tuple) c.values.ensures.values (c.next.ensures.next c.args.binder.now.vars.now (assignment_in c.args.env.now) c.instances.invariant.reads) in
-    subst (λ (o : Option (List Value)). length (rest_after o (tuples (situation_of (plain_problem c.args.along.now.task.now.problem) c.args.guide.now) (assignment_in c.args.env.now) c.args.binder.now.vars.now c.args.binder.now.bound.now)) < length (rest_after c.instances.tuples.tuple (tuples (situation_of (plain_problem c.args.along.now.task.now.problem) c.args.guide.now) (assignment_in c.args.env.now) c.args.binder.now.vars.now c.args.binder.now.bound.now))) (sym c.values.ensures.values) (guided-fewer (plain_problem c.args.along.now.task.now.problem) c.args.along.now.worlds.now (assignment_in c.args.env.now) (with_part c.args.binder.now (tree_of_formula c.args.part.now)) parts.differ parts.occur c.args.guide.now c.requires.guide c.args.span c.requires.span c.instances.all c.instances.tuples.tuple c.instances.invariant.so_far c.values.result.now next)
+    subst (λ (o : Option (List Value)). length (rest_after o (tuples (situation_of (plain_problem c.args.along.now.task.now.problem) c.args.guide.now) (assignment_in c.args.env.now) c.args.binder.now.vars.now c.args.binder.now.bound.now)) < length (rest_after c.instances.tuples.tuple (tuples (situation_of (plain_problem c.args.along.now.task.now.problem) c.args.guide.now) (assignment_in c.args.env.now) c.args.binder.now.vars.now c.args.binder.now.bound.now))) (sym c.values.ensures.values) (guided-fewer (plain_problem c.args.along.now.task.now.problem) (states_along c.args.along.now) (assignment_in c.args.env.now) (with_part c.args.binder.now (tree_of_formula c.args.part.now)) parts.differ parts.occur c.args.guide.now c.requires.guide c.args.span c.requires.span c.instances.all c.instances.tuples.tuple c.instances.invariant.so_far c.values.result.now next)
 
 pub guided_labels-instances-preserved : goal.guided_labels-instances-preserved
 guided_labels-instances-preserved t c =
@@ -363,11 +473,11 @@ guided_labels-instances-preserved t c =
     let here = c.put_values.ensures.values ∙ (ap (λ (ss : List Var). bind ss c.values.result.now (assignment_in c.instances.env)) c.as_slice-in-instances.ensures ∙ c.instances.invariant.scope c.values.result.now) in
     record {
       reads = c.next.ensures.reads c.args.binder.now.vars.now (assignment_in c.args.env.now) c.instances.invariant.reads;
-      scope = λ u. bind-through c.args.binder.now.vars.now u c.values.result.now (assignment_in c.join_instance.new.env) (assignment_in c.args.env.now) (ap assignment_in c.in_ok-join_instance.ensures.frame ∙ here);
-      slots = ap length c.in_ok-join_instance.ensures.frame ∙ (c.put_values.ensures.slots ∙ c.instances.invariant.slots);
-      so_far = subst (Guided (plain_problem c.args.along.now.task.now.problem) c.args.along.now.worlds.now (assignment_in c.args.env.now) (with_part c.args.binder.now (tree_of_formula c.args.part.now)) c.args.guide.now c.args.span c.join_instance.new.all) (sym c.values.ensures.values)
-          (guided-on (plain_problem c.args.along.now.task.now.problem) c.args.along.now.worlds.now (assignment_in c.args.env.now) (with_part c.args.binder.now (tree_of_formula c.args.part.now)) parts.differ parts.occur c.args.guide.now c.requires.guide c.args.span c.requires.span c.instances.all c.instances.tuples.tuple c.instances.invariant.so_far c.values.result.now next c.join_instance.new.all c.in_ok-join_instance.field-0
-          (subst (λ (x : Assignment). JoinsInstance (plain_problem c.args.along.now.task.now.problem) c.args.along.now.worlds.now c.args.span x (with_part c.args.binder.now (tree_of_formula c.args.part.now)) c.instances.all c.join_instance.new.all (Ok c.in_ok-join_instance.field-0)) here c.in_ok-join_instance.ensures.joined));
+      scope = λ u. bind-through c.args.binder.now.vars.now u c.values.result.now (assignment_in c.join_instance.new.env) (assignment_in c.args.env.now) (ap assignment_in c.in_ok-join_instance-in-Some.ensures.frame ∙ here);
+      slots = ap length c.in_ok-join_instance-in-Some.ensures.frame ∙ (c.put_values.ensures.slots ∙ c.instances.invariant.slots);
+      so_far = subst (Guided (plain_problem c.args.along.now.task.now.problem) (states_along c.args.along.now) (assignment_in c.args.env.now) (with_part c.args.binder.now (tree_of_formula c.args.part.now)) c.args.guide.now c.args.span c.join_instance.new.all) (sym c.values.ensures.values)
+          (guided-on (plain_problem c.args.along.now.task.now.problem) (states_along c.args.along.now) (assignment_in c.args.env.now) (with_part c.args.binder.now (tree_of_formula c.args.part.now)) parts.differ parts.occur c.args.guide.now c.requires.guide c.args.span c.requires.span c.instances.all c.instances.tuples.tuple c.instances.invariant.so_far c.values.result.now next c.join_instance.new.all c.in_ok-join_instance-in-Some.field-0
+          (subst (λ (x : Assignment). JoinsInstance (plain_problem c.args.along.now.task.now.problem) (states_along c.args.along.now) c.args.span x (with_part c.args.binder.now (tree_of_formula c.args.part.now)) c.instances.all c.join_instance.new.all (Ok c.in_ok-join_instance-in-Some.field-0)) here c.in_ok-join_instance-in-Some.ensures.joined));
     }
 
 pub guided_labels-give_back-requires-clause-slots : goal.guided_labels-give_back-requires-clause-slots
@@ -378,16 +488,27 @@ guided_labels-give_back-requires-clause-slots t c =
 pub guided_labels-returns-clause-labels : goal.guided_labels-returns-clause-labels
 guided_labels-returns-clause-labels t c =
     let parts = quantified-parts c.args.along.now.task.now.problem c.args.binder.now.junction c.args.binder.now.vars.now c.args.binder.now.bound.now (tree_of_formula c.args.part.now) c.requires.fits in
-    guided-end (plain_problem c.args.along.now.task.now.problem) c.args.along.now.worlds.now (assignment_in c.args.env.now) (with_part c.args.binder.now (tree_of_formula c.args.part.now)) parts.differ parts.occur c.args.guide.now c.requires.guide c.args.span c.requires.span c.instances.all c.instances.tuples.tuple c.next.new.self.tuple (c.next.ensures.next c.args.binder.now.vars.now (assignment_in c.args.env.now) c.instances.invariant.reads) (c.next.ensures.end c.instances-test.false) c.instances.invariant.so_far
+    guided-end (plain_problem c.args.along.now.task.now.problem) (states_along c.args.along.now) (assignment_in c.args.env.now) (with_part c.args.binder.now (tree_of_formula c.args.part.now)) parts.differ parts.occur c.args.guide.now c.requires.guide c.args.span c.requires.span c.instances.all c.instances.tuples.tuple c.next.new.self.tuple (c.next.ensures.next c.args.binder.now.vars.now (assignment_in c.args.env.now) c.instances.invariant.reads) (c.next.ensures.end c.instances-test.false) c.instances.invariant.so_far
 
-pub guided_labels-returns-in_err-join_instance-clause-labels : goal.guided_labels-returns-in_err-join_instance-clause-labels
-guided_labels-returns-in_err-join_instance-clause-labels t c =
-    let parts = quantified-parts c.args.along.now.task.now.problem c.args.binder.now.junction c.args.binder.now.vars.now c.args.binder.now.bound.now (tree_of_formula c.args.part.now) c.requires.fits in
-    let next = subst (IsNext (length c.args.binder.now.vars.now) (λ t. bound_true (situation_of (plain_problem c.args.along.now.task.now.problem) c.args.guide.now) (bind c.args.binder.now.vars.now t (assignment_in c.args.env.now)) c.args.binder.now.bound.now) c.instances.tuples.tuple) c.values.ensures.values (c.next.ensures.next c.args.binder.now.vars.now (assignment_in c.args.env.now) c.instances.invariant.reads) in
+pub guided_labels-returns-in_err-join_instance-in-Some-clause-labels : goal.guided_labels-returns-in_err-join_instance-in-Some-clause-labels
+guided_labels-returns-in_err-join_instance-in-Some-clause-labels t c =
+    let a = c.args.along.now in
+    let p = plain_problem a.task.now.problem in
+    let ws = states_along a in
+    let e = assignment_in c.args.env.now in
+    let f = tree_of_formula c.args.part.now in
+    let q : Quantifier = with_part c.args.binder.now f in
+    let parts = quantified-parts a.task.now.problem q.junction q.vars q.bound f c.requires.fits in
+    let next = subst (IsNext (length q.vars) (λ t. bound_true (situation_of p c.args.guide.now) (bind q.vars t e) q.bound) c.instances.tuples.tuple) c.values.ensures.values (c.next.ensures.next q.vars e c.instances.invariant.reads) in
     let here = c.put_values.ensures.values ∙ (ap (λ (ss : List Var). bind ss c.values.result.now (assignment_in c.instances.env)) c.as_slice-in-instances.ensures ∙ c.instances.invariant.scope c.values.result.now) in
-    handed (λ r. AreLabels (plain_problem c.args.along.now.task.now.problem) c.args.along.now.worlds.now c.args.span (assignment_in c.args.env.now) (quantified c.args.binder.now.junction c.args.binder.now.vars.now c.args.binder.now.bound.now (tree_of_formula c.args.part.now)) r) c.from_residual-in_err-join_instance.result c.in_err-join_instance.field-0.0 c.from_residual-in_err-join_instance.ensures.1
-    (guided-noted (plain_problem c.args.along.now.task.now.problem) c.args.along.now.worlds.now (assignment_in c.args.env.now) (with_part c.args.binder.now (tree_of_formula c.args.part.now)) parts.differ parts.occur c.args.guide.now c.requires.guide c.args.span c.requires.span c.instances.all c.instances.tuples.tuple c.instances.invariant.so_far c.values.result.now next c.join_instance.new.all c.in_err-join_instance.field-0.0
-    (subst (λ (y : Assignment). JoinsInstance (plain_problem c.args.along.now.task.now.problem) c.args.along.now.worlds.now c.args.span y (with_part c.args.binder.now (tree_of_formula c.args.part.now)) c.instances.all c.join_instance.new.all (Err c.in_err-join_instance.field-0.0)) here c.in_err-join_instance.ensures.joined))
+    let x = c.in_err-join_instance-in-Some.field-0.0 in
+    let old = c.instances.all in
+    let new = c.join_instance.new.all in
+    let inner = bind q.vars c.values.result.now e in
+    passed-on a (JoinsInstance p ws c.args.span inner q old new) (AreLabels p ws c.args.span e (quantified q.junction q.vars q.bound q.part))
+    (λ y h. guided-noted p ws e q parts.differ parts.occur c.args.guide.now c.requires.guide c.args.span c.requires.span old c.instances.tuples.tuple c.instances.invariant.so_far c.values.result.now next new y h)
+    c.from_residual-in_err-join_instance-in-Some.result x c.from_residual-in_err-join_instance-in-Some.ensures.1
+    (subst (λ (d : Assignment). UnlessFew a (JoinsInstance p ws c.args.span d q old new) (Err x)) here c.in_err-join_instance-in-Some.ensures.joined)
 
 pub guided_labels-bound_labels-requires-clause-fits : goal.guided_labels-bound_labels-requires-clause-fits
 guided_labels-bound_labels-requires-clause-fits t c =
@@ -396,12 +517,12 @@ guided_labels-bound_labels-requires-clause-fits t c =
 
 pub join_instance-hull-requires : goal.join_instance-hull-requires
 join_instance-hull-requires t c =
-    omega (arith, ap length c.requires.there, marks_in-length (bound_ahead (plain_problem c.args.along.now.task.now.problem) (assignment_in c.args.env.now) c.args.binder.now.bound.now) c.args.along.now.worlds.now c.args.span c.requires.span, c.requires.span.order)
+    omega (arith, ap length c.requires.there, marks_in-length (bound_ahead (plain_problem c.args.along.now.task.now.problem) (assignment_in c.args.env.now) c.args.binder.now.bound.now) (states_along c.args.along.now) c.args.span c.requires.span, c.requires.span.order)
 
 pub join_instance-labels_of-requires : goal.join_instance-labels_of-requires
 join_instance-labels_of-requires t c =
     let parts = quantified-parts c.args.along.now.task.now.problem c.args.binder.now.junction c.args.binder.now.vars.now c.args.binder.now.bound.now (tree_of_formula c.args.part.now) c.requires.fits in
-    (omega (arith, c.decreases), (c.requires.along, (hull-within (plain_problem c.args.along.now.task.now.problem) c.args.along.now.worlds.now c.args.span (assignment_in c.args.env.now) (with_part c.args.binder.now (tree_of_formula c.args.part.now)) c.requires.span c.args.there.now c.requires.there c.in-Some.hull c.in-Some.ensures.hull, (c.requires.frame, parts.body))))
+    (omega (arith, c.decreases), (c.requires.along, (hull-within (plain_problem c.args.along.now.task.now.problem) (states_along c.args.along.now) c.args.span (assignment_in c.args.env.now) (with_part c.args.binder.now (tree_of_formula c.args.part.now)) c.requires.span c.args.there.now c.requires.there c.in-Some.hull c.in-Some.ensures.hull, (c.requires.frame, parts.body))))
 
 pub join_instance-overflow_sub-hull : goal.join_instance-overflow_sub-hull
 join_instance-overflow_sub-hull t c =
@@ -409,24 +530,33 @@ join_instance-overflow_sub-hull t c =
 
 pub join_instance-join_where-requires-clause-size : goal.join_instance-join_where-requires-clause-size
 join_instance-join_where-requires-clause-size t c =
-    omega (arith, ap length c.requires.there, marks_in-length (bound_ahead (plain_problem c.args.along.now.task.now.problem) (assignment_in c.args.env.now) c.args.binder.now.bound.now) c.args.along.now.worlds.now c.args.span c.requires.span, c.requires.span.order, c.requires.size)
+    omega (arith, ap length c.requires.there, marks_in-length (bound_ahead (plain_problem c.args.along.now.task.now.problem) (assignment_in c.args.env.now) c.args.binder.now.bound.now) (states_along c.args.along.now) c.args.span c.requires.span, c.requires.span.order, c.requires.size)
 
 pub join_instance-join_where-requires-clause-within : goal.join_instance-join_where-requires-clause-within
 join_instance-join_where-requires-clause-within t c =
     let hull = c.in-Some.ensures.hull in
-    omega (arith, ap length c.requires.there, marks_in-length (bound_ahead (plain_problem c.args.along.now.task.now.problem) (assignment_in c.args.env.now) c.args.binder.now.bound.now) c.args.along.now.worlds.now c.args.span c.requires.span, c.requires.span.order, ap length c.in_ok-found-in-Some.ensures.labels, marks_in-length (true_ahead (plain_problem c.args.along.now.task.now.problem) (assignment_in c.args.env.now) (tree_of_formula c.args.part.now)) c.args.along.now.worlds.now c.in-Some.hull (hull-within (plain_problem c.args.along.now.task.now.problem) c.args.along.now.worlds.now c.args.span (assignment_in c.args.env.now) (with_part c.args.binder.now (tree_of_formula c.args.part.now)) c.requires.span c.args.there.now c.requires.there c.in-Some.hull hull), hull.from, hull.order, hull.to)
+    omega (arith, ap length c.requires.there, marks_in-length (bound_ahead (plain_problem c.args.along.now.task.now.problem) (assignment_in c.args.env.now) c.args.binder.now.bound.now) (states_along c.args.along.now) c.args.span c.requires.span, c.requires.span.order, ap length c.in_ok-found-in-Some.ensures.labels, marks_in-length (true_ahead (plain_problem c.args.along.now.task.now.problem) (assignment_in c.args.env.now) (tree_of_formula c.args.part.now)) (states_along c.args.along.now) c.in-Some.hull (hull-within (plain_problem c.args.along.now.task.now.problem) (states_along c.args.along.now) c.args.span (assignment_in c.args.env.now) (with_part c.args.binder.now (tree_of_formula c.args.part.now)) c.requires.span c.args.there.now c.requires.there c.in-Some.hull hull), hull.from, hull.order, hull.to)
 
 pub join_instance-returns-in-None-clause-joined : goal.join_instance-returns-in-None-clause-joined
 join_instance-returns-in-None-clause-joined t c =
-    instance-nowhere (plain_problem c.args.along.now.task.now.problem) c.args.along.now.worlds.now c.args.span (assignment_in c.args.env.now) (with_part c.args.binder.now (tree_of_formula c.args.part.now)) c.requires.span c.args.there.now c.requires.there c.args.all.now tt (omega (arith, c.requires.size)) c.in-None.ensures.none
+    instance-nowhere (plain_problem c.args.along.now.task.now.problem) (states_along c.args.along.now) c.args.span (assignment_in c.args.env.now) (with_part c.args.binder.now (tree_of_formula c.args.part.now)) c.requires.span c.args.there.now c.requires.there c.args.all.now tt (omega (arith, c.requires.size)) c.in-None.ensures.none
 
 pub join_instance-returns-in_ok-join_where-in-Some-clause-joined : goal.join_instance-returns-in_ok-join_where-in-Some-clause-joined
 join_instance-returns-in_ok-join_where-in-Some-clause-joined t c =
-    instance-joined (plain_problem c.args.along.now.task.now.problem) c.args.along.now.worlds.now c.args.span (assignment_in c.args.env.now) (with_part c.args.binder.now (tree_of_formula c.args.part.now)) c.requires.span c.args.there.now c.requires.there c.in-Some.hull c.in-Some.ensures.hull c.args.all.now c.join_where.new.self c.in_ok-found-in-Some.found tt (omega (arith, c.requires.size)) c.in_ok-found-in-Some.ensures.labels c.in_ok-join_where-in-Some.ensures.size c.in_ok-join_where-in-Some.ensures.joined
+    instance-joined (plain_problem c.args.along.now.task.now.problem) (states_along c.args.along.now) c.args.span (assignment_in c.args.env.now) (with_part c.args.binder.now (tree_of_formula c.args.part.now)) c.requires.span c.args.there.now c.requires.there c.in-Some.hull c.in-Some.ensures.hull c.args.all.now c.join_where.new.self c.in_ok-found-in-Some.found tt (omega (arith, c.requires.size)) c.in_ok-found-in-Some.ensures.labels c.in_ok-join_where-in-Some.ensures.size c.in_ok-join_where-in-Some.ensures.joined
 
 pub join_instance-returns-in_err-found-in-Some-clause-joined : goal.join_instance-returns-in_err-found-in-Some-clause-joined
 join_instance-returns-in_err-found-in-Some-clause-joined t c =
-    handed (λ r. JoinsInstance (plain_problem c.args.along.now.task.now.problem) c.args.along.now.worlds.now c.args.span (assignment_in c.args.env.now) (with_part c.args.binder.now (tree_of_formula c.args.part.now)) c.args.all.now c.args.all.now r) c.from_residual.result c.in_err-found-in-Some.field-0.0 c.from_residual.ensures.1 (guided.instance-noted (plain_problem c.args.along.now.task.now.problem) c.args.along.now.worlds.now c.args.span (assignment_in c.args.env.now) (with_part c.args.binder.now (tree_of_formula c.args.part.now)) c.requires.span c.args.there.now c.requires.there c.in-Some.hull c.in-Some.ensures.hull c.args.all.now c.args.all.now c.in_err-found-in-Some.field-0.0 c.in_err-found-in-Some.ensures.labels)
+    let a = c.args.along.now in
+    let p = plain_problem a.task.now.problem in
+    let ws = states_along a in
+    let e = assignment_in c.args.env.now in
+    let f = tree_of_formula c.args.part.now in
+    let q : Quantifier = with_part c.args.binder.now f in
+    let all = c.args.all.now in
+    passed-on a (AreLabels p ws c.in-Some.hull e f) (JoinsInstance p ws c.args.span e q all all)
+    (λ y h. guided.instance-noted p ws c.args.span e q c.requires.span c.args.there.now c.requires.there c.in-Some.hull c.in-Some.ensures.hull all all y h)
+    c.from_residual.result c.in_err-found-in-Some.field-0.0 c.from_residual.ensures.1 c.in_err-found-in-Some.ensures.labels
 
 pub stepped_labels-gathered-requires-clause-differ : goal.stepped_labels-gathered-requires-clause-differ
 stepped_labels-gathered-requires-clause-differ t c =
@@ -453,13 +583,14 @@ stepped_labels-loop-tuple-init t c =
     let parts = quantified-parts c.args.along.now.task.now.problem c.args.binder.now.junction c.args.binder.now.vars.now c.args.binder.now.bound.now (tree_of_formula c.args.part.now) c.requires.fits in
     let p = plain_problem c.args.along.now.task.now.problem in
     let e = assignment_in c.args.env.now in
-    let ws = c.args.along.now.worlds.now in
+    let ws = (states_along c.args.along.now) in
     let q : Quantifier = with_part c.args.binder.now (tree_of_formula c.args.part.now) in
-    let tracks = c.in_ok-tracks.tracks in
+    let tracks = c.in-Some.tracks in
+    let gathers = gathers-known c.args.along.now c.args.env.now c.args.binder.now c.args.span c.in_ok-tracks.field-0 tracks c.in-Some.is c.in_ok-tracks.ensures.gathered in
     record {
       scope = λ u. refl;
       slots = c.requires.frame;
-      so_far = stepped-begun p ws e q parts.differ parts.occur c.args.span c.requires.span tracks c.in_ok-tracks.ensures c.in_ok-all.all c.deref-tuple-items.result.now c.deref-tuple-items.ensures.value (c.in_ok-all.ensures.same ∙ ap (λ (b : Bool). replicate (c.args.span.to - c.args.span.from) (not b)) c.deciding_truth.ensures);
+      so_far = stepped-begun p ws e q parts.differ parts.occur c.args.span c.requires.span tracks gathers c.in_ok-all.all c.deref-tuple-items.result.now c.deref-tuple-items.ensures.value (c.in_ok-all.ensures.same ∙ ap (λ (b : Bool). replicate (c.args.span.to - c.args.span.from) (not b)) c.deciding_truth.ensures);
     }
 
 pub stepped_labels-put_values-requires-clause-slots : goal.stepped_labels-put_values-requires-clause-slots
@@ -472,12 +603,13 @@ stepped_labels-put_values-requires-clause-same t c =
     let parts = quantified-parts c.args.along.now.task.now.problem c.args.binder.now.junction c.args.binder.now.vars.now c.args.binder.now.bound.now (tree_of_formula c.args.part.now) c.requires.fits in
     let p = plain_problem c.args.along.now.task.now.problem in
     let e = assignment_in c.args.env.now in
-    let ws = c.args.along.now.worlds.now in
+    let ws = (states_along c.args.along.now) in
     let q : Quantifier = with_part c.args.binder.now (tree_of_formula c.args.part.now) in
-    let tracks = c.in_ok-tracks.tracks in
+    let tracks = c.in-Some.tracks in
+    let gathers = gathers-known c.args.along.now c.args.env.now c.args.binder.now c.args.span c.in_ok-tracks.field-0 tracks c.in-Some.is c.in_ok-tracks.ensures.gathered in
     let f = c.tuple-item.result in
     let items = c.deref-tuple-items.result.now in
-    let known = each-among (IsTuple (length q.vars)) items f (subst (Each (IsTuple (length q.vars))) (sym c.deref-tuple-items.ensures.value) c.in_ok-tracks.ensures.counts) (among-item items c.loop-tuple.tuple-index f c.loop-tuple-test.true c.tuple-item.is) in
+    let known = each-among (IsTuple (length q.vars)) items f (subst (Each (IsTuple (length q.vars))) (sym c.deref-tuple-items.ensures.value) gathers.counts) (among-item items c.loop-tuple.tuple-index f c.loop-tuple-test.true c.tuple-item.is) in
     ap length c.as_slice-in-loop-tuple.ensures ∙ sym (ap length c.as_slice-in-loop-tuple-2.ensures ∙ known.1)
 
 pub stepped_labels-join_instance-requires : goal.stepped_labels-join_instance-requires
@@ -485,16 +617,17 @@ stepped_labels-join_instance-requires t c =
     let parts = quantified-parts c.args.along.now.task.now.problem c.args.binder.now.junction c.args.binder.now.vars.now c.args.binder.now.bound.now (tree_of_formula c.args.part.now) c.requires.fits in
     let p = plain_problem c.args.along.now.task.now.problem in
     let e = assignment_in c.args.env.now in
-    let ws = c.args.along.now.worlds.now in
+    let ws = (states_along c.args.along.now) in
     let q : Quantifier = with_part c.args.binder.now (tree_of_formula c.args.part.now) in
-    let tracks = c.in_ok-tracks.tracks in
+    let tracks = c.in-Some.tracks in
+    let gathers = gathers-known c.args.along.now c.args.env.now c.args.binder.now c.args.span c.in_ok-tracks.field-0 tracks c.in-Some.is c.in_ok-tracks.ensures.gathered in
     let f = c.tuple-item.result in
     let items = c.deref-tuple-items.result.now in
-    let known = each-among (IsTuple (length q.vars)) items f (subst (Each (IsTuple (length q.vars))) (sym c.deref-tuple-items.ensures.value) c.in_ok-tracks.ensures.counts) (among-item items c.loop-tuple.tuple-index f c.loop-tuple-test.true c.tuple-item.is) in
+    let known = each-among (IsTuple (length q.vars)) items f (subst (Each (IsTuple (length q.vars))) (sym c.deref-tuple-items.ensures.value) gathers.counts) (among-item items c.loop-tuple.tuple-index f c.loop-tuple-test.true c.tuple-item.is) in
     let here = c.put_values.ensures.values ∙ (ap (λ (ss : List Var). bind ss c.as_slice-in-loop-tuple-2.result.now (assignment_in c.loop-tuple.env)) c.as_slice-in-loop-tuple.ensures ∙ (ap (λ (u : List Value). bind q.vars u (assignment_in c.loop-tuple.env)) c.as_slice-in-loop-tuple-2.ensures ∙ c.loop-tuple.invariant.scope f.args)) in
     let there = c.in_ok-there.ensures
     ∙ (ap (λ (cs : List Change). test_from (truth_from false cs) c.args.span.from (c.args.span.to - c.args.span.from)) c.line_of.ensures
-    ∙ (tuple-labels p ws e q parts.differ parts.occur c.args.span c.requires.span tracks c.in_ok-tracks.ensures f known ∙ ap (λ (x : Assignment). marks_in (bound_ahead p x q.bound) ws c.args.span) (sym here))) in
+    ∙ (tuple-labels p ws e q parts.differ parts.occur c.args.span c.requires.span tracks gathers f known ∙ ap (λ (x : Assignment). marks_in (bound_ahead p x q.bound) ws c.args.span) (sym here))) in
     (omega (arith, c.decreases), (c.requires.along, (c.requires.span, (c.put_values.ensures.slots ∙ c.loop-tuple.invariant.slots, (c.requires.fits, (there, omega (arith, c.loop-tuple.invariant.so_far.size, c.requires.span.order)))))))
 
 pub stepped_labels-loop-tuple-preserved : goal.stepped_labels-loop-tuple-preserved
@@ -502,17 +635,18 @@ stepped_labels-loop-tuple-preserved t c =
     let parts = quantified-parts c.args.along.now.task.now.problem c.args.binder.now.junction c.args.binder.now.vars.now c.args.binder.now.bound.now (tree_of_formula c.args.part.now) c.requires.fits in
     let p = plain_problem c.args.along.now.task.now.problem in
     let e = assignment_in c.args.env.now in
-    let ws = c.args.along.now.worlds.now in
+    let ws = (states_along c.args.along.now) in
     let q : Quantifier = with_part c.args.binder.now (tree_of_formula c.args.part.now) in
-    let tracks = c.in_ok-tracks.tracks in
+    let tracks = c.in-Some.tracks in
+    let gathers = gathers-known c.args.along.now c.args.env.now c.args.binder.now c.args.span c.in_ok-tracks.field-0 tracks c.in-Some.is c.in_ok-tracks.ensures.gathered in
     let f = c.tuple-item.result in
     let items = c.deref-tuple-items.result.now in
-    let known = each-among (IsTuple (length q.vars)) items f (subst (Each (IsTuple (length q.vars))) (sym c.deref-tuple-items.ensures.value) c.in_ok-tracks.ensures.counts) (among-item items c.loop-tuple.tuple-index f c.loop-tuple-test.true c.tuple-item.is) in
+    let known = each-among (IsTuple (length q.vars)) items f (subst (Each (IsTuple (length q.vars))) (sym c.deref-tuple-items.ensures.value) gathers.counts) (among-item items c.loop-tuple.tuple-index f c.loop-tuple-test.true c.tuple-item.is) in
     let here = c.put_values.ensures.values ∙ (ap (λ (ss : List Var). bind ss c.as_slice-in-loop-tuple-2.result.now (assignment_in c.loop-tuple.env)) c.as_slice-in-loop-tuple.ensures ∙ (ap (λ (u : List Value). bind q.vars u (assignment_in c.loop-tuple.env)) c.as_slice-in-loop-tuple-2.ensures ∙ c.loop-tuple.invariant.scope f.args)) in
     record {
       scope = λ u. bind-through q.vars u f.args (assignment_in c.join_instance.new.env) e (ap assignment_in c.in_ok-join_instance.ensures.frame ∙ here);
       slots = ap length c.in_ok-join_instance.ensures.frame ∙ (c.put_values.ensures.slots ∙ c.loop-tuple.invariant.slots);
-      so_far = stepped-on p ws e q parts.differ parts.occur c.args.span c.requires.span tracks c.in_ok-tracks.ensures c.loop-tuple.all items c.loop-tuple.tuple-index f c.loop-tuple.invariant.so_far c.loop-tuple-test.true c.tuple-item.is c.join_instance.new.all c.in_ok-join_instance.field-0
+      so_far = stepped-on p ws e q parts.differ parts.occur c.args.span c.requires.span tracks gathers c.loop-tuple.all items c.loop-tuple.tuple-index f c.loop-tuple.invariant.so_far c.loop-tuple-test.true c.tuple-item.is c.join_instance.new.all c.in_ok-join_instance.field-0
           (subst (λ (x : Assignment). JoinsInstance p ws c.args.span x q c.loop-tuple.all c.join_instance.new.all (Ok c.in_ok-join_instance.field-0)) here c.in_ok-join_instance.ensures.joined);
     }
 
@@ -526,23 +660,29 @@ stepped_labels-returns-clause-labels t c =
     let parts = quantified-parts c.args.along.now.task.now.problem c.args.binder.now.junction c.args.binder.now.vars.now c.args.binder.now.bound.now (tree_of_formula c.args.part.now) c.requires.fits in
     let p = plain_problem c.args.along.now.task.now.problem in
     let e = assignment_in c.args.env.now in
-    let ws = c.args.along.now.worlds.now in
+    let ws = (states_along c.args.along.now) in
     let q : Quantifier = with_part c.args.binder.now (tree_of_formula c.args.part.now) in
-    let tracks = c.in_ok-tracks.tracks in
-    stepped-end p ws e q parts.differ parts.occur c.args.span c.requires.span tracks c.in_ok-tracks.ensures c.loop-tuple.all c.deref-tuple-items.result.now c.loop-tuple.tuple-index c.loop-tuple-test.false c.loop-tuple.invariant.so_far
+    let tracks = c.in-Some.tracks in
+    let gathers = gathers-known c.args.along.now c.args.env.now c.args.binder.now c.args.span c.in_ok-tracks.field-0 tracks c.in-Some.is c.in_ok-tracks.ensures.gathered in
+    stepped-end p ws e q parts.differ parts.occur c.args.span c.requires.span tracks gathers c.loop-tuple.all c.deref-tuple-items.result.now c.loop-tuple.tuple-index c.loop-tuple-test.false c.loop-tuple.invariant.so_far
 
 pub stepped_labels-returns-in_err-join_instance-clause-labels : goal.stepped_labels-returns-in_err-join_instance-clause-labels
 stepped_labels-returns-in_err-join_instance-clause-labels t c =
     let parts = quantified-parts c.args.along.now.task.now.problem c.args.binder.now.junction c.args.binder.now.vars.now c.args.binder.now.bound.now (tree_of_formula c.args.part.now) c.requires.fits in
     let p = plain_problem c.args.along.now.task.now.problem in
     let e = assignment_in c.args.env.now in
-    let ws = c.args.along.now.worlds.now in
+    let ws = (states_along c.args.along.now) in
     let q : Quantifier = with_part c.args.binder.now (tree_of_formula c.args.part.now) in
-    let tracks = c.in_ok-tracks.tracks in
+    let tracks = c.in-Some.tracks in
+    let gathers = gathers-known c.args.along.now c.args.env.now c.args.binder.now c.args.span c.in_ok-tracks.field-0 tracks c.in-Some.is c.in_ok-tracks.ensures.gathered in
     let f = c.tuple-item.result in
     let items = c.deref-tuple-items.result.now in
-    let known = each-among (IsTuple (length q.vars)) items f (subst (Each (IsTuple (length q.vars))) (sym c.deref-tuple-items.ensures.value) c.in_ok-tracks.ensures.counts) (among-item items c.loop-tuple.tuple-index f c.loop-tuple-test.true c.tuple-item.is) in
+    let known = each-among (IsTuple (length q.vars)) items f (subst (Each (IsTuple (length q.vars))) (sym c.deref-tuple-items.ensures.value) gathers.counts) (among-item items c.loop-tuple.tuple-index f c.loop-tuple-test.true c.tuple-item.is) in
     let here = c.put_values.ensures.values ∙ (ap (λ (ss : List Var). bind ss c.as_slice-in-loop-tuple-2.result.now (assignment_in c.loop-tuple.env)) c.as_slice-in-loop-tuple.ensures ∙ (ap (λ (u : List Value). bind q.vars u (assignment_in c.loop-tuple.env)) c.as_slice-in-loop-tuple-2.ensures ∙ c.loop-tuple.invariant.scope f.args)) in
-    handed (λ r. AreLabels p ws c.args.span e (quantified q.junction q.vars q.bound q.part) r) c.from_residual-in_err-join_instance.result c.in_err-join_instance.field-0.0 c.from_residual-in_err-join_instance.ensures.1
-    (stepped-noted p ws e q parts.differ parts.occur c.args.span c.requires.span tracks c.in_ok-tracks.ensures f known.1 c.loop-tuple.all c.join_instance.new.all c.in_err-join_instance.field-0.0
-    (subst (λ (y : Assignment). JoinsInstance p ws c.args.span y q c.loop-tuple.all c.join_instance.new.all (Err c.in_err-join_instance.field-0.0)) here c.in_err-join_instance.ensures.joined))
+    let x = c.in_err-join_instance.field-0.0 in
+    let old = c.loop-tuple.all in
+    let new = c.join_instance.new.all in
+    passed-on c.args.along.now (JoinsInstance p ws c.args.span (bind q.vars f.args e) q old new) (AreLabels p ws c.args.span e (quantified q.junction q.vars q.bound q.part))
+    (λ y h. stepped-noted p ws e q parts.differ parts.occur c.args.span c.requires.span tracks gathers f known.1 old new y h)
+    c.from_residual-in_err-join_instance.result x c.from_residual-in_err-join_instance.ensures.1
+    (subst (λ (d : Assignment). UnlessFew c.args.along.now (JoinsInstance p ws c.args.span d q old new) (Err x)) here c.in_err-join_instance.ensures.joined)

@@ -4,6 +4,7 @@ use Rattle.tl_check.proofs.GuidedLaws.{Guided}
 use Rattle.tl_check.proofs.PartLabels.{PartsSoFar}
 use Rattle.tl_check.proofs.Sizes.{size, sizes}
 use Rattle.tl_check.specs.Quantifiers.{with_part}
+use Rattle.tl_check.specs.StatesAlong.{states_along}
 use Rattle.tl_eval.proofs.TupleRest.{rest_after}
 use Rattle.tl_eval.specs.Frames.{assignment_in, AgreeElsewhere}
 use Rattle.tl_eval.specs.Reader.{ReadsTuples}
@@ -46,7 +47,7 @@ decreases-stepped_labels l = 2 + 4 * size (tree_of_formula l.part.now)
 abbrev pub invariant-parts_labels-loop-part : goal.invariant-parts_labels-loop-part
 invariant-parts_labels-loop-part l = record {
   frame : l.env ≡ l.fn.env;
-  so_far : PartsSoFar (plain_problem l.along.task.now.problem) (assignment_in l.fn.env) l.along.worlds.now l.span l.junction l.part-items (drop l.part-index l.part-items) l.all;
+  so_far : PartsSoFar (plain_problem l.along.task.now.problem) (assignment_in l.fn.env) (states_along l.along) l.span l.junction l.part-items (drop l.part-index l.part-items) l.all;
 }
 
 abbrev pub decreases-guided_labels-instances : goal.decreases-guided_labels-instances
@@ -57,12 +58,12 @@ invariant-guided_labels-instances l = record {
   reads : ReadsTuples l.binder.vars.now (assignment_in l.fn.env) l.binder.bound.now l.tuples;
   scope : AgreeElsewhere l.binder.vars.now (assignment_in l.env) (assignment_in l.fn.env);
   slots : length l.env ≡ 32;
-  so_far : Guided (plain_problem l.along.task.now.problem) l.along.worlds.now (assignment_in l.fn.env) (with_part l.binder (tree_of_formula l.part)) l.guide l.span l.all l.tuples.tuple;
+  so_far : Guided (plain_problem l.along.task.now.problem) (states_along l.along) (assignment_in l.fn.env) (with_part l.binder (tree_of_formula l.part)) l.guide l.span l.all l.tuples.tuple;
 }
 
 abbrev pub invariant-stepped_labels-loop-tuple : goal.invariant-stepped_labels-loop-tuple
 invariant-stepped_labels-loop-tuple l = record {
   scope : AgreeElsewhere l.binder.vars.now (assignment_in l.env) (assignment_in l.fn.env);
   slots : length l.env ≡ 32;
-  so_far : Stepped (plain_problem l.along.task.now.problem) l.along.worlds.now (assignment_in l.fn.env) (with_part l.binder (tree_of_formula l.part)) l.span l.all (drop l.tuple-index l.tuple-items);
+  so_far : Stepped (plain_problem l.along.task.now.problem) (states_along l.along) (assignment_in l.fn.env) (with_part l.binder (tree_of_formula l.part)) l.span l.all (drop l.tuple-index l.tuple-items);
 }

@@ -1,9 +1,5 @@
-use Rattle.std.proofs.Common.{◌≡◌, ◌<◌, List, length, Option, Some, refl, sym, subst, arith, ◌∙◌}
-use Rattle.std.proofs.lemmas.Option.{slice_get_read}
+use Rattle.std.proofs.Common.{◌<◌, List, length, Option, sym, subst}
 use Rattle.tl_check.proofs.GatheredLaws.{Noting, tuples-begun, tuples-fewer, tuples-on, tuples-end, one-counts, fact-is_tuple}
-use Rattle.tl_check.specs.Differences.{fact_with}
-use Rattle.tl_check.specs.Gathered.{IsNoted}
-use Rattle.tl_check.specs.Tracks.{line_in}
 use Rattle.tl_eval.proofs.TupleRest.{rest_after}
 use Rattle.tl_eval.specs.Frames.{assignment_in}
 use Rattle.tl_syntax.specs.declared.value.Value.{Value}
@@ -11,13 +7,12 @@ use Rattle.tl_syntax.specs.Assignment.{bind}
 use Rattle.tl_terms.specs.Bounds.{bound_true, tuples}
 use Rattle.tl_terms.specs.Definitions.{situation_of}
 use Rattle.tl_terms.specs.ProblemMeaning.{plain_problem}
-use Rattle.tl_terms.specs.World.{World}
 use Rattle.tl_world.specs.Next.{IsNext}
 use Rattle.tl_check.proofs.tracks.Tracks.note_tuples.Goals as goal
 
 pub reading-init : goal.reading-init
 reading-init c =
-    let s = situation_of (plain_problem c.args.along.now.task.now.problem) c.index-worlds-here.result in
+    let s = situation_of (plain_problem c.args.along.now.task.now.problem) c.args.w.now in
     record {
       reads = c.open_in_place.ensures.reads;
       noted = tuples-begun s (assignment_in c.args.env.now) c.args.binder.now.vars.now c.args.binder.now.bound.now c.requires.differ c.requires.occur c.args.here c.args.self.now.lines c.open_in_place.new.self.tuple c.open_in_place.ensures.before;
@@ -27,7 +22,7 @@ reading-init c =
 
 pub reading-smaller : goal.reading-smaller
 reading-smaller c =
-    let s = situation_of (plain_problem c.args.along.now.task.now.problem) c.index-worlds-here.result in
+    let s = situation_of (plain_problem c.args.along.now.task.now.problem) c.args.w.now in
     let e = assignment_in c.args.env.now in
     let ss = c.args.binder.now.vars.now in
     let b = c.args.binder.now.bound.now in
@@ -37,7 +32,7 @@ reading-smaller c =
 
 pub reading-preserved : goal.reading-preserved
 reading-preserved c =
-    let s = situation_of (plain_problem c.args.along.now.task.now.problem) c.index-worlds-here.result in
+    let s = situation_of (plain_problem c.args.along.now.task.now.problem) c.args.w.now in
     let e = assignment_in c.args.env.now in
     let ss = c.args.binder.now.vars.now in
     let b = c.args.binder.now.bound.now in
@@ -53,15 +48,9 @@ reading-preserved c =
     }
 
 pub returns-clause-noted : goal.returns-clause-noted
-returns-clause-noted c = λ w h a.
-    let p = plain_problem c.args.along.now.task.now.problem in
-    let s = situation_of p c.index-worlds-here.result in
+returns-clause-noted c = λ a.
+    let s = situation_of (plain_problem c.args.along.now.task.now.problem) c.args.w.now in
     let e = assignment_in c.args.env.now in
     let ss = c.args.binder.now.vars.now in
     let b = c.args.binder.now.bound.now in
-    let ws = c.args.along.now.worlds.now in
-    let here = slice_get_read ws (length ws) c.args.here.from c.index-worlds-here.result refl (omega (arith, c.requires.some, c.requires.within)) c.index-worlds-here.is in
-    let both : Some c.index-worlds-here.result ≡ Some w = sym here ∙ h in
-    let same : c.index-worlds-here.result ≡ w = cc in
-    subst (λ (v : World). IsNoted (tuples (situation_of p v) e ss b) c.args.here a (line_in c.args.self.now.lines (fact_with 0 a)) (line_in c.reading.self.lines (fact_with 0 a))) same
-    (tuples-end s e ss b c.requires.differ c.requires.occur c.args.here c.args.self.now.lines c.reading.tuples.tuple c.next.new.self.tuple c.reading.self.lines (c.next.ensures.next ss e c.reading.invariant.reads) (c.next.ensures.end c.reading-test.false) c.reading.invariant.noted a)
+    tuples-end s e ss b c.requires.differ c.requires.occur c.args.here c.args.self.now.lines c.reading.tuples.tuple c.next.new.self.tuple c.reading.self.lines (c.next.ensures.next ss e c.reading.invariant.reads) (c.next.ensures.end c.reading-test.false) c.reading.invariant.noted a
