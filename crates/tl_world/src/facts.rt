@@ -149,7 +149,7 @@ fn with_fact(
         }
         Ok(i) => {
             let t = &tables[i];
-            match find_row(t.rows.runs(), args.as_slice()) {
+            match t.rows.find(args.as_slice()) {
                 Ok(_) => Ok(()),
                 Err(k) => {
                     let old = tables.remove(i);

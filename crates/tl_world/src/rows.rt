@@ -2,14 +2,17 @@
 ghost use Rattle.std.specs.Hash as fed;
 ghost use Rattle.std.specs.Hash.{same_Alike};
 ghost use Rattle.std.specs.List.{insert, remove};
+ghost use Rattle.std.specs.List.Sorted.{IsBinarySearchResult, IsSearchInRange};
 ghost use Rattle.std.specs.Prelude.{◌≡◌, ◌<◌, ◌≤◌, ◌==◌, [], ◌∷◌, length, take, drop, slice_index_or, IfOk, IfSome};
 ghost use Rattle.tl_syntax.proofs.Telling.{tells-partial, tells-equivalence};
 ghost use Rattle.tl_world.specs.Codes.{row_code, rows_code, values_eq};
 ghost use Rattle.tl_world.specs.Moves.{place_after};
 ghost use Rattle.tl_world.specs.RowTests.{rows_eq, rows-tell};
 ghost use Rattle.tl_world.specs.Second.{IsSecond};
+ghost use Rattle.tl_world.specs.Tables.{row_cmp};
 
-use crate::runs::Runs;
+use crate::runs::{Runs, find_row};
+use crate::same_row::is_same_row;
 use crate::second::Second;
 use std::alloc::Global;
 use std::hash::{FoldHasher, Hash, Hasher};
@@ -18,12 +21,13 @@ use tl_syntax::{NoMemory, Value};
 
 /// The argument lists of one predicate's facts. Contracts see it as the list of its rows.
 ///
-/// The rows stand in runs, which tables share. A large table of rows with two values or more keeps them by their second value too.
+/// The rows stand in runs, which tables share. A large table of rows with two values or more keeps them by their second value too. The place at which a row came in for another one is kept as a guess.
 #[derive(Drop)]
 pub struct Rows {
     runs: Runs,
     second: Second,
     code: u64,
+    fresh: usize,
 }
 
 /// How many rows a table has at least that is given a second order.
@@ -50,6 +54,11 @@ pub(crate) fn code_of_row(row: &[Value]) -> u64
     let mut hasher = FoldHasher::default();
     row.hash(&mut hasher);
     hasher.finish()
+}
+
+/// The place of what stood at `at`, where the place `cut` is taken out.
+fn place_left(cut: usize, at: usize) -> usize {
+    if at <= cut { at } else { at - 1 }
 }
 
 impl Rows {
@@ -95,6 +104,18 @@ impl Rows {
         self.runs.same_rows(k, &other.runs, l)
     }
 
+    /// The place of the row with these arguments, or the place at which it would stand, by halves where the row that came in last is another one.
+    pub(crate) fn find(&self, args: &[Value]) -> Result<usize, usize>
+        ensures range { IsSearchInRange result (length self.now) }
+        ensures place { IsBinarySearchResult (λ r. row_cmp r args.now) self.now result }
+    {
+        let k = self.fresh;
+        if k < self.runs.len() && is_same_row(self.runs.row(k), args) {
+            return Ok(k);
+        }
+        find_row(&self.runs, args)
+    }
+
     /// The code of the rows. It takes no memory.
     pub(crate) fn code(&self) -> u64 {
         self.code
@@ -129,6 +150,7 @@ impl Rows {
             runs: self.runs,
             second,
             code: self.code,
+            fresh: self.fresh,
         })
     }
 
@@ -140,6 +162,7 @@ impl Rows {
             runs: Runs::of_one(alloc, row)?,
             second: Second::none(),
             code: code_of_row(row),
+            fresh: 0,
         })
     }
 
@@ -152,6 +175,7 @@ impl Rows {
             runs: self.runs.with(alloc, k, row)?,
             second: self.second.with(alloc, row)?,
             code: self.code.wrapping_add(code_of_row(row)),
+            fresh: k,
         })
     }
 
@@ -165,6 +189,7 @@ impl Rows {
             runs: self.runs.put(alloc, k, row)?,
             second,
             code: self.code.wrapping_add(code_of_row(row)),
+            fresh: k,
         })
     }
 
@@ -177,6 +202,7 @@ impl Rows {
             runs: self.runs.without(alloc, k)?,
             second: self.second.without(alloc, self.runs.row(k))?,
             code: self.code.wrapping_sub(code_of_row(self.runs.row(k))),
+            fresh: k,
         })
     }
 
@@ -197,6 +223,7 @@ impl Rows {
             runs: self.runs.moved(alloc, cut, at, row)?,
             second: self.second.moved(alloc, self.runs.row(cut), row)?,
             code: more.wrapping_sub(code_of_row(self.runs.row(cut))),
+            fresh: place_left(cut, at),
         })
     }
 }
