@@ -107,6 +107,7 @@ fn is_at(tuple: &[Value], n: usize, v: Value) -> bool
 }
 
 /// How many first variables the parts have, where the row is the parts with the tuple's values put in, and the variables first stand in the order of their numbers.
+#[inline(always)]
 pub(crate) fn fits_in_turn(parts: &[Part], row: &[Value], tuple: &[Value]) -> Option<usize>
     ensures fits { IfSome result (λ _. fits_all parts.now row.now tuple.now ≡ true) }
     ensures turn { IfSome result (λ _. are_in_turn 0 parts.now ≡ true) }

@@ -39,6 +39,7 @@ pub(crate) fn put_value(part: Part, v: Value, seen: usize, values: &mut [Value; 
 }
 
 /// How many first variables the parts have, where some tuple makes them the row. Their values are then put into the first places of `values`.
+#[inline(always)]
 pub(crate) fn put_values(
     parts: &[Part],
     free: u32,
