@@ -20,7 +20,7 @@ use Rattle.tl_syntax.specs.TreeOfFormula.{tree_of_formula, tree_of_formulas}
 use Rattle.tl_syntax.specs.Trees.{FormulaTree, FormulaTrees, verum, falsum, atom, defined, compare, goal_fact, goal_place, goal_not, negation, conjunction, disjunction, for_all, for_some, next, always, eventually, until, within, during, no_formula, more_formulas, formulas_of_list}
 
 -- a slot that is not around is not inside
-abbrev Less : List ℕ → List ℕ → Type 0
+abbrev pub Less : List ℕ → List ℕ → Type 0
 Less around inner = (q : ℕ) → is_slot_in around q ≡ false → is_slot_in inner q ≡ false
 
 less-below : (slots around inner : List ℕ) → Less around inner → Less (slots ++ around) (slots ++ inner)
@@ -41,7 +41,7 @@ variables-less g around inner h ss b v = record { frame = v.frame; fresh = each-
 mutual
   unfolding Fits
 
-  fits-less : (g : Signature) (around inner : List ℕ) → Less around inner → (f : FormulaTree) → Fits g around f → Fits g inner f
+  pub fits-less : (g : Signature) (around inner : List ℕ) → Less around inner → (f : FormulaTree) → Fits g around f → Fits g inner f
   fits-less g around inner h verum k = k
   fits-less g around inner h falsum k = k
   fits-less g around inner h (atom p ts) k = k

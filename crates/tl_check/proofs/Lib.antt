@@ -30,4 +30,6 @@ pub mod AtomLaws
 pub mod GuidedLaws
 pub mod SteadyLaws
 pub mod GatheredLaws
+pub mod OrderedLaws
+pub mod OrderLaws
 pub mod SamePlaces

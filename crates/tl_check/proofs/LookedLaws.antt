@@ -22,7 +22,7 @@ use Rattle.tl_terms.specs.World.{World}
 
 -- ---- lists of operations
 
-one-within-each : {A : Type 0} (P Q : A → Type 0) → ((x : A) → P x → Q x) → (xs : List A) → One P xs → One Q xs
+pub one-within-each : {A : Type 0} (P Q : A → Type 0) → ((x : A) → P x → Q x) → (xs : List A) → One P xs → One Q xs
 one-within-each P Q h [] k = k
 one-within-each P Q h (x ∷ xs) k = elim k [ inl m ↦ inl (h x m) | inr m ↦ inr (one-within-each P Q h xs m) ]
 
@@ -101,7 +101,7 @@ module _ (p : PlainProblem) (ws : List World) (o : Operation) where
       (state-basics (looks_of p w) (map (situation_of p) (take (suc k) ws)) (situation_of p w) (among-situations p (take (suc k) ws) w (among-first ws k k w q (omega arith))) o e f h)
 
   -- what its part looks at
-  within-there : (e d : Assignment) (f g : FormulaTree) (k : ℕ) → ((t : LookedTable) (bs : List Situation) (s : Situation) → Among o (looked_in_basics true t bs s d g) → Among o (looked_in_basics true t bs s e f))
+  pub within-there : (e d : Assignment) (f g : FormulaTree) (k : ℕ) → ((t : LookedTable) (bs : List Situation) (s : Situation) → Among o (looked_in_basics true t bs s d g) → Among o (looked_in_basics true t bs s e f))
       → Among o (looked_at p ws k d g) → Among o (looked_at p ws k e f)
   within-there e d f g k step h = by (slice_get ws k) h
     where

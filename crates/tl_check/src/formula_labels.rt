@@ -20,6 +20,7 @@ use crate::line::line_labels;
 use crate::plain::is_plain;
 use crate::span::Span;
 use crate::state_labels::state_labels;
+use crate::table_order::table_order;
 use crate::temporal::is_state;
 use crate::tracks::line_of;
 use crate::unlabelled::Unlabelled;
@@ -216,8 +217,42 @@ fn parts_labels(
 }
 
 /// The labels of a universal or an existential formula.
+///
+/// Where the formula below it speaks of facts alone, so that none of its operations can be past range, the tuples are read in the order in which the variables stand in the bound: in which order the instances are labelled bears on nothing.
 #[cycle(labels_of)]
 fn quantified_labels(
+    part: &Formula,
+    binder: &Binder,
+    along: &Along,
+    span: Span,
+    env: &mut Env,
+) -> Result<Labels, Unlabelled>
+    requires along { IsAlong along.now }
+    requires span { IsWithin span (length (states_along along.now)) }
+    requires frame { length env.old ≡ 32 }
+    requires fits { FitsAlong along.now (quantified_tree binder.now part.now) }
+    ensures labels { AreLabelsAlong along.now span env.old (quantified_tree binder.now part.now) result }
+    ensures frame { OnOk result (env.new ≡ env.old) }
+{
+    if !is_plain(part) {
+        return ordered_labels(part, binder, along, span, env);
+    }
+    match table_order(along.alloc, binder.vars, binder.bound)? {
+        Some(vars) => {
+            let ordered = Binder {
+                junction: binder.junction,
+                vars: &vars,
+                bound: binder.bound,
+            };
+            ordered_labels(part, &ordered, along, span, env)
+        }
+        None => ordered_labels(part, binder, along, span, env),
+    }
+}
+
+/// The labels of a quantified formula whose tuples are read in the order of its variables.
+#[cycle(labels_of)]
+fn ordered_labels(
     part: &Formula,
     binder: &Binder,
     along: &Along,

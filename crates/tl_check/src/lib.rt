@@ -23,6 +23,7 @@
 //! - `picked`: labels that count at some positions alone.
 //! - `ends`: where a label is true for the first time, and for the last time.
 //! - `binder`: quantifiers.
+//! - `table_order`: the order in which the tuples of a quantifier's bound are read.
 //! - `gathered`: the tuples of a quantifier's bound, and where each makes it true.
 //! - `same_places`: whether a bound reads the same in two states.
 //! - `laws`: what is proved of labels and verdicts.
@@ -56,6 +57,7 @@ mod same_places;
 mod span;
 mod state_labels;
 mod steady;
+mod table_order;
 mod temporal;
 mod tracks;
 mod trail;

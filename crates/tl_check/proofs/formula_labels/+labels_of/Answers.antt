@@ -5,6 +5,7 @@ use Rattle.tl_check.proofs.GatheredLaws.{stepped-begun, stepped-on, stepped-note
 use Rattle.tl_check.proofs.GuidedLaws.{Guided, guided-begun, guided-on, guided-fewer, guided-noted, guided-end, hull-within, instance-nowhere, instance-joined}
 use Rattle.tl_check.proofs.GuidedLaws as guided
 use Rattle.tl_check.proofs.HistoryLaws.{each-among, among-item}
+use Rattle.tl_check.proofs.OrderLaws.{fits-ordered, ordered-labels}
 use Rattle.tl_check.proofs.PartLabels.{parts-begun, parts-on, parts-end}
 use Rattle.tl_check.proofs.Sizes.{size-at}
 use Rattle.tl_check.proofs.SpanLaws.{marks_in-length}
@@ -19,6 +20,7 @@ use Rattle.tl_check.specs.Labelled.{AreLabels}
 use Rattle.tl_check.specs.Later.{later_tree}
 use Rattle.tl_check.specs.Lines.{truth_from, test_from}
 use Rattle.tl_check.specs.Spans.{IsWithin, marks_in}
+use Rattle.tl_check.specs.TableOrder.{AreOrdered}
 use Rattle.tl_check.specs.StatesAlong.{states_along, UnlessFew}
 use Rattle.tl_check.specs.declared.along.Along.{Along}
 use Rattle.tl_check.specs.declared.binder.Binder.{Binder}
@@ -54,6 +56,9 @@ to-end-within a span q within = record { order = (let order = within.order in le
 
 gathers-known : (a : Along) (frame : List (Option Value)) (b : Binder) (span : Span) (o : Option Tracks) (t : Tracks) → o ≡ Some t → IfSome o (AreGathered a frame b span) → AreGathered a frame b span t
 gathers-known a frame b span o t q h = subst (λ (x : Option Tracks). IfSome x (AreGathered a frame b span)) q h
+
+order-known : (ss : List Var) (o : Option (List Var)) (us : List Var) → o ≡ Some us → IfSome o (AreOrdered ss) → AreOrdered ss us
+order-known ss o us q h = subst (λ (x : Option (List Var)). IfSome x (AreOrdered ss)) q h
 
 pub labels_of-state_labels-requires-in-True-clause-state : goal.labels_of-state_labels-requires-in-True-clause-state
 labels_of-state_labels-requires-in-True-clause-state t c =
@@ -396,20 +401,48 @@ parts_labels-returns-in_err-found-clause-labels t c =
     let f = tree_of_formula c.part-item.result in
     passed-on a (AreLabels p ws c.args.span d f) (AreLabels p ws c.args.span e (joined c.args.junction (tree_of_formulas c.args.parts.now))) (λ y h. item-noted p ws c.args.span e d c.args.junction c.args.parts.now c.as_slice-part-items.result.now c.loop-part.part-index c.part-item.result c.as_slice-part-items.ensures c.loop-part-test.true c.part-item.is (ap assignment_in c.loop-part.invariant.frame) y h) c.from_residual-in_err-found.result c.in_err-found.field-0.0 c.from_residual-in_err-found.ensures.1 c.in_err-found.ensures.labels
 
-pub quantified_labels-guided_labels-requires : goal.quantified_labels-guided_labels-requires
-quantified_labels-guided_labels-requires t c =
-    (omega (arith, c.decreases), (c.requires.along, (c.requires.span, (c.requires.frame, (c.requires.fits, c.in-Some.ensures)))))
-
-pub quantified_labels-stepped_labels-requires : goal.quantified_labels-stepped_labels-requires
-quantified_labels-stepped_labels-requires t c =
+pub quantified_labels-ordered_labels-requires : goal.quantified_labels-ordered_labels-requires
+quantified_labels-ordered_labels-requires t c =
     (omega (arith, c.decreases), (c.requires.along, (c.requires.span, (c.requires.frame, c.requires.fits))))
+
+pub quantified_labels-ordered_labels-requires-in-Some : goal.quantified_labels-ordered_labels-requires-in-Some
+quantified_labels-ordered_labels-requires-in-Some t c =
+    let a = c.args.along.now in
+    let b = c.args.binder.now in
+    let fits = fits-ordered (signature_of a.task.now.problem.domain) b.junction b.bound.now (tree_of_formula c.args.part.now) b.vars.now c.in-Some.vars (order-known b.vars.now c.in_ok-vars.field-0 c.in-Some.vars c.in-Some.is c.in_ok-vars.ensures) c.requires.fits in
+    (omega (arith, c.decreases), (c.requires.along, (c.requires.span, (c.requires.frame, fits))))
 
 pub quantified_labels-returns-in-Some-clause-labels : goal.quantified_labels-returns-in-Some-clause-labels
 quantified_labels-returns-in-Some-clause-labels t c =
+    let a = c.args.along.now in
+    let b = c.args.binder.now in
+    let p = plain_problem a.task.now.problem in
+    let ws = states_along a in
+    let e = assignment_in c.args.env.now in
+    let f = tree_of_formula c.args.part.now in
+    let parts = quantified-parts a.task.now.problem b.junction b.vars.now b.bound.now f c.requires.fits in
+    let is = order-known b.vars.now c.in_ok-vars.field-0 c.in-Some.vars c.in-Some.is c.in_ok-vars.ensures in
+    by-cases a (AreLabels p ws c.args.span e (quantified b.junction c.in-Some.vars b.bound.now f)) (AreLabels p ws c.args.span e (quantified b.junction b.vars.now b.bound.now f))
+    (λ r h. ordered-labels p e b.junction b.bound.now f b.vars.now c.in-Some.vars parts.differ parts.occur is ws c.args.span r h) c.ordered_labels-in-Some.result c.ordered_labels-in-Some.ensures.labels
+
+pub quantified_labels-ordered_labels-requires-in-None : goal.quantified_labels-ordered_labels-requires-in-None
+quantified_labels-ordered_labels-requires-in-None t c =
+    (omega (arith, c.decreases), (c.requires.along, (c.requires.span, (c.requires.frame, c.requires.fits))))
+
+pub ordered_labels-guided_labels-requires : goal.ordered_labels-guided_labels-requires
+ordered_labels-guided_labels-requires t c =
+    (omega (arith, c.decreases), (c.requires.along, (c.requires.span, (c.requires.frame, (c.requires.fits, c.in-Some.ensures)))))
+
+pub ordered_labels-stepped_labels-requires : goal.ordered_labels-stepped_labels-requires
+ordered_labels-stepped_labels-requires t c =
+    (omega (arith, c.decreases), (c.requires.along, (c.requires.span, (c.requires.frame, c.requires.fits))))
+
+pub ordered_labels-returns-in-Some-clause-labels : goal.ordered_labels-returns-in-Some-clause-labels
+ordered_labels-returns-in-Some-clause-labels t c =
     c.guided_labels.ensures.labels
 
-pub quantified_labels-returns-in-None-clause-labels : goal.quantified_labels-returns-in-None-clause-labels
-quantified_labels-returns-in-None-clause-labels t c =
+pub ordered_labels-returns-in-None-clause-labels : goal.ordered_labels-returns-in-None-clause-labels
+ordered_labels-returns-in-None-clause-labels t c =
     c.stepped_labels.ensures.labels
 
 pub guided_labels-kept-outer-requires : goal.guided_labels-kept-outer-requires

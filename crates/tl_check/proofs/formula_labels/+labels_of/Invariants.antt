@@ -33,7 +33,10 @@ abbrev pub decreases-parts_labels : goal.decreases-parts_labels
 decreases-parts_labels l = 4 * sizes (tree_of_formulas l.parts.now)
 
 abbrev pub decreases-quantified_labels : goal.decreases-quantified_labels
-decreases-quantified_labels l = 3 + 4 * size (tree_of_formula l.part.now)
+decreases-quantified_labels l = 4 + 4 * size (tree_of_formula l.part.now)
+
+abbrev pub decreases-ordered_labels : goal.decreases-ordered_labels
+decreases-ordered_labels l = 3 + 4 * size (tree_of_formula l.part.now)
 
 abbrev pub decreases-guided_labels : goal.decreases-guided_labels
 decreases-guided_labels l = 2 + 4 * size (tree_of_formula l.part.now)
