@@ -1,10 +1,6 @@
 -- The states of a plan, one action after another.
-use Rattle.std.proofs.Common.{◌≡◌, ◌≤◌, ◌<◌, ◌+◌, ℕ, zero, suc, List, [], ◌∷◌, ◌++◌, take, drop, length, get_or, Option, Some, None, Err, refl, sym, ap, ◌∙◌, subst, arith, length-take}
+use Rattle.std.proofs.Common.{◌≡◌, ◌≤◌, ◌<◌, ◌+◌, ℕ, zero, suc, List, [], ◌∷◌, ◌++◌, take, drop, length, get_or, Option, Some, None, refl, sym, ap, ◌∙◌, subst, arith, length-take}
 use Rattle.std.proofs.lemmas.List.{take_more}
-use Rattle.tl_action.specs.Answers.{IsCausedBy}
-use Rattle.tl_action.specs.declared.fault.ActFault.{ActFault}
-use Rattle.tl_action.specs.declared.fault.ActFault.TheVariants as act
-use Rattle.tl_check.specs.Executions.{IsExecution, told_after}
 use Rattle.tl_check.specs.Verdicts.{StopsAt, IsPastInAction}
 use Rattle.tl_eval.specs.Notes.{Tells}
 use Rattle.tl_eval.specs.declared.range.RangeNote.{RangeNote}
@@ -117,10 +113,6 @@ module _ (p : PlainProblem) where
       executes = reached.executes;
       told = subst (λ (v : World). Tells (looked_by_action p v a) note) (sym reached.last) h;
     }
-
-    pub fault-here : (x : ActFault) → IsCausedBy (looked_by_action p w a) x → IsExecution p plan (Err (told_after k x))
-    fault-here (act.Range note) h = past-here note h
-    fault-here act.NoMemory h = tt
 
   whole : (plan : List Action) (k : ℕ) → length plan ≤ k → take k plan ≡ plan
   whole [] zero h = refl
