@@ -20,6 +20,7 @@ pub mod CutLaws
 pub mod WaitLaws
 pub mod EndLaws
 pub mod PickedLaws
+pub mod OpenLaws
 pub mod LineLaws
 pub mod TrackLaws
 pub mod DifferenceLaws

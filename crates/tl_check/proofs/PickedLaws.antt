@@ -32,7 +32,7 @@ joined-length j [] cs h = refl
 joined-length j (b ∷ bs) [] h = absurd (omega (arith, h))
 joined-length j (b ∷ bs) (c ∷ cs) h = ap suc (joined-length j bs cs (omega (arith, h)))
 
-joined-at : (j : Junction) (bs cs : List Bool) (k : ℕ) → length bs ≡ length cs → k < length bs → get_or (joined_labels j bs cs) k false ≡ joins j (get_or bs k false) (get_or cs k false)
+pub joined-at : (j : Junction) (bs cs : List Bool) (k : ℕ) → length bs ≡ length cs → k < length bs → get_or (joined_labels j bs cs) k false ≡ joins j (get_or bs k false) (get_or cs k false)
 joined-at j [] cs k h l = absurd (omega arith)
 joined-at j (b ∷ bs) [] k h l = absurd (omega (arith, h))
 joined-at j (b ∷ bs) (c ∷ cs) zero h l = refl
@@ -44,17 +44,17 @@ chosen-at e (b ∷ bs) [] k h l = absurd (omega (arith, h))
 chosen-at e (b ∷ bs) (c ∷ cs) zero h l = refl
 chosen-at e (b ∷ bs) (c ∷ cs) (suc k) h l = chosen-at e bs cs k (omega (arith, h)) (omega arith)
 
-placed-before : (bs : List Bool) (at count k : ℕ) (e : Bool) → k < at → get_or (placed_labels bs at count e) k false ≡ e
+pub placed-before : (bs : List Bool) (at count k : ℕ) (e : Bool) → k < at → get_or (placed_labels bs at count e) k false ≡ e
 placed-before bs at count k e h =
     ap (λ (us : List Bool). get_or us k false) (append_assoc (replicate at e) bs (replicate (count - (at + length bs)) e)) ∙ at-in at k e (bs ++ replicate (count - (at + length bs)) e) h
 
-placed-in : (bs : List Bool) (at count k : ℕ) (e : Bool) → at ≤ k → k < at + length bs → get_or (placed_labels bs at count e) k false ≡ get_or bs (k - at) false
+pub placed-in : (bs : List Bool) (at count k : ℕ) (e : Bool) → at ≤ k → k < at + length bs → get_or (placed_labels bs at count e) k false ≡ get_or bs (k - at) false
 placed-in bs at count k e h l =
     ap (λ (us : List Bool). get_or us k false) (append_assoc (replicate at e) bs (replicate (count - (at + length bs)) e))
     ∙ (at-past at k e (bs ++ replicate (count - (at + length bs)) e) h
     ∙ get_or_append_left bs (replicate (count - (at + length bs)) e) false (k - at) (omega arith))
 
-placed-after : (bs : List Bool) (at count k : ℕ) (e : Bool) → at + length bs ≤ k → k < count → get_or (placed_labels bs at count e) k false ≡ e
+pub placed-after : (bs : List Bool) (at count k : ℕ) (e : Bool) → at + length bs ≤ k → k < count → get_or (placed_labels bs at count e) k false ≡ e
 placed-after bs at count k e h l =
     let size : length (replicate at e ++ bs) ≡ at + length bs = omega (arith, length-append (replicate at e) bs, length-replicate at e) in
     get_or-append_right (replicate at e ++ bs) (replicate (count - (at + length bs)) e) (at + length bs) k false size h

@@ -5,7 +5,7 @@ use Rattle.tl_check.specs.Ahead.{true_ahead}
 use Rattle.tl_check.specs.Quantifiers.{Quantifier}
 use Rattle.tl_check.specs.Facts.{Guides, fact_ahead, bound_ahead}
 use Rattle.tl_check.specs.Instances.{JoinsInstance}
-use Rattle.tl_check.specs.Labelled.{AreLabels}
+use Rattle.tl_check.specs.Labelled.{AreLabels, JoinsPart}
 use Rattle.tl_check.specs.Spans.{marks_in}
 use Rattle.tl_check.specs.StatesAlong.{states_along, UnlessFew}
 use Rattle.tl_check.specs.declared.along.Along.{Along}
@@ -13,6 +13,7 @@ use Rattle.tl_check.specs.declared.span.Span.{Span}
 use Rattle.tl_check.specs.declared.unlabelled.Unlabelled.{Unlabelled}
 use Rattle.tl_eval.specs.Frames.{assignment_in}
 use Rattle.tl_syntax.specs.declared.bound.Bound.{Bound}
+use Rattle.tl_syntax.specs.declared.junction.Junction.{Junction}
 use Rattle.tl_syntax.specs.declared.term.Terms.{Terms}
 use Rattle.tl_syntax.specs.declared.value.Value.{Value}
 use Rattle.tl_syntax.specs.Fits.{Fits}
@@ -38,6 +39,10 @@ AreLabelsAlong along span frame f r = UnlessFew along (AreLabels (plain_problem 
 -- the instance under the frame's values is joined with the labels, or an operation that it looks at is noted, or the states are not all kept
 abbrev pub JoinsAlong : Along → Span → List (Option Value) → Quantifier → List Bool → List Bool → Result (Unit {0}) Unlabelled → Type 0
 JoinsAlong along span frame q old new r = UnlessFew along (JoinsInstance (plain_problem along.task.now.problem) (states_along along) span (assignment_in frame) q old new) r
+
+-- the labels of the part are joined with these, or an operation that it looks at is noted, or the states are not all kept
+abbrev pub JoinsPartAlong : Along → Span → List (Option Value) → Junction → FormulaTree → List Bool → List Bool → Result (Unit {0}) Unlabelled → Type 0
+JoinsPartAlong along span frame j f old new r = UnlessFew along (JoinsPart (plain_problem along.task.now.problem) (states_along along) span (assignment_in frame) j f old new) r
 
 -- what makes the bound true in one of the states makes it true in this world
 abbrev pub GuidesAlong : Along → Bound → World → Type 0

@@ -1,12 +1,14 @@
 -- What the labelling of positions answers.
 use Rattle.std.specs.Prelude.{◌≡◌, ◌≤◌, ℕ, suc, List, [], Bool, true, Option, Some, None, Result, Ok, Err, map, take, slice_get}
 use Rattle.tl_check.specs.Ahead.{true_ahead}
+use Rattle.tl_check.specs.Passes.{joined_labels}
 use Rattle.tl_check.specs.Spans.{marks_in}
 use Rattle.tl_action.specs.declared.check_fault.CheckFault.{CheckFault}
 use Rattle.tl_action.specs.declared.check_fault.CheckFault.TheVariants as fault
 use Rattle.tl_check.specs.declared.span.Span.{Span}
 use Rattle.tl_eval.specs.Notes.{Tells}
 use Rattle.tl_syntax.specs.Assignment.{Assignment}
+use Rattle.tl_syntax.specs.declared.junction.Junction.{Junction}
 use Rattle.tl_syntax.specs.Trees.{FormulaTree}
 use Rattle.tl_terms.specs.Definitions.{situation_of}
 use Rattle.tl_terms.specs.Looked.{looked_in_basics, looks_of}
@@ -28,3 +30,9 @@ abbrev pub AreLabels : PlainProblem → List World → Span → Assignment → F
 AreLabels p ws span e f (Ok bs) = bs ≡ marks_in (true_ahead p e f) ws span
 AreLabels p ws span e f (Err (fault.Range k note)) = (span.from ≤ k) × Tells (looked_at p ws k e f) note
 AreLabels p ws span e f (Err fault.NoMemory) = Unit {0}
+
+-- the labels of the part at the span's positions are joined with these, or an operation that it looks at is noted
+abbrev pub JoinsPart : PlainProblem → List World → Span → Assignment → Junction → FormulaTree → List Bool → List Bool → Result (Unit {0}) CheckFault → Type 0
+JoinsPart p ws span e j f old new (Ok u) = new ≡ joined_labels j old (marks_in (true_ahead p e f) ws span)
+JoinsPart p ws span e j f old new (Err (fault.Range k note)) = (span.from ≤ k) × Tells (looked_at p ws k e f) note
+JoinsPart p ws span e j f old new (Err fault.NoMemory) = Unit {0}

@@ -1,5 +1,8 @@
 -- Labels that count at some positions alone.
-use Rattle.std.specs.Prelude.{◌+◌, ◌-◌, ℕ, List, [], ◌∷◌, ◌++◌, length, replicate, Bool, cond}
+use Rattle.std.specs.Prelude.{◌≡◌, ◌+◌, ◌-◌, ℕ, List, [], ◌∷◌, ◌++◌, length, replicate, Bool, cond, not}
+use Rattle.tl_check.specs.Passes.{joined_labels}
+use Rattle.tl_syntax.specs.declared.junction.Junction.{Junction}
+use Rattle.tl_syntax.specs.Junctions.{deciding_truth}
 
 -- the labels from a position on, among so many, with one label elsewhere
 abbrev pub placed_labels : List Bool → ℕ → ℕ → Bool → List Bool
@@ -14,3 +17,7 @@ chosen_labels elsewhere (b ∷ bs) (c ∷ cs) = cond b c elsewhere ∷ chosen_la
 -- the labels from a position on, where the first ones are true, and one label elsewhere
 abbrev pub picked_labels : List Bool → List Bool → ℕ → Bool → List Bool
 picked_labels there bs at elsewhere = chosen_labels elsewhere there (placed_labels bs at (length there) elsewhere)
+
+-- the labels are joined with those of the other list, which are for the positions from one on, and decide nothing elsewhere
+abbrev pub JoinsAt : Junction → List Bool → ℕ → List Bool → List Bool → Type 0
+JoinsAt j other at old new = new ≡ joined_labels j old (placed_labels other at (length old) (not (deciding_truth j)))

@@ -1,6 +1,6 @@
 // The labels of formulas.
 ghost use Rattle.std.specs.Prelude.{◌≡◌, ◌+◌, length, OnOk};
-ghost use Rattle.tl_check.specs.AlongStates.{FitsAlong, AreLabelsAlong, JoinsAlong, GuidesAlong, bound_along};
+ghost use Rattle.tl_check.specs.AlongStates.{FitsAlong, AreLabelsAlong, JoinsPartAlong, JoinsAlong, GuidesAlong, bound_along};
 ghost use Rattle.tl_check.specs.Facts.{IsAlong};
 ghost use Rattle.tl_check.specs.Later.{later_tree};
 ghost use Rattle.tl_check.specs.PartTrees.{until_tree, quantifier_of, quantified_tree};
@@ -210,10 +210,37 @@ fn parts_labels(
 {
     let mut all = Labels::all(along.alloc, span.to - span.from, !junction.deciding_truth())?;
     for part in parts.as_slice().iter() {
-        let found = labels_of(part, along, span, env)?;
-        all.join(&found, junction)?;
+        join_part(part, junction, along, span, env, &mut all)?;
     }
     Ok(all)
+}
+
+/// Joins the labels of a part with those of the parts before it. It is labelled from the first to the last position that these leave open.
+#[cycle(labels_of)]
+fn join_part(
+    part: &Formula,
+    junction: Junction,
+    along: &Along,
+    span: Span,
+    env: &mut Env,
+    all: &mut Labels,
+) -> Result<(), Unlabelled>
+    requires along { IsAlong along.now }
+    requires span { IsWithin span (length (states_along along.now)) }
+    requires frame { length env.old ≡ 32 }
+    requires fits { FitsAlong along.now (tree_of_formula part.now) }
+    requires size { span.from + length all.old ≡ span.to }
+    ensures joined { JoinsPartAlong along.now span env.old junction (tree_of_formula part.now) all.old all.new result }
+    ensures frame { OnOk result (env.new ≡ env.old) }
+{
+    match all.undecided(span, junction) {
+        None => Ok(()),
+        Some(inner) => {
+            let found = labels_of(part, along, inner, env)?;
+            all.join_at(&found, inner.from - span.from, junction)?;
+            Ok(())
+        }
+    }
 }
 
 /// The labels of a universal or an existential formula.

@@ -3,12 +3,13 @@ ghost use Rattle.std.specs.Prelude.{◌≡◌, ◌<◌, ◌≤◌, ◌+◌, ℕ,
 ghost use Rattle.tl_check.specs.Passes.{next_labels, until_labels, within_labels, joined_labels};
 ghost use Rattle.tl_check.specs.Later.{later_labels};
 ghost use Rattle.tl_check.specs.Rests.{rest_labels};
-ghost use Rattle.tl_check.specs.Spans.{IsHull, JoinsWhere};
+ghost use Rattle.tl_check.specs.Picked.{JoinsAt};
+ghost use Rattle.tl_check.specs.Spans.{AreDecided, IsHull, IsOpen, JoinsWhere};
 
 use crate::cuts::{cuts_of, join_cuts};
 use crate::ends::{before_true, up_to_true};
 use crate::later::Later;
-use crate::picked::picked;
+use crate::picked::{picked, placed};
 use crate::rest::{Rest, rest_of};
 use crate::run::Run;
 use crate::span::Span;
@@ -190,6 +191,44 @@ impl Labels {
                 })
             }
         }
+    }
+
+    /// The least span with all positions whose labels do not decide the junction, if there is one, where the labels are those of this span. It takes no memory.
+    pub(crate) fn undecided(&mut self, span: Span, junction: Junction) -> Option<Span>
+        requires { span.from + length self.old ≡ span.to }
+        ensures none { IfNone result (AreDecided junction self.old) }
+        ensures inner { IfSome result (IsOpen junction self.old span) }
+        ensures same { self.new ≡ self.old }
+    {
+        match junction {
+            Junction::All => self.hull(span),
+            Junction::Any => {
+                self.negate();
+                let found = self.hull(span);
+                self.negate();
+                found
+            }
+        }
+    }
+
+    /// The labels of the conjunction or the disjunction of both, where those of the other list are for the positions from `at` on. A refused call leaves the labels as they were; it is refused too where the number of positions does not fit a `usize`.
+    pub(crate) fn join_at(
+        &mut self,
+        other: &Labels,
+        at: usize,
+        junction: Junction,
+    ) -> Result<(), NoMemory>
+        requires within { at + length other.now ≤ length self.old }
+        ensures joined { OnOk result (JoinsAt junction other.now at self.old self.new) }
+        ensures unchanged { OnErr result (self.new ≡ self.old) }
+    {
+        let alloc = *self.runs.allocator();
+        let count = runs::positions(self.runs.as_slice())?;
+        let elsewhere = !junction.deciding_truth();
+        let labels = placed(alloc, other.runs.as_slice(), at, count, elsewhere)?;
+        let cuts = cuts_of(alloc, self.runs.as_slice(), labels.as_slice())?;
+        self.runs = join_cuts(alloc, cuts.as_slice(), junction)?;
+        Ok(())
     }
 
     /// The labels together with those of the other list, which are for the positions from `at` on, at those of them where `there` is true. A refused call leaves the labels as they were; it is refused too where the number of positions does not fit a `usize`.

@@ -11,7 +11,7 @@ use std::alloc::Global;
 use tl_syntax::NoMemory;
 
 /// The labels at their place among so many positions, from `at` on, with this label elsewhere. It fails for want of memory alone.
-fn placed(
+pub(crate) fn placed(
     alloc: Global,
     labels: &[Run],
     at: usize,

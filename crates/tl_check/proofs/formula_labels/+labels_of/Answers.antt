@@ -6,6 +6,7 @@ use Rattle.tl_check.proofs.GuidedLaws.{Guided, guided-begun, guided-on, guided-f
 use Rattle.tl_check.proofs.GuidedLaws as guided
 use Rattle.tl_check.proofs.HistoryLaws.{each-among, among-item}
 use Rattle.tl_check.proofs.OrderLaws.{fits-ordered, ordered-labels}
+use Rattle.tl_check.proofs.OpenLaws.{part-noted, inner-within, inner-room, open-joined, decided-part}
 use Rattle.tl_check.proofs.PartLabels.{parts-begun, parts-on, parts-end}
 use Rattle.tl_check.proofs.Sizes.{size-at}
 use Rattle.tl_check.proofs.SpanLaws.{marks_in-length}
@@ -16,9 +17,11 @@ use Rattle.tl_check.specs.Quantifiers.{Quantifier, with_part}
 use Rattle.tl_check.specs.Facts.{bound_ahead}
 use Rattle.tl_check.specs.Gathered.{AreGathered, IsTuple}
 use Rattle.tl_check.specs.Instances.{JoinsInstance}
-use Rattle.tl_check.specs.Labelled.{AreLabels}
+use Rattle.tl_check.specs.Labelled.{AreLabels, JoinsPart}
 use Rattle.tl_check.specs.Later.{later_tree}
 use Rattle.tl_check.specs.Lines.{truth_from, test_from}
+use Rattle.tl_check.specs.Passes.{joined_labels}
+use Rattle.tl_check.specs.Picked.{placed_labels}
 use Rattle.tl_check.specs.Spans.{IsWithin, marks_in}
 use Rattle.tl_check.specs.TableOrder.{AreOrdered}
 use Rattle.tl_check.specs.StatesAlong.{states_along, UnlessFew}
@@ -35,7 +38,7 @@ use Rattle.tl_syntax.specs.declared.value.Value.{Value}
 use Rattle.tl_syntax.specs.declared.variable.Var.{Var}
 use Rattle.tl_syntax.specs.Assignment.{Assignment, bind}
 use Rattle.tl_syntax.specs.Fits.{Fits}
-use Rattle.tl_syntax.specs.Junctions.{joined, quantified}
+use Rattle.tl_syntax.specs.Junctions.{deciding_truth, joined, quantified}
 use Rattle.tl_syntax.specs.Lists.{Each}
 use Rattle.tl_syntax.specs.Signature.{signature_of}
 use Rattle.tl_syntax.specs.TreeOfFormula.{tree_of_formula, tree_of_formulas}
@@ -370,36 +373,65 @@ parts_labels-loop-part-init t c =
       so_far = parts-begun (plain_problem c.args.along.now.task.now.problem) (assignment_in c.args.env.now) (states_along c.args.along.now) c.args.span c.requires.span c.args.junction c.as_slice-part-items.result.now c.in_ok-all.all (c.in_ok-all.ensures.same ∙ ap (λ (b : Bool). replicate (c.args.span.to - c.args.span.from) (not b)) c.deciding_truth.ensures);
     }
 
-pub parts_labels-labels_of-requires : goal.parts_labels-labels_of-requires
-parts_labels-labels_of-requires t c =
+pub parts_labels-join_part-requires : goal.parts_labels-join_part-requires
+parts_labels-join_part-requires t c =
     let less = size-at c.as_slice-part-items.result.now c.args.parts.now c.loop-part.part-index c.part-item.result c.as_slice-part-items.ensures c.loop-part-test.true c.part-item.is in
-    (omega (arith, less, c.decreases), (c.requires.along, (c.requires.span, (ap length c.loop-part.invariant.frame ∙ c.requires.frame, item-fits (signature_of c.args.along.now.task.now.problem.domain) c.args.junction c.args.parts.now c.as_slice-part-items.result.now c.loop-part.part-index c.part-item.result c.as_slice-part-items.ensures c.loop-part-test.true c.part-item.is c.requires.fits))))
-
-pub parts_labels-join-requires : goal.parts_labels-join-requires
-parts_labels-join-requires t c =
-    same-length (states_along c.args.along.now) c.args.span c.requires.span c.loop-part.invariant.so_far.so_far (true_ahead (plain_problem c.args.along.now.task.now.problem) (assignment_in c.loop-part.env) (tree_of_formula c.part-item.result)) c.loop-part.all c.in_ok-found.found c.loop-part.invariant.so_far.labels c.in_ok-found.ensures.labels
+    let so = c.loop-part.invariant.so_far in
+    let many : length c.loop-part.all ≡ c.args.span.to - c.args.span.from = ap length so.labels ∙ marks_in-length so.so_far (states_along c.args.along.now) c.args.span c.requires.span in
+    (omega (arith, less, c.decreases), (c.requires.along, (c.requires.span, (ap length c.loop-part.invariant.frame ∙ c.requires.frame, (item-fits (signature_of c.args.along.now.task.now.problem.domain) c.args.junction c.args.parts.now c.as_slice-part-items.result.now c.loop-part.part-index c.part-item.result c.as_slice-part-items.ensures c.loop-part-test.true c.part-item.is c.requires.fits, (let order = c.requires.span.order in omega (arith, many)))))))
 
 pub parts_labels-loop-part-preserved : goal.parts_labels-loop-part-preserved
 parts_labels-loop-part-preserved t c =
+    let p = plain_problem c.args.along.now.task.now.problem in
+    let ws = states_along c.args.along.now in
+    let e = assignment_in c.args.env.now in
+    let f = tree_of_formula c.part-item.result in
     record {
-      frame = c.in_ok-found.ensures.frame ∙ c.loop-part.invariant.frame;
-      so_far = parts-on (plain_problem c.args.along.now.task.now.problem) (assignment_in c.args.env.now) (states_along c.args.along.now) c.args.span c.requires.span c.args.junction c.as_slice-part-items.result.now c.loop-part.all c.in_ok-found.found c.join.new.self c.loop-part.part-index c.part-item.result c.loop-part-test.true c.part-item.is c.loop-part.invariant.so_far
-          (c.in_ok-found.ensures.labels ∙ ap (λ (x : Assignment). marks_in (true_ahead (plain_problem c.args.along.now.task.now.problem) x (tree_of_formula c.part-item.result)) (states_along c.args.along.now) c.args.span) (ap assignment_in c.loop-part.invariant.frame)) c.in_ok-join.ensures.joined;
+      frame = c.in_ok-join_part.ensures.frame ∙ c.loop-part.invariant.frame;
+      so_far = parts-on p e ws c.args.span c.requires.span c.args.junction c.as_slice-part-items.result.now c.loop-part.all (marks_in (true_ahead p e f) ws c.args.span) c.join_part.new.all c.loop-part.part-index c.part-item.result c.loop-part-test.true c.part-item.is c.loop-part.invariant.so_far refl
+          (c.in_ok-join_part.ensures.joined ∙ ap (λ (x : Assignment). joined_labels c.args.junction c.loop-part.all (marks_in (true_ahead p x f) ws c.args.span)) (ap assignment_in c.loop-part.invariant.frame));
     }
 
 pub parts_labels-returns-clause-labels : goal.parts_labels-returns-clause-labels
 parts_labels-returns-clause-labels t c =
     parts-end (plain_problem c.args.along.now.task.now.problem) (assignment_in c.args.env.now) (states_along c.args.along.now) c.args.span c.requires.span c.args.junction c.as_slice-part-items.result.now c.args.parts.now c.loop-part.all c.loop-part.part-index c.as_slice-part-items.ensures c.loop-part-test.false c.loop-part.invariant.so_far
 
-pub parts_labels-returns-in_err-found-clause-labels : goal.parts_labels-returns-in_err-found-clause-labels
-parts_labels-returns-in_err-found-clause-labels t c =
+pub parts_labels-returns-in_err-join_part-clause-labels : goal.parts_labels-returns-in_err-join_part-clause-labels
+parts_labels-returns-in_err-join_part-clause-labels t c =
     let a = c.args.along.now in
     let p = plain_problem a.task.now.problem in
     let ws = states_along a in
     let e = assignment_in c.args.env.now in
     let d = assignment_in c.loop-part.env in
     let f = tree_of_formula c.part-item.result in
-    passed-on a (AreLabels p ws c.args.span d f) (AreLabels p ws c.args.span e (joined c.args.junction (tree_of_formulas c.args.parts.now))) (λ y h. item-noted p ws c.args.span e d c.args.junction c.args.parts.now c.as_slice-part-items.result.now c.loop-part.part-index c.part-item.result c.as_slice-part-items.ensures c.loop-part-test.true c.part-item.is (ap assignment_in c.loop-part.invariant.frame) y h) c.from_residual-in_err-found.result c.in_err-found.field-0.0 c.from_residual-in_err-found.ensures.1 c.in_err-found.ensures.labels
+    passed-on a (JoinsPart p ws c.args.span d c.args.junction f c.loop-part.all c.join_part.new.all) (AreLabels p ws c.args.span e (joined c.args.junction (tree_of_formulas c.args.parts.now))) (λ y h. item-noted p ws c.args.span e d c.args.junction c.args.parts.now c.as_slice-part-items.result.now c.loop-part.part-index c.part-item.result c.as_slice-part-items.ensures c.loop-part-test.true c.part-item.is (ap assignment_in c.loop-part.invariant.frame) y (part-noted p ws c.args.span d c.args.junction f c.loop-part.all c.join_part.new.all y h)) c.from_residual-in_err-join_part.result c.in_err-join_part.field-0.0 c.from_residual-in_err-join_part.ensures.1 c.in_err-join_part.ensures.joined
+
+pub join_part-labels_of-requires : goal.join_part-labels_of-requires
+join_part-labels_of-requires t c =
+    let within = inner-within c.args.junction c.args.all.now (true_ahead (plain_problem c.args.along.now.task.now.problem) (assignment_in c.args.env.now) (tree_of_formula c.args.part.now)) (states_along c.args.along.now) c.args.span c.in-Some.inner c.requires.span c.requires.size c.in-Some.ensures.inner in
+    (omega (arith, c.decreases), (c.requires.along, (within, (c.requires.frame, c.requires.fits))))
+
+pub join_part-join_at-requires : goal.join_part-join_at-requires
+join_part-join_at-requires t c =
+    let test = true_ahead (plain_problem c.args.along.now.task.now.problem) (assignment_in c.args.env.now) (tree_of_formula c.args.part.now) in
+    let room = inner-room c.args.junction c.args.all.now test (states_along c.args.along.now) c.args.span c.in-Some.inner c.requires.span c.requires.size c.in-Some.ensures.inner in
+    omega (arith, room, ap length c.in_ok-found-in-Some.ensures.labels, ap length c.in-Some.ensures.same)
+
+pub join_part-returns-in_ok-join_at-in-Some-clause-joined : goal.join_part-returns-in_ok-join_at-in-Some-clause-joined
+join_part-returns-in_ok-join_at-in-Some-clause-joined t c =
+    let test = true_ahead (plain_problem c.args.along.now.task.now.problem) (assignment_in c.args.env.now) (tree_of_formula c.args.part.now) in
+    let j = c.args.junction in
+    let at = c.in-Some.inner.from - c.args.span.from in
+    let fill = not (deciding_truth j) in
+    c.in_ok-join_at-in-Some.ensures.joined
+    ∙ (ap (λ (bs : List Bool). joined_labels j bs (placed_labels c.in_ok-found-in-Some.found at (length bs) fill)) c.in-Some.ensures.same
+    ∙ (ap (λ (bs : List Bool). joined_labels j c.args.all.now (placed_labels bs at (length c.args.all.now) fill)) c.in_ok-found-in-Some.ensures.labels
+    ∙ open-joined j c.args.all.now test (states_along c.args.along.now) c.args.span c.in-Some.inner c.requires.span c.requires.size c.in-Some.ensures.inner))
+
+pub join_part-returns-in-None-clause-joined : goal.join_part-returns-in-None-clause-joined
+join_part-returns-in-None-clause-joined t c =
+    let test = true_ahead (plain_problem c.args.along.now.task.now.problem) (assignment_in c.args.env.now) (tree_of_formula c.args.part.now) in
+    c.in-None.ensures.same ∙ decided-part c.args.junction c.args.all.now test (states_along c.args.along.now) c.args.span c.args.span c.requires.span c.requires.size c.in-None.ensures.none
 
 pub quantified_labels-ordered_labels-requires : goal.quantified_labels-ordered_labels-requires
 quantified_labels-ordered_labels-requires t c =
