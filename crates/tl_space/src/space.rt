@@ -29,7 +29,7 @@ use tl_eval::Env;
 use tl_nodes::Nodes;
 use tl_progress::Residuals;
 use tl_terms::NoMemory;
-use tl_world::{Task, Worlds};
+use tl_world::{Task, Unmet, Worlds};
 
 /// Pairs of a world and a residual, each kept once under a number, with the path by which it was met first.
 ///
@@ -46,6 +46,7 @@ pub struct Space {
     pub(crate) from: Vec<Met>,
     pub(crate) arrivals: Arrivals,
     pub(crate) residuals: Residuals,
+    pub(crate) unmet: Unmet,
     ghost named_worlds: { Each (WorldIsNamed (length task.problem.names)) (worlds_in worlds) } by { worlds_named-prop (length task.problem.names) (worlds_in worlds) },
     ghost kept: { AreKeptBy (signature_of task.problem.domain) (length task.problem.names) (plain_problem task.problem) (worlds_in worlds) (trees nodes) pairs.keys from.items } by { kept-prop (signature_of task.problem.domain) (length task.problem.names) (plain_problem task.problem) (worlds_in worlds) (trees nodes) pairs.keys from.items },
     ghost remembered: { AreRemembered (plain_problem task.problem) (worlds_in worlds) (trees nodes) pairs.keys arrivals } by { all-remembered-prop (plain_problem task.problem) (worlds_in worlds) (trees nodes) pairs.keys arrivals },
@@ -91,6 +92,7 @@ impl Space {
             from: Vec::new(alloc),
             arrivals: Arrivals::new(alloc),
             residuals: Residuals::new(alloc),
+            unmet: Unmet { table: 0, row: 0 },
         }
     }
 }

@@ -33,6 +33,7 @@ pub mod Truths
 pub mod Orders
 pub mod Contents
 pub mod GoalTests
+pub mod Lacking
 pub mod Finite
 pub mod Numbering
 pub mod Moving

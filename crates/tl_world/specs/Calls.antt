@@ -1,5 +1,7 @@
 -- What the calls of a world say of its rows, of its values, and of what is named in it.
-use Rattle.std.specs.Prelude.{◌≡◌, ◌↔◌, ℕ, List, map, Bool, Some}
+use Rattle.std.specs.Prelude.{◌≡◌, ◌↔◌, ℕ, List, map, Bool, false, Some}
+use Rattle.std.specs.FinSet as set
+use Rattle.std.specs.List.{list_all}
 use Rattle.tl_syntax.specs.declared.fact.Fact.{Fact}
 use Rattle.tl_syntax.specs.declared.place_value.PlaceValue.{PlaceValue}
 use Rattle.tl_syntax.specs.declared.value.Value.{Value}
@@ -7,7 +9,7 @@ use Rattle.tl_syntax.specs.Lists.{Among, Each}
 use Rattle.tl_syntax.specs.Named.{FactIsNamed, PlaceIsNamed}
 use Rattle.tl_terms.specs.Acceptance.{is_value}
 use Rattle.tl_terms.specs.NamedWorlds.{WorldIsNamed}
-use Rattle.tl_terms.specs.World.{World, value_at}
+use Rattle.tl_terms.specs.World.{World, has_fact, value_at}
 use Rattle.tl_world.specs.declared.table.PlaceRow.{PlaceRow}
 use Rattle.tl_world.specs.Tables.{place_row}
 
@@ -26,3 +28,7 @@ IsNamedByParts facts places w = (n : ℕ) → Each (FactIsNamed n) facts → Eac
 -- where a world, the facts that are added and the places that are set are named, so is the world after
 abbrev pub StaysNamedWith : World → List Fact → List PlaceValue → World → Type 0
 StaysNamedWith old adds sets new = (n : ℕ) → WorldIsNamed n old → Each (FactIsNamed n) adds → Each (PlaceIsNamed n) sets → WorldIsNamed n new
+
+-- not every fact of the other world is in the world
+abbrev pub LacksFacts : World → World → Type 0
+LacksFacts w other = list_all (has_fact w) (set.items other.facts) ≡ false

@@ -12,7 +12,7 @@
 //! - `world`: the world itself, with its look-ups, its matches and its changes.
 //! - `worlds`: worlds by numbers.
 //! - `table_name`, `table_numbers`: names of the tables of worlds, and their numbers, by which equal ones are told.
-//! - `task`: a problem with its initial world and its goal as worlds, and the goal test.
+//! - `task`: a problem with its initial world and its goal as worlds, and the goal test; `unmet`: where a goal test failed.
 //! - `pattern`: patterns of facts and of places, and the tuples that make them true.
 //! - `laws`: what is proved of the equality of worlds and of the matches of a pattern.
 //! - `matches`: the tuples that make a pattern true in a world, one after another.
@@ -54,6 +54,7 @@ mod table_name;
 mod table_numbers;
 mod tables_beside;
 mod task;
+mod unmet;
 mod world;
 mod worlds;
 
@@ -61,5 +62,6 @@ pub use pattern::{Match, Part, Pattern};
 pub use rows::Rows;
 pub use table::{PlaceRow, PlaceRows};
 pub use task::Task;
+pub use unmet::Unmet;
 pub use world::World;
 pub use worlds::Worlds;

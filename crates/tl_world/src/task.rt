@@ -1,12 +1,14 @@
 // A problem with its worlds.
-ghost use Rattle.std.specs.Prelude.{◌≡◌, length, IfOk};
+ghost use Rattle.std.specs.Prelude.{◌≡◌, length, IfOk, IfSome};
 ghost use Rattle.tl_terms.proofs.KeptOnce.{world_named-prop};
 ghost use Rattle.tl_terms.proofs.SameWorlds.{world_paths};
 ghost use Rattle.tl_terms.specs.Acceptance.{meets_goal};
 ghost use Rattle.tl_terms.specs.NamedWorlds.{WorldIsNamed};
 ghost use Rattle.tl_terms.specs.ProblemMeaning.{plain_problem};
+ghost use Rattle.tl_world.specs.Calls.{LacksFacts};
 
 use crate::World;
+use crate::unmet::Unmet;
 use std::alloc::Global;
 use tl_syntax::{NoMemory, Problem};
 
@@ -85,5 +87,36 @@ impl Task {
         ensures { result ≡ meets_goal w.now (plain_problem self.now.problem).goal (plain_problem self.now.problem).avoid }
     {
         w.has_all_facts(&self.goal) && (w.has_all_values(&self.goal) && w.has_no_fact(&self.avoid))
+    }
+    /// The goal test, as `met`, for many worlds one after another. A fact of the goal that the world lacks is looked for first from the place on at which one was found last, which the call leaves there for the next: in a search most worlds lack what the world before lacked.
+    /// It takes no memory.
+    pub fn met_from(&self, w: &World, unmet: &mut Unmet) -> bool
+        ensures { result ≡ meets_goal w.now (plain_problem self.now.problem).goal (plain_problem self.now.problem).avoid }
+    {
+        let _ = &self.goal;
+        match self.lacked_by(w, *unmet) {
+            Some(found) => {
+                *unmet = found;
+                false
+            }
+            None => self.met(w),
+        }
+    }
+
+    /// The place of a fact of the goal that the world lacks: from the given place on in its table, or else in any table.
+    fn lacked_by(&self, w: &World, from: Unmet) -> Option<Unmet>
+        ensures { IfSome result (λ _. LacksFacts w.now self.now.goal) }
+    {
+        let found = w.lacking(&self.goal, from);
+        if found.is_some() {
+            return found;
+        }
+        for table in 0..self.goal.table_count() {
+            let found = w.lacking(&self.goal, Unmet { table, row: 0 });
+            if found.is_some() {
+                return found;
+            }
+        }
+        None
     }
 }

@@ -11,7 +11,7 @@ ghost use Rattle.tl_terms.specs.Acceptance.{is_value};
 ghost use Rattle.tl_terms.specs.ProblemMeaning.{world_of};
 ghost use Rattle.tl_terms.specs.SameWorlds.{world_eq};
 ghost use Rattle.tl_terms.specs.World.{has_fact, value_at};
-ghost use Rattle.tl_world.specs.Calls.{ArePlacesOf, IsNamedByParts, StaysNamedWith, gives_row};
+ghost use Rattle.tl_world.specs.Calls.{ArePlacesOf, IsNamedByParts, StaysNamedWith, LacksFacts, gives_row};
 ghost use Rattle.tl_world.specs.Codes.{tables_code};
 ghost use Rattle.tl_world.specs.TableNumbers.{tables_in, AreAlikeOf, TellAlike};
 ghost use Rattle.tl_world.specs.declared.table_name.TableName.TheVariants.{Pred, Fun};
@@ -33,6 +33,7 @@ use crate::runs::find_row;
 use crate::same_number::numbers_from;
 use crate::table_name::TableName;
 use crate::tables_beside::{NumberedTables, are_tables_beside};
+use crate::unmet::Unmet;
 use crate::{PlaceRow, PlaceRows, Rows};
 use std::alloc::Global;
 use std::hash::{FoldHasher, Hash, Hasher};
@@ -402,6 +403,38 @@ impl World {
         ensures { result ≡ list_all (λ k. is_value (value_at self.now k.0) k.1) (dict.entries other.now.places) }
     {
         self.gives_each(other.places.as_slice())
+    }
+
+    /// A place in the table of the other world's facts from the place `at` on with a fact that is not in this world.
+    pub(crate) fn lacking(&self, other: &World, at: Unmet) -> Option<Unmet>
+        ensures { IfSome result (λ _. LacksFacts self.now other.now) }
+    {
+        let tables = other.facts.as_slice();
+        if at.table >= tables.len() {
+            return None;
+        }
+        let table = &tables[at.table];
+        match self.lacking_row(table.name, table.rows.as_ref(), at.row) {
+            Some(row) => Some(Unmet {
+                table: at.table,
+                row,
+            }),
+            None => None,
+        }
+    }
+
+    /// The place of the first row from a place on that is not the arguments of a fact in this world.
+    fn lacking_row(&self, pred: u32, rows: &Rows, from: usize) -> Option<usize>
+        ensures { IfSome result (λ _. list_all (λ a. has_fact self.now (pred, a)) rows.now ≡ false) }
+    {
+        let mut k = from;
+        while k < rows.len() {
+            if !self.holds(pred, rows.row(k)) {
+                return Some(k);
+            }
+            k += 1;
+        }
+        None
     }
 
     fn holds_each(&self, tables: &[Named<Rows>]) -> bool

@@ -18,7 +18,7 @@ impl Space {
     {
         let numbers = self.numbers(at);
         let world = self.worlds.get(numbers.world);
-        if !self.task.met(world) {
+        if !self.task.met_from(world, &mut self.unmet) {
             return Ok(false);
         }
         match idle(
