@@ -29,6 +29,7 @@ pub mod Snoc
 pub mod Skipping
 pub mod WholeRows
 pub mod Chains
+pub mod MatchReading
 pub mod Truths
 pub mod Orders
 pub mod Contents

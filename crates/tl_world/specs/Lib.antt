@@ -8,6 +8,7 @@ pub mod Tables
 pub mod WorldCode
 pub mod Patterns
 pub mod Next
+pub mod MatchReading
 pub mod Fits
 pub mod Least
 pub mod Front

@@ -60,7 +60,7 @@ pub(crate) fn rows_before(rows: &Runs, lead: &[Part], known: &[Value], ties: boo
 }
 
 /// How many rows come before the first whose leading values are at least the fixed ones of the parts. They are counted by halves where `near` is another number.
-fn rows_before_near(rows: &Runs, lead: &[Part], near: usize) -> usize
+pub(crate) fn rows_before_near(rows: &Runs, lead: &[Part], near: usize) -> usize
     requires { Rises row_cmp rows.now }
     ensures { IsFirstKept false (front 0 lead.now []) rows.now result }
 {

@@ -15,6 +15,12 @@ fn is_by_second(parts: &[Part]) -> bool {
     parts.len() > 1 && matches!(parts[0], Part::Free(_)) && matches!(parts[1], Part::Fixed(_))
 }
 
+/// Whether the rows that the parts fit are looked for in the second order of the table.
+#[inline]
+pub(crate) fn is_in_second_order(rows: &Rows, parts: &[Part]) -> bool {
+    is_by_second(parts) && rows.second().is_some()
+}
+
 /// The parts with the first two exchanged, and others after them.
 fn exchanged_parts(parts: &[Part]) -> [Part; 9]
     requires { length parts.now ≤ 9 }

@@ -1,10 +1,10 @@
 // The first row that a pattern fits, whose variables first stand in the order of their numbers.
-ghost use Rattle.std.specs.Prelude.{◌≡◌, ◌<◌, ◌≤◌, ℕ, List, length, drop, true, false, IfSome, IfNone};
+ghost use Rattle.std.specs.Prelude.{◌≡◌, ◌<◌, ◌≤◌, ℕ, List, length, drop, take, true, false, IfSome, IfNone};
 ghost use Rattle.std.specs.Option.{is_some};
 ghost use Rattle.tl_syntax.specs.Lists.{Rises};
 ghost use Rattle.tl_world.specs.Fits.{fits_at, fits_all, occurs, BeginsAs};
 ghost use Rattle.tl_world.specs.Front.{BeginsOn, seen_after, seen_in, is_in_turn, are_in_turn};
-ghost use Rattle.tl_world.specs.Least.{IsLeast, fits_some, match_if};
+ghost use Rattle.tl_world.specs.Least.{IsLeast, HasLater, fits_some, match_if};
 ghost use Rattle.tl_world.specs.Tables.{row_cmp};
 
 use crate::Part;
@@ -70,9 +70,10 @@ pub(crate) fn put_values(
     Some(seen)
 }
 
-/// The place after the first row, from a place on, that some tuple makes the parts, where there is one. The values of the least tuple that makes the parts one of those rows are then put into the first places of `values`: they are those of that row.
+/// The place after the first row, from a place on, that some tuple makes the parts, where there is one. The values of the least tuple that makes the parts one of those rows are then put into the first places of `values`: they are those of that row. The rows from the place after it on have the later tuples.
 ///
 /// Rows are looked at up to the first whose leading values exceed the fixed leading parts.
+#[inline(always)]
 pub(crate) fn put_first(
     rows: &Runs,
     parts: &[Part],
@@ -86,7 +87,9 @@ pub(crate) fn put_first(
     requires turn { are_in_turn 0 parts.now ≡ true }
     requires order { Rises row_cmp rows.now }
     requires bound { from ≤ length rows.now }
-    ensures { IsLeast free (λ t. fits_some parts.now (drop from rows.now) t) (match_if (is_some result) free values.new) }
+    ensures least { IsLeast free (λ t. fits_some parts.now (drop from rows.now) t) (match_if (is_some result) free values.new) }
+    ensures bound { IfSome result (λ next. next ≤ length rows.now) }
+    ensures later { IfSome result (λ next. HasLater parts.now true (take free values.new) rows.now next) }
 {
     let mut k = from;
     while k < rows.len() {

@@ -15,7 +15,8 @@
 //! - `task`: a problem with its initial world and its goal as worlds, and the goal test; `unmet`: where a goal test failed.
 //! - `pattern`: patterns of facts and of places, and the tuples that make them true.
 //! - `laws`: what is proved of the equality of worlds and of the matches of a pattern.
-//! - `matches`: the tuples that make a pattern true in a world, one after another.
+//! - `matches`: the next tuple that makes a pattern true in a world.
+//! - `match_reader`: these tuples, one after another.
 //! - `row_match`, `front`, `after`, `first`, `first_place`, `next`: the tuple of one row, the leading values of a row, the rows up to a tuple, the first row and the first place that a pattern fits, and the least tuple of a table.
 //! - `by_second`: the least tuple of a table by the second values of its rows.
 #![tactic(auto)]
@@ -31,6 +32,7 @@ mod is_after;
 mod kept;
 pub mod laws;
 mod mark;
+mod match_reader;
 mod matches;
 mod moves;
 mod named;
@@ -58,6 +60,7 @@ mod unmet;
 mod world;
 mod worlds;
 
+pub use match_reader::MatchReader;
 pub use pattern::{Match, Part, Pattern};
 pub use rows::Rows;
 pub use table::{PlaceRow, PlaceRows};
