@@ -11,3 +11,4 @@ pub mod LawsTuples
 pub mod Remembered
 pub mod Memory
 pub mod StateTruth
+pub mod TruthHere

@@ -1,7 +1,7 @@
 -- What an evaluation of a formula answers where it is read, and what it needs.
-use Rattle.std.specs.Prelude.{◌≤◌, ◌+◌, ◌*◌, ℕ, List, Bool, Option, Result}
-use Rattle.tl_eval.specs.Frames.{assignment_in, current_assignment}
-use Rattle.tl_eval.specs.Notes.{Evaluates}
+use Rattle.std.specs.Prelude.{◌≡◌, ◌≤◌, ◌+◌, ◌*◌, ℕ, List, Bool, Option, Result, IfOk, IfErr}
+use Rattle.tl_eval.specs.Frames.{assignment_in}
+use Rattle.tl_eval.specs.Notes.{AreInRange, Tells, Evaluates}
 use Rattle.tl_eval.specs.Remembered.{Remembered, AreTruths}
 use Rattle.tl_eval.specs.Reading.{situation_in, situation_read, looked_read, rank}
 use Rattle.tl_eval.specs.declared.range.RangeNote.{RangeNote}
@@ -9,7 +9,7 @@ use Rattle.tl_eval.specs.declared.reading.Reading.{Reading}
 use Rattle.tl_syntax.specs.Assignment.{Assignment}
 use Rattle.tl_syntax.specs.declared.value.Value.{Value}
 use Rattle.tl_syntax.specs.Fits.{Fits}
-use Rattle.tl_syntax.specs.Signature.{Signature, signature_of, with_definitions_below, Takes}
+use Rattle.tl_syntax.specs.Signature.{Signature, with_definitions_below}
 use Rattle.tl_syntax.specs.Trees.{FormulaTree}
 use Rattle.tl_terms.specs.Looked.{looked_in_state, looks_of}
 use Rattle.tl_terms.specs.Operations.{Operation}
@@ -32,23 +32,6 @@ pub record FitsAt (g : Signature) (n : ℕ) (f : FormulaTree) : Type 0 where
 abbrev pub HaveSlots : PlainProblem → ℕ → ℕ → ℕ → Type 0
 HaveSlots p n k slots = 32 * (rank p n k + 1) ≤ slots
 
--- the formula's truth where it is read in a world of the task, under the first of the frames; or a note
-abbrev pub IsTruthIn : Task → World → Reading → List (Option Value) → FormulaTree → Result Bool RangeNote → Type 0
-IsTruthIn task w r frames f result = IsTruth (plain_problem task.problem) w r.number r.level (current_assignment frames) f result
-
--- the truth of a definition of the values, where its atom is read in a world of the task; or a note
-abbrev pub IsDefinitionTruth : Task → World → Reading → ℕ → List Value → Result Bool RangeNote → Type 0
-IsDefinitionTruth task w r n values result =
-    Evaluates ((situation_read (plain_problem task.problem) w r.number r.level).table n values) (looked_read (plain_problem task.problem) w r.number r.level n values) result
-
--- the formula fits where it is read in the task
-abbrev pub FitsIn : Task → Reading → FormulaTree → Type 0
-FitsIn task r f = FitsAt (signature_of task.problem.domain) r.number f
-
--- definition n can be named where this is read in the task, and takes so many arguments
-abbrev pub TakesIn : Task → Reading → ℕ → ℕ → Type 0
-TakesIn task r n count = Takes (with_definitions_below (r.number + 1) (signature_of task.problem.domain)).definitions n count
-
 -- so many slots are enough where this is read in the task
 abbrev pub HasRoomIn : Task → Reading → ℕ → Type 0
 HasRoomIn task r slots = HaveSlots (plain_problem task.problem) r.number r.level slots
@@ -64,3 +47,19 @@ looked_in_frame task w frame f = looked_in_state (looks_of (plain_problem task.p
 -- each truth of a definition that is remembered is the truth in this world of the task
 abbrev pub Remembers : Task → World → List Remembered → Type 0
 Remembers task w rs = AreTruths (plain_problem task.problem) w rs
+
+-- it is the truth of the formula in a world of the task, under the frame; or a note of an operation that is looked at
+abbrev pub IsWholeTruth : Task → World → List (Option Value) → FormulaTree → Result Bool RangeNote → Type 0
+IsWholeTruth task w frame f result = Evaluates (true_in_frame task w frame f) (looked_in_frame task w frame f) result
+
+-- where it is no note, it is the truth of the formula
+abbrev pub IsTruthFound : Task → World → List (Option Value) → FormulaTree → Result Bool RangeNote → Type 0
+IsTruthFound task w frame f result = IfOk result (λ b. b ≡ true_in_frame task w frame f)
+
+-- and no operation that is looked at is past range
+abbrev pub IsFoundInRange : Task → World → List (Option Value) → FormulaTree → Result Bool RangeNote → Type 0
+IsFoundInRange task w frame f result = IfOk result (λ b. AreInRange (looked_in_frame task w frame f))
+
+-- a note tells one that is
+abbrev pub IsNoteOf : Task → World → List (Option Value) → FormulaTree → Result Bool RangeNote → Type 0
+IsNoteOf task w frame f result = IfErr result (λ n. Tells (looked_in_frame task w frame f) n)

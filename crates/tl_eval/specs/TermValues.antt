@@ -1,5 +1,5 @@
 -- What the evaluations of terms under a frame answer: a value, or a note of an operation that is looked at and past range.
-use Rattle.std.specs.Prelude.{ℕ, List, Bool, Option, Result}
+use Rattle.std.specs.Prelude.{ℕ, List, Bool, Option, Result, Ok}
 use Rattle.tl_eval.specs.Frames.{assignment_in}
 use Rattle.tl_eval.specs.Notes.{Evaluates}
 use Rattle.tl_eval.specs.declared.range.Operator.{Operator}
@@ -34,6 +34,10 @@ all_looked_under w frame ts = looked_in_terms w (assignment_in frame) ts
 -- it is the value of the term, or a note of it
 abbrev pub IsValue : World → List (Option Value) → TermTree → Result (Option Value) RangeNote → Type 0
 IsValue w frame t result = Evaluates (value_under w frame t) (looked_under w frame t) result
+
+-- it is the value of the term in every world, and no operation that is looked at for it is past range
+abbrev pub IsPlainValue : List (Option Value) → TermTree → Option Value → Type 0
+IsPlainValue frame t found = (w : World) → IsValue w frame t (Ok found)
 
 -- it is the value of the operation on the two terms, or a note of it
 abbrev pub IsOperationValue : World → List (Option Value) → Operator → TermTree → TermTree → Result (Option Value) RangeNote → Type 0

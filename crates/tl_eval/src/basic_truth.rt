@@ -1,5 +1,5 @@
 // The truth of formulas that have no formula below them.
-ghost use Rattle.std.specs.Prelude.{◌≡◌, ◌≤◌, [], length};
+ghost use Rattle.std.specs.Prelude.{◌≡◌, ◌≤◌, [], length, Some};
 ghost use Rattle.tl_eval.specs.Frames.{assignment_in};
 ghost use Rattle.tl_eval.specs.InPlace.{in_place};
 ghost use Rattle.tl_eval.specs.Small.{HasFewArguments, HaveFewArguments};
@@ -8,11 +8,12 @@ ghost use Rattle.tl_syntax.specs.Fits.{term_count};
 ghost use Rattle.tl_syntax.specs.TreeOfTerm.{tree_of_term, tree_of_terms};
 ghost use Rattle.tl_terms.specs.Bounds.{arg_value, arg_values, fact_in, same_value};
 ghost use Rattle.tl_terms.specs.Looked.{is_defined_integer, leaves_open};
+ghost use Rattle.tl_terms.specs.Terms.{prepend};
 ghost use Rattle.tl_terms.specs.Truth.{compared};
 
 use crate::RangeNote;
 use crate::row::Row;
-use crate::term_value::{put_values_of_terms, value_in, value_of_term};
+use crate::term_value::{plain_value, put_values_of_terms, value_in, value_of_term};
 use tl_syntax::{Arg, Cmp, Term, Terms, Value};
 use tl_world::World;
 
@@ -82,14 +83,9 @@ fn stand(cmp: Cmp, left: Option<Value>, right: Option<Value>) -> bool
     }
 }
 
-/// Whether the fact is in the world. It takes no memory.
+/// `atom_true` for arguments of whatever number and kind. It takes no memory.
 #[inline(never)]
-pub(crate) fn atom_true(
-    w: &World,
-    frame: &[Option<Value>],
-    pred: u32,
-    args: &Terms,
-) -> Result<bool, RangeNote>
+fn row_true(w: &World, frame: &[Option<Value>], pred: u32, args: &Terms) -> Result<bool, RangeNote>
     requires small { HaveFewArguments (tree_of_terms args.now) }
     requires few { term_count (tree_of_terms args.now) ≤ 8 }
     ensures { IsAtomTruth w.now frame.now pred (tree_of_terms args.now) result }
@@ -107,9 +103,56 @@ pub(crate) fn atom_true(
     }
 }
 
-/// Whether the two terms stand in the comparison. It takes no memory.
+/// Whether the fact of one argument is in the world, where that has a value. It takes no memory.
+#[inline(always)]
+fn one_holds(w: &World, pred: u32, value: Option<Value>) -> bool
+    ensures { result ≡ fact_in w.now pred (prepend value (Some [])) }
+{
+    match value {
+        Some(only) => w.holds(pred, &[only]),
+        None => false,
+    }
+}
+
+/// Whether the fact of two arguments is in the world, where both have a value. It takes no memory.
+#[inline(always)]
+fn two_hold(w: &World, pred: u32, first: Option<Value>, second: Option<Value>) -> bool
+    ensures { result ≡ fact_in w.now pred (prepend first (prepend second (Some []))) }
+{
+    match (first, second) {
+        (Some(a), Some(b)) => w.holds(pred, &[a, b]),
+        _ => false,
+    }
+}
+
+/// Whether the fact is in the world. One or two arguments that are variables or values are read without a row. It takes no memory.
 #[inline(never)]
-pub(crate) fn compare_true(
+pub(crate) fn atom_true(
+    w: &World,
+    frame: &[Option<Value>],
+    pred: u32,
+    args: &Terms,
+) -> Result<bool, RangeNote>
+    requires small { HaveFewArguments (tree_of_terms args.now) }
+    requires few { term_count (tree_of_terms args.now) ≤ 8 }
+    ensures { IsAtomTruth w.now frame.now pred (tree_of_terms args.now) result }
+{
+    match args.as_slice() {
+        [only] => match plain_value(frame, only) {
+            Some(value) => Ok(one_holds(w, pred, value)),
+            None => row_true(w, frame, pred, args),
+        },
+        [first, second] => match (plain_value(frame, first), plain_value(frame, second)) {
+            (Some(a), Some(b)) => Ok(two_hold(w, pred, a, b)),
+            _ => row_true(w, frame, pred, args),
+        },
+        _ => row_true(w, frame, pred, args),
+    }
+}
+
+/// `compare_true` for terms of whatever kind. It takes no memory.
+#[inline(never)]
+fn sides_compared(
     w: &World,
     frame: &[Option<Value>],
     cmp: Cmp,
@@ -135,9 +178,28 @@ pub(crate) fn compare_true(
     }
 }
 
-/// Whether the fact of the arguments is one of the world's: the facts of the goal list, or its negated facts. It takes no memory.
+/// Whether the two terms stand in the comparison. Of two that are variables or values nothing is looked at. It takes no memory.
 #[inline(never)]
-pub(crate) fn fact_true(w: &World, frame: &[Option<Value>], pred: u32, args: &[Arg]) -> bool
+pub(crate) fn compare_true(
+    w: &World,
+    frame: &[Option<Value>],
+    cmp: Cmp,
+    left: &Term,
+    right: &Term,
+) -> Result<bool, RangeNote>
+    requires left { HasFewArguments (tree_of_term left.now) }
+    requires right { HasFewArguments (tree_of_term right.now) }
+    ensures { IsComparison w.now frame.now cmp (tree_of_term left.now) (tree_of_term right.now) result }
+{
+    match (plain_value(frame, left), plain_value(frame, right)) {
+        (Some(first), Some(second)) => Ok(stand(cmp, first, second)),
+        _ => sides_compared(w, frame, cmp, left, right),
+    }
+}
+
+/// `fact_true` for arguments of whatever number. It takes no memory.
+#[inline(never)]
+fn fact_row_true(w: &World, frame: &[Option<Value>], pred: u32, args: &[Arg]) -> bool
     requires { length args.now ≤ 8 }
     ensures { result ≡ fact_in w.now pred (arg_values (assignment_in frame.now) args.now) }
 {
@@ -146,6 +208,24 @@ pub(crate) fn fact_true(w: &World, frame: &[Option<Value>], pred: u32, args: &[A
         w.holds(pred, row.as_slice())
     } else {
         false
+    }
+}
+
+/// Whether the fact of the arguments is one of the world's: the facts of the goal list, or its negated facts. One or two arguments are read without a row. It takes no memory.
+#[inline(never)]
+pub(crate) fn fact_true(w: &World, frame: &[Option<Value>], pred: u32, args: &[Arg]) -> bool
+    requires { length args.now ≤ 8 }
+    ensures { result ≡ fact_in w.now pred (arg_values (assignment_in frame.now) args.now) }
+{
+    match args {
+        [only] => one_holds(w, pred, value_of_arg(frame, only)),
+        [first, second] => two_hold(
+            w,
+            pred,
+            value_of_arg(frame, first),
+            value_of_arg(frame, second),
+        ),
+        _ => fact_row_true(w, frame, pred, args),
     }
 }
 

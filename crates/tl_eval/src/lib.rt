@@ -3,10 +3,12 @@
 //! - `basic_truth`: the truth of formulas that have no formula below them.
 //! - `bound_truth`: the truth of bounds.
 //! - `env`: frames of variable values.
+//! - `here`: where a formula is read, in a world.
 //! - `kept`: the values of a quantifier's own slots, kept while its tuples stand there.
 //! - `laws`: what is proved of the tuples of bounds.
 //! - `memory`: the truths of definitions that are remembered in one world.
 //! - `pattern_of`: the pattern of a bound.
+//! - `quantified`: quantified formulas.
 //! - `range`: operations in 64 bits, and the note of one that is past range.
 //! - `reader`: the tuples of a bound, one after another.
 //! - `reading`: where a formula is read.
@@ -20,10 +22,12 @@
 mod basic_truth;
 mod bound_truth;
 mod env;
+mod here;
 mod kept;
 pub mod laws;
 mod memory;
 mod pattern_of;
+mod quantified;
 mod range;
 mod reader;
 mod reading;

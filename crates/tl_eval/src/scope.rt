@@ -43,9 +43,10 @@ pub(crate) fn saved(frames: &[Option<Value>]) -> [Option<Value>; 32]
     requires { 32 ≤ length frames.now }
     ensures { result ≡ take 32 frames.now }
 {
-    let mut frame = [None; 32];
-    frame.copy_from_slice(&frames[..SLOTS]);
-    frame
+    match frames.first_chunk() {
+        Some(frame) => *frame,
+        None => [None; 32],
+    }
 }
 
 /// Makes the first frame the given one. It takes no memory.

@@ -1,102 +1,93 @@
 // The truth of state formulas.
-ghost use Rattle.std.specs.Prelude.{◌≡◌, ◌<◌, length, take, IfOk, IfErr, []};
+ghost use Rattle.std.specs.Prelude.{◌≡◌, ◌<◌, length, take, []};
 ghost use Rattle.tl_eval.specs.Frames.{current_assignment, AgreeElsewhere};
-ghost use Rattle.tl_eval.specs.Notes.{AreInRange, Tells};
-ghost use Rattle.tl_eval.specs.Remembered.{AreTruths};
-ghost use Rattle.tl_eval.specs.StateTruth.{true_in_frame, looked_in_frame, Remembers, IsTruthIn, IsDefinitionTruth, FitsIn, TakesIn, HasRoomIn};
+ghost use Rattle.tl_eval.specs.StateTruth.{IsTruthFound, IsFoundInRange, IsNoteOf, HasRoomIn, IsWholeTruth, Remembers};
+ghost use Rattle.tl_eval.specs.TruthHere.{definitions_here, joined_formula, defined_atom, quantified_formula, AreTruthsHere, IsTruthHere, IsDefinitionTruth, FitsHere, TakesHere, HasRoomHere};
 ghost use Rattle.tl_syntax.specs.Fits.{Fits};
-ghost use Rattle.tl_syntax.specs.Junctions.{joined, quantified};
 ghost use Rattle.tl_syntax.specs.Signature.{signature_of, Takes};
 ghost use Rattle.tl_syntax.specs.StateFormulas.{IsState};
-ghost use Rattle.tl_syntax.specs.Trees.{defined};
-ghost use Rattle.tl_syntax.specs.TreeOfFormula.{tree_of_formula, tree_of_formulas};
-ghost use Rattle.tl_syntax.specs.TreeOfTerm.{tree_of_terms};
-ghost use Rattle.tl_terms.specs.ProblemMeaning.{plain_problem};
+ghost use Rattle.tl_syntax.specs.TreeOfFormula.{tree_of_formula};
 
 use crate::basic_truth::{atom_true, compare_true, fact_true, place_true};
 use crate::env::SLOTS;
+use crate::here::Here;
 use crate::kept::{give_back, keep};
 use crate::memory::{Memory, hash_of};
+use crate::quantified::Quantified;
 use crate::reading::Reading;
 use crate::row::Row;
 use crate::scope::{current, put_in_scope};
 use crate::term_value::put_values_of_terms;
 use crate::{Env, RangeNote, TupleReader};
-use tl_syntax::{Bound, Formula, Formulas, Junction, Terms, Value, Var};
+use tl_syntax::{Formula, Formulas, Junction, Terms, Value};
 use tl_world::{Task, World};
 
 /// The truth of a formula under the first frame, where it is read. The frame stays as it was. It takes no memory.
 #[cycle(truth_of)]
 fn truth_of(
-    task: &Task,
-    w: &World,
+    here: &Here,
     frames: &mut [Option<Value>],
     memory: &mut Memory,
-    reading: Reading,
     f: &Formula,
 ) -> Result<bool, RangeNote>
-    requires fits { FitsIn task.now reading (tree_of_formula f.now) }
-    requires room { HasRoomIn task.now reading (length frames.old) }
-    requires truths { AreTruths (plain_problem task.now.problem) w.now memory.old }
-    ensures truth { IsTruthIn task.now w.now reading frames.old (tree_of_formula f.now) result }
+    requires fits { FitsHere here.now (tree_of_formula f.now) }
+    requires room { HasRoomHere here.now (length frames.old) }
+    requires truths { AreTruthsHere here.now memory.old }
+    ensures truth { IsTruthHere here.now frames.old (tree_of_formula f.now) result }
     ensures frame { take 32 frames.new ≡ take 32 frames.old }
-    ensures truths { AreTruths (plain_problem task.now.problem) w.now memory.new }
+    ensures truths { AreTruthsHere here.now memory.new }
 {
     match f {
         Formula::True => Ok(true),
         Formula::False => Ok(false),
-        Formula::Atom(pred, args) => atom_true(w, current(frames), *pred, args),
-        Formula::Defined(number, args) => defined_true(
-            task, w, frames, memory, reading, *number, args,
-        ),
-        Formula::Compare(cmp, left, right) => compare_true(w, current(frames), *cmp, left, right),
+        Formula::Atom(pred, args) => atom_true(here.world, current(frames), *pred, args),
+        Formula::Defined(number, args) => defined_true(here, frames, memory, *number, args),
+        Formula::Compare(cmp, left, right) => {
+            compare_true(here.world, current(frames), *cmp, left, right)
+        }
         Formula::GoalFact(pred, args) => Ok(fact_true(
-            &task.goal,
+            &here.task.goal,
             current(frames),
             *pred,
             args.as_slice(),
         )),
         Formula::GoalPlace(fun, args, value) => Ok(place_true(
-            &task.goal,
+            &here.task.goal,
             current(frames),
             *fun,
             args.as_slice(),
             value,
         )),
         Formula::GoalNot(pred, args) => Ok(fact_true(
-            &task.avoid,
+            &here.task.avoid,
             current(frames),
             *pred,
             args.as_slice(),
         )),
-        Formula::Not(part) => match truth_of(task, w, frames, memory, reading, part) {
+        Formula::Not(part) => match truth_of(here, frames, memory, part) {
             Ok(truth) => Ok(!truth),
             Err(note) => Err(note),
         },
-        Formula::And(parts) => parts_true(task, w, frames, memory, reading, Junction::All, parts),
-        Formula::Or(parts) => parts_true(task, w, frames, memory, reading, Junction::Any, parts),
-        Formula::ForAll(vars, bound, part) => quantified_true(
-            task,
-            w,
-            frames,
-            memory,
-            reading,
-            Junction::All,
-            vars.as_slice(),
-            bound,
-            part,
-        ),
-        Formula::Exists(vars, bound, part) => quantified_true(
-            task,
-            w,
-            frames,
-            memory,
-            reading,
-            Junction::Any,
-            vars.as_slice(),
-            bound,
-            part,
-        ),
+        Formula::And(parts) => parts_true(here, frames, memory, Junction::All, parts),
+        Formula::Or(parts) => parts_true(here, frames, memory, Junction::Any, parts),
+        Formula::ForAll(vars, bound, part) => {
+            let quantified = Quantified {
+                junction: Junction::All,
+                vars: vars.as_slice(),
+                bound,
+                part,
+            };
+            quantified_true(here, frames, memory, &quantified)
+        }
+        Formula::Exists(vars, bound, part) => {
+            let quantified = Quantified {
+                junction: Junction::Any,
+                vars: vars.as_slice(),
+                bound,
+                part,
+            };
+            quantified_true(here, frames, memory, &quantified)
+        }
         Formula::Next(_) => Ok(false),
         Formula::Always(_) => Ok(false),
         Formula::Eventually(_) => Ok(false),
@@ -110,24 +101,22 @@ fn truth_of(
 #[cycle(truth_of)]
 #[inline(never)]
 fn parts_true(
-    task: &Task,
-    w: &World,
+    here: &Here,
     frames: &mut [Option<Value>],
     memory: &mut Memory,
-    reading: Reading,
     junction: Junction,
     parts: &Formulas,
 ) -> Result<bool, RangeNote>
-    requires fits { FitsIn task.now reading (joined junction (tree_of_formulas parts.now)) }
-    requires room { HasRoomIn task.now reading (length frames.old) }
-    requires truths { AreTruths (plain_problem task.now.problem) w.now memory.old }
-    ensures truth { IsTruthIn task.now w.now reading frames.old (joined junction (tree_of_formulas parts.now)) result }
+    requires fits { FitsHere here.now (joined_formula junction parts.now) }
+    requires room { HasRoomHere here.now (length frames.old) }
+    requires truths { AreTruthsHere here.now memory.old }
+    ensures truth { IsTruthHere here.now frames.old (joined_formula junction parts.now) result }
     ensures frame { take 32 frames.new ≡ take 32 frames.old }
-    ensures truths { AreTruths (plain_problem task.now.problem) w.now memory.new }
+    ensures truths { AreTruthsHere here.now memory.new }
 {
     let stop = junction.deciding_truth();
     for part in parts.as_slice().iter() {
-        match truth_of(task, w, frames, memory, reading, part) {
+        match truth_of(here, frames, memory, part) {
             Ok(truth) => {
                 if truth == stop {
                     return Ok(stop);
@@ -143,26 +132,24 @@ fn parts_true(
 #[cycle(truth_of)]
 #[inline(never)]
 fn defined_true(
-    task: &Task,
-    w: &World,
+    here: &Here,
     frames: &mut [Option<Value>],
     memory: &mut Memory,
-    reading: Reading,
     number: u32,
     args: &Terms,
 ) -> Result<bool, RangeNote>
-    requires fits { FitsIn task.now reading (defined number (tree_of_terms args.now)) }
-    requires room { HasRoomIn task.now reading (length frames.old) }
-    requires truths { AreTruths (plain_problem task.now.problem) w.now memory.old }
-    ensures truth { IsTruthIn task.now w.now reading frames.old (defined number (tree_of_terms args.now)) result }
+    requires fits { FitsHere here.now (defined_atom number args.now) }
+    requires room { HasRoomHere here.now (length frames.old) }
+    requires truths { AreTruthsHere here.now memory.old }
+    ensures truth { IsTruthHere here.now frames.old (defined_atom number args.now) result }
     ensures frame { take 32 frames.new ≡ take 32 frames.old }
-    ensures truths { AreTruths (plain_problem task.now.problem) w.now memory.new }
+    ensures truths { AreTruthsHere here.now memory.new }
 {
     let mut row = Row::new();
-    match put_values_of_terms(w, current(frames), args, &mut row) {
+    match put_values_of_terms(here.world, current(frames), args, &mut row) {
         Ok(all) => {
             if all {
-                body_true(task, w, frames, memory, reading, number, row.as_slice())
+                body_true(here, frames, memory, number, row.as_slice())
             } else {
                 Ok(false)
             }
@@ -175,23 +162,21 @@ fn defined_true(
 #[cycle(truth_of)]
 #[inline(never)]
 fn body_true(
-    task: &Task,
-    w: &World,
+    here: &Here,
     frames: &mut [Option<Value>],
     memory: &mut Memory,
-    reading: Reading,
     number: u32,
     values: &[Value],
 ) -> Result<bool, RangeNote>
-    requires takes { TakesIn task.now reading number (length values.now) }
-    requires room { HasRoomIn task.now reading (length frames.old) }
-    requires truths { AreTruths (plain_problem task.now.problem) w.now memory.old }
-    ensures truth { IsDefinitionTruth task.now w.now reading number values.now result }
+    requires takes { TakesHere here.now number (length values.now) }
+    requires room { HasRoomHere here.now (length frames.old) }
+    requires truths { AreTruthsHere here.now memory.old }
+    ensures truth { IsDefinitionTruth here.now here.now.reading number values.now result }
     ensures frame { take 32 frames.new ≡ take 32 frames.old }
-    ensures truths { AreTruths (plain_problem task.now.problem) w.now memory.new }
+    ensures truths { AreTruthsHere here.now memory.new }
 {
-    let definition = &task.problem.domain.definitions.as_slice()[number as usize];
-    let level = reading.level_of(number, definition.levels);
+    let definition = &here.task.problem.domain.definitions.as_slice()[number as usize];
+    let level = here.reading.level_of(number, definition.levels);
     if level == 0 {
         return Ok(false);
     }
@@ -199,7 +184,7 @@ fn body_true(
     if let Some(truth) = memory.find(hash, number, level, values) {
         return Ok(truth);
     }
-    match opened_true(task, w, frames, memory, Reading { number, level }, values) {
+    match opened_true(here, frames, memory, Reading { number, level }, values) {
         Ok(truth) => {
             memory.put(hash, number, level, values, truth);
             Ok(truth)
@@ -211,89 +196,84 @@ fn body_true(
 /// Whether the body of a definition, which is read at a level above 0, is true of the values: it is read one level lower, in the next frame, of which it looks at its own variables alone. It takes no memory.
 #[cycle(truth_of)]
 fn opened_true(
-    task: &Task,
-    w: &World,
+    here: &Here,
     frames: &mut [Option<Value>],
     memory: &mut Memory,
     reading: Reading,
     values: &[Value],
 ) -> Result<bool, RangeNote>
-    requires takes { Takes (signature_of task.now.problem.domain).definitions reading.number (length values.now) }
+    requires takes { Takes (definitions_here here.now) reading.number (length values.now) }
     requires level { 0 < reading.level }
-    requires room { HasRoomIn task.now reading (length frames.old) }
-    requires truths { AreTruths (plain_problem task.now.problem) w.now memory.old }
-    ensures truth { IsDefinitionTruth task.now w.now reading reading.number values.now result }
+    requires room { HasRoomIn here.now.task.now reading (length frames.old) }
+    requires truths { AreTruthsHere here.now memory.old }
+    ensures truth { IsDefinitionTruth here.now reading reading.number values.now result }
     ensures frame { take 32 frames.new ≡ take 32 frames.old }
-    ensures truths { AreTruths (plain_problem task.now.problem) w.now memory.new }
+    ensures truths { AreTruthsHere here.now memory.new }
 {
-    let definition = &task.problem.domain.definitions.as_slice()[reading.number as usize];
-    let below = Reading {
-        number: reading.number,
-        level: reading.level - 1,
+    let definition = &here.task.problem.domain.definitions.as_slice()[reading.number as usize];
+    let below = Here {
+        task: here.task,
+        world: here.world,
+        reading: Reading {
+            number: reading.number,
+            level: reading.level - 1,
+        },
     };
     let inner = &mut frames[SLOTS..];
     put_in_scope(inner, definition.params.as_slice(), values);
-    truth_of(task, w, inner, memory, below, &definition.body)
+    truth_of(&below, inner, memory, &definition.body)
 }
 
 /// The truth of a universal or an existential formula. Its tuples stand in the first frame one after another, which gets the values of their slots back. It takes no memory.
 #[cycle(truth_of)]
 #[inline(never)]
 fn quantified_true(
-    task: &Task,
-    w: &World,
+    here: &Here,
     frames: &mut [Option<Value>],
     memory: &mut Memory,
-    reading: Reading,
-    junction: Junction,
-    vars: &[Var],
-    bound: &Bound,
-    part: &Formula,
+    quantified: &Quantified,
 ) -> Result<bool, RangeNote>
-    requires fits { FitsIn task.now reading (quantified junction vars.now bound.now (tree_of_formula part.now)) }
-    requires room { HasRoomIn task.now reading (length frames.old) }
-    requires truths { AreTruths (plain_problem task.now.problem) w.now memory.old }
-    ensures truth { IsTruthIn task.now w.now reading frames.old
-        (quantified junction vars.now bound.now (tree_of_formula part.now)) result }
+    requires fits { FitsHere here.now (quantified_formula quantified.now) }
+    requires room { HasRoomHere here.now (length frames.old) }
+    requires truths { AreTruthsHere here.now memory.old }
+    ensures truth { IsTruthHere here.now frames.old (quantified_formula quantified.now) result }
     ensures frame { take 32 frames.new ≡ take 32 frames.old }
-    ensures truths { AreTruths (plain_problem task.now.problem) w.now memory.new }
+    ensures truths { AreTruthsHere here.now memory.new }
 {
     let mut outer = [None; 9];
-    keep(frames, vars, &mut outer);
-    let truth = tuples_true(
-        task, w, frames, memory, reading, junction, vars, bound, part,
-    );
-    give_back(frames, vars, &outer);
+    keep(frames, quantified.vars, &mut outer);
+    let truth = tuples_true(here, frames, memory, quantified);
+    give_back(frames, quantified.vars, &outer);
     truth
 }
 
 /// The truth of a quantified formula: the first tuple whose instance has the truth that decides it. The last tuple is left in the first frame. It takes no memory.
 #[cycle(truth_of)]
 fn tuples_true(
-    task: &Task,
-    w: &World,
+    here: &Here,
     frames: &mut [Option<Value>],
     memory: &mut Memory,
-    reading: Reading,
-    junction: Junction,
-    vars: &[Var],
-    bound: &Bound,
-    part: &Formula,
+    quantified: &Quantified,
 ) -> Result<bool, RangeNote>
-    requires fits { FitsIn task.now reading (quantified junction vars.now bound.now (tree_of_formula part.now)) }
-    requires room { HasRoomIn task.now reading (length frames.old) }
-    requires truths { AreTruths (plain_problem task.now.problem) w.now memory.old }
-    ensures truth { IsTruthIn task.now w.now reading frames.old
-        (quantified junction vars.now bound.now (tree_of_formula part.now)) result }
-    ensures others { AgreeElsewhere vars.now (current_assignment frames.new) (current_assignment frames.old) }
-    ensures truths { AreTruths (plain_problem task.now.problem) w.now memory.new }
+    requires fits { FitsHere here.now (quantified_formula quantified.now) }
+    requires room { HasRoomHere here.now (length frames.old) }
+    requires truths { AreTruthsHere here.now memory.old }
+    ensures truth { IsTruthHere here.now frames.old (quantified_formula quantified.now) result }
+    ensures others { AgreeElsewhere quantified.now.vars.now (current_assignment frames.new)
+        (current_assignment frames.old) }
+    ensures truths { AreTruthsHere here.now memory.new }
 {
-    let stop = junction.deciding_truth();
+    let stop = quantified.junction.deciding_truth();
     let mut tuples = TupleReader::unopened();
-    tuples.open_at(task, current(frames), vars, bound);
-    while tuples.next(task, w, bound) {
-        put_in_scope(frames, vars, tuples.values());
-        match truth_of(task, w, frames, memory, reading, part) {
+    tuples.open_at(
+        here.task,
+        current(frames),
+        quantified.vars,
+        quantified.bound,
+    );
+    'tuples: while tuples.next(here.task, here.world, quantified.bound) {
+        put_in_scope(frames, quantified.vars, tuples.values());
+        match truth_of(here, frames, memory, quantified.part) {
             Ok(truth) => {
                 if truth == stop {
                     return Ok(stop);
@@ -305,31 +285,54 @@ fn tuples_true(
     Ok(!stop)
 }
 
+/// The truth of a formula outside of definitions. It takes no memory.
+#[inline(never)]
+fn whole_true(
+    task: &Task,
+    w: &World,
+    env: &mut Env,
+    memory: &mut Memory,
+    f: &Formula,
+) -> Result<bool, RangeNote>
+    requires fits { Fits (signature_of task.now.problem.domain) [] (tree_of_formula f.now) }
+    requires remembers { Remembers task.now w.now memory.old }
+    ensures truth { IsWholeTruth task.now w.now env.old (tree_of_formula f.now) result }
+    ensures frame { env.new ≡ env.old }
+    ensures remembers { Remembers task.now w.now memory.new }
+{
+    let reading = Reading::whole(task);
+    let here = Here {
+        task,
+        world: w,
+        reading,
+    };
+    truth_of(&here, env.values.as_mut_slice(), memory, f)
+}
+
 /// Whether a state formula is true in a world, under the frame's values; or a note of an operation that is looked at and past range.
 /// Parts are evaluated from left to right until the truth is decided, and a definition once for its values and level, where that is still remembered.
 /// It takes no memory, and leaves the caller's frame as it was.
 pub fn state(task: &Task, w: &World, env: &mut Env, f: &Formula) -> Result<bool, RangeNote>
     requires fits { Fits (signature_of task.now.problem.domain) [] (tree_of_formula f.now) }
     requires state { IsState (tree_of_formula f.now) }
-    ensures value { IfOk result (λ b. b ≡ true_in_frame task.now w.now env.old (tree_of_formula f.now)) }
-    ensures in_range { IfOk result (λ b. AreInRange (looked_in_frame task.now w.now env.old (tree_of_formula f.now))) }
-    ensures note { IfErr result (λ n. Tells (looked_in_frame task.now w.now env.old (tree_of_formula f.now)) n) }
+    ensures value { IsTruthFound task.now w.now env.old (tree_of_formula f.now) result }
+    ensures in_range { IsFoundInRange task.now w.now env.old (tree_of_formula f.now) result }
+    ensures note { IsNoteOf task.now w.now env.old (tree_of_formula f.now) result }
     ensures frame { env.new ≡ env.old }
 {
     let reading = Reading::whole(task);
-    env.memory.forget_all();
-    truth_of(
+    let here = Here {
         task,
-        w,
-        env.values.as_mut_slice(),
-        &mut env.memory,
+        world: w,
         reading,
-        f,
-    )
+    };
+    env.memory.forget_all();
+    truth_of(&here, env.values.as_mut_slice(), &mut env.memory, f)
 }
 
 /// `state` for whoever reads many formulas in one world: what it remembers of definitions is kept for the next one. Each truth that is remembered is the one in this world, before and after the call.
 /// It takes no memory, and leaves the caller's frame as it was.
+#[inline(always)]
 pub fn state_in(
     task: &Task,
     w: &World,
@@ -340,12 +343,15 @@ pub fn state_in(
     requires fits { Fits (signature_of task.now.problem.domain) [] (tree_of_formula f.now) }
     requires state { IsState (tree_of_formula f.now) }
     requires remembers { Remembers task.now w.now memory.old }
-    ensures value { IfOk result (λ b. b ≡ true_in_frame task.now w.now env.old (tree_of_formula f.now)) }
-    ensures in_range { IfOk result (λ b. AreInRange (looked_in_frame task.now w.now env.old (tree_of_formula f.now))) }
-    ensures note { IfErr result (λ n. Tells (looked_in_frame task.now w.now env.old (tree_of_formula f.now)) n) }
+    ensures value { IsTruthFound task.now w.now env.old (tree_of_formula f.now) result }
+    ensures in_range { IsFoundInRange task.now w.now env.old (tree_of_formula f.now) result }
+    ensures note { IsNoteOf task.now w.now env.old (tree_of_formula f.now) result }
     ensures frame { env.new ≡ env.old }
     ensures remembers { Remembers task.now w.now memory.new }
 {
-    let reading = Reading::whole(task);
-    truth_of(task, w, env.values.as_mut_slice(), memory, reading, f)
+    match f {
+        Formula::Atom(pred, args) => atom_true(w, env.frame(), *pred, args),
+        Formula::Compare(cmp, left, right) => compare_true(w, env.frame(), *cmp, left, right),
+        _ => whole_true(task, w, env, memory, f),
+    }
 }

@@ -1,9 +1,9 @@
 // The values of terms.
-ghost use Rattle.std.specs.Prelude.{◌≡◌, ◌≤◌, [], IfOk, IfErr};
+ghost use Rattle.std.specs.Prelude.{◌≡◌, ◌≤◌, [], IfOk, IfErr, IfSome};
 ghost use Rattle.tl_eval.specs.Frames.{assignment_in};
 ghost use Rattle.tl_eval.specs.Notes.{integer_found, row_found, AreInRange, Tells};
 ghost use Rattle.tl_eval.specs.Small.{HasFewArguments, HaveFewArguments};
-ghost use Rattle.tl_eval.specs.TermValues.{value_under, looked_under, IsValue, AreValues, IsPlaceValue, IsOperationValue};
+ghost use Rattle.tl_eval.specs.TermValues.{value_under, looked_under, IsPlainValue, IsValue, AreValues, IsPlaceValue, IsOperationValue};
 ghost use Rattle.tl_syntax.specs.Fits.{TermFits, term_count};
 ghost use Rattle.tl_syntax.specs.Signature.{signature_of};
 ghost use Rattle.tl_syntax.specs.TreeOfTerm.{tree_of_term, tree_of_terms};
@@ -21,6 +21,18 @@ pub(crate) fn value_in(frame: &[Option<Value>], slot: u32) -> Option<Value>
     match frame.get(slot as usize) {
         Some(value) => *value,
         None => None,
+    }
+}
+
+/// The value of a term that is a variable or a value, or None where it is no such term. Nothing is looked at for it, and it takes no memory.
+#[inline(always)]
+pub(crate) fn plain_value(frame: &[Option<Value>], t: &Term) -> Option<Option<Value>>
+    ensures { IfSome result (λ v. IsPlainValue frame.now (tree_of_term t.now) v) }
+{
+    match t {
+        Term::Var(var) => Some(value_in(frame, var.slot)),
+        Term::Val(value) => Some(Some(*value)),
+        _ => None,
     }
 }
 
