@@ -24,3 +24,4 @@ pub mod Learned
 pub mod BrokenLaws
 pub mod KeptByWorld
 pub mod OpenParts
+pub mod KnownHere

@@ -10,3 +10,4 @@ pub mod Quantifiers
 pub mod Steps
 pub mod Remaining
 pub mod Calls
+pub mod CallsHere

@@ -1,15 +1,16 @@
 // The idling check.
 ghost use Rattle.std.specs.Prelude.{◌≡◌, ◌↔◌, ◌<◌, length, IsTrue, IfOk, IfErr};
-ghost use Rattle.tl_eval.specs.StateTruth.{Remembers};
 ghost use Rattle.tl_nodes.specs.Numbers.{trees, tree_in};
 ghost use Rattle.tl_progress.specs.Answers.{IsCausedBy};
-ghost use Rattle.tl_progress.specs.Calls.{IsSentenceIn, idly_true_at, looked_idly_at, HoldsIdly, looked_by_idling_at};
+ghost use Rattle.tl_progress.specs.Calls.{IsSentenceIn, HoldsIdly, looked_by_idling_at};
+ghost use Rattle.tl_progress.specs.CallsHere.{IsSentenceHere, RemembersHere, IsTruthAt, IsTruthFault};
 
 use crate::ProgressFault;
 use crate::frames::empty_frame;
+use crate::here::Here;
+use crate::known::WorkedOut;
 use crate::order::reached;
 use crate::truth::truth_of;
-use indexmap::IndexMap;
 use std::alloc::Global;
 use tl_eval::{Env, Memory};
 use tl_nodes::Nodes;
@@ -17,33 +18,45 @@ use tl_world::{Task, World};
 
 /// The truth of a number's tree, which has no free variable. What it is made of outside of quantifiers is worked out before it.
 pub(crate) fn sentence_truth(
-    alloc: Global,
+    here: &Here,
     nodes: &Nodes,
-    task: &Task,
-    w: &World,
     env: &mut Env,
     memory: &mut Memory,
     id: usize,
 ) -> Result<bool, ProgressFault>
     requires id { id < length (trees nodes.now) }
-    requires sentence { IsSentenceIn task.now (tree_in nodes.now id) }
-    requires remembers { Remembers task.now w.now memory.old }
-    ensures truth { IfOk result (λ b. b ≡ idly_true_at task.now w.now env.old nodes.now id) }
-    ensures cause { IfErr result (IsCausedBy (looked_idly_at task.now w.now env.old nodes.now id)) }
+    requires sentence { IsSentenceHere here.now (tree_in nodes.now id) }
+    requires remembers { RemembersHere here.now memory.old }
+    ensures truth { IsTruthAt here.now env.old nodes.now id result }
+    ensures cause { IsTruthFault here.now env.old nodes.now id result }
     ensures frame { env.new ≡ env.old }
-    ensures remembers { Remembers task.now w.now memory.new }
+    ensures remembers { RemembersHere here.now memory.new }
 {
-    let mut order = reached(alloc, nodes, id, true)?;
-    let mut known = IndexMap::new(alloc);
+    let mut order = reached(here.alloc, nodes, id, true)?;
+    let mut known = WorkedOut::new(here.alloc);
     while let Some(at) = order.pop() {
-        match truth_of(nodes, task, w, env, memory, &known, at) {
+        let known_here = Some(&known);
+        let so_far = Here {
+            alloc: here.alloc,
+            task: here.task,
+            world: here.world,
+            known: known_here,
+        };
+        match truth_of(&so_far, nodes, env, memory, at) {
             Ok(truth) => {
-                known.insert(at, truth)?;
+                known.truths.insert(at, truth)?;
             }
             Err(fault) => return Err(fault),
         }
     }
-    truth_of(nodes, task, w, env, memory, &known, id)
+    let known_here = Some(&known);
+    let so_far = Here {
+        alloc: here.alloc,
+        task: here.task,
+        world: here.world,
+        known: known_here,
+    };
+    truth_of(&so_far, nodes, env, memory, id)
 }
 
 /// Whether the number's tree holds where the world is repeated for ever (the idling check, Bacchus and Kabanza 2000).
@@ -67,8 +80,14 @@ pub fn idle(
     let frame = env.saved();
     let empty = empty_frame();
     env.restore(&empty);
+    let here = Here {
+        alloc,
+        task,
+        world: w,
+        known: None,
+    };
     let mut memory = env.lend_memory(alloc);
-    let answer = sentence_truth(alloc, nodes, task, w, env, &mut memory, id);
+    let answer = sentence_truth(&here, nodes, env, &mut memory, id);
     env.take_back(memory);
     env.restore(&frame);
     answer

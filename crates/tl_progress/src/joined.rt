@@ -1,17 +1,17 @@
 // What has to hold next for a conjunction or a disjunction without free variables, from its parts with temporal words: the others are read first, and most residuals that prune a search are decided by one of them.
 ghost use Rattle.std.specs.Prelude.{◌≡◌, ◌<◌, length, IfOk, IfErr, IfSome, IfNone, false};
-ghost use Rattle.tl_eval.specs.StateTruth.{Remembers};
 ghost use Rattle.tl_nodes.specs.Numbering.{Keeps};
 ghost use Rattle.tl_nodes.specs.Numbers.{trees, Denotes, tree_in};
 ghost use Rattle.tl_progress.specs.Answers.{IsCausedBy};
 ghost use Rattle.tl_progress.specs.Calls.{IsSentenceIn, AreResidualsIn, residual_at, looked_for_residual_at, join_of_residuals, IsDecided, AreOpenIn};
+ghost use Rattle.tl_progress.specs.CallsHere.{IsSentenceHere, KnowsTruths, RemembersHere, IsNextConstant, IsResidualFault, IsDecidedEarly, AreOpenParts};
 ghost use Rattle.tl_progress.specs.KeptResiduals.{StaysElsewhere, found_in};
 ghost use Rattle.tl_progress.specs.Parts.{IsBelow, IsJoin};
 ghost use Rattle.tl_syntax.specs.Lists.{Each};
 ghost use Rattle.tl_syntax.specs.StateFormulas.{IsState};
-ghost use Rattle.tl_terms.specs.Progression.{constant};
 
 use crate::ProgressFault;
+use crate::here::Here;
 use crate::idling::sentence_truth;
 use crate::joins::{constant_number, decides, gather, join};
 use crate::numbers::Numbers;
@@ -20,7 +20,6 @@ use crate::parts::{part_at, part_count};
 use crate::progression::temporal_residual;
 use crate::residuals::{Incoming, Residuals};
 use crate::truth::{basic_truth, truth_of};
-use indexmap::IndexMap;
 use std::alloc::Global;
 use tl_eval::{Env, Memory};
 use tl_nodes::{Node, Nodes};
@@ -40,63 +39,60 @@ pub(crate) struct Joined {
 
 // The truth of a number's tree, which has neither a temporal word nor a free variable.
 fn state_part(
-    alloc: Global,
+    here: &Here,
     nodes: &Nodes,
-    task: &Task,
-    w: &World,
     env: &mut Env,
     memory: &mut Memory,
     part: usize,
 ) -> Result<bool, ProgressFault>
     requires part { part < length (trees nodes.now) }
-    requires sentence { IsSentenceIn task.now (tree_in nodes.now part) }
+    requires sentence { IsSentenceHere here.now (tree_in nodes.now part) }
     requires state { IsState (tree_in nodes.now part) }
-    requires remembers { Remembers task.now w.now memory.old }
-    ensures truth { IfOk result (λ b. residual_at task.now w.now env.old nodes.now part ≡ constant b) }
-    ensures cause { IfErr result (IsCausedBy (looked_for_residual_at task.now w.now env.old nodes.now part)) }
+    requires known { KnowsTruths here.now nodes.now }
+    requires remembers { RemembersHere here.now memory.old }
+    ensures truth { IsNextConstant here.now env.old nodes.now part result }
+    ensures cause { IsResidualFault here.now env.old nodes.now part result }
     ensures frame { env.new ≡ env.old }
-    ensures remembers { Remembers task.now w.now memory.new }
+    ensures remembers { RemembersHere here.now memory.new }
 {
     match nodes.get(part) {
-        Node::Basic(f) => return basic_truth(task, w, env, memory, f),
+        Node::Basic(f) => return basic_truth(here, env, memory, f),
         _ => {}
     }
     if is_shallow(nodes, part) {
-        let nothing = IndexMap::new(alloc);
-        return truth_of(nodes, task, w, env, memory, &nothing, part);
+        return truth_of(here, nodes, env, memory, part);
     }
-    sentence_truth(alloc, nodes, task, w, env, memory, part)
+    sentence_truth(here, nodes, env, memory, part)
 }
 
 // The parts with temporal words, by a memory for the truths of definitions in this world: None where one of the others decides the join.
 fn remembering_open_parts(
-    alloc: Global,
+    here: &Here,
     nodes: &Nodes,
-    task: &Task,
-    w: &World,
     env: &mut Env,
     memory: &mut Memory,
     joined: Joined,
 ) -> Result<Option<Numbers>, ProgressFault>
     requires at { joined.at < length (trees nodes.now) }
     requires join { IsJoin joined.junction (tree_in nodes.now joined.at) }
-    requires sentence { IsSentenceIn task.now (tree_in nodes.now joined.at) }
-    requires remembers { Remembers task.now w.now memory.old }
-    ensures decided { IfOk result (λ o. IfNone o (IsDecided task.now w.now env.old nodes.now joined)) }
-    ensures parts { IfOk result (λ o. IfSome o (λ v. AreOpenIn task.now w.now env.old nodes.now joined v)) }
-    ensures cause { IfErr result (IsCausedBy (looked_for_residual_at task.now w.now env.old nodes.now joined.at)) }
+    requires sentence { IsSentenceHere here.now (tree_in nodes.now joined.at) }
+    requires known { KnowsTruths here.now nodes.now }
+    requires remembers { RemembersHere here.now memory.old }
+    ensures decided { IsDecidedEarly here.now env.old nodes.now joined result }
+    ensures parts { AreOpenParts here.now env.old nodes.now joined result }
+    ensures cause { IsResidualFault here.now env.old nodes.now joined.at result }
     ensures frame { env.new ≡ env.old }
-    ensures remembers { Remembers task.now w.now memory.new }
+    ensures remembers { RemembersHere here.now memory.new }
 {
     let stop = joined.junction.deciding_truth();
-    let mut parts = Numbers::new(alloc);
+    let mut parts = Numbers::new(here.alloc);
     for i in 0..part_count(nodes, joined.at) {
         let part = part_at(nodes, joined.at, i);
         if nodes.temporal(part) {
             parts.push(part)?;
             continue;
         }
-        match state_part(alloc, nodes, task, w, env, memory, part) {
+        match state_part(here, nodes, env, memory, part) {
             Ok(truth) => {
                 if truth == stop {
                     return Ok(None);
@@ -125,8 +121,14 @@ fn open_parts(
     ensures cause { IfErr result (IsCausedBy (looked_for_residual_at task.now w.now env.old nodes.now joined.at)) }
     ensures frame { env.new ≡ env.old }
 {
+    let here = Here {
+        alloc,
+        task,
+        world: w,
+        known: None,
+    };
     let mut memory = env.lend_memory(alloc);
-    let answer = remembering_open_parts(alloc, nodes, task, w, env, &mut memory, joined);
+    let answer = remembering_open_parts(&here, nodes, env, &mut memory, joined);
     env.take_back(memory);
     answer
 }

@@ -4,9 +4,10 @@
 //! parts before wholes, so that no call goes as deep as a residual is nested: a call calls itself only below a quantifier, whose body is as deep as in the domain file.
 //!
 //! - `fault`: why a call gives no answer.
-//! - `known`: what a call has worked out.
+//! - `known`: what a call has worked out; `here`, where it reads formulas.
 //! - `order`: the numbers that a call works out, parts before wholes.
 //! - `frames`: the values of a frame, and `few_bindings`, as a few bindings in place.
+//! - `layers`: formulas that have several parts, as they stand in their nodes.
 //! - `truth`: truth where a world is repeated for ever, under a frame.
 //! - `idling`: the idling check.
 //! - `parts`, `joins`: parts of joins, and joins of numbers; `numbers`, those that a join gathers.
@@ -27,10 +28,12 @@ mod early;
 mod fault;
 mod few_bindings;
 mod frames;
+mod here;
 mod idling;
 mod joined;
 mod joins;
 mod known;
+mod layers;
 mod numbers;
 mod order;
 mod parts;

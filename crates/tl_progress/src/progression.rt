@@ -1,16 +1,17 @@
 // Progression.
 ghost use Rattle.std.specs.Prelude.{◌≡◌, ◌<◌, length, IfOk, IfErr, OnOk};
-ghost use Rattle.tl_eval.specs.StateTruth.{Remembers};
 ghost use Rattle.tl_nodes.specs.Numbering.{Keeps};
 ghost use Rattle.tl_nodes.specs.Numbers.{trees, Denotes, tree_in};
 ghost use Rattle.tl_progress.specs.Answers.{IsCausedBy};
-ghost use Rattle.tl_progress.specs.Calls.{IsSentenceIn, AreResidualsIn, IsRightIn, residual_at, looked_for_residual_at, progressed_at, looked_by_progressing_at, IsProgression, StaysNamed};
+ghost use Rattle.tl_progress.specs.Calls.{IsSentenceIn, AreResidualsIn, residual_at, looked_for_residual_at, progressed_at, looked_by_progressing_at, IsProgression, StaysNamed};
+ghost use Rattle.tl_progress.specs.CallsHere.{IsSentenceHere, AreRightHere, KnowsRightly, RemembersHere, IsResidual, IsResidualFault};
 ghost use Rattle.tl_progress.specs.KeptResiduals.{StaysElsewhere, found_in};
 ghost use Rattle.tl_syntax.specs.StateFormulas.{IsState};
 
 use crate::ProgressFault;
 use crate::early::early_residual;
 use crate::frames::{empty_frame, is_empty_frame};
+use crate::here::Here;
 use crate::idling::sentence_truth;
 use crate::joined::{Joined, joined_residual, kept_residual};
 use crate::joins::constant_number;
@@ -27,27 +28,32 @@ use tl_world::{Task, World};
 
 // Works out what has to hold next for a number's tree, or its truth where it has no temporal word, and keeps it. The tree has no free variable.
 fn learn(
-    alloc: Global,
+    here: &Here,
     nodes: &mut Nodes,
-    task: &Task,
-    w: &World,
     env: &mut Env,
     memory: &mut Memory,
     known: &mut WorkedOut,
     at: usize,
 ) -> Result<(), ProgressFault>
     requires at { at < length (trees nodes.old) }
-    requires sentence { IsSentenceIn task.now (tree_in nodes.old at) }
-    requires known { IsRightIn task.now w.now nodes.old known.old }
-    requires remembers { Remembers task.now w.now memory.old }
+    requires sentence { IsSentenceHere here.now (tree_in nodes.old at) }
+    requires known { AreRightHere here.now nodes.old known.old }
+    requires remembers { RemembersHere here.now memory.old }
     ensures kept { Keeps (trees nodes.old) (trees nodes.new) }
-    ensures known { OnOk result (IsRightIn task.now w.now nodes.new known.new) }
-    ensures cause { IfErr result (IsCausedBy (looked_for_residual_at task.now w.now env.old nodes.old at)) }
+    ensures known { OnOk result (AreRightHere here.now nodes.new known.new) }
+    ensures cause { IsResidualFault here.now env.old nodes.old at result }
     ensures frame { env.new ≡ env.old }
-    ensures remembers { Remembers task.now w.now memory.new }
+    ensures remembers { RemembersHere here.now memory.new }
 {
+    let known_here = Some(&*known);
+    let so_far = Here {
+        alloc: here.alloc,
+        task: here.task,
+        world: here.world,
+        known: known_here,
+    };
     if nodes.temporal(at) {
-        match residual_of(alloc, nodes, task, w, env, memory, known, at) {
+        match residual_of(&so_far, nodes, env, memory, at) {
             Ok(number) => {
                 known.residuals.insert(at, number)?;
                 Ok(())
@@ -55,7 +61,7 @@ fn learn(
             Err(fault) => Err(fault),
         }
     } else {
-        match truth_of(nodes, task, w, env, memory, &known.truths, at) {
+        match truth_of(&so_far, nodes, env, memory, at) {
             Ok(truth) => {
                 known.truths.insert(at, truth)?;
                 Ok(())
@@ -67,60 +73,63 @@ fn learn(
 
 // The number of what has to hold next for a number's tree, which has no free variable. What it is made of outside of quantifiers is worked out before it.
 fn ordered_residual(
-    alloc: Global,
+    here: &Here,
     nodes: &mut Nodes,
-    task: &Task,
-    w: &World,
     env: &mut Env,
     memory: &mut Memory,
     id: usize,
 ) -> Result<usize, ProgressFault>
     requires id { id < length (trees nodes.old) }
-    requires sentence { IsSentenceIn task.now (tree_in nodes.old id) }
-    requires remembers { Remembers task.now w.now memory.old }
+    requires sentence { IsSentenceHere here.now (tree_in nodes.old id) }
+    requires remembers { RemembersHere here.now memory.old }
     ensures kept { Keeps (trees nodes.old) (trees nodes.new) }
-    ensures number { IfOk result (λ i. Denotes nodes.new i (residual_at task.now w.now env.old nodes.old id)) }
-    ensures cause { IfErr result (IsCausedBy (looked_for_residual_at task.now w.now env.old nodes.old id)) }
+    ensures number { IsResidual here.now env.old nodes.old id nodes.new result }
+    ensures cause { IsResidualFault here.now env.old nodes.old id result }
     ensures frame { env.new ≡ env.old }
-    ensures remembers { Remembers task.now w.now memory.new }
+    ensures remembers { RemembersHere here.now memory.new }
 {
-    let mut order = reached(alloc, nodes, id, false)?;
-    let mut known = WorkedOut::new(alloc);
+    let mut order = reached(here.alloc, nodes, id, false)?;
+    let mut known = WorkedOut::new(here.alloc);
     while let Some(at) = order.pop() {
-        match learn(alloc, nodes, task, w, env, memory, &mut known, at) {
+        match learn(here, nodes, env, memory, &mut known, at) {
             Ok(()) => {}
             Err(fault) => return Err(fault),
         }
     }
-    residual_of(alloc, nodes, task, w, env, memory, &known, id)
+    let known_here = Some(&known);
+    let so_far = Here {
+        alloc: here.alloc,
+        task: here.task,
+        world: here.world,
+        known: known_here,
+    };
+    residual_of(&so_far, nodes, env, memory, id)
 }
 
 // The number of what has to hold next for a number's tree, which has no free variable: a part that decides it, or else what its parts give. Nothing is kept between calls but truths of definitions in this world.
 fn remembering_residual(
-    alloc: Global,
+    here: &Here,
     nodes: &mut Nodes,
-    task: &Task,
-    w: &World,
     env: &mut Env,
     memory: &mut Memory,
     id: usize,
 ) -> Result<usize, ProgressFault>
     requires id { id < length (trees nodes.old) }
-    requires sentence { IsSentenceIn task.now (tree_in nodes.old id) }
-    requires remembers { Remembers task.now w.now memory.old }
+    requires sentence { IsSentenceHere here.now (tree_in nodes.old id) }
+    requires known { KnowsRightly here.now nodes.old }
+    requires remembers { RemembersHere here.now memory.old }
     ensures kept { Keeps (trees nodes.old) (trees nodes.new) }
-    ensures number { IfOk result (λ i. Denotes nodes.new i (residual_at task.now w.now env.old nodes.old id)) }
-    ensures cause { IfErr result (IsCausedBy (looked_for_residual_at task.now w.now env.old nodes.old id)) }
+    ensures number { IsResidual here.now env.old nodes.old id nodes.new result }
+    ensures cause { IsResidualFault here.now env.old nodes.old id result }
     ensures frame { env.new ≡ env.old }
-    ensures remembers { Remembers task.now w.now memory.new }
+    ensures remembers { RemembersHere here.now memory.new }
 {
-    let nothing = WorkedOut::new(alloc);
     if is_direct(nodes, id) {
-        return residual_of(alloc, nodes, task, w, env, memory, &nothing, id);
+        return residual_of(here, nodes, env, memory, id);
     }
-    match early_residual(nodes, task, w, env, memory, &nothing.truths, id) {
+    match early_residual(here, nodes, env, memory, id) {
         Ok(Some(number)) => Ok(number),
-        Ok(None) => ordered_residual(alloc, nodes, task, w, env, memory, id),
+        Ok(None) => ordered_residual(here, nodes, env, memory, id),
         Err(fault) => Err(fault),
     }
 }
@@ -141,8 +150,14 @@ pub(crate) fn temporal_residual(
     ensures cause { IfErr result (IsCausedBy (looked_for_residual_at task.now w.now env.old nodes.old id)) }
     ensures frame { env.new ≡ env.old }
 {
+    let here = Here {
+        alloc,
+        task,
+        world: w,
+        known: None,
+    };
     let mut memory = env.lend_memory(alloc);
-    let answer = remembering_residual(alloc, nodes, task, w, env, &mut memory, id);
+    let answer = remembering_residual(&here, nodes, env, &mut memory, id);
     env.take_back(memory);
     answer
 }
@@ -212,8 +227,14 @@ fn sentence_residual(
         return found_residual(nodes, task, w, env, residuals, incoming);
     }
     let alloc = residuals.alloc;
+    let here = Here {
+        alloc,
+        task,
+        world: w,
+        known: None,
+    };
     let mut memory = env.lend_memory(alloc);
-    let answer = sentence_truth(alloc, nodes, task, w, env, &mut memory, incoming.formula);
+    let answer = sentence_truth(&here, nodes, env, &mut memory, incoming.formula);
     env.take_back(memory);
     match answer {
         Ok(truth) => Ok(constant_number(nodes, truth)),
@@ -245,8 +266,9 @@ fn lone_residual(
     if is_empty_frame(env.slots()) {
         return sentence_residual(nodes, task, w, env, residuals, incoming);
     }
-    let mut frame = empty_frame();
-    env.exchange(&mut frame);
+    let frame = env.saved();
+    let empty = empty_frame();
+    env.restore(&empty);
     let answer = sentence_residual(nodes, task, w, env, residuals, incoming);
     env.restore(&frame);
     answer

@@ -1,4 +1,4 @@
-use Rattle.std.proofs.Common.{List, Option, IfOk, IfErr, IfSome, IfNone, sym, ◌∙◌, subst}
+use Rattle.std.proofs.Common.{◌≡◌, List, Option, Some, None, IfOk, IfErr, IfSome, IfNone, sym, ◌∙◌, subst}
 use Rattle.tl_eval.specs.Remembered.{AreTruths}
 use Rattle.tl_syntax.specs.declared.value.Value.{Value}
 use Rattle.tl_terms.specs.ProblemMeaning.{plain_problem}
@@ -8,6 +8,9 @@ use Rattle.tl_progress.proofs.joined.open_parts.Goals as goal
 
 pub remembering_open_parts-answer-requires-clause-remembers : goal.remembering_open_parts-answer-requires-clause-remembers
 remembering_open_parts-answer-requires-clause-remembers c = subst (AreTruths (plain_problem c.args.task.now.problem) c.args.w.now) (sym c.lend_memory-memory.ensures.nothing) tt
+
+pub remembering_open_parts-answer-requires-clause-known : goal.remembering_open_parts-answer-requires-clause-known
+remembering_open_parts-answer-requires-clause-known c = λ k b h. let z : None ≡ Some b = h in absurd (let f : ⊥ = cc in f)
 
 pub returns-clause-decided : goal.returns-clause-decided
 returns-clause-decided c =

@@ -31,10 +31,10 @@ returns-then-is_empty_frame-clause-cause c =
 
 pub returns-clause-number : goal.returns-clause-number
 returns-clause-number c =
-    by_number (plain_problem c.args.task.now.problem) c.args.w.now (tree_at (trees c.args.nodes.now) c.args.incoming.formula) (trees c.sentence_residual-answer.new.nodes) (assignment_in c.exchange.new.self) c.sentence_residual-answer.result
-    (ap assignment_in c.exchange.ensures.comes ∙ c.empty_frame-frame.ensures) c.sentence_residual-answer.ensures.number
+    by_number (plain_problem c.args.task.now.problem) c.args.w.now (tree_at (trees c.args.nodes.now) c.args.incoming.formula) (trees c.sentence_residual-answer.new.nodes) (assignment_in c.restore.new.self) c.sentence_residual-answer.result
+    (ap assignment_in c.restore.ensures ∙ c.empty_frame-empty.ensures) c.sentence_residual-answer.ensures.number
 
 pub returns-clause-cause : goal.returns-clause-cause
 returns-clause-cause c =
-    by_cause (plain_problem c.args.task.now.problem) c.args.w.now (tree_at (trees c.args.nodes.now) c.args.incoming.formula) (assignment_in c.exchange.new.self) c.sentence_residual-answer.result
-    (ap assignment_in c.exchange.ensures.comes ∙ c.empty_frame-frame.ensures) c.sentence_residual-answer.ensures.cause
+    by_cause (plain_problem c.args.task.now.problem) c.args.w.now (tree_at (trees c.args.nodes.now) c.args.incoming.formula) (assignment_in c.restore.new.self) c.sentence_residual-answer.result
+    (ap assignment_in c.restore.ensures ∙ c.empty_frame-empty.ensures) c.sentence_residual-answer.ensures.cause

@@ -10,11 +10,11 @@ use Rattle.tl_progress.proofs.progression.ordered_residual.Given as goal
 
 abbrev pub invariant-loop-at : goal.invariant-loop-at
 invariant-loop-at l = record {
-  remembers : AreTruths (plain_problem l.task.problem) l.w l.memory;
+  remembers : AreTruths (plain_problem l.here.task.now.problem) l.here.world.now l.memory;
   frame : l.env ≡ l.fn.env;
   kept : Keeps (trees l.fn.nodes) (trees l.nodes);
   order : Each (IsBelow false (trees l.fn.nodes) l.id) l.order.items;
-  known : IsRightlyKnown (plain_problem l.task.problem) l.w (trees l.nodes) l.known;
+  known : IsRightlyKnown (plain_problem l.here.task.now.problem) l.here.world.now (trees l.nodes) l.known;
 }
 
 abbrev pub decreases-loop-at : goal.decreases-loop-at

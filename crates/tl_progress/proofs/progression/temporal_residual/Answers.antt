@@ -1,4 +1,4 @@
-use Rattle.std.proofs.Common.{List, Option, IfOk, IfErr, sym, ◌∙◌, subst}
+use Rattle.std.proofs.Common.{List, Option, IfOk, IfErr, refl, sym, ◌∙◌, subst}
 use Rattle.tl_eval.specs.Frames.{assignment_in}
 use Rattle.tl_eval.specs.Remembered.{AreTruths}
 use Rattle.tl_nodes.specs.NodeTrees.{tree_at}
@@ -6,10 +6,14 @@ use Rattle.tl_nodes.specs.Numbers.{trees, Denotes}
 use Rattle.tl_syntax.specs.declared.value.Value.{Value}
 use Rattle.tl_terms.specs.ProblemMeaning.{plain_problem}
 use Rattle.tl_progress.specs.Answers.{IsCausedBy, looked_for_residual, residual}
+use Rattle.tl_progress.proofs.KnownHere.{nothing-known}
 use Rattle.tl_progress.proofs.progression.temporal_residual.Goals as goal
 
 pub remembering_residual-answer-requires-clause-remembers : goal.remembering_residual-answer-requires-clause-remembers
 remembering_residual-answer-requires-clause-remembers c = subst (AreTruths (plain_problem c.args.task.now.problem) c.args.w.now) (sym c.lend_memory-memory.ensures.nothing) tt
+
+pub remembering_residual-answer-requires-clause-known : goal.remembering_residual-answer-requires-clause-known
+remembering_residual-answer-requires-clause-known c = nothing-known _ c.args.nodes.now refl
 
 pub returns-clause-number : goal.returns-clause-number
 returns-clause-number c =

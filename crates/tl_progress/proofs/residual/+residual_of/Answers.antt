@@ -23,8 +23,9 @@ use Rattle.tl_progress.proofs.InstanceSteps.{has-come, none-left, still-others}
 use Rattle.tl_progress.proofs.GatheredInstances.{gathered-all, instance-caused, instance-decides, instances-below, instance-gathered, same-node, stands-still, stepped-then}
 use Rattle.tl_progress.proofs.QuantifierNodes.{stands-ForAll, stands-Exists}
 use Rattle.tl_progress.proofs.Gathering.{Gathered, gather-begun, below-still, gather-on, gather-decided, gather-end}
+use Rattle.tl_progress.proofs.KnownHere.{nothing-known, knows-still}
 use Rattle.tl_progress.proofs.NextInstances.{next_after, next_of_all, instances-begun}
-use Rattle.tl_progress.proofs.ResidualLayers.{state-True, state-False, state-Basic, is-and, is-or, next-Next, next-Not, next-Always, next-Eventually, next-Until, next-Until-now, next-Within, next-During, join-next, part-next, parts-done, right-still}
+use Rattle.tl_progress.proofs.ResidualLayers.{state-True, state-False, state-Basic, is-and, is-or, next-Next, next-Not, next-Always, next-Eventually, next-Until, next-Until-now, next-Within, next-During, join-next, part-next, parts-done}
 use Rattle.tl_progress.proofs.PutLayers.{stays, longer, less-Next}
 use Rattle.tl_progress.proofs.TruthLayers.{less-ForAll, less-Exists}
 use Rattle.tl_progress.proofs.residual.+residual_of.Goals as goal
@@ -49,12 +50,12 @@ pub layer_residual-residual_of-requires : goal.layer_residual-residual_of-requir
 layer_residual-residual_of-requires t c =
     let low = part-lower false (trees c.args.nodes.now) c.args.at c.in-Not.part c.get.result.now c.get.ensures.tree c.get.ensures.parts (subst (λ n. Among c.in-Not.part (parts false n)) (sym c.in-Not.is) (inl refl)) in
     let less = low.less in
-    (omega (arith, less, c.decreases), (omega (arith, less, c.requires.at), (fits-below false (trees c.args.nodes.now) (signature_of c.args.task.now.problem.domain) c.args.at c.in-Not.part low.below c.requires.fits, (c.requires.known, c.requires.remembers))))
+    (omega (arith, less, c.decreases), (omega (arith, less, c.requires.at), (fits-below false (trees c.args.nodes.now) (signature_of c.args.here.now.task.now.problem.domain) c.args.at c.in-Not.part low.below c.requires.fits, (c.requires.known, c.requires.remembers))))
 
 pub layer_residual-returns-in_err-answer-in-Not-clause-cause : goal.layer_residual-returns-in_err-answer-in-Not-clause-cause
 layer_residual-returns-in_err-answer-in-Not-clause-cause t c =
     let low = part-lower false (trees c.args.nodes.now) c.args.at c.in-Not.part c.get.result.now c.get.ensures.tree c.get.ensures.parts (subst (λ n. Among c.in-Not.part (parts false n)) (sym c.in-Not.is) (inl refl)) in
-    handed-on _ _ _ c.from_residual.ensures.1 (residual-fault (plain_problem c.args.task.now.problem) c.args.w.now (assignment_in c.args.env.now) (trees c.args.nodes.now) c.args.at c.in-Not.part low.below c.in_err-answer-in-Not.field-0.0 c.in_err-answer-in-Not.ensures.cause)
+    handed-on _ _ _ c.from_residual.ensures.1 (residual-fault (plain_problem c.args.here.now.task.now.problem) c.args.here.now.world.now (assignment_in c.args.env.now) (trees c.args.nodes.now) c.args.at c.in-Not.part low.below c.in_err-answer-in-Not.field-0.0 c.in_err-answer-in-Not.ensures.cause)
 
 pub layer_residual-not-requires : goal.layer_residual-not-requires
 layer_residual-not-requires t c = slice_get_within (trees c.residual_of.new.nodes) c.in_ok-answer-in-Not.answer _ c.in_ok-answer-in-Not.ensures.number
@@ -64,7 +65,7 @@ layer_residual-returns-in_ok-number-in-Not-clause-kept t c = λ i f h. c.in_ok-n
 
 pub layer_residual-returns-in_ok-number-in-Not-clause-number : goal.layer_residual-returns-in_ok-number-in-Not-clause-number
 layer_residual-returns-in_ok-number-in-Not-clause-number t c =
-    c.in_ok-number-in-Not.ensures.number ∙ ap (λ (f : FormulaTree). Some f) (next-Not (plain_problem c.args.task.now.problem) c.args.w.now (assignment_in c.args.env.now) (trees c.args.nodes.now) c.args.at c.get.result.now c.get.ensures.tree c.requires.at (trees c.residual_of.new.nodes) c.in_ok-answer-in-Not.ensures.kept c.in-Not.part c.in_ok-answer-in-Not.answer c.in-Not.is c.in_ok-answer-in-Not.ensures.number)
+    c.in_ok-number-in-Not.ensures.number ∙ ap (λ (f : FormulaTree). Some f) (next-Not (plain_problem c.args.here.now.task.now.problem) c.args.here.now.world.now (assignment_in c.args.env.now) (trees c.args.nodes.now) c.args.at c.get.result.now c.get.ensures.tree c.requires.at (trees c.residual_of.new.nodes) c.in_ok-answer-in-Not.ensures.kept c.in-Not.part c.in_ok-answer-in-Not.answer c.in-Not.is c.in_ok-answer-in-Not.ensures.number)
 
 pub layer_residual-join_residual-requires : goal.layer_residual-join_residual-requires
 layer_residual-join_residual-requires t c = (omega (arith, c.decreases), (c.requires.at, (is-and (trees c.args.nodes.now) c.args.at c.get.result.now c.get.ensures.tree c.in-And.field-0 c.in-And.is, (c.requires.fits, (c.requires.known, c.requires.remembers)))))
@@ -76,18 +77,18 @@ pub layer_residual-remaining-requires : goal.layer_residual-remaining-requires
 layer_residual-remaining-requires t c = let less = less-Next (trees c.args.nodes.now) c.args.at c.get.result.now c.get.ensures.parts c.in-Next.part c.in-Next.is in let k = c.requires.at in omega arith
 
 pub layer_residual-returns-in_ok-number-in-Next-clause-number : goal.layer_residual-returns-in_ok-number-in-Next-clause-number
-layer_residual-returns-in_ok-number-in-Next-clause-number t c = c.in_ok-number-in-Next.ensures.number ∙ ap (λ (f : FormulaTree). Some f) (next-Next (plain_problem c.args.task.now.problem) c.args.w.now (assignment_in c.args.env.now) (trees c.args.nodes.now) c.args.at c.get.result.now c.get.ensures.tree c.requires.at (trees c.args.nodes.now) (λ i f h. h) c.in-Next.part c.in-Next.is)
+layer_residual-returns-in_ok-number-in-Next-clause-number t c = c.in_ok-number-in-Next.ensures.number ∙ ap (λ (f : FormulaTree). Some f) (next-Next (plain_problem c.args.here.now.task.now.problem) c.args.here.now.world.now (assignment_in c.args.env.now) (trees c.args.nodes.now) c.args.at c.get.result.now c.get.ensures.tree c.requires.at (trees c.args.nodes.now) (λ i f h. h) c.in-Next.part c.in-Next.is)
 
 pub layer_residual-residual_of-requires-in-Always : goal.layer_residual-residual_of-requires-in-Always
 layer_residual-residual_of-requires-in-Always t c =
     let low = part-lower false (trees c.args.nodes.now) c.args.at c.in-Always.part c.get.result.now c.get.ensures.tree c.get.ensures.parts (subst (λ n. Among c.in-Always.part (parts false n)) (sym c.in-Always.is) (inl refl)) in
     let less = low.less in
-    (omega (arith, less, c.decreases), (omega (arith, less, c.requires.at), (fits-below false (trees c.args.nodes.now) (signature_of c.args.task.now.problem.domain) c.args.at c.in-Always.part low.below c.requires.fits, (c.requires.known, c.requires.remembers))))
+    (omega (arith, less, c.decreases), (omega (arith, less, c.requires.at), (fits-below false (trees c.args.nodes.now) (signature_of c.args.here.now.task.now.problem.domain) c.args.at c.in-Always.part low.below c.requires.fits, (c.requires.known, c.requires.remembers))))
 
 pub layer_residual-returns-in_err-answer-in-Always-clause-cause : goal.layer_residual-returns-in_err-answer-in-Always-clause-cause
 layer_residual-returns-in_err-answer-in-Always-clause-cause t c =
     let low = part-lower false (trees c.args.nodes.now) c.args.at c.in-Always.part c.get.result.now c.get.ensures.tree c.get.ensures.parts (subst (λ n. Among c.in-Always.part (parts false n)) (sym c.in-Always.is) (inl refl)) in
-    handed-on _ _ _ c.from_residual-in_err-answer-in-Always.ensures.1 (residual-fault (plain_problem c.args.task.now.problem) c.args.w.now (assignment_in c.args.env.now) (trees c.args.nodes.now) c.args.at c.in-Always.part low.below c.in_err-answer-in-Always.field-0.0 c.in_err-answer-in-Always.ensures.cause)
+    handed-on _ _ _ c.from_residual-in_err-answer-in-Always.ensures.1 (residual-fault (plain_problem c.args.here.now.task.now.problem) c.args.here.now.world.now (assignment_in c.args.env.now) (trees c.args.nodes.now) c.args.at c.in-Always.part low.below c.in_err-answer-in-Always.field-0.0 c.in_err-answer-in-Always.ensures.cause)
 
 pub layer_residual-with_remaining-requires-clause-part : goal.layer_residual-with_remaining-requires-clause-part
 layer_residual-with_remaining-requires-clause-part t c = slice_get_within (trees c.residual_of-in-Always.new.nodes) c.in_ok-answer-in-Always.answer _ c.in_ok-answer-in-Always.ensures.number
@@ -100,18 +101,18 @@ layer_residual-returns-in_ok-number-in-Always-clause-kept t c = λ i f h. c.in_o
 
 pub layer_residual-returns-in_ok-number-in-Always-clause-number : goal.layer_residual-returns-in_ok-number-in-Always-clause-number
 layer_residual-returns-in_ok-number-in-Always-clause-number t c =
-    c.in_ok-number-in-Always.ensures.number ∙ ap (λ (f : FormulaTree). Some f) (next-Always (plain_problem c.args.task.now.problem) c.args.w.now (assignment_in c.args.env.now) (trees c.args.nodes.now) c.args.at c.get.result.now c.get.ensures.tree c.requires.at (trees c.residual_of-in-Always.new.nodes) c.in_ok-answer-in-Always.ensures.kept (assignment_in c.residual_of-in-Always.new.env) (ap assignment_in c.in_ok-answer-in-Always.ensures.frame) c.in-Always.part c.in_ok-answer-in-Always.answer c.in-Always.is c.in_ok-answer-in-Always.ensures.number)
+    c.in_ok-number-in-Always.ensures.number ∙ ap (λ (f : FormulaTree). Some f) (next-Always (plain_problem c.args.here.now.task.now.problem) c.args.here.now.world.now (assignment_in c.args.env.now) (trees c.args.nodes.now) c.args.at c.get.result.now c.get.ensures.tree c.requires.at (trees c.residual_of-in-Always.new.nodes) c.in_ok-answer-in-Always.ensures.kept (assignment_in c.residual_of-in-Always.new.env) (ap assignment_in c.in_ok-answer-in-Always.ensures.frame) c.in-Always.part c.in_ok-answer-in-Always.answer c.in-Always.is c.in_ok-answer-in-Always.ensures.number)
 
 pub layer_residual-residual_of-requires-in-Eventually : goal.layer_residual-residual_of-requires-in-Eventually
 layer_residual-residual_of-requires-in-Eventually t c =
     let low = part-lower false (trees c.args.nodes.now) c.args.at c.in-Eventually.part c.get.result.now c.get.ensures.tree c.get.ensures.parts (subst (λ n. Among c.in-Eventually.part (parts false n)) (sym c.in-Eventually.is) (inl refl)) in
     let less = low.less in
-    (omega (arith, less, c.decreases), (omega (arith, less, c.requires.at), (fits-below false (trees c.args.nodes.now) (signature_of c.args.task.now.problem.domain) c.args.at c.in-Eventually.part low.below c.requires.fits, (c.requires.known, c.requires.remembers))))
+    (omega (arith, less, c.decreases), (omega (arith, less, c.requires.at), (fits-below false (trees c.args.nodes.now) (signature_of c.args.here.now.task.now.problem.domain) c.args.at c.in-Eventually.part low.below c.requires.fits, (c.requires.known, c.requires.remembers))))
 
 pub layer_residual-returns-in_err-answer-in-Eventually-clause-cause : goal.layer_residual-returns-in_err-answer-in-Eventually-clause-cause
 layer_residual-returns-in_err-answer-in-Eventually-clause-cause t c =
     let low = part-lower false (trees c.args.nodes.now) c.args.at c.in-Eventually.part c.get.result.now c.get.ensures.tree c.get.ensures.parts (subst (λ n. Among c.in-Eventually.part (parts false n)) (sym c.in-Eventually.is) (inl refl)) in
-    handed-on _ _ _ c.from_residual-in_err-answer-in-Eventually.ensures.1 (residual-fault (plain_problem c.args.task.now.problem) c.args.w.now (assignment_in c.args.env.now) (trees c.args.nodes.now) c.args.at c.in-Eventually.part low.below c.in_err-answer-in-Eventually.field-0.0 c.in_err-answer-in-Eventually.ensures.cause)
+    handed-on _ _ _ c.from_residual-in_err-answer-in-Eventually.ensures.1 (residual-fault (plain_problem c.args.here.now.task.now.problem) c.args.here.now.world.now (assignment_in c.args.env.now) (trees c.args.nodes.now) c.args.at c.in-Eventually.part low.below c.in_err-answer-in-Eventually.field-0.0 c.in_err-answer-in-Eventually.ensures.cause)
 
 pub layer_residual-with_remaining-requires-in-Eventually-clause-part : goal.layer_residual-with_remaining-requires-in-Eventually-clause-part
 layer_residual-with_remaining-requires-in-Eventually-clause-part t c = slice_get_within (trees c.residual_of-in-Eventually.new.nodes) c.in_ok-answer-in-Eventually.answer _ c.in_ok-answer-in-Eventually.ensures.number
@@ -124,31 +125,31 @@ layer_residual-returns-in_ok-number-in-Eventually-clause-kept t c = λ i f h. c.
 
 pub layer_residual-returns-in_ok-number-in-Eventually-clause-number : goal.layer_residual-returns-in_ok-number-in-Eventually-clause-number
 layer_residual-returns-in_ok-number-in-Eventually-clause-number t c =
-    c.in_ok-number-in-Eventually.ensures.number ∙ ap (λ (f : FormulaTree). Some f) (next-Eventually (plain_problem c.args.task.now.problem) c.args.w.now (assignment_in c.args.env.now) (trees c.args.nodes.now) c.args.at c.get.result.now c.get.ensures.tree c.requires.at (trees c.residual_of-in-Eventually.new.nodes) c.in_ok-answer-in-Eventually.ensures.kept (assignment_in c.residual_of-in-Eventually.new.env) (ap assignment_in c.in_ok-answer-in-Eventually.ensures.frame) c.in-Eventually.part c.in_ok-answer-in-Eventually.answer c.in-Eventually.is c.in_ok-answer-in-Eventually.ensures.number)
+    c.in_ok-number-in-Eventually.ensures.number ∙ ap (λ (f : FormulaTree). Some f) (next-Eventually (plain_problem c.args.here.now.task.now.problem) c.args.here.now.world.now (assignment_in c.args.env.now) (trees c.args.nodes.now) c.args.at c.get.result.now c.get.ensures.tree c.requires.at (trees c.residual_of-in-Eventually.new.nodes) c.in_ok-answer-in-Eventually.ensures.kept (assignment_in c.residual_of-in-Eventually.new.env) (ap assignment_in c.in_ok-answer-in-Eventually.ensures.frame) c.in-Eventually.part c.in_ok-answer-in-Eventually.answer c.in-Eventually.is c.in_ok-answer-in-Eventually.ensures.number)
 
 pub layer_residual-residual_of-requires-in-Until : goal.layer_residual-residual_of-requires-in-Until
 layer_residual-residual_of-requires-in-Until t c =
     let low = part-lower false (trees c.args.nodes.now) c.args.at c.in-Until.second c.get.result.now c.get.ensures.tree c.get.ensures.parts (subst (λ n. Among c.in-Until.second (parts false n)) (sym c.in-Until.is) (inr (inl refl))) in
     let less = low.less in
-    (omega (arith, less, c.decreases), (omega (arith, less, c.requires.at), (fits-below false (trees c.args.nodes.now) (signature_of c.args.task.now.problem.domain) c.args.at c.in-Until.second low.below c.requires.fits, (c.requires.known, c.requires.remembers))))
+    (omega (arith, less, c.decreases), (omega (arith, less, c.requires.at), (fits-below false (trees c.args.nodes.now) (signature_of c.args.here.now.task.now.problem.domain) c.args.at c.in-Until.second low.below c.requires.fits, (c.requires.known, c.requires.remembers))))
 
 pub layer_residual-returns-in_err-after-in-Until-clause-cause : goal.layer_residual-returns-in_err-after-in-Until-clause-cause
 layer_residual-returns-in_err-after-in-Until-clause-cause t c =
     let low = part-lower false (trees c.args.nodes.now) c.args.at c.in-Until.second c.get.result.now c.get.ensures.tree c.get.ensures.parts (subst (λ n. Among c.in-Until.second (parts false n)) (sym c.in-Until.is) (inr (inl refl))) in
-    handed-on _ _ _ c.from_residual-in_err-after-in-Until.ensures.1 (residual-fault (plain_problem c.args.task.now.problem) c.args.w.now (assignment_in c.args.env.now) (trees c.args.nodes.now) c.args.at c.in-Until.second low.below c.in_err-after-in-Until.field-0.0 c.in_err-after-in-Until.ensures.cause)
+    handed-on _ _ _ c.from_residual-in_err-after-in-Until.ensures.1 (residual-fault (plain_problem c.args.here.now.task.now.problem) c.args.here.now.world.now (assignment_in c.args.env.now) (trees c.args.nodes.now) c.args.at c.in-Until.second low.below c.in_err-after-in-Until.field-0.0 c.in_err-after-in-Until.ensures.cause)
 
 pub layer_residual-decides-requires : goal.layer_residual-decides-requires
 layer_residual-decides-requires t c = slice_get_within (trees c.residual_of-in-Until.new.nodes) c.in_ok-after-in-Until.after _ c.in_ok-after-in-Until.ensures.number
 
 pub layer_residual-returns-then-decides-clause-number : goal.layer_residual-returns-then-decides-clause-number
-layer_residual-returns-then-decides-clause-number t c = next-Until-now (plain_problem c.args.task.now.problem) c.args.w.now (assignment_in c.args.env.now) (trees c.args.nodes.now) c.args.at c.get.result.now c.get.ensures.tree c.requires.at (trees c.residual_of-in-Until.new.nodes) c.in_ok-after-in-Until.ensures.kept c.in-Until.first c.in-Until.second c.in_ok-after-in-Until.after c.in-Until.is c.in_ok-after-in-Until.ensures.number (c.decides.ensures c.if-decides.true)
+layer_residual-returns-then-decides-clause-number t c = next-Until-now (plain_problem c.args.here.now.task.now.problem) c.args.here.now.world.now (assignment_in c.args.env.now) (trees c.args.nodes.now) c.args.at c.get.result.now c.get.ensures.tree c.requires.at (trees c.residual_of-in-Until.new.nodes) c.in_ok-after-in-Until.ensures.kept c.in-Until.first c.in-Until.second c.in_ok-after-in-Until.after c.in-Until.is c.in_ok-after-in-Until.ensures.number (c.decides.ensures c.if-decides.true)
 
 pub layer_residual-residual_of-requires-in-Until-2 : goal.layer_residual-residual_of-requires-in-Until-2
 layer_residual-residual_of-requires-in-Until-2 t c =
     let low = part-lower false (trees c.args.nodes.now) c.args.at c.in-Until.first c.get.result.now c.get.ensures.tree c.get.ensures.parts (subst (λ n. Among c.in-Until.first (parts false n)) (sym c.in-Until.is) (inl refl)) in
     let less = low.less in
     let first : c.in-Until.first < length (trees c.args.nodes.now) = omega (arith, less, c.requires.at) in
-    (omega (arith, less, c.decreases), (longer (trees c.args.nodes.now) (trees c.residual_of-in-Until.new.nodes) c.in_ok-after-in-Until.ensures.kept c.in-Until.first first, (subst (FitsSomewhere (signature_of c.args.task.now.problem.domain)) (sym (stays (trees c.args.nodes.now) (trees c.residual_of-in-Until.new.nodes) c.in_ok-after-in-Until.ensures.kept c.in-Until.first first)) (fits-below false (trees c.args.nodes.now) (signature_of c.args.task.now.problem.domain) c.args.at c.in-Until.first low.below c.requires.fits), (right-still (plain_problem c.args.task.now.problem) c.args.w.now (trees c.args.nodes.now) (trees c.residual_of-in-Until.new.nodes) c.in_ok-after-in-Until.ensures.kept c.args.known.now c.requires.known, c.residual_of-in-Until.ensures.remembers))))
+    (omega (arith, less, c.decreases), (longer (trees c.args.nodes.now) (trees c.residual_of-in-Until.new.nodes) c.in_ok-after-in-Until.ensures.kept c.in-Until.first first, (subst (FitsSomewhere (signature_of c.args.here.now.task.now.problem.domain)) (sym (stays (trees c.args.nodes.now) (trees c.residual_of-in-Until.new.nodes) c.in_ok-after-in-Until.ensures.kept c.in-Until.first first)) (fits-below false (trees c.args.nodes.now) (signature_of c.args.here.now.task.now.problem.domain) c.args.at c.in-Until.first low.below c.requires.fits), (knows-still c.args.here.now c.args.nodes.now c.residual_of-in-Until.new.nodes c.in_ok-after-in-Until.ensures.kept c.requires.known, c.residual_of-in-Until.ensures.remembers))))
 
 pub layer_residual-returns-in_err-before-in-Until-clause-kept : goal.layer_residual-returns-in_err-before-in-Until-clause-kept
 layer_residual-returns-in_err-before-in-Until-clause-kept t c = λ i f h. c.in_err-before-in-Until.ensures.kept i f (c.in_ok-after-in-Until.ensures.kept i f h)
@@ -158,9 +159,9 @@ layer_residual-returns-in_err-before-in-Until-clause-cause t c =
     let low = part-lower false (trees c.args.nodes.now) c.args.at c.in-Until.first c.get.result.now c.get.ensures.tree c.get.ensures.parts (subst (λ n. Among c.in-Until.first (parts false n)) (sym c.in-Until.is) (inl refl)) in
     let less = low.less in
     let first : c.in-Until.first < length (trees c.args.nodes.now) = omega (arith, less, c.requires.at) in
-    handed-on _ _ _ c.from_residual-in_err-before-in-Until.ensures.1 (residual-fault (plain_problem c.args.task.now.problem) c.args.w.now (assignment_in c.args.env.now) (trees c.args.nodes.now) c.args.at c.in-Until.first low.below c.in_err-before-in-Until.field-0.0
-    (subst (λ (f : FormulaTree). IsCausedBy (looked_for_residual (plain_problem c.args.task.now.problem) c.args.w.now (assignment_in c.args.env.now) f) c.in_err-before-in-Until.field-0.0) (stays (trees c.args.nodes.now) (trees c.residual_of-in-Until.new.nodes) c.in_ok-after-in-Until.ensures.kept c.in-Until.first first)
-    (subst (λ (v : List (Option Value)). IsCausedBy (looked_for_residual (plain_problem c.args.task.now.problem) c.args.w.now (assignment_in v) (tree_at (trees c.residual_of-in-Until.new.nodes) c.in-Until.first)) c.in_err-before-in-Until.field-0.0) c.in_ok-after-in-Until.ensures.frame c.in_err-before-in-Until.ensures.cause)))
+    handed-on _ _ _ c.from_residual-in_err-before-in-Until.ensures.1 (residual-fault (plain_problem c.args.here.now.task.now.problem) c.args.here.now.world.now (assignment_in c.args.env.now) (trees c.args.nodes.now) c.args.at c.in-Until.first low.below c.in_err-before-in-Until.field-0.0
+    (subst (λ (f : FormulaTree). IsCausedBy (looked_for_residual (plain_problem c.args.here.now.task.now.problem) c.args.here.now.world.now (assignment_in c.args.env.now) f) c.in_err-before-in-Until.field-0.0) (stays (trees c.args.nodes.now) (trees c.residual_of-in-Until.new.nodes) c.in_ok-after-in-Until.ensures.kept c.in-Until.first first)
+    (subst (λ (v : List (Option Value)). IsCausedBy (looked_for_residual (plain_problem c.args.here.now.task.now.problem) c.args.here.now.world.now (assignment_in v) (tree_at (trees c.residual_of-in-Until.new.nodes) c.in-Until.first)) c.in_err-before-in-Until.field-0.0) c.in_ok-after-in-Until.ensures.frame c.in_err-before-in-Until.ensures.cause)))
 
 pub layer_residual-returns-in_err-before-in-Until-clause-frame : goal.layer_residual-returns-in_err-before-in-Until-clause-frame
 layer_residual-returns-in_err-before-in-Until-clause-frame t c = c.residual_of-in-Until-2.ensures.frame ∙ c.in_ok-after-in-Until.ensures.frame
@@ -169,23 +170,23 @@ pub layer_residual-residual_of-requires-in-Within : goal.layer_residual-residual
 layer_residual-residual_of-requires-in-Within t c =
     let low = part-lower false (trees c.args.nodes.now) c.args.at c.in-Within.part c.get.result.now c.get.ensures.tree c.get.ensures.parts (subst (λ n. Among c.in-Within.part (parts false n)) (sym c.in-Within.is) (inl refl)) in
     let less = low.less in
-    (omega (arith, less, c.decreases), (omega (arith, less, c.requires.at), (fits-below false (trees c.args.nodes.now) (signature_of c.args.task.now.problem.domain) c.args.at c.in-Within.part low.below c.requires.fits, (c.requires.known, c.requires.remembers))))
+    (omega (arith, less, c.decreases), (omega (arith, less, c.requires.at), (fits-below false (trees c.args.nodes.now) (signature_of c.args.here.now.task.now.problem.domain) c.args.at c.in-Within.part low.below c.requires.fits, (c.requires.known, c.requires.remembers))))
 
 pub layer_residual-returns-in_err-answer-in-Within-clause-cause : goal.layer_residual-returns-in_err-answer-in-Within-clause-cause
 layer_residual-returns-in_err-answer-in-Within-clause-cause t c =
     let low = part-lower false (trees c.args.nodes.now) c.args.at c.in-Within.part c.get.result.now c.get.ensures.tree c.get.ensures.parts (subst (λ n. Among c.in-Within.part (parts false n)) (sym c.in-Within.is) (inl refl)) in
-    handed-on _ _ _ c.from_residual-in_err-answer-in-Within.ensures.1 (residual-fault (plain_problem c.args.task.now.problem) c.args.w.now (assignment_in c.args.env.now) (trees c.args.nodes.now) c.args.at c.in-Within.part low.below c.in_err-answer-in-Within.field-0.0 c.in_err-answer-in-Within.ensures.cause)
+    handed-on _ _ _ c.from_residual-in_err-answer-in-Within.ensures.1 (residual-fault (plain_problem c.args.here.now.task.now.problem) c.args.here.now.world.now (assignment_in c.args.env.now) (trees c.args.nodes.now) c.args.at c.in-Within.part low.below c.in_err-answer-in-Within.field-0.0 c.in_err-answer-in-Within.ensures.cause)
 
 pub layer_residual-residual_of-requires-in-During : goal.layer_residual-residual_of-requires-in-During
 layer_residual-residual_of-requires-in-During t c =
     let low = part-lower false (trees c.args.nodes.now) c.args.at c.in-During.part c.get.result.now c.get.ensures.tree c.get.ensures.parts (subst (λ n. Among c.in-During.part (parts false n)) (sym c.in-During.is) (inl refl)) in
     let less = low.less in
-    (omega (arith, less, c.decreases), (omega (arith, less, c.requires.at), (fits-below false (trees c.args.nodes.now) (signature_of c.args.task.now.problem.domain) c.args.at c.in-During.part low.below c.requires.fits, (c.requires.known, c.requires.remembers))))
+    (omega (arith, less, c.decreases), (omega (arith, less, c.requires.at), (fits-below false (trees c.args.nodes.now) (signature_of c.args.here.now.task.now.problem.domain) c.args.at c.in-During.part low.below c.requires.fits, (c.requires.known, c.requires.remembers))))
 
 pub layer_residual-returns-in_err-answer-in-During-clause-cause : goal.layer_residual-returns-in_err-answer-in-During-clause-cause
 layer_residual-returns-in_err-answer-in-During-clause-cause t c =
     let low = part-lower false (trees c.args.nodes.now) c.args.at c.in-During.part c.get.result.now c.get.ensures.tree c.get.ensures.parts (subst (λ n. Among c.in-During.part (parts false n)) (sym c.in-During.is) (inl refl)) in
-    handed-on _ _ _ c.from_residual-in_err-answer-in-During.ensures.1 (residual-fault (plain_problem c.args.task.now.problem) c.args.w.now (assignment_in c.args.env.now) (trees c.args.nodes.now) c.args.at c.in-During.part low.below c.in_err-answer-in-During.field-0.0 c.in_err-answer-in-During.ensures.cause)
+    handed-on _ _ _ c.from_residual-in_err-answer-in-During.ensures.1 (residual-fault (plain_problem c.args.here.now.task.now.problem) c.args.here.now.world.now (assignment_in c.args.env.now) (trees c.args.nodes.now) c.args.at c.in-During.part low.below c.in_err-answer-in-During.field-0.0 c.in_err-answer-in-During.ensures.cause)
 
 pub layer_residual-until_remaining-requires : goal.layer_residual-until_remaining-requires
 layer_residual-until_remaining-requires t c = record {
@@ -205,8 +206,8 @@ layer_residual-returns-in_ok-number-in-Until-clause-number t c =
     let low = part-lower false (trees c.args.nodes.now) c.args.at c.in-Until.first c.get.result.now c.get.ensures.tree c.get.ensures.parts (subst (λ n. Among c.in-Until.first (parts false n)) (sym c.in-Until.is) (inl refl)) in
     let less = low.less in
     let first : c.in-Until.first < length (trees c.args.nodes.now) = omega (arith, less, c.requires.at) in
-    c.in_ok-number-in-Until.ensures.number ∙ ap (λ (f : FormulaTree). Some f) (next-Until (plain_problem c.args.task.now.problem) c.args.w.now (assignment_in c.args.env.now) (trees c.args.nodes.now) c.args.at c.get.result.now c.get.ensures.tree c.requires.at (trees c.residual_of-in-Until-2.new.nodes) (λ i f h. c.in_ok-before-in-Until.ensures.kept i f (c.in_ok-after-in-Until.ensures.kept i f h)) (assignment_in c.residual_of-in-Until-2.new.env) (ap assignment_in (c.in_ok-before-in-Until.ensures.frame ∙ c.in_ok-after-in-Until.ensures.frame)) c.in-Until.first c.in-Until.second c.in_ok-before-in-Until.before c.in_ok-after-in-Until.after c.in-Until.is
-    (subst (λ (f : FormulaTree). slice_get (trees c.residual_of-in-Until-2.new.nodes) c.in_ok-before-in-Until.before ≡ Some (residual (plain_problem c.args.task.now.problem) c.args.w.now (assignment_in c.args.env.now) f)) (stays (trees c.args.nodes.now) (trees c.residual_of-in-Until.new.nodes) c.in_ok-after-in-Until.ensures.kept c.in-Until.first first) (subst (λ (v : List (Option Value)). slice_get (trees c.residual_of-in-Until-2.new.nodes) c.in_ok-before-in-Until.before ≡ Some (residual (plain_problem c.args.task.now.problem) c.args.w.now (assignment_in v) (tree_at (trees c.residual_of-in-Until.new.nodes) c.in-Until.first))) c.in_ok-after-in-Until.ensures.frame c.in_ok-before-in-Until.ensures.number))
+    c.in_ok-number-in-Until.ensures.number ∙ ap (λ (f : FormulaTree). Some f) (next-Until (plain_problem c.args.here.now.task.now.problem) c.args.here.now.world.now (assignment_in c.args.env.now) (trees c.args.nodes.now) c.args.at c.get.result.now c.get.ensures.tree c.requires.at (trees c.residual_of-in-Until-2.new.nodes) (λ i f h. c.in_ok-before-in-Until.ensures.kept i f (c.in_ok-after-in-Until.ensures.kept i f h)) (assignment_in c.residual_of-in-Until-2.new.env) (ap assignment_in (c.in_ok-before-in-Until.ensures.frame ∙ c.in_ok-after-in-Until.ensures.frame)) c.in-Until.first c.in-Until.second c.in_ok-before-in-Until.before c.in_ok-after-in-Until.after c.in-Until.is
+    (subst (λ (f : FormulaTree). slice_get (trees c.residual_of-in-Until-2.new.nodes) c.in_ok-before-in-Until.before ≡ Some (residual (plain_problem c.args.here.now.task.now.problem) c.args.here.now.world.now (assignment_in c.args.env.now) f)) (stays (trees c.args.nodes.now) (trees c.residual_of-in-Until.new.nodes) c.in_ok-after-in-Until.ensures.kept c.in-Until.first first) (subst (λ (v : List (Option Value)). slice_get (trees c.residual_of-in-Until-2.new.nodes) c.in_ok-before-in-Until.before ≡ Some (residual (plain_problem c.args.here.now.task.now.problem) c.args.here.now.world.now (assignment_in v) (tree_at (trees c.residual_of-in-Until.new.nodes) c.in-Until.first))) c.in_ok-after-in-Until.ensures.frame c.in_ok-before-in-Until.ensures.number))
     (c.in_ok-before-in-Until.ensures.kept _ _ c.in_ok-after-in-Until.ensures.number))
 
 pub layer_residual-with_fewer_steps-requires : goal.layer_residual-with_fewer_steps-requires
@@ -227,7 +228,7 @@ layer_residual-returns-in_ok-number-in-Within-clause-number t c =
     let low = part-lower false (trees c.args.nodes.now) c.args.at c.in-Within.part c.get.result.now c.get.ensures.tree c.get.ensures.parts (subst (λ n. Among c.in-Within.part (parts false n)) (sym c.in-Within.is) (inl refl)) in
     let less = low.less in
     let part : c.in-Within.part < length (trees c.args.nodes.now) = omega (arith, less, c.requires.at) in
-    c.in_ok-number-in-Within.ensures.number ∙ ap (λ (f : FormulaTree). Some f) (next-Within (plain_problem c.args.task.now.problem) c.args.w.now (assignment_in c.args.env.now) (trees c.args.nodes.now) c.args.at c.get.result.now c.get.ensures.tree c.requires.at (trees c.residual_of-in-Within.new.nodes) c.in_ok-answer-in-Within.ensures.kept (assignment_in c.residual_of-in-Within.new.env) (ap assignment_in c.in_ok-answer-in-Within.ensures.frame) c.in-Within.steps c.in-Within.part c.in_ok-answer-in-Within.answer part c.in-Within.is c.in_ok-answer-in-Within.ensures.number)
+    c.in_ok-number-in-Within.ensures.number ∙ ap (λ (f : FormulaTree). Some f) (next-Within (plain_problem c.args.here.now.task.now.problem) c.args.here.now.world.now (assignment_in c.args.env.now) (trees c.args.nodes.now) c.args.at c.get.result.now c.get.ensures.tree c.requires.at (trees c.residual_of-in-Within.new.nodes) c.in_ok-answer-in-Within.ensures.kept (assignment_in c.residual_of-in-Within.new.env) (ap assignment_in c.in_ok-answer-in-Within.ensures.frame) c.in-Within.steps c.in-Within.part c.in_ok-answer-in-Within.answer part c.in-Within.is c.in_ok-answer-in-Within.ensures.number)
 
 pub layer_residual-with_fewer_steps-requires-in-During : goal.layer_residual-with_fewer_steps-requires-in-During
 layer_residual-with_fewer_steps-requires-in-During t c =
@@ -247,7 +248,7 @@ layer_residual-returns-in_ok-number-in-During-clause-number t c =
     let low = part-lower false (trees c.args.nodes.now) c.args.at c.in-During.part c.get.result.now c.get.ensures.tree c.get.ensures.parts (subst (λ n. Among c.in-During.part (parts false n)) (sym c.in-During.is) (inl refl)) in
     let less = low.less in
     let part : c.in-During.part < length (trees c.args.nodes.now) = omega (arith, less, c.requires.at) in
-    c.in_ok-number-in-During.ensures.number ∙ ap (λ (f : FormulaTree). Some f) (next-During (plain_problem c.args.task.now.problem) c.args.w.now (assignment_in c.args.env.now) (trees c.args.nodes.now) c.args.at c.get.result.now c.get.ensures.tree c.requires.at (trees c.residual_of-in-During.new.nodes) c.in_ok-answer-in-During.ensures.kept (assignment_in c.residual_of-in-During.new.env) (ap assignment_in c.in_ok-answer-in-During.ensures.frame) c.in-During.steps c.in-During.part c.in_ok-answer-in-During.answer part c.in-During.is c.in_ok-answer-in-During.ensures.number)
+    c.in_ok-number-in-During.ensures.number ∙ ap (λ (f : FormulaTree). Some f) (next-During (plain_problem c.args.here.now.task.now.problem) c.args.here.now.world.now (assignment_in c.args.env.now) (trees c.args.nodes.now) c.args.at c.get.result.now c.get.ensures.tree c.requires.at (trees c.residual_of-in-During.new.nodes) c.in_ok-answer-in-During.ensures.kept (assignment_in c.residual_of-in-During.new.env) (ap assignment_in c.in_ok-answer-in-During.ensures.frame) c.in-During.steps c.in-During.part c.in_ok-answer-in-During.answer part c.in-During.is c.in_ok-answer-in-During.ensures.number)
 
 pub layer_residual-quantifier_residual-requires : goal.layer_residual-quantifier_residual-requires
 layer_residual-quantifier_residual-requires t c =
@@ -264,7 +265,7 @@ layer_residual-quantifier_residual-requires-in-Exists t c =
 -- ---- the parts of a join
 
 pub join_residual-loop-i-init : goal.join_residual-loop-i-init
-join_residual-loop-i-init t c = record { remembers = c.requires.remembers; frame = refl; kept = λ i f h. h; passed = gather-begun c.args.junction (trees c.args.nodes.now) _ (map (residual (plain_problem c.args.task.now.problem) c.args.w.now (assignment_in c.args.env.now)) (join_parts (tree_at (trees c.args.nodes.now) c.args.at))) c.new-answers.ensures }
+join_residual-loop-i-init t c = record { remembers = c.requires.remembers; frame = refl; kept = λ i f h. h; passed = gather-begun c.args.junction (trees c.args.nodes.now) _ (map (residual (plain_problem c.args.here.now.task.now.problem) c.args.here.now.world.now (assignment_in c.args.env.now)) (join_parts (tree_at (trees c.args.nodes.now) c.args.at))) c.new-answers.ensures }
 
 pub join_residual-part_at-part-requires : goal.join_residual-part_at-part-requires
 join_residual-part_at-part-requires t c = record {
@@ -278,7 +279,7 @@ join_residual-residual_of-requires t c =
     let part : c.part_at-part.result < length (trees c.args.nodes.now) = omega (arith, less, c.requires.at) in
     let there = subst (λ (f : FormulaTree). slice_get (join_parts f) c.loop-i.i ≡ Some (tree_at (trees c.loop-i.nodes) c.part_at-part.result)) (stays (trees c.args.nodes.now) (trees c.loop-i.nodes) c.loop-i.invariant.kept c.args.at c.requires.at) c.part_at-part.ensures.tree ∙ ap Some (stays (trees c.args.nodes.now) (trees c.loop-i.nodes) c.loop-i.invariant.kept c.part_at-part.result part) in
     let low = part-among false (trees c.args.nodes.now) c.args.at c.args.junction c.requires.join c.loop-i.i c.part_at-part.result less there in
-    (omega (arith, less, c.decreases), (longer (trees c.args.nodes.now) (trees c.loop-i.nodes) c.loop-i.invariant.kept c.part_at-part.result part, (subst (FitsSomewhere (signature_of c.args.task.now.problem.domain)) (sym (stays (trees c.args.nodes.now) (trees c.loop-i.nodes) c.loop-i.invariant.kept c.part_at-part.result part)) (fits-below false (trees c.args.nodes.now) (signature_of c.args.task.now.problem.domain) c.args.at c.part_at-part.result low c.requires.fits), (right-still (plain_problem c.args.task.now.problem) c.args.w.now (trees c.args.nodes.now) (trees c.loop-i.nodes) c.loop-i.invariant.kept c.args.known.now c.requires.known, c.loop-i.invariant.remembers))))
+    (omega (arith, less, c.decreases), (longer (trees c.args.nodes.now) (trees c.loop-i.nodes) c.loop-i.invariant.kept c.part_at-part.result part, (subst (FitsSomewhere (signature_of c.args.here.now.task.now.problem.domain)) (sym (stays (trees c.args.nodes.now) (trees c.loop-i.nodes) c.loop-i.invariant.kept c.part_at-part.result part)) (fits-below false (trees c.args.nodes.now) (signature_of c.args.here.now.task.now.problem.domain) c.args.at c.part_at-part.result low c.requires.fits), (knows-still c.args.here.now c.args.nodes.now c.loop-i.nodes c.loop-i.invariant.kept c.requires.known, c.loop-i.invariant.remembers))))
 
 pub join_residual-decides-requires : goal.join_residual-decides-requires
 join_residual-decides-requires t c = slice_get_within (trees c.residual_of.new.nodes) c.in-Ok.answer _ c.in-Ok.ensures.number
@@ -292,7 +293,7 @@ join_residual-returns-then-decides-clause-number t c =
     let part : c.part_at-part.result < length (trees c.args.nodes.now) = omega (arith, less, c.requires.at) in
     let there = subst (λ (f : FormulaTree). slice_get (join_parts f) c.loop-i.i ≡ Some (tree_at (trees c.loop-i.nodes) c.part_at-part.result)) (stays (trees c.args.nodes.now) (trees c.loop-i.nodes) c.loop-i.invariant.kept c.args.at c.requires.at) c.part_at-part.ensures.tree ∙ ap Some (stays (trees c.args.nodes.now) (trees c.loop-i.nodes) c.loop-i.invariant.kept c.part_at-part.result part) in
     let low = part-among false (trees c.args.nodes.now) c.args.at c.args.junction c.requires.join c.loop-i.i c.part_at-part.result less there in
-    gather-decided c.args.junction (trees c.loop-i.nodes) (trees c.residual_of.new.nodes) c.in-Ok.ensures.kept c.loop-i.answers ((residual (plain_problem c.args.task.now.problem) c.args.w.now (assignment_in c.args.env.now)) (tree_at (trees c.args.nodes.now) c.part_at-part.result)) (map (residual (plain_problem c.args.task.now.problem) c.args.w.now (assignment_in c.args.env.now)) (drop (c.loop-i.i + 1) (join_parts (tree_at (trees c.args.nodes.now) c.args.at)))) (map (residual (plain_problem c.args.task.now.problem) c.args.w.now (assignment_in c.args.env.now)) (join_parts (tree_at (trees c.args.nodes.now) c.args.at))) (subst (λ (fs : List FormulaTree). Gathered c.args.junction (trees c.loop-i.nodes) c.loop-i.answers fs (map (residual (plain_problem c.args.task.now.problem) c.args.w.now (assignment_in c.args.env.now)) (join_parts (tree_at (trees c.args.nodes.now) c.args.at)))) (part-next (residual (plain_problem c.args.task.now.problem) c.args.w.now (assignment_in c.args.env.now)) (join_parts (tree_at (trees c.args.nodes.now) c.args.at)) c.loop-i.i (tree_at (trees c.args.nodes.now) c.part_at-part.result) there) c.loop-i.invariant.passed) c.in-Ok.answer (subst (λ (f : FormulaTree). slice_get (trees c.residual_of.new.nodes) c.in-Ok.answer ≡ Some (residual (plain_problem c.args.task.now.problem) c.args.w.now (assignment_in c.args.env.now) f)) (stays (trees c.args.nodes.now) (trees c.loop-i.nodes) c.loop-i.invariant.kept c.part_at-part.result part) (subst (λ (v : List (Option Value)). slice_get (trees c.residual_of.new.nodes) c.in-Ok.answer ≡ Some (residual (plain_problem c.args.task.now.problem) c.args.w.now (assignment_in v) (tree_at (trees c.loop-i.nodes) c.part_at-part.result))) c.loop-i.invariant.frame c.in-Ok.ensures.number)) (c.decides.ensures c.if-decides.true) ∙ ap (λ (f : FormulaTree). Some f) (join-next (plain_problem c.args.task.now.problem) c.args.w.now (assignment_in c.args.env.now) c.args.junction (tree_at (trees c.args.nodes.now) c.args.at) c.requires.join)
+    gather-decided c.args.junction (trees c.loop-i.nodes) (trees c.residual_of.new.nodes) c.in-Ok.ensures.kept c.loop-i.answers ((residual (plain_problem c.args.here.now.task.now.problem) c.args.here.now.world.now (assignment_in c.args.env.now)) (tree_at (trees c.args.nodes.now) c.part_at-part.result)) (map (residual (plain_problem c.args.here.now.task.now.problem) c.args.here.now.world.now (assignment_in c.args.env.now)) (drop (c.loop-i.i + 1) (join_parts (tree_at (trees c.args.nodes.now) c.args.at)))) (map (residual (plain_problem c.args.here.now.task.now.problem) c.args.here.now.world.now (assignment_in c.args.env.now)) (join_parts (tree_at (trees c.args.nodes.now) c.args.at))) (subst (λ (fs : List FormulaTree). Gathered c.args.junction (trees c.loop-i.nodes) c.loop-i.answers fs (map (residual (plain_problem c.args.here.now.task.now.problem) c.args.here.now.world.now (assignment_in c.args.env.now)) (join_parts (tree_at (trees c.args.nodes.now) c.args.at)))) (part-next (residual (plain_problem c.args.here.now.task.now.problem) c.args.here.now.world.now (assignment_in c.args.env.now)) (join_parts (tree_at (trees c.args.nodes.now) c.args.at)) c.loop-i.i (tree_at (trees c.args.nodes.now) c.part_at-part.result) there) c.loop-i.invariant.passed) c.in-Ok.answer (subst (λ (f : FormulaTree). slice_get (trees c.residual_of.new.nodes) c.in-Ok.answer ≡ Some (residual (plain_problem c.args.here.now.task.now.problem) c.args.here.now.world.now (assignment_in c.args.env.now) f)) (stays (trees c.args.nodes.now) (trees c.loop-i.nodes) c.loop-i.invariant.kept c.part_at-part.result part) (subst (λ (v : List (Option Value)). slice_get (trees c.residual_of.new.nodes) c.in-Ok.answer ≡ Some (residual (plain_problem c.args.here.now.task.now.problem) c.args.here.now.world.now (assignment_in v) (tree_at (trees c.loop-i.nodes) c.part_at-part.result))) c.loop-i.invariant.frame c.in-Ok.ensures.number)) (c.decides.ensures c.if-decides.true) ∙ ap (λ (f : FormulaTree). Some f) (join-next (plain_problem c.args.here.now.task.now.problem) c.args.here.now.world.now (assignment_in c.args.env.now) c.args.junction (tree_at (trees c.args.nodes.now) c.args.at) c.requires.join)
 
 pub join_residual-returns-then-decides-clause-frame : goal.join_residual-returns-then-decides-clause-frame
 join_residual-returns-then-decides-clause-frame t c = c.residual_of.ensures.frame ∙ c.loop-i.invariant.frame
@@ -304,7 +305,7 @@ join_residual-gather-requires t c = record {
       let part : c.part_at-part.result < length (trees c.args.nodes.now) = omega (arith, less, c.requires.at) in
       let there = subst (λ (f : FormulaTree). slice_get (join_parts f) c.loop-i.i ≡ Some (tree_at (trees c.loop-i.nodes) c.part_at-part.result)) (stays (trees c.args.nodes.now) (trees c.loop-i.nodes) c.loop-i.invariant.kept c.args.at c.requires.at) c.part_at-part.ensures.tree ∙ ap Some (stays (trees c.args.nodes.now) (trees c.loop-i.nodes) c.loop-i.invariant.kept c.part_at-part.result part) in
       let low = part-among false (trees c.args.nodes.now) c.args.at c.args.junction c.requires.join c.loop-i.i c.part_at-part.result less there in
-      below-still c.args.junction (trees c.loop-i.nodes) (trees c.residual_of.new.nodes) c.in-Ok.ensures.kept c.loop-i.answers ((residual (plain_problem c.args.task.now.problem) c.args.w.now (assignment_in c.args.env.now)) (tree_at (trees c.args.nodes.now) c.part_at-part.result)) (map (residual (plain_problem c.args.task.now.problem) c.args.w.now (assignment_in c.args.env.now)) (drop (c.loop-i.i + 1) (join_parts (tree_at (trees c.args.nodes.now) c.args.at)))) (map (residual (plain_problem c.args.task.now.problem) c.args.w.now (assignment_in c.args.env.now)) (join_parts (tree_at (trees c.args.nodes.now) c.args.at))) (subst (λ (fs : List FormulaTree). Gathered c.args.junction (trees c.loop-i.nodes) c.loop-i.answers fs (map (residual (plain_problem c.args.task.now.problem) c.args.w.now (assignment_in c.args.env.now)) (join_parts (tree_at (trees c.args.nodes.now) c.args.at)))) (part-next (residual (plain_problem c.args.task.now.problem) c.args.w.now (assignment_in c.args.env.now)) (join_parts (tree_at (trees c.args.nodes.now) c.args.at)) c.loop-i.i (tree_at (trees c.args.nodes.now) c.part_at-part.result) there) c.loop-i.invariant.passed) c.in-Ok.answer (subst (λ (f : FormulaTree). slice_get (trees c.residual_of.new.nodes) c.in-Ok.answer ≡ Some (residual (plain_problem c.args.task.now.problem) c.args.w.now (assignment_in c.args.env.now) f)) (stays (trees c.args.nodes.now) (trees c.loop-i.nodes) c.loop-i.invariant.kept c.part_at-part.result part) (subst (λ (v : List (Option Value)). slice_get (trees c.residual_of.new.nodes) c.in-Ok.answer ≡ Some (residual (plain_problem c.args.task.now.problem) c.args.w.now (assignment_in v) (tree_at (trees c.loop-i.nodes) c.part_at-part.result))) c.loop-i.invariant.frame c.in-Ok.ensures.number));
+      below-still c.args.junction (trees c.loop-i.nodes) (trees c.residual_of.new.nodes) c.in-Ok.ensures.kept c.loop-i.answers ((residual (plain_problem c.args.here.now.task.now.problem) c.args.here.now.world.now (assignment_in c.args.env.now)) (tree_at (trees c.args.nodes.now) c.part_at-part.result)) (map (residual (plain_problem c.args.here.now.task.now.problem) c.args.here.now.world.now (assignment_in c.args.env.now)) (drop (c.loop-i.i + 1) (join_parts (tree_at (trees c.args.nodes.now) c.args.at)))) (map (residual (plain_problem c.args.here.now.task.now.problem) c.args.here.now.world.now (assignment_in c.args.env.now)) (join_parts (tree_at (trees c.args.nodes.now) c.args.at))) (subst (λ (fs : List FormulaTree). Gathered c.args.junction (trees c.loop-i.nodes) c.loop-i.answers fs (map (residual (plain_problem c.args.here.now.task.now.problem) c.args.here.now.world.now (assignment_in c.args.env.now)) (join_parts (tree_at (trees c.args.nodes.now) c.args.at)))) (part-next (residual (plain_problem c.args.here.now.task.now.problem) c.args.here.now.world.now (assignment_in c.args.env.now)) (join_parts (tree_at (trees c.args.nodes.now) c.args.at)) c.loop-i.i (tree_at (trees c.args.nodes.now) c.part_at-part.result) there) c.loop-i.invariant.passed) c.in-Ok.answer (subst (λ (f : FormulaTree). slice_get (trees c.residual_of.new.nodes) c.in-Ok.answer ≡ Some (residual (plain_problem c.args.here.now.task.now.problem) c.args.here.now.world.now (assignment_in c.args.env.now) f)) (stays (trees c.args.nodes.now) (trees c.loop-i.nodes) c.loop-i.invariant.kept c.part_at-part.result part) (subst (λ (v : List (Option Value)). slice_get (trees c.residual_of.new.nodes) c.in-Ok.answer ≡ Some (residual (plain_problem c.args.here.now.task.now.problem) c.args.here.now.world.now (assignment_in v) (tree_at (trees c.loop-i.nodes) c.part_at-part.result))) c.loop-i.invariant.frame c.in-Ok.ensures.number));
   part = slice_get_within (trees c.residual_of.new.nodes) c.in-Ok.answer _ c.in-Ok.ensures.number;
 }
 
@@ -318,7 +319,7 @@ join_residual-loop-i-preserved t c =
       remembers = c.residual_of.ensures.remembers;
       frame = c.residual_of.ensures.frame ∙ c.loop-i.invariant.frame;
       kept = λ i f h. c.in-Ok.ensures.kept i f (c.loop-i.invariant.kept i f h);
-      passed = gather-on c.args.junction (trees c.loop-i.nodes) (trees c.residual_of.new.nodes) c.in-Ok.ensures.kept c.loop-i.answers ((residual (plain_problem c.args.task.now.problem) c.args.w.now (assignment_in c.args.env.now)) (tree_at (trees c.args.nodes.now) c.part_at-part.result)) (map (residual (plain_problem c.args.task.now.problem) c.args.w.now (assignment_in c.args.env.now)) (drop (c.loop-i.i + 1) (join_parts (tree_at (trees c.args.nodes.now) c.args.at)))) (map (residual (plain_problem c.args.task.now.problem) c.args.w.now (assignment_in c.args.env.now)) (join_parts (tree_at (trees c.args.nodes.now) c.args.at))) (subst (λ (fs : List FormulaTree). Gathered c.args.junction (trees c.loop-i.nodes) c.loop-i.answers fs (map (residual (plain_problem c.args.task.now.problem) c.args.w.now (assignment_in c.args.env.now)) (join_parts (tree_at (trees c.args.nodes.now) c.args.at)))) (part-next (residual (plain_problem c.args.task.now.problem) c.args.w.now (assignment_in c.args.env.now)) (join_parts (tree_at (trees c.args.nodes.now) c.args.at)) c.loop-i.i (tree_at (trees c.args.nodes.now) c.part_at-part.result) there) c.loop-i.invariant.passed) c.in-Ok.answer (subst (λ (f : FormulaTree). slice_get (trees c.residual_of.new.nodes) c.in-Ok.answer ≡ Some (residual (plain_problem c.args.task.now.problem) c.args.w.now (assignment_in c.args.env.now) f)) (stays (trees c.args.nodes.now) (trees c.loop-i.nodes) c.loop-i.invariant.kept c.part_at-part.result part) (subst (λ (v : List (Option Value)). slice_get (trees c.residual_of.new.nodes) c.in-Ok.answer ≡ Some (residual (plain_problem c.args.task.now.problem) c.args.w.now (assignment_in v) (tree_at (trees c.loop-i.nodes) c.part_at-part.result))) c.loop-i.invariant.frame c.in-Ok.ensures.number)) c.gather.new.parts c.in_ok-gather-in-Ok.ensures.below c.in_ok-gather-in-Ok.ensures.same;
+      passed = gather-on c.args.junction (trees c.loop-i.nodes) (trees c.residual_of.new.nodes) c.in-Ok.ensures.kept c.loop-i.answers ((residual (plain_problem c.args.here.now.task.now.problem) c.args.here.now.world.now (assignment_in c.args.env.now)) (tree_at (trees c.args.nodes.now) c.part_at-part.result)) (map (residual (plain_problem c.args.here.now.task.now.problem) c.args.here.now.world.now (assignment_in c.args.env.now)) (drop (c.loop-i.i + 1) (join_parts (tree_at (trees c.args.nodes.now) c.args.at)))) (map (residual (plain_problem c.args.here.now.task.now.problem) c.args.here.now.world.now (assignment_in c.args.env.now)) (join_parts (tree_at (trees c.args.nodes.now) c.args.at))) (subst (λ (fs : List FormulaTree). Gathered c.args.junction (trees c.loop-i.nodes) c.loop-i.answers fs (map (residual (plain_problem c.args.here.now.task.now.problem) c.args.here.now.world.now (assignment_in c.args.env.now)) (join_parts (tree_at (trees c.args.nodes.now) c.args.at)))) (part-next (residual (plain_problem c.args.here.now.task.now.problem) c.args.here.now.world.now (assignment_in c.args.env.now)) (join_parts (tree_at (trees c.args.nodes.now) c.args.at)) c.loop-i.i (tree_at (trees c.args.nodes.now) c.part_at-part.result) there) c.loop-i.invariant.passed) c.in-Ok.answer (subst (λ (f : FormulaTree). slice_get (trees c.residual_of.new.nodes) c.in-Ok.answer ≡ Some (residual (plain_problem c.args.here.now.task.now.problem) c.args.here.now.world.now (assignment_in c.args.env.now) f)) (stays (trees c.args.nodes.now) (trees c.loop-i.nodes) c.loop-i.invariant.kept c.part_at-part.result part) (subst (λ (v : List (Option Value)). slice_get (trees c.residual_of.new.nodes) c.in-Ok.answer ≡ Some (residual (plain_problem c.args.here.now.task.now.problem) c.args.here.now.world.now (assignment_in v) (tree_at (trees c.loop-i.nodes) c.part_at-part.result))) c.loop-i.invariant.frame c.in-Ok.ensures.number)) c.gather.new.parts c.in_ok-gather-in-Ok.ensures.below c.in_ok-gather-in-Ok.ensures.same;
     }
 
 pub join_residual-returns-in_err-gather-in-Ok-clause-kept : goal.join_residual-returns-in_err-gather-in-Ok-clause-kept
@@ -336,9 +337,9 @@ join_residual-returns-in-Err-clause-cause t c =
     let part : c.part_at-part.result < length (trees c.args.nodes.now) = omega (arith, less, c.requires.at) in
     let there = subst (λ (f : FormulaTree). slice_get (join_parts f) c.loop-i.i ≡ Some (tree_at (trees c.loop-i.nodes) c.part_at-part.result)) (stays (trees c.args.nodes.now) (trees c.loop-i.nodes) c.loop-i.invariant.kept c.args.at c.requires.at) c.part_at-part.ensures.tree ∙ ap Some (stays (trees c.args.nodes.now) (trees c.loop-i.nodes) c.loop-i.invariant.kept c.part_at-part.result part) in
     let low = part-among false (trees c.args.nodes.now) c.args.at c.args.junction c.requires.join c.loop-i.i c.part_at-part.result less there in
-    residual-fault (plain_problem c.args.task.now.problem) c.args.w.now (assignment_in c.args.env.now) (trees c.args.nodes.now) c.args.at c.part_at-part.result low c.in-Err.fault
-    (subst (λ (f : FormulaTree). IsCausedBy (looked_for_residual (plain_problem c.args.task.now.problem) c.args.w.now (assignment_in c.args.env.now) f) c.in-Err.fault) (stays (trees c.args.nodes.now) (trees c.loop-i.nodes) c.loop-i.invariant.kept c.part_at-part.result part)
-    (subst (λ (v : List (Option Value)). IsCausedBy (looked_for_residual (plain_problem c.args.task.now.problem) c.args.w.now (assignment_in v) (tree_at (trees c.loop-i.nodes) c.part_at-part.result)) c.in-Err.fault) c.loop-i.invariant.frame c.in-Err.ensures.cause))
+    residual-fault (plain_problem c.args.here.now.task.now.problem) c.args.here.now.world.now (assignment_in c.args.env.now) (trees c.args.nodes.now) c.args.at c.part_at-part.result low c.in-Err.fault
+    (subst (λ (f : FormulaTree). IsCausedBy (looked_for_residual (plain_problem c.args.here.now.task.now.problem) c.args.here.now.world.now (assignment_in c.args.env.now) f) c.in-Err.fault) (stays (trees c.args.nodes.now) (trees c.loop-i.nodes) c.loop-i.invariant.kept c.part_at-part.result part)
+    (subst (λ (v : List (Option Value)). IsCausedBy (looked_for_residual (plain_problem c.args.here.now.task.now.problem) c.args.here.now.world.now (assignment_in v) (tree_at (trees c.loop-i.nodes) c.part_at-part.result)) c.in-Err.fault) c.loop-i.invariant.frame c.in-Err.ensures.cause))
 
 pub join_residual-returns-in-Err-clause-frame : goal.join_residual-returns-in-Err-clause-frame
 join_residual-returns-in-Err-clause-frame t c = c.residual_of.ensures.frame ∙ c.loop-i.invariant.frame
@@ -355,8 +356,8 @@ join_residual-returns-in_err-number-clause-kept t c = λ i f h. c.in_err-number.
 pub join_residual-returns-clause-number : goal.join_residual-returns-clause-number
 join_residual-returns-clause-number t c =
     c.in_ok-number.ensures.number ∙ ap (λ (f : FormulaTree). Some f) (ap (λ (ids : List ℕ). simplified_join c.args.junction (trees_at (trees c.loop-i.nodes) ids)) c.as_slice.ensures
-    ∙ (gather-end c.args.junction (trees c.loop-i.nodes) c.loop-i.answers (map (residual (plain_problem c.args.task.now.problem) c.args.w.now (assignment_in c.args.env.now)) (drop c.loop-i.i (join_parts (tree_at (trees c.args.nodes.now) c.args.at)))) (map (residual (plain_problem c.args.task.now.problem) c.args.w.now (assignment_in c.args.env.now)) (join_parts (tree_at (trees c.args.nodes.now) c.args.at))) c.loop-i.invariant.passed (parts-done (residual (plain_problem c.args.task.now.problem) c.args.w.now (assignment_in c.args.env.now)) (join_parts (tree_at (trees c.args.nodes.now) c.args.at)) c.loop-i.i (omega (arith, c.loop-i-test.false, c.part_count-i-end.ensures)))
-    ∙ join-next (plain_problem c.args.task.now.problem) c.args.w.now (assignment_in c.args.env.now) c.args.junction (tree_at (trees c.args.nodes.now) c.args.at) c.requires.join))
+    ∙ (gather-end c.args.junction (trees c.loop-i.nodes) c.loop-i.answers (map (residual (plain_problem c.args.here.now.task.now.problem) c.args.here.now.world.now (assignment_in c.args.env.now)) (drop c.loop-i.i (join_parts (tree_at (trees c.args.nodes.now) c.args.at)))) (map (residual (plain_problem c.args.here.now.task.now.problem) c.args.here.now.world.now (assignment_in c.args.env.now)) (join_parts (tree_at (trees c.args.nodes.now) c.args.at))) c.loop-i.invariant.passed (parts-done (residual (plain_problem c.args.here.now.task.now.problem) c.args.here.now.world.now (assignment_in c.args.env.now)) (join_parts (tree_at (trees c.args.nodes.now) c.args.at)) c.loop-i.i (omega (arith, c.loop-i-test.false, c.part_count-i-end.ensures)))
+    ∙ join-next (plain_problem c.args.here.now.task.now.problem) c.args.here.now.world.now (assignment_in c.args.env.now) c.args.junction (tree_at (trees c.args.nodes.now) c.args.at) c.requires.join))
 
 -- ---- the instances of a quantifier
 
@@ -367,7 +368,7 @@ instances_residual-tuples-init t c =
       kept = λ i f h. h;
       reads = c.requires.reads;
       others = λ u. refl;
-      passed = subst (λ (o : Option (List Value)). Gathered c.args.quantifier.junction (trees c.args.nodes.now) c.new-answers.result (next_after (plain_problem c.args.task.now.problem) c.args.w.now (assignment_in c.args.env.now) (node_vars (trees c.args.nodes.now) c.args.quantifier) (node_bound (trees c.args.nodes.now) c.args.quantifier) (tree_at (trees c.args.nodes.now) c.args.quantifier.part) o) (next_of_all (plain_problem c.args.task.now.problem) c.args.w.now (assignment_in c.args.env.now) (node_vars (trees c.args.nodes.now) c.args.quantifier) (node_bound (trees c.args.nodes.now) c.args.quantifier) (tree_at (trees c.args.nodes.now) c.args.quantifier.part))) (sym c.requires.before) (instances-begun (plain_problem c.args.task.now.problem) c.args.w.now (assignment_in c.args.env.now) (node_vars (trees c.args.nodes.now) c.args.quantifier) (node_bound (trees c.args.nodes.now) c.args.quantifier) (tree_at (trees c.args.nodes.now) c.args.quantifier.part) c.args.quantifier.junction (trees c.args.nodes.now) c.new-answers.result c.new-answers.ensures);
+      passed = subst (λ (o : Option (List Value)). Gathered c.args.quantifier.junction (trees c.args.nodes.now) c.new-answers.result (next_after (plain_problem c.args.here.now.task.now.problem) c.args.here.now.world.now (assignment_in c.args.env.now) (node_vars (trees c.args.nodes.now) c.args.quantifier) (node_bound (trees c.args.nodes.now) c.args.quantifier) (tree_at (trees c.args.nodes.now) c.args.quantifier.part) o) (next_of_all (plain_problem c.args.here.now.task.now.problem) c.args.here.now.world.now (assignment_in c.args.env.now) (node_vars (trees c.args.nodes.now) c.args.quantifier) (node_bound (trees c.args.nodes.now) c.args.quantifier) (tree_at (trees c.args.nodes.now) c.args.quantifier.part))) (sym c.requires.before) (instances-begun (plain_problem c.args.here.now.task.now.problem) c.args.here.now.world.now (assignment_in c.args.env.now) (node_vars (trees c.args.nodes.now) c.args.quantifier) (node_bound (trees c.args.nodes.now) c.args.quantifier) (tree_at (trees c.args.nodes.now) c.args.quantifier.part) c.args.quantifier.junction (trees c.args.nodes.now) c.new-answers.result c.new-answers.ensures);
     }
 
 pub instances_residual-put_next-requires-clause-at : goal.instances_residual-put_next-requires-clause-at
@@ -380,7 +381,7 @@ instances_residual-put_next-requires-clause-stands t c =
 
 pub instances_residual-put_next-requires-clause-slots : goal.instances_residual-put_next-requires-clause-slots
 instances_residual-put_next-requires-clause-slots t c =
-    let fit = quantifier-fits c.args.task.now.problem c.args.quantifier.junction (node_vars (trees c.args.nodes.now) c.args.quantifier) (node_bound (trees c.args.nodes.now) c.args.quantifier) (tree_at (trees c.args.nodes.now) c.args.quantifier.part) (subst (FitsSomewhere (signature_of c.args.task.now.problem.domain)) c.requires.stands c.requires.fits) in
+    let fit = quantifier-fits c.args.here.now.task.now.problem c.args.quantifier.junction (node_vars (trees c.args.nodes.now) c.args.quantifier) (node_bound (trees c.args.nodes.now) c.args.quantifier) (tree_at (trees c.args.nodes.now) c.args.quantifier.part) (subst (FitsSomewhere (signature_of c.args.here.now.task.now.problem.domain)) c.requires.stands c.requires.fits) in
     subst (λ (f : FormulaTree). Each (λ s. s.slot < 32) (vars_in f)) (sym (same-node (trees c.args.nodes.now) (trees c.tuples.nodes) c.tuples.invariant.kept c.args.quantifier c.requires.at)) fit.in_frame
 
 pub instances_residual-put_next-requires-clause-reads : goal.instances_residual-put_next-requires-clause-reads
@@ -389,8 +390,8 @@ instances_residual-put_next-requires-clause-reads t c =
 
 pub instances_residual-residual_of-requires : goal.instances_residual-residual_of-requires
 instances_residual-residual_of-requires t c =
-    let fit = quantifier-fits c.args.task.now.problem c.args.quantifier.junction (node_vars (trees c.args.nodes.now) c.args.quantifier) (node_bound (trees c.args.nodes.now) c.args.quantifier) (tree_at (trees c.args.nodes.now) c.args.quantifier.part) (subst (FitsSomewhere (signature_of c.args.task.now.problem.domain)) c.requires.stands c.requires.fits) in
-    (omega (arith, c.decreases), (longer (trees c.args.nodes.now) (trees c.tuples.nodes) c.tuples.invariant.kept c.args.quantifier.part c.requires.part, (subst (FitsSomewhere (signature_of c.args.task.now.problem.domain)) (sym (stays (trees c.args.nodes.now) (trees c.tuples.nodes) c.tuples.invariant.kept c.args.quantifier.part c.requires.part)) fit.part, (right-still (plain_problem c.args.task.now.problem) c.args.w.now (trees c.args.nodes.now) (trees c.tuples.nodes) c.tuples.invariant.kept c.args.known.now c.requires.known, c.tuples.invariant.remembers))))
+    let fit = quantifier-fits c.args.here.now.task.now.problem c.args.quantifier.junction (node_vars (trees c.args.nodes.now) c.args.quantifier) (node_bound (trees c.args.nodes.now) c.args.quantifier) (tree_at (trees c.args.nodes.now) c.args.quantifier.part) (subst (FitsSomewhere (signature_of c.args.here.now.task.now.problem.domain)) c.requires.stands c.requires.fits) in
+    (omega (arith, c.decreases), (longer (trees c.args.nodes.now) (trees c.tuples.nodes) c.tuples.invariant.kept c.args.quantifier.part c.requires.part, (subst (FitsSomewhere (signature_of c.args.here.now.task.now.problem.domain)) (sym (stays (trees c.args.nodes.now) (trees c.tuples.nodes) c.tuples.invariant.kept c.args.quantifier.part c.requires.part)) fit.part, (knows-still c.args.here.now c.args.nodes.now c.tuples.nodes c.tuples.invariant.kept c.requires.known, c.tuples.invariant.remembers))))
 
 pub instances_residual-returns-in-Err-clause-kept : goal.instances_residual-returns-in-Err-clause-kept
 instances_residual-returns-in-Err-clause-kept t c =
@@ -398,15 +399,15 @@ instances_residual-returns-in-Err-clause-kept t c =
 
 pub instances_residual-returns-in-Err-clause-cause : goal.instances_residual-returns-in-Err-clause-cause
 instances_residual-returns-in-Err-clause-cause t c =
-    let fit = quantifier-fits c.args.task.now.problem c.args.quantifier.junction (node_vars (trees c.args.nodes.now) c.args.quantifier) (node_bound (trees c.args.nodes.now) c.args.quantifier) (tree_at (trees c.args.nodes.now) c.args.quantifier.part) (subst (FitsSomewhere (signature_of c.args.task.now.problem.domain)) c.requires.stands c.requires.fits) in
-    let step = stepped-then (trees c.args.nodes.now) (trees c.tuples.nodes) c.tuples.invariant.kept c.args.quantifier c.requires.at (situation_of (plain_problem c.args.task.now.problem) c.args.w.now) c.tuples.tuples c.put_next.new.tuples c.tuples.env c.put_next.new.env c.put_next.result c.put_next.ensures in
-    let come = has-come (plain_problem c.args.task.now.problem) c.args.w.now (assignment_in c.args.env.now) (node_vars (trees c.args.nodes.now) c.args.quantifier) (node_bound (trees c.args.nodes.now) c.args.quantifier) (tree_at (trees c.args.nodes.now) c.args.quantifier.part) c.tuples.tuples c.put_next.new.tuples c.tuples.env c.put_next.new.env c.put_next.result step c.tuples.invariant.reads fit.differ fit.occur c.tuples.invariant.others c.tuples-test.true in
-    subst (λ (f : FormulaTree). IsCausedBy (looked_for_residual (plain_problem c.args.task.now.problem) c.args.w.now (assignment_in c.args.env.now) f) c.in-Err.fault) (sym c.requires.stands) (instance-caused (plain_problem c.args.task.now.problem) c.args.w.now (assignment_in c.args.env.now) (node_vars (trees c.args.nodes.now) c.args.quantifier) (node_bound (trees c.args.nodes.now) c.args.quantifier) (tree_at (trees c.args.nodes.now) c.args.quantifier.part) c.args.quantifier.junction c.tuples.tuples.tuple c.put_next.new.tuples.tuple c.put_next.new.env come (tree_at (trees c.tuples.nodes) c.args.quantifier.part) (stays (trees c.args.nodes.now) (trees c.tuples.nodes) c.tuples.invariant.kept c.args.quantifier.part c.requires.part) c.in-Err.fault c.in-Err.ensures.cause)
+    let fit = quantifier-fits c.args.here.now.task.now.problem c.args.quantifier.junction (node_vars (trees c.args.nodes.now) c.args.quantifier) (node_bound (trees c.args.nodes.now) c.args.quantifier) (tree_at (trees c.args.nodes.now) c.args.quantifier.part) (subst (FitsSomewhere (signature_of c.args.here.now.task.now.problem.domain)) c.requires.stands c.requires.fits) in
+    let step = stepped-then (trees c.args.nodes.now) (trees c.tuples.nodes) c.tuples.invariant.kept c.args.quantifier c.requires.at (situation_of (plain_problem c.args.here.now.task.now.problem) c.args.here.now.world.now) c.tuples.tuples c.put_next.new.tuples c.tuples.env c.put_next.new.env c.put_next.result c.put_next.ensures in
+    let come = has-come (plain_problem c.args.here.now.task.now.problem) c.args.here.now.world.now (assignment_in c.args.env.now) (node_vars (trees c.args.nodes.now) c.args.quantifier) (node_bound (trees c.args.nodes.now) c.args.quantifier) (tree_at (trees c.args.nodes.now) c.args.quantifier.part) c.tuples.tuples c.put_next.new.tuples c.tuples.env c.put_next.new.env c.put_next.result step c.tuples.invariant.reads fit.differ fit.occur c.tuples.invariant.others c.tuples-test.true in
+    subst (λ (f : FormulaTree). IsCausedBy (looked_for_residual (plain_problem c.args.here.now.task.now.problem) c.args.here.now.world.now (assignment_in c.args.env.now) f) c.in-Err.fault) (sym c.requires.stands) (instance-caused (plain_problem c.args.here.now.task.now.problem) c.args.here.now.world.now (assignment_in c.args.env.now) (node_vars (trees c.args.nodes.now) c.args.quantifier) (node_bound (trees c.args.nodes.now) c.args.quantifier) (tree_at (trees c.args.nodes.now) c.args.quantifier.part) c.args.quantifier.junction c.tuples.tuples.tuple c.put_next.new.tuples.tuple c.put_next.new.env come (tree_at (trees c.tuples.nodes) c.args.quantifier.part) (stays (trees c.args.nodes.now) (trees c.tuples.nodes) c.tuples.invariant.kept c.args.quantifier.part c.requires.part) c.in-Err.fault c.in-Err.ensures.cause)
 
 pub instances_residual-returns-in-Err-clause-others : goal.instances_residual-returns-in-Err-clause-others
 instances_residual-returns-in-Err-clause-others t c =
-    let step = stepped-then (trees c.args.nodes.now) (trees c.tuples.nodes) c.tuples.invariant.kept c.args.quantifier c.requires.at (situation_of (plain_problem c.args.task.now.problem) c.args.w.now) c.tuples.tuples c.put_next.new.tuples c.tuples.env c.put_next.new.env c.put_next.result c.put_next.ensures in
-    still-others (plain_problem c.args.task.now.problem) c.args.w.now (assignment_in c.args.env.now) (node_vars (trees c.args.nodes.now) c.args.quantifier) (node_bound (trees c.args.nodes.now) c.args.quantifier) (tree_at (trees c.args.nodes.now) c.args.quantifier.part) c.tuples.tuples c.put_next.new.tuples c.tuples.env c.put_next.new.env c.put_next.result step c.tuples.invariant.reads c.tuples.invariant.others c.residual_of.new.env c.residual_of.ensures.frame
+    let step = stepped-then (trees c.args.nodes.now) (trees c.tuples.nodes) c.tuples.invariant.kept c.args.quantifier c.requires.at (situation_of (plain_problem c.args.here.now.task.now.problem) c.args.here.now.world.now) c.tuples.tuples c.put_next.new.tuples c.tuples.env c.put_next.new.env c.put_next.result c.put_next.ensures in
+    still-others (plain_problem c.args.here.now.task.now.problem) c.args.here.now.world.now (assignment_in c.args.env.now) (node_vars (trees c.args.nodes.now) c.args.quantifier) (node_bound (trees c.args.nodes.now) c.args.quantifier) (tree_at (trees c.args.nodes.now) c.args.quantifier.part) c.tuples.tuples c.put_next.new.tuples c.tuples.env c.put_next.new.env c.put_next.result step c.tuples.invariant.reads c.tuples.invariant.others c.residual_of.new.env c.residual_of.ensures.frame
 
 pub instances_residual-decides-requires : goal.instances_residual-decides-requires
 instances_residual-decides-requires t c =
@@ -418,22 +419,22 @@ instances_residual-returns-then-decides-clause-kept t c =
 
 pub instances_residual-returns-then-decides-clause-number : goal.instances_residual-returns-then-decides-clause-number
 instances_residual-returns-then-decides-clause-number t c =
-    let fit = quantifier-fits c.args.task.now.problem c.args.quantifier.junction (node_vars (trees c.args.nodes.now) c.args.quantifier) (node_bound (trees c.args.nodes.now) c.args.quantifier) (tree_at (trees c.args.nodes.now) c.args.quantifier.part) (subst (FitsSomewhere (signature_of c.args.task.now.problem.domain)) c.requires.stands c.requires.fits) in
-    let step = stepped-then (trees c.args.nodes.now) (trees c.tuples.nodes) c.tuples.invariant.kept c.args.quantifier c.requires.at (situation_of (plain_problem c.args.task.now.problem) c.args.w.now) c.tuples.tuples c.put_next.new.tuples c.tuples.env c.put_next.new.env c.put_next.result c.put_next.ensures in
-    let come = has-come (plain_problem c.args.task.now.problem) c.args.w.now (assignment_in c.args.env.now) (node_vars (trees c.args.nodes.now) c.args.quantifier) (node_bound (trees c.args.nodes.now) c.args.quantifier) (tree_at (trees c.args.nodes.now) c.args.quantifier.part) c.tuples.tuples c.put_next.new.tuples c.tuples.env c.put_next.new.env c.put_next.result step c.tuples.invariant.reads fit.differ fit.occur c.tuples.invariant.others c.tuples-test.true in
-    instance-decides (plain_problem c.args.task.now.problem) c.args.w.now (assignment_in c.args.env.now) (node_vars (trees c.args.nodes.now) c.args.quantifier) (node_bound (trees c.args.nodes.now) c.args.quantifier) (tree_at (trees c.args.nodes.now) c.args.quantifier.part) c.args.quantifier.junction c.tuples.tuples.tuple c.put_next.new.tuples.tuple c.put_next.new.env come (tree_at (trees c.tuples.nodes) c.args.quantifier.part) (stays (trees c.args.nodes.now) (trees c.tuples.nodes) c.tuples.invariant.kept c.args.quantifier.part c.requires.part) (trees c.tuples.nodes) (trees c.residual_of.new.nodes) c.in-Ok.ensures.kept c.tuples.answers c.tuples.invariant.passed c.in-Ok.number c.in-Ok.ensures.number (c.decides.ensures c.if-decides.true) ∙ ap (λ (f : FormulaTree). Some (residual (plain_problem c.args.task.now.problem) c.args.w.now (assignment_in c.args.env.now) f)) (sym c.requires.stands)
+    let fit = quantifier-fits c.args.here.now.task.now.problem c.args.quantifier.junction (node_vars (trees c.args.nodes.now) c.args.quantifier) (node_bound (trees c.args.nodes.now) c.args.quantifier) (tree_at (trees c.args.nodes.now) c.args.quantifier.part) (subst (FitsSomewhere (signature_of c.args.here.now.task.now.problem.domain)) c.requires.stands c.requires.fits) in
+    let step = stepped-then (trees c.args.nodes.now) (trees c.tuples.nodes) c.tuples.invariant.kept c.args.quantifier c.requires.at (situation_of (plain_problem c.args.here.now.task.now.problem) c.args.here.now.world.now) c.tuples.tuples c.put_next.new.tuples c.tuples.env c.put_next.new.env c.put_next.result c.put_next.ensures in
+    let come = has-come (plain_problem c.args.here.now.task.now.problem) c.args.here.now.world.now (assignment_in c.args.env.now) (node_vars (trees c.args.nodes.now) c.args.quantifier) (node_bound (trees c.args.nodes.now) c.args.quantifier) (tree_at (trees c.args.nodes.now) c.args.quantifier.part) c.tuples.tuples c.put_next.new.tuples c.tuples.env c.put_next.new.env c.put_next.result step c.tuples.invariant.reads fit.differ fit.occur c.tuples.invariant.others c.tuples-test.true in
+    instance-decides (plain_problem c.args.here.now.task.now.problem) c.args.here.now.world.now (assignment_in c.args.env.now) (node_vars (trees c.args.nodes.now) c.args.quantifier) (node_bound (trees c.args.nodes.now) c.args.quantifier) (tree_at (trees c.args.nodes.now) c.args.quantifier.part) c.args.quantifier.junction c.tuples.tuples.tuple c.put_next.new.tuples.tuple c.put_next.new.env come (tree_at (trees c.tuples.nodes) c.args.quantifier.part) (stays (trees c.args.nodes.now) (trees c.tuples.nodes) c.tuples.invariant.kept c.args.quantifier.part c.requires.part) (trees c.tuples.nodes) (trees c.residual_of.new.nodes) c.in-Ok.ensures.kept c.tuples.answers c.tuples.invariant.passed c.in-Ok.number c.in-Ok.ensures.number (c.decides.ensures c.if-decides.true) ∙ ap (λ (f : FormulaTree). Some (residual (plain_problem c.args.here.now.task.now.problem) c.args.here.now.world.now (assignment_in c.args.env.now) f)) (sym c.requires.stands)
 
 pub instances_residual-returns-then-decides-clause-others : goal.instances_residual-returns-then-decides-clause-others
 instances_residual-returns-then-decides-clause-others t c =
-    let step = stepped-then (trees c.args.nodes.now) (trees c.tuples.nodes) c.tuples.invariant.kept c.args.quantifier c.requires.at (situation_of (plain_problem c.args.task.now.problem) c.args.w.now) c.tuples.tuples c.put_next.new.tuples c.tuples.env c.put_next.new.env c.put_next.result c.put_next.ensures in
-    still-others (plain_problem c.args.task.now.problem) c.args.w.now (assignment_in c.args.env.now) (node_vars (trees c.args.nodes.now) c.args.quantifier) (node_bound (trees c.args.nodes.now) c.args.quantifier) (tree_at (trees c.args.nodes.now) c.args.quantifier.part) c.tuples.tuples c.put_next.new.tuples c.tuples.env c.put_next.new.env c.put_next.result step c.tuples.invariant.reads c.tuples.invariant.others c.residual_of.new.env c.residual_of.ensures.frame
+    let step = stepped-then (trees c.args.nodes.now) (trees c.tuples.nodes) c.tuples.invariant.kept c.args.quantifier c.requires.at (situation_of (plain_problem c.args.here.now.task.now.problem) c.args.here.now.world.now) c.tuples.tuples c.put_next.new.tuples c.tuples.env c.put_next.new.env c.put_next.result c.put_next.ensures in
+    still-others (plain_problem c.args.here.now.task.now.problem) c.args.here.now.world.now (assignment_in c.args.env.now) (node_vars (trees c.args.nodes.now) c.args.quantifier) (node_bound (trees c.args.nodes.now) c.args.quantifier) (tree_at (trees c.args.nodes.now) c.args.quantifier.part) c.tuples.tuples c.put_next.new.tuples c.tuples.env c.put_next.new.env c.put_next.result step c.tuples.invariant.reads c.tuples.invariant.others c.residual_of.new.env c.residual_of.ensures.frame
 
 pub instances_residual-gather-requires : goal.instances_residual-gather-requires
 instances_residual-gather-requires t c =
-    let fit = quantifier-fits c.args.task.now.problem c.args.quantifier.junction (node_vars (trees c.args.nodes.now) c.args.quantifier) (node_bound (trees c.args.nodes.now) c.args.quantifier) (tree_at (trees c.args.nodes.now) c.args.quantifier.part) (subst (FitsSomewhere (signature_of c.args.task.now.problem.domain)) c.requires.stands c.requires.fits) in
-    let step = stepped-then (trees c.args.nodes.now) (trees c.tuples.nodes) c.tuples.invariant.kept c.args.quantifier c.requires.at (situation_of (plain_problem c.args.task.now.problem) c.args.w.now) c.tuples.tuples c.put_next.new.tuples c.tuples.env c.put_next.new.env c.put_next.result c.put_next.ensures in
-    let come = has-come (plain_problem c.args.task.now.problem) c.args.w.now (assignment_in c.args.env.now) (node_vars (trees c.args.nodes.now) c.args.quantifier) (node_bound (trees c.args.nodes.now) c.args.quantifier) (tree_at (trees c.args.nodes.now) c.args.quantifier.part) c.tuples.tuples c.put_next.new.tuples c.tuples.env c.put_next.new.env c.put_next.result step c.tuples.invariant.reads fit.differ fit.occur c.tuples.invariant.others c.tuples-test.true in
-    record { parts = instances-below (plain_problem c.args.task.now.problem) c.args.w.now (assignment_in c.args.env.now) (node_vars (trees c.args.nodes.now) c.args.quantifier) (node_bound (trees c.args.nodes.now) c.args.quantifier) (tree_at (trees c.args.nodes.now) c.args.quantifier.part) c.args.quantifier.junction c.tuples.tuples.tuple c.put_next.new.tuples.tuple c.put_next.new.env come (tree_at (trees c.tuples.nodes) c.args.quantifier.part) (stays (trees c.args.nodes.now) (trees c.tuples.nodes) c.tuples.invariant.kept c.args.quantifier.part c.requires.part) (trees c.tuples.nodes) (trees c.residual_of.new.nodes) c.in-Ok.ensures.kept c.tuples.answers c.tuples.invariant.passed c.in-Ok.number c.in-Ok.ensures.number; part = slice_get_within (trees c.residual_of.new.nodes) c.in-Ok.number _ c.in-Ok.ensures.number }
+    let fit = quantifier-fits c.args.here.now.task.now.problem c.args.quantifier.junction (node_vars (trees c.args.nodes.now) c.args.quantifier) (node_bound (trees c.args.nodes.now) c.args.quantifier) (tree_at (trees c.args.nodes.now) c.args.quantifier.part) (subst (FitsSomewhere (signature_of c.args.here.now.task.now.problem.domain)) c.requires.stands c.requires.fits) in
+    let step = stepped-then (trees c.args.nodes.now) (trees c.tuples.nodes) c.tuples.invariant.kept c.args.quantifier c.requires.at (situation_of (plain_problem c.args.here.now.task.now.problem) c.args.here.now.world.now) c.tuples.tuples c.put_next.new.tuples c.tuples.env c.put_next.new.env c.put_next.result c.put_next.ensures in
+    let come = has-come (plain_problem c.args.here.now.task.now.problem) c.args.here.now.world.now (assignment_in c.args.env.now) (node_vars (trees c.args.nodes.now) c.args.quantifier) (node_bound (trees c.args.nodes.now) c.args.quantifier) (tree_at (trees c.args.nodes.now) c.args.quantifier.part) c.tuples.tuples c.put_next.new.tuples c.tuples.env c.put_next.new.env c.put_next.result step c.tuples.invariant.reads fit.differ fit.occur c.tuples.invariant.others c.tuples-test.true in
+    record { parts = instances-below (plain_problem c.args.here.now.task.now.problem) c.args.here.now.world.now (assignment_in c.args.env.now) (node_vars (trees c.args.nodes.now) c.args.quantifier) (node_bound (trees c.args.nodes.now) c.args.quantifier) (tree_at (trees c.args.nodes.now) c.args.quantifier.part) c.args.quantifier.junction c.tuples.tuples.tuple c.put_next.new.tuples.tuple c.put_next.new.env come (tree_at (trees c.tuples.nodes) c.args.quantifier.part) (stays (trees c.args.nodes.now) (trees c.tuples.nodes) c.tuples.invariant.kept c.args.quantifier.part c.requires.part) (trees c.tuples.nodes) (trees c.residual_of.new.nodes) c.in-Ok.ensures.kept c.tuples.answers c.tuples.invariant.passed c.in-Ok.number c.in-Ok.ensures.number; part = slice_get_within (trees c.residual_of.new.nodes) c.in-Ok.number _ c.in-Ok.ensures.number }
 
 pub instances_residual-returns-in_err-gather-in-Ok-clause-kept : goal.instances_residual-returns-in_err-gather-in-Ok-clause-kept
 instances_residual-returns-in_err-gather-in-Ok-clause-kept t c =
@@ -441,27 +442,27 @@ instances_residual-returns-in_err-gather-in-Ok-clause-kept t c =
 
 pub instances_residual-returns-in_err-gather-in-Ok-clause-others : goal.instances_residual-returns-in_err-gather-in-Ok-clause-others
 instances_residual-returns-in_err-gather-in-Ok-clause-others t c =
-    let step = stepped-then (trees c.args.nodes.now) (trees c.tuples.nodes) c.tuples.invariant.kept c.args.quantifier c.requires.at (situation_of (plain_problem c.args.task.now.problem) c.args.w.now) c.tuples.tuples c.put_next.new.tuples c.tuples.env c.put_next.new.env c.put_next.result c.put_next.ensures in
-    still-others (plain_problem c.args.task.now.problem) c.args.w.now (assignment_in c.args.env.now) (node_vars (trees c.args.nodes.now) c.args.quantifier) (node_bound (trees c.args.nodes.now) c.args.quantifier) (tree_at (trees c.args.nodes.now) c.args.quantifier.part) c.tuples.tuples c.put_next.new.tuples c.tuples.env c.put_next.new.env c.put_next.result step c.tuples.invariant.reads c.tuples.invariant.others c.residual_of.new.env c.residual_of.ensures.frame
+    let step = stepped-then (trees c.args.nodes.now) (trees c.tuples.nodes) c.tuples.invariant.kept c.args.quantifier c.requires.at (situation_of (plain_problem c.args.here.now.task.now.problem) c.args.here.now.world.now) c.tuples.tuples c.put_next.new.tuples c.tuples.env c.put_next.new.env c.put_next.result c.put_next.ensures in
+    still-others (plain_problem c.args.here.now.task.now.problem) c.args.here.now.world.now (assignment_in c.args.env.now) (node_vars (trees c.args.nodes.now) c.args.quantifier) (node_bound (trees c.args.nodes.now) c.args.quantifier) (tree_at (trees c.args.nodes.now) c.args.quantifier.part) c.tuples.tuples c.put_next.new.tuples c.tuples.env c.put_next.new.env c.put_next.result step c.tuples.invariant.reads c.tuples.invariant.others c.residual_of.new.env c.residual_of.ensures.frame
 
 pub instances_residual-tuples-smaller : goal.instances_residual-tuples-smaller
 instances_residual-tuples-smaller t c =
-    let fit = quantifier-fits c.args.task.now.problem c.args.quantifier.junction (node_vars (trees c.args.nodes.now) c.args.quantifier) (node_bound (trees c.args.nodes.now) c.args.quantifier) (tree_at (trees c.args.nodes.now) c.args.quantifier.part) (subst (FitsSomewhere (signature_of c.args.task.now.problem.domain)) c.requires.stands c.requires.fits) in
-    let step = stepped-then (trees c.args.nodes.now) (trees c.tuples.nodes) c.tuples.invariant.kept c.args.quantifier c.requires.at (situation_of (plain_problem c.args.task.now.problem) c.args.w.now) c.tuples.tuples c.put_next.new.tuples c.tuples.env c.put_next.new.env c.put_next.result c.put_next.ensures in
-    let come = has-come (plain_problem c.args.task.now.problem) c.args.w.now (assignment_in c.args.env.now) (node_vars (trees c.args.nodes.now) c.args.quantifier) (node_bound (trees c.args.nodes.now) c.args.quantifier) (tree_at (trees c.args.nodes.now) c.args.quantifier.part) c.tuples.tuples c.put_next.new.tuples c.tuples.env c.put_next.new.env c.put_next.result step c.tuples.invariant.reads fit.differ fit.occur c.tuples.invariant.others c.tuples-test.true in
+    let fit = quantifier-fits c.args.here.now.task.now.problem c.args.quantifier.junction (node_vars (trees c.args.nodes.now) c.args.quantifier) (node_bound (trees c.args.nodes.now) c.args.quantifier) (tree_at (trees c.args.nodes.now) c.args.quantifier.part) (subst (FitsSomewhere (signature_of c.args.here.now.task.now.problem.domain)) c.requires.stands c.requires.fits) in
+    let step = stepped-then (trees c.args.nodes.now) (trees c.tuples.nodes) c.tuples.invariant.kept c.args.quantifier c.requires.at (situation_of (plain_problem c.args.here.now.task.now.problem) c.args.here.now.world.now) c.tuples.tuples c.put_next.new.tuples c.tuples.env c.put_next.new.env c.put_next.result c.put_next.ensures in
+    let come = has-come (plain_problem c.args.here.now.task.now.problem) c.args.here.now.world.now (assignment_in c.args.env.now) (node_vars (trees c.args.nodes.now) c.args.quantifier) (node_bound (trees c.args.nodes.now) c.args.quantifier) (tree_at (trees c.args.nodes.now) c.args.quantifier.part) c.tuples.tuples c.put_next.new.tuples c.tuples.env c.put_next.new.env c.put_next.result step c.tuples.invariant.reads fit.differ fit.occur c.tuples.invariant.others c.tuples-test.true in
     come.fewer
 
 pub instances_residual-tuples-preserved : goal.instances_residual-tuples-preserved
 instances_residual-tuples-preserved t c =
-    let fit = quantifier-fits c.args.task.now.problem c.args.quantifier.junction (node_vars (trees c.args.nodes.now) c.args.quantifier) (node_bound (trees c.args.nodes.now) c.args.quantifier) (tree_at (trees c.args.nodes.now) c.args.quantifier.part) (subst (FitsSomewhere (signature_of c.args.task.now.problem.domain)) c.requires.stands c.requires.fits) in
-    let step = stepped-then (trees c.args.nodes.now) (trees c.tuples.nodes) c.tuples.invariant.kept c.args.quantifier c.requires.at (situation_of (plain_problem c.args.task.now.problem) c.args.w.now) c.tuples.tuples c.put_next.new.tuples c.tuples.env c.put_next.new.env c.put_next.result c.put_next.ensures in
-    let come = has-come (plain_problem c.args.task.now.problem) c.args.w.now (assignment_in c.args.env.now) (node_vars (trees c.args.nodes.now) c.args.quantifier) (node_bound (trees c.args.nodes.now) c.args.quantifier) (tree_at (trees c.args.nodes.now) c.args.quantifier.part) c.tuples.tuples c.put_next.new.tuples c.tuples.env c.put_next.new.env c.put_next.result step c.tuples.invariant.reads fit.differ fit.occur c.tuples.invariant.others c.tuples-test.true in
+    let fit = quantifier-fits c.args.here.now.task.now.problem c.args.quantifier.junction (node_vars (trees c.args.nodes.now) c.args.quantifier) (node_bound (trees c.args.nodes.now) c.args.quantifier) (tree_at (trees c.args.nodes.now) c.args.quantifier.part) (subst (FitsSomewhere (signature_of c.args.here.now.task.now.problem.domain)) c.requires.stands c.requires.fits) in
+    let step = stepped-then (trees c.args.nodes.now) (trees c.tuples.nodes) c.tuples.invariant.kept c.args.quantifier c.requires.at (situation_of (plain_problem c.args.here.now.task.now.problem) c.args.here.now.world.now) c.tuples.tuples c.put_next.new.tuples c.tuples.env c.put_next.new.env c.put_next.result c.put_next.ensures in
+    let come = has-come (plain_problem c.args.here.now.task.now.problem) c.args.here.now.world.now (assignment_in c.args.env.now) (node_vars (trees c.args.nodes.now) c.args.quantifier) (node_bound (trees c.args.nodes.now) c.args.quantifier) (tree_at (trees c.args.nodes.now) c.args.quantifier.part) c.tuples.tuples c.put_next.new.tuples c.tuples.env c.put_next.new.env c.put_next.result step c.tuples.invariant.reads fit.differ fit.occur c.tuples.invariant.others c.tuples-test.true in
     record {
       remembers = c.residual_of.ensures.remembers;
       kept = λ i f h. c.in-Ok.ensures.kept i f (c.tuples.invariant.kept i f h);
       reads = step.reads (assignment_in c.args.env.now) c.tuples.invariant.reads;
-      others = still-others (plain_problem c.args.task.now.problem) c.args.w.now (assignment_in c.args.env.now) (node_vars (trees c.args.nodes.now) c.args.quantifier) (node_bound (trees c.args.nodes.now) c.args.quantifier) (tree_at (trees c.args.nodes.now) c.args.quantifier.part) c.tuples.tuples c.put_next.new.tuples c.tuples.env c.put_next.new.env c.put_next.result step c.tuples.invariant.reads c.tuples.invariant.others c.residual_of.new.env c.residual_of.ensures.frame;
-      passed = instance-gathered (plain_problem c.args.task.now.problem) c.args.w.now (assignment_in c.args.env.now) (node_vars (trees c.args.nodes.now) c.args.quantifier) (node_bound (trees c.args.nodes.now) c.args.quantifier) (tree_at (trees c.args.nodes.now) c.args.quantifier.part) c.args.quantifier.junction c.tuples.tuples.tuple c.put_next.new.tuples.tuple c.put_next.new.env come (tree_at (trees c.tuples.nodes) c.args.quantifier.part) (stays (trees c.args.nodes.now) (trees c.tuples.nodes) c.tuples.invariant.kept c.args.quantifier.part c.requires.part) (trees c.tuples.nodes) (trees c.residual_of.new.nodes) c.in-Ok.ensures.kept c.tuples.answers c.tuples.invariant.passed c.in-Ok.number c.in-Ok.ensures.number c.gather.new.parts c.in_ok-gather-in-Ok.ensures.below c.in_ok-gather-in-Ok.ensures.same;
+      others = still-others (plain_problem c.args.here.now.task.now.problem) c.args.here.now.world.now (assignment_in c.args.env.now) (node_vars (trees c.args.nodes.now) c.args.quantifier) (node_bound (trees c.args.nodes.now) c.args.quantifier) (tree_at (trees c.args.nodes.now) c.args.quantifier.part) c.tuples.tuples c.put_next.new.tuples c.tuples.env c.put_next.new.env c.put_next.result step c.tuples.invariant.reads c.tuples.invariant.others c.residual_of.new.env c.residual_of.ensures.frame;
+      passed = instance-gathered (plain_problem c.args.here.now.task.now.problem) c.args.here.now.world.now (assignment_in c.args.env.now) (node_vars (trees c.args.nodes.now) c.args.quantifier) (node_bound (trees c.args.nodes.now) c.args.quantifier) (tree_at (trees c.args.nodes.now) c.args.quantifier.part) c.args.quantifier.junction c.tuples.tuples.tuple c.put_next.new.tuples.tuple c.put_next.new.env come (tree_at (trees c.tuples.nodes) c.args.quantifier.part) (stays (trees c.args.nodes.now) (trees c.tuples.nodes) c.tuples.invariant.kept c.args.quantifier.part c.requires.part) (trees c.tuples.nodes) (trees c.residual_of.new.nodes) c.in-Ok.ensures.kept c.tuples.answers c.tuples.invariant.passed c.in-Ok.number c.in-Ok.ensures.number c.gather.new.parts c.in_ok-gather-in-Ok.ensures.below c.in_ok-gather-in-Ok.ensures.same;
     }
 
 pub instances_residual-join-requires : goal.instances_residual-join-requires
@@ -478,21 +479,21 @@ instances_residual-returns-in_err-number-clause-kept t c =
 
 pub instances_residual-returns-clause-number : goal.instances_residual-returns-clause-number
 instances_residual-returns-clause-number t c =
-    let fit = quantifier-fits c.args.task.now.problem c.args.quantifier.junction (node_vars (trees c.args.nodes.now) c.args.quantifier) (node_bound (trees c.args.nodes.now) c.args.quantifier) (tree_at (trees c.args.nodes.now) c.args.quantifier.part) (subst (FitsSomewhere (signature_of c.args.task.now.problem.domain)) c.requires.stands c.requires.fits) in
-    let step = stepped-then (trees c.args.nodes.now) (trees c.tuples.nodes) c.tuples.invariant.kept c.args.quantifier c.requires.at (situation_of (plain_problem c.args.task.now.problem) c.args.w.now) c.tuples.tuples c.put_next.new.tuples c.tuples.env c.put_next.new.env c.put_next.result c.put_next.ensures in
+    let fit = quantifier-fits c.args.here.now.task.now.problem c.args.quantifier.junction (node_vars (trees c.args.nodes.now) c.args.quantifier) (node_bound (trees c.args.nodes.now) c.args.quantifier) (tree_at (trees c.args.nodes.now) c.args.quantifier.part) (subst (FitsSomewhere (signature_of c.args.here.now.task.now.problem.domain)) c.requires.stands c.requires.fits) in
+    let step = stepped-then (trees c.args.nodes.now) (trees c.tuples.nodes) c.tuples.invariant.kept c.args.quantifier c.requires.at (situation_of (plain_problem c.args.here.now.task.now.problem) c.args.here.now.world.now) c.tuples.tuples c.put_next.new.tuples c.tuples.env c.put_next.new.env c.put_next.result c.put_next.ensures in
     c.in_ok-number.ensures.number ∙ ap (λ (f : FormulaTree). Some f) (ap (λ (ids : List ℕ). simplified_join c.args.quantifier.junction (trees_at (trees c.tuples.nodes) ids)) c.as_slice.ensures
-    ∙ (gathered-all (plain_problem c.args.task.now.problem) c.args.w.now (assignment_in c.args.env.now) (node_vars (trees c.args.nodes.now) c.args.quantifier) (node_bound (trees c.args.nodes.now) c.args.quantifier) (tree_at (trees c.args.nodes.now) c.args.quantifier.part) c.args.quantifier.junction (trees c.tuples.nodes) c.tuples.answers c.tuples.tuples.tuple c.tuples.invariant.passed (none-left (plain_problem c.args.task.now.problem) c.args.w.now (assignment_in c.args.env.now) (node_vars (trees c.args.nodes.now) c.args.quantifier) (node_bound (trees c.args.nodes.now) c.args.quantifier) (tree_at (trees c.args.nodes.now) c.args.quantifier.part) c.tuples.tuples c.put_next.new.tuples c.tuples.env c.put_next.new.env c.put_next.result step c.tuples.invariant.reads fit.differ fit.occur c.tuples-test.false)
-    ∙ ap (residual (plain_problem c.args.task.now.problem) c.args.w.now (assignment_in c.args.env.now)) (sym c.requires.stands)))
+    ∙ (gathered-all (plain_problem c.args.here.now.task.now.problem) c.args.here.now.world.now (assignment_in c.args.env.now) (node_vars (trees c.args.nodes.now) c.args.quantifier) (node_bound (trees c.args.nodes.now) c.args.quantifier) (tree_at (trees c.args.nodes.now) c.args.quantifier.part) c.args.quantifier.junction (trees c.tuples.nodes) c.tuples.answers c.tuples.tuples.tuple c.tuples.invariant.passed (none-left (plain_problem c.args.here.now.task.now.problem) c.args.here.now.world.now (assignment_in c.args.env.now) (node_vars (trees c.args.nodes.now) c.args.quantifier) (node_bound (trees c.args.nodes.now) c.args.quantifier) (tree_at (trees c.args.nodes.now) c.args.quantifier.part) c.tuples.tuples c.put_next.new.tuples c.tuples.env c.put_next.new.env c.put_next.result step c.tuples.invariant.reads fit.differ fit.occur c.tuples-test.false)
+    ∙ ap (residual (plain_problem c.args.here.now.task.now.problem) c.args.here.now.world.now (assignment_in c.args.env.now)) (sym c.requires.stands)))
 
 pub instances_residual-returns-clause-others : goal.instances_residual-returns-clause-others
 instances_residual-returns-clause-others t c =
-    let step = stepped-then (trees c.args.nodes.now) (trees c.tuples.nodes) c.tuples.invariant.kept c.args.quantifier c.requires.at (situation_of (plain_problem c.args.task.now.problem) c.args.w.now) c.tuples.tuples c.put_next.new.tuples c.tuples.env c.put_next.new.env c.put_next.result c.put_next.ensures in
-    still-others (plain_problem c.args.task.now.problem) c.args.w.now (assignment_in c.args.env.now) (node_vars (trees c.args.nodes.now) c.args.quantifier) (node_bound (trees c.args.nodes.now) c.args.quantifier) (tree_at (trees c.args.nodes.now) c.args.quantifier.part) c.tuples.tuples c.put_next.new.tuples c.tuples.env c.put_next.new.env c.put_next.result step c.tuples.invariant.reads c.tuples.invariant.others c.put_next.new.env refl
+    let step = stepped-then (trees c.args.nodes.now) (trees c.tuples.nodes) c.tuples.invariant.kept c.args.quantifier c.requires.at (situation_of (plain_problem c.args.here.now.task.now.problem) c.args.here.now.world.now) c.tuples.tuples c.put_next.new.tuples c.tuples.env c.put_next.new.env c.put_next.result c.put_next.ensures in
+    still-others (plain_problem c.args.here.now.task.now.problem) c.args.here.now.world.now (assignment_in c.args.env.now) (node_vars (trees c.args.nodes.now) c.args.quantifier) (node_bound (trees c.args.nodes.now) c.args.quantifier) (tree_at (trees c.args.nodes.now) c.args.quantifier.part) c.tuples.tuples c.put_next.new.tuples c.tuples.env c.put_next.new.env c.put_next.result step c.tuples.invariant.reads c.tuples.invariant.others c.put_next.new.env refl
 
 pub instances_residual-returns-in_err-number-clause-others : goal.instances_residual-returns-in_err-number-clause-others
 instances_residual-returns-in_err-number-clause-others t c =
-    let step = stepped-then (trees c.args.nodes.now) (trees c.tuples.nodes) c.tuples.invariant.kept c.args.quantifier c.requires.at (situation_of (plain_problem c.args.task.now.problem) c.args.w.now) c.tuples.tuples c.put_next.new.tuples c.tuples.env c.put_next.new.env c.put_next.result c.put_next.ensures in
-    still-others (plain_problem c.args.task.now.problem) c.args.w.now (assignment_in c.args.env.now) (node_vars (trees c.args.nodes.now) c.args.quantifier) (node_bound (trees c.args.nodes.now) c.args.quantifier) (tree_at (trees c.args.nodes.now) c.args.quantifier.part) c.tuples.tuples c.put_next.new.tuples c.tuples.env c.put_next.new.env c.put_next.result step c.tuples.invariant.reads c.tuples.invariant.others c.put_next.new.env refl
+    let step = stepped-then (trees c.args.nodes.now) (trees c.tuples.nodes) c.tuples.invariant.kept c.args.quantifier c.requires.at (situation_of (plain_problem c.args.here.now.task.now.problem) c.args.here.now.world.now) c.tuples.tuples c.put_next.new.tuples c.tuples.env c.put_next.new.env c.put_next.result c.put_next.ensures in
+    still-others (plain_problem c.args.here.now.task.now.problem) c.args.here.now.world.now (assignment_in c.args.env.now) (node_vars (trees c.args.nodes.now) c.args.quantifier) (node_bound (trees c.args.nodes.now) c.args.quantifier) (tree_at (trees c.args.nodes.now) c.args.quantifier.part) c.tuples.tuples c.put_next.new.tuples c.tuples.env c.put_next.new.env c.put_next.result step c.tuples.invariant.reads c.tuples.invariant.others c.put_next.new.env refl
 
 -- ---- what the variables of a quantifier had
 
@@ -506,12 +507,12 @@ quantifier_residual-give_back-requires-clause-stands t c =
 
 pub quantifier_residual-give_back-requires-clause-slots : goal.quantifier_residual-give_back-requires-clause-slots
 quantifier_residual-give_back-requires-clause-slots t c =
-    let fit = quantifier-fits c.args.task.now.problem c.args.quantifier.junction (node_vars (trees c.args.nodes.now) c.args.quantifier) (node_bound (trees c.args.nodes.now) c.args.quantifier) (tree_at (trees c.args.nodes.now) c.args.quantifier.part) (subst (FitsSomewhere (signature_of c.args.task.now.problem.domain)) c.requires.stands c.requires.fits) in
+    let fit = quantifier-fits c.args.here.now.task.now.problem c.args.quantifier.junction (node_vars (trees c.args.nodes.now) c.args.quantifier) (node_bound (trees c.args.nodes.now) c.args.quantifier) (tree_at (trees c.args.nodes.now) c.args.quantifier.part) (subst (FitsSomewhere (signature_of c.args.here.now.task.now.problem.domain)) c.requires.stands c.requires.fits) in
     subst (λ (f : FormulaTree). Each (λ s. s.slot < 32) (vars_in f)) (sym (same-node (trees c.args.nodes.now) (trees c.instances_residual-answer.new.nodes) c.instances_residual-answer.ensures.kept c.args.quantifier c.requires.at)) fit.in_frame
 
 pub quantifier_residual-give_back-requires-clause-few : goal.quantifier_residual-give_back-requires-clause-few
 quantifier_residual-give_back-requires-clause-few t c =
-    let fit = quantifier-fits c.args.task.now.problem c.args.quantifier.junction (node_vars (trees c.args.nodes.now) c.args.quantifier) (node_bound (trees c.args.nodes.now) c.args.quantifier) (tree_at (trees c.args.nodes.now) c.args.quantifier.part) (subst (FitsSomewhere (signature_of c.args.task.now.problem.domain)) c.requires.stands c.requires.fits) in
+    let fit = quantifier-fits c.args.here.now.task.now.problem c.args.quantifier.junction (node_vars (trees c.args.nodes.now) c.args.quantifier) (node_bound (trees c.args.nodes.now) c.args.quantifier) (tree_at (trees c.args.nodes.now) c.args.quantifier.part) (subst (FitsSomewhere (signature_of c.args.here.now.task.now.problem.domain)) c.requires.stands c.requires.fits) in
     let few : length (node_vars (trees c.args.nodes.now) c.args.quantifier) ≤ 9 = omega (arith, fit.few) in
     subst (λ (f : FormulaTree). length (vars_in f) ≤ 9) (sym (same-node (trees c.args.nodes.now) (trees c.instances_residual-answer.new.nodes) c.instances_residual-answer.ensures.kept c.args.quantifier c.requires.at)) few
 
@@ -522,5 +523,12 @@ quantifier_residual-returns-clause-frame t c =
 
 pub quantifier_residual-instances_residual-answer-requires : goal.quantifier_residual-instances_residual-answer-requires
 quantifier_residual-instances_residual-answer-requires t c =
-    let known = c.new-known.ensures (plain_problem c.args.task.now.problem) c.args.w.now (trees c.args.nodes.now) in
-    (omega (arith, c.decreases), (c.requires.at, (c.requires.part, (c.requires.stands, (c.requires.fits, (known, (c.open.ensures.reads, (c.open.ensures.before, c.requires.remembers))))))))
+    (omega (arith, c.decreases), (c.requires.at, (c.requires.part, (c.requires.stands, (c.requires.fits, (nothing-known _ _ refl, (c.open.ensures.reads, (c.open.ensures.before, c.requires.remembers))))))))
+
+-- ---- what is known
+
+pub residual_of-state_residual-requires-clause-known : goal.residual_of-state_residual-requires-clause-known
+residual_of-state_residual-requires-clause-known t c = c.requires.known.truths
+
+pub residual_of-returns-in-Some-clause-number : goal.residual_of-returns-in-Some-clause-number
+residual_of-returns-in-Some-clause-number t c = (c.requires.known.residuals c.args.at c.in-Some.number (sym c.in-Some.ensures)).1 (assignment_in c.args.env.now)

@@ -1,0 +1,129 @@
+-- What calls take and answer where formulas are read: in a world of a task, with what is known there.
+use Rattle.std.specs.Borrow.{Bor}
+use Rattle.std.specs.Prelude.{◌≡◌, ℕ, List, Bool, Option, Some, None, Result, IfOk, IfErr, IfSome, IfNone, nat_eq}
+use Rattle.indexmap.specs.IndexMap.{get}
+use Rattle.tl_eval.specs.Frames.{assignment_in, AgreeElsewhere}
+use Rattle.tl_eval.specs.Reader.{Reader, ReadsTuples}
+use Rattle.tl_eval.specs.Remembered.{Remembered}
+use Rattle.tl_eval.specs.StateTruth.{Remembers}
+use Rattle.tl_nodes.specs.declared.nodes.Nodes.{Nodes}
+use Rattle.tl_nodes.specs.Numbers.{Denotes}
+use Rattle.tl_progress.specs.declared.fault.ProgressFault.{ProgressFault}
+use Rattle.tl_progress.specs.declared.here.Here.{Here}
+use Rattle.tl_progress.specs.declared.joined.Joined.{Joined}
+use Rattle.tl_progress.specs.declared.known.WorkedOut.{WorkedOut}
+use Rattle.tl_progress.specs.declared.layers.Join.{Join}
+use Rattle.tl_progress.specs.declared.layers.Quantified.{Quantified}
+use Rattle.tl_progress.specs.Answers.{IsCausedBy}
+use Rattle.tl_progress.specs.Calls.{IsDecided, AreOpenIn, FitsTask, IsSentenceIn, AreTruthsIn, AreResidualsIn, IsRightIn, state_true_in, looked_in_world, idly_true_at, looked_idly_at, join_at, idly_true_join, looked_idly_join, quantified_at, idly_true_over, looked_idly_over, residual_at, looked_for_residual_at}
+use Rattle.tl_syntax.specs.declared.value.Value.{Value}
+use Rattle.tl_syntax.specs.declared.variable.Var.{Var}
+use Rattle.tl_syntax.specs.Trees.{FormulaTree}
+use Rattle.tl_terms.specs.Progression.{constant}
+
+-- the formula fits below some quantifiers of the task
+abbrev pub FitsHere : Here → FormulaTree → Type 0
+FitsHere here f = FitsTask here.task.now f
+
+-- the formula is a sentence of the task
+abbrev pub IsSentenceHere : Here → FormulaTree → Type 0
+IsSentenceHere here f = IsSentenceIn here.task.now f
+
+-- this is right of the world
+abbrev pub AreRightHere : Here → Nodes → WorkedOut → Type 0
+AreRightHere here nodes known = IsRightIn here.task.now here.world.now nodes known
+
+-- the truths that are known of numbers' trees, where something is known
+abbrev pub truths_in : Option (Bor WorkedOut) → ℕ → Option Bool
+truths_in None k = None
+truths_in (Some known) k = get nat_eq known.now.truths k
+
+-- the numbers that are known
+abbrev pub residuals_in : Option (Bor WorkedOut) → ℕ → Option ℕ
+residuals_in None k = None
+residuals_in (Some known) k = get nat_eq known.now.residuals k
+
+-- the truths that are known are right of the world
+abbrev pub KnowsTruths : Here → Nodes → Type 0
+KnowsTruths here nodes = AreTruthsIn here.task.now here.world.now nodes (truths_in here.known)
+
+-- what is known is right of it
+pub record KnowsRightly (here : Here) (nodes : Nodes) : Type 0 where
+  pub truths : KnowsTruths here nodes
+  pub residuals : AreResidualsIn here.task.now here.world.now nodes (residuals_in here.known)
+
+-- the truths of definitions that are remembered are those in the world
+abbrev pub RemembersHere : Here → List Remembered → Type 0
+RemembersHere here rs = Remembers here.task.now here.world.now rs
+
+-- the tree of a conjunction or a disjunction
+abbrev pub tree_of_join : Nodes → Join → FormulaTree
+tree_of_join nodes join = join_at nodes join.junction join.parts.now
+
+-- the tree of a quantified formula
+abbrev pub tree_of_quantified : Nodes → Quantified → FormulaTree
+tree_of_quantified nodes q = quantified_at nodes q.junction q.vars.now q.bound.now q.part
+
+-- it is the truth of a formula without temporal words, under the values of the frame
+abbrev pub IsStateTruth : Here → List (Option Value) → FormulaTree → Result Bool ProgressFault → Type 0
+IsStateTruth here frame f result = IfOk result (λ b. b ≡ state_true_in here.task.now here.world.now frame f)
+
+-- or a fault of what is looked at for it
+abbrev pub IsStateFault : Here → List (Option Value) → FormulaTree → Result Bool ProgressFault → Type 0
+IsStateFault here frame f result = IfErr result (IsCausedBy (looked_in_world here.task.now here.world.now frame f))
+
+-- it is the truth of a number's tree where the world is repeated for ever
+abbrev pub IsTruthAt : Here → List (Option Value) → Nodes → ℕ → Result Bool ProgressFault → Type 0
+IsTruthAt here frame nodes i result = IfOk result (λ b. b ≡ idly_true_at here.task.now here.world.now frame nodes i)
+
+-- or a fault of what is looked at for it
+abbrev pub IsTruthFault : Here → List (Option Value) → Nodes → ℕ → Result Bool ProgressFault → Type 0
+IsTruthFault here frame nodes i result = IfErr result (IsCausedBy (looked_idly_at here.task.now here.world.now frame nodes i))
+
+-- it is the truth of a join
+abbrev pub IsJoinTruth : Here → List (Option Value) → Nodes → Join → Result Bool ProgressFault → Type 0
+IsJoinTruth here frame nodes join result = IfOk result (λ b. b ≡ idly_true_join here.task.now here.world.now frame nodes join.junction join.parts.now)
+
+-- or a fault of what is looked at for it
+abbrev pub IsJoinFault : Here → List (Option Value) → Nodes → Join → Result Bool ProgressFault → Type 0
+IsJoinFault here frame nodes join result = IfErr result (IsCausedBy (looked_idly_join here.task.now here.world.now frame nodes join.junction join.parts.now))
+
+-- it is the truth of a quantified formula
+abbrev pub IsQuantifiedTruth : Here → List (Option Value) → Nodes → Quantified → Result Bool ProgressFault → Type 0
+IsQuantifiedTruth here frame nodes q result = IfOk result (λ b. b ≡ idly_true_over here.task.now here.world.now frame nodes q.junction q.vars.now q.bound.now q.part)
+
+-- or a fault of what is looked at for it
+abbrev pub IsQuantifiedFault : Here → List (Option Value) → Nodes → Quantified → Result Bool ProgressFault → Type 0
+IsQuantifiedFault here frame nodes q result = IfErr result (IsCausedBy (looked_idly_over here.task.now here.world.now frame nodes q.junction q.vars.now q.bound.now q.part))
+
+-- the reader is one of a quantified formula's tuples, under the values of the frame
+abbrev pub ReadsQuantified : Quantified → List (Option Value) → Reader → Type 0
+ReadsQuantified q frame r = ReadsTuples q.vars.now (assignment_in frame) q.bound.now r
+
+-- but for the variables, the two frames give all slots the same
+abbrev pub ChangesOnly : List Var → List (Option Value) → List (Option Value) → Type 0
+ChangesOnly ss old new = AgreeElsewhere ss (assignment_in new) (assignment_in old)
+
+-- what has to hold next for a number's tree is the constant of this truth
+abbrev pub IsNextConstant : Here → List (Option Value) → Nodes → ℕ → Result Bool ProgressFault → Type 0
+IsNextConstant here frame nodes i result = IfOk result (λ b. residual_at here.task.now here.world.now frame nodes i ≡ constant b)
+
+-- it is the number of what has to hold next for a number's tree
+abbrev pub IsResidual : Here → List (Option Value) → Nodes → ℕ → Nodes → Result ℕ ProgressFault → Type 0
+IsResidual here frame old i new result = IfOk result (λ n. Denotes new n (residual_at here.task.now here.world.now frame old i))
+
+-- or a fault of what is looked at for it
+abbrev pub IsResidualFault : {A : Type 0} → Here → List (Option Value) → Nodes → ℕ → Result A ProgressFault → Type 0
+IsResidualFault here frame nodes i result = IfErr result (IsCausedBy (looked_for_residual_at here.task.now here.world.now frame nodes i))
+
+-- it is that number, where one was found
+abbrev pub IsEarlyResidual : Here → List (Option Value) → Nodes → ℕ → Result (Option ℕ) ProgressFault → Type 0
+IsEarlyResidual here frame nodes i result = IfOk result (λ o. IfSome o (λ n. Denotes nodes n (residual_at here.task.now here.world.now frame nodes i)))
+
+-- none is left where a part decides the join
+abbrev pub IsDecidedEarly : Here → List (Option Value) → Nodes → Joined → Result (Option (List ℕ)) ProgressFault → Type 0
+IsDecidedEarly here frame nodes joined result = IfOk result (λ o. IfNone o (IsDecided here.task.now here.world.now frame nodes joined))
+
+-- else these are the parts with temporal words
+abbrev pub AreOpenParts : Here → List (Option Value) → Nodes → Joined → Result (Option (List ℕ)) ProgressFault → Type 0
+AreOpenParts here frame nodes joined result = IfOk result (λ o. IfSome o (λ ids. AreOpenIn here.task.now here.world.now frame nodes joined ids))
