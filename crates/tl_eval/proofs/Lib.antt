@@ -23,3 +23,4 @@ pub mod KeptLaws
 pub mod WholeLaws
 pub mod MemoryLaws
 pub mod RememberedLaws
+pub mod PlainLaws

@@ -12,3 +12,4 @@ pub mod Remembered
 pub mod Memory
 pub mod StateTruth
 pub mod TruthHere
+pub mod Plain

@@ -1,7 +1,8 @@
 // The truth of formulas that have no formula below them.
-ghost use Rattle.std.specs.Prelude.{◌≡◌, ◌≤◌, [], length, Some};
+ghost use Rattle.std.specs.Prelude.{◌≡◌, ◌≤◌, [], length, Some, Ok, IfSome};
 ghost use Rattle.tl_eval.specs.Frames.{assignment_in};
 ghost use Rattle.tl_eval.specs.InPlace.{in_place};
+ghost use Rattle.tl_eval.specs.Plain.{IsPlainComparison};
 ghost use Rattle.tl_eval.specs.Small.{HasFewArguments, HaveFewArguments};
 ghost use Rattle.tl_eval.specs.TermValues.{gives_value, IsAtomTruth, IsComparison};
 ghost use Rattle.tl_syntax.specs.Fits.{term_count};
@@ -125,8 +126,30 @@ fn two_hold(w: &World, pred: u32, first: Option<Value>, second: Option<Value>) -
     }
 }
 
-/// Whether the fact is in the world. One or two arguments that are variables or values are read without a row. It takes no memory.
+/// Whether the fact is in the world, where it has one or two arguments that are variables or values: they are read without a row. None: it has others. It takes no memory.
 #[inline(never)]
+pub(crate) fn plain_atom(
+    w: &World,
+    frame: &[Option<Value>],
+    pred: u32,
+    args: &Terms,
+) -> Option<bool>
+    ensures { IfSome result (λ b. IsAtomTruth w.now frame.now pred (tree_of_terms args.now) (Ok b)) }
+{
+    match args.as_slice() {
+        [only] => match plain_value(frame, only) {
+            Some(value) => Some(one_holds(w, pred, value)),
+            None => None,
+        },
+        [first, second] => match (plain_value(frame, first), plain_value(frame, second)) {
+            (Some(a), Some(b)) => Some(two_hold(w, pred, a, b)),
+            _ => None,
+        },
+        _ => None,
+    }
+}
+
+/// Whether the fact is in the world. It takes no memory.
 pub(crate) fn atom_true(
     w: &World,
     frame: &[Option<Value>],
@@ -137,16 +160,9 @@ pub(crate) fn atom_true(
     requires few { term_count (tree_of_terms args.now) ≤ 8 }
     ensures { IsAtomTruth w.now frame.now pred (tree_of_terms args.now) result }
 {
-    match args.as_slice() {
-        [only] => match plain_value(frame, only) {
-            Some(value) => Ok(one_holds(w, pred, value)),
-            None => row_true(w, frame, pred, args),
-        },
-        [first, second] => match (plain_value(frame, first), plain_value(frame, second)) {
-            (Some(a), Some(b)) => Ok(two_hold(w, pred, a, b)),
-            _ => row_true(w, frame, pred, args),
-        },
-        _ => row_true(w, frame, pred, args),
+    match plain_atom(w, frame, pred, args) {
+        Some(truth) => Ok(truth),
+        None => row_true(w, frame, pred, args),
     }
 }
 
@@ -178,8 +194,23 @@ fn sides_compared(
     }
 }
 
-/// Whether the two terms stand in the comparison. Of two that are variables or values nothing is looked at. It takes no memory.
+/// Whether two terms that are variables or values stand in the comparison. None: one is another term. It takes no memory.
 #[inline(never)]
+pub(crate) fn plain_comparison(
+    frame: &[Option<Value>],
+    cmp: Cmp,
+    left: &Term,
+    right: &Term,
+) -> Option<bool>
+    ensures { IfSome result (IsPlainComparison frame.now cmp left.now right.now) }
+{
+    match (plain_value(frame, left), plain_value(frame, right)) {
+        (Some(first), Some(second)) => Some(stand(cmp, first, second)),
+        _ => None,
+    }
+}
+
+/// Whether the two terms stand in the comparison. It takes no memory.
 pub(crate) fn compare_true(
     w: &World,
     frame: &[Option<Value>],
@@ -191,9 +222,9 @@ pub(crate) fn compare_true(
     requires right { HasFewArguments (tree_of_term right.now) }
     ensures { IsComparison w.now frame.now cmp (tree_of_term left.now) (tree_of_term right.now) result }
 {
-    match (plain_value(frame, left), plain_value(frame, right)) {
-        (Some(first), Some(second)) => Ok(stand(cmp, first, second)),
-        _ => sides_compared(w, frame, cmp, left, right),
+    match plain_comparison(frame, cmp, left, right) {
+        Some(truth) => Ok(truth),
+        None => sides_compared(w, frame, cmp, left, right),
     }
 }
 

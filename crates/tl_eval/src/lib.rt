@@ -8,6 +8,7 @@
 //! - `laws`: what is proved of the tuples of bounds.
 //! - `memory`: the truths of definitions that are remembered in one world.
 //! - `pattern_of`: the pattern of a bound.
+//! - `plain_truth`: the truth of formulas that are plain to read.
 //! - `quantified`: quantified formulas.
 //! - `range`: operations in 64 bits, and the note of one that is past range.
 //! - `reader`: the tuples of a bound, one after another.
@@ -27,6 +28,7 @@ mod kept;
 pub mod laws;
 mod memory;
 mod pattern_of;
+mod plain_truth;
 mod quantified;
 mod range;
 mod reader;
@@ -40,6 +42,7 @@ mod tuples;
 pub use bound_truth::bound_holds;
 pub use env::Env;
 pub use memory::Memory;
+pub use plain_truth::plain_state;
 pub use range::RangeNote;
 pub use reader::TupleReader;
 pub use state_truth::{state, state_in};

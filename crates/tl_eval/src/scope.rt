@@ -43,10 +43,9 @@ pub(crate) fn saved(frames: &[Option<Value>]) -> [Option<Value>; 32]
     requires { 32 ≤ length frames.now }
     ensures { result ≡ take 32 frames.now }
 {
-    match frames.first_chunk() {
-        Some(frame) => *frame,
-        None => [None; 32],
-    }
+    let mut frame = [None; 32];
+    frame.copy_from_slice(&frames[..SLOTS]);
+    frame
 }
 
 /// Makes the first frame the given one. It takes no memory.

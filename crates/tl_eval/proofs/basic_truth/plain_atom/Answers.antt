@@ -1,6 +1,6 @@
 use Rattle.std.proofs.Common.{arith}
 use Rattle.tl_eval.proofs.BasicLaws.{one-item, two-items, one-plain, two-plain}
-use Rattle.tl_eval.proofs.basic_truth.atom_true.Goals as goal
+use Rattle.tl_eval.proofs.basic_truth.plain_atom.Goals as goal
 
 pub returns-in-Some : goal.returns-in-Some
 returns-in-Some c =
