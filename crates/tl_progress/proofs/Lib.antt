@@ -25,3 +25,4 @@ pub mod BrokenLaws
 pub mod KeptByWorld
 pub mod OpenParts
 pub mod KnownHere
+pub mod QuickTruths

@@ -11,3 +11,4 @@ pub mod Steps
 pub mod Remaining
 pub mod Calls
 pub mod CallsHere
+pub mod Quick

@@ -8,7 +8,7 @@
 //! - `order`: the numbers that a call works out, parts before wholes.
 //! - `frames`: the values of a frame, and `few_bindings`, as a few bindings in place.
 //! - `layers`: formulas that have several parts, as they stand in their nodes.
-//! - `truth`: truth where a world is repeated for ever, under a frame.
+//! - `truth`: truth where a world is repeated for ever, under a frame; `quick`, of trees that are quick to read.
 //! - `idling`: the idling check.
 //! - `parts`, `joins`: parts of joins, and joins of numbers; `numbers`, those that a join gathers.
 //! - `substitution`, `remaining`: values put into what remains.
@@ -39,6 +39,7 @@ mod order;
 mod parts;
 mod progression;
 mod quantifier;
+mod quick;
 mod remaining;
 mod residual;
 mod residuals;

@@ -10,6 +10,7 @@ use crate::ProgressFault;
 use crate::here::Here;
 use crate::layers::{Join, Quantified};
 use crate::quantifier::put_instance;
+use crate::quick::{plain_truth, quick_truth};
 use tl_eval::{Env, Memory, TupleReader, state_in};
 use tl_nodes::{Node, Nodes};
 use tl_syntax::{Formula, Junction};
@@ -130,7 +131,7 @@ fn layer_truth(
     }
 }
 
-/// The truth of a number's tree, as `truth_of` has it, without a call of it for a basic formula. It takes no memory.
+/// The truth of a number's tree, as `truth_of` has it, without a call of it for what is plain to read. It takes no memory.
 #[cycle(truth_of)]
 #[inline(always)]
 pub(crate) fn part_truth(
@@ -149,9 +150,34 @@ pub(crate) fn part_truth(
     ensures frame { env.new ≡ env.old }
     ensures remembers { RemembersHere here.now memory.new }
 {
-    match nodes.get(at) {
-        Node::Basic(f) => basic_truth(here, env, memory, f),
-        _ => truth_of(here, nodes, env, memory, at),
+    match plain_truth(here, nodes, env, at) {
+        Some(truth) => Ok(truth),
+        None => truth_of(here, nodes, env, memory, at),
+    }
+}
+
+// The truth of an instance of a quantified formula, as `truth_of` has it, without a call of it for what is quick to read.
+#[cycle(truth_of)]
+#[inline(always)]
+fn instance_truth(
+    here: &Here,
+    nodes: &Nodes,
+    env: &mut Env,
+    memory: &mut Memory,
+    at: usize,
+) -> Result<bool, ProgressFault>
+    requires at { at < length (trees nodes.now) }
+    requires fits { FitsHere here.now (tree_in nodes.now at) }
+    requires known { KnowsTruths here.now nodes.now }
+    requires remembers { RemembersHere here.now memory.old }
+    ensures truth { IsTruthAt here.now env.old nodes.now at result }
+    ensures cause { IsTruthFault here.now env.old nodes.now at result }
+    ensures frame { env.new ≡ env.old }
+    ensures remembers { RemembersHere here.now memory.new }
+{
+    match quick_truth(here, nodes, env, at) {
+        Some(truth) => Ok(truth),
+        None => truth_of(here, nodes, env, memory, at),
     }
 }
 
@@ -240,7 +266,7 @@ fn instances_truth(
     let bound = quantified.bound;
     let stop = quantified.junction.deciding_truth();
     'tuples: while put_instance(here.task, here.world, env, vars, bound, tuples) {
-        match part_truth(here, nodes, env, memory, quantified.part) {
+        match instance_truth(here, nodes, env, memory, quantified.part) {
             Ok(truth) => {
                 if truth == stop {
                     return Ok(stop);

@@ -199,18 +199,6 @@ truth_of-returns-in-Some-clause-truth t c = (c.requires.known c.args.at c.in-Som
 
 -- ---- the parts of a join
 
-pub part_truth-basic_truth-requires-clause-fits : goal.part_truth-basic_truth-requires-clause-fits
-part_truth-basic_truth-requires-clause-fits t c = subst (FitsSomewhere (signature_of c.args.here.now.task.now.problem.domain)) (shown-Basic (trees c.args.nodes.now) c.args.at c.get.result.now c.get.ensures.tree c.in-Basic.f c.in-Basic.is) c.requires.fits
-
-pub part_truth-basic_truth-requires-clause-basic : goal.part_truth-basic_truth-requires-clause-basic
-part_truth-basic_truth-requires-clause-basic t c = basic-in (trees c.args.nodes.now) c.args.at c.get.result.now c.get.ensures.tree c.get.ensures.parts c.in-Basic.f c.in-Basic.is
-
-pub part_truth-returns-in-Basic-clause-truth : goal.part_truth-returns-in-Basic-clause-truth
-part_truth-returns-in-Basic-clause-truth t c = subst (λ (x : Bool). IfOk c.basic_truth.result (λ b. b ≡ x)) (idle-Basic (trees c.args.nodes.now) c.args.at c.get.result.now c.get.ensures.tree (plain_problem c.args.here.now.task.now.problem) c.args.here.now.world.now (assignment_in c.args.env.now) c.get.ensures.parts c.in-Basic.f c.in-Basic.is) c.basic_truth.ensures.truth
-
-pub part_truth-returns-in-Basic-clause-cause : goal.part_truth-returns-in-Basic-clause-cause
-part_truth-returns-in-Basic-clause-cause t c = subst (λ (x : List Operation). IfErr c.basic_truth.result (IsCausedBy x)) (looked-Basic (trees c.args.nodes.now) c.args.at c.get.result.now c.get.ensures.tree (plain_problem c.args.here.now.task.now.problem) c.args.here.now.world.now (assignment_in c.args.env.now) c.get.ensures.parts c.in-Basic.f c.in-Basic.is) c.basic_truth.ensures.cause
-
 pub join_truth-loop-part-init : goal.join_truth-loop-part-init
 join_truth-loop-part-init t c = record { frame = refl; passed = refl; remembers = c.requires.remembers }
 
@@ -286,8 +274,8 @@ instances_truth-put_instance-requires-clause-slots t c =
     let fit = quantifier-fits c.args.here.now.task.now.problem c.args.quantified.now.junction c.args.quantified.now.vars.now c.args.quantified.now.bound.now (tree_at (trees c.args.nodes.now) c.args.quantified.now.part) c.requires.fits in
     fit.in_frame
 
-pub instances_truth-part_truth-requires : goal.instances_truth-part_truth-requires
-instances_truth-part_truth-requires t c =
+pub instances_truth-instance_truth-requires : goal.instances_truth-instance_truth-requires
+instances_truth-instance_truth-requires t c =
     let fit = quantifier-fits c.args.here.now.task.now.problem c.args.quantified.now.junction c.args.quantified.now.vars.now c.args.quantified.now.bound.now (tree_at (trees c.args.nodes.now) c.args.quantified.now.part) c.requires.fits in
     (omega (arith, c.decreases), (c.requires.part, (fit.part, (c.requires.known, c.tuples.invariant.remembers))))
 
@@ -314,9 +302,9 @@ instances_truth-tuples-preserved t c =
     let fit = quantifier-fits c.args.here.now.task.now.problem c.args.quantified.now.junction c.args.quantified.now.vars.now c.args.quantified.now.bound.now (tree_at (trees c.args.nodes.now) c.args.quantified.now.part) c.requires.fits in
     let come = has-come (plain_problem c.args.here.now.task.now.problem) c.args.here.now.world.now (assignment_in c.args.env.now) c.args.quantified.now.vars.now c.args.quantified.now.bound.now (tree_at (trees c.args.nodes.now) c.args.quantified.now.part) c.tuples.tuples c.put_instance.new.tuples c.tuples.env c.put_instance.new.env c.put_instance.result c.put_instance.ensures c.tuples.invariant.reads fit.differ fit.occur c.tuples.invariant.others c.tuples-test.true in
     record {
-      remembers = c.part_truth.ensures.remembers;
+      remembers = c.instance_truth.ensures.remembers;
       reads = c.put_instance.ensures.reads (assignment_in c.args.env.now) c.tuples.invariant.reads;
-      others = still-others (plain_problem c.args.here.now.task.now.problem) c.args.here.now.world.now (assignment_in c.args.env.now) c.args.quantified.now.vars.now c.args.quantified.now.bound.now (tree_at (trees c.args.nodes.now) c.args.quantified.now.part) c.tuples.tuples c.put_instance.new.tuples c.tuples.env c.put_instance.new.env c.put_instance.result c.put_instance.ensures c.tuples.invariant.reads c.tuples.invariant.others c.part_truth.new.env c.part_truth.ensures.frame;
+      others = still-others (plain_problem c.args.here.now.task.now.problem) c.args.here.now.world.now (assignment_in c.args.env.now) c.args.quantified.now.vars.now c.args.quantified.now.bound.now (tree_at (trees c.args.nodes.now) c.args.quantified.now.part) c.tuples.tuples c.put_instance.new.tuples c.tuples.env c.put_instance.new.env c.put_instance.result c.put_instance.ensures c.tuples.invariant.reads c.tuples.invariant.others c.instance_truth.new.env c.instance_truth.ensures.frame;
       passed = subst (Open (plain_problem c.args.here.now.task.now.problem) c.args.here.now.world.now (assignment_in c.args.env.now) c.args.quantified.now.vars.now c.args.quantified.now.bound.now (tree_at (trees c.args.nodes.now) c.args.quantified.now.part) c.deciding_truth-stop.result) (sym come.is) (open-on (plain_problem c.args.here.now.task.now.problem) c.args.here.now.world.now (assignment_in c.args.env.now) c.args.quantified.now.vars.now c.args.quantified.now.bound.now (tree_at (trees c.args.nodes.now) c.args.quantified.now.part) fit.differ fit.occur c.tuples.tuples.tuple c.put_instance.new.tuples.tuple come.tuple come.next come.is c.deciding_truth-stop.result c.in-Ok.truth c.tuples.invariant.passed (subst (λ (d : Assignment). c.in-Ok.truth ≡ idly_true (plain_problem c.args.here.now.task.now.problem) c.args.here.now.world.now d (tree_at (trees c.args.nodes.now) c.args.quantified.now.part)) come.here c.in-Ok.ensures.truth) c.if-truth-stop.false);
     }
 

@@ -18,6 +18,9 @@ decreases-layer_truth l = 5 * l.at + 1
 abbrev pub decreases-part_truth : goal.decreases-part_truth
 decreases-part_truth l = 5 * l.at + 3
 
+abbrev pub decreases-instance_truth : goal.decreases-instance_truth
+decreases-instance_truth l = 5 * l.at + 3
+
 abbrev pub decreases-join_truth : goal.decreases-join_truth
 decreases-join_truth l = 5 * l.join.now.at
 
