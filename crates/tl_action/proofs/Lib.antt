@@ -23,3 +23,4 @@ pub mod SortedRows
 pub mod ActionLists
 pub mod NamedActions
 pub mod NextNamed
+pub mod OwnOrders

@@ -10,3 +10,5 @@ pub mod UnderFrames
 pub mod Actions
 pub mod ChangedWorlds
 pub mod Places
+pub mod OwnOrders
+pub mod Listers

@@ -1,42 +1,37 @@
 // All actions that are executable in a world.
 ghost use Rattle.std.specs.Prelude.{◌≡◌, ◌++◌, map, IfOk, IfErr, OnOk};
 ghost use Rattle.tl_action.specs.Actions.{action_of, ActionsAreNamed, name_count, AreActions, HasOperator, IsCausedBySome};
-ghost use Rattle.tl_action.specs.RowLists.{IsRows};
-ghost use Rattle.tl_action.specs.UnderFrames.{OperatorIsKept, AreRowsUnder, IsRowFaultUnder};
+ghost use Rattle.tl_action.specs.OwnOrders.{own_order};
 ghost use Rattle.tl_syntax.specs.Lists.{Each, Rises};
 ghost use Rattle.tl_terms.specs.Orders.{action_cmp};
 ghost use Rattle.tl_terms.specs.ProblemMeaning.{plain_problem};
 
 use crate::ActFault;
 use crate::here::Here;
-use crate::join::join;
-use crate::order::JoinOrder;
+use crate::operator_rows::rows_of;
+use crate::own_order::OwnOrder;
 use std::alloc::Global;
 use tl_eval::Env;
 use tl_syntax::{Action, Actions, NoMemory, Operator, Values};
 use tl_world::{Task, World};
 
-/// The rows in lexicographic value order, each once. It takes no memory.
-fn in_order(mut rows: Vec<Values>) -> Vec<Values>
-    ensures { IsRows rows.items result.items }
-{
-    rows.sort_unstable();
-    rows.dedup();
-    rows
+/// Lists the actions of one task. What can be worked out before a world is there stands in it: the parameters to which each bound of an operator gives values, and which effects cannot fail.
+#[derive(Drop)]
+pub struct Lister {
+    alloc: Global,
+    orders: Vec<OwnOrder>,
 }
 
-/// The rows of values with which the operator can be applied, in lexicographic value order, each once.
-fn rows_of(here: &Here, env: &mut Env, operator: &Operator) -> Result<Vec<Values>, ActFault>
-    requires { OperatorIsKept here.now operator.now }
-    ensures rows { IfOk result (λ rows. AreRowsUnder here.now operator.now env.old rows.items) }
-    ensures cause { IfErr result (IsRowFaultUnder here.now operator.now env.old) }
+/// What is worked out of each operator. It fails for want of memory alone.
+fn own_orders(alloc: Global, operators: &[Operator]) -> Result<Vec<OwnOrder>, NoMemory>
+    ensures { IfOk result (λ orders. orders.items ≡ map own_order operators.now) }
 {
-    let order = JoinOrder::of(here, operator)?;
-    let mut rows = Vec::new(here.alloc);
-    match join(here, env, &order, 0, &mut rows) {
-        Ok(()) => Ok(in_order(rows)),
-        Err(fault) => Err(fault),
+    let mut orders = Vec::with_capacity(alloc, operators.len())?;
+    for operator in operators {
+        let own = OwnOrder::of(alloc, operator)?;
+        orders.push(own)?;
     }
+    Ok(orders)
 }
 
 /// Adds an action of the operator for each row. It fails for want of memory alone.
@@ -49,10 +44,49 @@ fn push_rows(op: u32, rows: Vec<Values>, found: &mut Actions) -> Result<(), NoMe
     Ok(())
 }
 
+impl Lister {
+    ghost use Rattle.tl_action.specs.Listers.{ListsFor};
+
+    /// A lister for the task. It fails for want of memory alone.
+    pub fn for_task(alloc: Global, task: &Task) -> Result<Lister, NoMemory>
+        ensures { IfOk result (ListsFor task.now) }
+    {
+        let orders = own_orders(alloc, task.problem.domain.operators.as_slice())?;
+        Ok(Lister { alloc, orders })
+    }
+
+    /// All actions that are executable in the world, as `actions` lists them. The lister is for the task before and after the call, a refused one included.
+    pub fn actions(&mut self, task: &Task, w: &World, env: &mut Env) -> Result<Actions, ActFault>
+        requires { ListsFor task.now self.old }
+        ensures lister { ListsFor task.now self.new }
+        ensures actions { IfOk result (AreActions (plain_problem task.now.problem) w.now) }
+        ensures order { IfOk result (Rises action_cmp) }
+        ensures fit { IfOk result (Each (HasOperator (plain_problem task.now.problem))) }
+        ensures named { IfOk result (λ found. ActionsAreNamed (name_count task.now) w.now found) }
+        ensures cause { IfErr result (IsCausedBySome (plain_problem task.now.problem) w.now) }
+    {
+        let operators = task.problem.domain.operators.as_slice();
+        let here = Here {
+            alloc: self.alloc,
+            task,
+            world: w,
+        };
+        let mut found = Actions::new(self.alloc);
+        for (op, operator) in operators.iter().enumerate() {
+            match rows_of(&here, env, operator, &mut self.orders[op]) {
+                Ok(rows) => push_rows(op as u32, rows, &mut found)?,
+                Err(fault) => return Err(fault),
+            }
+        }
+        Ok(found)
+    }
+}
+
 /// All actions that are executable in the world, each once, in action order: by operator in the domain's order, and then by the arguments from left to right in value order.
 ///
 /// Each operator's bounds are joined in their order, or with one of few rows before the others: see `join` and `first_bound` for what that costs. Its rows come out in action order where the parameters first stand in the joined bounds in their own order, and are sorted once.
 /// A range fault tells an operation that one of the actions looks at. The frame is left with values of its own, as by `apply`.
+/// Whoever lists the actions of many worlds takes a `Lister`.
 pub fn actions(alloc: Global, task: &Task, w: &World, env: &mut Env) -> Result<Actions, ActFault>
     ensures actions { IfOk result (AreActions (plain_problem task.now.problem) w.now) }
     ensures order { IfOk result (Rises action_cmp) }
@@ -60,18 +94,6 @@ pub fn actions(alloc: Global, task: &Task, w: &World, env: &mut Env) -> Result<A
     ensures named { IfOk result (λ found. ActionsAreNamed (name_count task.now) w.now found) }
     ensures cause { IfErr result (IsCausedBySome (plain_problem task.now.problem) w.now) }
 {
-    let operators = task.problem.domain.operators.as_slice();
-    let here = Here {
-        alloc,
-        task,
-        world: w,
-    };
-    let mut found = Actions::new(alloc);
-    for (op, operator) in operators.iter().enumerate() {
-        match rows_of(&here, env, operator) {
-            Ok(rows) => push_rows(op as u32, rows, &mut found)?,
-            Err(fault) => return Err(fault),
-        }
-    }
-    Ok(found)
+    let mut lister = Lister::for_task(alloc, task)?;
+    lister.actions(task, w, env)
 }

@@ -1,17 +1,16 @@
 // The order in which the bounds of an operator are joined, and what is worked out before.
-ghost use Rattle.std.specs.Prelude.{◌≡◌};
+ghost use Rattle.std.specs.Prelude.{◌≡◌, ◌<◌, length};
 ghost use Rattle.tl_action.specs.Join.{new_parameters_in};
 ghost use Rattle.tl_action.specs.Sure.{are_sure};
 ghost use Rattle.tl_syntax.specs.TreeOfEffect.{tree_of_effects};
 
 use crate::arranged::Arranged;
-use crate::first_bound::first_bound;
-use crate::here::Here;
 use crate::new_parameters::new_parameters_of;
 use crate::sure::are_sure;
+use std::alloc::Global;
 use tl_syntax::{NoMemory, Operator, Vars};
 
-/// The join order of an operator: its bounds in the order in which they are joined, and which parameters each of them gives values. It is worked out once for a world, before the bounds are joined.
+/// The join order of an operator: its bounds in the order in which they are joined, and which parameters each of them gives values. It is worked out before the bounds are joined.
 #[derive(Drop)]
 pub(crate) struct JoinOrder<'a> {
     /// The bounds of the operator.
@@ -27,15 +26,18 @@ pub(crate) struct JoinOrder<'a> {
 impl<'a> JoinOrder<'a> {
     ghost use Rattle.std.specs.Prelude.{IfOk};
 
-    /// The join order of an operator in a world: its bounds in their order, or with that of `first_bound` before the others. It fails for want of memory alone.
-    pub(crate) fn of(here: &Here, operator: &'a Operator) -> Result<JoinOrder<'a>, NoMemory>
-        ensures { IfOk result (λ order. order.bounds.operator.now ≡ operator.now) }
+    /// The join order of an operator whose bound at the place `first` comes before the others. It fails for want of memory alone.
+    pub(crate) fn of(
+        alloc: Global,
+        operator: &'a Operator,
+        first: usize,
+    ) -> Result<JoinOrder<'a>, NoMemory>
+        requires { 0 < length operator.now.bounds → first < length operator.now.bounds }
+        ensures operator { IfOk result (λ order. order.bounds.operator.now ≡ operator.now) }
+        ensures first { IfOk result (λ order. order.bounds.first ≡ first) }
     {
-        let bounds = Arranged {
-            operator,
-            first: first_bound(here.task, here.world, operator),
-        };
-        let new_parameters = new_parameters_of(here.alloc, &bounds)?;
+        let bounds = Arranged { operator, first };
+        let new_parameters = new_parameters_of(alloc, &bounds)?;
         let sure = are_sure(&operator.effects);
         Ok(JoinOrder {
             bounds,

@@ -1,6 +1,0 @@
-use Rattle.tl_action.proofs.ActionLists.{ActionsSoFar}
-use Rattle.tl_terms.specs.ProblemMeaning.{plain_problem}
-use Rattle.tl_action.proofs.all_actions.actions.Given as goal
-
-abbrev pub invariant-loop-op : goal.invariant-loop-op
-invariant-loop-op l = ActionsSoFar (plain_problem l.task.problem) l.w l.op l.found
