@@ -30,7 +30,7 @@ use Rattle.tl_search.proofs.ListLaws.{get-inside}
 use Rattle.tl_space.specs.declared.numbers.Met.{Met}
 use Rattle.tl_space.specs.declared.numbers.Numbers.{Numbers}
 use Rattle.tl_space.specs.declared.space.Space.{Space}
-use Rattle.tl_space.specs.Inner.{node_in, nodes_in, arriving_in, IsLabelIn, AreNumbersIn, IsKnownIn, KeepsPairs, HasRoom, IsNew, IsToKeep, IsRootKey, IsKeyAfter, IsChildKey, way_after}
+use Rattle.tl_space.specs.Inner.{node_in, nodes_in, arriving_in, IsLabelIn, AreNumbersIn, IsKnownIn, KeepsPairs, IsNew, IsToKeep, IsRootKey, IsKeyAfter, IsChildKey, way_after}
 use Rattle.tl_space.specs.Kept.{world_at, node_at, path_at, paths_of}
 use Rattle.tl_space.specs.Remembered.{pair_in_at, IsKnown}
 use Rattle.tl_space.specs.Spaces.{problem_of, kept_of}
@@ -91,10 +91,10 @@ unfolding pair_graph
 next-walk p path x y a h e n = walk-onward (pair_graph p) path a x y h ((unless-pruned (next_pair p x a) y).1 (e, n))
 
 -- the path of a kept pair
-pub path-of : (s : Space) (at : ℕ) (x : KeptPair) → slice_get (kept_of s) at ≡ Some x → path_at (paths_of s.from.items) at ≡ x.path
-path-of s at x e = get_or_from_slice_get (paths_of s.from.items) at x.path [] (kept-get (worlds_in s.worlds) (trees s.nodes) s.pairs.keys (paths_of s.from.items) at x e).is_path
+pub path-of : (s : Space) (at : ℕ) (x : KeptPair) → slice_get (kept_of s) at ≡ Some x → path_at (paths_of s.from) at ≡ x.path
+path-of s at x e = get_or_from_slice_get (paths_of s.from) at x.path [] (kept-get (worlds_in s.worlds) (trees s.nodes) s.pairs.keys (paths_of s.from) at x e).is_path
 
-pub path-later : (s t : Space) → KeepsPairs s t → (at : ℕ) (x : KeptPair) → slice_get (kept_of s) at ≡ Some x → path_at (paths_of t.from.items) at ≡ x.path
+pub path-later : (s t : Space) → KeepsPairs s t → (at : ℕ) (x : KeptPair) → slice_get (kept_of s) at ≡ Some x → path_at (paths_of t.from) at ≡ x.path
 path-later s t k at x e = ap (λ (ms : List Met). path_at (paths_of ms) at) k.from ∙ path-of s at x e
 
 pub way-later : (s t : Space) (at : ℕ) (a : Action) → KeepsPairs s t → way_after t at a ≡ way_after s at a
@@ -102,12 +102,12 @@ way-later s t at a k = ap (λ (ms : List Met). path_at (paths_of ms) at ++ a ∷
 
 -- where it is not pruned, the path of the pair and the action walk to it
 pub child-walk : (s t : Space) → KeepsPairs s t → (at : ℕ) (a : Action) (n : Numbers) → at < length (kept_of s) → IsChildKey s t at a n → (arriving_in t n).formula ≢ falsum
-    → walk (pair_graph (problem_of t)) (path_at (paths_of t.from.items) at ++ a ∷ []) ≡ Some (arriving_in t n)
+    → walk (pair_graph (problem_of t)) (path_at (paths_of t.from) at ++ a ∷ []) ≡ Some (arriving_in t n)
 child-walk s t k at a n h key unpruned =
     let x = get-inside (kept_of s) at h in
     let next = child-pair (problem_of s) x.0.node a t n (keeps-problem s t k) (key x.0 x.1) in
     let w = next-walk (problem_of s) x.0.path x.0.node (arriving_in t n) a (s.kept.walks at x.0 x.1) next unpruned in
-    subst (λ (p : PlainProblem). walk (pair_graph p) (path_at (paths_of t.from.items) at ++ a ∷ []) ≡ Some (arriving_in t n)) (sym (keeps-problem s t k))
+    subst (λ (p : PlainProblem). walk (pair_graph p) (path_at (paths_of t.from) at ++ a ∷ []) ≡ Some (arriving_in t n)) (sym (keeps-problem s t k))
     (subst (λ (u : List Action). walk (pair_graph (problem_of s)) (u ++ a ∷ []) ≡ Some (arriving_in t n)) (sym (path-later s t k at x.0 x.1)) w)
 
 -- ---- what arrives, in an earlier space's words
@@ -134,9 +134,9 @@ module _ (a b : Space) (key : Numbers) (l : ℕ) (k : KeepsPairs a b) (n : AreNu
   pub known-as : (r : Arrival) → IsKnown (nodes_in b) (node_in b (record { world = key.world; label = l })) r → IsKnownIn b key r
   known-as r h = subst (λ (x : Pair). IsKnown (nodes_in b) x r) (arriving-node ∙ sym (arriving-later a b key k n)) h
 
-  -- it is to be kept, where it is new and there is room
-  pub to-keep : (c : Space) → KeepsPairs b c → IsLabelIn b l → IsNew b (record { world = key.world; label = l }) → HasRoom c → IsToKeep c key (record { world = key.world; label = l })
-  to-keep c k2 label new room =
+  -- it is to be kept, where it is new
+  pub to-keep : (c : Space) → KeepsPairs b c → IsLabelIn b l → IsNew b (record { world = key.world; label = l }) → IsToKeep c key (record { world = key.world; label = l })
+  to-keep c k2 label new =
       let m : Numbers = record { world = key.world; label = l } in
       let here : AreNumbersIn b m = record { world = (numbers-later a b key k n).world; label = label } in
       let same : node_in c m ≡ node_in b m = node-later b c m k2 here in
@@ -144,7 +144,6 @@ module _ (a b : Space) (key : Numbers) (l : ℕ) (k : KeepsPairs a b) (n : AreNu
         numbers = numbers-later b c m k2 here;
         new = record { unpruned = λ f. new.unpruned (ap (λ (x : Pair). x.formula) (sym same) ∙ f); absent = λ i f. new.absent i (ap (λ (ns : List Numbers). slice_get ns i) (sym k2.pairs) ∙ f) };
         arrives = same ∙ (arriving-node ∙ sym (arriving-later a c key (keeps-trans a b c k k2) n));
-        room = room;
       }
 
 -- ---- an arrival whose pair has its own numbers
@@ -156,17 +155,6 @@ true-leaves-itself s n t e =
     let g : tree_at (trees s.nodes) n.label ≡ verum = tree-is (trees s.nodes) n.label verum (ap (slice_get (trees s.nodes)) (eqb-true n.label 0 e) ∙ t) in
     let w = world_at (worlds_in s.worlds) n.world in
     (λ i. record { world = w; formula = g i }) ∙ sym (λ i. record { world = w; formula = progressed (situation_of (problem_of s) w) no_values (g i) })
-
--- it is to be kept, where it is new and there is room
-pub itself-to-keep : (a c : Space) (key : Numbers) → KeepsPairs a c → AreNumbersIn a key → node_in a key ≡ arriving_in a key → IsNew a key → HasRoom c → IsToKeep c key key
-itself-to-keep a c key k numbers itself new room =
-    let same : node_in c key ≡ node_in a key = node-later a c key k numbers in
-    record {
-      numbers = numbers-later a c key k numbers;
-      new = record { unpruned = λ f. new.unpruned (ap (λ (x : Pair). x.formula) (sym same) ∙ f); absent = λ i f. new.absent i (ap (λ (ns : List Numbers). slice_get ns i) (sym k.pairs) ∙ f) };
-      arrives = same ∙ (itself ∙ sym (arriving-later a c key k numbers));
-      room = room;
-    }
 
 -- ---- what comes of an arrival, in the words of the space before it
 

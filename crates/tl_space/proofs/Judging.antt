@@ -75,7 +75,7 @@ executable-named s w a named exec = action-named s.task.problem w named a exec
 pub arguments-named : (s t : Space) (at : ℕ) (a : Action) → KeepsPairs s t → at < length (kept_of s) → IsExecutableAt (problem_of s) (kept_of s) at a → ArgumentsAreNamed (name_count t) a
 arguments-named s t at a k h exec =
     let x = get-inside (kept_of s) at h in
-    let there = kept-get (worlds_in s.worlds) (trees s.nodes) s.pairs.keys (paths_of s.from.items) at x.0 x.1 in
+    let there = kept-get (worlds_in s.worlds) (trees s.nodes) s.pairs.keys (paths_of s.from) at x.0 x.1 in
     let w = get-inside (worlds_in s.worlds) there.numbers.world (s.kept.numbers at there.numbers there.is_there).world in
     let here = subst (λ (v : World). IsTrue (is_some (step (problem_of s) v a))) (world-of s there.numbers w.0 w.1 x.0.node there.is_node) (exec x.0 x.1) in
     subst (λ c. ArgumentsAreNamed c a) (sym (keeps-names s t k)) (executable-named s w.0 a (world-named s there.numbers.world w.0 w.1) here)

@@ -1,5 +1,5 @@
 -- What is known of pairs, and one more.
-use Rattle.std.proofs.Common.{◌≡◌, ◌≢◌, ◌<◌, ℕ, Bool, true, List, [], ◌∷◌, ◌++◌, length, map, nat_eq, slice_get, Some, refl, sym, ap, ap₂, subst, ◌∙◌, arith, if◌then◌else◌, eqb-true, eq-eqb, Option, None}
+use Rattle.std.proofs.Common.{◌≡◌, ◌≢◌, ◌<◌, ℕ, Bool, List, [], ◌∷◌, ◌++◌, length, map, nat_eq, slice_get, Some, refl, sym, ap, ap₂, subst, ◌∙◌, arith, eqb-true, eq-eqb, Option, None}
 use Rattle.std.specs.Option.{option_map}
 use Rattle.std.proofs.lemmas.List.{map-append, length-map}
 use Rattle.std.proofs.lemmas.Option.{slice_get-get_or, slice_get-map, get_or_from_slice_get, slice_get_within}
@@ -71,8 +71,8 @@ known-arrives s x (arrival.Seen k) h path = (refl, by_numbers (slice_get s.pairs
     by_numbers None e q = let b : ⊥ = cc in absurd b
     by_numbers (Some n) e q =
         let inside : k < length s.pairs.keys = slice_get_within s.pairs.keys k n e in
-        let p = get-inside (paths_of s.from.items) k (let l = lengths s in omega arith) in
-        (record { node = node_in s n; path = p.0 }, kept-at (worlds_in s.worlds) (trees s.nodes) s.pairs.keys (paths_of s.from.items) k n p.0 e p.1, sym q)
+        let p = get-inside (paths_of s.from) k (let l = lengths s in omega arith) in
+        (record { node = node_in s n; path = p.0 }, kept-at (worlds_in s.worlds) (trees s.nodes) s.pairs.keys (paths_of s.from) k n p.0 e p.1, sym q)
 
 -- ---- one more pair
 
@@ -87,24 +87,24 @@ remembered-with p ws ts ns n key k es h l m e q fs more = each-more (IsRemembere
     known : slice_get (nodes_at ws ts (ns ++ n ∷ [])) k ≡ Some (pair_in_at p ws ts key)
     known = ap (λ (xs : List Pair). slice_get xs k) (nodes-more ws ts ns n) ∙ (at_last ∙ ap (λ z. Some z) q)
 
-module _ (s : Space) (n : Numbers) (m : Met) (ks : List Numbers) (ms : List Met) (e : ks ≡ s.pairs.keys ++ n ∷ []) (f : ms ≡ s.from.items ++ m ∷ []) where
-  pub kept-after : kept_over (worlds_in s.worlds) (trees s.nodes) ks (paths_of ms) ≡ kept_of s ++ record { node = node_in s n; path = path_by (paths_of s.from.items) m } ∷ []
+module _ (s : Space) (n : Numbers) (m : Met) (ks : List Numbers) (ms : List Met) (e : ks ≡ s.pairs.keys ++ n ∷ []) (f : ms ≡ s.from ++ m ∷ []) where
+  pub kept-after : kept_over (worlds_in s.worlds) (trees s.nodes) ks (paths_of ms) ≡ kept_of s ++ record { node = node_in s n; path = path_by (paths_of s.from) m } ∷ []
   kept-after =
       ap₂ (λ (ns : List Numbers) (qs : List Met). kept_over (worlds_in s.worlds) (trees s.nodes) ns (paths_of qs)) e f
-      ∙ kept-with (signature_of s.task.problem.domain) (name_count s) (problem_of s) (worlds_in s.worlds) (trees s.nodes) s.pairs.keys s.from.items n m s.kept
+      ∙ kept-with (signature_of s.task.problem.domain) (name_count s) (problem_of s) (worlds_in s.worlds) (trees s.nodes) s.pairs.keys s.from n m s.kept
 
   pub still-kept : Stay (kept_of s) (kept_over (worlds_in s.worlds) (trees s.nodes) ks (paths_of ms))
-  still-kept i x g = subst (λ xs. slice_get xs i ≡ Some x) (sym kept-after) (get-old (kept_of s) (record { node = node_in s n; path = path_by (paths_of s.from.items) m } ∷ []) i x g)
+  still-kept i x g = subst (λ xs. slice_get xs i ≡ Some x) (sym kept-after) (get-old (kept_of s) (record { node = node_in s n; path = path_by (paths_of s.from) m } ∷ []) i x g)
 
   pub labels-still : Stay (labels_of s) (map (λ (k : Numbers). k.label) ks)
   labels-still i x g = subst (λ xs. slice_get xs i ≡ Some x) (sym (ap (map (λ (k : Numbers). k.label)) e ∙ map-append (λ (k : Numbers). k.label) s.pairs.keys (n ∷ []))) (get-old (labels_of s) (n.label ∷ []) i x g)
 
-  pub kept-by-with : AreNumbersIn s n → ((i : ℕ) → slice_get s.pairs.keys i ≡ Some n → ⊥) → MayMeet s.from.items m → IsNamedMet (name_count s) m → walk (pair_graph (problem_of s)) (path_by (paths_of s.from.items) m) ≡ Some (node_in s n)
+  pub kept-by-with : AreNumbersIn s n → ((i : ℕ) → slice_get s.pairs.keys i ≡ Some n → ⊥) → MayMeet s.from m → IsNamedMet (name_count s) m → walk (pair_graph (problem_of s)) (path_by (paths_of s.from) m) ≡ Some (node_in s n)
       → AreKeptBy (signature_of s.task.problem.domain) (name_count s) (problem_of s) (worlds_in s.worlds) (trees s.nodes) ks ms
   kept-by-with numbers absent may named reaches =
       subst (λ (ns : List Numbers). AreKeptBy (signature_of s.task.problem.domain) (name_count s) (problem_of s) (worlds_in s.worlds) (trees s.nodes) ns ms) (sym e)
       (subst (AreKeptBy (signature_of s.task.problem.domain) (name_count s) (problem_of s) (worlds_in s.worlds) (trees s.nodes) (s.pairs.keys ++ n ∷ [])) (sym f)
-      (kept-by-more (signature_of s.task.problem.domain) (name_count s) (problem_of s) (worlds_in s.worlds) (trees s.nodes) s.pairs.keys s.from.items n m s.kept numbers absent may named reaches))
+      (kept-by-more (signature_of s.task.problem.domain) (name_count s) (problem_of s) (worlds_in s.worlds) (trees s.nodes) s.pairs.keys s.from n m s.kept numbers absent may named reaches))
 
   pub remembered-after : (key : Numbers) (k : ℕ) (es : List (Numbers × Arrival)) → AreNumbersIn s key → k ≡ length s.pairs.keys → node_in s n ≡ arriving_in s key → HasOneMore s.arrivals (key, arrival.Seen k) es
       → AreRemembered (problem_of s) (worlds_in s.worlds) (trees s.nodes) ks es
@@ -112,14 +112,29 @@ module _ (s : Space) (n : Numbers) (m : Met) (ks : List Numbers) (ms : List Met)
       subst (λ (ns : List Numbers). AreRemembered (problem_of s) (worlds_in s.worlds) (trees s.nodes) ns es) (sym e)
       (remembered-with (problem_of s) (worlds_in s.worlds) (trees s.nodes) s.pairs.keys n key k s.arrivals s.remembered numbers.world numbers.label.inside is arrives es g)
 
+-- where the pairs and the ways are as before, so is what is kept
+module _ (s : Space) (ks : List Numbers) (ms : List Met) (e : ks ≡ s.pairs.keys) (f : ms ≡ s.from) where
+  pub kept-by-same : AreKeptBy (signature_of s.task.problem.domain) (name_count s) (problem_of s) (worlds_in s.worlds) (trees s.nodes) ks ms
+  kept-by-same =
+      subst (λ (ns : List Numbers). AreKeptBy (signature_of s.task.problem.domain) (name_count s) (problem_of s) (worlds_in s.worlds) (trees s.nodes) ns ms) (sym e)
+      (subst (AreKeptBy (signature_of s.task.problem.domain) (name_count s) (problem_of s) (worlds_in s.worlds) (trees s.nodes) s.pairs.keys) (sym f) s.kept)
+
+  pub remembered-same : AreRemembered (problem_of s) (worlds_in s.worlds) (trees s.nodes) ks s.arrivals
+  remembered-same = subst (λ (ns : List Numbers). AreRemembered (problem_of s) (worlds_in s.worlds) (trees s.nodes) ns s.arrivals) (sym e) s.remembered
+
+  pub kept-same : kept_over (worlds_in s.worlds) (trees s.nodes) ks (paths_of ms) ≡ kept_of s
+  kept-same = ap₂ (λ (ns : List Numbers) (qs : List Met). kept_over (worlds_in s.worlds) (trees s.nodes) ns (paths_of qs)) e f
+
+  pub kept-stays-same : Stay (kept_of s) (kept_over (worlds_in s.worlds) (trees s.nodes) ks (paths_of ms))
+  kept-stays-same i x g = subst (λ xs. slice_get xs i ≡ Some x) (sym kept-same) g
+
+  pub labels-stay-same : Stay (labels_of s) (map (λ (k : Numbers). k.label) ks)
+  labels-stay-same i x g = subst (λ (ns : List Numbers). slice_get (map (λ (k : Numbers). k.label) ns) i ≡ Some x) (sym e) g
+
 -- one more arrival is remembered, which is known
 pub remembered-known : (s : Space) (key : Numbers) (r : Arrival) (es : List (Numbers × Arrival)) → AreNumbersIn s key → IsKnownIn s key r → HasOneMore s.arrivals (key, r) es → AreRemembered (problem_of s) (worlds_in s.worlds) (trees s.nodes) s.pairs.keys es
 remembered-known s key r es numbers known g =
     each-more (IsRemembered (problem_of s) (worlds_in s.worlds) (trees s.nodes) s.pairs.keys) s.arrivals (key, r) es g s.remembered (record { world = numbers.world; label = numbers.label.inside; known = known })
-
--- the item that was pushed stands behind those before
-pub pushed-behind : (old after : List Met) (done : Bool) (m : Met) → done ≡ true → after ≡ (if done then old ++ m ∷ [] else old) → after ≡ old ++ m ∷ []
-pushed-behind old after done m d a = a ∙ ap (λ b. if b then old ++ m ∷ [] else old) d
 
 -- ---- paths by which a pair is met
 
@@ -131,8 +146,8 @@ pub after-path : (ps : List (List Action)) (j : ℕ) (a b : Action) → b ≡ a 
 unfolding path_by
 after-path ps j a b e = ap (λ x. path_at ps j ++ x ∷ []) e
 
-pub none-met : (s : Space) → kept_of s ≡ [] → s.from.items ≡ []
-none-met s h = empty-length s.from.items (s.kept.all_met ∙ (sym (count s) ∙ ap length h))
+pub none-met : (s : Space) → kept_of s ≡ [] → s.from ≡ []
+none-met s h = empty-length s.from (s.kept.all_met ∙ (sym (count s) ∙ ap length h))
 
-pub met-before : (s : Space) (at : ℕ) → at < length (kept_of s) → at < length s.from.items
-met-before s at h = let c = count s in let m : length s.from.items ≡ length s.pairs.keys = s.kept.all_met in omega (arith, c, m, h)
+pub met-before : (s : Space) (at : ℕ) → at < length (kept_of s) → at < length s.from
+met-before s at h = let c = count s in let m : length s.from ≡ length s.pairs.keys = s.kept.all_met in omega (arith, c, m, h)

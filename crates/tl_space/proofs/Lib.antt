@@ -10,3 +10,4 @@ pub mod PathNames
 pub mod Walked
 pub mod FoundStay
 pub mod PrunedChildren
+pub mod MetWays

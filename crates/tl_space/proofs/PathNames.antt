@@ -37,5 +37,5 @@ paths-named c = by_last (λ ms. Each (IsNamedMet c) ms → Each (Each (Arguments
 -- so those of one pair
 pub path-named : (s : Space) (at : ℕ) (x : KeptPair) → slice_get (kept_of s) at ≡ Some x → Each (ArgumentsAreNamed (name_count s)) x.path
 path-named s at x e =
-    let k = kept-get (worlds_in s.worlds) (trees s.nodes) s.pairs.keys (paths_of s.from.items) at x e in
-    (Each-Among (Each (ArgumentsAreNamed (name_count s))) (paths_of s.from.items)).0 (paths-named (name_count s) s.from.items s.kept.named) x.path (among-at (paths_of s.from.items) at x.path k.is_path)
+    let k = kept-get (worlds_in s.worlds) (trees s.nodes) s.pairs.keys (paths_of s.from) at x e in
+    (Each-Among (Each (ArgumentsAreNamed (name_count s))) (paths_of s.from)).0 (paths-named (name_count s) s.from s.kept.named) x.path (among-at (paths_of s.from) at x.path k.is_path)

@@ -30,17 +30,17 @@ use Rattle.tl_space.proofs.Remembering.{arriving-stays, all-remembered-stay}
 
 -- ---- one space
 
-pub lengths : (s : Space) → length s.pairs.keys ≡ length (paths_of s.from.items)
-lengths s = sym (paths-length s.from.items ∙ s.kept.all_met)
+pub lengths : (s : Space) → length s.pairs.keys ≡ length (paths_of s.from)
+lengths s = sym (paths-length s.from ∙ s.kept.all_met)
 
 pub count : (s : Space) → length (kept_of s) ≡ length s.pairs.keys
-count s = kept-length (worlds_in s.worlds) (trees s.nodes) s.pairs.keys (paths_of s.from.items) (lengths s)
+count s = kept-length (worlds_in s.worlds) (trees s.nodes) s.pairs.keys (paths_of s.from) (lengths s)
 
 pub given-in : (s : Space) → AreGiven (worlds_in s.worlds) (trees s.nodes) s.pairs.keys
-given-in s = are-given (signature_of s.task.problem.domain) (name_count s) (problem_of s) (worlds_in s.worlds) (trees s.nodes) s.pairs.keys s.from.items s.kept
+given-in s = are-given (signature_of s.task.problem.domain) (name_count s) (problem_of s) (worlds_in s.worlds) (trees s.nodes) s.pairs.keys s.from s.kept
 
 pub all-kept : (s : Space) → AreKept (pair_graph (problem_of s)) (kept_of s)
-all-kept s = are-kept (signature_of s.task.problem.domain) (name_count s) (problem_of s) (worlds_in s.worlds) (trees s.nodes) s.pairs.keys s.from.items s.worlds.one_to_one s.nodes.one_to_one s.kept
+all-kept s = are-kept (signature_of s.task.problem.domain) (name_count s) (problem_of s) (worlds_in s.worlds) (trees s.nodes) s.pairs.keys s.from s.worlds.one_to_one s.nodes.one_to_one s.kept
 
 pub world-at : (ws : List World) (i : ℕ) (w : World) → slice_get ws i ≡ Some w → world_at ws i ≡ w
 world-at ws i w e = get_or_from_slice_get ws i w (world_of [] []) e
@@ -51,7 +51,7 @@ tree-is ts i t e = get_or_from_slice_get ts i t verum e
 -- the pair of a number by its numbers
 pub node-of : (s : Space) (at : ℕ) (n : Numbers) → slice_get s.pairs.keys at ≡ Some n → ForPair (kept_of s) at (λ x. x.node ≡ node_in s n)
 node-of s at n e x f =
-    let k = kept-get (worlds_in s.worlds) (trees s.nodes) s.pairs.keys (paths_of s.from.items) at x f in
+    let k = kept-get (worlds_in s.worlds) (trees s.nodes) s.pairs.keys (paths_of s.from) at x f in
     k.is_node ∙ ap (node_at (worlds_in s.worlds) (trees s.nodes)) (get-one s.pairs.keys at k.numbers n k.is_there e)
 
 pub world-of : (s : Space) (n : Numbers) (w : World) → slice_get (worlds_in s.worlds) n.world ≡ Some w → (x : Pair) → x ≡ node_in s n → x.world ≡ w
@@ -70,8 +70,8 @@ given-of s n h = (h.world, h.label.inside)
 
 -- ---- worlds and trees that stay
 
-pub kept-still : (s : Space) (vs : List World) (us : List FormulaTree) → Stay (worlds_in s.worlds) vs → Stay (trees s.nodes) us → AreKeptBy (signature_of s.task.problem.domain) (name_count s) (problem_of s) vs us s.pairs.keys s.from.items
-kept-still s vs us h k = kept-by-stays (signature_of s.task.problem.domain) (name_count s) (problem_of s) (worlds_in s.worlds) vs (trees s.nodes) us s.pairs.keys s.from.items h k s.kept
+pub kept-still : (s : Space) (vs : List World) (us : List FormulaTree) → Stay (worlds_in s.worlds) vs → Stay (trees s.nodes) us → AreKeptBy (signature_of s.task.problem.domain) (name_count s) (problem_of s) vs us s.pairs.keys s.from
+kept-still s vs us h k = kept-by-stays (signature_of s.task.problem.domain) (name_count s) (problem_of s) (worlds_in s.worlds) vs (trees s.nodes) us s.pairs.keys s.from h k s.kept
 
 pub remembered-still : (s : Space) (vs : List World) (us : List FormulaTree) → Stay (worlds_in s.worlds) vs → Stay (trees s.nodes) us → AreRemembered (problem_of s) vs us s.pairs.keys s.arrivals
 remembered-still s vs us h k = all-remembered-stay (problem_of s) (worlds_in s.worlds) vs (trees s.nodes) us s.pairs.keys s.arrivals (given-in s) h k s.remembered
@@ -92,8 +92,8 @@ keeps-trans a b c h k = record {
 
 pub keeps-kept : (old new : Space) → KeepsPairs old new → kept_of new ≡ kept_of old
 keeps-kept old new h =
-    let a : kept_of new ≡ kept_over (worlds_in new.worlds) (trees new.nodes) old.pairs.keys (paths_of old.from.items) = ap₂ (λ (ns : List Numbers) (ms : List Met). kept_over (worlds_in new.worlds) (trees new.nodes) ns (paths_of ms)) h.pairs h.from in
-    a ∙ kept-stays (worlds_in old.worlds) (worlds_in new.worlds) (trees old.nodes) (trees new.nodes) old.pairs.keys (paths_of old.from.items) (given-in old) h.worlds h.trees
+    let a : kept_of new ≡ kept_over (worlds_in new.worlds) (trees new.nodes) old.pairs.keys (paths_of old.from) = ap₂ (λ (ns : List Numbers) (ms : List Met). kept_over (worlds_in new.worlds) (trees new.nodes) ns (paths_of ms)) h.pairs h.from in
+    a ∙ kept-stays (worlds_in old.worlds) (worlds_in new.worlds) (trees old.nodes) (trees new.nodes) old.pairs.keys (paths_of old.from) (given-in old) h.worlds h.trees
 
 pub keeps-problem : (old new : Space) → KeepsPairs old new → problem_of new ≡ problem_of old
 keeps-problem old new h = ap (λ (t : Task). plain_problem t.problem) h.task

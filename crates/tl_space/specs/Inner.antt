@@ -1,5 +1,5 @@
 -- What the parts of a space say to each other.
-use Rattle.std.specs.Prelude.{◌≡◌, ◌≢◌, ◌<◌, ◌++◌, ◌∷◌, [], ℕ, List, slice_get, Some, vec_len, vec_capacity}
+use Rattle.std.specs.Prelude.{◌≡◌, ◌≢◌, ◌++◌, ◌∷◌, [], ℕ, List, slice_get, Some}
 use Rattle.tl_syntax.specs.Assignment.{no_values}
 use Rattle.tl_syntax.specs.Signature.{signature_of}
 use Rattle.tl_syntax.specs.declared.action.Action.{Action}
@@ -61,23 +61,18 @@ pub record KeepsPairs (old new : Space) : Type 0 where
   pub worlds : Stay (worlds_in old.worlds) (worlds_in new.worlds)
   pub trees : Stay (trees old.nodes) (trees new.nodes)
   pub pairs : new.pairs.keys ≡ old.pairs.keys
-  pub from : new.from.items ≡ old.from.items
-
--- one more pair takes no memory beside that of the set of pairs
-abbrev pub HasRoom : Space → Type 0
-HasRoom s = vec_len s.from < vec_capacity s.from
+  pub from : new.from ≡ old.from
 
 -- the pair of these numbers is not pruned, and is not kept
 pub record IsNew (s : Space) (n : Numbers) : Type 0 where
   pub unpruned : (node_in s n).formula ≢ falsum
   pub absent : (i : ℕ) → slice_get s.pairs.keys i ≢ Some n
 
--- the pair of these numbers is the new pair of the arrival, and there is room for it
+-- the pair of these numbers is the new pair of the arrival
 pub record IsToKeep (s : Space) (key n : Numbers) : Type 0 where
   pub numbers : AreNumbersIn s n
   pub new : IsNew s n
   pub arrives : node_in s n ≡ arriving_in s key
-  pub room : HasRoom s
 
 -- what is found of an arrival
 abbrev pub IsArrivalFound : Space → Numbers → Found → Type 0
@@ -114,11 +109,11 @@ IsChildPruned s at a = ForPair (kept_of s) at (λ x. IsPrunedAfter (problem_of s
 
 -- the path by which a pair is met in this way
 abbrev pub way_in : Space → Met → List Action
-way_in s m = path_by (paths_of s.from.items) m
+way_in s m = path_by (paths_of s.from) m
 
 -- the path of a pair with one action more
 abbrev pub way_after : Space → ℕ → Action → List Action
-way_after s at a = path_at (paths_of s.from.items) at ++ a ∷ []
+way_after s at a = path_at (paths_of s.from) at ++ a ∷ []
 
 -- the path is a walk to the pair
 abbrev pub IsWalk : Space → List Action → Pair → Type 0

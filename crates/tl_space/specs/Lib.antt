@@ -4,3 +4,4 @@ pub mod Remembered
 pub mod KeptOnce
 pub mod Spaces
 pub mod Inner
+pub mod Ways

@@ -24,7 +24,7 @@ name_count s = length s.task.problem.names
 
 -- the pairs that are kept, each with its path, by their numbers
 abbrev pub kept_of : Space → List KeptPair
-kept_of s = kept_over (worlds_in s.worlds) (trees s.nodes) s.pairs.keys (paths_of s.from.items)
+kept_of s = kept_over (worlds_in s.worlds) (trees s.nodes) s.pairs.keys (paths_of s.from)
 
 -- the numbers of the residuals of the kept pairs
 abbrev pub labels_of : Space → List ℕ

@@ -1,5 +1,6 @@
 // The search space.
 ghost use Rattle.std.specs.Prelude.{◌≡◌, [], length, IfOk};
+ghost use Rattle.tl_action.specs.Listers.{ListsFor};
 ghost use Rattle.tl_nodes.specs.Numbers.{trees};
 ghost use Rattle.tl_space.specs.Kept.{AreKeptBy};
 ghost use Rattle.tl_space.specs.KeptOnce.{kept-prop, all-remembered-prop, found-prop};
@@ -22,9 +23,11 @@ mod root;
 mod view;
 
 use crate::arrivals::Arrivals;
-use crate::numbers::{Met, Numbers};
+use crate::numbers::Numbers;
+use crate::ways::Ways;
 use indexmap::IndexSet;
 use std::alloc::Global;
+use tl_action::Lister;
 use tl_eval::Env;
 use tl_nodes::Nodes;
 use tl_progress::Residuals;
@@ -35,29 +38,65 @@ use tl_world::{Task, Unmet, Worlds};
 ///
 /// No call changes the task, the tree of a number, or the number, label, world or path of a kept pair. A pair is kept as the last growth of a call: after a refused call the kept pairs are as before, and the same call can be made again.
 /// A pair is two numbers, that of its world and that of its residual. What came of an arrival is remembered by its world and the formula that came in, where there is memory for it, so progression is asked once for each; and what formulas that come in to one world have in common is progressed once for the world.
+/// Actions are looked at under a frame of their own. That of formulas has no values between calls, so progression need not put any away.
 #[derive(Drop)]
 pub struct Space {
     pub(crate) alloc: Global,
     pub(crate) task: Task,
     pub(crate) env: Env,
+    pub(crate) frame: Env,
+    pub(crate) lister: Lister,
     pub(crate) worlds: Worlds,
     pub(crate) nodes: Nodes,
     pub(crate) pairs: IndexSet<Numbers>,
-    pub(crate) from: Vec<Met>,
+    pub(crate) from: Ways,
     pub(crate) arrivals: Arrivals,
     pub(crate) residuals: Residuals,
     pub(crate) unmet: Unmet,
+    ghost lists: { ListsFor task lister },
     ghost named_worlds: { Each (WorldIsNamed (length task.problem.names)) (worlds_in worlds) } by { worlds_named-prop (length task.problem.names) (worlds_in worlds) },
-    ghost kept: { AreKeptBy (signature_of task.problem.domain) (length task.problem.names) (plain_problem task.problem) (worlds_in worlds) (trees nodes) pairs.keys from.items } by { kept-prop (signature_of task.problem.domain) (length task.problem.names) (plain_problem task.problem) (worlds_in worlds) (trees nodes) pairs.keys from.items },
+    ghost kept: { AreKeptBy (signature_of task.problem.domain) (length task.problem.names) (plain_problem task.problem) (worlds_in worlds) (trees nodes) pairs.keys from } by { kept-prop (signature_of task.problem.domain) (length task.problem.names) (plain_problem task.problem) (worlds_in worlds) (trees nodes) pairs.keys from },
     ghost remembered: { AreRemembered (plain_problem task.problem) (worlds_in worlds) (trees nodes) pairs.keys arrivals } by { all-remembered-prop (plain_problem task.problem) (worlds_in worlds) (trees nodes) pairs.keys arrivals },
     ghost found: { AreFound (plain_problem task.problem) (worlds_in worlds) (trees nodes) residuals } by { found-prop (plain_problem task.problem) (worlds_in worlds) (trees nodes) residuals },
 }
 
-/// A frame without values, and the two constants.
-fn begun(alloc: Global, task: &Task) -> Result<(Env, Nodes), NoMemory> {
-    let env = Env::for_task(alloc, task)?;
+/// What a space has beside its task before anything is kept.
+#[derive(Drop)]
+struct Beginning {
+    env: Env,
+    frame: Env,
+    lister: Lister,
+    nodes: Nodes,
+}
+
+/// Two times frames without values.
+fn frames(alloc: Global, task: &Task) -> Result<(Env, Env), NoMemory> {
+    let frame = Env::for_task(alloc, task)?;
+    let env = frame.copy(alloc)?;
+    Ok((env, frame))
+}
+
+/// What is worked out of the operators, and the two constants.
+fn tables(alloc: Global, task: &Task) -> Result<(Lister, Nodes), NoMemory>
+    ensures { IfOk result (λ r. ListsFor task.now r.0) }
+{
+    let lister = Lister::for_task(alloc, task)?;
     let nodes = Nodes::new(alloc)?;
-    Ok((env, nodes))
+    Ok((lister, nodes))
+}
+
+/// What a space of the task begins with.
+fn begun(alloc: Global, task: &Task) -> Result<Beginning, NoMemory>
+    ensures { IfOk result (λ b. ListsFor task.now b.lister) }
+{
+    let (env, frame) = frames(alloc, task)?;
+    let (lister, nodes) = tables(alloc, task)?;
+    Ok(Beginning {
+        env,
+        frame,
+        lister,
+        nodes,
+    })
 }
 
 impl Space {
@@ -69,7 +108,7 @@ impl Space {
         ensures empty { IfOk result (λ s. kept_of s ≡ []) }
     {
         match begun(alloc, &task) {
-            Ok((env, nodes)) => Ok(Space::of(alloc, task, env, nodes)),
+            Ok(beginning) => Ok(Space::of(alloc, task, beginning)),
             Err(fault) => {
                 drop(task);
                 Err(fault)
@@ -77,19 +116,22 @@ impl Space {
         }
     }
 
-    /// The space of the task with these nodes, in which nothing is kept. It takes no memory.
-    fn of(alloc: Global, task: Task, env: Env, nodes: Nodes) -> Space
+    /// The space of the task with what it begins with, in which nothing is kept. It takes no memory.
+    fn of(alloc: Global, task: Task, beginning: Beginning) -> Space
+        requires { ListsFor task beginning.lister }
         ensures task { task_of result ≡ task }
         ensures empty { kept_of result ≡ [] }
     {
         Space {
             alloc,
             task,
-            env,
+            env: beginning.env,
+            frame: beginning.frame,
+            lister: beginning.lister,
             worlds: Worlds::new(alloc),
-            nodes,
+            nodes: beginning.nodes,
             pairs: IndexSet::new(alloc),
-            from: Vec::new(alloc),
+            from: Ways::new(alloc),
             arrivals: Arrivals::new(alloc),
             residuals: Residuals::new(alloc),
             unmet: Unmet { table: 0, row: 0 },

@@ -26,7 +26,7 @@ impl Space {
             &self.nodes,
             &self.task,
             world,
-            &mut self.env,
+            &mut self.frame,
             numbers.label,
         ) {
             Ok(holds) => Ok(holds),

@@ -4,7 +4,7 @@ ghost use Rattle.tl_search.specs.Calls.{ListsActionsAt, AreNamedIn, IsActionsFau
 ghost use Rattle.tl_space.specs.Spaces.{task_of, problem_of, kept_of, Grows};
 
 use super::Space;
-use tl_action::{ActFault, actions};
+use tl_action::ActFault;
 use tl_search::SpaceFault;
 use tl_terms::Actions;
 
@@ -20,7 +20,7 @@ impl Space {
     {
         let numbers = self.numbers(at);
         let world = self.worlds.get(numbers.world);
-        match actions(self.alloc, &self.task, world, &mut self.env) {
+        match self.lister.actions(&self.task, world, &mut self.env) {
             Ok(listed) => Ok(listed),
             Err(ActFault::Range(note)) => Err(SpaceFault::RangeHere(note)),
             Err(ActFault::NoMemory) => Err(SpaceFault::NoMemory),

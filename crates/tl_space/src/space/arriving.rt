@@ -55,19 +55,14 @@ impl Space {
     }
 
     /// What is found of the arrival whose pair has its own numbers.
-    fn find_itself(&mut self, key: Numbers) -> Result<Found, ProgressFault>
-        requires key { AreNumbersIn self.old key }
-        requires itself { node_in self.old key ≡ arriving_in self.old key }
-        ensures keeps { KeepsPairs self.old self.new }
-        ensures found { IfOk result (IsArrivalFound self.new key) }
-        ensures cause { IfErr result (IsProgressFault self.old key) }
+    fn find_itself(&self, key: Numbers) -> Found
+        requires key { AreNumbersIn self.now key }
+        requires itself { node_in self.now key ≡ arriving_in self.now key }
+        ensures { IsArrivalFound self.now key result }
     {
         match self.known(key) {
-            Some(arrival) => Ok(Found::Known(arrival)),
-            None => match self.make_room() {
-                Ok(()) => Ok(Found::New(key)),
-                Err(_) => Err(ProgressFault::NoMemory),
-            },
+            Some(arrival) => Found::Known(arrival),
+            None => Found::New(key),
         }
     }
 
@@ -92,7 +87,7 @@ impl Space {
         ensures cause { IfErr result (IsProgressFault self.old key) }
     {
         if self.leaves_itself(key) {
-            self.find_itself(key)
+            Ok(self.find_itself(key))
         } else {
             self.find_anew(key)
         }
@@ -118,10 +113,7 @@ impl Space {
                 self.remember(key, arrival);
                 Ok(Found::Known(arrival))
             }
-            None => match self.make_room() {
-                Ok(()) => Ok(Found::New(numbers)),
-                Err(_) => Err(ProgressFault::NoMemory),
-            },
+            None => Ok(Found::New(numbers)),
         }
     }
 }

@@ -106,7 +106,7 @@ impl Space {
             &mut self.nodes,
             &self.task,
             self.worlds.get(key.world),
-            &mut self.env,
+            &mut self.frame,
             &mut self.residuals,
             incoming,
         )

@@ -4,7 +4,6 @@ ghost use Rattle.tl_search.specs.Calls.{IsPathOf, AreNamedIn};
 ghost use Rattle.tl_space.specs.Spaces.{task_of, kept_of};
 
 use super::Space;
-use crate::numbers::Met;
 use std::alloc::Global;
 use tl_terms::{Action, Actions, NoMemory};
 
@@ -17,9 +16,9 @@ impl Space {
     {
         let mut back: Vec<Action> = Vec::new(alloc);
         let mut i = at;
-        while let Met::After(j, action) = &self.from[i] {
+        while let Some((j, action)) = self.from.last_step(i) {
             back.push(action.copy(alloc)?)?;
-            i = *j;
+            i = j;
         }
         let mut path = Actions::new(alloc);
         while let Some(action) = back.pop() {

@@ -16,6 +16,7 @@ invariant_of-self c =
     let s = c.args.self.now in
     let stay = added-stay _ (world_after (world_at (worlds_in s.worlds) c.args.from) c.args.changes.now) _ c.number_changed.ensures.kept in
     record {
+      lists = s.lists;
       named_worlds = each-added (WorldIsNamed (name_count s)) _ (world_after (world_at (worlds_in s.worlds) c.args.from) c.args.changes.now) _ c.number_changed.ensures.kept s.named_worlds c.requires.named;
       kept = kept-still s _ _ stay (λ i x e. e);
       remembered = remembered-still s _ _ stay (λ i x e. e);

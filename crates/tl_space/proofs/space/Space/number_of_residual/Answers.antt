@@ -18,6 +18,7 @@ pub invariant_of-self : goal.invariant_of-self
 invariant_of-self c =
     let s = c.args.self.now in
     record {
+      lists = s.lists;
       named_worlds = s.named_worlds;
       kept = kept-still s _ _ (λ i x e. e) c.progress_kept.ensures.kept;
       remembered = remembered-still s _ _ (λ i x e. e) c.progress_kept.ensures.kept;

@@ -14,6 +14,7 @@ invariant_of-self c =
     let s = c.args.self.now in
     let stay = added-stay _ c.args.world _ c.number.ensures.kept in
     record {
+      lists = s.lists;
       named_worlds = each-added (WorldIsNamed (name_count s)) _ c.args.world _ c.number.ensures.kept s.named_worlds c.requires.named;
       kept = kept-still s _ _ stay (λ i x e. e);
       remembered = remembered-still s _ _ stay (λ i x e. e);

@@ -9,8 +9,9 @@ use Rattle.tl_space.proofs.space.Space.of.Goals as goal
 
 pub invariant_of-result : goal.invariant_of-result
 invariant_of-result c = record {
+  lists = c.requires;
   named_worlds = subst (Each (WorldIsNamed _)) (sym c.new.ensures) tt;
-  kept = kept-by-none _ _ _ _ _ _ _ c.new-2.ensures.empty c.new-3.ensures.items;
+  kept = kept-by-none _ _ _ _ _ _ _ c.new-2.ensures.empty c.new-3.ensures;
   remembered = subst (AreRemembered (plain_problem c.args.task.problem) _ _ _) (sym c.new-4.ensures) tt;
   found = none-found (plain_problem c.args.task.problem) _ _ _ c.new-5.ensures;
 }

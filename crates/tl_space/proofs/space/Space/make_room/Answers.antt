@@ -1,5 +1,0 @@
-use Rattle.std.proofs.Common.{arith}
-use Rattle.tl_space.proofs.space.Space.make_room.Goals as goal
-
-pub returns-clause-room : goal.returns-clause-room
-returns-clause-room c = omega (arith, c.in_ok-reserve.ensures.ok)
