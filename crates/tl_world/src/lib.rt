@@ -11,6 +11,7 @@
 //! - `kept`: which tables keep their rows by the second value too.
 //! - `world`: the world itself, with its look-ups, its matches and its changes.
 //! - `worlds`: worlds by numbers.
+//! - `marks`: numbers of worlds by marks, as guesses.
 //! - `table_name`, `table_numbers`: names of the tables of worlds, and their numbers, by which equal ones are told.
 //! - `task`: a problem with its initial world and its goal as worlds, and the goal test; `unmet`: where a goal test failed.
 //! - `pattern`: patterns of facts and of places, and the tuples that make them true.
@@ -32,6 +33,7 @@ mod is_after;
 mod kept;
 pub mod laws;
 mod mark;
+mod marks;
 mod match_reader;
 mod matches;
 mod moves;

@@ -4,10 +4,11 @@ ghost use Rattle.tl_terms.specs.World.{World as PlainWorld};
 ghost use Rattle.tl_world.specs.TableNumbers.{changes_table, standing, tables_in, AreNumbered, AreTableNumbers, ComesFrom, IsTableNumber};
 
 use crate::World;
+use crate::marks::Marks;
 use crate::named_facts::has_pred;
 use crate::places_beside::has_fun;
 use crate::table_name::TableName;
-use indexmap::{IndexMap, IndexSet};
+use indexmap::IndexSet;
 use std::alloc::Global;
 use tl_syntax::{Fact, NoMemory, PlaceValue};
 
@@ -19,7 +20,7 @@ pub(crate) struct TableNumbers {
     pub(crate) alloc: Global,
     pub(crate) starts: Vec<usize>,
     pub(crate) all: Vec<u32>,
-    by_mark: IndexMap<u64, u32>,
+    by_mark: Marks,
 }
 
 /// Where a world comes from: the number of another one, the facts that are deleted and added, and the places that are set.
@@ -53,30 +54,23 @@ fn world_at(worlds: &IndexSet<World>, number: u32) -> &World
 }
 
 /// The number of the table, where a world before is found that has the same one.
-fn known(
-    by_mark: &IndexMap<u64, u32>,
-    worlds: &IndexSet<World>,
-    world: &World,
-    table: TableName,
-) -> Option<u32>
+fn known(by_mark: &Marks, worlds: &IndexSet<World>, world: &World, table: TableName) -> Option<u32>
     ensures { IfSome result (IsTableNumber worlds.now.keys table world.now) }
 {
-    let number = *by_mark.get(&world.mark_of_table(table))?;
-    let other = worlds.get_index(number as usize)?;
+    let number = by_mark.get(world.mark_of_table(table))?;
+    if number > u32::MAX as usize {
+        return None;
+    }
+    let other = worlds.get_index(number)?;
     if other.is_alike(world, table) {
-        Some(number)
+        Some(number as u32)
     } else {
         None
     }
 }
 
 /// The number of the table that the world of a number has: that of a world before, or else its own, which is noted then.
-fn number_anew(
-    by_mark: &mut IndexMap<u64, u32>,
-    worlds: &IndexSet<World>,
-    number: u32,
-    table: TableName,
-) -> u32
+fn number_anew(by_mark: &mut Marks, worlds: &IndexSet<World>, number: u32, table: TableName) -> u32
     requires { number < length worlds.now.keys }
     ensures { (w : PlainWorld) → slice_get worlds.now.keys number ≡ Some w
         → IsTableNumber worlds.now.keys table w result }
@@ -85,10 +79,7 @@ fn number_anew(
     match known(by_mark, worlds, world, table) {
         Some(before) => before,
         None => {
-            match by_mark.insert(world.mark_of_table(table), number) {
-                Ok(_) => {}
-                Err(_) => {}
-            }
+            by_mark.note(world.mark_of_table(table), number);
             number
         }
     }
@@ -104,7 +95,7 @@ impl TableNumbers {
             alloc,
             starts: Vec::new(alloc),
             all: Vec::new(alloc),
-            by_mark: IndexMap::new(alloc),
+            by_mark: Marks::new(alloc),
         }
     }
 

@@ -7,8 +7,9 @@ ghost use Rattle.tl_world.specs.Unchanged.{IsNumberAfter, changed_world};
 
 use crate::World;
 use crate::is_after::Numbered;
+use crate::marks::Marks;
 use crate::table_numbers::{Source, TableNumbers};
-use indexmap::{IndexMap, IndexSet};
+use indexmap::IndexSet;
 use std::alloc::Global;
 use tl_syntax::{Fact, NoMemory, PlaceValue};
 
@@ -19,19 +20,16 @@ use tl_syntax::{Fact, NoMemory, PlaceValue};
 pub struct Worlds {
     alloc: Global,
     table: IndexSet<World>,
-    by_mark: IndexMap<u64, usize>,
+    by_mark: Marks,
     numbers: TableNumbers,
     pub ghost one_to_one: { IsOnce table.keys },
     ghost numbered: { AreNumbered table.keys numbers.starts.items numbers.all.items },
 }
 
 /// Notes the number of a new world with the mark, where there is memory for it.
-fn note(by_mark: &mut IndexMap<u64, usize>, is_new: bool, mark: u64, number: usize) {
-    if is_new {
-        match by_mark.insert(mark, number) {
-            Ok(_) => {}
-            Err(_) => {}
-        }
+fn note(by_mark: &mut Marks, is_new: bool, mark: u64, number: usize) {
+    if is_new && number <= u32::MAX as usize {
+        by_mark.note(mark, number as u32);
     }
 }
 
@@ -45,7 +43,7 @@ impl Worlds {
         Worlds {
             alloc,
             table: IndexSet::new(alloc),
-            by_mark: IndexMap::new(alloc),
+            by_mark: Marks::new(alloc),
             numbers: TableNumbers::new(alloc),
         }
     }
@@ -127,9 +125,7 @@ impl Worlds {
             (IsNumberAfter (worlds_in self.now) from dels.now adds.now sets.now) }
     {
         let before = self.numbered(from);
-        let number = *self
-            .by_mark
-            .get(&before.world.mark_after(dels, adds, sets))?;
+        let number = self.by_mark.get(before.world.mark_after(dels, adds, sets))?;
         if number < self.table.len() && self.numbered(number).is_after(&before, dels, adds, sets) {
             Some(number)
         } else {

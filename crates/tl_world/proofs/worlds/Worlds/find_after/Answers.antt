@@ -9,5 +9,5 @@ is_after-requires c =
 
 pub returns-then-is_after : goal.returns-then-is_after
 returns-then-is_after c =
-    number-after (worlds_in c.args.self.now) c.args.from c.in_ok-number.field-0.now c.numbered-before.result.world.now c.numbered.result.world.now c.args.dels.now c.args.adds.now c.args.sets.now
+    number-after (worlds_in c.args.self.now) c.args.from c.in_ok-number.number c.numbered-before.result.world.now c.numbered.result.world.now c.args.dels.now c.args.adds.now c.args.sets.now
     c.numbered-before.ensures.world c.numbered.ensures.world (c.is_after.ensures.facts c.if-is_after.true) (c.is_after.ensures.places c.if-is_after.true)
