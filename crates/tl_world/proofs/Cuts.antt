@@ -1,10 +1,8 @@
 -- Rows of a list that is cut by the places at which they end.
-use Rattle.std.proofs.Common.{◌≡◌, ℕ, zero, suc, ◌+◌, ◌-◌, ◌<◌, ◌≤◌, List, [], ◌∷◌, ◌++◌, length, map, get_or, take, drop, refl, sym, ap, ◌∙◌, subst, arith}
+use Rattle.std.proofs.Common.{◌≡◌, ℕ, zero, suc, ◌+◌, ◌-◌, ◌<◌, ◌≤◌, List, [], ◌∷◌, ◌++◌, length, get_or, take, drop, refl, sym, ap, ◌∙◌, subst, arith}
 use Rattle.std.proofs.lemmas.List.{take_all, drop_all, take-append-le, drop-append-le, take-append-drop, length-drop, length-take-le}
 use Rattle.std.proofs.Math.Seq.{take-append_seam, drop-append_seam}
-use Rattle.std.specs.Prelude.{slice_set}
-use Rattle.tl_syntax.specs.Lists.{Each}
-use Rattle.tl_world.specs.Cuts.{rows_between, AreEnds, begin}
+use Rattle.tl_world.specs.Cuts.{rows_between, AreEnds, begin, grown, moved}
 
 pub begin-after : (from : ℕ) (es : List ℕ) (k d : ℕ) → k < length es → begin from es (suc k) ≡ get_or es k d
 begin-after from [] k d p = absurd (omega arith)
@@ -17,6 +15,10 @@ begin-after from (e ∷ es) (suc k) d p = begin-after e es k d (omega arith)
 pub within : (from : ℕ) (es : List ℕ) (n : ℕ) → AreEnds from es n → from ≤ n
 within from [] n h = omega (arith, h)
 within from (e ∷ es) n h = let q = within e es n h.1 in omega (arith, h.0, q)
+
+pub end-is : (from : ℕ) (es : List ℕ) (n : ℕ) → AreEnds from es n → begin from es (length es) ≡ n
+end-is from [] n h = h
+end-is from (e ∷ es) n h = end-is e es n h.1
 
 pub begins-before-end : (from : ℕ) (es : List ℕ) (n k d : ℕ) → AreEnds from es n → k < length es → begin from es k ≤ get_or es k d
 begins-before-end from [] n k d h p = absurd (omega arith)
@@ -60,7 +62,7 @@ module _ {X : Type 0} where
       λ i. same-row from e xs row h.0 (within e es (length xs) h.1) i ∷ push-between e n es xs row h.1 is i
 
 -- the rows one after another, and where they end
-abbrev flattened : {X : Type 0} → List (List X) → List X
+abbrev pub flattened : {X : Type 0} → List (List X) → List X
 flattened [] = []
 flattened (r ∷ rs) = r ++ flattened rs
 
@@ -75,7 +77,7 @@ module _ {X : Type 0} where
   drop-more (suc from) n (suc e) [] is = drop_all n [] (let p : 0 ≤ n = omega arith in p)
   drop-more (suc from) n (suc e) (x ∷ xs) is = drop-more from n e xs (omega (arith, is))
 
-  values-back : (from : ℕ) (es : List ℕ) (xs : List X) → AreEnds from es (length xs) → flattened (rows_between from es xs) ≡ drop from xs
+  pub values-back : (from : ℕ) (es : List ℕ) (xs : List X) → AreEnds from es (length xs) → flattened (rows_between from es xs) ≡ drop from xs
   values-back from [] xs h = sym (drop_all from xs (let p : length xs ≤ from = omega (arith, h) in p))
   values-back from (e ∷ es) xs h =
       ap (λ ys. take (e - from) (drop from xs) ++ ys) (values-back e es xs h.1 ∙ sym (drop-more from (e - from) e xs (let p : e ≡ from + (e - from) = omega (arith, h.0) in p)))
@@ -93,10 +95,6 @@ module _ {X : Type 0} where
   -- the list and the ends are those of the rows
   pub cuts-back : (es fs : List ℕ) (xs ys : List X) → AreEnds 0 es (length xs) → AreEnds 0 fs (length ys) → rows_between 0 es xs ≡ rows_between 0 fs ys → (es ≡ fs) × (xs ≡ ys)
   cuts-back es fs xs ys h k e = (sym (ends-back 0 es xs h) ∙ (ap (ends_of 0) e ∙ ends-back 0 fs ys k), sym (values-back 0 es xs h) ∙ (ap flattened e ∙ values-back 0 fs ys k))
-
--- ends that are moved
-abbrev pub moved : ℕ → ℕ → List ℕ → List ℕ
-moved start place es = map (λ e. e - start + place) es
 
 taken-ends : (from n m : ℕ) (es : List ℕ) → AreEnds from es n → m ≤ length es → AreEnds from (take m es) (begin from es m)
 taken-ends from n zero es h p = first from es
@@ -125,18 +123,6 @@ begin-within from n (suc k) (e ∷ es) h p = begin-within e n k es h.1 (omega ar
 
 pub begin-rises : (from n k m : ℕ) (es : List ℕ) → AreEnds from es n → k ≤ m → m ≤ length es → begin from es k ≤ begin from es m
 begin-rises from n k m es h p q = within _ _ _ (run-ends from n k (m - k) m es (let e : m ≡ k + (m - k) = omega (arith, p) in e) h q)
-
--- the ends counted from the last one
-pub moved-same : (start place a end after : ℕ) (hs : List ℕ) → start ≤ a → AreEnds a hs end → after ≡ end - start + place → map (λ e. after - (end - e)) hs ≡ moved start place hs
-moved-same start place a end after [] p h is = refl
-moved-same start place a end after (e ∷ hs) p h is =
-    let w = within e hs end h.1 in
-    let here : after - (end - e) ≡ e - start + place = omega (arith, is, p, h.0, w) in
-    λ i. here i ∷ moved-same start place e end after hs (omega (arith, p, h.0)) h.1 is i
-
-pub each-counted : (a end after : ℕ) (hs : List ℕ) → AreEnds a hs end → end - a ≤ after → Each (λ e. (e ≤ end) × (end - e ≤ after)) hs
-each-counted a end after [] h p = tt
-each-counted a end after (e ∷ hs) h p = let w = within e hs end h.1 in ((w, omega (arith, h.0, p)), each-counted e end after hs h.1 (omega (arith, h.0, p)))
 
 moved-ends : (start place a : ℕ) (hs : List ℕ) (end : ℕ) → start ≤ a → AreEnds a hs end → AreEnds (a - start + place) (moved start place hs) (end - start + place)
 moved-ends start place a [] end p h = ap (λ x. x - start + place) h
@@ -223,23 +209,6 @@ module _ {X : Type 0} where
       append-ends 0 (length xs) m es (moved a (length xs) hs) h
       (subst (λ z. AreEnds (length xs) (moved a (length xs) hs) z) (sym e) (subst (λ z. AreEnds z (moved a (length xs) hs) (begin 0 fs to - a + length xs)) low (moved-ends a (length xs) a hs (begin 0 fs to) (let r : a ≤ a = omega arith in r) run)))
 
--- numbers that grew
-abbrev pub grown : ℕ → List ℕ → List ℕ
-grown w es = map (λ n. n + w) es
-
--- the numbers after a place grew, and now that at it
-pub set-grown : (w : ℕ) (ns : List ℕ) (k d : ℕ) → k < length ns → slice_set (take (suc k) ns ++ grown w (drop (suc k) ns)) k (get_or (take (suc k) ns ++ grown w (drop (suc k) ns)) k d + w) ≡ take k ns ++ grown w (drop k ns)
-set-grown w [] k d p = absurd (omega arith)
-set-grown w (n ∷ ns) zero d p = refl
-set-grown w (n ∷ ns) (suc k) d p = ap (λ ms. n ∷ ms) (set-grown w ns k d (omega arith))
-
-pub next-fits : (w m : ℕ) (ns : List ℕ) (from k d : ℕ) → from ≤ k → k < length ns → Each (λ n. n + w < m) (drop from ns) → get_or (take (suc k) ns ++ grown w (drop (suc k) ns)) k d + w < m
-next-fits w m [] from k d q p h = absurd (omega arith)
-next-fits w m (n ∷ ns) zero zero d q p h = h.0
-next-fits w m (n ∷ ns) zero (suc k) d q p h = next-fits w m ns zero k d (omega arith) (omega arith) h.1
-next-fits w m (n ∷ ns) (suc from) zero d q p h = absurd (omega (arith, q))
-next-fits w m (n ∷ ns) (suc from) (suc k) d q p h = next-fits w m ns from k d (omega (arith, q)) (omega arith) h
-
 pub grown-ends : (a w n : ℕ) (es : List ℕ) → AreEnds a es n → AreEnds (a + w) (grown w es) (n + w)
 grown-ends a w n [] h = ap (λ m. m + w) h
 grown-ends a w n (e ∷ es) h = ((let p : a + w ≤ e + w = omega (arith, h.0) in p), grown-ends e w n es h.1)
@@ -248,15 +217,6 @@ pub put-ends : (from w n : ℕ) (es : List ℕ) (k : ℕ) → AreEnds from es n 
 put-ends from w n es zero h p = ((let q : from ≤ from + w = omega arith in q), grown-ends from w n es h)
 put-ends from w n [] (suc k) h p = absurd (omega (arith, p))
 put-ends from w n (e ∷ es) (suc k) h p = (h.0, put-ends e w n es k h.1 (omega (arith, p)))
-
-pub each-fits : (w m : ℕ) (from n : ℕ) (es : List ℕ) (k : ℕ) → AreEnds from es n → k ≤ length es → n + w < m → Each (λ e. e + w < m) (begin from es k ∷ drop k es)
-each-fits w m from n es zero h p q = ((let r = within from es n h in let t : from + w < m = omega (arith, r, q) in t), all-fit from n es h q)
-  where
-    all-fit : (from n : ℕ) (es : List ℕ) → AreEnds from es n → n + w < m → Each (λ e. e + w < m) es
-    all-fit from n [] h q = tt
-    all-fit from n (e ∷ es) h q = ((let r = within e es n h.1 in let t : e + w < m = omega (arith, r, q) in t), all-fit e n es h.1 q)
-each-fits w m from n [] (suc k) h p q = absurd (omega (arith, p))
-each-fits w m from n (e ∷ es) (suc k) h p q = each-fits w m e n es k h.1 (omega (arith, p)) q
 
 module _ {X : Type 0} where
   -- what stood from a place on stands w further on

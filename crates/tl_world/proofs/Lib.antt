@@ -1,4 +1,5 @@
 pub mod Cuts
+pub mod Evenly
 pub mod Pushing
 pub mod Inserting
 pub mod Parts
@@ -38,6 +39,7 @@ pub mod Lacking
 pub mod Finite
 pub mod Numbering
 pub mod Moving
+pub mod Strides
 pub mod Exchanged
 pub mod Beside
 pub mod Falling

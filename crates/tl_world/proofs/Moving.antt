@@ -14,13 +14,13 @@ module _ {X : Type 0} where
   to-end : (xs : List X) (k n : ℕ) → n ≡ length xs → take (n - k) (drop k xs) ≡ drop k xs
   to-end xs k n e = let l : length (drop k xs) ≡ length xs - k = length-drop k xs in take_all (n - k) (drop k xs) (omega (arith, l, e))
 
-  back : (xs : List X) (at cut k : ℕ) (x : X) → at + k ≡ cut → cut < length xs → ((take at xs ++ x ∷ []) ++ take k (drop at xs)) ++ drop (suc cut) xs ≡ remove (insert xs at x) (suc cut)
+  pub back : (xs : List X) (at cut k : ℕ) (x : X) → at + k ≡ cut → cut < length xs → ((take at xs ++ x ∷ []) ++ take k (drop at xs)) ++ drop (suc cut) xs ≡ remove (insert xs at x) (suc cut)
   back [] at cut k x e p = absurd (omega arith)
   back (y ∷ xs) zero cut k x e p = ap (λ i. x ∷ (take i (y ∷ xs) ++ drop cut xs)) (let q : k ≡ cut = omega (arith, e) in q)
   back (y ∷ xs) (suc at) zero k x e p = absurd (omega (arith, e))
   back (y ∷ xs) (suc at) (suc cut) k x e p = ap (λ zs. y ∷ zs) (back xs at cut k x (omega (arith, e)) (omega arith))
 
-  on : (xs : List X) (cut k at : ℕ) (x : X) → suc cut + k ≡ at → at ≤ length xs → ((take cut xs ++ take k (drop (suc cut) xs)) ++ x ∷ []) ++ drop at xs ≡ remove (insert xs at x) cut
+  pub on : (xs : List X) (cut k at : ℕ) (x : X) → suc cut + k ≡ at → at ≤ length xs → ((take cut xs ++ take k (drop (suc cut) xs)) ++ x ∷ []) ++ drop at xs ≡ remove (insert xs at x) cut
   on [] cut k at x e p = absurd (omega (arith, e))
   on (y ∷ xs) zero k zero x e p = absurd (omega (arith, e))
   on (y ∷ xs) zero k (suc at) x e p = append_assoc (take k xs) (x ∷ []) (drop at xs) ∙ ap (λ i. take i xs ++ x ∷ drop at xs) (let q : k ≡ at = omega (arith, e) in q)

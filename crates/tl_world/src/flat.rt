@@ -1,12 +1,12 @@
 // Rows one after another in one list.
-ghost use Rattle.std.specs.List.{insert};
-ghost use Rattle.std.specs.Prelude.{◌≡◌, ◌<◌, ◌≤◌, ◌+◌, ◌-◌, ◌^◌, List, [], ◌∷◌, ◌++◌, length, map, take, drop, slice_index_or, IfOk, OnOk};
+ghost use Rattle.std.specs.List.{insert, remove};
+ghost use Rattle.std.specs.Prelude.{◌≡◌, ◌<◌, ◌≤◌, ◌+◌, ◌-◌, ◌^◌, ◌↔◌, List, [], ◌∷◌, ◌++◌, length, take, drop, slice_index_or, true, IfOk, OnOk};
 ghost use Rattle.tl_syntax.proofs.Telling.{tells-partial};
-ghost use Rattle.tl_syntax.specs.Lists.{Each};
-ghost use Rattle.tl_world.specs.Cuts.{begin};
+ghost use Rattle.tl_world.specs.Moves.{place_after};
 ghost use Rattle.tl_world.specs.Runs.{between};
 ghost use Rattle.tl_world.specs.RowTests.{rows_eq, rows-tell};
 
+use crate::ends::Ends;
 use crate::same_row::is_same_row;
 use std::alloc::Global;
 use std::marker::Model;
@@ -15,7 +15,7 @@ use tl_syntax::{NoMemory, Value};
 /// Rows one after another in one list, each of a length of its own. Contracts see the list of the rows.
 #[derive(Drop)]
 pub(crate) struct Flat {
-    ends: Vec<usize>,
+    ends: Ends,
     values: Vec<Value>,
 }
 
@@ -26,17 +26,9 @@ impl Model for Flat {
 
     ghost Value = { List (List PlainValue) };
 
-    ghost view = { λ f. rows_between 0 f.ends.items f.values.items };
+    ghost view = { λ f. rows_between 0 f.ends f.values.items };
 
-    ghost invariant = { λ f. AreEnds 0 f.ends.items (length f.values.items) };
-}
-
-/// The place at which row `k` begins, by the places at which rows end.
-fn begin(ends: &[usize], k: usize) -> usize
-    requires { k ≤ length ends.now }
-    ensures { result ≡ begin 0 ends.now k }
-{
-    if k == 0 { 0 } else { ends[k - 1] }
+    ghost invariant = { λ f. AreEnds 0 f.ends (length f.values.items) };
 }
 
 /// The values from a place on up to another.
@@ -46,50 +38,6 @@ fn part(values: &[Value], from: usize, to: usize) -> &[Value]
     ensures { result.now ≡ take (to - from) (drop from values.now) }
 {
     &values[from..to]
-}
-
-/// The ends from a place on up to another.
-fn part_of_ends(ends: &[usize], from: usize, to: usize) -> &[usize]
-    requires order { from ≤ to }
-    requires bound { to ≤ length ends.now }
-    ensures { result.now ≡ take (to - from) (drop from ends.now) }
-{
-    &ends[from..to]
-}
-
-/// More ends, moved so that `last` becomes `after`, or in one copy where that is the same. After a failure the first ends are those of before.
-fn push_moved(
-    ends: &mut Vec<usize>,
-    more: &[usize],
-    last: usize,
-    after: usize,
-) -> Result<(), NoMemory>
-    requires low { Each (λ e. (e ≤ last) × (last - e ≤ after)) more.now }
-    ensures all { OnOk result (ends.new.items ≡ ends.old.items ++ map (λ e. after - (last - e)) more.now) }
-    ensures first { take (length ends.old.items) ends.new.items ≡ ends.old.items }
-{
-    if after == last {
-        ends.extend_from_slice(more)?;
-        return Ok(());
-    }
-    ends.reserve(more.len())?;
-    for e in more {
-        ends.push(after - (last - e))?;
-    }
-    Ok(())
-}
-
-/// Adds to each number from a place on.
-fn add_to_rest(numbers: &mut [usize], from: usize, more: usize)
-    requires bound { from ≤ length numbers.old }
-    requires fit { Each (λ n. n + more < 2 ^ 64) (drop from numbers.old) }
-    ensures { numbers.new ≡ take from numbers.old ++ map (λ n. n + more) (drop from numbers.old) }
-{
-    let mut k = numbers.len();
-    while k > from {
-        k -= 1;
-        numbers[k] += more;
-    }
 }
 
 /// The row's values, put before the others from a place on. A failure leaves any of them there.
@@ -109,29 +57,69 @@ fn put_values(values: &mut Vec<Value>, at: usize, row: &[Value]) -> Result<(), N
     Ok(())
 }
 
+/// Writes the row's values over others from a place on.
+#[inline]
+fn write_values(values: &mut Vec<Value>, at: usize, row: &[Value])
+    requires { at + length row.now ≤ length values.old.items }
+    ensures { values.new.items ≡ take at values.old.items ++ (row.now ++ drop (at + length row.now) values.old.items) }
+{
+    let mut j = 0;
+    while j < row.len() {
+        values[at + j] = row[j];
+        j += 1;
+    }
+}
+
+/// Puts the row's values before those from `at` on, and takes as many out from the place `cut` on, which is not before it.
+#[inline]
+fn shift_back(values: &mut Vec<Value>, at: usize, cut: usize, row: &[Value])
+    requires order { at ≤ cut }
+    requires bound { cut + length row.now ≤ length values.old.items }
+    ensures { values.new.items ≡ take at values.old.items ++ (row.now ++ (take (cut - at) (drop at values.old.items) ++ drop (cut + length row.now) values.old.items)) }
+{
+    values.copy_within(at..cut, at + row.len());
+    write_values(values, at, row);
+}
+
+/// Puts the row's values before those from `at` on, and takes as many out from the place `cut` on, which all come before it.
+#[inline]
+fn shift_on(values: &mut Vec<Value>, cut: usize, at: usize, row: &[Value])
+    requires order { cut + length row.now ≤ at }
+    requires bound { at ≤ length values.old.items }
+    ensures { values.new.items ≡ take cut values.old.items ++ (take (at - (cut + length row.now)) (drop (cut + length row.now) values.old.items) ++ (row.now ++ drop at values.old.items)) }
+{
+    let size = row.len();
+    values.copy_within(cut + size..at, cut);
+    write_values(values, at - size, row);
+}
+
 impl PartialEq for Flat {
     ghost eq = { λ x y. rows_eq x y };
 
     ghost laws = { tells-partial rows_eq rows-tell };
 
     fn eq(&self, other: &Flat) -> bool {
-        self.ends == other.ends && is_same_row(self.values.as_slice(), other.values.as_slice())
+        if self.ends.are_even(&other.ends) {
+            return is_same_row(self.values.as_slice(), other.values.as_slice());
+        }
+        self.len() == other.len() && self.has_each_at(0, other)
     }
 }
 
 impl Flat {
-    /// No rows, with room for as many rows, and values in all, as are given.
-    pub(crate) fn with_room(alloc: Global, rows: usize, values: usize) -> Result<Flat, NoMemory>
+    /// No rows, with room for as many values as are given.
+    pub(crate) fn with_room(alloc: Global, values: usize) -> Result<Flat, NoMemory>
         ensures { IfOk result (λ f. f ≡ []) }
     {
         Ok(Flat {
-            ends: Vec::with_capacity(alloc, rows)?,
+            ends: Ends::none(alloc),
             values: Vec::with_capacity(alloc, values)?,
         })
     }
 
     /// How many rows there are.
     #[tactic(auto, using(crate::proofs::Cuts::cuts))]
+    #[inline]
     pub(crate) fn len(&self) -> usize
         ensures len { result ≡ length self.now }
         ensures small { result < 2 ^ 63 }
@@ -151,8 +139,7 @@ impl Flat {
         requires { k < length self.now }
         ensures { result.now ≡ slice_index_or self.now k result.now }
     {
-        let ends = self.ends.as_slice();
-        part(self.values.as_slice(), begin(ends, k), ends[k])
+        part(self.values.as_slice(), self.ends.begin(k), self.ends.end(k))
     }
 
     /// How many rows from place `k` on are those of the other from place `l` on, by a comparison of each.
@@ -173,42 +160,79 @@ impl Flat {
         n
     }
 
+    /// Whether the rows stand in these from the place on, by a comparison of each row.
+    fn has_each_at(&self, at: usize, rows: &Flat) -> bool
+        requires bound { at + length rows.now ≤ length self.now }
+        requires small { at + length rows.now < 2 ^ 64 }
+        ensures { (result ≡ true) ↔ (between self.now at (at + length rows.now) ≡ rows.now) }
+    {
+        let mut i = 0;
+        while i < rows.len() {
+            if !is_same_row(self.row(at + i), rows.row(i)) {
+                return false;
+            }
+            i += 1;
+        }
+        true
+    }
+
     /// One more row at the end.
-    pub(crate) fn push(&mut self, row: &[Value]) -> Result<(), NoMemory>
+    pub(crate) fn push(&mut self, alloc: Global, row: &[Value]) -> Result<(), NoMemory>
         ensures { OnOk result (self.new ≡ self.old ++ row.now ∷ []) }
     {
         let before = self.values.len();
         self.values.extend_from_slice(row)?;
-        match self.ends.push(self.values.as_slice().len()) {
+        match self.ends.push(alloc, row.len()) {
             Ok(()) => Ok(()),
             Err(fault) => {
                 self.values.truncate(before);
-                Err(NoMemory::from(fault))
+                Err(fault)
             }
         }
     }
 
-    /// The rows `from..to` of the other at the end.
-    pub(crate) fn push_rows(&mut self, other: &Flat, from: usize, to: usize) -> Result<(), NoMemory>
+    /// The rows `from..to` of the other at the end, one after another.
+    fn push_each(
+        &mut self,
+        alloc: Global,
+        other: &Flat,
+        from: usize,
+        to: usize,
+    ) -> Result<(), NoMemory>
         requires range { from ≤ to }
         requires bound { to ≤ length other.now }
         ensures { OnOk result (self.new ≡ self.old ++ between other.now from to) }
     {
-        let ends = other.ends.as_slice();
-        let last = begin(ends, to);
-        let rows = self.ends.as_slice().len();
-        let values = self.values.as_slice().len();
-        self.values
-            .extend_from_slice(part(other.values.as_slice(), begin(ends, from), last))?;
-        let after = self.values.as_slice().len();
-        match push_moved(&mut self.ends, part_of_ends(ends, from, to), last, after) {
-            Ok(()) => Ok(()),
-            Err(fault) => {
-                self.ends.truncate(rows);
-                self.values.truncate(values);
-                Err(fault)
-            }
+        let mut k = from;
+        while k < to {
+            self.push(alloc, other.row(k))?;
+            k += 1;
         }
+        Ok(())
+    }
+
+    /// The rows `from..to` of the other at the end. They are one copy of values where all rows have one length.
+    pub(crate) fn push_rows(
+        &mut self,
+        alloc: Global,
+        other: &Flat,
+        from: usize,
+        to: usize,
+    ) -> Result<(), NoMemory>
+        requires range { from ≤ to }
+        requires bound { to ≤ length other.now }
+        ensures { OnOk result (self.new ≡ self.old ++ between other.now from to) }
+    {
+        let before = self.values.len();
+        let first = other.ends.begin(from);
+        let last = other.ends.begin(to);
+        self.values
+            .extend_from_slice(part(other.values.as_slice(), first, last))?;
+        if self.ends.push_even(&other.ends, from, to) {
+            return Ok(());
+        }
+        self.values.truncate(before);
+        self.push_each(alloc, other, from, to)
     }
 
     /// The rows `from..to` alone.
@@ -217,22 +241,162 @@ impl Flat {
         requires bound { to ≤ length self.now }
         ensures { IfOk result (λ f. f ≡ between self.now from to) }
     {
-        let mut out = Flat::with_room(alloc, to - from, 0)?;
-        out.push_rows(self, from, to)?;
+        let mut out = Flat::with_room(alloc, 0)?;
+        out.push_rows(alloc, self, from, to)?;
         Ok(out)
     }
 
-    /// The rows with one more at place `k`, which is put into them.
-    pub(crate) fn put(self, k: usize, row: &[Value]) -> Result<Flat, NoMemory>
+    /// No rows, with room for all values and those of the row.
+    #[inline]
+    fn with_room_for(&self, alloc: Global, row: &[Value]) -> Result<Flat, NoMemory>
+        ensures { IfOk result (λ f. f ≡ []) }
+    {
+        Flat::with_room(alloc, self.values().saturating_add(row.len()))
+    }
+
+    /// The rows with one more at place `k`.
+    pub(crate) fn with(&self, alloc: Global, k: usize, row: &[Value]) -> Result<Flat, NoMemory>
+        requires { k ≤ length self.now }
+        ensures { IfOk result (λ f. f ≡ insert self.now k row.now) }
+    {
+        let mut out = self.with_room_for(alloc, row)?;
+        out.push_rows(alloc, self, 0, k)?;
+        out.push(alloc, row)?;
+        out.push_rows(alloc, self, k, self.len())?;
+        Ok(out)
+    }
+
+    /// The rows with one more at place `k`, which is put into them where all have its length.
+    pub(crate) fn put(self, alloc: Global, k: usize, row: &[Value]) -> Result<Flat, NoMemory>
         requires { k ≤ length self }
         ensures { IfOk result (λ f. f ≡ insert self k row.now) }
     {
         let mut ends = self.ends;
         let mut values = self.values;
-        let start = begin(ends.as_slice(), k);
+        let start = ends.begin(k);
+        if !ends.put_even(k, row.len()) {
+            let rows = Flat { ends, values };
+            return rows.with(alloc, k, row);
+        }
         put_values(&mut values, start, row)?;
-        ends.insert(k, start)?;
-        add_to_rest(ends.as_mut_slice(), k, row.len());
         Ok(Flat { ends, values })
+    }
+
+    /// The rows without that at place `k`.
+    pub(crate) fn without(&self, alloc: Global, k: usize) -> Result<Flat, NoMemory>
+        requires { k < length self.now }
+        ensures { IfOk result (λ f. f ≡ remove self.now k) }
+    {
+        let count = self.len();
+        let values = self.values().saturating_sub(self.row(k).len());
+        let mut out = Flat::with_room(alloc, values)?;
+        out.push_rows(alloc, self, 0, k)?;
+        out.push_rows(alloc, self, k + 1, count)?;
+        Ok(out)
+    }
+
+    /// The rows with one more at place `at`, and without that at the place `cut`, which is not before it, row by row.
+    fn copied_back(
+        &self,
+        alloc: Global,
+        cut: usize,
+        at: usize,
+        row: &[Value],
+    ) -> Result<Flat, NoMemory>
+        requires order { at ≤ cut }
+        requires bound { cut < length self.now }
+        ensures { IfOk result (λ f. f ≡ remove (insert self.now at row.now) (cut + 1)) }
+    {
+        let count = self.len();
+        let mut out = self.with_room_for(alloc, row)?;
+        out.push_rows(alloc, self, 0, at)?;
+        out.push(alloc, row)?;
+        out.push_rows(alloc, self, at, cut)?;
+        out.push_rows(alloc, self, cut + 1, count)?;
+        Ok(out)
+    }
+
+    /// The same. Where all rows have one length, the values are copied at once, and then those that move are.
+    fn moved_back(
+        &self,
+        alloc: Global,
+        cut: usize,
+        at: usize,
+        row: &[Value],
+    ) -> Result<Flat, NoMemory>
+        requires order { at ≤ cut }
+        requires bound { cut < length self.now }
+        ensures { IfOk result (λ f. f ≡ remove (insert self.now at row.now) (cut + 1)) }
+    {
+        if let Some(ends) = self.ends.copy_even(alloc, row.len()) {
+            let mut values = Vec::from_slice(alloc, self.values.as_slice())?;
+            let from = self.ends.begin(cut);
+            let to = self.ends.begin(at);
+            shift_back(&mut values, to, from, row);
+            return Ok(Flat { ends, values });
+        }
+        self.copied_back(alloc, cut, at, row)
+    }
+
+    /// The rows with one more at place `at`, and without that at the place `cut`, which is before it, row by row.
+    fn copied_on(
+        &self,
+        alloc: Global,
+        cut: usize,
+        at: usize,
+        row: &[Value],
+    ) -> Result<Flat, NoMemory>
+        requires order { cut < at }
+        requires bound { at ≤ length self.now }
+        ensures { IfOk result (λ f. f ≡ remove (insert self.now at row.now) cut) }
+    {
+        let count = self.len();
+        let mut out = self.with_room_for(alloc, row)?;
+        out.push_rows(alloc, self, 0, cut)?;
+        out.push_rows(alloc, self, cut + 1, at)?;
+        out.push(alloc, row)?;
+        out.push_rows(alloc, self, at, count)?;
+        Ok(out)
+    }
+
+    /// The same. Where all rows have one length, the values are copied at once, and then those that move are.
+    fn moved_on(
+        &self,
+        alloc: Global,
+        cut: usize,
+        at: usize,
+        row: &[Value],
+    ) -> Result<Flat, NoMemory>
+        requires order { cut < at }
+        requires bound { at ≤ length self.now }
+        ensures { IfOk result (λ f. f ≡ remove (insert self.now at row.now) cut) }
+    {
+        if let Some(ends) = self.ends.copy_even(alloc, row.len()) {
+            let mut values = Vec::from_slice(alloc, self.values.as_slice())?;
+            let from = self.ends.begin(cut);
+            let to = self.ends.begin(at);
+            shift_on(&mut values, from, to, row);
+            return Ok(Flat { ends, values });
+        }
+        self.copied_on(alloc, cut, at, row)
+    }
+
+    /// The rows with one more at place `at`, and without that at place `cut`, in one copy.
+    pub(crate) fn moved(
+        &self,
+        alloc: Global,
+        cut: usize,
+        at: usize,
+        row: &[Value],
+    ) -> Result<Flat, NoMemory>
+        requires cut { cut < length self.now }
+        requires at { at ≤ length self.now }
+        ensures { IfOk result (λ f. f ≡ remove (insert self.now at row.now) (place_after at cut)) }
+    {
+        if at <= cut {
+            self.moved_back(alloc, cut, at, row)
+        } else {
+            self.moved_on(alloc, cut, at, row)
+        }
     }
 }

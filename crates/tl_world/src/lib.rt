@@ -1,5 +1,6 @@
 //! Worlds: a finite set of facts and a finite map of places to values.
 //!
+//! - `ends`: the places at which rows end that follow one another in one list.
 //! - `flat`: rows in one list.
 //! - `shared`, `runs`, `moves`: rows in runs, which tables share, and edits of them.
 //! - `second`, `second_made`: rows by their second value, and how they are made.
@@ -24,6 +25,7 @@
 
 mod after;
 mod by_second;
+mod ends;
 mod facts;
 mod first;
 mod first_place;

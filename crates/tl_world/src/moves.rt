@@ -13,6 +13,9 @@ impl Runs {
         requires { k < length self.now }
         ensures { IfOk result (λ r. r ≡ remove self.now k) }
     {
+        if let Some(rows) = self.uncut() {
+            return Ok(Runs::of_list(alloc, rows.without(alloc, k)?));
+        }
         let count = self.len();
         let mut out = self.with_room(alloc, 0)?;
         out.push_rows(alloc, self, 0, k)?;
@@ -74,6 +77,9 @@ impl Runs {
         requires at { at ≤ length self.now }
         ensures { IfOk result (λ r. r ≡ remove (insert self.now at row.now) (place_after at cut)) }
     {
+        if let Some(rows) = self.uncut() {
+            return Ok(Runs::of_list(alloc, rows.moved(alloc, cut, at, row)?));
+        }
         if at <= cut {
             self.moved_back(alloc, cut, at, row)
         } else {

@@ -40,10 +40,10 @@ impl Runs {
     pub(crate) fn of_one(alloc: Global, row: &[Value]) -> Result<Runs, NoMemory>
         ensures { IfOk result (λ r. r ≡ row.now ∷ []) }
     {
-        let mut last = Flat::with_room(alloc, 1, row.len())?;
-        last.push(row)?;
+        let mut last = Flat::with_room(alloc, row.len())?;
+        last.push(alloc, row)?;
         Ok(Runs {
-            shared: Shared::with_room(alloc, 0)?,
+            shared: Shared::none(alloc),
             last,
         })
     }
@@ -53,9 +53,20 @@ impl Runs {
         ensures { IfOk result (λ r. r ≡ []) }
     {
         Ok(Runs {
-            shared: Shared::with_room(alloc, 0)?,
-            last: Flat::with_room(alloc, 0, 0)?,
+            shared: Shared::none(alloc),
+            last: Flat::with_room(alloc, 0)?,
         })
+    }
+
+    /// The rows of one list, which are not cut into runs.
+    #[inline]
+    pub(crate) fn of_list(alloc: Global, rows: Flat) -> Runs
+        ensures { result ≡ rows }
+    {
+        Runs {
+            shared: Shared::none(alloc),
+            last: rows,
+        }
     }
 
     /// No rows, with room for runs and last rows as the table has, and for one more run and a row of so many values.
@@ -64,11 +75,7 @@ impl Runs {
     {
         let runs = self.shared.runs();
         let shared = Shared::with_room(alloc, if runs == 0 { 0 } else { runs.saturating_add(2) })?;
-        let last = Flat::with_room(
-            alloc,
-            self.last.len() + 1,
-            self.last.values().saturating_add(values),
-        )?;
+        let last = Flat::with_room(alloc, self.last.values().saturating_add(values))?;
         Ok(Runs { shared, last })
     }
 
@@ -82,7 +89,7 @@ impl Runs {
 
     /// The rows in one list, where they are not cut into runs.
     #[inline(always)]
-    fn uncut(&self) -> Option<&Flat>
+    pub(crate) fn uncut(&self) -> Option<&Flat>
         ensures { IfSome result (λ rows. rows.now ≡ self.now) }
     {
         if self.shared.len() == 0 {
@@ -138,7 +145,7 @@ impl Runs {
     pub(crate) fn close(&mut self, alloc: Global) -> Result<(), NoMemory>
         ensures { OnOk result (self.new ≡ self.old) }
     {
-        let none = Flat::with_room(alloc, 0, 0)?;
+        let none = Flat::with_room(alloc, 0)?;
         let rows = mem::replace(&mut self.last, none);
         self.shared.push_rows(alloc, rows)
     }
@@ -150,7 +157,7 @@ impl Runs {
         if self.last.len() == 0 {
             return self.shared.push(rows.clone()?);
         }
-        let none = Flat::with_room(alloc, 0, 0)?;
+        let none = Flat::with_room(alloc, 0)?;
         let before = mem::replace(&mut self.last, none);
         self.shared.push_rows(alloc, before)?;
         self.shared.push(rows.clone()?)
@@ -172,7 +179,7 @@ impl Runs {
         if count > 0 && from == 0 && to > MOST.saturating_sub(count) {
             self.close(alloc)?;
         }
-        self.last.push_rows(rows, from, to)
+        self.last.push_rows(alloc, rows, from, to)
     }
 
     /// One more row at the end.
@@ -182,7 +189,7 @@ impl Runs {
         if self.last.len() >= MOST {
             self.close(alloc)?;
         }
-        self.last.push(row)
+        self.last.push(alloc, row)
     }
 
     /// Whether the run goes in by sharing: one with few rows is copied, and so is one that fits in with the last rows.
@@ -290,6 +297,11 @@ impl Runs {
         requires { k ≤ length self.now }
         ensures { IfOk result (λ r. r ≡ insert self.now k row.now) }
     {
+        if let Some(rows) = self.uncut()
+            && rows.len() < MOST
+        {
+            return Ok(Runs::of_list(alloc, rows.with(alloc, k, row)?));
+        }
         let mut out = self.with_room(alloc, row.len())?;
         out.push_rows(alloc, self, 0, k)?;
         out.push(alloc, row)?;
@@ -307,7 +319,7 @@ impl Runs {
             return self.with(alloc, k, row);
         }
         let shared = self.shared;
-        let last = self.last.put(k - full, row)?;
+        let last = self.last.put(alloc, k - full, row)?;
         Ok(Runs { shared, last })
     }
 

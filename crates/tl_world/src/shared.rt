@@ -123,6 +123,16 @@ fn is_whole(run: &Run, to: usize) -> bool
 }
 
 impl Shared {
+    /// No runs. It takes no memory.
+    #[inline]
+    pub(crate) fn none(alloc: Global) -> Shared
+        ensures { result ≡ [] }
+    {
+        Shared {
+            runs: Vec::new(alloc),
+        }
+    }
+
     /// No runs, with room for as many as are given.
     pub(crate) fn with_room(alloc: Global, runs: usize) -> Result<Shared, NoMemory>
         ensures { IfOk result (λ s. s ≡ []) }

@@ -6,27 +6,25 @@ use Rattle.tl_world.proofs.flat.Flat.row.Goals as goal
 pub part-requires-clause-order : goal.part-requires-clause-order
 part-requires-clause-order c =
     let k = c.args.k in
-    let es = c.self.inside.ends.items in
+    let es = c.self.inside.ends in
     let below : k < length es = subst (λ n. k < n) (sym (ap length c.self.view_is) ∙ length-between 0 es c.self.inside.values.items) c.requires in
-    subst (λ b. b ≤ get_or c.as_slice-ends.result.now k 0) (sym c.begin.ensures)
-    (subst (λ zs. begin 0 zs k ≤ get_or zs k 0) (sym c.as_slice-ends.ensures.value) (begins-before-end 0 es (length c.self.inside.values.items) k 0 c.self.invariant below))
+    subst (λ b. b ≤ c.end.result) (sym c.begin.ensures) (subst (λ e. begin 0 es k ≤ e) (sym c.end.ensures) (begins-before-end 0 es (length c.self.inside.values.items) k 0 c.self.invariant below))
 
 pub part-requires-clause-bound : goal.part-requires-clause-bound
 part-requires-clause-bound c =
     let k = c.args.k in
-    let es = c.self.inside.ends.items in
+    let es = c.self.inside.ends in
     let below : k < length es = subst (λ n. k < n) (sym (ap length c.self.view_is) ∙ length-between 0 es c.self.inside.values.items) c.requires in
-    subst (λ zs. get_or zs k 0 ≤ length c.as_slice.result.now) (sym c.as_slice-ends.ensures.value)
+    subst (λ e. e ≤ length c.as_slice.result.now) (sym c.end.ensures)
     (subst (λ n. get_or es k 0 ≤ n) (sym (ap length c.as_slice.ensures.value)) (end-within 0 es (length c.self.inside.values.items) k 0 c.self.invariant below))
 
 pub returns : goal.returns
 returns c =
     let k = c.args.k in
-    let es = c.self.inside.ends.items in
+    let es = c.self.inside.ends in
     let xs = c.self.inside.values.items in
     let below : k < length es = subst (λ n. k < n) (sym (ap length c.self.view_is) ∙ length-between 0 es xs) c.requires in
     c.part.ensures
-    ∙ ((λ i. take (get_or (c.as_slice-ends.ensures.value i) k 0 - c.begin.ensures i) (drop (c.begin.ensures i) (c.as_slice.ensures.value i)))
-    ∙ ((λ i. take (get_or es k 0 - begin 0 (c.as_slice-ends.ensures.value i) k) (drop (begin 0 (c.as_slice-ends.ensures.value i) k) xs))
+    ∙ ((λ i. take (c.end.ensures i - c.begin.ensures i) (drop (c.begin.ensures i) (c.as_slice.ensures.value i)))
     ∙ (sym (get-between 0 es xs k 0 c.part.result.now below)
-    ∙ ap (λ rs. get_or rs k c.part.result.now) c.self.view_is)))
+    ∙ ap (λ rs. get_or rs k c.part.result.now) c.self.view_is))
