@@ -1,5 +1,5 @@
 -- Numbers of the tables of worlds: where two tables of one name have one number, they say the same.
-use Rattle.std.specs.Prelude.{◌≡◌, ◌+◌, ◌<◌, ◌≤◌, ◌||◌, ◌++◌, ℕ, Bool, false, List, [], map, length, drop, slice_get, nat_eq, Option, Some, None}
+use Rattle.std.specs.Prelude.{◌≡◌, ◌+◌, ◌<◌, ◌≤◌, ◌||◌, ◌⊎◌, ◌++◌, ℕ, Bool, false, List, [], map, length, drop, slice_get, nat_eq, Option, Some, None}
 use Rattle.std.specs.List.{list_any}
 use Rattle.tl_syntax.specs.declared.fact.Fact.{Fact}
 use Rattle.tl_syntax.specs.declared.place_value.PlaceValue.{PlaceValue}
@@ -64,3 +64,7 @@ changes_table dels adds sets (Fun f) = sets_fun sets f
 -- but for the tables that changes name, the world is alike to the world of the number `from`
 abbrev pub ComesFrom : List World → ℕ → List Fact → List Fact → List PlaceValue → World → Type 0
 ComesFrom ws from dels adds sets w = (v : World) (t : TableName) → slice_get ws from ≡ Some v → changes_table dels adds sets t ≡ false → AreAlikeOf t v w
+
+-- all of the numbers came after the others, or none did
+abbrev pub GainsAllOrNone : List ℕ → List ℕ → List ℕ → Type 0
+GainsAllOrNone old more new = (new ≡ old) ⊎ (new ≡ old ++ more)

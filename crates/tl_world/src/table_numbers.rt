@@ -1,7 +1,7 @@
 // Numbers of the tables of worlds, by which tables that two worlds have in common are told.
-ghost use Rattle.std.specs.Prelude.{◌≡◌, ◌<◌, ◌⊎◌, ◌++◌, ◌∷◌, [], length, slice_get, Some, IfOk, IfSome, OnOk, OnErr};
+ghost use Rattle.std.specs.Prelude.{◌≡◌, ◌<◌, ◌++◌, ◌∷◌, [], length, slice_get, Some, IfOk, IfSome, OnOk, OnErr};
 ghost use Rattle.tl_terms.specs.World.{World as PlainWorld};
-ghost use Rattle.tl_world.specs.TableNumbers.{changes_table, standing, tables_in, AreNumbered, AreTableNumbers, ComesFrom, IsTableNumber};
+ghost use Rattle.tl_world.specs.TableNumbers.{changes_table, standing, tables_in, GainsAllOrNone, AreNumbered, AreTableNumbers, ComesFrom, IsTableNumber};
 
 use crate::World;
 use crate::marks::Marks;
@@ -196,7 +196,7 @@ impl TableNumbers {
         ensures starts { OnOk result (self.new.starts.items ≡ self.old.starts.items ++ length self.old.all.items ∷ []) }
         ensures refused { OnErr result (self.new.starts.items ≡ self.old.starts.items) }
         ensures all { OnOk result (self.new.all.items ≡ self.old.all.items ++ numbers.now) }
-        ensures rest { OnErr result ((self.new.all.items ≡ self.old.all.items) ⊎ (self.new.all.items ≡ self.old.all.items ++ numbers.now)) }
+        ensures rest { OnErr result (GainsAllOrNone self.old.all.items numbers.now self.new.all.items) }
     {
         let start = self.all.len();
         self.all.extend_from_slice(numbers)?;
