@@ -8,7 +8,7 @@ use crate::here::Here;
 use crate::order::JoinOrder;
 use crate::prepared::is_prepared;
 use crate::values::row_of;
-use tl_eval::{Env, TupleReader, bound_holds};
+use tl_eval::{BoundPattern, Env, bound_holds};
 use tl_syntax::Values;
 
 /// Adds the row of the parameters' values in the frame, where each has one and the operator can be applied with them. The bounds are not looked at.
@@ -75,9 +75,10 @@ fn join_bound(
     let new_parameters = order.new_parameters.as_slice();
     let vars = &new_parameters[j];
     let bound = order.bounds.bound(j);
-    let mut tuples = TupleReader::unopened();
-    tuples.open_in_place(here.task, env, vars, bound);
-    while tuples.next(here.task, here.world, bound) {
+    let mut pattern = BoundPattern::unopened();
+    pattern.open_in_place(here.task, env, vars, bound);
+    let mut tuples = pattern.tuples(here.task, here.world, bound);
+    while tuples.next() {
         env.put_values(vars.as_slice(), tuples.values());
         match join(here, env, order, j + 1, rows) {
             Ok(()) => {}

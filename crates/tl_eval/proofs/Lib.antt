@@ -24,3 +24,4 @@ pub mod WholeLaws
 pub mod MemoryLaws
 pub mod RememberedLaws
 pub mod PlainLaws
+pub mod BoundReading

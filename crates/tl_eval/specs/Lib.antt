@@ -7,6 +7,7 @@ pub mod Operates
 pub mod Reading
 pub mod PatternOf
 pub mod Reader
+pub mod BoundTuples
 pub mod LawsTuples
 pub mod Remembered
 pub mod Memory

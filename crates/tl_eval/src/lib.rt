@@ -2,6 +2,7 @@
 //!
 //! - `basic_truth`: the truth of formulas that have no formula below them.
 //! - `bound_truth`: the truth of bounds.
+//! - `bound_tuples`: the tuples of a bound in a world, one after another.
 //! - `env`: frames of variable values.
 //! - `here`: where a formula is read, in a world.
 //! - `kept`: the values of a quantifier's own slots, kept while its tuples stand there.
@@ -11,7 +12,7 @@
 //! - `plain_truth`: the truth of formulas that are plain to read.
 //! - `quantified`: quantified formulas.
 //! - `range`: operations in 64 bits, and the note of one that is past range.
-//! - `reader`: the tuples of a bound, one after another.
+//! - `reader`: the same, where the world is given at each step.
 //! - `reading`: where a formula is read.
 //! - `row`: a few values, kept without memory.
 //! - `scope`: the frames of scopes.
@@ -22,6 +23,7 @@
 
 mod basic_truth;
 mod bound_truth;
+mod bound_tuples;
 mod env;
 mod here;
 mod kept;
@@ -40,6 +42,7 @@ mod term_value;
 mod tuples;
 
 pub use bound_truth::bound_holds;
+pub use bound_tuples::{BoundPattern, BoundTuples};
 pub use env::Env;
 pub use memory::Memory;
 pub use plain_truth::plain_state;

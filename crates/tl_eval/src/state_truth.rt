@@ -18,7 +18,7 @@ use crate::reading::Reading;
 use crate::row::Row;
 use crate::scope::{current, put_in_scope};
 use crate::term_value::put_values_of_terms;
-use crate::{Env, RangeNote, TupleReader};
+use crate::{BoundPattern, Env, RangeNote};
 use tl_syntax::{Formula, Formulas, Junction, Terms, Value};
 use tl_world::{Task, World};
 
@@ -264,14 +264,15 @@ fn tuples_true(
     ensures truths { AreTruthsHere here.now memory.new }
 {
     let stop = quantified.junction.deciding_truth();
-    let mut tuples = TupleReader::unopened();
-    tuples.open_at(
+    let mut pattern = BoundPattern::unopened();
+    pattern.open_at(
         here.task,
         current(frames),
         quantified.vars,
         quantified.bound,
     );
-    'tuples: while tuples.next(here.task, here.world, quantified.bound) {
+    let mut tuples = pattern.tuples(here.task, here.world, quantified.bound);
+    'tuples: while tuples.next() {
         put_in_scope(frames, quantified.vars, tuples.values());
         match truth_of(here, frames, memory, quantified.part) {
             Ok(truth) => {

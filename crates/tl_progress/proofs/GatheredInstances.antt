@@ -1,7 +1,6 @@
 -- What is gathered of a quantifier's instances, from one to the next.
 use Rattle.std.proofs.Common.{◌≡◌, ◌<◌, ℕ, List, [], ◌∷◌, ◌++◌, map, Bool, true, length, Option, Some, slice_get, sym, ap, ◌∙◌, subst}
 use Rattle.tl_eval.specs.Frames.{assignment_in}
-use Rattle.tl_eval.specs.Reader.{Reader}
 use Rattle.tl_nodes.specs.Fits.{all_below}
 use Rattle.tl_nodes.specs.Joins.{simplified_join}
 use Rattle.tl_nodes.specs.NodeTrees.{tree_at, trees_at}
@@ -17,6 +16,7 @@ use Rattle.tl_terms.specs.Problem.{PlainProblem}
 use Rattle.tl_terms.specs.Progression.{constant}
 use Rattle.tl_terms.specs.Situation.{Situation}
 use Rattle.tl_terms.specs.World.{World}
+use Rattle.tl_world.specs.MatchReading.{Reading}
 use Rattle.tl_progress.specs.declared.fault.ProgressFault.{ProgressFault}
 use Rattle.tl_progress.specs.declared.quantifier.Quantifier.{Quantifier}
 use Rattle.tl_progress.specs.Answers.{IsCausedBy, looked_for_residual, residual}
@@ -68,5 +68,5 @@ module _ (ts us : List FormulaTree) (kept : Keeps ts us) (q : Quantifier) (at : 
   stands-still part h =
       subst (λ (f : FormulaTree). f ≡ quantified_in f q (tree_at us q.part)) (sym same-node) (subst (λ (g : FormulaTree). tree_at ts q.at ≡ quantified_in (tree_at ts q.at) q g) (sym (stays ts us kept q.part part)) h)
 
-  pub stepped-then : (s : Situation) (before after : Reader) (old new : List (Option Value)) (found : Bool) → HasStepped s (node_vars us q) (node_bound us q) before after old new found → HasStepped s (node_vars ts q) (node_bound ts q) before after old new found
+  pub stepped-then : (s : Situation) (before after : Reading) (old new : List (Option Value)) (found : Bool) → HasStepped s (node_vars us q) (node_bound us q) before after old new found → HasStepped s (node_vars ts q) (node_bound ts q) before after old new found
   stepped-then s before after old new found h = subst (λ (f : FormulaTree). HasStepped s (vars_in f) (bound_in f) before after old new found) same-node h

@@ -1,7 +1,7 @@
 -- A step from one instance of a quantifier to the next.
 use Rattle.std.proofs.Common.{◌≡◌, ◌<◌, List, [], ◌∷◌, length, Bool, true, false, Option, Some, sym, ap, ◌∙◌, subst}
+use Rattle.tl_eval.specs.BoundTuples.{ReadsBound}
 use Rattle.tl_eval.specs.Frames.{assignment_in, AgreeElsewhere}
-use Rattle.tl_eval.specs.Reader.{Reader, ReadsTuples}
 use Rattle.tl_syntax.specs.declared.bound.Bound.{Bound}
 use Rattle.tl_syntax.specs.declared.value.Value.{Value}
 use Rattle.tl_syntax.specs.declared.variable.Var.{Var}
@@ -13,6 +13,7 @@ use Rattle.tl_terms.specs.Bounds.{bound_true}
 use Rattle.tl_terms.specs.Definitions.{situation_of}
 use Rattle.tl_terms.specs.Problem.{PlainProblem}
 use Rattle.tl_terms.specs.World.{World}
+use Rattle.tl_world.specs.MatchReading.{Reading}
 use Rattle.tl_world.specs.Next.{IsNext}
 use Rattle.tl_progress.specs.Quantifiers.{HasStepped}
 use Rattle.tl_progress.proofs.Instances.{all_tuples, left_after, no-more, one-more, fewer-left, is-tuple}
@@ -27,8 +28,8 @@ pub record HasCome (p : PlainProblem) (w : World) (e : Assignment) (ss : List Va
   pub left : left_after p w e ss b f before ≡ tuple ∷ left_after p w e ss b f after
   pub fewer : length (left_after p w e ss b f after) < length (left_after p w e ss b f before)
 
-module _ (p : PlainProblem) (w : World) (e : Assignment) (ss : List Var) (b : Bound) (f : FormulaTree) (before after : Reader) (old new : List (Option Value)) (found : Bool)
-    (s : HasStepped (situation_of p w) ss b before after old new found) (reads : ReadsTuples ss e b before) where
+module _ (p : PlainProblem) (w : World) (e : Assignment) (ss : List Var) (b : Bound) (f : FormulaTree) (before after : Reading) (old new : List (Option Value)) (found : Bool)
+    (s : HasStepped (situation_of p w) ss b before after old new found) (reads : ReadsBound (situation_of p w) ss e b before) where
   pub has-come : DifferInSlot ss → OccurIn ss b → AgreeElsewhere ss (assignment_in old) e → found ≡ true → HasCome p w e ss b f before.tuple after.tuple new
   has-come d o others h =
       let put = s.put h in

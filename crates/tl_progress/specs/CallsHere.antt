@@ -3,7 +3,8 @@ use Rattle.std.specs.Borrow.{Bor}
 use Rattle.std.specs.Prelude.{◌≡◌, ℕ, List, Bool, Option, Some, None, Result, IfOk, IfErr, IfSome, IfNone, nat_eq}
 use Rattle.indexmap.specs.IndexMap.{get}
 use Rattle.tl_eval.specs.Frames.{assignment_in, AgreeElsewhere}
-use Rattle.tl_eval.specs.Reader.{Reader, ReadsTuples}
+use Rattle.tl_eval.specs.BoundTuples.{ReadsBound}
+use Rattle.tl_eval.specs.Reading.{situation_in}
 use Rattle.tl_eval.specs.Remembered.{Remembered}
 use Rattle.tl_eval.specs.StateTruth.{Remembers}
 use Rattle.tl_nodes.specs.declared.nodes.Nodes.{Nodes}
@@ -14,12 +15,15 @@ use Rattle.tl_progress.specs.declared.joined.Joined.{Joined}
 use Rattle.tl_progress.specs.declared.known.WorkedOut.{WorkedOut}
 use Rattle.tl_progress.specs.declared.layers.Join.{Join}
 use Rattle.tl_progress.specs.declared.layers.Quantified.{Quantified}
+use Rattle.tl_progress.specs.declared.quantifier.Quantifier.{Quantifier}
 use Rattle.tl_progress.specs.Answers.{IsCausedBy}
 use Rattle.tl_progress.specs.Calls.{IsDecided, AreOpenIn, FitsTask, IsSentenceIn, AreTruthsIn, AreResidualsIn, IsRightIn, state_true_in, looked_in_world, idly_true_at, looked_idly_at, join_at, idly_true_join, looked_idly_join, quantified_at, idly_true_over, looked_idly_over, residual_at, looked_for_residual_at}
+use Rattle.tl_progress.specs.Quantifiers.{ReadsAt}
 use Rattle.tl_syntax.specs.declared.value.Value.{Value}
 use Rattle.tl_syntax.specs.declared.variable.Var.{Var}
 use Rattle.tl_syntax.specs.Trees.{FormulaTree}
 use Rattle.tl_terms.specs.Progression.{constant}
+use Rattle.tl_world.specs.MatchReading.{Reading}
 
 -- the formula fits below some quantifiers of the task
 abbrev pub FitsHere : Here → FormulaTree → Type 0
@@ -96,9 +100,13 @@ IsQuantifiedTruth here frame nodes q result = IfOk result (λ b. b ≡ idly_true
 abbrev pub IsQuantifiedFault : Here → List (Option Value) → Nodes → Quantified → Result Bool ProgressFault → Type 0
 IsQuantifiedFault here frame nodes q result = IfErr result (IsCausedBy (looked_idly_over here.task.now here.world.now frame nodes q.junction q.vars.now q.bound.now q.part))
 
--- the reader is one of a quantified formula's tuples, under the values of the frame
-abbrev pub ReadsQuantified : Quantified → List (Option Value) → Reader → Type 0
-ReadsQuantified q frame r = ReadsTuples q.vars.now (assignment_in frame) q.bound.now r
+-- the tuples are those of a quantified formula, under the values of the frame
+abbrev pub ReadsQuantified : Here → Quantified → List (Option Value) → Reading → Type 0
+ReadsQuantified here q frame r = ReadsBound (situation_in here.task.now here.world.now) q.vars.now (assignment_in frame) q.bound.now r
+
+-- the tuples are those of the quantifier's bound, under the values of the frame
+abbrev pub ReadsInstances : Here → Nodes → Quantifier → List (Option Value) → Reading → Type 0
+ReadsInstances here nodes q frame r = ReadsAt here.task.now here.world.now nodes q frame r
 
 -- but for the variables, the two frames give all slots the same
 abbrev pub ChangesOnly : List Var → List (Option Value) → List (Option Value) → Type 0

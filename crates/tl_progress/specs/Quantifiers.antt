@@ -1,7 +1,8 @@
 -- Quantifiers that stand in nodes, and steps from one instance to the next.
 use Rattle.std.specs.Prelude.{◌≡◌, List, [], length, Bool, true, false, Option, None, Some}
+use Rattle.tl_eval.specs.BoundTuples.{ReadsBound}
 use Rattle.tl_eval.specs.Frames.{assignment_in, AgreeElsewhere, AreKept}
-use Rattle.tl_eval.specs.Reader.{Reader, ReadsTuples}
+use Rattle.tl_eval.specs.PatternOf.{IsPatternOf}
 use Rattle.tl_nodes.specs.declared.nodes.Nodes.{Nodes}
 use Rattle.tl_nodes.specs.NodeTrees.{tree_at}
 use Rattle.tl_nodes.specs.Numbers.{trees}
@@ -19,6 +20,8 @@ use Rattle.tl_terms.specs.ProblemMeaning.{plain_problem}
 use Rattle.tl_terms.specs.Situation.{Situation}
 use Rattle.tl_terms.specs.World.{World}
 use Rattle.tl_world.specs.declared.task.Task.{Task}
+use Rattle.tl_world.specs.declared.pattern.Pattern.{Pattern}
+use Rattle.tl_world.specs.MatchReading.{Reading}
 use Rattle.tl_world.specs.Next.{IsNext}
 
 -- the variables of a quantified formula; another formula has none
@@ -55,29 +58,37 @@ vars_at nodes q = node_vars (trees nodes) q
 abbrev pub bound_at : Nodes → Quantifier → Bound
 bound_at nodes q = node_bound (trees nodes) q
 
--- it reads the tuples of the quantifier's bound under the values of the frame
-abbrev pub ReadsAt : Nodes → Quantifier → List (Option Value) → Reader → Type 0
-ReadsAt nodes q frame r = ReadsTuples (node_vars (trees nodes) q) (assignment_in frame) (node_bound (trees nodes) q) r
+-- the pattern is that of the quantifier's bound under the values of the frame
+abbrev pub StandsForBoundAt : Nodes → Quantifier → List (Option Value) → Option Pattern → Type 0
+StandsForBoundAt nodes q frame p = IsPatternOf (node_vars (trees nodes) q) (assignment_in frame) (node_bound (trees nodes) q) p
 
--- it reads the tuples of the bound under some assignment
-abbrev pub IsReader : List Var → Bound → Reader → Type 0
-IsReader ss b r = (e : Assignment) × ReadsTuples ss e b r
+-- they are the tuples of the quantifier's bound in the task's world, under the values of the frame
+abbrev pub ReadsAt : Task → World → Nodes → Quantifier → List (Option Value) → Reading → Type 0
+ReadsAt task w nodes q frame r = ReadsBound (situation_of (plain_problem task.problem) w) (node_vars (trees nodes) q) (assignment_in frame) (node_bound (trees nodes) q) r
 
--- a step to the next instance: the reader goes on, and the variables get the values of the tuple that is found
-pub record HasStepped (s : Situation) (ss : List Var) (b : Bound) (before after : Reader) (old new : List (Option Value)) (found : Bool) : Type 0 where
-  pub reads : (e : Assignment) → ReadsTuples ss e b before → ReadsTuples ss e b after
-  pub next : (e : Assignment) → ReadsTuples ss e b before → IsNext (length ss) (λ t. bound_true s (bind ss t e) b) before.tuple after.tuple
+-- so it is of whatever frame the pattern is made
+abbrev pub ReadsPatternAt : Task → World → Nodes → Quantifier → Option Pattern → Reading → Type 0
+ReadsPatternAt task w nodes q p r = (frame : List (Option Value)) → StandsForBoundAt nodes q frame p → ReadsAt task w nodes q frame r
+
+-- they are the tuples of some bound for the variables
+abbrev pub IsReader : List Var → Reading → Type 0
+IsReader ss r = (s : Situation) × (b : Bound) × (e : Assignment) × ReadsBound s ss e b r
+
+-- a step to the next instance: the tuples are gone on with, and the variables get the values of the one that is found
+pub record HasStepped (s : Situation) (ss : List Var) (b : Bound) (before after : Reading) (old new : List (Option Value)) (found : Bool) : Type 0 where
+  pub reads : (e : Assignment) → ReadsBound s ss e b before → ReadsBound s ss e b after
+  pub next : (e : Assignment) → ReadsBound s ss e b before → IsNext (length ss) (λ t. bound_true s (bind ss t e) b) before.tuple after.tuple
   pub put : found ≡ true → (t : List Value) × (after.tuple ≡ Some t) × (assignment_in new ≡ bind ss t (assignment_in old))
   pub done : found ≡ false → after.tuple ≡ None
   pub elsewhere : AgreeElsewhere ss (assignment_in new) (assignment_in old)
 
--- so it is in the task's world
-abbrev pub HasSteppedIn : Task → World → List Var → Bound → Reader → Reader → List (Option Value) → List (Option Value) → Bool → Type 0
-HasSteppedIn task w ss b before after old new found = HasStepped (situation_of (plain_problem task.problem) w) ss b before after old new found
+-- so it is of whatever bound the tuples are, and in whatever situation
+abbrev pub HasSteppedOver : List Var → Reading → Reading → List (Option Value) → List (Option Value) → Bool → Type 0
+HasSteppedOver ss before after old new found = (s : Situation) (b : Bound) → HasStepped s ss b before after old new found
 
--- so it is for the quantifier of a node
-abbrev pub HasSteppedAt : Task → World → Nodes → Quantifier → Reader → Reader → List (Option Value) → List (Option Value) → Bool → Type 0
-HasSteppedAt task w nodes q before after old new found = HasStepped (situation_of (plain_problem task.problem) w) (node_vars (trees nodes) q) (node_bound (trees nodes) q) before after old new found
+-- and for the variables of the quantifier of a node
+abbrev pub HasSteppedAt : Nodes → Quantifier → Reading → Reading → List (Option Value) → List (Option Value) → Bool → Type 0
+HasSteppedAt nodes q before after old new found = HasSteppedOver (node_vars (trees nodes) q) before after old new found
 
 -- of whatever frame the variables' values were kept, where the old frame agrees with it elsewhere, it is the new one
 abbrev pub GivesBack : List Var → List (Option Value) → List (Option Value) → List (Option Value) → Type 0

@@ -3,28 +3,21 @@ ghost use Rattle.std.specs.Prelude.{◌≡◌, ◌<◌, ◌≤◌, length, None}
 ghost use Rattle.tl_eval.specs.Frames.{AreKept};
 ghost use Rattle.tl_nodes.specs.Numbers.{trees, tree_in};
 ghost use Rattle.tl_progress.specs.Calls.{FitsTask};
-ghost use Rattle.tl_progress.specs.Quantifiers.{IsReader, Stands, vars_at, bound_at, ReadsAt, HasSteppedIn, HasSteppedAt, GivesBack};
+ghost use Rattle.tl_progress.specs.Quantifiers.{IsReader, Stands, vars_at, bound_at, StandsForBoundAt, ReadsPatternAt, HasSteppedOver, HasSteppedAt, GivesBack};
 ghost use Rattle.tl_syntax.specs.Lists.{Each};
 
-use tl_eval::{Env, TupleReader};
+use tl_eval::{BoundPattern, BoundTuples, Env};
 use tl_nodes::{Node, Nodes};
 use tl_syntax::{Bound, Junction, Value, Vars};
 use tl_world::{Task, World};
 
 /// Goes on to the next instance: the variables get its values. False: there is none. It takes no memory.
-pub(crate) fn put_instance(
-    task: &Task,
-    w: &World,
-    env: &mut Env,
-    vars: &Vars,
-    bound: &Bound,
-    tuples: &mut TupleReader,
-) -> bool
+pub(crate) fn put_instance(env: &mut Env, vars: &Vars, tuples: &mut BoundTuples) -> bool
     requires slots { Each (λ s. s.slot < 32) vars.now }
-    requires reads { IsReader vars.now bound.now tuples.old }
-    ensures { HasSteppedIn task.now w.now vars.now bound.now tuples.old tuples.new env.old env.new result }
+    requires reads { IsReader vars.now tuples.old }
+    ensures { HasSteppedOver vars.now tuples.old tuples.new env.old env.new result }
 {
-    if !tuples.next(task, w, bound) {
+    if !tuples.next() {
         return false;
     }
     env.put_values(vars.as_slice(), tuples.values());
@@ -43,21 +36,51 @@ pub(crate) struct Quantifier {
 }
 
 impl Quantifier {
-    /// Opens a reader of the tuples of its bound under the frame, before the first one, in the place of another reader, which ends.
+    /// Makes the pattern that of its bound under the frame.
     #[inline(always)]
-    pub fn open(self, nodes: &Nodes, task: &Task, env: &Env, tuples: &mut TupleReader)
+    pub fn open(self, nodes: &Nodes, task: &Task, env: &Env, pattern: &mut BoundPattern)
         requires at { self.at < length (trees nodes.now) }
         requires stands { Stands (trees nodes.now) self }
         requires fits { FitsTask task.now (tree_in nodes.now self.at) }
-        ensures reads { ReadsAt nodes.now self env.now tuples.new }
-        ensures before { tuples.new.tuple ≡ None }
+        ensures stands { StandsForBoundAt nodes.now self env.now pattern.new }
         ensures few { length (vars_at nodes.now self) ≤ 9 }
     {
         match nodes.get(self.at) {
-            Node::ForAll(vars, bound, _) => tuples.open_in_place(task, env, vars, bound),
-            Node::Exists(vars, bound, _) => tuples.open_in_place(task, env, vars, bound),
+            Node::ForAll(vars, bound, _) => pattern.open_in_place(task, env, vars, bound),
+            Node::Exists(vars, bound, _) => pattern.open_in_place(task, env, vars, bound),
             _ => unreachable!(),
         }
+    }
+
+    /// Its bound.
+    #[inline(always)]
+    fn bound(self, nodes: &Nodes) -> &Bound
+        requires at { self.at < length (trees nodes.now) }
+        requires stands { Stands (trees nodes.now) self }
+        ensures { result.now ≡ bound_at nodes.now self }
+    {
+        match nodes.get(self.at) {
+            Node::ForAll(_, bound, _) => bound,
+            Node::Exists(_, bound, _) => bound,
+            _ => unreachable!(),
+        }
+    }
+
+    /// The tuples of its bound, of which this is the pattern, in the world, before the first one.
+    #[inline(always)]
+    pub fn tuples<'a>(
+        self,
+        nodes: &Nodes,
+        task: &'a Task,
+        w: &'a World,
+        pattern: &'a BoundPattern,
+    ) -> BoundTuples<'a>
+        requires at { self.at < length (trees nodes.now) }
+        requires stands { Stands (trees nodes.now) self }
+        ensures reads { ReadsPatternAt task.now w.now nodes.now self pattern.now result }
+        ensures before { result.tuple ≡ None }
+    {
+        pattern.tuples(task, w, self.bound(nodes))
     }
 
     /// Puts what the slots of its variables have in the frame in place, for `give_back`.
@@ -76,23 +99,16 @@ impl Quantifier {
     }
 
     /// Goes on to its next instance, as `put_instance` does.
-    pub fn put_next(
-        self,
-        nodes: &Nodes,
-        task: &Task,
-        w: &World,
-        env: &mut Env,
-        tuples: &mut TupleReader,
-    ) -> bool
+    pub fn put_next(self, nodes: &Nodes, env: &mut Env, tuples: &mut BoundTuples) -> bool
         requires at { self.at < length (trees nodes.now) }
         requires stands { Stands (trees nodes.now) self }
         requires slots { Each (λ s. s.slot < 32) (vars_at nodes.now self) }
-        requires reads { IsReader (vars_at nodes.now self) (bound_at nodes.now self) tuples.old }
-        ensures { HasSteppedAt task.now w.now nodes.now self tuples.old tuples.new env.old env.new result }
+        requires reads { IsReader (vars_at nodes.now self) tuples.old }
+        ensures { HasSteppedAt nodes.now self tuples.old tuples.new env.old env.new result }
     {
         match nodes.get(self.at) {
-            Node::ForAll(vars, bound, _) => put_instance(task, w, env, vars, bound, tuples),
-            Node::Exists(vars, bound, _) => put_instance(task, w, env, vars, bound, tuples),
+            Node::ForAll(vars, _, _) => put_instance(env, vars, tuples),
+            Node::Exists(vars, _, _) => put_instance(env, vars, tuples),
             _ => false,
         }
     }

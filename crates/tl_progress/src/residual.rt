@@ -2,9 +2,9 @@
 ghost use Rattle.std.specs.Prelude.{◌≡◌, ◌<◌, length, None, IfOk};
 ghost use Rattle.tl_nodes.specs.Numbering.{Keeps};
 ghost use Rattle.tl_nodes.specs.Numbers.{trees, tree_in};
-ghost use Rattle.tl_progress.specs.CallsHere.{FitsHere, KnowsTruths, KnowsRightly, RemembersHere, ChangesOnly, IsResidual, IsResidualFault};
+ghost use Rattle.tl_progress.specs.CallsHere.{FitsHere, KnowsTruths, KnowsRightly, RemembersHere, ChangesOnly, IsResidual, IsResidualFault, ReadsInstances};
 ghost use Rattle.tl_progress.specs.Parts.{IsJoin};
-ghost use Rattle.tl_progress.specs.Quantifiers.{Stands, vars_at, ReadsAt};
+ghost use Rattle.tl_progress.specs.Quantifiers.{Stands, vars_at};
 ghost use Rattle.tl_syntax.specs.StateFormulas.{IsState};
 
 use crate::ProgressFault;
@@ -15,7 +15,7 @@ use crate::parts::{part_at, part_count};
 use crate::quantifier::Quantifier;
 use crate::remaining::{remaining, until_remaining, with_fewer_steps, with_remaining};
 use crate::truth::part_truth;
-use tl_eval::{Env, Memory, TupleReader};
+use tl_eval::{BoundPattern, BoundTuples, Env, Memory};
 use tl_nodes::{Node, Nodes};
 use tl_syntax::Junction;
 
@@ -240,8 +240,9 @@ fn quantifier_residual(
     ensures frame { env.new ≡ env.old }
     ensures remembers { RemembersHere here.now memory.new }
 {
-    let mut tuples = TupleReader::unopened();
-    quantifier.open(nodes, here.task, env, &mut tuples);
+    let mut pattern = BoundPattern::unopened();
+    quantifier.open(nodes, here.task, env, &mut pattern);
+    let mut tuples = quantifier.tuples(nodes, here.task, here.world, &pattern);
     let mut outer = [None; 9];
     quantifier.keep(nodes, env, &mut outer);
     let inside = Here {
@@ -263,14 +264,14 @@ fn instances_residual(
     env: &mut Env,
     memory: &mut Memory,
     quantifier: Quantifier,
-    tuples: &mut TupleReader,
+    tuples: &mut BoundTuples,
 ) -> Result<usize, ProgressFault>
     requires at { quantifier.at < length (trees nodes.old) }
     requires part { quantifier.part < length (trees nodes.old) }
     requires stands { Stands (trees nodes.old) quantifier }
     requires fits { FitsHere here.now (tree_in nodes.old quantifier.at) }
     requires known { KnowsRightly here.now nodes.old }
-    requires reads { ReadsAt nodes.old quantifier env.old tuples.old }
+    requires reads { ReadsInstances here.now nodes.old quantifier env.old tuples.old }
     requires before { tuples.old.tuple ≡ None }
     requires remembers { RemembersHere here.now memory.old }
     ensures kept { Keeps (trees nodes.old) (trees nodes.new) }
@@ -280,7 +281,7 @@ fn instances_residual(
     ensures remembers { RemembersHere here.now memory.new }
 {
     let mut answers = Numbers::new(here.alloc);
-    'tuples: while quantifier.put_next(nodes, here.task, here.world, env, tuples) {
+    'tuples: while quantifier.put_next(nodes, env, tuples) {
         match residual_of(here, nodes, env, memory, quantifier.part) {
             Ok(number) => {
                 if decides(nodes, number, quantifier.junction) {

@@ -11,7 +11,7 @@ use crate::here::Here;
 use crate::layers::{Join, Quantified};
 use crate::quantifier::put_instance;
 use crate::quick::{plain_truth, quick_truth};
-use tl_eval::{Env, Memory, TupleReader, state_in};
+use tl_eval::{BoundPattern, BoundTuples, Env, Memory, state_in};
 use tl_nodes::{Node, Nodes};
 use tl_syntax::{Formula, Junction};
 
@@ -232,8 +232,9 @@ fn quantifier_truth(
     ensures frame { env.new ≡ env.old }
     ensures remembers { RemembersHere here.now memory.new }
 {
-    let mut tuples = TupleReader::unopened();
-    tuples.open_in_place(here.task, env, quantified.vars, quantified.bound);
+    let mut pattern = BoundPattern::unopened();
+    pattern.open_in_place(here.task, env, quantified.vars, quantified.bound);
+    let mut tuples = pattern.tuples(here.task, here.world, quantified.bound);
     let mut outer = [None; 9];
     env.keep(quantified.vars.as_slice(), &mut outer);
     let truth = instances_truth(here, nodes, env, memory, quantified, &mut tuples);
@@ -249,12 +250,12 @@ fn instances_truth(
     env: &mut Env,
     memory: &mut Memory,
     quantified: &Quantified,
-    tuples: &mut TupleReader,
+    tuples: &mut BoundTuples,
 ) -> Result<bool, ProgressFault>
     requires part { quantified.now.part < length (trees nodes.now) }
     requires fits { FitsHere here.now (tree_of_quantified nodes.now quantified.now) }
     requires known { KnowsTruths here.now nodes.now }
-    requires reads { ReadsQuantified quantified.now env.old tuples.old }
+    requires reads { ReadsQuantified here.now quantified.now env.old tuples.old }
     requires before { tuples.old.tuple ≡ None }
     requires remembers { RemembersHere here.now memory.old }
     ensures truth { IsQuantifiedTruth here.now env.old nodes.now quantified.now result }
@@ -262,10 +263,8 @@ fn instances_truth(
     ensures others { ChangesOnly quantified.now.vars.now env.old env.new }
     ensures remembers { RemembersHere here.now memory.new }
 {
-    let vars = quantified.vars;
-    let bound = quantified.bound;
     let stop = quantified.junction.deciding_truth();
-    'tuples: while put_instance(here.task, here.world, env, vars, bound, tuples) {
+    'tuples: while put_instance(env, quantified.vars, tuples) {
         match instance_truth(here, nodes, env, memory, quantified.part) {
             Ok(truth) => {
                 if truth == stop {

@@ -62,9 +62,9 @@ join_bound-open_in_place-requires-clause-fits t c =
 
 pub join_bound-loop-vars-init : goal.join_bound-loop-vars-init
 join_bound-loop-vars-init t c = record {
-  reads = c.open_in_place.ensures.reads;
+  reads = c.tuples-tuples.ensures.reads c.index-new_parameters-j.result (assignment_in c.args.env.now) c.open_in_place.ensures.stands;
   frame = known-agree (take c.args.j (arranged c.args.order.now.bounds).bounds) c.args.order.now.bounds.operator.now.params (assignment_in c.args.env.now) (assignment_in c.args.env.now) (agree-self (slots_of c.args.order.now.bounds.operator.now.params) (assignment_in c.args.env.now));
-  found = read-begun (plain_problem c.args.here.now.task.now.problem) c.args.here.now.world.now (plain_operator (arranged c.args.order.now.bounds)) (take (c.args.j + 1) (arranged c.args.order.now.bounds).bounds) (drop (c.args.j + 1) (arranged c.args.order.now.bounds).bounds) (assignment_in c.args.env.now) c.index-new_parameters-j.result c.bound-bound.result.now c.open_in_place.new.self.tuple c.args.rows.now.items c.open_in_place.ensures.before;
+  found = read-begun (plain_problem c.args.here.now.task.now.problem) c.args.here.now.world.now (plain_operator (arranged c.args.order.now.bounds)) (take (c.args.j + 1) (arranged c.args.order.now.bounds).bounds) (drop (c.args.j + 1) (arranged c.args.order.now.bounds).bounds) (assignment_in c.args.env.now) c.index-new_parameters-j.result c.bound-bound.result.now c.tuples-tuples.result.tuple c.args.rows.now.items c.tuples-tuples.ensures.before;
 }
 
 pub join_bound-put_values-requires-clause-slots : goal.join_bound-put_values-requires-clause-slots
@@ -78,7 +78,7 @@ join_bound-put_values-requires-clause-slots t c =
 
 pub join_bound-put_values-requires-clause-same : goal.join_bound-put_values-requires-clause-same
 join_bound-put_values-requires-clause-same t c =
-    ap (λ (ss : List Var). length ss) c.as_slice.ensures ∙ sym (c.values.ensures.count c.index-new_parameters-j.result (assignment_in c.args.env.now) c.bound-bound.result.now (c.next.ensures.reads c.index-new_parameters-j.result (assignment_in c.args.env.now) c.loop-vars.invariant.reads))
+    ap (λ (ss : List Var). length ss) c.as_slice.ensures ∙ sym (c.values.ensures.count _ c.index-new_parameters-j.result (assignment_in c.args.env.now) c.bound-bound.result.now (c.next.ensures.reads _ _ c.index-new_parameters-j.result (assignment_in c.args.env.now) c.loop-vars.invariant.reads))
 
 pub join_bound-returns-in-Err-clause-rows : goal.join_bound-returns-in-Err-clause-rows
 join_bound-returns-in-Err-clause-rows t c =
@@ -88,7 +88,7 @@ join_bound-returns-in-Err-clause-rows t c =
     let vars-is = c.index-new_parameters-j.is ∙ ap (λ (ls : List (List Var)). get_or ls c.args.j c.index-new_parameters-j.result) c.as_slice-new_parameters.ensures.value in
     let node : Node (signature_of c.args.here.now.task.now.problem.domain) (arranged c.args.order.now.bounds) c.args.j c.bound-bound.result.now c.index-new_parameters-j.result = node-at (signature_of c.args.here.now.task.now.problem.domain) (length c.args.here.now.task.now.problem.names) c.args.order.now.bounds c.args.order.now.new_parameters.items c.args.j c.bound-bound.result.now c.index-new_parameters-j.result (declared-few _ _ keep.predicates) (declared-few _ _ keep.functions) c.requires.keeps c.args.order.now.new_parameters_are below b-is vars-is in
     let e = assignment_in c.args.env.now in
-    let next = c.next.ensures.next c.index-new_parameters-j.result e c.loop-vars.invariant.reads in
+    let next = c.next.ensures.next _ _ c.index-new_parameters-j.result e c.loop-vars.invariant.reads in
     let d = assignment_in c.put_values.new.self in
     let put : d ≡ bind c.index-new_parameters-j.result c.values.result.now (assignment_in c.loop-vars.env) = c.put_values.ensures.values ∙ ap (λ (ss : List Var). bind ss c.values.result.now (assignment_in c.loop-vars.env)) c.as_slice.ensures in
     read-fault (signature_of c.args.here.now.task.now.problem.domain) (plain_problem c.args.here.now.task.now.problem) c.args.here.now.world.now (arranged c.args.order.now.bounds) c.args.j c.bound-bound.result.now c.index-new_parameters-j.result below b-is node e c.loop-vars.tuples.tuple c.next.new.self.tuple next c.args.rows.now.items c.loop-vars.rows.items c.loop-vars.invariant.found (assignment_in c.loop-vars.env) d c.values.result.now c.values.ensures.values put c.loop-vars.invariant.frame c.in-Err.fault c.in-Err.ensures.rows
@@ -112,11 +112,11 @@ join_bound-loop-vars-preserved t c =
     let vars-is = c.index-new_parameters-j.is ∙ ap (λ (ls : List (List Var)). get_or ls c.args.j c.index-new_parameters-j.result) c.as_slice-new_parameters.ensures.value in
     let node : Node (signature_of c.args.here.now.task.now.problem.domain) (arranged c.args.order.now.bounds) c.args.j c.bound-bound.result.now c.index-new_parameters-j.result = node-at (signature_of c.args.here.now.task.now.problem.domain) (length c.args.here.now.task.now.problem.names) c.args.order.now.bounds c.args.order.now.new_parameters.items c.args.j c.bound-bound.result.now c.index-new_parameters-j.result (declared-few _ _ keep.predicates) (declared-few _ _ keep.functions) c.requires.keeps c.args.order.now.new_parameters_are below b-is vars-is in
     let e = assignment_in c.args.env.now in
-    let next = c.next.ensures.next c.index-new_parameters-j.result e c.loop-vars.invariant.reads in
+    let next = c.next.ensures.next _ _ c.index-new_parameters-j.result e c.loop-vars.invariant.reads in
     let d = assignment_in c.put_values.new.self in
     let put : d ≡ bind c.index-new_parameters-j.result c.values.result.now (assignment_in c.loop-vars.env) = c.put_values.ensures.values ∙ ap (λ (ss : List Var). bind ss c.values.result.now (assignment_in c.loop-vars.env)) c.as_slice.ensures in
     record {
-      reads = c.next.ensures.reads c.index-new_parameters-j.result e c.loop-vars.invariant.reads;
+      reads = c.next.ensures.reads _ _ c.index-new_parameters-j.result e c.loop-vars.invariant.reads;
       frame = node-frame (signature_of c.args.here.now.task.now.problem.domain) (plain_problem c.args.here.now.task.now.problem) c.args.here.now.world.now (arranged c.args.order.now.bounds) c.args.j c.bound-bound.result.now c.index-new_parameters-j.result below b-is node e (assignment_in c.loop-vars.env) d (assignment_in c.join.new.env) c.values.result.now put c.loop-vars.invariant.frame c.join.ensures.frame;
       found = read-on (signature_of c.args.here.now.task.now.problem.domain) (plain_problem c.args.here.now.task.now.problem) c.args.here.now.world.now (arranged c.args.order.now.bounds) c.args.j c.bound-bound.result.now c.index-new_parameters-j.result below b-is node e c.loop-vars.tuples.tuple c.next.new.self.tuple next c.args.rows.now.items c.loop-vars.rows.items c.loop-vars.invariant.found (assignment_in c.loop-vars.env) d c.values.result.now c.join.new.rows.items c.values.ensures.values put c.loop-vars.invariant.frame c.in-Ok.ensures.rows;
     }
@@ -129,7 +129,7 @@ join_bound-loop-vars-smaller t c =
     let vars-is = c.index-new_parameters-j.is ∙ ap (λ (ls : List (List Var)). get_or ls c.args.j c.index-new_parameters-j.result) c.as_slice-new_parameters.ensures.value in
     let node : Node (signature_of c.args.here.now.task.now.problem.domain) (arranged c.args.order.now.bounds) c.args.j c.bound-bound.result.now c.index-new_parameters-j.result = node-at (signature_of c.args.here.now.task.now.problem.domain) (length c.args.here.now.task.now.problem.names) c.args.order.now.bounds c.args.order.now.new_parameters.items c.args.j c.bound-bound.result.now c.index-new_parameters-j.result (declared-few _ _ keep.predicates) (declared-few _ _ keep.functions) c.requires.keeps c.args.order.now.new_parameters_are below b-is vars-is in
     let e = assignment_in c.args.env.now in
-    let next = c.next.ensures.next c.index-new_parameters-j.result e c.loop-vars.invariant.reads in
+    let next = c.next.ensures.next _ _ c.index-new_parameters-j.result e c.loop-vars.invariant.reads in
     read-smaller (signature_of c.args.here.now.task.now.problem.domain) (plain_problem c.args.here.now.task.now.problem) c.args.here.now.world.now (arranged c.args.order.now.bounds) c.args.j c.bound-bound.result.now c.index-new_parameters-j.result below b-is node e c.loop-vars.tuples.tuple c.next.new.self.tuple next c.args.rows.now.items c.loop-vars.rows.items c.loop-vars.invariant.found c.values.result.now c.values.ensures.values
 
 pub join_bound-returns-clause-rows : goal.join_bound-returns-clause-rows
@@ -140,7 +140,7 @@ join_bound-returns-clause-rows t c =
     let vars-is = c.index-new_parameters-j.is ∙ ap (λ (ls : List (List Var)). get_or ls c.args.j c.index-new_parameters-j.result) c.as_slice-new_parameters.ensures.value in
     let node : Node (signature_of c.args.here.now.task.now.problem.domain) (arranged c.args.order.now.bounds) c.args.j c.bound-bound.result.now c.index-new_parameters-j.result = node-at (signature_of c.args.here.now.task.now.problem.domain) (length c.args.here.now.task.now.problem.names) c.args.order.now.bounds c.args.order.now.new_parameters.items c.args.j c.bound-bound.result.now c.index-new_parameters-j.result (declared-few _ _ keep.predicates) (declared-few _ _ keep.functions) c.requires.keeps c.args.order.now.new_parameters_are below b-is vars-is in
     let e = assignment_in c.args.env.now in
-    let next = c.next.ensures.next c.index-new_parameters-j.result e c.loop-vars.invariant.reads in
+    let next = c.next.ensures.next _ _ c.index-new_parameters-j.result e c.loop-vars.invariant.reads in
     read-end (signature_of c.args.here.now.task.now.problem.domain) (plain_problem c.args.here.now.task.now.problem) c.args.here.now.world.now (arranged c.args.order.now.bounds) c.args.j c.bound-bound.result.now c.index-new_parameters-j.result below b-is node e c.loop-vars.tuples.tuple c.next.new.self.tuple next c.args.rows.now.items c.loop-vars.rows.items c.loop-vars.invariant.found (c.next.ensures.end c.loop-vars-test.false)
 
 pub join-join_bound-requires : goal.join-join_bound-requires

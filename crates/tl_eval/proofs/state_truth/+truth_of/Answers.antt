@@ -2,7 +2,7 @@ use Rattle.std.proofs.Common.{◌≡◌, ◌<◌, ◌+◌, ◌-◌, List, length
 use Rattle.std.proofs.lemmas.List.{length-take, length-drop}
 use Rattle.std.proofs.lemmas.Slice.{take-put_mid_below}
 use Rattle.tl_eval.specs.Frames.{assignment_in}
-use Rattle.tl_eval.specs.Reader.{ReadsTuples}
+use Rattle.tl_eval.specs.PatternOf.{IsPatternOf}
 use Rattle.tl_eval.specs.Remembered.{remembered}
 use Rattle.tl_eval.specs.StateTruth.{IsTruth}
 use Rattle.tl_eval.specs.declared.range.RangeNote.{RangeNote}
@@ -449,10 +449,10 @@ pub tuples_true-tuples-init : goal.tuples_true-tuples-init
 tuples_true-tuples-init t c =
     let same : assignment_in c.current.result.now ≡ assignment_in (take 32 c.args.frames.now) = ap assignment_in c.current.ensures in
     record {
-      reads = subst (λ (x : Assignment). ReadsTuples c.args.quantified.now.vars.now x c.args.quantified.now.bound.now c.open_at.new.self) same c.open_at.ensures.reads;
+      reads = c.tuples-tuples.ensures.reads c.args.quantified.now.vars.now (assignment_in (take 32 c.args.frames.now)) (subst (λ (x : Assignment). IsPatternOf c.args.quantified.now.vars.now x c.args.quantified.now.bound.now c.open_at.new.self) same c.open_at.ensures.stands);
       scope = λ u. refl;
       truths = c.requires.truths;
-      passed = subst (TuplesPassed (plain_problem c.args.here.now.task.now.problem) c.args.here.now.world.now c.args.here.now.reading.number c.args.here.now.reading.level (assignment_in (take 32 c.args.frames.now)) c.args.quantified.now.vars.now c.args.quantified.now.bound.now (tree_of_formula c.args.quantified.now.part.now) c.deciding_truth-stop.result) (sym c.open_at.ensures.before)
+      passed = subst (TuplesPassed (plain_problem c.args.here.now.task.now.problem) c.args.here.now.world.now c.args.here.now.reading.number c.args.here.now.reading.level (assignment_in (take 32 c.args.frames.now)) c.args.quantified.now.vars.now c.args.quantified.now.bound.now (tree_of_formula c.args.quantified.now.part.now) c.deciding_truth-stop.result) (sym c.tuples-tuples.ensures.before)
           (tuples-begun (plain_problem c.args.here.now.task.now.problem) c.args.here.now.world.now c.args.here.now.reading.number c.args.here.now.reading.level (assignment_in (take 32 c.args.frames.now)) c.args.quantified.now.vars.now c.args.quantified.now.bound.now (tree_of_formula c.args.quantified.now.part.now) c.deciding_truth-stop.result);
     }
 
@@ -464,7 +464,7 @@ tuples_true-put_in_scope-requires-clause-slots t c =
 
 pub tuples_true-put_in_scope-requires-clause-same : goal.tuples_true-put_in_scope-requires-clause-same
 tuples_true-put_in_scope-requires-clause-same t c =
-    sym (c.values.ensures.count c.args.quantified.now.vars.now (assignment_in (take 32 c.args.frames.now)) c.args.quantified.now.bound.now (c.next.ensures.reads c.args.quantified.now.vars.now (assignment_in (take 32 c.args.frames.now)) c.tuples.invariant.reads))
+    sym (c.values.ensures.count _ c.args.quantified.now.vars.now (assignment_in (take 32 c.args.frames.now)) c.args.quantified.now.bound.now (c.next.ensures.reads _ _ c.args.quantified.now.vars.now (assignment_in (take 32 c.args.frames.now)) c.tuples.invariant.reads))
 
 pub tuples_true-truth_of-requires : goal.tuples_true-truth_of-requires
 tuples_true-truth_of-requires t c =
@@ -477,7 +477,7 @@ pub tuples_true-returns-then-truth-stop-clause-truth : goal.tuples_true-returns-
 tuples_true-returns-then-truth-stop-clause-truth t c =
     let q = c.args.here.now.task.now.problem in
     let fit = tuples-fit (signature_of q.domain) c.args.here.now.reading.number c.args.quantified.now.junction c.args.quantified.now.vars.now c.args.quantified.now.bound.now (tree_of_formula c.args.quantified.now.part.now) (predicates-few q) (functions-few q) c.requires.fits in
-    let next = c.next.ensures.next c.args.quantified.now.vars.now (assignment_in (take 32 c.args.frames.now)) c.tuples.invariant.reads in
+    let next = c.next.ensures.next _ _ c.args.quantified.now.vars.now (assignment_in (take 32 c.args.frames.now)) c.tuples.invariant.reads in
     let here = c.put_in_scope.ensures ∙ c.tuples.invariant.scope c.values.result.now in
     let r : Result Bool RangeNote = Ok c.in-Ok.truth in
     tuples-stop (plain_problem c.args.here.now.task.now.problem) c.args.here.now.world.now c.args.here.now.reading.number c.args.here.now.reading.level (assignment_in (take 32 c.args.frames.now)) c.args.quantified.now.vars.now c.args.quantified.now.bound.now (tree_of_formula c.args.quantified.now.part.now) fit.differ fit.occur c.args.quantified.now.junction c.deciding_truth-stop.result c.deciding_truth-stop.ensures c.tuples.tuples.tuple c.tuples.invariant.passed c.next.new.self.tuple c.values.result.now next c.values.ensures.values c.in-Ok.truth (subst (λ (x : Assignment). IsTruth (plain_problem c.args.here.now.task.now.problem) c.args.here.now.world.now c.args.here.now.reading.number c.args.here.now.reading.level x (tree_of_formula c.args.quantified.now.part.now) r) here c.in-Ok.ensures.truth) (same-truth c.in-Ok.truth c.deciding_truth-stop.result c.if-truth-stop.true)
@@ -491,7 +491,7 @@ pub tuples_true-returns-in-Err-clause-truth : goal.tuples_true-returns-in-Err-cl
 tuples_true-returns-in-Err-clause-truth t c =
     let q = c.args.here.now.task.now.problem in
     let fit = tuples-fit (signature_of q.domain) c.args.here.now.reading.number c.args.quantified.now.junction c.args.quantified.now.vars.now c.args.quantified.now.bound.now (tree_of_formula c.args.quantified.now.part.now) (predicates-few q) (functions-few q) c.requires.fits in
-    let next = c.next.ensures.next c.args.quantified.now.vars.now (assignment_in (take 32 c.args.frames.now)) c.tuples.invariant.reads in
+    let next = c.next.ensures.next _ _ c.args.quantified.now.vars.now (assignment_in (take 32 c.args.frames.now)) c.tuples.invariant.reads in
     let here = c.put_in_scope.ensures ∙ c.tuples.invariant.scope c.values.result.now in
     let r : Result Bool RangeNote = Err c.in-Err.note in
     tuples-noted (plain_problem c.args.here.now.task.now.problem) c.args.here.now.world.now c.args.here.now.reading.number c.args.here.now.reading.level (assignment_in (take 32 c.args.frames.now)) c.args.quantified.now.vars.now c.args.quantified.now.bound.now (tree_of_formula c.args.quantified.now.part.now) fit.differ fit.occur c.args.quantified.now.junction c.deciding_truth-stop.result c.deciding_truth-stop.ensures c.tuples.tuples.tuple c.tuples.invariant.passed c.next.new.self.tuple c.values.result.now next c.values.ensures.values c.in-Err.note (subst (λ (x : Assignment). IsTruth (plain_problem c.args.here.now.task.now.problem) c.args.here.now.world.now c.args.here.now.reading.number c.args.here.now.reading.level x (tree_of_formula c.args.quantified.now.part.now) r) here c.in-Err.ensures.truth)
@@ -505,11 +505,11 @@ pub tuples_true-tuples-preserved : goal.tuples_true-tuples-preserved
 tuples_true-tuples-preserved t c =
     let q = c.args.here.now.task.now.problem in
     let fit = tuples-fit (signature_of q.domain) c.args.here.now.reading.number c.args.quantified.now.junction c.args.quantified.now.vars.now c.args.quantified.now.bound.now (tree_of_formula c.args.quantified.now.part.now) (predicates-few q) (functions-few q) c.requires.fits in
-    let next = c.next.ensures.next c.args.quantified.now.vars.now (assignment_in (take 32 c.args.frames.now)) c.tuples.invariant.reads in
+    let next = c.next.ensures.next _ _ c.args.quantified.now.vars.now (assignment_in (take 32 c.args.frames.now)) c.tuples.invariant.reads in
     let here = c.put_in_scope.ensures ∙ c.tuples.invariant.scope c.values.result.now in
     let r : Result Bool RangeNote = Ok c.in-Ok.truth in
     record {
-      reads = c.next.ensures.reads c.args.quantified.now.vars.now (assignment_in (take 32 c.args.frames.now)) c.tuples.invariant.reads;
+      reads = c.next.ensures.reads _ _ c.args.quantified.now.vars.now (assignment_in (take 32 c.args.frames.now)) c.tuples.invariant.reads;
       scope = λ u. bind-through c.args.quantified.now.vars.now u c.values.result.now (assignment_in (take 32 c.truth_of.new.frames)) (assignment_in (take 32 c.args.frames.now)) (ap assignment_in c.truth_of.ensures.frame ∙ here);
       truths = c.truth_of.ensures.truths;
       passed = subst (TuplesPassed (plain_problem c.args.here.now.task.now.problem) c.args.here.now.world.now c.args.here.now.reading.number c.args.here.now.reading.level (assignment_in (take 32 c.args.frames.now)) c.args.quantified.now.vars.now c.args.quantified.now.bound.now (tree_of_formula c.args.quantified.now.part.now) c.deciding_truth-stop.result) (sym c.values.ensures.values)
@@ -520,7 +520,7 @@ pub tuples_true-tuples-smaller : goal.tuples_true-tuples-smaller
 tuples_true-tuples-smaller t c =
     let q = c.args.here.now.task.now.problem in
     let fit = tuples-fit (signature_of q.domain) c.args.here.now.reading.number c.args.quantified.now.junction c.args.quantified.now.vars.now c.args.quantified.now.bound.now (tree_of_formula c.args.quantified.now.part.now) (predicates-few q) (functions-few q) c.requires.fits in
-    let next = c.next.ensures.next c.args.quantified.now.vars.now (assignment_in (take 32 c.args.frames.now)) c.tuples.invariant.reads in
+    let next = c.next.ensures.next _ _ c.args.quantified.now.vars.now (assignment_in (take 32 c.args.frames.now)) c.tuples.invariant.reads in
     let all = tuples_read (plain_problem c.args.here.now.task.now.problem) c.args.here.now.world.now c.args.here.now.reading.number c.args.here.now.reading.level (assignment_in (take 32 c.args.frames.now)) c.args.quantified.now.vars.now c.args.quantified.now.bound.now (tree_of_formula c.args.quantified.now.part.now) in
     subst (λ (o : Option (List Value)). length (rest_after o all) < length (rest_after c.tuples.tuples.tuple all)) (sym c.values.ensures.values)
     (fewer-left (plain_problem c.args.here.now.task.now.problem) c.args.here.now.world.now c.args.here.now.reading.number c.args.here.now.reading.level (assignment_in (take 32 c.args.frames.now)) c.args.quantified.now.vars.now c.args.quantified.now.bound.now (tree_of_formula c.args.quantified.now.part.now) fit.differ fit.occur c.args.quantified.now.junction c.deciding_truth-stop.result c.deciding_truth-stop.ensures c.tuples.tuples.tuple c.tuples.invariant.passed c.next.new.self.tuple c.values.result.now next c.values.ensures.values)
@@ -529,5 +529,5 @@ pub tuples_true-returns-clause-truth : goal.tuples_true-returns-clause-truth
 tuples_true-returns-clause-truth t c =
     let q = c.args.here.now.task.now.problem in
     let fit = tuples-fit (signature_of q.domain) c.args.here.now.reading.number c.args.quantified.now.junction c.args.quantified.now.vars.now c.args.quantified.now.bound.now (tree_of_formula c.args.quantified.now.part.now) (predicates-few q) (functions-few q) c.requires.fits in
-    let next = c.next.ensures.next c.args.quantified.now.vars.now (assignment_in (take 32 c.args.frames.now)) c.tuples.invariant.reads in
+    let next = c.next.ensures.next _ _ c.args.quantified.now.vars.now (assignment_in (take 32 c.args.frames.now)) c.tuples.invariant.reads in
     tuples-end (plain_problem c.args.here.now.task.now.problem) c.args.here.now.world.now c.args.here.now.reading.number c.args.here.now.reading.level (assignment_in (take 32 c.args.frames.now)) c.args.quantified.now.vars.now c.args.quantified.now.bound.now (tree_of_formula c.args.quantified.now.part.now) fit.differ fit.occur c.args.quantified.now.junction c.deciding_truth-stop.result c.deciding_truth-stop.ensures c.tuples.tuples.tuple c.tuples.invariant.passed c.next.new.self.tuple next (c.next.ensures.end c.tuples-test.false)

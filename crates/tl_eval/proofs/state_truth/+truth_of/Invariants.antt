@@ -1,11 +1,12 @@
 use Rattle.std.proofs.Common.{◌≡◌, ◌+◌, drop, take, length}
 use Rattle.tl_eval.specs.Frames.{assignment_in, AgreeElsewhere}
-use Rattle.tl_eval.specs.Reader.{ReadsTuples}
+use Rattle.tl_eval.specs.BoundTuples.{ReadsBound}
 use Rattle.tl_eval.specs.Remembered.{AreTruths}
 use Rattle.tl_eval.proofs.FormulaSizes.{formula_nodes, formulas_nodes, weight}
 use Rattle.tl_eval.proofs.StateLaws.{PartsPassed, TuplesPassed, tuples_read}
 use Rattle.tl_eval.proofs.TupleRest.{rest_after}
 use Rattle.tl_syntax.specs.TreeOfFormula.{tree_of_formula, tree_of_formulas}
+use Rattle.tl_terms.specs.Definitions.{situation_of}
 use Rattle.tl_terms.specs.ProblemMeaning.{plain_problem}
 use Rattle.tl_eval.proofs.state_truth.+truth_of.Given as goal
 
@@ -42,7 +43,7 @@ decreases-tuples_true-tuples l = length (rest_after l.tuples.tuple (tuples_read 
 
 abbrev pub invariant-tuples_true-tuples : goal.invariant-tuples_true-tuples
 invariant-tuples_true-tuples l = record {
-  reads : ReadsTuples l.quantified.vars.now (assignment_in (take 32 l.fn.frames)) l.quantified.bound.now l.tuples;
+  reads : ReadsBound (situation_of (plain_problem l.here.task.now.problem) l.here.world.now) l.quantified.vars.now (assignment_in (take 32 l.fn.frames)) l.quantified.bound.now l.tuples;
   scope : AgreeElsewhere l.quantified.vars.now (assignment_in (take 32 l.frames)) (assignment_in (take 32 l.fn.frames));
   truths : AreTruths (plain_problem l.here.task.now.problem) l.here.world.now l.memory;
   passed : TuplesPassed (plain_problem l.here.task.now.problem) l.here.world.now l.here.reading.number l.here.reading.level (assignment_in (take 32 l.fn.frames)) l.quantified.vars.now l.quantified.bound.now (tree_of_formula l.quantified.part.now) l.stop l.tuples.tuple;

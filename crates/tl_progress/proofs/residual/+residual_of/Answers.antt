@@ -1,7 +1,7 @@
 use Rattle.std.proofs.Common.{◌≡◌, ◌<◌, ◌≤◌, ◌+◌, ℕ, List, true, false, map, drop, length, inl, inr, Option, Some, slice_get, refl, sym, ap, ◌∙◌, subst, arith}
 use Rattle.std.proofs.lemmas.Option.{slice_get_within}
+use Rattle.tl_eval.specs.BoundTuples.{ReadsBound}
 use Rattle.tl_eval.specs.Frames.{assignment_in, AgreeElsewhere, AreKept}
-use Rattle.tl_eval.specs.Reader.{ReadsTuples}
 use Rattle.tl_nodes.specs.Fits.{all_below}
 use Rattle.tl_nodes.specs.Joins.{simplified_join}
 use Rattle.tl_nodes.specs.NodeTrees.{tree_at, trees_at}
@@ -386,7 +386,7 @@ instances_residual-put_next-requires-clause-slots t c =
 
 pub instances_residual-put_next-requires-clause-reads : goal.instances_residual-put_next-requires-clause-reads
 instances_residual-put_next-requires-clause-reads t c =
-    ((assignment_in c.args.env.now), subst (λ (f : FormulaTree). ReadsTuples (vars_in f) (assignment_in c.args.env.now) (bound_in f) c.tuples.tuples) (sym (same-node (trees c.args.nodes.now) (trees c.tuples.nodes) c.tuples.invariant.kept c.args.quantifier c.requires.at)) c.tuples.invariant.reads)
+    (situation_of (plain_problem c.args.here.now.task.now.problem) c.args.here.now.world.now, node_bound (trees c.tuples.nodes) c.args.quantifier, assignment_in c.args.env.now, subst (λ (f : FormulaTree). ReadsBound (situation_of (plain_problem c.args.here.now.task.now.problem) c.args.here.now.world.now) (vars_in f) (assignment_in c.args.env.now) (bound_in f) c.tuples.tuples) (sym (same-node (trees c.args.nodes.now) (trees c.tuples.nodes) c.tuples.invariant.kept c.args.quantifier c.requires.at)) c.tuples.invariant.reads)
 
 pub instances_residual-residual_of-requires : goal.instances_residual-residual_of-requires
 instances_residual-residual_of-requires t c =
@@ -400,13 +400,13 @@ instances_residual-returns-in-Err-clause-kept t c =
 pub instances_residual-returns-in-Err-clause-cause : goal.instances_residual-returns-in-Err-clause-cause
 instances_residual-returns-in-Err-clause-cause t c =
     let fit = quantifier-fits c.args.here.now.task.now.problem c.args.quantifier.junction (node_vars (trees c.args.nodes.now) c.args.quantifier) (node_bound (trees c.args.nodes.now) c.args.quantifier) (tree_at (trees c.args.nodes.now) c.args.quantifier.part) (subst (FitsSomewhere (signature_of c.args.here.now.task.now.problem.domain)) c.requires.stands c.requires.fits) in
-    let step = stepped-then (trees c.args.nodes.now) (trees c.tuples.nodes) c.tuples.invariant.kept c.args.quantifier c.requires.at (situation_of (plain_problem c.args.here.now.task.now.problem) c.args.here.now.world.now) c.tuples.tuples c.put_next.new.tuples c.tuples.env c.put_next.new.env c.put_next.result c.put_next.ensures in
+    let step = stepped-then (trees c.args.nodes.now) (trees c.tuples.nodes) c.tuples.invariant.kept c.args.quantifier c.requires.at (situation_of (plain_problem c.args.here.now.task.now.problem) c.args.here.now.world.now) c.tuples.tuples c.put_next.new.tuples c.tuples.env c.put_next.new.env c.put_next.result (c.put_next.ensures _ _) in
     let come = has-come (plain_problem c.args.here.now.task.now.problem) c.args.here.now.world.now (assignment_in c.args.env.now) (node_vars (trees c.args.nodes.now) c.args.quantifier) (node_bound (trees c.args.nodes.now) c.args.quantifier) (tree_at (trees c.args.nodes.now) c.args.quantifier.part) c.tuples.tuples c.put_next.new.tuples c.tuples.env c.put_next.new.env c.put_next.result step c.tuples.invariant.reads fit.differ fit.occur c.tuples.invariant.others c.tuples-test.true in
     subst (λ (f : FormulaTree). IsCausedBy (looked_for_residual (plain_problem c.args.here.now.task.now.problem) c.args.here.now.world.now (assignment_in c.args.env.now) f) c.in-Err.fault) (sym c.requires.stands) (instance-caused (plain_problem c.args.here.now.task.now.problem) c.args.here.now.world.now (assignment_in c.args.env.now) (node_vars (trees c.args.nodes.now) c.args.quantifier) (node_bound (trees c.args.nodes.now) c.args.quantifier) (tree_at (trees c.args.nodes.now) c.args.quantifier.part) c.args.quantifier.junction c.tuples.tuples.tuple c.put_next.new.tuples.tuple c.put_next.new.env come (tree_at (trees c.tuples.nodes) c.args.quantifier.part) (stays (trees c.args.nodes.now) (trees c.tuples.nodes) c.tuples.invariant.kept c.args.quantifier.part c.requires.part) c.in-Err.fault c.in-Err.ensures.cause)
 
 pub instances_residual-returns-in-Err-clause-others : goal.instances_residual-returns-in-Err-clause-others
 instances_residual-returns-in-Err-clause-others t c =
-    let step = stepped-then (trees c.args.nodes.now) (trees c.tuples.nodes) c.tuples.invariant.kept c.args.quantifier c.requires.at (situation_of (plain_problem c.args.here.now.task.now.problem) c.args.here.now.world.now) c.tuples.tuples c.put_next.new.tuples c.tuples.env c.put_next.new.env c.put_next.result c.put_next.ensures in
+    let step = stepped-then (trees c.args.nodes.now) (trees c.tuples.nodes) c.tuples.invariant.kept c.args.quantifier c.requires.at (situation_of (plain_problem c.args.here.now.task.now.problem) c.args.here.now.world.now) c.tuples.tuples c.put_next.new.tuples c.tuples.env c.put_next.new.env c.put_next.result (c.put_next.ensures _ _) in
     still-others (plain_problem c.args.here.now.task.now.problem) c.args.here.now.world.now (assignment_in c.args.env.now) (node_vars (trees c.args.nodes.now) c.args.quantifier) (node_bound (trees c.args.nodes.now) c.args.quantifier) (tree_at (trees c.args.nodes.now) c.args.quantifier.part) c.tuples.tuples c.put_next.new.tuples c.tuples.env c.put_next.new.env c.put_next.result step c.tuples.invariant.reads c.tuples.invariant.others c.residual_of.new.env c.residual_of.ensures.frame
 
 pub instances_residual-decides-requires : goal.instances_residual-decides-requires
@@ -420,19 +420,19 @@ instances_residual-returns-then-decides-clause-kept t c =
 pub instances_residual-returns-then-decides-clause-number : goal.instances_residual-returns-then-decides-clause-number
 instances_residual-returns-then-decides-clause-number t c =
     let fit = quantifier-fits c.args.here.now.task.now.problem c.args.quantifier.junction (node_vars (trees c.args.nodes.now) c.args.quantifier) (node_bound (trees c.args.nodes.now) c.args.quantifier) (tree_at (trees c.args.nodes.now) c.args.quantifier.part) (subst (FitsSomewhere (signature_of c.args.here.now.task.now.problem.domain)) c.requires.stands c.requires.fits) in
-    let step = stepped-then (trees c.args.nodes.now) (trees c.tuples.nodes) c.tuples.invariant.kept c.args.quantifier c.requires.at (situation_of (plain_problem c.args.here.now.task.now.problem) c.args.here.now.world.now) c.tuples.tuples c.put_next.new.tuples c.tuples.env c.put_next.new.env c.put_next.result c.put_next.ensures in
+    let step = stepped-then (trees c.args.nodes.now) (trees c.tuples.nodes) c.tuples.invariant.kept c.args.quantifier c.requires.at (situation_of (plain_problem c.args.here.now.task.now.problem) c.args.here.now.world.now) c.tuples.tuples c.put_next.new.tuples c.tuples.env c.put_next.new.env c.put_next.result (c.put_next.ensures _ _) in
     let come = has-come (plain_problem c.args.here.now.task.now.problem) c.args.here.now.world.now (assignment_in c.args.env.now) (node_vars (trees c.args.nodes.now) c.args.quantifier) (node_bound (trees c.args.nodes.now) c.args.quantifier) (tree_at (trees c.args.nodes.now) c.args.quantifier.part) c.tuples.tuples c.put_next.new.tuples c.tuples.env c.put_next.new.env c.put_next.result step c.tuples.invariant.reads fit.differ fit.occur c.tuples.invariant.others c.tuples-test.true in
     instance-decides (plain_problem c.args.here.now.task.now.problem) c.args.here.now.world.now (assignment_in c.args.env.now) (node_vars (trees c.args.nodes.now) c.args.quantifier) (node_bound (trees c.args.nodes.now) c.args.quantifier) (tree_at (trees c.args.nodes.now) c.args.quantifier.part) c.args.quantifier.junction c.tuples.tuples.tuple c.put_next.new.tuples.tuple c.put_next.new.env come (tree_at (trees c.tuples.nodes) c.args.quantifier.part) (stays (trees c.args.nodes.now) (trees c.tuples.nodes) c.tuples.invariant.kept c.args.quantifier.part c.requires.part) (trees c.tuples.nodes) (trees c.residual_of.new.nodes) c.in-Ok.ensures.kept c.tuples.answers c.tuples.invariant.passed c.in-Ok.number c.in-Ok.ensures.number (c.decides.ensures c.if-decides.true) ∙ ap (λ (f : FormulaTree). Some (residual (plain_problem c.args.here.now.task.now.problem) c.args.here.now.world.now (assignment_in c.args.env.now) f)) (sym c.requires.stands)
 
 pub instances_residual-returns-then-decides-clause-others : goal.instances_residual-returns-then-decides-clause-others
 instances_residual-returns-then-decides-clause-others t c =
-    let step = stepped-then (trees c.args.nodes.now) (trees c.tuples.nodes) c.tuples.invariant.kept c.args.quantifier c.requires.at (situation_of (plain_problem c.args.here.now.task.now.problem) c.args.here.now.world.now) c.tuples.tuples c.put_next.new.tuples c.tuples.env c.put_next.new.env c.put_next.result c.put_next.ensures in
+    let step = stepped-then (trees c.args.nodes.now) (trees c.tuples.nodes) c.tuples.invariant.kept c.args.quantifier c.requires.at (situation_of (plain_problem c.args.here.now.task.now.problem) c.args.here.now.world.now) c.tuples.tuples c.put_next.new.tuples c.tuples.env c.put_next.new.env c.put_next.result (c.put_next.ensures _ _) in
     still-others (plain_problem c.args.here.now.task.now.problem) c.args.here.now.world.now (assignment_in c.args.env.now) (node_vars (trees c.args.nodes.now) c.args.quantifier) (node_bound (trees c.args.nodes.now) c.args.quantifier) (tree_at (trees c.args.nodes.now) c.args.quantifier.part) c.tuples.tuples c.put_next.new.tuples c.tuples.env c.put_next.new.env c.put_next.result step c.tuples.invariant.reads c.tuples.invariant.others c.residual_of.new.env c.residual_of.ensures.frame
 
 pub instances_residual-gather-requires : goal.instances_residual-gather-requires
 instances_residual-gather-requires t c =
     let fit = quantifier-fits c.args.here.now.task.now.problem c.args.quantifier.junction (node_vars (trees c.args.nodes.now) c.args.quantifier) (node_bound (trees c.args.nodes.now) c.args.quantifier) (tree_at (trees c.args.nodes.now) c.args.quantifier.part) (subst (FitsSomewhere (signature_of c.args.here.now.task.now.problem.domain)) c.requires.stands c.requires.fits) in
-    let step = stepped-then (trees c.args.nodes.now) (trees c.tuples.nodes) c.tuples.invariant.kept c.args.quantifier c.requires.at (situation_of (plain_problem c.args.here.now.task.now.problem) c.args.here.now.world.now) c.tuples.tuples c.put_next.new.tuples c.tuples.env c.put_next.new.env c.put_next.result c.put_next.ensures in
+    let step = stepped-then (trees c.args.nodes.now) (trees c.tuples.nodes) c.tuples.invariant.kept c.args.quantifier c.requires.at (situation_of (plain_problem c.args.here.now.task.now.problem) c.args.here.now.world.now) c.tuples.tuples c.put_next.new.tuples c.tuples.env c.put_next.new.env c.put_next.result (c.put_next.ensures _ _) in
     let come = has-come (plain_problem c.args.here.now.task.now.problem) c.args.here.now.world.now (assignment_in c.args.env.now) (node_vars (trees c.args.nodes.now) c.args.quantifier) (node_bound (trees c.args.nodes.now) c.args.quantifier) (tree_at (trees c.args.nodes.now) c.args.quantifier.part) c.tuples.tuples c.put_next.new.tuples c.tuples.env c.put_next.new.env c.put_next.result step c.tuples.invariant.reads fit.differ fit.occur c.tuples.invariant.others c.tuples-test.true in
     record { parts = instances-below (plain_problem c.args.here.now.task.now.problem) c.args.here.now.world.now (assignment_in c.args.env.now) (node_vars (trees c.args.nodes.now) c.args.quantifier) (node_bound (trees c.args.nodes.now) c.args.quantifier) (tree_at (trees c.args.nodes.now) c.args.quantifier.part) c.args.quantifier.junction c.tuples.tuples.tuple c.put_next.new.tuples.tuple c.put_next.new.env come (tree_at (trees c.tuples.nodes) c.args.quantifier.part) (stays (trees c.args.nodes.now) (trees c.tuples.nodes) c.tuples.invariant.kept c.args.quantifier.part c.requires.part) (trees c.tuples.nodes) (trees c.residual_of.new.nodes) c.in-Ok.ensures.kept c.tuples.answers c.tuples.invariant.passed c.in-Ok.number c.in-Ok.ensures.number; part = slice_get_within (trees c.residual_of.new.nodes) c.in-Ok.number _ c.in-Ok.ensures.number }
 
@@ -442,20 +442,20 @@ instances_residual-returns-in_err-gather-in-Ok-clause-kept t c =
 
 pub instances_residual-returns-in_err-gather-in-Ok-clause-others : goal.instances_residual-returns-in_err-gather-in-Ok-clause-others
 instances_residual-returns-in_err-gather-in-Ok-clause-others t c =
-    let step = stepped-then (trees c.args.nodes.now) (trees c.tuples.nodes) c.tuples.invariant.kept c.args.quantifier c.requires.at (situation_of (plain_problem c.args.here.now.task.now.problem) c.args.here.now.world.now) c.tuples.tuples c.put_next.new.tuples c.tuples.env c.put_next.new.env c.put_next.result c.put_next.ensures in
+    let step = stepped-then (trees c.args.nodes.now) (trees c.tuples.nodes) c.tuples.invariant.kept c.args.quantifier c.requires.at (situation_of (plain_problem c.args.here.now.task.now.problem) c.args.here.now.world.now) c.tuples.tuples c.put_next.new.tuples c.tuples.env c.put_next.new.env c.put_next.result (c.put_next.ensures _ _) in
     still-others (plain_problem c.args.here.now.task.now.problem) c.args.here.now.world.now (assignment_in c.args.env.now) (node_vars (trees c.args.nodes.now) c.args.quantifier) (node_bound (trees c.args.nodes.now) c.args.quantifier) (tree_at (trees c.args.nodes.now) c.args.quantifier.part) c.tuples.tuples c.put_next.new.tuples c.tuples.env c.put_next.new.env c.put_next.result step c.tuples.invariant.reads c.tuples.invariant.others c.residual_of.new.env c.residual_of.ensures.frame
 
 pub instances_residual-tuples-smaller : goal.instances_residual-tuples-smaller
 instances_residual-tuples-smaller t c =
     let fit = quantifier-fits c.args.here.now.task.now.problem c.args.quantifier.junction (node_vars (trees c.args.nodes.now) c.args.quantifier) (node_bound (trees c.args.nodes.now) c.args.quantifier) (tree_at (trees c.args.nodes.now) c.args.quantifier.part) (subst (FitsSomewhere (signature_of c.args.here.now.task.now.problem.domain)) c.requires.stands c.requires.fits) in
-    let step = stepped-then (trees c.args.nodes.now) (trees c.tuples.nodes) c.tuples.invariant.kept c.args.quantifier c.requires.at (situation_of (plain_problem c.args.here.now.task.now.problem) c.args.here.now.world.now) c.tuples.tuples c.put_next.new.tuples c.tuples.env c.put_next.new.env c.put_next.result c.put_next.ensures in
+    let step = stepped-then (trees c.args.nodes.now) (trees c.tuples.nodes) c.tuples.invariant.kept c.args.quantifier c.requires.at (situation_of (plain_problem c.args.here.now.task.now.problem) c.args.here.now.world.now) c.tuples.tuples c.put_next.new.tuples c.tuples.env c.put_next.new.env c.put_next.result (c.put_next.ensures _ _) in
     let come = has-come (plain_problem c.args.here.now.task.now.problem) c.args.here.now.world.now (assignment_in c.args.env.now) (node_vars (trees c.args.nodes.now) c.args.quantifier) (node_bound (trees c.args.nodes.now) c.args.quantifier) (tree_at (trees c.args.nodes.now) c.args.quantifier.part) c.tuples.tuples c.put_next.new.tuples c.tuples.env c.put_next.new.env c.put_next.result step c.tuples.invariant.reads fit.differ fit.occur c.tuples.invariant.others c.tuples-test.true in
     come.fewer
 
 pub instances_residual-tuples-preserved : goal.instances_residual-tuples-preserved
 instances_residual-tuples-preserved t c =
     let fit = quantifier-fits c.args.here.now.task.now.problem c.args.quantifier.junction (node_vars (trees c.args.nodes.now) c.args.quantifier) (node_bound (trees c.args.nodes.now) c.args.quantifier) (tree_at (trees c.args.nodes.now) c.args.quantifier.part) (subst (FitsSomewhere (signature_of c.args.here.now.task.now.problem.domain)) c.requires.stands c.requires.fits) in
-    let step = stepped-then (trees c.args.nodes.now) (trees c.tuples.nodes) c.tuples.invariant.kept c.args.quantifier c.requires.at (situation_of (plain_problem c.args.here.now.task.now.problem) c.args.here.now.world.now) c.tuples.tuples c.put_next.new.tuples c.tuples.env c.put_next.new.env c.put_next.result c.put_next.ensures in
+    let step = stepped-then (trees c.args.nodes.now) (trees c.tuples.nodes) c.tuples.invariant.kept c.args.quantifier c.requires.at (situation_of (plain_problem c.args.here.now.task.now.problem) c.args.here.now.world.now) c.tuples.tuples c.put_next.new.tuples c.tuples.env c.put_next.new.env c.put_next.result (c.put_next.ensures _ _) in
     let come = has-come (plain_problem c.args.here.now.task.now.problem) c.args.here.now.world.now (assignment_in c.args.env.now) (node_vars (trees c.args.nodes.now) c.args.quantifier) (node_bound (trees c.args.nodes.now) c.args.quantifier) (tree_at (trees c.args.nodes.now) c.args.quantifier.part) c.tuples.tuples c.put_next.new.tuples c.tuples.env c.put_next.new.env c.put_next.result step c.tuples.invariant.reads fit.differ fit.occur c.tuples.invariant.others c.tuples-test.true in
     record {
       remembers = c.residual_of.ensures.remembers;
@@ -480,19 +480,19 @@ instances_residual-returns-in_err-number-clause-kept t c =
 pub instances_residual-returns-clause-number : goal.instances_residual-returns-clause-number
 instances_residual-returns-clause-number t c =
     let fit = quantifier-fits c.args.here.now.task.now.problem c.args.quantifier.junction (node_vars (trees c.args.nodes.now) c.args.quantifier) (node_bound (trees c.args.nodes.now) c.args.quantifier) (tree_at (trees c.args.nodes.now) c.args.quantifier.part) (subst (FitsSomewhere (signature_of c.args.here.now.task.now.problem.domain)) c.requires.stands c.requires.fits) in
-    let step = stepped-then (trees c.args.nodes.now) (trees c.tuples.nodes) c.tuples.invariant.kept c.args.quantifier c.requires.at (situation_of (plain_problem c.args.here.now.task.now.problem) c.args.here.now.world.now) c.tuples.tuples c.put_next.new.tuples c.tuples.env c.put_next.new.env c.put_next.result c.put_next.ensures in
+    let step = stepped-then (trees c.args.nodes.now) (trees c.tuples.nodes) c.tuples.invariant.kept c.args.quantifier c.requires.at (situation_of (plain_problem c.args.here.now.task.now.problem) c.args.here.now.world.now) c.tuples.tuples c.put_next.new.tuples c.tuples.env c.put_next.new.env c.put_next.result (c.put_next.ensures _ _) in
     c.in_ok-number.ensures.number ∙ ap (λ (f : FormulaTree). Some f) (ap (λ (ids : List ℕ). simplified_join c.args.quantifier.junction (trees_at (trees c.tuples.nodes) ids)) c.as_slice.ensures
     ∙ (gathered-all (plain_problem c.args.here.now.task.now.problem) c.args.here.now.world.now (assignment_in c.args.env.now) (node_vars (trees c.args.nodes.now) c.args.quantifier) (node_bound (trees c.args.nodes.now) c.args.quantifier) (tree_at (trees c.args.nodes.now) c.args.quantifier.part) c.args.quantifier.junction (trees c.tuples.nodes) c.tuples.answers c.tuples.tuples.tuple c.tuples.invariant.passed (none-left (plain_problem c.args.here.now.task.now.problem) c.args.here.now.world.now (assignment_in c.args.env.now) (node_vars (trees c.args.nodes.now) c.args.quantifier) (node_bound (trees c.args.nodes.now) c.args.quantifier) (tree_at (trees c.args.nodes.now) c.args.quantifier.part) c.tuples.tuples c.put_next.new.tuples c.tuples.env c.put_next.new.env c.put_next.result step c.tuples.invariant.reads fit.differ fit.occur c.tuples-test.false)
     ∙ ap (residual (plain_problem c.args.here.now.task.now.problem) c.args.here.now.world.now (assignment_in c.args.env.now)) (sym c.requires.stands)))
 
 pub instances_residual-returns-clause-others : goal.instances_residual-returns-clause-others
 instances_residual-returns-clause-others t c =
-    let step = stepped-then (trees c.args.nodes.now) (trees c.tuples.nodes) c.tuples.invariant.kept c.args.quantifier c.requires.at (situation_of (plain_problem c.args.here.now.task.now.problem) c.args.here.now.world.now) c.tuples.tuples c.put_next.new.tuples c.tuples.env c.put_next.new.env c.put_next.result c.put_next.ensures in
+    let step = stepped-then (trees c.args.nodes.now) (trees c.tuples.nodes) c.tuples.invariant.kept c.args.quantifier c.requires.at (situation_of (plain_problem c.args.here.now.task.now.problem) c.args.here.now.world.now) c.tuples.tuples c.put_next.new.tuples c.tuples.env c.put_next.new.env c.put_next.result (c.put_next.ensures _ _) in
     still-others (plain_problem c.args.here.now.task.now.problem) c.args.here.now.world.now (assignment_in c.args.env.now) (node_vars (trees c.args.nodes.now) c.args.quantifier) (node_bound (trees c.args.nodes.now) c.args.quantifier) (tree_at (trees c.args.nodes.now) c.args.quantifier.part) c.tuples.tuples c.put_next.new.tuples c.tuples.env c.put_next.new.env c.put_next.result step c.tuples.invariant.reads c.tuples.invariant.others c.put_next.new.env refl
 
 pub instances_residual-returns-in_err-number-clause-others : goal.instances_residual-returns-in_err-number-clause-others
 instances_residual-returns-in_err-number-clause-others t c =
-    let step = stepped-then (trees c.args.nodes.now) (trees c.tuples.nodes) c.tuples.invariant.kept c.args.quantifier c.requires.at (situation_of (plain_problem c.args.here.now.task.now.problem) c.args.here.now.world.now) c.tuples.tuples c.put_next.new.tuples c.tuples.env c.put_next.new.env c.put_next.result c.put_next.ensures in
+    let step = stepped-then (trees c.args.nodes.now) (trees c.tuples.nodes) c.tuples.invariant.kept c.args.quantifier c.requires.at (situation_of (plain_problem c.args.here.now.task.now.problem) c.args.here.now.world.now) c.tuples.tuples c.put_next.new.tuples c.tuples.env c.put_next.new.env c.put_next.result (c.put_next.ensures _ _) in
     still-others (plain_problem c.args.here.now.task.now.problem) c.args.here.now.world.now (assignment_in c.args.env.now) (node_vars (trees c.args.nodes.now) c.args.quantifier) (node_bound (trees c.args.nodes.now) c.args.quantifier) (tree_at (trees c.args.nodes.now) c.args.quantifier.part) c.tuples.tuples c.put_next.new.tuples c.tuples.env c.put_next.new.env c.put_next.result step c.tuples.invariant.reads c.tuples.invariant.others c.put_next.new.env refl
 
 -- ---- what the variables of a quantifier had
@@ -523,7 +523,7 @@ quantifier_residual-returns-clause-frame t c =
 
 pub quantifier_residual-instances_residual-answer-requires : goal.quantifier_residual-instances_residual-answer-requires
 quantifier_residual-instances_residual-answer-requires t c =
-    (omega (arith, c.decreases), (c.requires.at, (c.requires.part, (c.requires.stands, (c.requires.fits, (nothing-known _ _ refl, (c.open.ensures.reads, (c.open.ensures.before, c.requires.remembers))))))))
+    (omega (arith, c.decreases), (c.requires.at, (c.requires.part, (c.requires.stands, (c.requires.fits, (nothing-known _ _ refl, (c.tuples-tuples.ensures.reads c.args.env.now c.open.ensures.stands, (c.tuples-tuples.ensures.before, c.requires.remembers))))))))
 
 -- ---- what is known
 

@@ -1,10 +1,11 @@
 use Rattle.std.proofs.Common.{◌≡◌, ◌+◌, ◌*◌, map, drop, length}
+use Rattle.tl_eval.specs.BoundTuples.{ReadsBound}
 use Rattle.tl_eval.specs.Frames.{assignment_in, AgreeElsewhere}
-use Rattle.tl_eval.specs.Reader.{ReadsTuples}
 use Rattle.tl_eval.specs.Remembered.{AreTruths}
 use Rattle.tl_nodes.specs.NodeTrees.{tree_at}
 use Rattle.tl_nodes.specs.Numbering.{Keeps}
 use Rattle.tl_nodes.specs.Numbers.{trees}
+use Rattle.tl_terms.specs.Definitions.{situation_of}
 use Rattle.tl_terms.specs.ProblemMeaning.{plain_problem}
 use Rattle.tl_progress.specs.Answers.{residual}
 use Rattle.tl_progress.specs.Parts.{join_parts}
@@ -44,7 +45,7 @@ abbrev pub invariant-instances_residual-tuples : goal.invariant-instances_residu
 invariant-instances_residual-tuples l = record {
   remembers : AreTruths (plain_problem l.here.task.now.problem) l.here.world.now l.memory;
   kept : Keeps (trees l.fn.nodes) (trees l.nodes);
-  reads : ReadsTuples (node_vars (trees l.fn.nodes) l.quantifier) (assignment_in l.fn.env) (node_bound (trees l.fn.nodes) l.quantifier) l.tuples;
+  reads : ReadsBound (situation_of (plain_problem l.here.task.now.problem) l.here.world.now) (node_vars (trees l.fn.nodes) l.quantifier) (assignment_in l.fn.env) (node_bound (trees l.fn.nodes) l.quantifier) l.tuples;
   others : AgreeElsewhere (node_vars (trees l.fn.nodes) l.quantifier) (assignment_in l.env) (assignment_in l.fn.env);
   passed : Gathered l.quantifier.junction (trees l.nodes) l.answers (next_after (plain_problem l.here.task.now.problem) l.here.world.now (assignment_in l.fn.env) (node_vars (trees l.fn.nodes) l.quantifier) (node_bound (trees l.fn.nodes) l.quantifier) (tree_at (trees l.fn.nodes) l.quantifier.part) l.tuples.tuple)
       (next_of_all (plain_problem l.here.task.now.problem) l.here.world.now (assignment_in l.fn.env) (node_vars (trees l.fn.nodes) l.quantifier) (node_bound (trees l.fn.nodes) l.quantifier) (tree_at (trees l.fn.nodes) l.quantifier.part));

@@ -282,29 +282,29 @@ instances_truth-instance_truth-requires t c =
 pub instances_truth-returns-then-truth-stop-clause-truth : goal.instances_truth-returns-then-truth-stop-clause-truth
 instances_truth-returns-then-truth-stop-clause-truth t c =
     let fit = quantifier-fits c.args.here.now.task.now.problem c.args.quantified.now.junction c.args.quantified.now.vars.now c.args.quantified.now.bound.now (tree_at (trees c.args.nodes.now) c.args.quantified.now.part) c.requires.fits in
-    let come = has-come (plain_problem c.args.here.now.task.now.problem) c.args.here.now.world.now (assignment_in c.args.env.now) c.args.quantified.now.vars.now c.args.quantified.now.bound.now (tree_at (trees c.args.nodes.now) c.args.quantified.now.part) c.tuples.tuples c.put_instance.new.tuples c.tuples.env c.put_instance.new.env c.put_instance.result c.put_instance.ensures c.tuples.invariant.reads fit.differ fit.occur c.tuples.invariant.others c.tuples-test.true in
+    let come = has-come (plain_problem c.args.here.now.task.now.problem) c.args.here.now.world.now (assignment_in c.args.env.now) c.args.quantified.now.vars.now c.args.quantified.now.bound.now (tree_at (trees c.args.nodes.now) c.args.quantified.now.part) c.tuples.tuples c.put_instance.new.tuples c.tuples.env c.put_instance.new.env c.put_instance.result (c.put_instance.ensures _ _) c.tuples.invariant.reads fit.differ fit.occur c.tuples.invariant.others c.tuples-test.true in
     open-here (plain_problem c.args.here.now.task.now.problem) c.args.here.now.world.now (assignment_in c.args.env.now) c.args.quantified.now.vars.now c.args.quantified.now.bound.now (tree_at (trees c.args.nodes.now) c.args.quantified.now.part) fit.differ fit.occur c.tuples.tuples.tuple c.put_instance.new.tuples.tuple come.tuple come.next come.is c.args.quantified.now.junction c.deciding_truth-stop.result c.in-Ok.truth c.deciding_truth-stop.ensures c.tuples.invariant.passed (subst (λ (d : Assignment). c.in-Ok.truth ≡ idly_true (plain_problem c.args.here.now.task.now.problem) c.args.here.now.world.now d (tree_at (trees c.args.nodes.now) c.args.quantified.now.part)) come.here c.in-Ok.ensures.truth) c.if-truth-stop.true
 
 pub instances_truth-returns-in-Err-clause-cause : goal.instances_truth-returns-in-Err-clause-cause
 instances_truth-returns-in-Err-clause-cause t c =
     let fit = quantifier-fits c.args.here.now.task.now.problem c.args.quantified.now.junction c.args.quantified.now.vars.now c.args.quantified.now.bound.now (tree_at (trees c.args.nodes.now) c.args.quantified.now.part) c.requires.fits in
-    let come = has-come (plain_problem c.args.here.now.task.now.problem) c.args.here.now.world.now (assignment_in c.args.env.now) c.args.quantified.now.vars.now c.args.quantified.now.bound.now (tree_at (trees c.args.nodes.now) c.args.quantified.now.part) c.tuples.tuples c.put_instance.new.tuples c.tuples.env c.put_instance.new.env c.put_instance.result c.put_instance.ensures c.tuples.invariant.reads fit.differ fit.occur c.tuples.invariant.others c.tuples-test.true in
+    let come = has-come (plain_problem c.args.here.now.task.now.problem) c.args.here.now.world.now (assignment_in c.args.env.now) c.args.quantified.now.vars.now c.args.quantified.now.bound.now (tree_at (trees c.args.nodes.now) c.args.quantified.now.part) c.tuples.tuples c.put_instance.new.tuples c.tuples.env c.put_instance.new.env c.put_instance.result (c.put_instance.ensures _ _) c.tuples.invariant.reads fit.differ fit.occur c.tuples.invariant.others c.tuples-test.true in
     caused (plain_problem c.args.here.now.task.now.problem) c.args.here.now.world.now (assignment_in c.args.env.now) c.args.quantified.now.vars.now c.args.quantified.now.bound.now (tree_at (trees c.args.nodes.now) c.args.quantified.now.part) fit.differ fit.occur c.tuples.tuples.tuple c.put_instance.new.tuples.tuple come.tuple come.next come.is c.args.quantified.now.junction c.in-Err.fault (subst (λ (d : Assignment). IsCausedBy (looked_idly (plain_problem c.args.here.now.task.now.problem) c.args.here.now.world.now d (tree_at (trees c.args.nodes.now) c.args.quantified.now.part)) c.in-Err.fault) come.here c.in-Err.ensures.cause)
 
 pub instances_truth-tuples-smaller : goal.instances_truth-tuples-smaller
 instances_truth-tuples-smaller t c =
     let fit = quantifier-fits c.args.here.now.task.now.problem c.args.quantified.now.junction c.args.quantified.now.vars.now c.args.quantified.now.bound.now (tree_at (trees c.args.nodes.now) c.args.quantified.now.part) c.requires.fits in
-    let come = has-come (plain_problem c.args.here.now.task.now.problem) c.args.here.now.world.now (assignment_in c.args.env.now) c.args.quantified.now.vars.now c.args.quantified.now.bound.now (tree_at (trees c.args.nodes.now) c.args.quantified.now.part) c.tuples.tuples c.put_instance.new.tuples c.tuples.env c.put_instance.new.env c.put_instance.result c.put_instance.ensures c.tuples.invariant.reads fit.differ fit.occur c.tuples.invariant.others c.tuples-test.true in
+    let come = has-come (plain_problem c.args.here.now.task.now.problem) c.args.here.now.world.now (assignment_in c.args.env.now) c.args.quantified.now.vars.now c.args.quantified.now.bound.now (tree_at (trees c.args.nodes.now) c.args.quantified.now.part) c.tuples.tuples c.put_instance.new.tuples c.tuples.env c.put_instance.new.env c.put_instance.result (c.put_instance.ensures _ _) c.tuples.invariant.reads fit.differ fit.occur c.tuples.invariant.others c.tuples-test.true in
     come.fewer
 
 pub instances_truth-tuples-preserved : goal.instances_truth-tuples-preserved
 instances_truth-tuples-preserved t c =
     let fit = quantifier-fits c.args.here.now.task.now.problem c.args.quantified.now.junction c.args.quantified.now.vars.now c.args.quantified.now.bound.now (tree_at (trees c.args.nodes.now) c.args.quantified.now.part) c.requires.fits in
-    let come = has-come (plain_problem c.args.here.now.task.now.problem) c.args.here.now.world.now (assignment_in c.args.env.now) c.args.quantified.now.vars.now c.args.quantified.now.bound.now (tree_at (trees c.args.nodes.now) c.args.quantified.now.part) c.tuples.tuples c.put_instance.new.tuples c.tuples.env c.put_instance.new.env c.put_instance.result c.put_instance.ensures c.tuples.invariant.reads fit.differ fit.occur c.tuples.invariant.others c.tuples-test.true in
+    let come = has-come (plain_problem c.args.here.now.task.now.problem) c.args.here.now.world.now (assignment_in c.args.env.now) c.args.quantified.now.vars.now c.args.quantified.now.bound.now (tree_at (trees c.args.nodes.now) c.args.quantified.now.part) c.tuples.tuples c.put_instance.new.tuples c.tuples.env c.put_instance.new.env c.put_instance.result (c.put_instance.ensures _ _) c.tuples.invariant.reads fit.differ fit.occur c.tuples.invariant.others c.tuples-test.true in
     record {
       remembers = c.instance_truth.ensures.remembers;
-      reads = c.put_instance.ensures.reads (assignment_in c.args.env.now) c.tuples.invariant.reads;
-      others = still-others (plain_problem c.args.here.now.task.now.problem) c.args.here.now.world.now (assignment_in c.args.env.now) c.args.quantified.now.vars.now c.args.quantified.now.bound.now (tree_at (trees c.args.nodes.now) c.args.quantified.now.part) c.tuples.tuples c.put_instance.new.tuples c.tuples.env c.put_instance.new.env c.put_instance.result c.put_instance.ensures c.tuples.invariant.reads c.tuples.invariant.others c.instance_truth.new.env c.instance_truth.ensures.frame;
+      reads = (c.put_instance.ensures _ _).reads (assignment_in c.args.env.now) c.tuples.invariant.reads;
+      others = still-others (plain_problem c.args.here.now.task.now.problem) c.args.here.now.world.now (assignment_in c.args.env.now) c.args.quantified.now.vars.now c.args.quantified.now.bound.now (tree_at (trees c.args.nodes.now) c.args.quantified.now.part) c.tuples.tuples c.put_instance.new.tuples c.tuples.env c.put_instance.new.env c.put_instance.result (c.put_instance.ensures _ _) c.tuples.invariant.reads c.tuples.invariant.others c.instance_truth.new.env c.instance_truth.ensures.frame;
       passed = subst (Open (plain_problem c.args.here.now.task.now.problem) c.args.here.now.world.now (assignment_in c.args.env.now) c.args.quantified.now.vars.now c.args.quantified.now.bound.now (tree_at (trees c.args.nodes.now) c.args.quantified.now.part) c.deciding_truth-stop.result) (sym come.is) (open-on (plain_problem c.args.here.now.task.now.problem) c.args.here.now.world.now (assignment_in c.args.env.now) c.args.quantified.now.vars.now c.args.quantified.now.bound.now (tree_at (trees c.args.nodes.now) c.args.quantified.now.part) fit.differ fit.occur c.tuples.tuples.tuple c.put_instance.new.tuples.tuple come.tuple come.next come.is c.deciding_truth-stop.result c.in-Ok.truth c.tuples.invariant.passed (subst (λ (d : Assignment). c.in-Ok.truth ≡ idly_true (plain_problem c.args.here.now.task.now.problem) c.args.here.now.world.now d (tree_at (trees c.args.nodes.now) c.args.quantified.now.part)) come.here c.in-Ok.ensures.truth) c.if-truth-stop.false);
     }
 
@@ -312,4 +312,4 @@ pub instances_truth-returns-clause-truth : goal.instances_truth-returns-clause-t
 instances_truth-returns-clause-truth t c =
     let fit = quantifier-fits c.args.here.now.task.now.problem c.args.quantified.now.junction c.args.quantified.now.vars.now c.args.quantified.now.bound.now (tree_at (trees c.args.nodes.now) c.args.quantified.now.part) c.requires.fits in
     open-end (plain_problem c.args.here.now.task.now.problem) c.args.here.now.world.now (assignment_in c.args.env.now) c.args.quantified.now.vars.now c.args.quantified.now.bound.now (tree_at (trees c.args.nodes.now) c.args.quantified.now.part) fit.differ fit.occur c.tuples.tuples.tuple c.args.quantified.now.junction c.deciding_truth-stop.result c.deciding_truth-stop.ensures c.tuples.invariant.passed
-    (none-left (plain_problem c.args.here.now.task.now.problem) c.args.here.now.world.now (assignment_in c.args.env.now) c.args.quantified.now.vars.now c.args.quantified.now.bound.now (tree_at (trees c.args.nodes.now) c.args.quantified.now.part) c.tuples.tuples c.put_instance.new.tuples c.tuples.env c.put_instance.new.env c.put_instance.result c.put_instance.ensures c.tuples.invariant.reads fit.differ fit.occur c.tuples-test.false)
+    (none-left (plain_problem c.args.here.now.task.now.problem) c.args.here.now.world.now (assignment_in c.args.env.now) c.args.quantified.now.vars.now c.args.quantified.now.bound.now (tree_at (trees c.args.nodes.now) c.args.quantified.now.part) c.tuples.tuples c.put_instance.new.tuples c.tuples.env c.put_instance.new.env c.put_instance.result (c.put_instance.ensures _ _) c.tuples.invariant.reads fit.differ fit.occur c.tuples-test.false)

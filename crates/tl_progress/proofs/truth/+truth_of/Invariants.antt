@@ -1,9 +1,10 @@
 use Rattle.std.proofs.Common.{◌≡◌, ◌+◌, ◌*◌, ℕ, drop, length}
+use Rattle.tl_eval.specs.BoundTuples.{ReadsBound}
 use Rattle.tl_eval.specs.Frames.{assignment_in, AgreeElsewhere}
-use Rattle.tl_eval.specs.Reader.{ReadsTuples}
 use Rattle.tl_eval.specs.Remembered.{AreTruths}
 use Rattle.tl_nodes.specs.NodeTrees.{tree_at}
 use Rattle.tl_nodes.specs.Numbers.{trees}
+use Rattle.tl_terms.specs.Definitions.{situation_of}
 use Rattle.tl_terms.specs.ProblemMeaning.{plain_problem}
 use Rattle.tl_progress.specs.Answers.{decided, idly_true}
 use Rattle.tl_progress.proofs.Instances.{Open, left_after}
@@ -44,7 +45,7 @@ decreases-instances_truth-tuples l = length (left_after (plain_problem l.here.ta
 abbrev pub invariant-instances_truth-tuples : goal.invariant-instances_truth-tuples
 invariant-instances_truth-tuples l = record {
   remembers : AreTruths (plain_problem l.here.task.now.problem) l.here.world.now l.memory;
-  reads : ReadsTuples l.quantified.vars.now (assignment_in l.fn.env) l.quantified.bound.now l.tuples;
+  reads : ReadsBound (situation_of (plain_problem l.here.task.now.problem) l.here.world.now) l.quantified.vars.now (assignment_in l.fn.env) l.quantified.bound.now l.tuples;
   others : AgreeElsewhere l.quantified.vars.now (assignment_in l.env) (assignment_in l.fn.env);
   passed : Open (plain_problem l.here.task.now.problem) l.here.world.now (assignment_in l.fn.env) l.quantified.vars.now l.quantified.bound.now (tree_at (trees l.nodes) l.quantified.part) l.stop l.tuples.tuple;
 }

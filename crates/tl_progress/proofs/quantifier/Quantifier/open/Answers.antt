@@ -1,6 +1,6 @@
 use Rattle.std.proofs.Common.{◌≤◌, List, length, refl, sym, subst}
 use Rattle.tl_eval.specs.Frames.{assignment_in}
-use Rattle.tl_eval.specs.Reader.{ReadsTuples}
+use Rattle.tl_eval.specs.PatternOf.{IsPatternOf}
 use Rattle.tl_nodes.specs.NodeTrees.{tree_at}
 use Rattle.tl_nodes.specs.Numbers.{trees}
 use Rattle.tl_syntax.specs.declared.bound.Bound.{Bound}
@@ -30,10 +30,10 @@ open_in_place-requires-clause-fits c =
     let q = quantifier-fits c.args.task.now.problem c.args.self.junction (node_vars (trees c.args.nodes.now) c.args.self) (node_bound (trees c.args.nodes.now) c.args.self) (tree_at (trees c.args.nodes.now) c.args.self.part) (subst (FitsSomewhere (signature_of c.args.task.now.problem.domain)) c.requires.stands c.requires.fits) in
     subst (BoundFits (signature_of c.args.task.now.problem.domain)) (bound-ForAll (trees c.args.nodes.now) c.args.self.at c.get.result.now c.get.ensures.tree c.in-ForAll.vars c.in-ForAll.bound c.in-ForAll.field-2 c.in-ForAll.is) q.bound
 
-pub returns-in-ForAll-clause-reads : goal.returns-in-ForAll-clause-reads
-returns-in-ForAll-clause-reads c =
-    subst (λ (ss : List Var). ReadsTuples ss (assignment_in c.args.env.now) (node_bound (trees c.args.nodes.now) c.args.self) c.open_in_place.new.self) (sym (vars-ForAll (trees c.args.nodes.now) c.args.self.at c.get.result.now c.get.ensures.tree c.in-ForAll.vars c.in-ForAll.bound c.in-ForAll.field-2 c.in-ForAll.is))
-    (subst (λ (b : Bound). ReadsTuples c.in-ForAll.vars (assignment_in c.args.env.now) b c.open_in_place.new.self) (sym (bound-ForAll (trees c.args.nodes.now) c.args.self.at c.get.result.now c.get.ensures.tree c.in-ForAll.vars c.in-ForAll.bound c.in-ForAll.field-2 c.in-ForAll.is)) c.open_in_place.ensures.reads)
+pub returns-in-ForAll-clause-stands : goal.returns-in-ForAll-clause-stands
+returns-in-ForAll-clause-stands c =
+    subst (λ (ss : List Var). IsPatternOf ss (assignment_in c.args.env.now) (node_bound (trees c.args.nodes.now) c.args.self) c.open_in_place.new.self) (sym (vars-ForAll (trees c.args.nodes.now) c.args.self.at c.get.result.now c.get.ensures.tree c.in-ForAll.vars c.in-ForAll.bound c.in-ForAll.field-2 c.in-ForAll.is))
+    (subst (λ (b : Bound). IsPatternOf c.in-ForAll.vars (assignment_in c.args.env.now) b c.open_in_place.new.self) (sym (bound-ForAll (trees c.args.nodes.now) c.args.self.at c.get.result.now c.get.ensures.tree c.in-ForAll.vars c.in-ForAll.bound c.in-ForAll.field-2 c.in-ForAll.is)) c.open_in_place.ensures.stands)
 
 pub open_in_place-requires-in-Exists-clause-differ : goal.open_in_place-requires-in-Exists-clause-differ
 open_in_place-requires-in-Exists-clause-differ c =
@@ -51,10 +51,10 @@ open_in_place-requires-in-Exists-clause-fits c =
     let q = quantifier-fits c.args.task.now.problem c.args.self.junction (node_vars (trees c.args.nodes.now) c.args.self) (node_bound (trees c.args.nodes.now) c.args.self) (tree_at (trees c.args.nodes.now) c.args.self.part) (subst (FitsSomewhere (signature_of c.args.task.now.problem.domain)) c.requires.stands c.requires.fits) in
     subst (BoundFits (signature_of c.args.task.now.problem.domain)) (bound-Exists (trees c.args.nodes.now) c.args.self.at c.get.result.now c.get.ensures.tree c.in-Exists.vars c.in-Exists.bound c.in-Exists.field-2 c.in-Exists.is) q.bound
 
-pub returns-in-Exists-clause-reads : goal.returns-in-Exists-clause-reads
-returns-in-Exists-clause-reads c =
-    subst (λ (ss : List Var). ReadsTuples ss (assignment_in c.args.env.now) (node_bound (trees c.args.nodes.now) c.args.self) c.open_in_place-in-Exists.new.self) (sym (vars-Exists (trees c.args.nodes.now) c.args.self.at c.get.result.now c.get.ensures.tree c.in-Exists.vars c.in-Exists.bound c.in-Exists.field-2 c.in-Exists.is))
-    (subst (λ (b : Bound). ReadsTuples c.in-Exists.vars (assignment_in c.args.env.now) b c.open_in_place-in-Exists.new.self) (sym (bound-Exists (trees c.args.nodes.now) c.args.self.at c.get.result.now c.get.ensures.tree c.in-Exists.vars c.in-Exists.bound c.in-Exists.field-2 c.in-Exists.is)) c.open_in_place-in-Exists.ensures.reads)
+pub returns-in-Exists-clause-stands : goal.returns-in-Exists-clause-stands
+returns-in-Exists-clause-stands c =
+    subst (λ (ss : List Var). IsPatternOf ss (assignment_in c.args.env.now) (node_bound (trees c.args.nodes.now) c.args.self) c.open_in_place-in-Exists.new.self) (sym (vars-Exists (trees c.args.nodes.now) c.args.self.at c.get.result.now c.get.ensures.tree c.in-Exists.vars c.in-Exists.bound c.in-Exists.field-2 c.in-Exists.is))
+    (subst (λ (b : Bound). IsPatternOf c.in-Exists.vars (assignment_in c.args.env.now) b c.open_in_place-in-Exists.new.self) (sym (bound-Exists (trees c.args.nodes.now) c.args.self.at c.get.result.now c.get.ensures.tree c.in-Exists.vars c.in-Exists.bound c.in-Exists.field-2 c.in-Exists.is)) c.open_in_place-in-Exists.ensures.stands)
 
 pub returns-in-ForAll-clause-few : goal.returns-in-ForAll-clause-few
 returns-in-ForAll-clause-few c = subst (λ (ss : List Var). length ss ≤ 9) (sym (vars-ForAll (trees c.args.nodes.now) c.args.self.at c.get.result.now c.get.ensures.tree c.in-ForAll.vars c.in-ForAll.bound c.in-ForAll.field-2 c.in-ForAll.is)) c.open_in_place.ensures.few
