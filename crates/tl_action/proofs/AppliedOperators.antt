@@ -1,5 +1,5 @@
 -- The step of an action by its operator.
-use Rattle.std.proofs.Common.{◌≡◌, ◌<◌, ◌==◌, ◌&&◌, ◌++◌, ℕ, zero, suc, List, [], ◌∷◌, map, flat_map, length, slice_get, get_or, cond, Bool, true, false, true≢false, Option, Some, None, is_some, Result, Ok, Err, refl, sym, ap, ◌∙◌, subst, arith}
+use Rattle.std.proofs.Common.{◌≡◌, ◌<◌, ◌==◌, ◌&&◌, ◌++◌, ℕ, zero, suc, List, [], ◌∷◌, map, flat_map, length, slice_get, get_or, cond, Bool, true, false, true≢false, Option, Some, None, is_some, Result, Ok, Err, IfOk, IfErr, refl, sym, ap, ◌∙◌, subst, arith}
 use Rattle.std.proofs.lemmas.Bool.{eq-eqb}
 use Rattle.std.proofs.lemmas.List.{length-map}
 use Rattle.std.specs.List.{list_all}
@@ -8,6 +8,7 @@ use Rattle.tl_action.specs.declared.fault.ActFault.{ActFault}
 use Rattle.tl_action.specs.Actions.{HasOperator}
 use Rattle.tl_action.specs.Agreement.{Agree}
 use Rattle.tl_action.specs.Answers.{IsCausedBy}
+use Rattle.tl_action.specs.ChangedWorlds.{AreChangesOf, world_after}
 use Rattle.tl_action.specs.Collected.{no_changes, HasMore, Collects}
 use Rattle.tl_action.specs.Prepared.{instances_of, is_prepared, looked_prepared, CollectsWhole, Prepares}
 use Rattle.tl_action.proofs.Operators.{OperatorAgrees, operator-agrees}
@@ -166,6 +167,18 @@ module _ (problem : Problem) (w : World) (a : Action) (o : Operator) (at : Opera
   step-caused h x k =
       subst (λ (ls : List Operation). IsCausedBy ls x)
       (same.looked ∙ sym (looked-is meaning w a (plain_operator o) at.there at.arity ∙ ap (λ (b : Bool). cond b (looked_prepared meaning w values (plain_operator o)) []) (sym same.bounds ∙ h))) k
+
+  -- ---- whatever was prepared
+
+  pub step-answered : list_all (bound_true (situation_of meaning w) d) o.bounds ≡ true → (r : Result (Option Changes) ActFault) → Prepares meaning w d (plain_operator o) r → IfOk r (AreChangesOf meaning w a)
+  unfolding world_after
+  step-answered h (Ok (Some x)) k = step-made h x k (world_after w x) refl refl
+  step-answered h (Ok None) k = sym (step-unprepared k)
+  step-answered h (Err x) k = tt
+
+  pub answer-caused : list_all (bound_true (situation_of meaning w) d) o.bounds ≡ true → (r : Result (Option Changes) ActFault) → Prepares meaning w d (plain_operator o) r → IfErr r (IsCausedBy (looked_by_action meaning w a))
+  answer-caused h (Ok x) k = tt
+  answer-caused h (Err x) k = step-caused h x k
 
   -- ---- an action that is known to have a step
 

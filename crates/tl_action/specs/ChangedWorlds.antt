@@ -1,5 +1,5 @@
 -- The world that changes make.
-use Rattle.std.specs.Prelude.{◌≡◌, ℕ, map, Some}
+use Rattle.std.specs.Prelude.{◌≡◌, ℕ, map, Option, Some, None}
 use Rattle.tl_action.specs.declared.changes.Changes.{Changes}
 use Rattle.tl_action.specs.Actions.{StaysNamed}
 use Rattle.tl_syntax.specs.declared.action.Action.{Action}
@@ -22,6 +22,11 @@ IsWorldAfter p w a next = Some next ≡ step p w a
 -- the changes make the world after the action
 abbrev pub MakeWorldAfter : PlainProblem → World → Action → Changes → Type 0
 MakeWorldAfter p w a c = Some (world_after w c) ≡ step p w a
+
+-- so they do; none exactly where the action has no step
+abbrev pub AreChangesOf : PlainProblem → World → Action → Option Changes → Type 0
+AreChangesOf p w a (Some c) = MakeWorldAfter p w a c
+AreChangesOf p w a None = step p w a ≡ None
 
 -- where a world and the arguments of an action are named, so is the world that the changes make
 abbrev pub LeaveNamed : ℕ → World → Action → Changes → Type 0

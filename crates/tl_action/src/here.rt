@@ -4,11 +4,11 @@ use tl_world::{Task, World};
 
 /// Where actions are looked at: a world of a task.
 #[derive(Clone, Copy)]
-pub(crate) struct Here<'a> {
+pub struct Here<'a> {
     /// Where memory comes from.
-    pub(crate) alloc: Global,
+    pub alloc: Global,
     /// The task.
-    pub(crate) task: &'a Task,
+    pub task: &'a Task,
     /// The world.
-    pub(crate) world: &'a World,
+    pub world: &'a World,
 }

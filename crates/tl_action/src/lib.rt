@@ -49,5 +49,6 @@ pub use all_actions::{Lister, actions};
 pub use changes::Changes;
 pub use check_fault::CheckFault;
 pub use fault::ActFault;
+pub use here::Here;
 pub use next::{changes_by, next_world};
-pub use step::apply;
+pub use step::{apply, changes_if_executable};

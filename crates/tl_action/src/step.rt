@@ -1,53 +1,64 @@
 // The step of an action.
-ghost use Rattle.std.specs.Prelude.{◌≡◌, ◌+◌, IfOk, IfErr, IfSome};
-ghost use Rattle.tl_action.specs.Actions.{name_count, HasOperator, IsCausedByAction, StaysNamed};
-ghost use Rattle.tl_terms.specs.ProblemMeaning.{plain_problem};
-ghost use Rattle.tl_terms.specs.Step.{step};
+ghost use Rattle.std.specs.Prelude.{◌≡◌, ◌+◌, IfOk, IfErr};
+ghost use Rattle.tl_action.specs.StepsHere.{HasOperatorHere, AreChangesHere, IsFaultHere};
+ghost use Rattle.tl_action.specs.StepsHere.{IsStepHere, LeaveNamedHere, StaysNamedHere};
 
 use crate::ActFault;
 use crate::bounds::bounds_hold;
+use crate::changes::Changes;
 use crate::here::Here;
 use crate::prepared::prepared;
-use std::alloc::Global;
 use std::sync::ledger::Ledger;
 use tl_eval::Env;
 use tl_syntax::Action;
 use tl_terms::Steps;
-use tl_world::{Task, World};
+use tl_world::World;
+
+/// What the action changes: None exactly where the action is not executable in the world.
+/// `Changes::world_after` then makes the next world, which is that of `apply`.
+///
+/// All bounds, conditions and terms are read in the world: the bounds first, then the precondition, then the effects from left to right, up to the first that decides (Pednault 1989).
+/// A range fault tells an operation that the action looks at. Each call counts one step.
+/// The frame is left with values of its own: whoever reads a formula under it afterwards gives the formula's free variables their values first.
+pub fn changes_if_executable<L: Ledger>(
+    here: &Here,
+    env: &mut Env,
+    a: &Action,
+    steps: &mut Steps<L>,
+) -> Result<Option<Changes>, ActFault>
+    requires operator { HasOperatorHere here.now a.now }
+    ensures changes { IfOk result (AreChangesHere here.now a.now) }
+    ensures named { IfOk result (LeaveNamedHere here.now a.now) }
+    ensures cause { IfErr result (IsFaultHere here.now a.now) }
+    ensures ticks { steps.new ≡ steps.old + 1 }
+{
+    steps.tick();
+    let operator = &here.task.problem.domain.operators.as_slice()[a.op as usize];
+    env.put_values(operator.params.as_slice(), a.args.as_slice());
+    if !bounds_hold(here, env, operator.bounds.as_slice()) {
+        return Ok(None);
+    }
+    prepared(here, env, operator)
+}
 
 /// The world after the action: None exactly where the action is not executable in the world, which stays as it is.
 ///
-/// All bounds, conditions and terms are read in the old world: the bounds first, then the precondition, then the effects from left to right, up to the first that decides (Pednault 1989).
-/// A range fault tells an operation that the action looks at. Each call counts one step.
-/// The frame is left with values of its own: whoever reads a formula under it afterwards gives the formula's free variables their values first.
+/// It is what `changes_if_executable` makes, with its range fault, its step and its frame.
 pub fn apply<L: Ledger>(
-    alloc: Global,
-    task: &Task,
-    w: &World,
+    here: &Here,
     env: &mut Env,
     a: &Action,
     steps: &mut Steps<L>,
 ) -> Result<Option<World>, ActFault>
-    requires operator { HasOperator (plain_problem task.now.problem) a.now }
-    ensures world { IfOk result (λ v. v ≡ step (plain_problem task.now.problem) w.now a.now) }
-    ensures named { IfOk result (λ v. IfSome v (StaysNamed (name_count task.now) w.now a.now)) }
-    ensures cause { IfErr result (IsCausedByAction (plain_problem task.now.problem) w.now a.now) }
+    requires operator { HasOperatorHere here.now a.now }
+    ensures world { IfOk result (IsStepHere here.now a.now) }
+    ensures named { IfOk result (StaysNamedHere here.now a.now) }
+    ensures cause { IfErr result (IsFaultHere here.now a.now) }
     ensures ticks { steps.new ≡ steps.old + 1 }
 {
-    steps.tick();
-    let operator = &task.problem.domain.operators.as_slice()[a.op as usize];
-    env.put_values(operator.params.as_slice(), a.args.as_slice());
-    let here = Here {
-        alloc,
-        task,
-        world: w,
-    };
-    if !bounds_hold(&here, env, operator.bounds.as_slice()) {
-        return Ok(None);
-    }
-    match prepared(&here, env, operator) {
+    match changes_if_executable(here, env, a, steps) {
         Ok(Some(changes)) => {
-            let next = changes.world_after(alloc, w)?;
+            let next = changes.world_after(here.alloc, here.world)?;
             Ok(Some(next))
         }
         Ok(None) => Ok(None),

@@ -9,7 +9,7 @@ use crate::ExplainFault;
 use crate::lines::{action_line, state_line, stopped_line};
 use std::alloc::Global;
 use std::sync::ledger::Ledger;
-use tl_action::apply;
+use tl_action::{Here, apply};
 use tl_eval::Env;
 use tl_nodes::Nodes;
 use tl_progress::progress;
@@ -95,7 +95,12 @@ impl Explanation {
         requires few { before < 2 ^ 31 }
         ensures { ComesOf task.now.problem before a.now self.old self.new result }
     {
-        match apply(self.alloc, task, &self.world, &mut self.env, a, steps) {
+        let here = Here {
+            alloc: self.alloc,
+            task,
+            world: &self.world,
+        };
+        match apply(&here, &mut self.env, a, steps) {
             Ok(Some(next)) => self.world = next,
             Ok(None) => return Ok(false),
             Err(fault) => return Err(ExplainFault::of_action(before, fault)),

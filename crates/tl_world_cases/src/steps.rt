@@ -7,7 +7,7 @@ use std::marker::Brand;
 use std::process::Abort;
 use std::sync::ledger::{Blank, Ledger};
 use std::test::Fail;
-use tl_action::{ActFault, apply};
+use tl_action::{ActFault, Here, apply};
 use tl_eval::Env;
 use tl_syntax::{Action, Values};
 use tl_tables::{column, filled, is_row, note_text, task_of, world_text};
@@ -42,7 +42,12 @@ fn first_step<L: Ledger>(
         op: 0,
         args: Values::new(alloc),
     };
-    Ok(apply(alloc, task, &task.first, &mut env, &action, &mut steps))
+    let here = Here {
+        alloc,
+        task,
+        world: &task.first,
+    };
+    Ok(apply(&here, &mut env, &action, &mut steps))
 }
 
 /// The answer for the action as a text.

@@ -1,93 +1,18 @@
-use Rattle.std.proofs.Common.{◌≡◌, ◌<◌, List, length, Option, Ok, sym, ap, ◌∙◌, subst}
-use Rattle.std.specs.List.{list_all}
-use Rattle.tl_action.specs.declared.changes.Changes.{Changes}
-use Rattle.tl_action.specs.Agreement.{Agree}
-use Rattle.tl_action.specs.ChangedWorlds.{world_after}
-use Rattle.tl_action.specs.Prepared.{Prepares}
-use Rattle.tl_action.proofs.AppliedOperators.{OperatorAt, operator-below, operator-at, step-stopped, step-unprepared, step-made, step-caused}
-use Rattle.tl_action.proofs.NextNamed.{next-named}
-use Rattle.tl_action.proofs.Operators.{bound-alike, counted-slots}
-use Rattle.tl_eval.specs.Frames.{assignment_in}
-use Rattle.tl_syntax.specs.declared.operator.Operator.{Operator}
-use Rattle.tl_syntax.specs.declared.variable.Var.{Var}
-use Rattle.tl_syntax.specs.Assignment.{Assignment, bind, no_values}
-use Rattle.tl_syntax.specs.Fits.{BoundFits}
-use Rattle.tl_syntax.specs.FreeVariables.{slots_of}
-use Rattle.tl_syntax.specs.Lists.{Each}
-use Rattle.tl_syntax.specs.Signature.{signature_of}
-use Rattle.tl_terms.specs.Bounds.{bound_true}
-use Rattle.tl_terms.specs.Definitions.{situation_of}
-use Rattle.tl_terms.specs.ProblemMeaning.{plain_operator, plain_problem}
+use Rattle.std.proofs.Common.{Some, sym, ap, ◌∙◌, subst}
+use Rattle.tl_action.specs.StepsHere.{AreChangesHere, LeaveNamedHere}
+use Rattle.tl_action.specs.Actions.{StaysNamed, name_count}
 use Rattle.tl_terms.specs.World.{World}
 use Rattle.tl_action.proofs.step.apply.Goals as goal
 
-pub bounds-as_slice-a : goal.bounds-as_slice-a
-bounds-as_slice-a g c = subst (λ (os : List Operator). c.args.a.now.op < length os) (sym c.as_slice.ensures) (operator-below c.args.task.now.problem c.args.a.now c.requires.operator)
-
-pub put_values-requires-clause-slots : goal.put_values-requires-clause-slots
-put_values-requires-clause-slots g c =
-    let at : OperatorAt c.args.task.now.problem c.args.a.now c.index-as_slice-a.result = operator-at c.args.task.now.problem c.args.a.now c.as_slice.result.now c.index-as_slice-a.result c.as_slice.ensures c.index-as_slice-a.is c.requires.operator in
-    subst (Each (λ (s : Var). s.slot < 32)) (sym c.as_slice-2.ensures) (counted-slots c.index-as_slice-a.result.params at.keeps.params.counted at.keeps.params.few)
-
-pub put_values-requires-clause-same : goal.put_values-requires-clause-same
-put_values-requires-clause-same g c =
-    let at : OperatorAt c.args.task.now.problem c.args.a.now c.index-as_slice-a.result = operator-at c.args.task.now.problem c.args.a.now c.as_slice.result.now c.index-as_slice-a.result c.as_slice.ensures c.index-as_slice-a.is c.requires.operator in
-    ap (λ (ss : List Var). length ss) c.as_slice-2.ensures ∙ (sym at.arity ∙ ap (λ vs. length vs) (sym c.as_slice-3.ensures))
-
-pub bounds_hold-requires : goal.bounds_hold-requires
-bounds_hold-requires g c =
-    let at : OperatorAt c.args.task.now.problem c.args.a.now c.index-as_slice-a.result = operator-at c.args.task.now.problem c.args.a.now c.as_slice.result.now c.index-as_slice-a.result c.as_slice.ensures c.index-as_slice-a.is c.requires.operator in
-    subst (Each (BoundFits (signature_of c.args.task.now.problem.domain))) (sym c.as_slice-4.ensures) at.keeps.bounds_fit
-
-pub returns-then-not-bounds_hold-clause-world : goal.returns-then-not-bounds_hold-clause-world
-returns-then-not-bounds_hold-clause-world g c =
-    let at : OperatorAt c.args.task.now.problem c.args.a.now c.index-as_slice-a.result = operator-at c.args.task.now.problem c.args.a.now c.as_slice.result.now c.index-as_slice-a.result c.as_slice.ensures c.index-as_slice-a.is c.requires.operator in
-    let o = c.index-as_slice-a.result in
-    let d = assignment_in c.put_values.new.self in
-    let put : d ≡ bind o.params c.args.a.now.args (assignment_in c.args.env.now) = c.put_values.ensures.values ∙ (λ i. bind (c.as_slice-2.ensures i) (c.as_slice-3.ensures i) (assignment_in c.args.env.now)) in
-    let agrees : Agree (slots_of o.params) d (bind o.params c.args.a.now.args no_values) = subst (λ (e : Assignment). Agree (slots_of o.params) e (bind o.params c.args.a.now.args no_values)) (sym put) (bound-alike o.params c.args.a.now.args (assignment_in c.args.env.now) no_values) in
-    let bounds = ap (list_all (bound_true (situation_of (plain_problem c.args.task.now.problem) c.args.w.now) d)) (sym c.as_slice-4.ensures) ∙ sym c.bounds_hold.ensures in
-    step-stopped c.args.task.now.problem c.args.w.now c.args.a.now o at d agrees (bounds ∙ c.if-not-bounds_hold.true)
-
-pub prepared-requires : goal.prepared-requires
-prepared-requires g c =
-    let at : OperatorAt c.args.task.now.problem c.args.a.now c.index-as_slice-a.result = operator-at c.args.task.now.problem c.args.a.now c.as_slice.result.now c.index-as_slice-a.result c.as_slice.ensures c.index-as_slice-a.is c.requires.operator in
-    at.keeps
-
 pub returns-in_ok-next-in-Ok-Some-clause-world : goal.returns-in_ok-next-in-Ok-Some-clause-world
-unfolding world_after
 returns-in_ok-next-in-Ok-Some-clause-world g c =
-    let at : OperatorAt c.args.task.now.problem c.args.a.now c.index-as_slice-a.result = operator-at c.args.task.now.problem c.args.a.now c.as_slice.result.now c.index-as_slice-a.result c.as_slice.ensures c.index-as_slice-a.is c.requires.operator in
-    let o = c.index-as_slice-a.result in
-    let d = assignment_in c.put_values.new.self in
-    let put : d ≡ bind o.params c.args.a.now.args (assignment_in c.args.env.now) = c.put_values.ensures.values ∙ (λ i. bind (c.as_slice-2.ensures i) (c.as_slice-3.ensures i) (assignment_in c.args.env.now)) in
-    let agrees : Agree (slots_of o.params) d (bind o.params c.args.a.now.args no_values) = subst (λ (e : Assignment). Agree (slots_of o.params) e (bind o.params c.args.a.now.args no_values)) (sym put) (bound-alike o.params c.args.a.now.args (assignment_in c.args.env.now) no_values) in
-    let bounds = ap (list_all (bound_true (situation_of (plain_problem c.args.task.now.problem) c.args.w.now) d)) (sym c.as_slice-4.ensures) ∙ sym c.bounds_hold.ensures in
-    let x = c.in-Ok-Some.changes in
-    step-made c.args.task.now.problem c.args.w.now c.args.a.now o at d agrees (bounds ∙ c.if-not-bounds_hold.false) x
-    (subst (λ (r : Option Changes). Prepares (plain_problem c.args.task.now.problem) c.args.w.now d (plain_operator o) (Ok r)) c.in-Ok-Some.field-0-is c.in-Ok-Some.ensures.changes)
-    c.in_ok-next-in-Ok-Some.next (ap (λ (v : World). v.facts) c.in_ok-next-in-Ok-Some.ensures) (ap (λ (v : World). v.places) c.in_ok-next-in-Ok-Some.ensures)
-
-pub returns-in-Ok-None-clause-world : goal.returns-in-Ok-None-clause-world
-returns-in-Ok-None-clause-world g c =
-    let at : OperatorAt c.args.task.now.problem c.args.a.now c.index-as_slice-a.result = operator-at c.args.task.now.problem c.args.a.now c.as_slice.result.now c.index-as_slice-a.result c.as_slice.ensures c.index-as_slice-a.is c.requires.operator in
-    let o = c.index-as_slice-a.result in
-    let d = assignment_in c.put_values.new.self in
-    let put : d ≡ bind o.params c.args.a.now.args (assignment_in c.args.env.now) = c.put_values.ensures.values ∙ (λ i. bind (c.as_slice-2.ensures i) (c.as_slice-3.ensures i) (assignment_in c.args.env.now)) in
-    let agrees : Agree (slots_of o.params) d (bind o.params c.args.a.now.args no_values) = subst (λ (e : Assignment). Agree (slots_of o.params) e (bind o.params c.args.a.now.args no_values)) (sym put) (bound-alike o.params c.args.a.now.args (assignment_in c.args.env.now) no_values) in
-    let bounds = ap (list_all (bound_true (situation_of (plain_problem c.args.task.now.problem) c.args.w.now) d)) (sym c.as_slice-4.ensures) ∙ sym c.bounds_hold.ensures in
-    step-unprepared c.args.task.now.problem c.args.w.now c.args.a.now o at d agrees
-    (subst (λ (r : Option Changes). Prepares (plain_problem c.args.task.now.problem) c.args.w.now d (plain_operator o) (Ok r)) c.in-Ok-None.field-0-is c.in-Ok-None.ensures.changes)
-
-pub returns-in-Err-clause-cause : goal.returns-in-Err-clause-cause
-returns-in-Err-clause-cause g c =
-    let at : OperatorAt c.args.task.now.problem c.args.a.now c.index-as_slice-a.result = operator-at c.args.task.now.problem c.args.a.now c.as_slice.result.now c.index-as_slice-a.result c.as_slice.ensures c.index-as_slice-a.is c.requires.operator in
-    let o = c.index-as_slice-a.result in
-    let d = assignment_in c.put_values.new.self in
-    let put : d ≡ bind o.params c.args.a.now.args (assignment_in c.args.env.now) = c.put_values.ensures.values ∙ (λ i. bind (c.as_slice-2.ensures i) (c.as_slice-3.ensures i) (assignment_in c.args.env.now)) in
-    let agrees : Agree (slots_of o.params) d (bind o.params c.args.a.now.args no_values) = subst (λ (e : Assignment). Agree (slots_of o.params) e (bind o.params c.args.a.now.args no_values)) (sym put) (bound-alike o.params c.args.a.now.args (assignment_in c.args.env.now) no_values) in
-    let bounds = ap (list_all (bound_true (situation_of (plain_problem c.args.task.now.problem) c.args.w.now) d)) (sym c.as_slice-4.ensures) ∙ sym c.bounds_hold.ensures in
-    step-caused c.args.task.now.problem c.args.w.now c.args.a.now o at d agrees (bounds ∙ c.if-not-bounds_hold.false) c.in-Err.fault c.in-Err.ensures.changes
+    ap (λ (v : World). Some v) c.in_ok-next-in-Ok-Some.ensures
+    ∙ subst (AreChangesHere c.args.here.now c.args.a.now) c.in-Ok-Some.field-0-is c.in-Ok-Some.ensures.changes
 
 pub returns-in_ok-next-in-Ok-Some-clause-named : goal.returns-in_ok-next-in-Ok-Some-clause-named
-returns-in_ok-next-in-Ok-Some-clause-named g c = next-named c.args.task.now.problem c.args.w.now c.args.a.now c.in_ok-next-in-Ok-Some.next (returns-in_ok-next-in-Ok-Some-clause-world g c)
+returns-in_ok-next-in-Ok-Some-clause-named g c =
+    subst (StaysNamed (name_count c.args.here.now.task.now) c.args.here.now.world.now c.args.a.now) (sym c.in_ok-next-in-Ok-Some.ensures)
+    (subst (LeaveNamedHere c.args.here.now c.args.a.now) c.in-Ok-Some.field-0-is c.in-Ok-Some.ensures.named)
+
+pub returns-in-Ok-None-clause-world : goal.returns-in-Ok-None-clause-world
+returns-in-Ok-None-clause-world g c = sym (subst (AreChangesHere c.args.here.now c.args.a.now) c.in-Ok-None.field-0-is c.in-Ok-None.ensures.changes)
