@@ -7,13 +7,12 @@ use Rattle.tl_check.proofs.HistoryLaws.{there-is, each-among}
 use Rattle.tl_check.proofs.LabelLaws.{marks-agree_all}
 use Rattle.tl_check.proofs.SpanLaws.{marks_in-by, test_from-marks}
 use Rattle.tl_check.specs.Ahead.{Ahead, true_ahead}
-use Rattle.tl_check.specs.Differences.{fact_with}
 use Rattle.tl_check.specs.Facts.{IsAlong, IsOverGoal, Guides, fact_ahead, bound_ahead}
 use Rattle.tl_check.specs.Histories.{IsFactHistory}
 use Rattle.tl_check.specs.Lines.{truth_from, test_from}
 use Rattle.tl_check.specs.Spans.{IsWithin, marks_in}
 use Rattle.tl_check.specs.StatesAlong.{states_along}
-use Rattle.tl_check.specs.Tracks.{line_in}
+use Rattle.tl_check.specs.Tracks.{line_in, fact_with}
 use Rattle.tl_check.specs.declared.along.Along.{Along}
 use Rattle.tl_check.specs.declared.history.History.{History}
 use Rattle.tl_check.specs.declared.span.Span.{Span}

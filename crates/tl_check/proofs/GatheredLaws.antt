@@ -15,16 +15,15 @@ use Rattle.tl_check.proofs.LineLaws.{truth-before_change, truth-past_change, bef
 use Rattle.tl_check.proofs.LookedLaws.{instance-looked}
 use Rattle.tl_check.proofs.SpanLaws.{marks_in-by, test_from-marks_in}
 use Rattle.tl_check.specs.Ahead.{true_ahead}
-use Rattle.tl_check.specs.Differences.{AreBefore, fact_with}
 use Rattle.tl_check.specs.Facts.{bound_ahead}
 use Rattle.tl_check.specs.Gathered.{GoesOn, BeginsAt, HoldsIn, IsNoted, IsTuple, TellTuples}
 use Rattle.tl_check.specs.Instances.{instance_ahead, JoinsInstance}
 use Rattle.tl_check.specs.Labelled.{AreLabels}
-use Rattle.tl_check.specs.Lines.{truth_from, test_from}
+use Rattle.tl_check.specs.Lines.{truth_from, test_from, AreBefore}
 use Rattle.tl_check.specs.Passes.{joins}
 use Rattle.tl_check.specs.Quantifiers.{Quantifier, joined_truths}
 use Rattle.tl_check.specs.Spans.{IsWithin, marks_in}
-use Rattle.tl_check.specs.Tracks.{Lines, changes_in, line_in, HaveSeenAll, SeesOne}
+use Rattle.tl_check.specs.Tracks.{Lines, changes_in, line_in, fact_with, HaveSeenAll, SeesOne}
 use Rattle.tl_action.specs.declared.check_fault.CheckFault.{CheckFault}
 use Rattle.tl_action.specs.declared.check_fault.CheckFault.TheVariants as fault
 use Rattle.tl_check.specs.declared.line.Change.{Change}

@@ -1,5 +1,5 @@
 -- When the facts of a predicate hold along some worlds.
-use Rattle.std.proofs.Common.{◌≡◌, ◌<◌, ◌+◌, ◌-◌, ◌↔◌, ◌||◌, ℕ, zero, suc, List, [], ◌∷◌, ◌++◌, map, length, get_or, Bool, true, false, true≢false, Option, Some, None, IsSome, refl, sym, ap, ◌∙◌, subst, inl, inr, arith}
+use Rattle.std.proofs.Common.{◌≡◌, ◌<◌, ◌+◌, ◌-◌, ◌||◌, ℕ, zero, suc, List, [], ◌∷◌, ◌++◌, map, length, get_or, Bool, true, false, true≢false, Option, Some, None, IsSome, refl, sym, ap, ◌∙◌, subst, inl, inr, arith}
 use Rattle.std.specs.Cmp.{Equal-is, tied_itself}
 use Rattle.std.specs.FinSet as set
 use Rattle.std.specs.Global.{Vec}
@@ -9,11 +9,11 @@ use Rattle.std.specs.Ordering.{eq_by_cmp}
 use Rattle.std.specs.Prelude.{slice_get}
 use Rattle.std.proofs.lemmas.Option.{slice_get_within}
 use native.Mathlib.Decide.{dec_lt}
-use Rattle.tl_check.proofs.LineLaws.{truth-stays}
-use Rattle.tl_check.specs.Differences.{AreBefore, fact_with, TellsNext}
-use Rattle.tl_check.specs.Histories.{AreRowsBefore, AreTracksUpTo, IsFactHistory, TellUpTo}
-use Rattle.tl_check.specs.Lines.{truth_from}
-use Rattle.tl_check.specs.Tracks.{changes_in, line_in, HaveSeenAll}
+use Rattle.tl_check.proofs.LineLaws.{truth-stays, before-more}
+use Rattle.tl_check.specs.Histories.{AreTracksUpTo, IsFactHistory, TellUpTo}
+use Rattle.tl_check.specs.Lines.{truth_from, AreBefore}
+use Rattle.tl_check.specs.Told.{TellsNext}
+use Rattle.tl_check.specs.Tracks.{changes_in, line_in, fact_with, HaveSeenAll}
 use Rattle.tl_check.specs.declared.history.History.{History}
 use Rattle.tl_check.specs.declared.line.Change.{Change}
 use Rattle.tl_check.specs.declared.tracks.Tracks.{Tracks}
@@ -59,6 +59,11 @@ no-change : (cs : List Change) → AreBefore 0 cs → cs ≡ []
 no-change [] h = refl
 no-change (c ∷ cs) h = absurd (let first = h.0 in omega arith)
 
+-- the facts of the predicate in the world before the n-th
+pub record AreBeforeIn (q : ℕ) (ws : List World) (n : ℕ) (before : List Value → Bool) : Type 0 where
+  pub none : n ≡ 0 → (a : List Value) → before a ≡ false
+  pub some : (w : World) → 0 < n → slice_get ws (n - 1) ≡ Some w → (a : List Value) → before a ≡ has_fact w (q, a)
+
 module _ (q : ℕ) (ws : List World) where
   pub tracks-begun : (t : Tracks) → ((g : Fact) → line_in t.lines g ≡ []) → HaveSeenAll t → AreTracksUpTo 0 q ws t
   tracks-begun t none covered = record {
@@ -68,36 +73,36 @@ module _ (q : ℕ) (ws : List World) where
   }
 
   -- the changes of one more state
-  pub tracks-on : (n : ℕ) (w : World) (rows : List (List Value)) (old new : Tracks) → slice_get ws n ≡ Some w → AreRowsBefore q ws n rows → AreTracksUpTo n q ws old → TellsNext q n rows w (line_in old.lines) (line_in new.lines) → HaveSeenAll new → AreTracksUpTo (n + 1) q ws new
-  tracks-on n w rows old new here before so next covered = record {
+  pub tracks-on : (n : ℕ) (w : World) (before : List Value → Bool) (old new : Tracks) → slice_get ws n ≡ Some w → AreBeforeIn q ws n before → AreTracksUpTo n q ws old → TellsNext q n before w (line_in old.lines) (line_in new.lines) → HaveSeenAll new → AreTracksUpTo (n + 1) q ws new
+  tracks-on n w before old new here known so next covered = record {
     tell = λ a j v h s. (elim (dec_lt j n) [
       | yes past ↦ next.earlier a j past ∙ so.tell a j v past s
       | no now ↦ (
           let same : j ≡ n = omega arith in
           let found : Some v ≡ Some w = sym s ∙ (ap (slice_get ws) same ∙ here) in
           let one : v ≡ w = cc in
-          ap (truth_from false (line_in new.lines (fact_with q a))) same ∙ (next.told a (so.bounded a) (was a n refl) ∙ ap (λ (u : World). has_fact u (q, a)) (sym one))
+          ap (truth_from false (line_in new.lines (fact_with q a))) same ∙ (next.told a (more a) (was a n refl) ∙ ap (λ (u : World). has_fact u (q, a)) (sym one))
           )
     ]);
-    bounded = λ a. next.bounded a (so.bounded a);
+    bounded = λ a. next.bounded a (more a);
     covered = covered;
   }
     where
-      -- the fact was there before exactly where it is among the rows
-      was : (a : List Value) (m : ℕ) → n ≡ m → Among a rows ↔ (truth_from false (line_in old.lines (fact_with q a)) n ≡ true)
+      more : (a : List Value) → AreBefore (n + 1) (line_in old.lines (fact_with q a))
+      more a = before-more n (line_in old.lines (fact_with q a)) (so.bounded a)
+
+      -- the truth that was told of the world before
+      was : (a : List Value) (m : ℕ) → n ≡ m → truth_from false (line_in old.lines (fact_with q a)) n ≡ before a
       was a zero e =
           let none : line_in old.lines (fact_with q a) ≡ [] = no-change (line_in old.lines (fact_with q a)) (subst (λ (k : ℕ). AreBefore k (line_in old.lines (fact_with q a))) e (so.bounded a)) in
-          (λ m. absurd (subst (Among a) (before.none e) m), λ t. absurd (true≢false (sym t ∙ ap (λ (cs : List Change). truth_from false cs n) none)))
+          ap (λ (cs : List Change). truth_from false cs n) none ∙ sym (known.none e a)
       was a (suc m) e =
           let room = slice_get_within ws n w here in
           let v = there-is ws m (omega arith) in
           let after : n ≡ m + 1 = omega arith in
-          let stays : truth_from false (line_in old.lines (fact_with q a)) n ≡ has_fact v.0 (q, a) =
           ap (truth_from false (line_in old.lines (fact_with q a))) after
           ∙ (truth-stays false (line_in old.lines (fact_with q a)) m (subst (λ (k : ℕ). AreBefore k (line_in old.lines (fact_with q a))) after (so.bounded a))
-          ∙ so.tell a m v.0 (omega arith) v.1) in
-          let rows_are = before.some v.0 (omega arith) (ap (slice_get ws) (let less : n - 1 ≡ m = omega arith in less) ∙ v.1) a in
-          (λ k. stays ∙ rows_are.0 k, λ t. rows_are.1 (sym stays ∙ t))
+          ∙ (so.tell a m v.0 (omega arith) v.1 ∙ sym (known.some v.0 (omega arith) (ap (slice_get ws) (let less : n - 1 ≡ m = omega arith in less) ∙ v.1) a)))
 
 -- ---- the world of all facts that were seen
 

@@ -23,7 +23,7 @@ pub mod PickedLaws
 pub mod OpenLaws
 pub mod LineLaws
 pub mod TrackLaws
-pub mod DifferenceLaws
+pub mod ToldLaws
 pub mod HistoryLaws
 pub mod TrailLaws
 pub mod KeptLaws

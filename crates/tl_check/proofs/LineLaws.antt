@@ -1,9 +1,8 @@
 -- When a fact holds, by its changes.
-use Rattle.std.proofs.Common.{◌≡◌, ◌≤◌, ◌<◌, ◌+◌, ◌-◌, ℕ, zero, suc, List, [], ◌∷◌, ◌++◌, drop, length, get_or, replicate, cond, nat_le, Bool, true, false, refl, sym, ap, ap₂, ◌∙◌, arith, drop-cons, add-one, append_assoc, append-nil}
+use Rattle.std.proofs.Common.{◌≡◌, ◌≤◌, ◌<◌, ◌+◌, ◌-◌, ℕ, zero, suc, List, [], ◌∷◌, ◌++◌, drop, length, get_or, replicate, slice_get, cond, nat_le, Bool, true, false, Some, None, refl, sym, ap, ap₂, ◌∙◌, arith, drop-cons, add-one, append_assoc, append-nil}
 use Rattle.std.proofs.lemmas.Bool.{le-leb, lt-leb}
 use Rattle.tl_check.proofs.SpanLaws.{test_from-more}
-use Rattle.tl_check.specs.Differences.{AreBefore}
-use Rattle.tl_check.specs.Lines.{truth_from, test_from}
+use Rattle.tl_check.specs.Lines.{truth_from, test_from, AreBefore, IsLastTruth}
 use Rattle.tl_check.specs.declared.line.Change.{Change}
 
 up-to : (at i : ℕ) → at ≤ i → nat_le at i ≡ true
@@ -63,6 +62,32 @@ before-more n (c ∷ cs) h = (let first = h.0 in omega (arith, first), before-mo
 pub before-added : (n : ℕ) (cs : List Change) (c : Change) → AreBefore n cs → c.at < n → AreBefore n (cs ++ c ∷ [])
 before-added n [] c h l = (l, tt)
 before-added n (d ∷ cs) c h l = (h.0, before-added n cs c h.1 l)
+
+-- ---- the last change
+
+last-truth_from : (b : Bool) (cs : List Change) (c : Change) (i : ℕ) → slice_get cs (length cs - 1) ≡ Some c → AreBefore (i + 1) cs → truth_from b cs i ≡ c.truth
+last-truth_from b [] c i s h = absurd (let z : ⊥ = cc in z)
+last-truth_from b (d ∷ []) c i s h = let first = h.0 in
+    ap (λ (x : Bool). cond x d.truth b) (up-to d.at i (omega (arith, first))) ∙ ap (λ (x : Change). x.truth) (let same : d ≡ c = cc in same)
+last-truth_from b (d ∷ e ∷ es) c i s h = let first = h.0 in
+    let place : suc (suc (length es)) - 1 ≡ suc (suc (length es) - 1) = omega arith in
+    ap (λ (x : Bool). cond x (truth_from d.truth (e ∷ es) i) b) (up-to d.at i (omega (arith, first)))
+    ∙ last-truth_from d.truth (e ∷ es) c i (sym (ap (slice_get (d ∷ e ∷ es)) place) ∙ s) h.1
+
+pub last-is : (cs : List Change) (c : Change) → slice_get cs (length cs - 1) ≡ Some c → IsLastTruth cs c.truth
+last-is cs c s i h = last-truth_from false cs c i s h
+
+pub last-none : (cs : List Change) → slice_get cs (length cs - 1) ≡ None → IsLastTruth cs false
+last-none [] s i h = refl
+last-none (d ∷ []) s i h = absurd (let z : ⊥ = cc in z)
+last-none (d ∷ e ∷ es) s i h =
+    let place : suc (suc (length es)) - 1 ≡ suc (suc (length es) - 1) = omega arith in
+    absurd (let z : ⊥ = none (e ∷ es) (length es) (omega arith) (ap (slice_get (e ∷ es)) (let p : length es ≡ suc (length es) - 1 = omega arith in p) ∙ (sym (ap (slice_get (d ∷ e ∷ es)) place) ∙ s)) in z)
+  where
+    none : (xs : List Change) (k : ℕ) → k < length xs → slice_get xs k ≡ None → ⊥
+    none [] k l s = omega arith
+    none (x ∷ xs) zero l s = cc
+    none (x ∷ xs) (suc k) l s = none xs k (omega arith) s
 
 -- ---- labels from a line
 

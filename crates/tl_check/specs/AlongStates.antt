@@ -1,14 +1,15 @@
 -- What the parts of the checker say along the states of a plan, under the values of a frame.
-use Rattle.std.specs.Prelude.{ℕ, List, [], Bool, Option, Result}
+use Rattle.std.specs.Prelude.{◌≡◌, ℕ, List, [], Bool, Option, Result}
 use Rattle.tl_action.specs.declared.check_fault.CheckFault.{CheckFault}
 use Rattle.tl_check.specs.Ahead.{true_ahead}
-use Rattle.tl_check.specs.Quantifiers.{Quantifier}
+use Rattle.tl_check.specs.PartTrees.{quantifier_of}
 use Rattle.tl_check.specs.Facts.{Guides, fact_ahead, bound_ahead}
 use Rattle.tl_check.specs.Instances.{JoinsInstance}
 use Rattle.tl_check.specs.Labelled.{AreLabels, JoinsPart}
 use Rattle.tl_check.specs.Spans.{marks_in}
 use Rattle.tl_check.specs.StatesAlong.{states_along, UnlessFew}
 use Rattle.tl_check.specs.declared.along.Along.{Along}
+use Rattle.tl_check.specs.declared.instance.Instance.{Instance}
 use Rattle.tl_check.specs.declared.span.Span.{Span}
 use Rattle.tl_check.specs.declared.unlabelled.Unlabelled.{Unlabelled}
 use Rattle.tl_eval.specs.Frames.{assignment_in}
@@ -37,8 +38,8 @@ abbrev pub AreLabelsAlong : Along → Span → List (Option Value) → FormulaTr
 AreLabelsAlong along span frame f r = UnlessFew along (AreLabels (plain_problem along.task.now.problem) (states_along along) span (assignment_in frame) f) r
 
 -- the instance under the frame's values is joined with the labels, or an operation that it looks at is noted, or the states are not all kept
-abbrev pub JoinsAlong : Along → Span → List (Option Value) → Quantifier → List Bool → List Bool → Result (Unit {0}) Unlabelled → Type 0
-JoinsAlong along span frame q old new r = UnlessFew along (JoinsInstance (plain_problem along.task.now.problem) (states_along along) span (assignment_in frame) q old new) r
+abbrev pub JoinsAlong : Along → Span → List (Option Value) → Instance → List Bool → List Bool → Result (Unit {0}) Unlabelled → Type 0
+JoinsAlong along span frame i old new r = UnlessFew along (JoinsInstance (plain_problem along.task.now.problem) (states_along along) span (assignment_in frame) (quantifier_of i) old new) r
 
 -- the labels of the part are joined with these, or an operation that it looks at is noted, or the states are not all kept
 abbrev pub JoinsPartAlong : Along → Span → List (Option Value) → Junction → FormulaTree → List Bool → List Bool → Result (Unit {0}) Unlabelled → Type 0
@@ -59,3 +60,7 @@ atom_along along span frame q ts = marks_in (true_ahead (plain_problem along.tas
 -- the truth of the bound at each position of the span
 abbrev pub bound_along : Along → Span → List (Option Value) → Bound → List Bool
 bound_along along span frame b = marks_in (bound_ahead (plain_problem along.task.now.problem) (assignment_in frame) b) (states_along along) span
+
+-- the labels of the instance say where its bound is true under the values of the frame
+abbrev pub IsInstanceAlong : Along → Span → List (Option Value) → Instance → Type 0
+IsInstanceAlong along span frame i = i.there ≡ bound_along along span frame i.binder.bound.now

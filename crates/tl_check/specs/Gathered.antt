@@ -1,9 +1,8 @@
 -- The tuples of a bound along some states, and where each makes it true.
 use Rattle.std.specs.Prelude.{◌≡◌, ◌↔◌, ◌≤◌, ◌<◌, ◌+◌, ◌⊎◌, ℕ, List, [], ◌∷◌, ◌++◌, length, Option, Some, true, false, slice_get}
-use Rattle.tl_check.specs.Differences.{AreBefore, fact_with}
-use Rattle.tl_check.specs.Lines.{truth_from}
+use Rattle.tl_check.specs.Lines.{truth_from, AreBefore}
 use Rattle.tl_check.specs.StatesAlong.{states_along}
-use Rattle.tl_check.specs.Tracks.{Lines, line_in, HaveSeenAll}
+use Rattle.tl_check.specs.Tracks.{Lines, line_in, fact_with, HaveSeenAll}
 use Rattle.tl_check.specs.declared.along.Along.{Along}
 use Rattle.tl_check.specs.declared.binder.Binder.{Binder}
 use Rattle.tl_check.specs.declared.line.Change.{Change}

@@ -1,18 +1,12 @@
 -- When the facts of a predicate hold along some worlds.
-use Rattle.std.specs.Prelude.{◌≡◌, ◌↔◌, ◌<◌, ◌-◌, ℕ, List, [], length, true, false, Some, slice_get}
-use Rattle.tl_check.specs.Differences.{AreBefore, fact_with}
-use Rattle.tl_check.specs.Lines.{truth_from}
-use Rattle.tl_check.specs.Tracks.{Lines, line_in, HaveSeenAll}
+use Rattle.std.specs.Prelude.{◌≡◌, ◌<◌, ℕ, List, length, true, false, Some, slice_get}
+use Rattle.tl_check.specs.Lines.{truth_from, AreBefore}
+use Rattle.tl_check.specs.Tracks.{Lines, line_in, fact_with, HaveSeenAll}
 use Rattle.tl_check.specs.declared.history.History.{History}
 use Rattle.tl_check.specs.declared.tracks.Tracks.{Tracks}
 use Rattle.tl_syntax.specs.declared.value.Value.{Value}
 use Rattle.tl_syntax.specs.Lists.{Among}
 use Rattle.tl_terms.specs.World.{World, has_fact}
-
--- the rows are those of the predicate in the world before the n-th
-pub record AreRowsBefore (q : ℕ) (ws : List World) (n : ℕ) (rows : List (List Value)) : Type 0 where
-  pub none : n ≡ 0 → rows ≡ []
-  pub some : (w : World) → 0 < n → slice_get ws (n - 1) ≡ Some w → (a : List Value) → Among a rows ↔ (has_fact w (q, a) ≡ true)
 
 -- the changes tell at the first n positions which facts of the predicate hold
 abbrev pub TellUpTo : ℕ → ℕ → List World → Lines → Type 0

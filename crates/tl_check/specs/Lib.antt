@@ -3,7 +3,7 @@ pub mod Passes
 pub mod LawsAhead
 pub mod Lines
 pub mod Tracks
-pub mod Differences
+pub mod Told
 pub mod Histories
 pub mod StatesAlong
 pub mod Facts

@@ -10,7 +10,7 @@ use crate::CheckFault;
 use crate::trail::Trail;
 use std::alloc::Global;
 use std::sync::ledger::Ledger;
-use tl_action::{ActFault, apply};
+use tl_action::{ActFault, Here, changes_if_executable};
 use tl_eval::Env;
 use tl_syntax::Action;
 use tl_terms::Steps;
@@ -63,8 +63,13 @@ pub(crate) fn follow_plan<L: Ledger>(
     let task = follow.task;
     let mut trail = Trail::begun(alloc, &task.first, follow.preds, follow.keeps)?;
     for k in 0..plan.len() {
-        match apply(alloc, task, &trail.world, env, &plan[k], steps) {
-            Ok(Some(next)) => trail.go_on(alloc, next, k + 1, follow.keeps)?,
+        let here = Here {
+            alloc,
+            task,
+            world: &trail.world,
+        };
+        match changes_if_executable(&here, env, &plan[k], steps) {
+            Ok(Some(changes)) => trail.go_on(alloc, &changes, k + 1, follow.keeps)?,
             Ok(None) => return Ok(Followed::Stopped(k as u32 + 1)),
             Err(fault) => return Err(fault_after(k as u32, fault)),
         }

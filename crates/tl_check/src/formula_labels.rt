@@ -1,9 +1,9 @@
 // The labels of formulas.
 ghost use Rattle.std.specs.Prelude.{◌≡◌, ◌+◌, length, OnOk};
-ghost use Rattle.tl_check.specs.AlongStates.{FitsAlong, AreLabelsAlong, JoinsPartAlong, JoinsAlong, GuidesAlong, bound_along};
+ghost use Rattle.tl_check.specs.AlongStates.{FitsAlong, AreLabelsAlong, JoinsPartAlong, JoinsAlong, GuidesAlong, IsInstanceAlong};
 ghost use Rattle.tl_check.specs.Facts.{IsAlong};
 ghost use Rattle.tl_check.specs.Later.{later_tree};
-ghost use Rattle.tl_check.specs.PartTrees.{until_tree, quantifier_of, quantified_tree};
+ghost use Rattle.tl_check.specs.PartTrees.{until_tree, instance_tree, guided_tree, quantified_tree};
 ghost use Rattle.tl_check.specs.Spans.{IsWithin};
 ghost use Rattle.tl_check.specs.StatesAlong.{states_along};
 ghost use Rattle.tl_syntax.specs.Junctions.{joined};
@@ -14,6 +14,7 @@ use crate::along::Along;
 use crate::atoms::{atom_labels, bound_labels, guide_of};
 use crate::binder::Binder;
 use crate::gathered::gathered;
+use crate::instance::{GuidedBinder, Instance};
 use crate::labels::Labels;
 use crate::later::Later;
 use crate::line::line_labels;
@@ -26,7 +27,6 @@ use crate::tracks::line_of;
 use crate::unlabelled::Unlabelled;
 use tl_eval::{Env, TupleReader};
 use tl_syntax::{Formula, Formulas, Junction};
-use tl_world::World;
 
 /// The truth of a formula at each position of the span, under the frame's values, where the last state is repeated for ever.
 ///
@@ -247,9 +247,9 @@ fn join_part(
 ///
 /// Where the formula below it speaks of facts alone, so that none of its operations can be past range, the tuples are read in the order in which the variables stand in the bound: in which order the instances are labelled bears on nothing.
 #[cycle(labels_of)]
-fn quantified_labels(
-    part: &Formula,
-    binder: &Binder,
+fn quantified_labels<'a>(
+    part: &'a Formula,
+    binder: &Binder<'a>,
     along: &Along,
     span: Span,
     env: &mut Env,
@@ -271,7 +271,7 @@ fn quantified_labels(
                 vars: &vars,
                 bound: binder.bound,
             };
-            ordered_labels(part, &ordered, along, span, env)
+            ordered_labels(&*part, &ordered, along, span, env)
         }
         None => ordered_labels(part, binder, along, span, env),
     }
@@ -279,9 +279,9 @@ fn quantified_labels(
 
 /// The labels of a quantified formula whose tuples are read in the order of its variables.
 #[cycle(labels_of)]
-fn ordered_labels(
-    part: &Formula,
-    binder: &Binder,
+fn ordered_labels<'a>(
+    part: &'a Formula,
+    binder: &Binder<'a>,
     along: &Along,
     span: Span,
     env: &mut Env,
@@ -294,17 +294,22 @@ fn ordered_labels(
     ensures frame { OnOk result (env.new ≡ env.old) }
 {
     match guide_of(binder.bound, along) {
-        Some(guide) => guided_labels(part, binder, guide, along, span, env),
+        Some(guide) => {
+            let guided = GuidedBinder {
+                binder: *binder,
+                guide,
+            };
+            guided_labels(part, &guided, along, span, env)
+        }
         None => stepped_labels(part, binder, along, span, env),
     }
 }
 
 /// The labels of a quantified formula whose tuples are all among those of one world: each instance is labelled once, where its tuple makes the bound true.
 #[cycle(labels_of)]
-fn guided_labels(
-    part: &Formula,
-    binder: &Binder,
-    guide: &World,
+fn guided_labels<'a>(
+    part: &'a Formula,
+    guided: &GuidedBinder<'a, '_>,
     along: &Along,
     span: Span,
     env: &mut Env,
@@ -312,11 +317,12 @@ fn guided_labels(
     requires along { IsAlong along.now }
     requires span { IsWithin span (length (states_along along.now)) }
     requires frame { length env.old ≡ 32 }
-    requires fits { FitsAlong along.now (quantified_tree binder.now part.now) }
-    requires guide { GuidesAlong along.now binder.now.bound.now guide.now }
-    ensures labels { AreLabelsAlong along.now span env.old (quantified_tree binder.now part.now) result }
+    requires fits { FitsAlong along.now (guided_tree guided.now part.now) }
+    requires guide { GuidesAlong along.now guided.now.binder.bound.now guided.now.guide.now }
+    ensures labels { AreLabelsAlong along.now span env.old (guided_tree guided.now part.now) result }
     ensures frame { OnOk result (env.new ≡ env.old) }
 {
+    let binder = guided.binder;
     let outer = env.kept(binder.vars.as_slice());
     let mut all = Labels::all(
         along.alloc,
@@ -325,10 +331,17 @@ fn guided_labels(
     )?;
     let mut tuples = TupleReader::unopened();
     tuples.open_in_place(along.task, env, binder.vars, binder.bound);
-    'instances: while tuples.next(along.task, guide, binder.bound) {
+    'instances: while tuples.next(along.task, guided.guide, binder.bound) {
         env.put_values(binder.vars.as_slice(), tuples.values());
         match bound_labels(binder.bound, along, span, env)? {
-            Some(there) => join_instance(part, binder, &there, along, span, env, &mut all)?,
+            Some(there) => {
+                let instance = Instance {
+                    binder,
+                    part,
+                    there,
+                };
+                join_instance(&instance, along, span, env, &mut all)?
+            }
             None => return Err(Unlabelled::NotKept),
         }
     }
@@ -336,12 +349,10 @@ fn guided_labels(
     Ok(all)
 }
 
-/// Joins the labels of an instance, whose values are in the frame, with those of the ones before, where `there` says that the bound is true.
+/// Joins the labels of an instance with those of the ones before, where its bound is true.
 #[cycle(labels_of)]
 fn join_instance(
-    part: &Formula,
-    binder: &Binder,
-    there: &Labels,
+    instance: &Instance,
     along: &Along,
     span: Span,
     env: &mut Env,
@@ -350,17 +361,23 @@ fn join_instance(
     requires along { IsAlong along.now }
     requires span { IsWithin span (length (states_along along.now)) }
     requires frame { length env.old ≡ 32 }
-    requires fits { FitsAlong along.now (quantified_tree binder.now part.now) }
-    requires there { there.now ≡ bound_along along.now span env.old binder.now.bound.now }
+    requires fits { FitsAlong along.now (instance_tree instance.now) }
+    requires there { IsInstanceAlong along.now span env.old instance.now }
     requires size { span.from + length all.old ≡ span.to }
-    ensures joined { JoinsAlong along.now span env.old (quantifier_of binder.now part.now) all.old all.new result }
+    ensures joined { JoinsAlong along.now span env.old instance.now all.old all.new result }
     ensures frame { OnOk result (env.new ≡ env.old) }
 {
+    let there = &instance.there;
     match there.hull(span) {
         None => Ok(()),
         Some(hull) => {
-            let found = labels_of(part, along, hull, env)?;
-            all.join_where(there, &found, hull.from - span.from, binder.junction)?;
+            let found = labels_of(instance.part, along, hull, env)?;
+            all.join_where(
+                there,
+                &found,
+                hull.from - span.from,
+                instance.binder.junction,
+            )?;
             Ok(())
         }
     }
@@ -370,9 +387,9 @@ fn join_instance(
 ///
 /// Each instance is labelled once, as where the tuples are among those of one world.
 #[cycle(labels_of)]
-fn stepped_labels(
-    part: &Formula,
-    binder: &Binder,
+fn stepped_labels<'a>(
+    part: &'a Formula,
+    binder: &Binder<'a>,
     along: &Along,
     span: Span,
     env: &mut Env,
@@ -397,7 +414,12 @@ fn stepped_labels(
     for tuple in tracks.seen.iter() {
         env.put_values(binder.vars.as_slice(), tuple.args.as_slice());
         let there = line_labels(along.alloc, line_of(&tracks.lines, tuple), span)?;
-        join_instance(part, binder, &there, along, span, env, &mut all)?;
+        let instance = Instance {
+            binder: *binder,
+            part,
+            there,
+        };
+        join_instance(&instance, along, span, env, &mut all)?;
     }
     env.give_back(binder.vars.as_slice(), &outer);
     Ok(all)

@@ -11,10 +11,9 @@ ghost use Rattle.tl_syntax.specs.Signature.{signature_of};
 
 use crate::along::Along;
 use crate::binder::Binder;
-use crate::differences::fact_of;
 use crate::same_places::same_up_to;
 use crate::span::Span;
-use crate::tracks::Tracks;
+use crate::tracks::{Tracks, fact_of};
 use tl_eval::{Env, TupleReader};
 use tl_syntax::NoMemory;
 use tl_world::World;

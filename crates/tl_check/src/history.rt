@@ -1,10 +1,7 @@
 // When the facts of a predicate hold along some states.
-ghost use Rattle.std.specs.Prelude.{◌≡◌, List, IfOk};
-ghost use Rattle.tl_check.specs.Histories.{IsFactHistory};
+ghost use Rattle.std.specs.Prelude.{◌≡◌, IfOk};
 ghost use Rattle.tl_check.specs.Tracks.{line_in};
-ghost use Rattle.tl_check.specs.Trails.{IsTracked};
-ghost use Rattle.tl_syntax.specs.Lists.{Each};
-ghost use Rattle.tl_terms.specs.World.{World as PlainWorld};
+ghost use Rattle.tl_check.specs.Trails.{IsHistoryOf, AreHistoriesOf};
 
 use crate::line::Change;
 use crate::predicate_tracks::PredicateTracks;
@@ -28,7 +25,7 @@ pub(crate) struct History {
 impl History {
     /// When the facts of a predicate hold along the states from which these changes are. It fails for want of memory alone.
     pub(crate) fn of(alloc: Global, tracked: PredicateTracks) -> Result<History, NoMemory>
-        ensures { IfOk result (λ history. (ws : List PlainWorld) → IsTracked ws tracked → IsFactHistory ws history) }
+        ensures { IfOk result (IsHistoryOf tracked) }
     {
         let PredicateTracks { pred, tracks } = tracked;
         let ever = World::of(alloc, tracks.seen.as_slice(), &[])?;
@@ -52,7 +49,7 @@ pub(crate) fn histories_of(
     alloc: Global,
     all: Vec<PredicateTracks>,
 ) -> Result<Vec<History>, NoMemory>
-    ensures { IfOk result (λ histories. (ws : List PlainWorld) → Each (IsTracked ws) all.items → Each (IsFactHistory ws) histories.items) }
+    ensures { IfOk result (λ histories. AreHistoriesOf all.items histories.items) }
 {
     let mut histories = Vec::new(alloc);
     for tracked in all {

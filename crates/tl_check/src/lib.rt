@@ -7,7 +7,7 @@
 //! - `predicates`: the predicates of which a formula speaks.
 //! - `history`: when the facts of a predicate hold along the states of a plan.
 //! - `line`: when one fact holds, by its changes.
-//! - `tracks`, `differences`: the changes, as they are found from state to state.
+//! - `tracks`: the changes, as they are found from state to state.
 //! - `along`: the states of a plan, with these histories.
 //! - `unlabelled`: why a formula is not labelled.
 //! - `span`: positions in a row.
@@ -22,7 +22,7 @@
 //! - `cuts`: two lists of labels, cut at each other's ends of runs.
 //! - `picked`: labels that count at some positions alone.
 //! - `ends`: where a label is true for the first time, and for the last time.
-//! - `binder`: quantifiers.
+//! - `binder`, `instance`: quantifiers and their instances.
 //! - `table_order`: the order in which the tuples of a quantifier's bound are read.
 //! - `gathered`: the tuples of a quantifier's bound, and where each makes it true.
 //! - `same_places`: whether a bound reads the same in two states.
@@ -34,13 +34,13 @@ mod atoms;
 mod binder;
 mod checker;
 mod cuts;
-mod differences;
 mod ends;
 mod execution;
 mod following;
 mod formula_labels;
 mod gathered;
 mod history;
+mod instance;
 mod labels;
 mod later;
 pub mod laws;

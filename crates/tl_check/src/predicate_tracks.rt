@@ -1,11 +1,14 @@
 // The changes of the facts of a predicate, as a plan is followed.
 ghost use Rattle.std.specs.Prelude.{◌∷◌, [], IfOk, OnOk};
-ghost use Rattle.tl_check.specs.Trails.{IsTracked, HasSeenAll, HaveAllSeen, TracksOn, TrackAllOn};
+ghost use Rattle.tl_check.specs.Trails.{IsTracked, HasSeenAll, HaveAllSeen};
+ghost use Rattle.tl_check.specs.Trails.{NotesFact, NotesFacts, TracksOn, TrackAllOn};
 ghost use Rattle.tl_syntax.specs.Lists.{Each};
 
+use crate::line::Change;
 use crate::tracks::Tracks;
 use std::alloc::Global;
-use tl_syntax::NoMemory;
+use tl_action::Changes;
+use tl_syntax::{Fact, NoMemory};
 use tl_world::World;
 
 /// The changes of the facts of one predicate, along the states so far.
@@ -27,23 +30,61 @@ impl PredicateTracks {
         ensures { IfOk result (IsTracked (first.now ∷ [])) }
     {
         let mut tracks = Tracks::new(alloc);
-        tracks.note_state(alloc, pred, None, first, 0)?;
+        tracks.note_first(alloc, pred, first)?;
         Ok(PredicateTracks { pred, tracks })
     }
 
-    /// Adds the changes that come with the next state, of which so many come before. It fails for want of memory alone.
+    /// Adds what the fact is in a state, where it is of the predicate and that is not what it was before. It fails for want of memory alone.
+    fn note_fact(
+        &mut self,
+        alloc: Global,
+        fact: &Fact,
+        w: &World,
+        at: usize,
+    ) -> Result<(), NoMemory>
+        requires { HasSeenAll self.old }
+        ensures noted { OnOk result (NotesFact fact.now w.now at self.old self.new) }
+        ensures covered { OnOk result (HasSeenAll self.new) }
+    {
+        if fact.pred != self.pred {
+            return Ok(());
+        }
+        let truth = w.holds(fact.pred, fact.args.as_slice());
+        self.tracks.note_new(alloc, fact, Change { at, truth })?;
+        Ok(())
+    }
+
+    /// Adds what those of the facts that are of the predicate are in a state, where that is not what they were before. It fails for want of memory alone.
+    fn note_facts(
+        &mut self,
+        alloc: Global,
+        facts: &[Fact],
+        w: &World,
+        at: usize,
+    ) -> Result<(), NoMemory>
+        requires { HasSeenAll self.old }
+        ensures noted { OnOk result (NotesFacts facts.now w.now at self.old self.new) }
+        ensures covered { OnOk result (HasSeenAll self.new) }
+    {
+        for fact in facts.iter() {
+            self.note_fact(alloc, fact, w, at)?;
+        }
+        Ok(())
+    }
+
+    /// Adds the changes that come with the next state, which these changes make and which so many come before. It fails for want of memory alone.
     fn go_on(
         &mut self,
         alloc: Global,
-        before: &World,
+        changes: &Changes,
         next: &World,
         at: usize,
     ) -> Result<(), NoMemory>
         requires { HasSeenAll self.old }
-        ensures { OnOk result (TracksOn before.now next.now at self.old self.new) }
+        ensures { OnOk result (TracksOn changes.now next.now at self.old self.new) }
     {
-        let earlier = before.rows(self.pred);
-        self.tracks.note_state(alloc, self.pred, earlier, next, at)?;
+        self.note_facts(alloc, changes.dels.as_slice(), next, at)?;
+        self.note_facts(alloc, changes.adds.as_slice(), next, at)?;
         Ok(())
     }
 }
@@ -64,19 +105,19 @@ pub(crate) fn all_begun(
     Ok(all)
 }
 
-/// Adds the changes of the facts of all these predicates that come with the next state, of which so many come before. It fails for want of memory alone.
+/// Adds the changes of the facts of all these predicates that come with the next state, which these changes make and which so many come before. It fails for want of memory alone.
 pub(crate) fn all_go_on(
     alloc: Global,
     all: &mut [PredicateTracks],
-    before: &World,
+    changes: &Changes,
     next: &World,
     at: usize,
 ) -> Result<(), NoMemory>
     requires { HaveAllSeen all.old }
-    ensures { OnOk result (TrackAllOn before.now next.now at all.old all.new) }
+    ensures { OnOk result (TrackAllOn changes.now next.now at all.old all.new) }
 {
     for i in 0..all.len() {
-        all[i].go_on(alloc, before, next, at)?;
+        all[i].go_on(alloc, changes, next, at)?;
     }
     Ok(())
 }

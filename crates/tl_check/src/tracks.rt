@@ -1,7 +1,9 @@
 // The changes of facts, as they are found.
 ghost use Rattle.std.specs.Prelude.{◌≡◌, ◌<◌, [], IfOk, OnOk, false};
 ghost use Rattle.tl_check.specs.Gathered.{HoldsIn};
-ghost use Rattle.tl_check.specs.Tracks.{line_in, HaveSeenAll, TakesLine, AddsChange, SeesOne};
+ghost use Rattle.tl_check.specs.Lines.{IsLastTruth};
+ghost use Rattle.tl_check.specs.Told.{NotesRows, TellsFirst};
+ghost use Rattle.tl_check.specs.Tracks.{line_in, fact_with, HaveSeenAll, TakesLine, TellsOf, SeesOne};
 ghost use Rattle.tl_syntax.specs.DerivedTests.{fact_eq};
 ghost use Rattle.tl_syntax.specs.Lists.{Among};
 ghost use Rattle.tl_syntax.specs.declared.fact.Fact.{Fact as PlainFact};
@@ -10,7 +12,8 @@ use crate::line::{Change, add_span};
 use crate::span::Span;
 use std::alloc::Global;
 use std::collections::HashMap;
-use tl_syntax::{Fact, NoMemory};
+use tl_syntax::{Fact, NoMemory, Value, Values};
+use tl_world::{Rows, World};
 
 /// The changes of the facts of one predicate, along the states so far.
 #[derive(Drop)]
@@ -29,6 +32,25 @@ pub(crate) fn line_of<'a>(lines: &'a HashMap<Fact, Vec<Change>>, fact: &Fact) ->
         Some(line) => line.as_slice(),
         None => &[],
     }
+}
+
+/// What the changes tell of the position of the last one and of those after it. It takes no memory.
+fn last_truth(line: &[Change]) -> bool
+    ensures { IsLastTruth line.now result }
+{
+    match line.last() {
+        Some(change) => change.truth,
+        None => false,
+    }
+}
+
+/// The fact of a predicate with these arguments. It fails for want of memory alone.
+pub(crate) fn fact_of(alloc: Global, pred: u32, row: &[Value]) -> Result<Fact, NoMemory>
+    ensures { IfOk result (λ fact. fact ≡ fact_with pred row.now) }
+{
+    let mut args = Values::new(alloc);
+    args.extend(row)?;
+    Ok(Fact { pred, args })
 }
 
 impl Tracks {
@@ -66,13 +88,64 @@ impl Tracks {
     /// Adds a change of the fact after its other ones. It fails for want of memory alone.
     pub(crate) fn note(&mut self, alloc: Global, fact: Fact, change: Change) -> Result<(), NoMemory>
         requires { HaveSeenAll self.old }
-        ensures noted { OnOk result (AddsChange fact change self.old.lines self.new.lines) }
+        ensures told { OnOk result (TellsOf fact change self.old.lines self.new.lines) }
         ensures covered { OnOk result (HaveSeenAll self.new) }
     {
         let mut line = self.take_line(alloc, &fact)?;
         line.push(change)?;
         self.lines.insert(fact, line)?;
         Ok(())
+    }
+
+    /// Adds a change of the fact after its other ones, where these do not tell the same. It fails for want of memory alone.
+    pub(crate) fn note_new(
+        &mut self,
+        alloc: Global,
+        fact: &Fact,
+        change: Change,
+    ) -> Result<(), NoMemory>
+        requires { HaveSeenAll self.old }
+        ensures told { OnOk result (TellsOf fact.now change self.old.lines self.new.lines) }
+        ensures covered { OnOk result (HaveSeenAll self.new) }
+    {
+        if last_truth(line_of(&self.lines, fact)) == change.truth {
+            return Ok(());
+        }
+        let copy = fact.copy(alloc)?;
+        self.note(alloc, copy, change)
+    }
+
+    /// Adds that the facts of a predicate with these arguments hold from the first state on. It fails for want of memory alone.
+    fn note_rows(&mut self, alloc: Global, pred: u32, rows: &Rows) -> Result<(), NoMemory>
+        requires { HaveSeenAll self.old }
+        ensures noted { OnOk result (NotesRows pred rows.now self.old.lines self.new.lines) }
+        ensures covered { OnOk result (HaveSeenAll self.new) }
+    {
+        for k in 0..rows.len() {
+            let fact = fact_of(alloc, pred, rows.row(k))?;
+            self.note(alloc, fact, Change { at: 0, truth: true })?;
+        }
+        Ok(())
+    }
+
+    /// Adds the changes of the facts of a predicate that come with the first state. It fails for want of memory alone.
+    pub(crate) fn note_first(
+        &mut self,
+        alloc: Global,
+        pred: u32,
+        first: &World,
+    ) -> Result<(), NoMemory>
+        requires { HaveSeenAll self.old }
+        ensures told { OnOk result (TellsFirst pred first.now self.old.lines self.new.lines) }
+        ensures covered { OnOk result (HaveSeenAll self.new) }
+    {
+        match first.rows(pred) {
+            Some(rows) => {
+                self.note_rows(alloc, pred, rows)?;
+                Ok(())
+            }
+            None => Ok(()),
+        }
     }
 
     /// Adds that the fact holds at the positions of a span, after its other changes. It fails for want of memory alone.

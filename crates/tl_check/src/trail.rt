@@ -4,6 +4,7 @@ ghost use Rattle.tl_check.specs.Trails.{HaveAllSeen, KeepsOne, Follows, FollowsO
 
 use crate::predicate_tracks::{PredicateTracks, all_begun, all_go_on};
 use std::alloc::Global;
+use tl_action::Changes;
 use tl_syntax::NoMemory;
 use tl_world::World;
 
@@ -57,18 +58,19 @@ impl Trail {
         })
     }
 
-    /// Adds what is kept of the next state, of which so many come before. It fails for want of memory alone.
+    /// Adds what is kept of the next state, which the changes make and which so many come before. It fails for want of memory alone.
     pub(crate) fn go_on(
         &mut self,
         alloc: Global,
-        next: World,
+        changes: &Changes,
         at: usize,
         keeps: bool,
     ) -> Result<(), NoMemory>
         requires { HaveAllSeen self.old.tracks.items }
-        ensures { OnOk result (FollowsOn keeps next at self.old self.new) }
+        ensures { OnOk result (FollowsOn keeps changes.now at self.old self.new) }
     {
-        all_go_on(alloc, self.tracks.as_mut_slice(), &self.world, &next, at)?;
+        let next = changes.world_after(alloc, &self.world)?;
+        all_go_on(alloc, self.tracks.as_mut_slice(), changes, &next, at)?;
         keep(alloc, &mut self.kept, &next, keeps)?;
         self.world = next;
         Ok(())

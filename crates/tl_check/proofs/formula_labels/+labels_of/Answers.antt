@@ -479,32 +479,32 @@ ordered_labels-returns-in-None-clause-labels t c =
 
 pub guided_labels-kept-outer-requires : goal.guided_labels-kept-outer-requires
 guided_labels-kept-outer-requires t c =
-    let parts = quantified-parts c.args.along.now.task.now.problem c.args.binder.now.junction c.args.binder.now.vars.now c.args.binder.now.bound.now (tree_of_formula c.args.part.now) c.requires.fits in
+    let parts = quantified-parts c.args.along.now.task.now.problem c.args.guided.now.binder.junction c.args.guided.now.binder.vars.now c.args.guided.now.binder.bound.now (tree_of_formula c.args.part.now) c.requires.fits in
     record { few = omega (arith, ap length c.as_slice.ensures, parts.few) }
 
 pub guided_labels-open_in_place-requires-clause-differ : goal.guided_labels-open_in_place-requires-clause-differ
 guided_labels-open_in_place-requires-clause-differ t c =
-    let parts = quantified-parts c.args.along.now.task.now.problem c.args.binder.now.junction c.args.binder.now.vars.now c.args.binder.now.bound.now (tree_of_formula c.args.part.now) c.requires.fits in
+    let parts = quantified-parts c.args.along.now.task.now.problem c.args.guided.now.binder.junction c.args.guided.now.binder.vars.now c.args.guided.now.binder.bound.now (tree_of_formula c.args.part.now) c.requires.fits in
     parts.differ
 
 pub guided_labels-open_in_place-requires-clause-occur : goal.guided_labels-open_in_place-requires-clause-occur
 guided_labels-open_in_place-requires-clause-occur t c =
-    let parts = quantified-parts c.args.along.now.task.now.problem c.args.binder.now.junction c.args.binder.now.vars.now c.args.binder.now.bound.now (tree_of_formula c.args.part.now) c.requires.fits in
+    let parts = quantified-parts c.args.along.now.task.now.problem c.args.guided.now.binder.junction c.args.guided.now.binder.vars.now c.args.guided.now.binder.bound.now (tree_of_formula c.args.part.now) c.requires.fits in
     parts.occur
 
 pub guided_labels-open_in_place-requires-clause-fits : goal.guided_labels-open_in_place-requires-clause-fits
 guided_labels-open_in_place-requires-clause-fits t c =
-    let parts = quantified-parts c.args.along.now.task.now.problem c.args.binder.now.junction c.args.binder.now.vars.now c.args.binder.now.bound.now (tree_of_formula c.args.part.now) c.requires.fits in
+    let parts = quantified-parts c.args.along.now.task.now.problem c.args.guided.now.binder.junction c.args.guided.now.binder.vars.now c.args.guided.now.binder.bound.now (tree_of_formula c.args.part.now) c.requires.fits in
     parts.bound
 
 pub guided_labels-instances-init : goal.guided_labels-instances-init
 guided_labels-instances-init t c =
-    let parts = quantified-parts c.args.along.now.task.now.problem c.args.binder.now.junction c.args.binder.now.vars.now c.args.binder.now.bound.now (tree_of_formula c.args.part.now) c.requires.fits in
+    let parts = quantified-parts c.args.along.now.task.now.problem c.args.guided.now.binder.junction c.args.guided.now.binder.vars.now c.args.guided.now.binder.bound.now (tree_of_formula c.args.part.now) c.requires.fits in
     record {
       reads = c.open_in_place.ensures.reads;
       scope = λ u. refl;
       slots = c.requires.frame;
-      so_far = guided-begun (plain_problem c.args.along.now.task.now.problem) (states_along c.args.along.now) (assignment_in c.args.env.now) (with_part c.args.binder.now (tree_of_formula c.args.part.now)) parts.differ parts.occur c.args.guide.now c.requires.guide c.args.span c.requires.span c.in_ok-all.all c.open_in_place.new.self.tuple c.open_in_place.ensures.before (c.in_ok-all.ensures.same ∙ ap (λ (b : Bool). replicate (c.args.span.to - c.args.span.from) (not b)) c.deciding_truth.ensures);
+      so_far = guided-begun (plain_problem c.args.along.now.task.now.problem) (states_along c.args.along.now) (assignment_in c.args.env.now) (with_part c.args.guided.now.binder (tree_of_formula c.args.part.now)) parts.differ parts.occur c.args.guided.now.guide.now c.requires.guide c.args.span c.requires.span c.in_ok-all.all c.open_in_place.new.self.tuple c.open_in_place.ensures.before (c.in_ok-all.ensures.same ∙ ap (λ (b : Bool). replicate (c.args.span.to - c.args.span.from) (not b)) c.deciding_truth.ensures);
     }
 
 pub guided_labels-values-requires : goal.guided_labels-values-requires
@@ -513,47 +513,47 @@ guided_labels-values-requires t c =
 
 pub guided_labels-put_values-requires-clause-slots : goal.guided_labels-put_values-requires-clause-slots
 guided_labels-put_values-requires-clause-slots t c =
-    let parts = quantified-parts c.args.along.now.task.now.problem c.args.binder.now.junction c.args.binder.now.vars.now c.args.binder.now.bound.now (tree_of_formula c.args.part.now) c.requires.fits in
+    let parts = quantified-parts c.args.along.now.task.now.problem c.args.guided.now.binder.junction c.args.guided.now.binder.vars.now c.args.guided.now.binder.bound.now (tree_of_formula c.args.part.now) c.requires.fits in
     subst (Each (λ (s : Var). s.slot < 32)) (sym c.as_slice-in-instances.ensures) parts.in_frame
 
 pub guided_labels-put_values-requires-clause-same : goal.guided_labels-put_values-requires-clause-same
 guided_labels-put_values-requires-clause-same t c =
-    ap length c.as_slice-in-instances.ensures ∙ sym (c.values.ensures.count c.args.binder.now.vars.now (assignment_in c.args.env.now) c.args.binder.now.bound.now (c.next.ensures.reads c.args.binder.now.vars.now (assignment_in c.args.env.now) c.instances.invariant.reads))
+    ap length c.as_slice-in-instances.ensures ∙ sym (c.values.ensures.count c.args.guided.now.binder.vars.now (assignment_in c.args.env.now) c.args.guided.now.binder.bound.now (c.next.ensures.reads c.args.guided.now.binder.vars.now (assignment_in c.args.env.now) c.instances.invariant.reads))
 
 pub guided_labels-join_instance-requires : goal.guided_labels-join_instance-requires
 guided_labels-join_instance-requires t c =
-    let there = subst (λ (o : Option (List Bool)). IfSome o (λ labels. labels ≡ bound_along c.args.along.now c.args.span c.put_values.new.self c.args.binder.now.bound.now)) c.in-Some.is c.in_ok-there.ensures.labels in
+    let there = subst (λ (o : Option (List Bool)). IfSome o (λ labels. labels ≡ bound_along c.args.along.now c.args.span c.put_values.new.self c.args.guided.now.binder.bound.now)) c.in-Some.is c.in_ok-there.ensures.labels in
     (omega (arith, c.decreases), (c.requires.along, (c.requires.span, (c.put_values.ensures.slots ∙ c.instances.invariant.slots, (c.requires.fits, (there, omega (arith, c.instances.invariant.so_far.size, c.requires.span.order)))))))
 
 pub guided_labels-instances-smaller : goal.guided_labels-instances-smaller
 guided_labels-instances-smaller t c =
-    let parts = quantified-parts c.args.along.now.task.now.problem c.args.binder.now.junction c.args.binder.now.vars.now c.args.binder.now.bound.now (tree_of_formula c.args.part.now) c.requires.fits in
-    let next = subst (IsNext (length c.args.binder.now.vars.now) (λ t. bound_true (situation_of (plain_problem c.args.along.now.task.now.problem) c.args.guide.now) (bind c.args.binder.now.vars.now t (assignment_in c.args.env.now)) c.args.binder.now.bound.now) c.instances.tuples.tuple) c.values.ensures.values (c.next.ensures.next c.args.binder.now.vars.now (assignment_in c.args.env.now) c.instances.invariant.reads) in
-    subst (λ (o : Option (List Value)). length (rest_after o (tuples (situation_of (plain_problem c.args.along.now.task.now.problem) c.args.guide.now) (assignment_in c.args.env.now) c.args.binder.now.vars.now c.args.binder.now.bound.now)) < length (rest_after c.instances.tuples.tuple (tuples (situation_of (plain_problem c.args.along.now.task.now.problem) c.args.guide.now) (assignment_in c.args.env.now) c.args.binder.now.vars.now c.args.binder.now.bound.now))) (sym c.values.ensures.values) (guided-fewer (plain_problem c.args.along.now.task.now.problem) (states_along c.args.along.now) (assignment_in c.args.env.now) (with_part c.args.binder.now (tree_of_formula c.args.part.now)) parts.differ parts.occur c.args.guide.now c.requires.guide c.args.span c.requires.span c.instances.all c.instances.tuples.tuple c.instances.invariant.so_far c.values.result.now next)
+    let parts = quantified-parts c.args.along.now.task.now.problem c.args.guided.now.binder.junction c.args.guided.now.binder.vars.now c.args.guided.now.binder.bound.now (tree_of_formula c.args.part.now) c.requires.fits in
+    let next = subst (IsNext (length c.args.guided.now.binder.vars.now) (λ t. bound_true (situation_of (plain_problem c.args.along.now.task.now.problem) c.args.guided.now.guide.now) (bind c.args.guided.now.binder.vars.now t (assignment_in c.args.env.now)) c.args.guided.now.binder.bound.now) c.instances.tuples.tuple) c.values.ensures.values (c.next.ensures.next c.args.guided.now.binder.vars.now (assignment_in c.args.env.now) c.instances.invariant.reads) in
+    subst (λ (o : Option (List Value)). length (rest_after o (tuples (situation_of (plain_problem c.args.along.now.task.now.problem) c.args.guided.now.guide.now) (assignment_in c.args.env.now) c.args.guided.now.binder.vars.now c.args.guided.now.binder.bound.now)) < length (rest_after c.instances.tuples.tuple (tuples (situation_of (plain_problem c.args.along.now.task.now.problem) c.args.guided.now.guide.now) (assignment_in c.args.env.now) c.args.guided.now.binder.vars.now c.args.guided.now.binder.bound.now))) (sym c.values.ensures.values) (guided-fewer (plain_problem c.args.along.now.task.now.problem) (states_along c.args.along.now) (assignment_in c.args.env.now) (with_part c.args.guided.now.binder (tree_of_formula c.args.part.now)) parts.differ parts.occur c.args.guided.now.guide.now c.requires.guide c.args.span c.requires.span c.instances.all c.instances.tuples.tuple c.instances.invariant.so_far c.values.result.now next)
 
 pub guided_labels-instances-preserved : goal.guided_labels-instances-preserved
 guided_labels-instances-preserved t c =
-    let parts = quantified-parts c.args.along.now.task.now.problem c.args.binder.now.junction c.args.binder.now.vars.now c.args.binder.now.bound.now (tree_of_formula c.args.part.now) c.requires.fits in
-    let next = subst (IsNext (length c.args.binder.now.vars.now) (λ t. bound_true (situation_of (plain_problem c.args.along.now.task.now.problem) c.args.guide.now) (bind c.args.binder.now.vars.now t (assignment_in c.args.env.now)) c.args.binder.now.bound.now) c.instances.tuples.tuple) c.values.ensures.values (c.next.ensures.next c.args.binder.now.vars.now (assignment_in c.args.env.now) c.instances.invariant.reads) in
+    let parts = quantified-parts c.args.along.now.task.now.problem c.args.guided.now.binder.junction c.args.guided.now.binder.vars.now c.args.guided.now.binder.bound.now (tree_of_formula c.args.part.now) c.requires.fits in
+    let next = subst (IsNext (length c.args.guided.now.binder.vars.now) (λ t. bound_true (situation_of (plain_problem c.args.along.now.task.now.problem) c.args.guided.now.guide.now) (bind c.args.guided.now.binder.vars.now t (assignment_in c.args.env.now)) c.args.guided.now.binder.bound.now) c.instances.tuples.tuple) c.values.ensures.values (c.next.ensures.next c.args.guided.now.binder.vars.now (assignment_in c.args.env.now) c.instances.invariant.reads) in
     let here = c.put_values.ensures.values ∙ (ap (λ (ss : List Var). bind ss c.values.result.now (assignment_in c.instances.env)) c.as_slice-in-instances.ensures ∙ c.instances.invariant.scope c.values.result.now) in
     record {
-      reads = c.next.ensures.reads c.args.binder.now.vars.now (assignment_in c.args.env.now) c.instances.invariant.reads;
-      scope = λ u. bind-through c.args.binder.now.vars.now u c.values.result.now (assignment_in c.join_instance.new.env) (assignment_in c.args.env.now) (ap assignment_in c.in_ok-join_instance-in-Some.ensures.frame ∙ here);
+      reads = c.next.ensures.reads c.args.guided.now.binder.vars.now (assignment_in c.args.env.now) c.instances.invariant.reads;
+      scope = λ u. bind-through c.args.guided.now.binder.vars.now u c.values.result.now (assignment_in c.join_instance.new.env) (assignment_in c.args.env.now) (ap assignment_in c.in_ok-join_instance-in-Some.ensures.frame ∙ here);
       slots = ap length c.in_ok-join_instance-in-Some.ensures.frame ∙ (c.put_values.ensures.slots ∙ c.instances.invariant.slots);
-      so_far = subst (Guided (plain_problem c.args.along.now.task.now.problem) (states_along c.args.along.now) (assignment_in c.args.env.now) (with_part c.args.binder.now (tree_of_formula c.args.part.now)) c.args.guide.now c.args.span c.join_instance.new.all) (sym c.values.ensures.values)
-          (guided-on (plain_problem c.args.along.now.task.now.problem) (states_along c.args.along.now) (assignment_in c.args.env.now) (with_part c.args.binder.now (tree_of_formula c.args.part.now)) parts.differ parts.occur c.args.guide.now c.requires.guide c.args.span c.requires.span c.instances.all c.instances.tuples.tuple c.instances.invariant.so_far c.values.result.now next c.join_instance.new.all c.in_ok-join_instance-in-Some.field-0
-          (subst (λ (x : Assignment). JoinsInstance (plain_problem c.args.along.now.task.now.problem) (states_along c.args.along.now) c.args.span x (with_part c.args.binder.now (tree_of_formula c.args.part.now)) c.instances.all c.join_instance.new.all (Ok c.in_ok-join_instance-in-Some.field-0)) here c.in_ok-join_instance-in-Some.ensures.joined));
+      so_far = subst (Guided (plain_problem c.args.along.now.task.now.problem) (states_along c.args.along.now) (assignment_in c.args.env.now) (with_part c.args.guided.now.binder (tree_of_formula c.args.part.now)) c.args.guided.now.guide.now c.args.span c.join_instance.new.all) (sym c.values.ensures.values)
+          (guided-on (plain_problem c.args.along.now.task.now.problem) (states_along c.args.along.now) (assignment_in c.args.env.now) (with_part c.args.guided.now.binder (tree_of_formula c.args.part.now)) parts.differ parts.occur c.args.guided.now.guide.now c.requires.guide c.args.span c.requires.span c.instances.all c.instances.tuples.tuple c.instances.invariant.so_far c.values.result.now next c.join_instance.new.all c.in_ok-join_instance-in-Some.field-0
+          (subst (λ (x : Assignment). JoinsInstance (plain_problem c.args.along.now.task.now.problem) (states_along c.args.along.now) c.args.span x (with_part c.args.guided.now.binder (tree_of_formula c.args.part.now)) c.instances.all c.join_instance.new.all (Ok c.in_ok-join_instance-in-Some.field-0)) here c.in_ok-join_instance-in-Some.ensures.joined));
     }
 
 pub guided_labels-give_back-requires-clause-slots : goal.guided_labels-give_back-requires-clause-slots
 guided_labels-give_back-requires-clause-slots t c =
-    let parts = quantified-parts c.args.along.now.task.now.problem c.args.binder.now.junction c.args.binder.now.vars.now c.args.binder.now.bound.now (tree_of_formula c.args.part.now) c.requires.fits in
+    let parts = quantified-parts c.args.along.now.task.now.problem c.args.guided.now.binder.junction c.args.guided.now.binder.vars.now c.args.guided.now.binder.bound.now (tree_of_formula c.args.part.now) c.requires.fits in
     subst (Each (λ (s : Var). s.slot < 32)) (sym c.as_slice-2.ensures) parts.in_frame
 
 pub guided_labels-returns-clause-labels : goal.guided_labels-returns-clause-labels
 guided_labels-returns-clause-labels t c =
-    let parts = quantified-parts c.args.along.now.task.now.problem c.args.binder.now.junction c.args.binder.now.vars.now c.args.binder.now.bound.now (tree_of_formula c.args.part.now) c.requires.fits in
-    guided-end (plain_problem c.args.along.now.task.now.problem) (states_along c.args.along.now) (assignment_in c.args.env.now) (with_part c.args.binder.now (tree_of_formula c.args.part.now)) parts.differ parts.occur c.args.guide.now c.requires.guide c.args.span c.requires.span c.instances.all c.instances.tuples.tuple c.next.new.self.tuple (c.next.ensures.next c.args.binder.now.vars.now (assignment_in c.args.env.now) c.instances.invariant.reads) (c.next.ensures.end c.instances-test.false) c.instances.invariant.so_far
+    let parts = quantified-parts c.args.along.now.task.now.problem c.args.guided.now.binder.junction c.args.guided.now.binder.vars.now c.args.guided.now.binder.bound.now (tree_of_formula c.args.part.now) c.requires.fits in
+    guided-end (plain_problem c.args.along.now.task.now.problem) (states_along c.args.along.now) (assignment_in c.args.env.now) (with_part c.args.guided.now.binder (tree_of_formula c.args.part.now)) parts.differ parts.occur c.args.guided.now.guide.now c.requires.guide c.args.span c.requires.span c.instances.all c.instances.tuples.tuple c.next.new.self.tuple (c.next.ensures.next c.args.guided.now.binder.vars.now (assignment_in c.args.env.now) c.instances.invariant.reads) (c.next.ensures.end c.instances-test.false) c.instances.invariant.so_far
 
 pub guided_labels-returns-in_err-join_instance-in-Some-clause-labels : goal.guided_labels-returns-in_err-join_instance-in-Some-clause-labels
 guided_labels-returns-in_err-join_instance-in-Some-clause-labels t c =
@@ -562,32 +562,32 @@ guided_labels-returns-in_err-join_instance-in-Some-clause-labels t c =
     let ws = states_along a in
     let e = assignment_in c.args.env.now in
     let f = tree_of_formula c.args.part.now in
-    let q : Quantifier = with_part c.args.binder.now f in
+    let q : Quantifier = with_part c.args.guided.now.binder f in
     let parts = quantified-parts a.task.now.problem q.junction q.vars q.bound f c.requires.fits in
-    let next = subst (IsNext (length q.vars) (λ t. bound_true (situation_of p c.args.guide.now) (bind q.vars t e) q.bound) c.instances.tuples.tuple) c.values.ensures.values (c.next.ensures.next q.vars e c.instances.invariant.reads) in
+    let next = subst (IsNext (length q.vars) (λ t. bound_true (situation_of p c.args.guided.now.guide.now) (bind q.vars t e) q.bound) c.instances.tuples.tuple) c.values.ensures.values (c.next.ensures.next q.vars e c.instances.invariant.reads) in
     let here = c.put_values.ensures.values ∙ (ap (λ (ss : List Var). bind ss c.values.result.now (assignment_in c.instances.env)) c.as_slice-in-instances.ensures ∙ c.instances.invariant.scope c.values.result.now) in
     let x = c.in_err-join_instance-in-Some.field-0.0 in
     let old = c.instances.all in
     let new = c.join_instance.new.all in
     let inner = bind q.vars c.values.result.now e in
     passed-on a (JoinsInstance p ws c.args.span inner q old new) (AreLabels p ws c.args.span e (quantified q.junction q.vars q.bound q.part))
-    (λ y h. guided-noted p ws e q parts.differ parts.occur c.args.guide.now c.requires.guide c.args.span c.requires.span old c.instances.tuples.tuple c.instances.invariant.so_far c.values.result.now next new y h)
+    (λ y h. guided-noted p ws e q parts.differ parts.occur c.args.guided.now.guide.now c.requires.guide c.args.span c.requires.span old c.instances.tuples.tuple c.instances.invariant.so_far c.values.result.now next new y h)
     c.from_residual-in_err-join_instance-in-Some.result x c.from_residual-in_err-join_instance-in-Some.ensures.1
     (subst (λ (d : Assignment). UnlessFew a (JoinsInstance p ws c.args.span d q old new) (Err x)) here c.in_err-join_instance-in-Some.ensures.joined)
 
 pub guided_labels-bound_labels-requires-clause-fits : goal.guided_labels-bound_labels-requires-clause-fits
 guided_labels-bound_labels-requires-clause-fits t c =
-    let parts = quantified-parts c.args.along.now.task.now.problem c.args.binder.now.junction c.args.binder.now.vars.now c.args.binder.now.bound.now (tree_of_formula c.args.part.now) c.requires.fits in
+    let parts = quantified-parts c.args.along.now.task.now.problem c.args.guided.now.binder.junction c.args.guided.now.binder.vars.now c.args.guided.now.binder.bound.now (tree_of_formula c.args.part.now) c.requires.fits in
     parts.bound
 
 pub join_instance-hull-requires : goal.join_instance-hull-requires
 join_instance-hull-requires t c =
-    omega (arith, ap length c.requires.there, marks_in-length (bound_ahead (plain_problem c.args.along.now.task.now.problem) (assignment_in c.args.env.now) c.args.binder.now.bound.now) (states_along c.args.along.now) c.args.span c.requires.span, c.requires.span.order)
+    omega (arith, ap length c.requires.there, marks_in-length (bound_ahead (plain_problem c.args.along.now.task.now.problem) (assignment_in c.args.env.now) c.args.instance.now.binder.bound.now) (states_along c.args.along.now) c.args.span c.requires.span, c.requires.span.order)
 
 pub join_instance-labels_of-requires : goal.join_instance-labels_of-requires
 join_instance-labels_of-requires t c =
-    let parts = quantified-parts c.args.along.now.task.now.problem c.args.binder.now.junction c.args.binder.now.vars.now c.args.binder.now.bound.now (tree_of_formula c.args.part.now) c.requires.fits in
-    (omega (arith, c.decreases), (c.requires.along, (hull-within (plain_problem c.args.along.now.task.now.problem) (states_along c.args.along.now) c.args.span (assignment_in c.args.env.now) (with_part c.args.binder.now (tree_of_formula c.args.part.now)) c.requires.span c.args.there.now c.requires.there c.in-Some.hull c.in-Some.ensures.hull, (c.requires.frame, parts.body))))
+    let parts = quantified-parts c.args.along.now.task.now.problem c.args.instance.now.binder.junction c.args.instance.now.binder.vars.now c.args.instance.now.binder.bound.now (tree_of_formula c.args.instance.now.part.now) c.requires.fits in
+    (omega (arith, c.decreases), (c.requires.along, (hull-within (plain_problem c.args.along.now.task.now.problem) (states_along c.args.along.now) c.args.span (assignment_in c.args.env.now) (with_part c.args.instance.now.binder (tree_of_formula c.args.instance.now.part.now)) c.requires.span c.args.instance.now.there c.requires.there c.in-Some.hull c.in-Some.ensures.hull, (c.requires.frame, parts.body))))
 
 pub join_instance-overflow_sub-hull : goal.join_instance-overflow_sub-hull
 join_instance-overflow_sub-hull t c =
@@ -595,20 +595,20 @@ join_instance-overflow_sub-hull t c =
 
 pub join_instance-join_where-requires-clause-size : goal.join_instance-join_where-requires-clause-size
 join_instance-join_where-requires-clause-size t c =
-    omega (arith, ap length c.requires.there, marks_in-length (bound_ahead (plain_problem c.args.along.now.task.now.problem) (assignment_in c.args.env.now) c.args.binder.now.bound.now) (states_along c.args.along.now) c.args.span c.requires.span, c.requires.span.order, c.requires.size)
+    omega (arith, ap length c.requires.there, marks_in-length (bound_ahead (plain_problem c.args.along.now.task.now.problem) (assignment_in c.args.env.now) c.args.instance.now.binder.bound.now) (states_along c.args.along.now) c.args.span c.requires.span, c.requires.span.order, c.requires.size)
 
 pub join_instance-join_where-requires-clause-within : goal.join_instance-join_where-requires-clause-within
 join_instance-join_where-requires-clause-within t c =
     let hull = c.in-Some.ensures.hull in
-    omega (arith, ap length c.requires.there, marks_in-length (bound_ahead (plain_problem c.args.along.now.task.now.problem) (assignment_in c.args.env.now) c.args.binder.now.bound.now) (states_along c.args.along.now) c.args.span c.requires.span, c.requires.span.order, ap length c.in_ok-found-in-Some.ensures.labels, marks_in-length (true_ahead (plain_problem c.args.along.now.task.now.problem) (assignment_in c.args.env.now) (tree_of_formula c.args.part.now)) (states_along c.args.along.now) c.in-Some.hull (hull-within (plain_problem c.args.along.now.task.now.problem) (states_along c.args.along.now) c.args.span (assignment_in c.args.env.now) (with_part c.args.binder.now (tree_of_formula c.args.part.now)) c.requires.span c.args.there.now c.requires.there c.in-Some.hull hull), hull.from, hull.order, hull.to)
+    omega (arith, ap length c.requires.there, marks_in-length (bound_ahead (plain_problem c.args.along.now.task.now.problem) (assignment_in c.args.env.now) c.args.instance.now.binder.bound.now) (states_along c.args.along.now) c.args.span c.requires.span, c.requires.span.order, ap length c.in_ok-found-in-Some.ensures.labels, marks_in-length (true_ahead (plain_problem c.args.along.now.task.now.problem) (assignment_in c.args.env.now) (tree_of_formula c.args.instance.now.part.now)) (states_along c.args.along.now) c.in-Some.hull (hull-within (plain_problem c.args.along.now.task.now.problem) (states_along c.args.along.now) c.args.span (assignment_in c.args.env.now) (with_part c.args.instance.now.binder (tree_of_formula c.args.instance.now.part.now)) c.requires.span c.args.instance.now.there c.requires.there c.in-Some.hull hull), hull.from, hull.order, hull.to)
 
 pub join_instance-returns-in-None-clause-joined : goal.join_instance-returns-in-None-clause-joined
 join_instance-returns-in-None-clause-joined t c =
-    instance-nowhere (plain_problem c.args.along.now.task.now.problem) (states_along c.args.along.now) c.args.span (assignment_in c.args.env.now) (with_part c.args.binder.now (tree_of_formula c.args.part.now)) c.requires.span c.args.there.now c.requires.there c.args.all.now tt (omega (arith, c.requires.size)) c.in-None.ensures.none
+    instance-nowhere (plain_problem c.args.along.now.task.now.problem) (states_along c.args.along.now) c.args.span (assignment_in c.args.env.now) (with_part c.args.instance.now.binder (tree_of_formula c.args.instance.now.part.now)) c.requires.span c.args.instance.now.there c.requires.there c.args.all.now tt (omega (arith, c.requires.size)) c.in-None.ensures.none
 
 pub join_instance-returns-in_ok-join_where-in-Some-clause-joined : goal.join_instance-returns-in_ok-join_where-in-Some-clause-joined
 join_instance-returns-in_ok-join_where-in-Some-clause-joined t c =
-    instance-joined (plain_problem c.args.along.now.task.now.problem) (states_along c.args.along.now) c.args.span (assignment_in c.args.env.now) (with_part c.args.binder.now (tree_of_formula c.args.part.now)) c.requires.span c.args.there.now c.requires.there c.in-Some.hull c.in-Some.ensures.hull c.args.all.now c.join_where.new.self c.in_ok-found-in-Some.found tt (omega (arith, c.requires.size)) c.in_ok-found-in-Some.ensures.labels c.in_ok-join_where-in-Some.ensures.size c.in_ok-join_where-in-Some.ensures.joined
+    instance-joined (plain_problem c.args.along.now.task.now.problem) (states_along c.args.along.now) c.args.span (assignment_in c.args.env.now) (with_part c.args.instance.now.binder (tree_of_formula c.args.instance.now.part.now)) c.requires.span c.args.instance.now.there c.requires.there c.in-Some.hull c.in-Some.ensures.hull c.args.all.now c.join_where.new.self c.in_ok-found-in-Some.found tt (omega (arith, c.requires.size)) c.in_ok-found-in-Some.ensures.labels c.in_ok-join_where-in-Some.ensures.size c.in_ok-join_where-in-Some.ensures.joined
 
 pub join_instance-returns-in_err-found-in-Some-clause-joined : goal.join_instance-returns-in_err-found-in-Some-clause-joined
 join_instance-returns-in_err-found-in-Some-clause-joined t c =
@@ -616,11 +616,11 @@ join_instance-returns-in_err-found-in-Some-clause-joined t c =
     let p = plain_problem a.task.now.problem in
     let ws = states_along a in
     let e = assignment_in c.args.env.now in
-    let f = tree_of_formula c.args.part.now in
-    let q : Quantifier = with_part c.args.binder.now f in
+    let f = tree_of_formula c.args.instance.now.part.now in
+    let q : Quantifier = with_part c.args.instance.now.binder f in
     let all = c.args.all.now in
     passed-on a (AreLabels p ws c.in-Some.hull e f) (JoinsInstance p ws c.args.span e q all all)
-    (λ y h. guided.instance-noted p ws c.args.span e q c.requires.span c.args.there.now c.requires.there c.in-Some.hull c.in-Some.ensures.hull all all y h)
+    (λ y h. guided.instance-noted p ws c.args.span e q c.requires.span c.args.instance.now.there c.requires.there c.in-Some.hull c.in-Some.ensures.hull all all y h)
     c.from_residual.result c.in_err-found-in-Some.field-0.0 c.from_residual.ensures.1 c.in_err-found-in-Some.ensures.labels
 
 pub stepped_labels-gathered-requires-clause-differ : goal.stepped_labels-gathered-requires-clause-differ

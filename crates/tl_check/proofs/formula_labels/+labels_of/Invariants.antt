@@ -45,7 +45,7 @@ abbrev pub decreases-guided_labels : goal.decreases-guided_labels
 decreases-guided_labels l = 2 + 4 * size (tree_of_formula l.part.now)
 
 abbrev pub decreases-join_instance : goal.decreases-join_instance
-decreases-join_instance l = 1 + 4 * size (tree_of_formula l.part.now)
+decreases-join_instance l = 1 + 4 * size (tree_of_formula l.instance.now.part.now)
 
 abbrev pub decreases-stepped_labels : goal.decreases-stepped_labels
 decreases-stepped_labels l = 2 + 4 * size (tree_of_formula l.part.now)
@@ -57,14 +57,14 @@ invariant-parts_labels-loop-part l = record {
 }
 
 abbrev pub decreases-guided_labels-instances : goal.decreases-guided_labels-instances
-decreases-guided_labels-instances l = length (rest_after l.tuples.tuple (tuples (situation_of (plain_problem l.along.task.now.problem) l.guide) (assignment_in l.fn.env) l.binder.vars.now l.binder.bound.now))
+decreases-guided_labels-instances l = length (rest_after l.tuples.tuple (tuples (situation_of (plain_problem l.along.task.now.problem) l.guided.guide.now) (assignment_in l.fn.env) l.guided.binder.vars.now l.guided.binder.bound.now))
 
 abbrev pub invariant-guided_labels-instances : goal.invariant-guided_labels-instances
 invariant-guided_labels-instances l = record {
-  reads : ReadsTuples l.binder.vars.now (assignment_in l.fn.env) l.binder.bound.now l.tuples;
-  scope : AgreeElsewhere l.binder.vars.now (assignment_in l.env) (assignment_in l.fn.env);
+  reads : ReadsTuples l.guided.binder.vars.now (assignment_in l.fn.env) l.guided.binder.bound.now l.tuples;
+  scope : AgreeElsewhere l.guided.binder.vars.now (assignment_in l.env) (assignment_in l.fn.env);
   slots : length l.env ≡ 32;
-  so_far : Guided (plain_problem l.along.task.now.problem) (states_along l.along) (assignment_in l.fn.env) (with_part l.binder (tree_of_formula l.part)) l.guide l.span l.all l.tuples.tuple;
+  so_far : Guided (plain_problem l.along.task.now.problem) (states_along l.along) (assignment_in l.fn.env) (with_part l.guided.binder (tree_of_formula l.part)) l.guided.guide.now l.span l.all l.tuples.tuple;
 }
 
 abbrev pub invariant-stepped_labels-loop-tuple : goal.invariant-stepped_labels-loop-tuple
