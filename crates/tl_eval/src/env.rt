@@ -6,7 +6,7 @@ ghost use Rattle.tl_syntax.specs.Lists.{Each};
 
 use crate::kept::{give_back, keep};
 use crate::memory::{Memory, TRIES};
-use crate::scope::{exchange, put_in_scope, restore, saved};
+use crate::scope::{put_in_scope, restore, saved};
 use crate::term_value::value_in;
 use std::alloc::Global;
 use std::marker::Model;
@@ -185,14 +185,6 @@ impl Env {
         ensures { result ≡ self.now }
     {
         saved(self.values.as_slice())
-    }
-
-    /// Exchanges the caller's frame with the given one. It takes no memory.
-    pub fn exchange(&mut self, frame: &mut [Option<Value>; 32])
-        ensures comes { self.new ≡ frame.old }
-        ensures goes { frame.new ≡ self.old }
-    {
-        exchange(self.values.as_mut_slice(), frame);
     }
 
     /// Makes the caller's frame the given one. It takes no memory.

@@ -55,12 +55,3 @@ pub(crate) fn restore(frames: &mut [Option<Value>], frame: &[Option<Value>; 32])
 {
     frames[..SLOTS].copy_from_slice(frame);
 }
-
-/// Exchanges the first frame with the given one. It takes no memory.
-pub(crate) fn exchange(frames: &mut [Option<Value>], frame: &mut [Option<Value>; 32])
-    requires { 32 ≤ length frames.old }
-    ensures comes { take 32 frames.new ≡ frame.old }
-    ensures goes { frame.new ≡ take 32 frames.old }
-{
-    frames[..SLOTS].swap_with_slice(frame);
-}

@@ -19,10 +19,9 @@ use Rattle.tl_terms.specs.Progression.{constant, progressed, progressed_all}
 use Rattle.tl_terms.specs.Simplification.{simplified_not}
 use Rattle.tl_terms.specs.World.{World}
 use Rattle.tl_progress.specs.Answers.{residual, idly_true}
-use Rattle.tl_progress.specs.Known.{AreTruths, AreResiduals, IsRightlyKnown}
+use Rattle.tl_progress.specs.Known.{AreTruths, AreResiduals}
 use Rattle.tl_progress.specs.Parts.{join_parts, formulas_in, IsJoin}
 use Rattle.tl_progress.specs.Steps.{steps_left}
-use Rattle.tl_progress.specs.declared.known.WorkedOut.{WorkedOut}
 use Rattle.tl_progress.proofs.Basics.{basic-state}
 use Rattle.tl_progress.proofs.Gathering.{joined-decided}
 use Rattle.tl_progress.proofs.TruthLayers.{shown, shown-Basic, basic-in}
@@ -155,6 +154,3 @@ module _ (p : PlainProblem) (w : World) (ts us : List FormulaTree) (kept : Keeps
 
   pub residuals-still : (found : ℕ → Option ℕ) → AreResiduals p w ts found → AreResiduals p w us found
   residuals-still found h k i q = let r = h k i q in (longer ts us kept k r.0, λ e. kept i _ (r.1 e) ∙ ap (λ f. Some (residual p w e f)) (sym (stays ts us kept k r.0)))
-
-  pub right-still : (known : WorkedOut) → IsRightlyKnown p w ts known → IsRightlyKnown p w us known
-  right-still known h = record { truths = truths-still _ h.truths; residuals = residuals-still _ h.residuals }
