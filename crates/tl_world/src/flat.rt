@@ -117,6 +117,16 @@ impl Flat {
         })
     }
 
+    /// Makes room for as many values in all, where there are no rows yet, and no more.
+    pub(crate) fn reserve(&mut self, values: usize) -> Result<(), NoMemory>
+        ensures { self.new ≡ self.old }
+    {
+        if self.values.is_empty() {
+            self.values.reserve_exact(values)?;
+        }
+        Ok(())
+    }
+
     /// How many rows there are.
     #[tactic(auto, using(crate::proofs::Cuts::cuts))]
     #[inline]
@@ -130,6 +140,15 @@ impl Flat {
     /// How many values there are in all.
     pub(crate) fn values(&self) -> usize {
         self.values.len()
+    }
+
+    /// How many values the first row has, or 0 where there is none.
+    pub(crate) fn row_size(&self) -> usize {
+        if self.len() == 0 {
+            0
+        } else {
+            self.row(0).len()
+        }
     }
 
     /// Row `k`, counted from 0.

@@ -17,7 +17,7 @@ impl Runs {
             return Ok(Runs::of_list(alloc, rows.without(alloc, k)?));
         }
         let count = self.len();
-        let mut out = self.with_room(alloc, 0)?;
+        let mut out = self.with_room(alloc)?;
         out.push_rows(alloc, self, 0, k)?;
         out.push_rows(alloc, self, k + 1, count)?;
         Ok(out)
@@ -36,7 +36,7 @@ impl Runs {
         ensures { IfOk result (λ r. r ≡ remove (insert self.now at row.now) (cut + 1)) }
     {
         let count = self.len();
-        let mut out = self.with_room(alloc, row.len())?;
+        let mut out = self.with_room(alloc)?;
         out.push_rows(alloc, self, 0, at)?;
         out.push(alloc, row)?;
         out.push_rows(alloc, self, at, cut)?;
@@ -57,7 +57,7 @@ impl Runs {
         ensures { IfOk result (λ r. r ≡ remove (insert self.now at row.now) cut) }
     {
         let count = self.len();
-        let mut out = self.with_room(alloc, row.len())?;
+        let mut out = self.with_room(alloc)?;
         out.push_rows(alloc, self, 0, cut)?;
         out.push_rows(alloc, self, cut + 1, at)?;
         out.push(alloc, row)?;

@@ -69,13 +69,13 @@ impl Runs {
         }
     }
 
-    /// No rows, with room for runs and last rows as the table has, and for one more run and a row of so many values.
-    pub(crate) fn with_room(&self, alloc: Global, values: usize) -> Result<Runs, NoMemory>
+    /// No rows, with room for the runs of the table, and for one or two more.
+    pub(crate) fn with_room(&self, alloc: Global) -> Result<Runs, NoMemory>
         ensures { IfOk result (λ r. r ≡ []) }
     {
         let runs = self.shared.runs();
         let shared = Shared::with_room(alloc, if runs == 0 { 0 } else { runs.saturating_add(2) })?;
-        let last = Flat::with_room(alloc, self.last.values().saturating_add(values))?;
+        let last = Flat::with_room(alloc, 0)?;
         Ok(Runs { shared, last })
     }
 
@@ -179,6 +179,8 @@ impl Runs {
         if count > 0 && from == 0 && to > MOST.saturating_sub(count) {
             self.close(alloc)?;
         }
+        self.last
+            .reserve(rows.values().saturating_add(rows.row_size()))?;
         self.last.push_rows(alloc, rows, from, to)
     }
 
@@ -302,7 +304,7 @@ impl Runs {
         {
             return Ok(Runs::of_list(alloc, rows.with(alloc, k, row)?));
         }
-        let mut out = self.with_room(alloc, row.len())?;
+        let mut out = self.with_room(alloc)?;
         out.push_rows(alloc, self, 0, k)?;
         out.push(alloc, row)?;
         out.push_rows(alloc, self, k, self.len())?;
