@@ -84,16 +84,6 @@ impl Rows {
         self.runs.row(k)
     }
 
-    /// How many rows from place `k` on are found to be those of the other from place `l` on, without a look at each of them. There may be more, and 0 tells nothing. It takes no memory.
-    ///
-    /// A table that comes from another by a change has its runs of rows but for one or two. Where a run begins at both places, the values of the two are compared in one go.
-    pub fn same_from(&self, k: usize, other: &Rows, l: usize) -> usize
-        ensures same { take result (drop k self.now) ≡ take result (drop l other.now) }
-        ensures many { length (take result (drop k self.now)) ≡ result }
-    {
-        self.runs.same_from(k, &other.runs, l)
-    }
-
     /// How many rows from place `k` on are those of the other from place `l` on. There may be more where the rows are cut into runs, but 0 tells that the first ones differ. It takes no memory.
     pub(crate) fn same_rows(&self, k: usize, other: &Rows, l: usize) -> usize
         requires row { k < length self.now }
