@@ -79,6 +79,7 @@ fn join_bound(
     pattern.open_in_place(here.task, env, vars, bound);
     let mut tuples = pattern.tuples(here.task, here.world, bound);
     while tuples.next() {
+        let _ = bound;
         env.put_values(vars.as_slice(), tuples.values());
         match join(here, env, order, j + 1, rows) {
             Ok(()) => {}

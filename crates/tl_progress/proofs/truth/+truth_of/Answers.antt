@@ -313,3 +313,20 @@ instances_truth-returns-clause-truth t c =
     let fit = quantifier-fits c.args.here.now.task.now.problem c.args.quantified.now.junction c.args.quantified.now.vars.now c.args.quantified.now.bound.now (tree_at (trees c.args.nodes.now) c.args.quantified.now.part) c.requires.fits in
     open-end (plain_problem c.args.here.now.task.now.problem) c.args.here.now.world.now (assignment_in c.args.env.now) c.args.quantified.now.vars.now c.args.quantified.now.bound.now (tree_at (trees c.args.nodes.now) c.args.quantified.now.part) fit.differ fit.occur c.tuples.tuples.tuple c.args.quantified.now.junction c.deciding_truth-stop.result c.deciding_truth-stop.ensures c.tuples.invariant.passed
     (none-left (plain_problem c.args.here.now.task.now.problem) c.args.here.now.world.now (assignment_in c.args.env.now) c.args.quantified.now.vars.now c.args.quantified.now.bound.now (tree_at (trees c.args.nodes.now) c.args.quantified.now.part) c.tuples.tuples c.put_instance.new.tuples c.tuples.env c.put_instance.new.env c.put_instance.result (c.put_instance.ensures _ _) c.tuples.invariant.reads fit.differ fit.occur c.tuples-test.false)
+
+pub instances_truth-returns-then-truth-stop-clause-others : goal.instances_truth-returns-then-truth-stop-clause-others
+instances_truth-returns-then-truth-stop-clause-others t c =
+    still-others (plain_problem c.args.here.now.task.now.problem) c.args.here.now.world.now (assignment_in c.args.env.now) c.args.quantified.now.vars.now c.args.quantified.now.bound.now (tree_at (trees c.args.nodes.now) c.args.quantified.now.part) c.tuples.tuples c.put_instance.new.tuples c.tuples.env c.put_instance.new.env c.put_instance.result (c.put_instance.ensures _ _) c.tuples.invariant.reads c.tuples.invariant.others c.instance_truth.new.env c.instance_truth.ensures.frame
+
+pub instances_truth-returns-in-Err-clause-others : goal.instances_truth-returns-in-Err-clause-others
+instances_truth-returns-in-Err-clause-others t c =
+    still-others (plain_problem c.args.here.now.task.now.problem) c.args.here.now.world.now (assignment_in c.args.env.now) c.args.quantified.now.vars.now c.args.quantified.now.bound.now (tree_at (trees c.args.nodes.now) c.args.quantified.now.part) c.tuples.tuples c.put_instance.new.tuples c.tuples.env c.put_instance.new.env c.put_instance.result (c.put_instance.ensures _ _) c.tuples.invariant.reads c.tuples.invariant.others c.instance_truth.new.env c.instance_truth.ensures.frame
+
+pub instances_truth-returns-clause-others : goal.instances_truth-returns-clause-others
+instances_truth-returns-clause-others t c =
+    still-others (plain_problem c.args.here.now.task.now.problem) c.args.here.now.world.now (assignment_in c.args.env.now) c.args.quantified.now.vars.now c.args.quantified.now.bound.now (tree_at (trees c.args.nodes.now) c.args.quantified.now.part) c.tuples.tuples c.put_instance.new.tuples c.tuples.env c.put_instance.new.env c.put_instance.result (c.put_instance.ensures _ _) c.tuples.invariant.reads c.tuples.invariant.others c.put_instance.new.env refl
+
+pub quantifier_truth-instances_truth-truth-requires : goal.quantifier_truth-instances_truth-truth-requires
+quantifier_truth-instances_truth-truth-requires t c =
+    let reads = c.tuples-tuples.ensures.reads c.args.quantified.now.vars.now (assignment_in c.args.env.now) c.open_in_place.ensures.stands in
+    (omega (arith, c.decreases), (c.requires.part, (c.requires.fits, (c.requires.known, (reads, (c.tuples-tuples.ensures.before, c.requires.remembers))))))
