@@ -1,7 +1,8 @@
 -- What the parts of the checker say along the states of a lasso, under the values of a frame.
 use Rattle.std.specs.Prelude.{ℕ, List, [], Bool, Option, Result, length}
 use Rattle.tl_action.specs.declared.check_fault.CheckFault.{CheckFault}
-use Rattle.tl_check.specs.Quantifiers.{Quantifier}
+use Rattle.tl_check.specs.declared.binder.Binder.{Binder}
+use Rattle.tl_check.specs.Quantifiers.{Quantifier, with_part}
 use Rattle.tl_eval.specs.Frames.{assignment_in}
 use Rattle.tl_lasso.specs.Gathered.{GathersNext, JoinsIfNew, JoinsInstance}
 use Rattle.tl_lasso.specs.Instances.{BoundLabels, Gathers, WasTrue}
@@ -9,12 +10,18 @@ use Rattle.tl_lasso.specs.Labelled.{AreLabels}
 use Rattle.tl_lasso.specs.Lassos.{situations_round}
 use Rattle.tl_lasso.specs.declared.lasso.Lasso.{Lasso}
 use Rattle.tl_syntax.specs.declared.bound.Bound.{Bound}
+use Rattle.tl_syntax.specs.declared.formula.Formula.{Formula}
 use Rattle.tl_syntax.specs.declared.value.Value.{Value}
 use Rattle.tl_syntax.specs.Fits.{Fits}
 use Rattle.tl_syntax.specs.Signature.{signature_of}
+use Rattle.tl_syntax.specs.TreeOfFormula.{tree_of_formula}
 use Rattle.tl_syntax.specs.Trees.{FormulaTree}
 use Rattle.tl_terms.specs.ProblemMeaning.{plain_problem}
 use Rattle.tl_terms.specs.Run.{Situations}
+
+-- the quantifier with this formula below it
+abbrev pub quantifier_over : Binder → Formula → Quantifier
+quantifier_over b f = with_part b (tree_of_formula f)
 
 -- the situation at each position of the run
 abbrev pub situations_along : Lasso → Situations

@@ -1,8 +1,8 @@
 // The labels of formulas along a run with a loop.
 ghost use Rattle.std.specs.Prelude.{◌≡◌, ◌<◌, length, OnOk};
 ghost use Rattle.tl_check.specs.Later.{later_tree};
-ghost use Rattle.tl_check.specs.PartTrees.{until_tree, quantifier_of, quantified_tree};
-ghost use Rattle.tl_lasso.specs.AlongLasso.{FitsOnLasso, AreLabelsOnLasso, GathersOnLasso, GathersNextOnLasso, JoinsOnLasso, JoinsNewOnLasso};
+ghost use Rattle.tl_check.specs.PartTrees.{until_tree, quantified_tree};
+ghost use Rattle.tl_lasso.specs.AlongLasso.{quantifier_over, FitsOnLasso, AreLabelsOnLasso, GathersOnLasso, GathersNextOnLasso, JoinsOnLasso, JoinsNewOnLasso};
 ghost use Rattle.tl_lasso.specs.Lassos.{IsLasso};
 ghost use Rattle.tl_syntax.specs.Junctions.{joined};
 ghost use Rattle.tl_syntax.specs.TreeOfFormula.{tree_of_formula, tree_of_formulas};
@@ -202,8 +202,8 @@ fn join_new_instances(
     requires within { i < length lasso.now.worlds.now }
     requires frame { length env.old ≡ 32 }
     requires fits { FitsOnLasso lasso.now (quantified_tree binder.now part.now) }
-    requires so_far { GathersOnLasso lasso.now env.old (quantifier_of binder.now part.now) i all.old }
-    ensures gathered { GathersNextOnLasso lasso.now env.old (quantifier_of binder.now part.now) i all.new result }
+    requires so_far { GathersOnLasso lasso.now env.old (quantifier_over binder.now part.now) i all.old }
+    ensures gathered { GathersNextOnLasso lasso.now env.old (quantifier_over binder.now part.now) i all.new result }
     ensures frame { OnOk result (env.new ≡ env.old) }
 {
     let world = &lasso.worlds[i];
@@ -232,7 +232,7 @@ fn join_if_new(
     requires frame { length env.old ≡ 32 }
     requires fits { FitsOnLasso lasso.now (quantified_tree binder.now part.now) }
     requires size { length all.old ≡ length lasso.now.worlds.now }
-    ensures joined { JoinsNewOnLasso lasso.now env.old (quantifier_of binder.now part.now) i all.old all.new result }
+    ensures joined { JoinsNewOnLasso lasso.now env.old (quantifier_over binder.now part.now) i all.old all.new result }
     ensures frame { OnOk result (env.new ≡ env.old) }
 {
     if was_true(binder.bound, lasso, i, env) {
@@ -254,7 +254,7 @@ fn join_instance(
     requires frame { length env.old ≡ 32 }
     requires fits { FitsOnLasso lasso.now (quantified_tree binder.now part.now) }
     requires size { length all.old ≡ length lasso.now.worlds.now }
-    ensures joined { JoinsOnLasso lasso.now env.old (quantifier_of binder.now part.now) all.old all.new result }
+    ensures joined { JoinsOnLasso lasso.now env.old (quantifier_over binder.now part.now) all.old all.new result }
     ensures frame { OnOk result (env.new ≡ env.old) }
 {
     let there = bound_labels(binder.bound, lasso, env)?;
