@@ -66,6 +66,13 @@ impl<T> Items<T> {
 }
 
 impl<T: Drop> Items<T> {
+    /// Lets all items go and keeps the room for them. It takes no memory.
+    pub fn clear(&mut self)
+        ensures { self.new ≡ [] }
+    {
+        self.items.clear();
+    }
+
     /// Adds an item at the end. A refused call drops the item and leaves the list as it was.
     pub fn push(&mut self, item: T) -> Result<(), AllocError>
         ensures { self.new ≡ cond (is_ok result) (self.old ++ item ∷ []) self.old }
