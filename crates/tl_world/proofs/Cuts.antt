@@ -170,12 +170,12 @@ module _ {X : Type 0} where
   moved-between xs ys start end a (e ∷ hs) p h =
       λ i. moved-row xs ys start end a e p h.0 (within e hs end h.1) i ∷ moved-between xs ys start end e hs (omega (arith, p, h.0)) h.1 i
 
-  take-between : (from m : ℕ) (es : List ℕ) (ys : List X) → take m (rows_between from es ys) ≡ rows_between from (take m es) ys
+  pub take-between : (from m : ℕ) (es : List ℕ) (ys : List X) → take m (rows_between from es ys) ≡ rows_between from (take m es) ys
   take-between from zero es ys = refl
   take-between from (suc m) [] ys = refl
   take-between from (suc m) (e ∷ es) ys = ap (λ rs. take (e - from) (drop from ys) ∷ rs) (take-between e m es ys)
 
-  drop-between : (from k : ℕ) (es : List ℕ) (ys : List X) → drop k (rows_between from es ys) ≡ rows_between (begin from es k) (drop k es) ys
+  pub drop-between : (from k : ℕ) (es : List ℕ) (ys : List X) → drop k (rows_between from es ys) ≡ rows_between (begin from es k) (drop k es) ys
   drop-between from zero es ys = first from es
     where
       first : (from : ℕ) (es : List ℕ) → rows_between from es ys ≡ rows_between (begin from es zero) es ys

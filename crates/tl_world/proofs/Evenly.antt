@@ -30,7 +30,7 @@ even-take from w n zero p = refl
 even-take from w zero (suc m) p = absurd (omega (arith, p))
 even-take from w (suc n) (suc m) p = ap (λ es. (from + w) ∷ es) (even-take (from + w) w n m (omega (arith, p)))
 
-even-part : (from w n k m : ℕ) → k + m ≤ n → take m (drop k (even_ends from w n)) ≡ even_ends (from + w * k) w m
+pub even-part : (from w n k m : ℕ) → k + m ≤ n → take m (drop k (even_ends from w n)) ≡ even_ends (from + w * k) w m
 even-part from w n zero m p = even-take from w n m (omega (arith, p)) ∙ ap (λ f. even_ends f w m) (let e : from ≡ from + w * zero = omega arith in e)
 even-part from w zero (suc k) m p = absurd (omega (arith, p))
 even-part from w (suc n) (suc k) m p =

@@ -40,6 +40,7 @@ pub mod Finite
 pub mod Numbering
 pub mod Moving
 pub mod Strides
+pub mod SameValues
 pub mod Exchanged
 pub mod Beside
 pub mod Falling

@@ -1,5 +1,6 @@
 -- What the numbers of tables tell of worlds.
-use Rattle.std.proofs.Common.{◌≡◌, ◌⊎◌, ◌||◌, ◌&&◌, not, ℕ, zero, suc, ◌+◌, ◌<◌, ◌≤◌, Bool, true, false, true≢false, List, [], ◌∷◌, ◌++◌, map, length, length-append, get_or, drop, slice_get, Option, Some, None, cond, refl, sym, ap, ◌∙◌, subst, arith, inl, inr, eq-eqb}
+use Rattle.std.proofs.Common.{◌≡◌, ◌⊎◌, ◌||◌, ◌&&◌, not, ℕ, zero, suc, ◌+◌, ◌<◌, ◌≤◌, Bool, true, false, true≢false, List, [], ◌∷◌, ◌++◌, map, length, length-append, length-take, get_or, take, drop, slice_get, Option, Some, None, cond, refl, sym, ap, ◌∙◌, subst, arith, inl, inr, eq-eqb}
+use Rattle.std.proofs.lemmas.List.{take-append-le, take-take, take_all}
 use Rattle.std.proofs.lemmas.Option.{slice_get_within, slice_get-get_or, slice_get_cases}
 use Rattle.std.specs.FinMap as dict
 use Rattle.std.specs.FinSet as set
@@ -18,7 +19,7 @@ use Rattle.tl_world.specs.declared.table_name.TableName.TheVariants.{Pred, Fun}
 use Rattle.tl_world.specs.Edits.{changed_places}
 use Rattle.tl_world.specs.Moves.{changed_facts}
 use Rattle.tl_world.specs.NumberedLists.{IsAdded}
-use Rattle.tl_world.specs.TableNumbers.{changes_table, lists_pred, sets_fun, standing, tables_in, AreAlikeOf, AreNumbered, AreTableNumbers, ComesFrom, IsTableNumber, StandFrom, TellAlike, says}
+use Rattle.tl_world.specs.TableNumbers.{changes_table, lists_pred, sets_fun, standing, tables_in, AreAlikeOf, AreNumbered, AreTableNumbers, ComesFrom, IsTableNumber, LaterStandFrom, StandFrom, TellAlike, says}
 use Rattle.tl_world.specs.Unchanged.{lists_fact}
 use Rattle.tl_world.proofs.Orders.{contains-all}
 use Rattle.tl_world.proofs.TableNames.{get-left, get-dropped}
@@ -30,6 +31,26 @@ alike-then t u v w h k = λ a x. h a x ∙ k a x
 
 alike-same : (t : TableName) (v w : World) → v ≡ w → AreAlikeOf t v w
 alike-same t v w e = λ a x. ap (λ (u : World). says t u a x) e
+
+-- what stands at a place of the first items
+get-first : {A : Type 0} (n : ℕ) (xs : List A) (i : ℕ) → i < n → slice_get (take n xs) i ≡ slice_get xs i
+get-first zero xs i p = absurd (omega (arith, p))
+get-first (suc n) [] i p = refl
+get-first (suc n) (x ∷ xs) zero p = refl
+get-first (suc n) (x ∷ xs) (suc i) p = get-first n xs i (omega (arith, p))
+
+pub get-taken : {A : Type 0} (n : ℕ) (xs : List A) (i : ℕ) (x : A) → slice_get (take n xs) i ≡ Some x → (i < n) × (slice_get xs i ≡ Some x)
+get-taken n xs i x e =
+    let below : i < n = let q = slice_get_within (take n xs) i x e in let l = length-take n xs in omega (arith, q, l) in
+    (below, sym (get-first n xs i below) ∙ e)
+
+-- a number among the first worlds is one among all
+number-of-all : (n : ℕ) (ws : List World) (t : TableName) (w : World) (k : ℕ) → IsTableNumber (take n ws) t w k → IsTableNumber ws t w k
+number-of-all n ws t w k h =
+    let below = h.0 in
+    let l = length-take n ws in
+    let first : k < n = omega (arith, below, l) in
+    (omega (arith, below, l), λ v e. h.1 v (get-first n ws k first ∙ e))
 
 -- without numbers nothing is told
 pub tell-nothing : (w v : World) (ls : List ℕ) → TellAlike w [] v ls
@@ -50,7 +71,7 @@ module _ (ws : List World) where
     where
       by : (s : Option ℕ) → slice_get starts n ≡ s → AreTableNumbers ws w (standing all s)
       by None _ = λ i t k _ f. let d : ⊥ = cc in absurd d
-      by (Some s) f = (h.1 n s w e f).1
+      by (Some s) f = λ i t k g m. number-of-all (suc n) ws t w k ((h.1 n s w e f).0.1 i t k g m)
 
   -- a table that the changes leave alone keeps its number
   pub passed-on : (from : ℕ) (dels adds : List Fact) (sets : List PlaceValue) (v w : World) (t : TableName) (k : ℕ) → IsTableNumber ws t v k → slice_get ws from ≡ Some v → changes_table dels adds sets t ≡ false → ComesFrom ws from dels adds sets w
@@ -99,36 +120,52 @@ stand-longer ws all fresh s w h =
     )
 
 pub numbered-longer : (ws : List World) (starts all fresh : List ℕ) → AreNumbered ws starts all → AreNumbered ws starts (all ++ fresh)
-numbered-longer ws starts all fresh h = (h.0, λ n s w e f. stand-longer ws all fresh s w (h.1 n s w e f))
+numbered-longer ws starts all fresh h = (h.0, λ n s w e f. let old = h.1 n s w e f in (stand-longer (take (suc n) ws) all fresh s w old.0, old.1))
 
 drop-front : {A : Type 0} (xs ys : List A) → drop (length xs) (xs ++ ys) ≡ ys
 drop-front [] ys = refl
 drop-front (x ∷ xs) ys = drop-front xs ys
 
--- the numbers of the next world come after those of the others
-pub numbered-more : (ws : List World) (starts all fresh : List ℕ) (w : World) → AreNumbered ws starts all → slice_get ws (length starts) ≡ Some w → length fresh ≡ length (tables_in w) → AreTableNumbers ws w fresh
+-- the numbers of the last world come after those of the others
+pub numbered-more : (ws : List World) (starts all fresh : List ℕ) (w : World) → AreNumbered ws starts all → slice_get ws (length starts) ≡ Some w → length starts + 1 ≡ length ws → length fresh ≡ length (tables_in w) → AreTableNumbers ws w fresh
     → AreNumbered ws (starts ++ length all ∷ []) (all ++ fresh)
-numbered-more ws starts all fresh w h at many are =
+numbered-more ws starts all fresh w h at last many are =
     let size : length (starts ++ length all ∷ []) ≡ length starts + 1 = length-append starts (length all ∷ []) in
-    let below = slice_get_within ws (length starts) w at in
-    (omega (arith, size, below), λ n s v e f. by n s v e (at-end starts (length all) s n f))
+    (omega (arith, size, last), λ n s v e f. by n s v e (at-end starts (length all) s n f))
   where
     own : StandFrom ws (all ++ fresh) (length all) w
     own =
         let more : length (all ++ fresh) ≡ length all + length fresh = length-append all fresh in
         (omega (arith, more, many), subst (AreTableNumbers ws w) (sym (drop-front all fresh)) are)
 
-    by : (n s : ℕ) (v : World) → slice_get ws n ≡ Some v → (slice_get starts n ≡ Some s) ⊎ ((n ≡ length starts) × (length all ≡ s)) → StandFrom ws (all ++ fresh) s v
-    by n s v e (inl f) = stand-longer ws all fresh s v (h.1 n s v e f)
+    later : (n s : ℕ) (v : World) → StandFrom (take (suc n) ws) all s v → LaterStandFrom starts n (s + length (tables_in v)) → LaterStandFrom (starts ++ length all ∷ []) n (s + length (tables_in v))
+    later n s v here old m t p f = then (at-end starts (length all) t m f)
+      where
+        then : (slice_get starts m ≡ Some t) ⊎ ((m ≡ length starts) × (length all ≡ t)) → s + length (tables_in v) ≤ t
+        then (inl g) = old m t p g
+        then (inr g) = let low = here.0 in let is = g.1 in omega (arith, low, is)
+
+    past : (n e : ℕ) → n ≡ length starts → LaterStandFrom (starts ++ length all ∷ []) n e
+    past n e is m t p f =
+        let size : length (starts ++ length all ∷ []) ≡ length starts + 1 = length-append starts (length all ∷ []) in
+        let below = slice_get_within (starts ++ length all ∷ []) m t f in
+        absurd (omega (arith, size, below, p, is))
+
+    by : (n s : ℕ) (v : World) → slice_get ws n ≡ Some v → (slice_get starts n ≡ Some s) ⊎ ((n ≡ length starts) × (length all ≡ s)) → StandFrom (take (suc n) ws) (all ++ fresh) s v × LaterStandFrom (starts ++ length all ∷ []) n (s + length (tables_in v))
+    by n s v e (inl f) = let old = h.1 n s v e f in (stand-longer (take (suc n) ws) all fresh s v old.0, later n s v old.0 old.1)
     by n s v e (inr f) =
         let same : w ≡ v = let both : Some w ≡ Some v = sym at ∙ (ap (slice_get ws) (sym f.0) ∙ e) in cc in
-        subst (λ u. StandFrom ws (all ++ fresh) s u) same (subst (λ i. StandFrom ws (all ++ fresh) i w) f.1 own)
+        let is = f.0 in
+        let whole : take (suc n) ws ≡ ws = take_all (suc n) ws (let p : length ws ≤ suc n = omega (arith, is, last) in p) in (
+          subst (λ us. StandFrom us (all ++ fresh) s v) (sym whole) (subst (λ u. StandFrom ws (all ++ fresh) s u) same (subst (λ i. StandFrom ws (all ++ fresh) i w) f.1 own)),
+          past n (s + length (tables_in v)) is,
+        )
 
 -- so they do after a call that adds them
-pub noted : (ws : List World) (s0 a0 s1 a1 s2 a2 part fresh : List ℕ) (number : ℕ) → AreNumbered ws s0 a0 → s1 ≡ s0 → a1 ≡ a0 → number ≡ length s0 → number < length ws
+pub noted : (ws : List World) (s0 a0 s1 a1 s2 a2 part fresh : List ℕ) (number : ℕ) → AreNumbered ws s0 a0 → s1 ≡ s0 → a1 ≡ a0 → number ≡ length s0 → number + 1 ≡ length ws
     → ((w : World) → slice_get ws number ≡ Some w → length fresh ≡ length (tables_in w)) → ((w : World) → slice_get ws number ≡ Some w → AreTableNumbers ws w fresh)
     → part ≡ fresh → s2 ≡ s1 ++ length a1 ∷ [] → a2 ≡ a1 ++ part → AreNumbered ws s2 a2
-noted ws s0 a0 s1 a1 s2 a2 part fresh number h p q size below many are same r t = by (slice_get_cases ws number).1
+noted ws s0 a0 s1 a1 s2 a2 part fresh number h p q size last many are same r t = by (slice_get_cases ws number).1
   where
     begun : AreNumbered ws s1 a1
     begun = subst (λ s. AreNumbered ws s a1) (sym p) (subst (AreNumbered ws s0) (sym q) h)
@@ -137,8 +174,8 @@ noted ws s0 a0 s1 a1 s2 a2 part fresh number h p q size below many are same r t 
     by (inl w) =
         let at : slice_get ws (length s1) ≡ Some w.0 = ap (slice_get ws) (ap length p ∙ sym size) ∙ w.2 in
         subst (λ s. AreNumbered ws s a2) (sym r) (subst (AreNumbered ws (s1 ++ length a1 ∷ [])) (sym t)
-        (numbered-more ws s1 a1 part w.0 begun at (ap length same ∙ many w.0 w.2) (subst (AreTableNumbers ws w.0) (sym same) (are w.0 w.2))))
-    by (inr past) = let over = past.0 in absurd (omega (arith, over, below))
+        (numbered-more ws s1 a1 part w.0 begun at (let l : length s1 ≡ length s0 = ap length p in omega (arith, l, size, last)) (ap length same ∙ many w.0 w.2) (subst (AreTableNumbers ws w.0) (sym same) (are w.0 w.2))))
+    by (inr past) = let over = past.0 in absurd (omega (arith, over, last))
 
 -- and after one that does not
 pub not-noted : (ws : List World) (s0 a0 s1 a1 s2 a2 part : List ℕ) → AreNumbered ws s0 a0 → s1 ≡ s0 → a1 ≡ a0 → s2 ≡ s1 → (a2 ≡ a1) ⊎ (a2 ≡ a1 ++ part) → AreNumbered ws s2 a2
@@ -156,17 +193,59 @@ numbered-later ws vs x starts all (inr e) h = subst (λ us. AreNumbered us start
     longer : length (ws ++ x ∷ []) ≡ length ws + 1
     longer = length-append ws (x ∷ [])
 
-    number : (t : TableName) (w : World) (k : ℕ) → IsTableNumber ws t w k → IsTableNumber (ws ++ x ∷ []) t w k
-    number t w k n = let k-below = n.0 in (omega (arith, longer, k-below), λ v f. n.1 v (sym (get-left ws (x ∷ []) k n.0) ∙ f))
-
     later : AreNumbered (ws ++ x ∷ []) starts all
     later = (
       let few = h.0 in omega (arith, longer, few),
       λ n s w e f.
           let below : n < length ws = let few = h.0 in let q = slice_get_within starts n s f in omega (arith, few, q) in
           let old = h.1 n s w (sym (get-left ws (x ∷ []) n below) ∙ e) f in
-          (old.0, λ i t k g m. number t w k (old.1 i t k g m)),
+          let first : take (suc n) (ws ++ x ∷ []) ≡ take (suc n) ws = take-append-le (suc n) ws (x ∷ []) (let p : suc n ≤ length ws = omega (arith, below) in p) in
+          (subst (λ us. StandFrom us all s w) (sym first) old.0, old.1),
     )
+
+-- the numbers of the first worlds, those of the others are let go
+module _ (ws : List World) (starts all : List ℕ) (c : ℕ) (h : AreNumbered ws starts all) where
+  few : length starts ≤ c → length starts ≤ length (take c ws)
+  few p = let l = length-take c ws in let q = h.0 in omega (arith, l, p, q)
+
+  first : (n : ℕ) → n < c → take (suc n) ws ≡ take (suc n) (take c ws)
+  first n p = sym (take-take (suc n) c ws (let q : suc n ≤ c = omega (arith, p) in q))
+
+  pub numbered-still : length starts ≤ c → AreNumbered (take c ws) starts all
+  numbered-still p = (
+    few p,
+    λ n s w e f.
+        let at = get-taken c ws n w e in
+        let old = h.1 n s w at.1 f in
+        (subst (λ us. StandFrom us all s w) (first n at.0) old.0, old.1),
+  )
+
+  -- numbers before a place
+  stand-first : (us : List World) (s t : ℕ) (w : World) → StandFrom us all s w → s + length (tables_in w) ≤ t → StandFrom us (take t all) s w
+  stand-first us s t w old p =
+      let l = length-take t all in
+      let q = old.0 in (
+        omega (arith, l, p, q),
+        λ i name k e f.
+            let g = get-taken t all (s + i) k (sym (get-dropped s (take t all) i) ∙ f) in
+            old.1 i name k e (get-dropped s all i ∙ g.1),
+      )
+
+  pub numbered-first : (start : ℕ) → slice_get starts c ≡ Some start → AreNumbered (take c ws) (take c starts) (take start all)
+  numbered-first start is = (
+    let within = slice_get_within starts c start is in
+        let l = length-take c ws in
+        let m = length-take c starts in
+        let q = h.0 in
+        omega (arith, within, l, m, q),
+    λ n s w e f.
+        let at = get-taken c ws n w e in
+        let from = get-taken c starts n s f in
+        let old = h.1 n s w at.1 from.1 in (
+          stand-first (take (suc n) (take c ws)) s start w (subst (λ us. StandFrom us all s w) (first n at.0) old.0) (old.1 c start at.0 is),
+          λ m t p g. old.1 m t p (get-taken c starts m t g).1,
+        ),
+  )
 
 -- a world still comes from the same one
 pub comes-later : (ws vs : List World) (from : ℕ) (dels adds : List Fact) (sets : List PlaceValue) (w : World) → IsAdded ws w vs → ComesFrom ws from dels adds sets w → ComesFrom vs from dels adds sets w

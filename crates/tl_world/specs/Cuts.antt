@@ -1,5 +1,5 @@
 -- A list cut into rows by the places at which they end.
-use Rattle.std.specs.Prelude.{◌≡◌, ◌<◌, ◌≤◌, ◌+◌, ◌-◌, ◌*◌, ◌^◌, ℕ, zero, suc, List, [], ◌∷◌, length, map, take, drop}
+use Rattle.std.specs.Prelude.{◌≡◌, ◌<◌, ◌≤◌, ◌+◌, ◌-◌, ◌*◌, ◌^◌, ℕ, zero, suc, List, [], ◌∷◌, ◌++◌, length, map, take, drop}
 
 -- the rows that end at these places, of which the first begins at `from`
 abbrev pub rows_between : {X : Type 0} → ℕ → List ℕ → List X → List (List X)
@@ -43,3 +43,27 @@ moved start place es = map (λ e. e - start + place) es
 -- ends that grew
 abbrev pub grown : ℕ → List ℕ → List ℕ
 grown w es = map (λ e. e + w) es
+
+-- the ends with one more row of so many values at place k
+abbrev pub ends_with : List ℕ → ℕ → ℕ → List ℕ
+ends_with es k w = take k es ++ grown w (begin 0 es k ∷ drop k es)
+
+-- the ends with those of the rows from..to of others after them
+abbrev pub ends_joined : List ℕ → List ℕ → ℕ → ℕ → List ℕ
+ends_joined es others from to = es ++ moved (begin 0 others from) (end_of es) (take (to - from) (drop from others))
+
+-- the items with others before those from a place on
+abbrev pub items_with : {X : Type 0} → List X → ℕ → List X → List X
+items_with xs at ys = take at xs ++ (ys ++ drop at xs)
+
+-- the items with others in place of as many from a place on
+abbrev pub items_over : {X : Type 0} → List X → ℕ → List X → List X
+items_over xs at ys = take at xs ++ (ys ++ drop (at + length ys) xs)
+
+-- the items with others before those from `at` on, and without as many from `cut` on, which is not before it
+abbrev pub items_back : {X : Type 0} → List X → ℕ → ℕ → List X → List X
+items_back xs at cut ys = take at xs ++ (ys ++ (take (cut - at) (drop at xs) ++ drop (cut + length ys) xs))
+
+-- the items with others before those from `at` on, and without as many from `cut` on, which all come before it
+abbrev pub items_on : {X : Type 0} → List X → ℕ → ℕ → List X → List X
+items_on xs cut at ys = take cut xs ++ (take (at - (cut + length ys)) (drop (cut + length ys) xs) ++ (ys ++ drop at xs))

@@ -54,3 +54,11 @@ match_in_place false m = None
 -- the least tuple after the one in place that makes the parts one of the rows is put in place
 abbrev pub PutsNext : ℕ → List Part → List (List Value) → Bool → Match → Bool → Match → Type 0
 PutsNext k ps rows b old c new = IsLeast k (λ t. fits_some ps rows t && above (match_in_place b old) k t) (match_in_place c new)
+
+-- the values that were found, where any were, are the least tuple that makes the parts one of the rows
+abbrev pub IsLeastOf : ℕ → List Part → List (List Value) → Bool → List Value → Type 0
+IsLeastOf k ps rows found values = IsLeast k (λ t. fits_some ps rows t) (match_if found k values)
+
+-- the match is the least tuple after `after` that makes the parts one of the rows
+abbrev pub IsLeastAfter : ℕ → List Part → List (List Value) → Option Match → Option Match → Type 0
+IsLeastAfter k ps rows after found = IsLeast k (λ t. fits_some ps rows t && above after k t) found

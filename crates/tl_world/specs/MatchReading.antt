@@ -6,7 +6,7 @@ use Rattle.tl_terms.specs.World.{World}
 use Rattle.tl_world.specs.declared.pattern.Match.{Match}
 use Rattle.tl_world.specs.declared.pattern.Pattern.{Pattern}
 use Rattle.tl_world.specs.Front.{are_in_turn}
-use Rattle.tl_world.specs.Least.{HasLater, fits_some}
+use Rattle.tl_world.specs.Least.{HasLater, PutsNext, fits_some}
 use Rattle.tl_world.specs.Next.{IsNext}
 use Rattle.tl_world.specs.Patterns.{IsLawful, makes_true, parts_of}
 use Rattle.tl_world.specs.Plain.{row_cmp}
@@ -45,3 +45,15 @@ pub record GoesThrough (w : World) (p : Pattern) (begun : Bool) (m : Match) (pla
 abbrev pub CanReadOn : World → Option Pattern → Bool → Match → ℕ → Option (List (List Value)) → Type 0
 CanReadOn w None begun m place rows = (begun ≡ false) × (rows ≡ None)
 CanReadOn w (Some p) begun m place rows = IsLawful p × (begun ≡ true → m.len ≡ p.free) × IfSome rows (GoesThrough w p begun m place)
+
+-- from the place on the rows have the pattern's tuples that come after the one in place
+abbrev pub HasLaterOf : Pattern → Bool → Match → List (List Value) → ℕ → Type 0
+HasLaterOf p begun m rows place = HasLater (parts_of p) begun (take p.free m.values) rows place
+
+-- the pattern's least tuple after the one in place is put in place
+abbrev pub PutsNextOf : Pattern → List (List Value) → Bool → Match → Bool → Match → Type 0
+PutsNextOf p rows begun old found new = PutsNext p.free (parts_of p) rows begun old found new
+
+-- no tuple is in place, and from the place on the rows have all of the pattern's tuples
+abbrev pub ReadsAll : World → Pattern → Match → ℕ → List (List Value) → Type 0
+ReadsAll w p m place rows = GoesThrough w p false m place rows

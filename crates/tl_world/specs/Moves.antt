@@ -1,10 +1,11 @@
 -- Rows of which one is taken out and one is put in, and sets of facts that differ in some facts alone.
-use Rattle.std.specs.Prelude.{◌≡◌, ◌+◌, ◌≤◌, ◌⊎◌, ℕ, List, false, cond, length, map, Err}
+use Rattle.std.specs.Prelude.{◌≡◌, ◌+◌, ◌<◌, ◌≤◌, ◌⊎◌, ℕ, List, false, cond, length, map, Err}
 use Rattle.std.proofs.Common.{leb}
 use Rattle.std.specs.FinSet as set
-use Rattle.std.specs.List.{insert, remove, list_any}
+use Rattle.std.specs.List.{insert, remove, list_any, HoldsAt}
 use Rattle.std.specs.List.Sorted.{IsBinarySearchResult}
 use Rattle.std.specs.Ordering.{eq_by_cmp}
+use Rattle.std.specs.declared.cmp.Ordering.TheVariants.{Equal}
 use Rattle.tl_syntax.specs.declared.fact.Fact.{Fact}
 use Rattle.tl_syntax.specs.declared.value.Value.{Value}
 use Rattle.tl_syntax.specs.Keys.{Key, key_cmp, fact_key}
@@ -15,6 +16,10 @@ use Rattle.tl_world.specs.Plain.{row_cmp}
 -- the place of what stood at `cut`, after one more at `at`
 abbrev pub place_after : ℕ → ℕ → ℕ
 place_after at cut = cond (leb at cut) (cut + 1) cut
+
+-- the row at place k has these arguments
+abbrev pub HasRowAt : List Value → List (List Value) → ℕ → Type 0
+HasRowAt args rows k = (k < length rows) × HoldsAt (λ (r : List Value). row_cmp r args ≡ Equal) rows k
 
 -- the rows without that at place `cut`, and with the arguments of one of the facts, which are not among them
 pub record IsMoved (rows : List (List Value)) (cut n : ℕ) (facts : List Fact) (after : List (List Value)) : Type 0 where

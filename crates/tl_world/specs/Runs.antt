@@ -38,3 +38,15 @@ pub record IsPartFor (args : List Value) (all : List (List Value)) (from : ℕ) 
   pub filled : 0 < from → 0 < length rows
   pub before : 0 < from → row_cmp (slice_index_or all from []) args ≢ Greater
   pub after : from + length rows < length all → row_cmp (slice_index_or all (from + length rows) []) args ≡ Greater
+
+-- rows of others from k up to n are put at the end, and none from `to` on
+abbrev pub GainsUpTo : List (List Value) → List (List Value) → List (List Value) → ℕ → ℕ → ℕ → Type 0
+GainsUpTo old new others k to n = (k ≤ n) × (n ≤ to) × (new ≡ old ++ between others k n)
+
+-- the same, and some are
+abbrev pub GainsSomeUpTo : List (List Value) → List (List Value) → List (List Value) → ℕ → ℕ → ℕ → Type 0
+GainsSomeUpTo old new others k to n = (k < n) × (n ≤ to) × (new ≡ old ++ between others k n)
+
+-- run i begins after the arguments, where there is such a run
+abbrev pub BeginsAfter : List Run → ℕ → List Value → Type 0
+BeginsAfter rs i args = i < length rs → row_cmp (first_row rs i) args ≡ Greater

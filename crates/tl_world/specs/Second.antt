@@ -1,6 +1,7 @@
 -- The rows of a table with their first two values exchanged, which a large table also keeps in order.
-use Rattle.std.specs.Prelude.{◌≡◌, ◌<◌, ◌≤◌, ℕ, List, [], ◌∷◌, length, slice_index_or, Option, Some, None}
+use Rattle.std.specs.Prelude.{◌≡◌, ◌<◌, ◌≤◌, ◌-◌, ℕ, List, [], ◌∷◌, length, slice_index_or, Option, Some, None}
 use Rattle.std.specs.List.{insert, remove, sum_by}
+use Rattle.std.specs.declared.cmp.Ordering.TheVariants.{Less}
 use Rattle.tl_syntax.specs.declared.value.Value.{Value}
 use Rattle.tl_syntax.specs.Lists.{Rises}
 use Rattle.tl_world.specs.Moves.{place_after}
@@ -39,3 +40,7 @@ KeepsWithout before gone after = (rows : List (List Value)) (k : ℕ) → k < le
 abbrev pub KeepsMoved : Option (List (List Value)) → List Value → List Value → Option (List (List Value)) → Type 0
 KeepsMoved before gone row after = (rows : List (List Value)) (cut at : ℕ) → cut < length rows → at ≤ length rows → gone ≡ slice_index_or rows cut gone
     → IsKept rows before → IsKept (remove (insert rows at row) (place_after at cut)) after
+
+-- row k comes after the one before it, where there is one
+abbrev pub IsInTurn : List (List Value) → ℕ → Type 0
+IsInTurn rows k = 0 < k → (d : List Value) → row_cmp (slice_index_or rows (k - 1) d) (slice_index_or rows k d) ≡ Less

@@ -1,5 +1,5 @@
 -- Numbers of the tables of worlds: where two tables of one name have one number, they say the same.
-use Rattle.std.specs.Prelude.{◌≡◌, ◌+◌, ◌<◌, ◌≤◌, ◌||◌, ◌⊎◌, ◌++◌, ℕ, Bool, false, List, [], map, length, drop, slice_get, nat_eq, Option, Some, None}
+use Rattle.std.specs.Prelude.{◌≡◌, ◌+◌, ◌<◌, ◌≤◌, ◌||◌, ◌⊎◌, ◌++◌, ℕ, suc, Bool, false, List, [], map, length, take, drop, slice_get, nat_eq, Option, Some, None}
 use Rattle.std.specs.List.{list_any}
 use Rattle.tl_syntax.specs.declared.fact.Fact.{Fact}
 use Rattle.tl_syntax.specs.declared.place_value.PlaceValue.{PlaceValue}
@@ -35,9 +35,13 @@ AreTableNumbers ws w ks = (i : ℕ) (t : TableName) (k : ℕ) → slice_get (tab
 abbrev pub StandFrom : List World → List ℕ → ℕ → World → Type 0
 StandFrom ws all s w = (s + length (tables_in w) ≤ length all) × AreTableNumbers ws w (drop s all)
 
--- those of the first worlds do, each from its own place on
+-- those of later worlds stand from this place on
+abbrev pub LaterStandFrom : List ℕ → ℕ → ℕ → Type 0
+LaterStandFrom starts n end = (m t : ℕ) → n < m → slice_get starts m ≡ Some t → end ≤ t
+
+-- those of the first worlds do, each from its own place on, one world's after another's, and none is that of a later world
 abbrev pub AreNumbered : List World → List ℕ → List ℕ → Type 0
-AreNumbered ws starts all = (length starts ≤ length ws) × ((n s : ℕ) (w : World) → slice_get ws n ≡ Some w → slice_get starts n ≡ Some s → StandFrom ws all s w)
+AreNumbered ws starts all = (length starts ≤ length ws) × ((n s : ℕ) (w : World) → slice_get ws n ≡ Some w → slice_get starts n ≡ Some s → StandFrom (take (suc n) ws) all s w × LaterStandFrom starts n (s + length (tables_in w)))
 
 -- what stands from the place on, where there is one
 abbrev pub standing : List ℕ → Option ℕ → List ℕ

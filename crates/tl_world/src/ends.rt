@@ -1,6 +1,6 @@
 // The places at which rows end that follow one another in one list.
-ghost use Rattle.std.specs.Prelude.{◌≡◌, ◌<◌, ◌≤◌, ◌+◌, ◌-◌, ◌^◌, [], ◌∷◌, ◌++◌, length, take, drop, slice_index_or, true, false, IfOk, IfSome, OnOk, OnErr};
-ghost use Rattle.tl_world.specs.Cuts.{begin, end_of, even_ends, grown, moved};
+ghost use Rattle.std.specs.Prelude.{◌≡◌, ◌<◌, ◌≤◌, ◌+◌, ◌-◌, ◌^◌, [], ◌∷◌, ◌++◌, length, slice_index_or, true, false, IfOk, IfSome, OnOk, OnErr};
+ghost use Rattle.tl_world.specs.Cuts.{begin, end_of, ends_joined, ends_with, even_ends};
 
 use std::alloc::Global;
 use std::marker::Model;
@@ -106,7 +106,7 @@ impl Ends {
     #[inline]
     pub(crate) fn put_even(&mut self, k: usize, size: usize) -> bool
         requires { k ≤ length self.old }
-        ensures all { result ≡ true → self.new ≡ take k self.old ++ grown size (begin 0 self.old k ∷ drop k self.old) }
+        ensures all { result ≡ true → self.new ≡ ends_with self.old k size }
         ensures same { result ≡ false → self.new ≡ self.old }
     {
         if !self.listed.is_empty() || self.count + 1 >= COUNTED {
@@ -155,7 +155,7 @@ impl Ends {
         requires range { from ≤ to }
         requires bound { to ≤ length other.now }
         requires fit { end_of self.old + (begin 0 other.now to - begin 0 other.now from) < 2 ^ 63 }
-        ensures all { result ≡ true → self.new ≡ self.old ++ moved (begin 0 other.now from) (end_of self.old) (take (to - from) (drop from other.now)) }
+        ensures all { result ≡ true → self.new ≡ ends_joined self.old other.now from to }
         ensures same { result ≡ false → self.new ≡ self.old }
     {
         let more = to - from;
@@ -179,6 +179,22 @@ impl Ends {
             && other.listed.is_empty()
             && self.width == other.width
             && self.count == other.count
+    }
+
+    /// The length of all rows of both, where they have one and it is not 0.
+    #[inline]
+    pub(crate) fn common_width(&self, other: &Ends) -> Option<usize>
+        ensures some { IfSome result (λ w. 0 < w) }
+        ensures these { IfSome result (λ w. self.now ≡ even_ends 0 w (length self.now)) }
+        ensures those { IfSome result (λ w. other.now ≡ even_ends 0 w (length other.now)) }
+    {
+        if !self.listed.is_empty() || !other.listed.is_empty() {
+            return None;
+        }
+        if self.width == 0 || self.width != other.width {
+            return None;
+        }
+        Some(self.width)
     }
 
     /// The same ends again, where all rows have this length.

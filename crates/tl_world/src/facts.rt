@@ -1,14 +1,11 @@
 // Tables of facts, and what changes them.
-ghost use Rattle.std.specs.FinSet as set;
-ghost use Rattle.std.specs.List.{insert, list_any};
+ghost use Rattle.std.specs.List.{insert, list_any, remove};
 ghost use Rattle.std.specs.List.Sorted.{IsPermutation};
-ghost use Rattle.std.specs.Prelude.{◌≡◌, ◌<◌, ◌≤◌, Bool, false, length, map, IfOk, IfSome, OnOk};
+ghost use Rattle.std.specs.Prelude.{◌≡◌, ◌<◌, ◌≤◌, Bool, true, false, length, IfOk, IfSome, OnOk};
 ghost use Rattle.tl_syntax.specs.declared.fact.Fact.{Fact as PlainFact};
-ghost use Rattle.tl_syntax.specs.Keys.{fact_key};
-ghost use Rattle.tl_terms.specs.Step.{with_all};
-ghost use Rattle.tl_world.specs.Edits.{FactIsTakenOut, FactsAreTakenOut};
-ghost use Rattle.tl_world.specs.Moves.{IsMoved, IsTakenOut, changed_facts};
-ghost use Rattle.tl_world.specs.Tables.{InOrder, fact_tables, facts_of};
+ghost use Rattle.tl_world.specs.Edits.{AreChangedBy, FactIsTakenOut, FactsAreTakenOut, GainsFact, GainsFacts};
+ghost use Rattle.tl_world.specs.Moves.{IsMoved, IsTakenOut};
+ghost use Rattle.tl_world.specs.Tables.{InOrder, fact_tables};
 
 use crate::Rows;
 use crate::kept::keep_second_orders;
@@ -57,6 +54,15 @@ fn rows_without(
     }
 }
 
+/// Puts the table in place of the one at place `i`.
+#[inline]
+fn put_table(tables: &mut Vec<Named<Rows>>, i: usize, fresh: Named<Rows>)
+    requires { i < length tables.old.items }
+    ensures { tables.new.items ≡ insert (remove tables.old.items i) i fresh }
+{
+    tables[i] = fresh;
+}
+
 /// Takes the fact out of the tables, where it is there. One of `adds` may come in.
 fn without(
     alloc: Global,
@@ -76,9 +82,9 @@ fn without(
             match find_row(t.rows.runs(), args) {
                 Err(_) => Ok(()),
                 Ok(k) => {
-                    let old = tables.remove(i);
-                    let rows = rows_without(alloc, old.rows.as_ref(), k, pred, adds)?;
+                    let rows = rows_without(alloc, t.rows.as_ref(), k, pred, adds)?;
                     if rows.is_empty() {
+                        tables.remove(i);
                         return Ok(());
                     }
                     let shared = Rc::new(alloc, rows)?;
@@ -86,7 +92,7 @@ fn without(
                         name: pred,
                         rows: shared,
                     };
-                    tables.insert(i, fresh)?;
+                    put_table(tables, i, fresh);
                     Ok(())
                 }
             }
@@ -126,6 +132,7 @@ fn rows_with(alloc: Global, rows: Rc<Rows>, k: usize, row: &[Value]) -> Result<R
 }
 
 /// Puts the fact into the tables, where it is not there.
+#[inline(never)]
 fn with_fact(
     alloc: Global,
     tables: &mut Vec<Named<Rows>>,
@@ -134,7 +141,7 @@ fn with_fact(
 ) -> Result<(), NoMemory>
     requires { InOrder (fact_tables tables.old.items) }
     ensures order { OnOk result (InOrder (fact_tables tables.new.items)) }
-    ensures facts { OnOk result (facts_of tables.new.items ≡ set.insert (facts_of tables.old.items) (pred, args.now)) }
+    ensures facts { OnOk result (GainsFact (pred, args.now) tables.old.items tables.new.items) }
 {
     match find_table(tables.as_slice(), pred) {
         Err(i) => {
@@ -167,17 +174,38 @@ fn with_fact(
     }
 }
 
+/// Whether the fact is of the row that came into its table last.
+#[inline(always)]
+fn is_fresh(tables: &[Named<Rows>], pred: u32, args: &[Value]) -> bool
+    requires { InOrder (fact_tables tables.now) }
+    ensures { result ≡ true → GainsFact (pred, args.now) tables.now tables.now }
+{
+    match find_table(tables, pred) {
+        Err(_) => false,
+        Ok(i) => {
+            let t = &tables[i];
+            match t.rows.fresh_place(args) {
+                Some(_) => true,
+                None => false,
+            }
+        }
+    }
+}
+
 /// Puts the facts into the tables, from the last on.
+#[inline(always)]
 fn with_each(alloc: Global, tables: &mut Vec<Named<Rows>>, adds: &[Fact]) -> Result<(), NoMemory>
     requires { InOrder (fact_tables tables.old.items) }
     ensures order { OnOk result (InOrder (fact_tables tables.new.items)) }
-    ensures facts { OnOk result (facts_of tables.new.items ≡ with_all (facts_of tables.old.items) (map fact_key adds.now)) }
+    ensures facts { OnOk result (GainsFacts adds.now tables.old.items tables.new.items) }
 {
     let mut j = adds.len();
     while j > 0 {
         j -= 1;
         let a = &adds[j];
-        with_fact(alloc, tables, a.pred, &a.args)?;
+        if !is_fresh(tables.as_slice(), a.pred, a.args.as_slice()) {
+            with_fact(alloc, tables, a.pred, &a.args)?;
+        }
     }
     Ok(())
 }
@@ -198,7 +226,7 @@ fn falling(alloc: Global, facts: &[Fact]) -> Result<Vec<Fact>, NoMemory>
 fn with_facts(alloc: Global, tables: &mut Vec<Named<Rows>>, adds: &[Fact]) -> Result<(), NoMemory>
     requires { InOrder (fact_tables tables.old.items) }
     ensures order { OnOk result (InOrder (fact_tables tables.new.items)) }
-    ensures facts { OnOk result (facts_of tables.new.items ≡ with_all (facts_of tables.old.items) (map fact_key adds.now)) }
+    ensures facts { OnOk result (GainsFacts adds.now tables.old.items tables.new.items) }
 {
     if adds.len() < 8 {
         with_each(alloc, tables, adds)
@@ -226,7 +254,7 @@ pub(crate) fn change_facts(
 ) -> Result<(), NoMemory>
     requires { InOrder (fact_tables tables.old.items) }
     ensures order { OnOk result (InOrder (fact_tables tables.new.items)) }
-    ensures facts { OnOk result (facts_of tables.new.items ≡ changed_facts (facts_of tables.old.items) dels.now adds.now) }
+    ensures facts { OnOk result (AreChangedBy dels.now adds.now tables.old.items tables.new.items) }
 {
     without_each(alloc, tables, dels, few(adds))?;
     with_facts(alloc, tables, adds)?;

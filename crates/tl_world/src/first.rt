@@ -4,7 +4,7 @@ ghost use Rattle.std.specs.Option.{is_some};
 ghost use Rattle.tl_syntax.specs.Lists.{Rises};
 ghost use Rattle.tl_world.specs.Fits.{fits_at, fits_all, occurs, BeginsAs};
 ghost use Rattle.tl_world.specs.Front.{BeginsOn, seen_after, seen_in, is_in_turn, are_in_turn};
-ghost use Rattle.tl_world.specs.Least.{IsLeast, HasLater, fits_some, match_if};
+ghost use Rattle.tl_world.specs.Least.{IsLeastOf, HasLater};
 ghost use Rattle.tl_world.specs.Tables.{row_cmp};
 
 use crate::Part;
@@ -87,7 +87,7 @@ pub(crate) fn put_first(
     requires turn { are_in_turn 0 parts.now ≡ true }
     requires order { Rises row_cmp rows.now }
     requires bound { from ≤ length rows.now }
-    ensures least { IsLeast free (λ t. fits_some parts.now (drop from rows.now) t) (match_if (is_some result) free values.new) }
+    ensures least { IsLeastOf free parts.now (drop from rows.now) (is_some result) values.new }
     ensures bound { IfSome result (λ next. next ≤ length rows.now) }
     ensures later { IfSome result (λ next. HasLater parts.now true (take free values.new) rows.now next) }
 {

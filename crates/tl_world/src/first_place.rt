@@ -5,7 +5,7 @@ ghost use Rattle.std.specs.declared.cmp.Ordering.TheVariants.{Greater};
 ghost use Rattle.tl_syntax.specs.Lists.{Each, Rises};
 ghost use Rattle.tl_world.specs.Fits.{fits_all, occurs};
 ghost use Rattle.tl_world.specs.Front.{front, front_cmp, are_in_turn};
-ghost use Rattle.tl_world.specs.Least.{IsLeast, HasLater, fits_some, match_if};
+ghost use Rattle.tl_world.specs.Least.{IsLeastOf, HasLater};
 ghost use Rattle.tl_world.specs.Tables.{row_cmp, whole_row};
 
 use crate::after::{after_part, fits_in_turn};
@@ -107,7 +107,7 @@ pub(crate) fn put_first_place(
     requires some { 1 ≤ length parts.now }
     requires order { Rises row_cmp (map (λ r. r.args) rows.now) }
     requires bound { from ≤ length rows.now }
-    ensures { IsLeast free (λ t. fits_some parts.now (drop from (map whole_row rows.now)) t) (match_if (is_some result) free values.new) }
+    ensures { IsLeastOf free parts.now (drop from (map whole_row rows.now)) (is_some result) values.new }
 {
     let n = parts.len() - 1;
     let lead = &parts[..n];

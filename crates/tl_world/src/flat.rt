@@ -1,7 +1,8 @@
 // Rows one after another in one list.
 ghost use Rattle.std.specs.List.{insert, remove};
-ghost use Rattle.std.specs.Prelude.{◌≡◌, ◌<◌, ◌≤◌, ◌+◌, ◌-◌, ◌^◌, ◌↔◌, List, [], ◌∷◌, ◌++◌, length, take, drop, slice_index_or, true, IfOk, OnOk};
+ghost use Rattle.std.specs.Prelude.{◌≡◌, ◌<◌, ◌≤◌, ◌+◌, ◌-◌, ◌*◌, ◌^◌, ◌↔◌, List, [], ◌∷◌, ◌++◌, length, take, drop, slice_index_or, true, IfOk, OnOk};
 ghost use Rattle.tl_syntax.proofs.Telling.{tells-partial};
+ghost use Rattle.tl_world.specs.Cuts.{items_back, items_on, items_over, items_with};
 ghost use Rattle.tl_world.specs.Moves.{place_after};
 ghost use Rattle.tl_world.specs.Runs.{between};
 ghost use Rattle.tl_world.specs.RowTests.{rows_eq, rows-tell};
@@ -40,10 +41,46 @@ fn part(values: &[Value], from: usize, to: usize) -> &[Value]
     &values[from..to]
 }
 
+/// The values from a place on.
+#[inline]
+fn values_from(values: &[Value], from: usize) -> &[Value]
+    requires { from ≤ length values.now }
+    ensures { result.now ≡ drop from values.now }
+{
+    &values[from..]
+}
+
+/// How many values at the beginning of the two lists are the same. It takes no memory.
+#[inline]
+fn same_values(a: &[Value], b: &[Value]) -> usize
+    ensures same { take result a.now ≡ take result b.now }
+    ensures within { result ≤ length a.now }
+    ensures other { result ≤ length b.now }
+{
+    let most = a.len().min(b.len());
+    let mut n = 0;
+    while n < most {
+        if a[n] != b[n] {
+            return n;
+        }
+        n += 1;
+    }
+    n
+}
+
+/// How many rows of a length so many values are at most.
+#[inline]
+fn whole_rows(values: usize, width: usize) -> usize
+    requires { 0 < width }
+    ensures { width * result ≤ values }
+{
+    if width == 1 { values } else { values / width }
+}
+
 /// The row's values, put before the others from a place on. A failure leaves any of them there.
 fn put_values(values: &mut Vec<Value>, at: usize, row: &[Value]) -> Result<(), NoMemory>
     requires { at ≤ length values.old.items }
-    ensures { OnOk result (values.new.items ≡ take at values.old.items ++ (row.now ++ drop at values.old.items)) }
+    ensures { OnOk result (values.new.items ≡ items_with values.old.items at row.now) }
 {
     if at == values.len() {
         values.extend_from_slice(row)?;
@@ -61,7 +98,7 @@ fn put_values(values: &mut Vec<Value>, at: usize, row: &[Value]) -> Result<(), N
 #[inline]
 fn write_values(values: &mut Vec<Value>, at: usize, row: &[Value])
     requires { at + length row.now ≤ length values.old.items }
-    ensures { values.new.items ≡ take at values.old.items ++ (row.now ++ drop (at + length row.now) values.old.items) }
+    ensures { values.new.items ≡ items_over values.old.items at row.now }
 {
     let mut j = 0;
     while j < row.len() {
@@ -75,7 +112,7 @@ fn write_values(values: &mut Vec<Value>, at: usize, row: &[Value])
 fn shift_back(values: &mut Vec<Value>, at: usize, cut: usize, row: &[Value])
     requires order { at ≤ cut }
     requires bound { cut + length row.now ≤ length values.old.items }
-    ensures { values.new.items ≡ take at values.old.items ++ (row.now ++ (take (cut - at) (drop at values.old.items) ++ drop (cut + length row.now) values.old.items)) }
+    ensures { values.new.items ≡ items_back values.old.items at cut row.now }
 {
     values.copy_within(at..cut, at + row.len());
     write_values(values, at, row);
@@ -86,7 +123,7 @@ fn shift_back(values: &mut Vec<Value>, at: usize, cut: usize, row: &[Value])
 fn shift_on(values: &mut Vec<Value>, cut: usize, at: usize, row: &[Value])
     requires order { cut + length row.now ≤ at }
     requires bound { at ≤ length values.old.items }
-    ensures { values.new.items ≡ take cut values.old.items ++ (take (at - (cut + length row.now)) (drop (cut + length row.now) values.old.items) ++ (row.now ++ drop at values.old.items)) }
+    ensures { values.new.items ≡ items_on values.old.items cut at row.now }
 {
     let size = row.len();
     values.copy_within(cut + size..at, cut);
@@ -162,7 +199,7 @@ impl Flat {
     }
 
     /// How many rows from place `k` on are those of the other from place `l` on, by a comparison of each.
-    pub(crate) fn same_rows(&self, k: usize, other: &Flat, l: usize) -> usize
+    fn same_each(&self, k: usize, other: &Flat, l: usize) -> usize
         requires row { k ≤ length self.now }
         requires other { l ≤ length other.now }
         ensures same { take result (drop k self.now) ≡ take result (drop l other.now) }
@@ -177,6 +214,24 @@ impl Flat {
             n += 1;
         }
         n
+    }
+
+    /// How many rows from place `k` on are those of the other from place `l` on. Where all rows have one length, the values are compared one after another.
+    pub(crate) fn same_rows(&self, k: usize, other: &Flat, l: usize) -> usize
+        requires row { k ≤ length self.now }
+        requires other { l ≤ length other.now }
+        ensures same { take result (drop k self.now) ≡ take result (drop l other.now) }
+        ensures many { length (take result (drop k self.now)) ≡ result }
+    {
+        if let Some(width) = self.ends.common_width(&other.ends) {
+            let start = self.ends.begin(k);
+            let place = other.ends.begin(l);
+            let these = values_from(self.values.as_slice(), start);
+            let those = values_from(other.values.as_slice(), place);
+            let same = same_values(these, those);
+            return whole_rows(same, width);
+        }
+        self.same_each(k, other, l)
     }
 
     /// Whether the rows stand in these from the place on, by a comparison of each row.
@@ -315,6 +370,7 @@ impl Flat {
     }
 
     /// The rows with one more at place `at`, and without that at the place `cut`, which is not before it, row by row.
+    #[inline(never)]
     fn copied_back(
         &self,
         alloc: Global,
@@ -336,6 +392,7 @@ impl Flat {
     }
 
     /// The same. Where all rows have one length, the values are copied at once, and then those that move are.
+    #[inline(always)]
     fn moved_back(
         &self,
         alloc: Global,
@@ -358,6 +415,7 @@ impl Flat {
     }
 
     /// The rows with one more at place `at`, and without that at the place `cut`, which is before it, row by row.
+    #[inline(never)]
     fn copied_on(
         &self,
         alloc: Global,
@@ -379,6 +437,7 @@ impl Flat {
     }
 
     /// The same. Where all rows have one length, the values are copied at once, and then those that move are.
+    #[inline(always)]
     fn moved_on(
         &self,
         alloc: Global,
@@ -401,6 +460,7 @@ impl Flat {
     }
 
     /// The rows with one more at place `at`, and without that at place `cut`, in one copy.
+    #[inline(always)]
     pub(crate) fn moved(
         &self,
         alloc: Global,

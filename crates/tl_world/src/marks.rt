@@ -61,12 +61,15 @@ fn place_of(places: &[u64], mark: u64) -> usize {
     home
 }
 
-/// Puts a word at the place of its mark, where there are places.
-fn put(places: &mut [u64], word: u64) {
+/// Puts a word at the place of its mark, where there are places, and says whether nothing stood there.
+fn put(places: &mut [u64], word: u64) -> bool {
     let place = place_of(places, word);
     if let Some(there) = places.get_mut(place) {
+        let was_empty = *there == NOTHING;
         *there = word;
+        return was_empty;
     }
+    false
 }
 
 impl Marks {
@@ -97,7 +100,7 @@ impl Marks {
         let before = mem::replace(&mut self.places, more);
         for word in before.as_slice() {
             if *word != NOTHING {
-                put(self.places.as_mut_slice(), *word);
+                let _ = put(self.places.as_mut_slice(), *word);
             }
         }
         Ok(())
@@ -111,8 +114,9 @@ impl Marks {
                 Err(_) => return,
             }
         }
-        self.count = self.count.saturating_add(1);
         let word = (mark & UPPER) | ((number as u64).wrapping_add(1) & LOWER);
-        put(self.places.as_mut_slice(), word);
+        if put(self.places.as_mut_slice(), word) {
+            self.count = self.count.saturating_add(1);
+        }
     }
 }

@@ -1,9 +1,8 @@
 // The matches of a pattern in a world, one after another.
-ghost use Rattle.std.specs.Prelude.{◌≡◌, ◌≤◌, [], length, take, true, false, None, Some, IsSome, IfSome};
+ghost use Rattle.std.specs.Prelude.{◌≡◌, ◌≤◌, [], length, true, false, None, Some, IsSome, IfSome};
 ghost use Rattle.tl_syntax.specs.Lists.{Rises};
 ghost use Rattle.tl_world.specs.Front.{front, are_in_turn, IsFirstKept};
-ghost use Rattle.tl_world.specs.Least.{HasLater, PutsNext};
-ghost use Rattle.tl_world.specs.MatchReading.{GoesThrough, ReadsOn, pattern_if};
+ghost use Rattle.tl_world.specs.MatchReading.{HasLaterOf, PutsNextOf, ReadsAll, ReadsOn, pattern_if};
 ghost use Rattle.tl_world.specs.Patterns.{IsLawful, parts_of};
 ghost use Rattle.tl_world.specs.Tables.{row_cmp};
 
@@ -59,10 +58,10 @@ fn put_next_from(
     requires turn { are_in_turn 0 (parts_of pattern.now) ≡ true }
     requires order { Rises row_cmp rows.now }
     requires bound { place.old ≤ length rows.now }
-    requires later { HasLater (parts_of pattern.now) begun (take pattern.now.free tuple.old.values) rows.now place.old }
-    ensures puts { PutsNext pattern.now.free (parts_of pattern.now) rows.now begun tuple.old result tuple.new }
+    requires later { HasLaterOf pattern.now begun tuple.old rows.now place.old }
+    ensures puts { PutsNextOf pattern.now rows.now begun tuple.old result tuple.new }
     ensures bound { result ≡ true → place.new ≤ length rows.now }
-    ensures later { result ≡ true → HasLater (parts_of pattern.now) true (take pattern.now.free tuple.new.values) rows.now place.new }
+    ensures later { result ≡ true → HasLaterOf pattern.now true tuple.new rows.now place.new }
 {
     let parts = &pattern.parts[..pattern.len as usize];
     match put_first(rows, parts, pattern.free, *place, &mut tuple.values) {
@@ -113,7 +112,7 @@ struct InTable<'a> {
 #[inline(always)]
 fn table_of<'a>(world: &'a World, pattern: &Pattern, tuple: &Match) -> Option<InTable<'a>>
     requires { IsLawful pattern.now }
-    ensures { IfSome result (λ t. GoesThrough world.now pattern.now false tuple.now t.place t.rows.now) }
+    ensures { IfSome result (λ t. ReadsAll world.now pattern.now tuple.now t.place t.rows.now) }
 {
     let _ = &tuple.values;
     if pattern.place {

@@ -65,7 +65,28 @@ impl Runs {
         Ok(out)
     }
 
+    /// The rows with one more at place `at`, and without that at place `cut`, where they are cut into runs.
+    #[inline(never)]
+    fn moved_in_runs(
+        &self,
+        alloc: Global,
+        cut: usize,
+        at: usize,
+        row: &[Value],
+    ) -> Result<Runs, NoMemory>
+        requires cut { cut < length self.now }
+        requires at { at ≤ length self.now }
+        ensures { IfOk result (λ r. r ≡ remove (insert self.now at row.now) (place_after at cut)) }
+    {
+        if at <= cut {
+            self.moved_back(alloc, cut, at, row)
+        } else {
+            self.moved_on(alloc, cut, at, row)
+        }
+    }
+
     /// The rows with one more at place `at`, and without that at place `cut`, in one copy.
+    #[inline(always)]
     pub(crate) fn moved(
         &self,
         alloc: Global,
@@ -80,10 +101,6 @@ impl Runs {
         if let Some(rows) = self.uncut() {
             return Ok(Runs::of_list(alloc, rows.moved(alloc, cut, at, row)?));
         }
-        if at <= cut {
-            self.moved_back(alloc, cut, at, row)
-        } else {
-            self.moved_on(alloc, cut, at, row)
-        }
+        self.moved_in_runs(alloc, cut, at, row)
     }
 }

@@ -4,7 +4,7 @@ ghost use Rattle.std.specs.Prelude.{◌≡◌, ◌<◌, ◌≤◌, ◌&&◌, ◌
 ghost use Rattle.tl_syntax.specs.Lists.{Rises};
 ghost use Rattle.tl_world.specs.Fits.{occurs};
 ghost use Rattle.tl_world.specs.Front.{front, front_cmp, known_of};
-ghost use Rattle.tl_world.specs.Least.{IsLeast, PutsNext, above, lower, lesser, fits_some, match_in_place};
+ghost use Rattle.tl_world.specs.Least.{IsLeast, IsLeastAfter, PutsNext, above, lower, lesser, fits_some, match_in_place};
 ghost use Rattle.tl_world.specs.Tables.{row_cmp, whole_row};
 
 use crate::after::{rows_before, rows_up_to};
@@ -240,7 +240,7 @@ fn next_in_places(
     requires short { length parts.now ≤ 9 }
     requires some { 1 ≤ length parts.now }
     requires order { Rises row_cmp (map (λ r. r.args) rows.now) }
-    ensures { IsLeast free (λ t. fits_some parts.now (map whole_row rows.now) t && above after.now free t) result }
+    ensures { IsLeastAfter free parts.now (map whole_row rows.now) after.now result }
 {
     let lead = &parts[..parts.len() - 1];
     let mut k = places_before(rows, lead, values_of(after, free));

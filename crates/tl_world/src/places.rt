@@ -4,9 +4,9 @@ ghost use Rattle.std.specs.FinMap as dict;
 ghost use Rattle.std.specs.List.Sorted.{IsBinarySearchResult, IsSearchInRange, IsStableBy};
 ghost use Rattle.std.specs.Prelude.{◌≡◌, length, map, T, IfOk, OnOk};
 ghost use Rattle.tl_syntax.specs.Keys.{key_cmp, value_cmp, place_entry};
-ghost use Rattle.tl_world.specs.Edits.{changed_places};
+ghost use Rattle.tl_world.specs.Edits.{SetsPlace, SetsPlaces};
 ghost use Rattle.tl_world.specs.Falling.{is_above};
-ghost use Rattle.tl_world.specs.Tables.{InOrder, place_row, place_tables, places_of, row_cmp};
+ghost use Rattle.tl_world.specs.Tables.{InOrder, place_row, place_tables, row_cmp};
 
 use crate::named::{Named, find_table};
 use crate::{PlaceRow, PlaceRows};
@@ -54,7 +54,7 @@ fn with_place(
 ) -> Result<(), NoMemory>
     requires { InOrder (place_tables tables.old.items) }
     ensures order { OnOk result (InOrder (place_tables tables.new.items)) }
-    ensures places { OnOk result (places_of tables.new.items ≡ dict.insert (places_of tables.old.items) (fun, args.now) value) }
+    ensures places { OnOk result (SetsPlace (fun, args.now) value tables.old.items tables.new.items) }
 {
     let row = PlaceRow {
         args: args.copy(alloc)?,
@@ -94,7 +94,7 @@ fn with_places(
 ) -> Result<(), NoMemory>
     requires { InOrder (place_tables tables.old.items) }
     ensures order { OnOk result (InOrder (place_tables tables.new.items)) }
-    ensures places { OnOk result (places_of tables.new.items ≡ changed_places (places_of tables.old.items) sets.now) }
+    ensures places { OnOk result (SetsPlaces sets.now tables.old.items tables.new.items) }
 {
     let mut k = sets.len();
     while k > 0 {
@@ -137,7 +137,7 @@ pub(crate) fn change_places(
 ) -> Result<(), NoMemory>
     requires { InOrder (place_tables tables.old.items) }
     ensures order { OnOk result (InOrder (place_tables tables.new.items)) }
-    ensures places { OnOk result (places_of tables.new.items ≡ changed_places (places_of tables.old.items) sets.now) }
+    ensures places { OnOk result (SetsPlaces sets.now tables.old.items tables.new.items) }
 {
     if sets.len() < 8 {
         with_places(alloc, tables, sets)

@@ -25,7 +25,7 @@ pub(crate) fn begins_after(rows: &Flat, args: &[Value]) -> bool
 }
 
 /// The place of the row with these arguments, or the place at which it would stand.
-#[inline]
+#[inline(always)]
 pub(crate) fn find_in(rows: &Flat, args: &[Value]) -> Result<usize, usize>
     ensures range { IsSearchInRange result (length rows.now) }
     ensures place { IsBinarySearchResult (λ r. row_cmp r args.now) rows.now result }

@@ -6,7 +6,7 @@ ghost use Rattle.std.specs.List.Sorted.{IsBinarySearchResult, IsSearchInRange};
 ghost use Rattle.std.specs.Prelude.{◌≡◌, ◌<◌, ◌≤◌, ◌==◌, [], ◌∷◌, length, take, drop, slice_index_or, IfOk, IfSome};
 ghost use Rattle.tl_syntax.proofs.Telling.{tells-partial, tells-equivalence};
 ghost use Rattle.tl_world.specs.Codes.{row_code, rows_code, values_eq};
-ghost use Rattle.tl_world.specs.Moves.{place_after};
+ghost use Rattle.tl_world.specs.Moves.{place_after, HasRowAt};
 ghost use Rattle.tl_world.specs.RowTests.{rows_eq, rows-tell};
 ghost use Rattle.tl_world.specs.Second.{IsSecond};
 ghost use Rattle.tl_world.specs.Tables.{row_cmp};
@@ -94,16 +94,27 @@ impl Rows {
         self.runs.same_rows(k, &other.runs, l)
     }
 
+    /// The place of the row with these arguments, where it is the one that came in last.
+    #[inline(always)]
+    pub(crate) fn fresh_place(&self, args: &[Value]) -> Option<usize>
+        ensures { IfSome result (HasRowAt args.now self.now) }
+    {
+        let k = self.fresh;
+        if k < self.runs.len() && is_same_row(self.runs.row(k), args) {
+            return Some(k);
+        }
+        None
+    }
+
     /// The place of the row with these arguments, or the place at which it would stand, by halves where the row that came in last is another one.
     pub(crate) fn find(&self, args: &[Value]) -> Result<usize, usize>
         ensures range { IsSearchInRange result (length self.now) }
         ensures place { IsBinarySearchResult (λ r. row_cmp r args.now) self.now result }
     {
-        let k = self.fresh;
-        if k < self.runs.len() && is_same_row(self.runs.row(k), args) {
-            return Ok(k);
+        match self.fresh_place(args) {
+            Some(k) => Ok(k),
+            None => find_row(&self.runs, args),
         }
-        find_row(&self.runs, args)
     }
 
     /// The code of the rows. It takes no memory.
@@ -197,6 +208,7 @@ impl Rows {
     }
 
     /// The rows with one more at place `at`, and without that at place `cut`, in one copy.
+    #[inline(always)]
     pub(crate) fn moved(
         &self,
         alloc: Global,

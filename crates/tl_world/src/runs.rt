@@ -4,7 +4,7 @@ ghost use Rattle.std.specs.List.Sorted.{IsBinarySearchResult, IsSearchInRange};
 ghost use Rattle.std.specs.Prelude.{◌≡◌, ◌<◌, ◌≤◌, ◌+◌, ◌^◌, ◌↔◌, ◌++◌, [], ◌∷◌, length, take, drop, slice_index_or, true, IfOk, IfSome, OnOk};
 ghost use Rattle.tl_syntax.proofs.Telling.{tells-partial};
 ghost use Rattle.tl_world.specs.RowTests.{rows_eq, rows-tell};
-ghost use Rattle.tl_world.specs.Runs.{between, IsPart, IsPartFor};
+ghost use Rattle.tl_world.specs.Runs.{between, GainsSomeUpTo, GainsUpTo, IsPart, IsPartFor};
 ghost use Rattle.tl_world.specs.Tables.{row_cmp};
 
 use crate::flat::Flat;
@@ -137,6 +137,18 @@ impl Runs {
         requires { k < length self.now }
         ensures { result.now ≡ slice_index_or self.now k result.now }
     {
+        match self.uncut() {
+            Some(rows) => rows.row(k),
+            None => self.row_in_runs(k),
+        }
+    }
+
+    /// Row `k` of a table that is cut into runs.
+    #[inline(never)]
+    fn row_in_runs(&self, k: usize) -> &[Value]
+        requires { k < length self.now }
+        ensures { result.now ≡ slice_index_or self.now k result.now }
+    {
         let (rows, from) = self.part_of(k, k / MOST);
         rows.row(k - from)
     }
@@ -211,7 +223,7 @@ impl Runs {
     ) -> Result<usize, NoMemory>
         requires some { k < to }
         requires bound { to ≤ length other.now }
-        ensures { IfOk result (λ n. (k < n) × (n ≤ to) × (self.new ≡ self.old ++ between other.now k n)) }
+        ensures { IfOk result (GainsSomeUpTo self.old self.new other.now k to) }
     {
         let full = other.shared.len();
         if k >= full {
@@ -237,7 +249,7 @@ impl Runs {
         guess: &mut usize,
     ) -> Result<usize, NoMemory>
         requires { k < to }
-        ensures { IfOk result (λ n. (k ≤ n) × (n ≤ to) × (self.new ≡ self.old ++ between other.now k n)) }
+        ensures { IfOk result (GainsUpTo self.old self.new other.now k to) }
     {
         let count = self.last.len();
         if count > 0 {
@@ -261,7 +273,7 @@ impl Runs {
     ) -> Result<usize, NoMemory>
         requires some { k < to }
         requires bound { to ≤ length other.now }
-        ensures { IfOk result (λ n. (k < n) × (n ≤ to) × (self.new ≡ self.old ++ between other.now k n)) }
+        ensures { IfOk result (GainsSomeUpTo self.old self.new other.now k to) }
     {
         let next = self.push_whole(other, k, to, guess)?;
         if next >= to {

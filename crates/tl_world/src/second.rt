@@ -38,6 +38,27 @@ pub(crate) fn exchanged(alloc: Global, row: &[Value]) -> Result<Values, NoMemory
     Ok(out)
 }
 
+/// The exchanged rows without the row `gone` and with one more.
+#[inline(never)]
+fn moved_second(
+    alloc: Global,
+    rows: &Runs,
+    gone: &[Value],
+    row: &[Value],
+) -> Result<Second, NoMemory>
+    ensures { IfOk result (KeepsMoved (Some rows.now) gone.now row.now) }
+{
+    let out = exchanged(alloc, gone)?;
+    let Ok(cut) = find_row(rows, out.as_slice()) else {
+        return Ok(Second::none());
+    };
+    let other = exchanged(alloc, row)?;
+    match find_row(rows, other.as_slice()) {
+        Ok(_) => Ok(Second::none()),
+        Err(at) => Second::of(alloc, rows.moved(alloc, cut, at, other.as_slice())?),
+    }
+}
+
 impl Second {
     /// No second order is kept. It takes no memory.
     pub(crate) fn none() -> Second
@@ -105,17 +126,9 @@ impl Second {
     ) -> Result<Second, NoMemory>
         ensures { IfOk result (KeepsMoved self.now gone.now row.now) }
     {
-        let Some(rows) = self.rows() else {
-            return Ok(Second::none());
-        };
-        let out = exchanged(alloc, gone)?;
-        let Ok(cut) = find_row(rows, out.as_slice()) else {
-            return Ok(Second::none());
-        };
-        let other = exchanged(alloc, row)?;
-        match find_row(rows, other.as_slice()) {
-            Ok(_) => Ok(Second::none()),
-            Err(at) => Second::of(alloc, rows.moved(alloc, cut, at, other.as_slice())?),
+        match self.rows() {
+            Some(rows) => moved_second(alloc, rows, gone, row),
+            None => Ok(Second::none()),
         }
     }
 }

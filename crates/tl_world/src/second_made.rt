@@ -1,10 +1,9 @@
 // The rows of a table by their second value, made anew.
 ghost use Rattle.std.specs.List.Sorted.{IsPermutation};
 ghost use Rattle.std.specs.Ordering.{is_lt};
-ghost use Rattle.std.specs.Prelude.{◌≡◌, ◌<◌, ◌-◌, length, map, slice_index_or, true, IfOk, IfSome};
-ghost use Rattle.std.specs.declared.cmp.Ordering.TheVariants.{Less};
+ghost use Rattle.std.specs.Prelude.{◌≡◌, ◌<◌, length, map, slice_index_or, true, IfOk, IfSome};
 ghost use Rattle.tl_syntax.specs.Lists.{Rises};
-ghost use Rattle.tl_world.specs.Second.{exchanged, IsKept};
+ghost use Rattle.tl_world.specs.Second.{exchanged, IsInTurn, IsKept};
 ghost use Rattle.tl_world.specs.Tables.{row_cmp};
 
 use crate::runs::Runs;
@@ -53,7 +52,7 @@ fn row_at(rows: &[Values], k: usize) -> &[Value]
 /// Whether row `k` comes after the one before it, where there is one.
 fn is_in_turn(rows: &[Values], k: usize) -> bool
     requires { k < length rows.now }
-    ensures { result ≡ true → 0 < k → (d : _) → row_cmp (slice_index_or rows.now (k - 1) d) (slice_index_or rows.now k d) ≡ Less }
+    ensures { result ≡ true → IsInTurn rows.now k }
 {
     k == 0 || is_before(row_at(rows, k - 1), row_at(rows, k))
 }

@@ -1,7 +1,7 @@
 // Runs of rows that tables share.
 ghost use Rattle.std.specs.Prelude.{◌≡◌, ◌≢◌, ◌<◌, ◌≤◌, ◌+◌, ◌^◌, [], ◌++◌, length, true, IfOk, OnOk};
 ghost use Rattle.std.specs.declared.cmp.Ordering.TheVariants.{Greater};
-ghost use Rattle.tl_world.specs.Runs.{between, first_row, rows_in, run_place, AreCounted, IsPart, IsPartFor};
+ghost use Rattle.tl_world.specs.Runs.{between, first_row, rows_in, run_place, AreCounted, BeginsAfter, IsPart, IsPartFor};
 ghost use Rattle.tl_world.specs.Tables.{row_cmp};
 
 use crate::flat::Flat;
@@ -99,7 +99,7 @@ fn find_run_for(runs: &[Run], args: &[Value]) -> usize
     requires some { 0 < length runs.now }
     ensures bound { result < length runs.now }
     ensures before { 0 < result → row_cmp (first_row runs.now result) args.now ≢ Greater }
-    ensures after { result + 1 < length runs.now → row_cmp (first_row runs.now (result + 1)) args.now ≡ Greater }
+    ensures after { BeginsAfter runs.now (result + 1) args.now }
 {
     let mut low = 0;
     let mut high = runs.len();

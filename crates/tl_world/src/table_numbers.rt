@@ -1,5 +1,5 @@
 // Numbers of the tables of worlds, by which tables that two worlds have in common are told.
-ghost use Rattle.std.specs.Prelude.{◌≡◌, ◌<◌, ◌++◌, ◌∷◌, [], length, slice_get, Some, IfOk, IfSome, OnOk, OnErr};
+ghost use Rattle.std.specs.Prelude.{◌≡◌, ◌<◌, ◌++◌, ◌∷◌, List, [], length, take, slice_get, Some, IfOk, IfSome, OnOk, OnErr};
 ghost use Rattle.tl_terms.specs.World.{World as PlainWorld};
 ghost use Rattle.tl_world.specs.TableNumbers.{changes_table, standing, tables_in, GainsAllOrNone, AreNumbered, AreTableNumbers, ComesFrom, IsTableNumber};
 
@@ -204,7 +204,7 @@ impl TableNumbers {
         Ok(())
     }
 
-    /// Adds the numbers of the tables of the world of a number, which comes from a source, where those of all worlds before are known and there is memory for them.
+    /// Adds the numbers of the tables of the world of a number, which comes from a source, where it is the last one, those of all worlds before are known and there is memory for them.
     pub(crate) fn add(&mut self, worlds: &IndexSet<World>, number: usize, source: &Source<'_>)
         requires number { number < length worlds.now.keys }
         requires numbered { AreNumbered worlds.now.keys self.old.starts.items self.old.all.items }
@@ -213,7 +213,10 @@ impl TableNumbers {
             source.now.dels.now source.now.adds.now source.now.sets.now w }
         ensures { AreNumbered worlds.now.keys self.new.starts.items self.new.all.items }
     {
-        if number != self.starts.len() || number > u32::MAX as usize {
+        if number != self.starts.len() || number + 1 != worlds.len() {
+            return;
+        }
+        if number > u32::MAX as usize {
             return;
         }
         match self.numbers_of(worlds, number as u32, source) {
@@ -222,6 +225,19 @@ impl TableNumbers {
                 Err(_) => {}
             },
             Err(_) => {}
+        }
+    }
+
+    /// Keeps the numbers of the tables of so many worlds at most, and lets those of later ones go. It takes no memory.
+    pub(crate) fn keep_first(&mut self, worlds: usize)
+        ensures { (ws : List PlainWorld)
+            → AreNumbered ws self.old.starts.items self.old.all.items
+            → AreNumbered (take worlds ws) self.new.starts.items self.new.all.items }
+    {
+        if worlds < self.starts.len() {
+            let start = self.starts[worlds];
+            self.starts.truncate(worlds);
+            self.all.truncate(start);
         }
     }
 }

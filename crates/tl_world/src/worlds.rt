@@ -1,5 +1,5 @@
 // Worlds by numbers.
-ghost use Rattle.std.specs.Prelude.{◌≡◌, ◌<◌, ℕ, [], length, slice_get, Some, Ok, IfOk, IfSome, OnErr};
+ghost use Rattle.std.specs.Prelude.{◌≡◌, ◌<◌, ◌-◌, ℕ, [], length, take, slice_get, Some, Ok, IfOk, IfSome, OnErr};
 ghost use Rattle.tl_terms.specs.World.{World as PlainWorld};
 ghost use Rattle.tl_world.specs.NumberedLists.{IsOnce, IsAdded, Stay};
 ghost use Rattle.tl_world.specs.TableNumbers.{AreNumbered, AreTableNumbers, ComesFrom};
@@ -13,7 +13,7 @@ use indexmap::IndexSet;
 use std::alloc::Global;
 use tl_syntax::{Fact, NoMemory, PlaceValue};
 
-/// Worlds by numbers: each number below `len` is of one world, and equal worlds have one number. Numbers keep their worlds after every call, a refused one included.
+/// Worlds by numbers: each number below `len` is of one world, and equal worlds have one number. Numbers keep their worlds after every call but that which lets one go, a refused one included.
 ///
 /// A world is found by its code, and then compared with the kept worlds of that code. One that changes make of a kept world is guessed by its mark before it is made. Tables of facts and of places have numbers too, so that those which the changes leave alone are compared by their numbers.
 #[derive(Drop)]
@@ -164,5 +164,15 @@ impl Worlds {
             sets,
         };
         self.keep(next, &source)
+    }
+
+    /// Lets the world of the last number go, which then has none. It takes no memory.
+    pub fn forget_last(&mut self)
+        requires { 0 < length (worlds_in self.old) }
+        ensures { worlds_in self.new ≡ take (length (worlds_in self.old) - 1) (worlds_in self.old) }
+    {
+        let last = self.table.len() - 1;
+        self.table.truncate(last);
+        self.numbers.keep_first(last);
     }
 }

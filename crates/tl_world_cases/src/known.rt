@@ -9,7 +9,7 @@ use tl_syntax::{Names, NoMemory};
 use tl_tables::{column, is_row};
 use tl_world::{World, Worlds};
 
-/// Rows of a world, facts that are deleted, facts that are added and places that are set, another world, whether that is the world after the changes, the number of that world, 1, or of the first one, 0, where it is found by the changes, and the number that it has then, 2 or 1 for one that had none.
+/// Rows of a world, facts that are deleted, facts that are added and places that are set, another world, whether that is the world after the changes, the number of that world, 1, or of the first one, 0, where it is found by the changes, and the number that it has then, 2 or 1 for one that had none. It has that number again once the last world was let go, but where this was the only one.
 ///
 /// None is found where a deleted fact is not there or an added one is: such a world is made, and then has its number.
 const AFTER: &str = "
@@ -91,6 +91,25 @@ fn kept_in(
     Ok(Some(number))
 }
 
+/// The number that the world after the changes has once the last world was let go.
+fn kept_again(
+    worlds: &mut Worlds,
+    first: usize,
+    less: &Said,
+    more: &Said,
+) -> Result<Option<usize>, NoMemory> {
+    if worlds.len() == 0 {
+        return Ok(None);
+    }
+    worlds.forget_last();
+    kept_in(worlds, first, less, more)
+}
+
+/// The number that is wanted once the last world was let go: the same, or none where no world is left.
+fn wanted_again(kept: &str) -> &str {
+    if kept == "0" { "none" } else { kept }
+}
+
 /// The two worlds of a row.
 fn both_worlds(alloc: Global, old: World, other: World) -> Result<Worlds, NoMemory> {
     let mut worlds = Worlds::new(alloc);
@@ -112,6 +131,8 @@ fn is_found<R: Abort>(rt: &R, alloc: Global, names: &Names, row: &str) -> Result
     is_text(rt, found.as_str(), column(row, 5), row);
     let kept = text_of(alloc, kept_in(&mut worlds, 0, &less, &more)?)?;
     is_text(rt, kept.as_str(), column(row, 6), row);
+    let again = text_of(alloc, kept_again(&mut worlds, 0, &less, &more)?)?;
+    is_text(rt, again.as_str(), wanted_again(column(row, 6)), row);
     Ok(())
 }
 

@@ -24,29 +24,29 @@ filled (x ∷ xs) b t z = tt
 
 pub rows_without-requires : goal.rows_without-requires
 rows_without-requires c =
-    let found = change.found-at fact_row _ c.args.tables.now.items c.args.pred c.in-Ok.i c.remove-old.result c.as_slice.ensures.value c.requires c.in-Ok.ensures.range c.in-Ok.ensures.place c.remove-old.ensures.value in
-    let same = change.same-rows fact_row _ _ _ c.index-t.result.now c.remove-old.result _ found c.index-t.ensures (c.runs.ensures ∙ c.deref.ensures) in
+    let found = change.found-at fact_row _ c.args.tables.now.items c.args.pred c.in-Ok.i c.index-t.result.now c.as_slice.ensures.value c.requires c.in-Ok.ensures.range c.in-Ok.ensures.place c.index-t.ensures in
+    let same = c.runs.ensures ∙ c.deref.ensures in
     subst (λ xs. c.in-Ok-find_row.k < length xs) (same ∙ sym c.as_ref.ensures) c.in-Ok-find_row.ensures.range
 
 pub returns-then-is_empty-clause-order : goal.returns-then-is_empty-clause-order
 returns-then-is_empty-clause-order c =
-    let found = change.found-at fact_row _ c.args.tables.now.items c.args.pred c.in-Ok.i c.remove-old.result c.as_slice.ensures.value c.requires c.in-Ok.ensures.range c.in-Ok.ensures.place c.remove-old.ensures.value in
-    subst (λ ts. InOrder (fact_tables ts)) (sym c.remove-old.ensures.items) (change.order-emptied fact_row _ _ _ _ found)
+    let found = change.found-at fact_row _ c.args.tables.now.items c.args.pred c.in-Ok.i c.index-t.result.now c.as_slice.ensures.value c.requires c.in-Ok.ensures.range c.in-Ok.ensures.place c.index-t.ensures in
+    subst (λ ts. InOrder (fact_tables ts)) (sym c.remove.ensures.items) (change.order-emptied fact_row _ _ _ _ found)
 
 pub returns-then-is_empty-clause-facts : goal.returns-then-is_empty-clause-facts
 returns-then-is_empty-clause-facts c =
-    let found = change.found-at fact_row _ c.args.tables.now.items c.args.pred c.in-Ok.i c.remove-old.result c.as_slice.ensures.value c.requires c.in-Ok.ensures.range c.in-Ok.ensures.place c.remove-old.ensures.value in
-    let same = change.same-rows fact_row _ _ _ c.index-t.result.now c.remove-old.result _ found c.index-t.ensures (c.runs.ensures ∙ c.deref.ensures) in
+    let found = change.found-at fact_row _ c.args.tables.now.items c.args.pred c.in-Ok.i c.index-t.result.now c.as_slice.ensures.value c.requires c.in-Ok.ensures.range c.in-Ok.ensures.place c.index-t.ensures in
+    let same = c.runs.ensures ∙ c.deref.ensures in
     let k = c.in-Ok-find_row.k in
-    let taken : IsTakenOut c.remove-old.result.rows.value k c.args.pred c.args.adds.now c.in_ok-rows-in-Ok-find_row.rows = subst (λ xs. IsTakenOut xs k c.args.pred c.args.adds.now c.in_ok-rows-in-Ok-find_row.rows) c.as_ref.ensures c.in_ok-rows-in-Ok-find_row.ensures in
-    let below : k < length c.remove-old.result.rows.value = subst (λ xs. k < length xs) same c.in-Ok-find_row.ensures.range in
+    let taken : IsTakenOut c.index-t.result.now.rows.value k c.args.pred c.args.adds.now c.in_ok-rows-in-Ok-find_row.rows = subst (λ xs. IsTakenOut xs k c.args.pred c.args.adds.now c.in_ok-rows-in-Ok-find_row.rows) c.as_ref.ensures c.in_ok-rows-in-Ok-find_row.ensures in
+    let below : k < length c.index-t.result.now.rows.value = subst (λ xs. k < length xs) same c.in-Ok-find_row.ensures.range in
     elim taken [
       | inl rows ↦ same-beside c.args.adds.now _ _ (
-          let none = emptied c.remove-old.result.rows.value c.in_ok-rows-in-Ok-find_row.rows k _ c.is_empty.result rows c.if-is_empty.true c.is_empty.ensures (change.row-taken fact_row _ _ _ _ found c.args.args.now k _ same c.in-Ok-find_row.ensures.range c.in-Ok-find_row.ensures.place) in
-          set-taken (fact_tables c.args.tables.now.items) (fact_tables c.remove-old.new.self.items) (c.args.pred, c.args.args.now)
-          (λ q. ap (λ ts. dict.find key_cmp q (entries_of (fact_tables ts))) c.remove-old.ensures.items ∙ change.find-emptied-out fact_row _ _ _ _ found c.args.args.now none q)
+          let none = emptied c.index-t.result.now.rows.value c.in_ok-rows-in-Ok-find_row.rows k _ c.is_empty.result rows c.if-is_empty.true c.is_empty.ensures (change.row-taken fact_row _ _ _ _ found c.args.args.now k _ same c.in-Ok-find_row.ensures.range c.in-Ok-find_row.ensures.place) in
+          set-taken (fact_tables c.args.tables.now.items) (fact_tables c.remove.new.self.items) (c.args.pred, c.args.args.now)
+          (λ q. ap (λ ts. dict.find key_cmp q (entries_of (fact_tables ts))) c.remove.ensures.items ∙ change.find-emptied-out fact_row _ _ _ _ found c.args.args.now none q)
           )
-      | inr m ↦ absurd (not-emptied c.remove-old.result.rows.value c.in_ok-rows-in-Ok-find_row.rows k c.args.pred c.args.adds.now c.is_empty.result m below c.if-is_empty.true c.is_empty.ensures)
+      | inr m ↦ absurd (not-emptied c.index-t.result.now.rows.value c.in_ok-rows-in-Ok-find_row.rows k c.args.pred c.args.adds.now c.is_empty.result m below c.if-is_empty.true c.is_empty.ensures)
     ]
 
 pub returns-in-Err-clause-facts : goal.returns-in-Err-clause-facts
@@ -65,38 +65,38 @@ returns-in-Err-find_row-clause-facts c =
     ∙ change.row-absent fact_row _ _ _ _ found c.args.args.now c.in-Err-find_row.field-0 _ same c.in-Err-find_row.ensures.place)
     )
 
-pub returns-in_ok-insert-in-Ok-find_row-clause-order : goal.returns-in_ok-insert-in-Ok-find_row-clause-order
-returns-in_ok-insert-in-Ok-find_row-clause-order c =
-    let found = change.found-at fact_row _ c.args.tables.now.items c.args.pred c.in-Ok.i c.remove-old.result c.as_slice.ensures.value c.requires c.in-Ok.ensures.range c.in-Ok.ensures.place c.remove-old.ensures.value in
-    let same = change.same-rows fact_row _ _ _ c.index-t.result.now c.remove-old.result _ found c.index-t.ensures (c.runs.ensures ∙ c.deref.ensures) in
+pub returns-in_ok-shared-in-Ok-find_row-clause-order : goal.returns-in_ok-shared-in-Ok-find_row-clause-order
+returns-in_ok-shared-in-Ok-find_row-clause-order c =
+    let found = change.found-at fact_row _ c.args.tables.now.items c.args.pred c.in-Ok.i c.index-t.result.now c.as_slice.ensures.value c.requires c.in-Ok.ensures.range c.in-Ok.ensures.place c.index-t.ensures in
+    let same = c.runs.ensures ∙ c.deref.ensures in
     let k = c.in-Ok-find_row.k in
-    let taken : IsTakenOut c.remove-old.result.rows.value k c.args.pred c.args.adds.now c.in_ok-rows-in-Ok-find_row.rows = subst (λ xs. IsTakenOut xs k c.args.pred c.args.adds.now c.in_ok-rows-in-Ok-find_row.rows) c.as_ref.ensures c.in_ok-rows-in-Ok-find_row.ensures in
-    let below : k < length c.remove-old.result.rows.value = subst (λ xs. k < length xs) same c.in-Ok-find_row.ensures.range in
+    let taken : IsTakenOut c.index-t.result.now.rows.value k c.args.pred c.args.adds.now c.in_ok-rows-in-Ok-find_row.rows = subst (λ xs. IsTakenOut xs k c.args.pred c.args.adds.now c.in_ok-rows-in-Ok-find_row.rows) c.as_ref.ensures c.in_ok-rows-in-Ok-find_row.ensures in
+    let below : k < length c.index-t.result.now.rows.value = subst (λ xs. k < length xs) same c.in-Ok-find_row.ensures.range in
     let fresh : Named (List (List Value)) = record { name = c.args.pred; rows = c.in_ok-shared-in-Ok-find_row.shared } in
     let held = c.in_ok-shared-in-Ok-find_row.ensures.ok in
     let full = subst (λ xs. HasItem (map fact_row xs)) (sym held) (filled c.in_ok-rows-in-Ok-find_row.rows c.is_empty.result c.if-is_empty.false c.is_empty.ensures) in
-    subst (λ ts. InOrder (fact_tables ts)) (sym (c.in_ok-insert-in-Ok-find_row.ensures.items ∙ ap (λ ts. insert ts c.in-Ok.i fresh) c.remove-old.ensures.items)) (elim taken [
+    subst (λ ts. InOrder (fact_tables ts)) (sym c.put_table.ensures) (elim taken [
       | inl rows ↦ change.order-taken fact_row _ _ _ _ found fresh refl c.args.args.now (ap (map fact_row) (held ∙ rows) ∙ change.row-taken fact_row _ _ _ _ found c.args.args.now k _ same c.in-Ok-find_row.ensures.range c.in-Ok-find_row.ensures.place) full
-      | inr m ↦ order-moved c.args.tables.now.items c.args.pred c.in-Ok.i c.remove-old.result fresh c.args.adds.now k c.args.args.now found refl (subst (IsMoved c.remove-old.result.rows.value k c.args.pred c.args.adds.now) (sym held) m) below
+      | inr m ↦ order-moved c.args.tables.now.items c.args.pred c.in-Ok.i c.index-t.result.now fresh c.args.adds.now k c.args.args.now found refl (subst (IsMoved c.index-t.result.now.rows.value k c.args.pred c.args.adds.now) (sym held) m) below
           (subst (λ xs. HoldsAt (λ (r : List Value). row_cmp r c.args.args.now ≡ Equal) xs k) same c.in-Ok-find_row.ensures.place) full
     ])
 
-pub returns-in_ok-insert-in-Ok-find_row-clause-facts : goal.returns-in_ok-insert-in-Ok-find_row-clause-facts
-returns-in_ok-insert-in-Ok-find_row-clause-facts c =
-    let found = change.found-at fact_row _ c.args.tables.now.items c.args.pred c.in-Ok.i c.remove-old.result c.as_slice.ensures.value c.requires c.in-Ok.ensures.range c.in-Ok.ensures.place c.remove-old.ensures.value in
-    let same = change.same-rows fact_row _ _ _ c.index-t.result.now c.remove-old.result _ found c.index-t.ensures (c.runs.ensures ∙ c.deref.ensures) in
+pub returns-in_ok-shared-in-Ok-find_row-clause-facts : goal.returns-in_ok-shared-in-Ok-find_row-clause-facts
+returns-in_ok-shared-in-Ok-find_row-clause-facts c =
+    let found = change.found-at fact_row _ c.args.tables.now.items c.args.pred c.in-Ok.i c.index-t.result.now c.as_slice.ensures.value c.requires c.in-Ok.ensures.range c.in-Ok.ensures.place c.index-t.ensures in
+    let same = c.runs.ensures ∙ c.deref.ensures in
     let k = c.in-Ok-find_row.k in
-    let taken : IsTakenOut c.remove-old.result.rows.value k c.args.pred c.args.adds.now c.in_ok-rows-in-Ok-find_row.rows = subst (λ xs. IsTakenOut xs k c.args.pred c.args.adds.now c.in_ok-rows-in-Ok-find_row.rows) c.as_ref.ensures c.in_ok-rows-in-Ok-find_row.ensures in
-    let below : k < length c.remove-old.result.rows.value = subst (λ xs. k < length xs) same c.in-Ok-find_row.ensures.range in
+    let taken : IsTakenOut c.index-t.result.now.rows.value k c.args.pred c.args.adds.now c.in_ok-rows-in-Ok-find_row.rows = subst (λ xs. IsTakenOut xs k c.args.pred c.args.adds.now c.in_ok-rows-in-Ok-find_row.rows) c.as_ref.ensures c.in_ok-rows-in-Ok-find_row.ensures in
+    let below : k < length c.index-t.result.now.rows.value = subst (λ xs. k < length xs) same c.in-Ok-find_row.ensures.range in
     let fresh : Named (List (List Value)) = record { name = c.args.pred; rows = c.in_ok-shared-in-Ok-find_row.shared } in
     let held = c.in_ok-shared-in-Ok-find_row.ensures.ok in
     let full = subst (λ xs. HasItem (map fact_row xs)) (sym held) (filled c.in_ok-rows-in-Ok-find_row.rows c.is_empty.result c.if-is_empty.false c.is_empty.ensures) in
-    let now = c.in_ok-insert-in-Ok-find_row.ensures.items ∙ ap (λ ts. insert ts c.in-Ok.i fresh) c.remove-old.ensures.items in
+    let now = c.put_table.ensures in
     subst (λ ts. AreSameBeside c.args.adds.now (set_of (fact_tables ts)) (set.remove (set_of (fact_tables c.args.tables.now.items)) (c.args.pred, c.args.args.now))) (sym now) (elim taken [
       | inl rows ↦ same-beside c.args.adds.now _ _ (
           set-taken (fact_tables c.args.tables.now.items) (fact_tables (insert (remove c.args.tables.now.items c.in-Ok.i) c.in-Ok.i fresh)) (c.args.pred, c.args.args.now)
           (λ q. change.find-taken-out fact_row _ _ _ _ found fresh refl c.args.args.now (ap (map fact_row) (held ∙ rows) ∙ change.row-taken fact_row _ _ _ _ found c.args.args.now k _ same c.in-Ok-find_row.ensures.range c.in-Ok-find_row.ensures.place) q)
           )
-      | inr m ↦ facts-moved c.args.tables.now.items c.args.pred c.in-Ok.i c.remove-old.result fresh c.args.adds.now k c.args.args.now found refl (subst (IsMoved c.remove-old.result.rows.value k c.args.pred c.args.adds.now) (sym held) m) below
+      | inr m ↦ facts-moved c.args.tables.now.items c.args.pred c.in-Ok.i c.index-t.result.now fresh c.args.adds.now k c.args.args.now found refl (subst (IsMoved c.index-t.result.now.rows.value k c.args.pred c.args.adds.now) (sym held) m) below
           (subst (λ xs. HoldsAt (λ (r : List Value). row_cmp r c.args.args.now ≡ Equal) xs k) same c.in-Ok-find_row.ensures.place) full
     ])

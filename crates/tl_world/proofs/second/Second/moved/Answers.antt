@@ -1,9 +1,7 @@
-use Rattle.std.proofs.Common.{◌∙◌}
-use Rattle.tl_world.proofs.Exchanged.{if-ok, keeps-moved}
+use Rattle.std.proofs.Common.{subst, sym}
+use Rattle.std.specs.Prelude.{IfOk}
+use Rattle.tl_world.specs.Second.{KeepsMoved}
 use Rattle.tl_world.proofs.second.Second.moved.Goals as goal
 
-pub returns : goal.returns
-returns c = if-ok c.of.result
-    (λ s is. keeps-moved c.args.self.now c.in-Some.rows.now c.in-Some.ensures c.args.gone.now c.args.row.now c.as_slice.result.now c.as_slice-2.result.now c.as_slice-in-Err.result.now c.in_ok-moved-in-Err.field-0 c.in-Ok.cut c.in-Err.at s
-    (c.as_slice.ensures ∙ c.in_ok-out.ensures) (c.as_slice-2.ensures ∙ c.in_ok-other.ensures) (c.as_slice-in-Err.ensures ∙ c.in_ok-other.ensures) c.in-Ok.ensures.range c.in-Ok.ensures.place c.in-Err.ensures.range c.in-Err.ensures.place c.in_ok-moved-in-Err.ensures is)
-    c.of.ensures
+pub returns-in-Some : goal.returns-in-Some
+returns-in-Some c = subst (λ before. IfOk c.moved_second.result (KeepsMoved before c.args.gone.now c.args.row.now)) (sym c.in-Some.ensures) c.moved_second.ensures

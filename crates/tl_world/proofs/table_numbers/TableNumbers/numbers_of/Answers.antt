@@ -1,4 +1,5 @@
-use Rattle.std.proofs.Common.{◌+◌, ◌∷◌, [], ap, ◌∙◌, length, length-append}
+use Rattle.std.proofs.Common.{◌+◌, ◌∷◌, [], ap, ◌∙◌, length, length-append, subst, sym}
+use Rattle.tl_world.specs.TableNumbers.{AreNumbered}
 use Rattle.tl_world.proofs.TableNumbers.{numbers-next}
 use Rattle.tl_world.proofs.table_numbers.TableNumbers.numbers_of.Goals as goal
 
@@ -13,3 +14,9 @@ loop-i-preserved c =
       are = λ w e from. numbers-next c.args.worlds.now.keys c.args.number c.world_at-world.result.now w ks c.push.new.self.items c.loop-i.i c.table.result one
           c.world_at-world.ensures e c.loop-i.invariant.many c.table.ensures c.in_ok-push.ensures.items (c.loop-i.invariant.are w e from) (c.number_of-one.ensures.number w e from);
     }
+
+pub number_of-one-requires-clause-numbered : goal.number_of-one-requires-clause-numbered
+number_of-one-requires-clause-numbered c =
+    let ws = c.args.worlds.now.keys in
+    subst (λ starts. AreNumbered ws starts c.loop-i.self.all.items) (sym c.loop-i.invariant.starts)
+    (subst (AreNumbered ws c.args.self.now.starts.items) (sym c.loop-i.invariant.all) c.requires.numbered)
