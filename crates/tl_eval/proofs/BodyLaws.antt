@@ -6,10 +6,10 @@ use Rattle.std.proofs.lemmas.List.Sums.{sum_by-cons}
 use Rattle.std.proofs.lemmas.Option.{slice_get_within, slice_get-map, slice_get_read}
 use Rattle.std.specs.Option.{option_map}
 use Rattle.tl_eval.specs.Reading.{rank}
-use Rattle.tl_eval.specs.StateTruth.{FitsAt, HaveSlots}
+use Rattle.tl_eval.specs.StateTruth.{FitsAt}
 use Rattle.tl_eval.proofs.ArityLaws.{AreFew}
 use Rattle.tl_eval.proofs.FormulaSizes.{formula_nodes, past_bodies}
-use Rattle.tl_eval.proofs.ReadingLaws.{less-or-same, get-take, take-past, read_level}
+use Rattle.tl_eval.proofs.ReadingLaws.{less-or-same, get-take, read_level}
 use Rattle.tl_syntax.specs.declared.definition.Definition.{Definition}
 use Rattle.tl_syntax.specs.declared.problem.Problem.{Problem}
 use Rattle.tl_syntax.specs.declared.variable.Var.{Var}
@@ -104,16 +104,16 @@ counted-small (s ∷ ss) o counted h =
     (omega arith, counted-small ss (suc o) (λ k n e. let q = counted (suc k) n e in omega arith) (omega arith))
 
 -- what is known of the body that an atom of a definition enters
-pub record Body (q : Problem) (n k i j slots : ℕ) (d : Definition) : Type 0 where
+pub record Body (q : Problem) (n k i j : ℕ) (d : Definition) : Type 0 where
   pub there : slice_get (plain_problem q).definitions i ≡ Some (plain_definition d)
   pub fits : FitsAt (signature_of q.domain) i (tree_of_formula d.body)
   pub in_frame : Each (λ s. s.slot < 32) d.params
+  pub few : length d.params ≤ 9
   pub falls : suc (rank (plain_problem q) i j) ≤ rank (plain_problem q) n k
-  pub room : HaveSlots (plain_problem q) i j (slots - 32)
   pub smaller : formula_nodes (tree_of_formula d.body) < past_bodies (plain_problem q)
 
-pub body-is : (q : Problem) (n k i j slots : ℕ) (d : Definition) → slice_get q.domain.definitions i ≡ Some d → i ≤ n → read_level n k i d.levels ≡ suc j → HaveSlots (plain_problem q) n k slots → Body q n k i j slots d
-body-is q n k i j slots d e h z room =
+pub body-is : (q : Problem) (n k i j : ℕ) (d : Definition) → slice_get q.domain.definitions i ≡ Some d → i ≤ n → read_level n k i d.levels ≡ suc j → Body q n k i j d
+body-is q n k i j d e h z =
     let keeps = q.domain_keeps.definitions i d e in
     let there = plain-is q i d e in
     let falls = rank-falls (plain_problem q) n k i j (plain_definition d) there h z in
@@ -122,8 +122,8 @@ body-is q n k i j slots d e h z room =
       there = there;
       fits = record { around = slots_of d.params; fits = keeps.fits };
       in_frame = counted-small d.params 0 (λ m c a. let x = keeps.params.counted m c a in omega arith) (omega arith);
+      few = omega arith;
       falls = falls;
-      room = omega arith;
       smaller = body-nodes (plain_problem q) i (plain_definition d) there;
     }
 
@@ -152,14 +152,13 @@ pub inside : (q : Problem) (n i count : ℕ) (items : List Definition) → items
 inside q n i count items s h = let known = named q.domain.definitions n i count h in let size = ap (λ (xs : List Definition). length xs) s in let within = known.within in omega arith
 
 -- what is known of an atom's definition, once it is read at a level above 0 of its own
-pub record AtOwnLevel (q : Problem) (n k i count l slots : ℕ) : Type 0 where
+pub record AtOwnLevel (q : Problem) (n k i count l : ℕ) : Type 0 where
   pub takes : Takes (signature_of q.domain).definitions i count
   pub rank : rank (plain_problem q) i l ≤ rank (plain_problem q) n k
-  pub room : HaveSlots (plain_problem q) i l slots
 
-pub at_own_level : (q : Problem) (n k i count l slots : ℕ) (d : Definition) → AtDefinition q n k i count l d → Takes (with_definitions_below (n + 1) (signature_of q.domain)).definitions i count → 0 < l → HaveSlots (plain_problem q) n k slots → AtOwnLevel q n k i count l slots
+pub at_own_level : (q : Problem) (n k i count l : ℕ) (d : Definition) → AtDefinition q n k i count l d → Takes (with_definitions_below (n + 1) (signature_of q.domain)).definitions i count → 0 < l → AtOwnLevel q n k i count l
 unfolding rank
-at_own_level q n k i count l slots d at h above room =
+at_own_level q n k i count l d at h above =
     let arities : List ℕ = map (λ (x : Definition). length x.params) q.domain.definitions in
     let below : i < n + 1 = let b = at.below in omega arith in
     let falls = rank-falls (plain_problem q) n k i (l - 1) (plain_definition d) at.there at.below (at.level ∙ (let e : l ≡ suc (l - 1) = omega arith in e)) in
@@ -167,7 +166,6 @@ at_own_level q n k i count l slots d at h above room =
     record {
       takes = sym (get-take (n + 1) i arities below) ∙ h;
       rank = less;
-      room = omega arith;
     }
 
 -- and of the definition that is read at that level
@@ -178,18 +176,6 @@ at_own q l i count items d s h r =
 
 -- ---- outside of definitions
 
-levels-plain : (ds : List Definition) → sum_by (λ x. x.levels) (map plain_definition ds) ≡ sum_by (λ x. x.levels) ds
-levels-plain [] = refl
-levels-plain (d ∷ ds) = sum_by-cons (λ (x : PlainDefinition). x.levels) (plain_definition d) (map plain_definition ds) ∙ (ap (λ (m : ℕ). d.levels + m) (levels-plain ds) ∙ sym (sum_by-cons (λ (x : Definition). x.levels) d ds))
-
 pub count-plain : (q : Problem) → length (plain_problem q).definitions ≡ length q.domain.definitions
 unfolding plain_problem
 count-plain q = length-map q.domain.definitions plain_definition
-
-pub room-whole : (q : Problem) (n slots : ℕ) → length q.domain.definitions ≤ n → 4128 ≤ slots → HaveSlots (plain_problem q) n 0 slots
-unfolding plain_problem rank
-room-whole q n slots h k =
-    let all : take n (map plain_definition q.domain.definitions) ≡ map plain_definition q.domain.definitions = take-past n (map plain_definition q.domain.definitions) (omega (arith, length-map q.domain.definitions plain_definition)) in
-    let sum : sum_by (λ (x : PlainDefinition). x.levels) (take n (map plain_definition q.domain.definitions)) ≡ sum_by (λ (x : Definition). x.levels) q.domain.definitions = ap (sum_by (λ (x : PlainDefinition). x.levels)) all ∙ levels-plain q.domain.definitions in
-    let few = q.domain_keeps.few_levels in
-    omega arith

@@ -1,7 +1,7 @@
 -- The tuples of a bound are the matches of its pattern.
 use Rattle.std.proofs.Common.{◌≡◌, ℕ, List, length, Bool, true, false, Option, Some, None, refl, sym, ◌∙◌, subst}
 use Rattle.std.specs.Prelude.{IfSome}
-use Rattle.tl_eval.specs.BoundTuples.{ReadsBound, ReadsWhatStands, ComesToNext, ReadsSameBound, HasOneForEach}
+use Rattle.tl_eval.specs.BoundTuples.{ReadsWhatStands, ComesToNext, ReadsSameBound, HasOneForEach}
 use Rattle.tl_eval.specs.InPlace.{in_place}
 use Rattle.tl_eval.specs.PatternOf.{world_read, IsPatternOf}
 use Rattle.tl_eval.specs.Reader.{IsNextTuple}

@@ -8,7 +8,7 @@ use Rattle.std.proofs.Math.Seq.{take-set-lt}
 use Rattle.tl_eval.specs.Frames.{slot_value, assignment_in}
 use Rattle.tl_syntax.specs.declared.value.Value.{Value}
 
-pub length-frame : (values : List (Option Value)) → length values ≡ 4128 → length (take 32 values) ≡ 32
+pub length-frame : (values : List (Option Value)) → length values ≡ 32 → length (take 32 values) ≡ 32
 length-frame values h = omega (arith, length-take 32 values)
 
 -- a slot of the frame that is set

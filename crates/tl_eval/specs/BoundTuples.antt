@@ -1,5 +1,5 @@
 -- The tuples of a bound in a world, as whoever goes over them sees them.
-use Rattle.std.specs.Prelude.{◌≡◌, List, length, Option, Some, None, IfSome}
+use Rattle.std.specs.Prelude.{◌≡◌, List, length, Option, IfSome}
 use Rattle.tl_syntax.specs.declared.bound.Bound.{Bound}
 use Rattle.tl_syntax.specs.declared.value.Value.{Value}
 use Rattle.tl_syntax.specs.declared.variable.Var.{Var}

@@ -8,6 +8,7 @@ pub mod Reading
 pub mod PatternOf
 pub mod Reader
 pub mod BoundTuples
+pub mod Binders
 pub mod LawsTuples
 pub mod Remembered
 pub mod Memory

@@ -1,8 +1,13 @@
 -- What the entries of a memory say.
-use Rattle.std.specs.Prelude.{◌==◌, ◌<◌, ◌≤◌, ℕ, List, [], ◌∷◌, length, take, cond}
+use Rattle.std.specs.Prelude.{◌==◌, ◌<◌, ◌≤◌, ℕ, Bool, List, [], ◌∷◌, length, take, cond}
+use Rattle.tl_eval.specs.declared.memory.Asked.{Asked}
 use Rattle.tl_eval.specs.declared.memory.Entry.{Entry}
 use Rattle.tl_eval.specs.Remembered.{Remembered, remembered}
 use Rattle.tl_syntax.specs.Lists.{Each}
+
+-- the truth of what is asked
+abbrev pub answered : Asked → Bool → Remembered
+answered a b = remembered a.number a.level a.values.now b
 
 -- what an entry says, in whatever generation
 abbrev pub said : Entry → Remembered

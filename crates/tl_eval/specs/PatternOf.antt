@@ -1,6 +1,8 @@
 -- The pattern of a bound: its known values put in, and its quantified variables by their positions.
-use Rattle.std.specs.Prelude.{◌≡◌, ◌==◌, ℕ, List, map, take, length, Bool, false, Option, Some, None}
+use Rattle.std.specs.Prelude.{◌≡◌, ◌==◌, ℕ, List, [], ◌∷◌, ◌++◌, map, take, length, Bool, true, false, Option, Some, None}
 use Rattle.std.specs.List.{position}
+use Rattle.tl_eval.specs.Frames.{assignment_in}
+use Rattle.tl_eval.specs.InPlace.{in_place}
 use Rattle.tl_syntax.specs.declared.bound.Bound.{Bound}
 use Rattle.tl_syntax.specs.declared.bound.Bound.TheVariants as bound
 use Rattle.tl_syntax.specs.declared.value.Value.{Value}
@@ -45,6 +47,14 @@ pub record HasParts (ss : List Var) (e : Assignment) (place : Bool) (name : ℕ)
 abbrev pub IsPatternOfArgs : List Var → Assignment → Bool → ℕ → List Arg → Option Pattern → Type 0
 IsPatternOfArgs ss e place name xs None = Among None (map (part_for ss e) xs)
 IsPatternOfArgs ss e place name xs (Some p) = HasParts ss e place name xs p
+
+-- the pattern in place, which keeps its name, is that of the fact of the arguments, where it counts, or some argument has no part
+abbrev pub PutsFact : List Var → List (Option Value) → List Arg → Bool → Pattern → Pattern → Type 0
+PutsFact ss frame xs counts old new = IsPatternOfArgs ss (assignment_in frame) false old.name xs (in_place counts new)
+
+-- so it is of the place of the arguments with its value
+abbrev pub PutsPlace : List Var → List (Option Value) → List Arg → Arg → Bool → Pattern → Pattern → Type 0
+PutsPlace ss frame xs x counts old new = IsPatternOfArgs ss (assignment_in frame) true old.name (xs ++ x ∷ []) (in_place counts new)
 
 -- the world that a bound speaks of
 abbrev pub world_read : Situation → Bound → World

@@ -5,13 +5,14 @@ use Rattle.tl_syntax.specs.declared.bound.Bound.{Bound}
 use Rattle.tl_syntax.specs.declared.value.Value.{Value}
 use Rattle.tl_syntax.specs.declared.variable.Var.{Var}
 use Rattle.tl_syntax.specs.Assignment.{Assignment, bind}
+use Rattle.tl_eval.specs.InPlace.{in_place}
 use Rattle.tl_eval.specs.PatternOf.{IsPatternOf}
 use Rattle.tl_terms.specs.Bounds.{bound_true}
 use Rattle.tl_terms.specs.Situation.{Situation}
 use Rattle.tl_world.specs.Next.{IsNext}
 use Rattle.tl_world.specs.declared.pattern.Match.{Match}
 use Rattle.tl_world.specs.declared.pattern.Pattern.{Pattern}
-use Rattle.tl_world.specs.Patterns.{IsLawful, tuple_of}
+use Rattle.tl_world.specs.Patterns.{IsLawful, tuple_in_place, tuple_of}
 
 -- of the tuples that make the bound true, it is the least one that comes after the first, where that is given
 abbrev pub IsNextTuple : Situation → List Var → Assignment → Bound → Option (List Value) → Option (List Value) → Type 0
@@ -25,6 +26,10 @@ IsNextMatch s ss e b after next = IsNextTuple s ss e b (option_map tuple_of afte
 pub record Reader : Type 0 where
   pub pattern : Option Pattern
   pub tuple : Option (List Value)
+
+-- the reader by the pattern and the tuple that stand in place, where they count
+abbrev pub reader_of : Bool → Pattern → Bool → Match → Reader
+reader_of has_pattern p begun m = record { pattern = in_place has_pattern p; tuple = tuple_in_place begun m }
 
 -- it reads the tuples that make the bound true, where all other variables have their values in e
 pub record ReadsTuples (ss : List Var) (e : Assignment) (b : Bound) (r : Reader) : Type 0 where

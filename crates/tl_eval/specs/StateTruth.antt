@@ -1,11 +1,10 @@
 -- What an evaluation of a formula answers where it is read, and what it needs.
-use Rattle.std.specs.Prelude.{◌≡◌, ◌≤◌, ◌+◌, ◌*◌, ℕ, List, Bool, Option, Result, IfOk, IfErr}
+use Rattle.std.specs.Prelude.{◌≡◌, ◌+◌, ℕ, List, Bool, Option, Result, IfOk, IfErr}
 use Rattle.tl_eval.specs.Frames.{assignment_in}
 use Rattle.tl_eval.specs.Notes.{AreInRange, Tells, Evaluates}
 use Rattle.tl_eval.specs.Remembered.{Remembered, AreTruths}
-use Rattle.tl_eval.specs.Reading.{situation_in, situation_read, looked_read, rank}
+use Rattle.tl_eval.specs.Reading.{situation_in, situation_read, looked_read}
 use Rattle.tl_eval.specs.declared.range.RangeNote.{RangeNote}
-use Rattle.tl_eval.specs.declared.reading.Reading.{Reading}
 use Rattle.tl_syntax.specs.Assignment.{Assignment}
 use Rattle.tl_syntax.specs.declared.value.Value.{Value}
 use Rattle.tl_syntax.specs.Fits.{Fits}
@@ -27,14 +26,6 @@ IsTruth p w n k e f result = Evaluates (state_true (situation_read p w n k) e f)
 pub record FitsAt (g : Signature) (n : ℕ) (f : FormulaTree) : Type 0 where
   pub around : List ℕ
   pub fits : Fits (with_definitions_below (n + 1) g) around f
-
--- so many slots are enough: a frame of this scope, and one for each body that can be open below it
-abbrev pub HaveSlots : PlainProblem → ℕ → ℕ → ℕ → Type 0
-HaveSlots p n k slots = 32 * (rank p n k + 1) ≤ slots
-
--- so many slots are enough where this is read in the task
-abbrev pub HasRoomIn : Task → Reading → ℕ → Type 0
-HasRoomIn task r slots = HaveSlots (plain_problem task.problem) r.number r.level slots
 
 -- whether the formula is true in a world of the task, under the frame
 abbrev pub true_in_frame : Task → World → List (Option Value) → FormulaTree → Bool

@@ -1,12 +1,14 @@
 -- What the evaluations of terms under a frame answer: a value, or a note of an operation that is looked at and past range.
-use Rattle.std.specs.Prelude.{ℕ, List, Bool, Option, Result, Ok}
+use Rattle.std.specs.Prelude.{ℕ, List, Bool, Option, Result, Ok, IfOk}
 use Rattle.tl_eval.specs.Frames.{assignment_in}
-use Rattle.tl_eval.specs.Notes.{Evaluates}
+use Rattle.tl_eval.specs.Notes.{AreInRange, Evaluates}
 use Rattle.tl_eval.specs.declared.range.Operator.{Operator}
 use Rattle.tl_eval.specs.declared.range.RangeNote.{RangeNote}
+use Rattle.tl_syntax.specs.declared.term.Term.{Term}
 use Rattle.tl_syntax.specs.declared.value.Cmp.{Cmp}
 use Rattle.tl_syntax.specs.declared.value.Value.{Value}
 use Rattle.tl_syntax.specs.declared.variable.Arg.{Arg}
+use Rattle.tl_syntax.specs.TreeOfTerm.{tree_of_term}
 use Rattle.tl_syntax.specs.Trees.{TermTree, TermTrees, arith}
 use Rattle.tl_terms.specs.Bounds.{arg_value, arg_values, fact_in, same_value}
 use Rattle.tl_terms.specs.Looked.{followed_if, leaves_open, looked_in_term, looked_in_terms}
@@ -40,8 +42,12 @@ abbrev pub IsPlainValue : List (Option Value) → TermTree → Option Value → 
 IsPlainValue frame t found = (w : World) → IsValue w frame t (Ok found)
 
 -- it is the value of the operation on the two terms, or a note of it
-abbrev pub IsOperationValue : World → List (Option Value) → Operator → TermTree → TermTree → Result (Option Value) RangeNote → Type 0
-IsOperationValue w frame o s t result = IsValue w frame (arith o.op s t o.at) result
+abbrev pub IsOperationValue : World → List (Option Value) → Operator → Term → Term → Result (Option Value) RangeNote → Type 0
+IsOperationValue w frame o s t result = IsValue w frame (arith o.op (tree_of_term s) (tree_of_term t) o.at) result
+
+-- where it is no note, no operation that is looked at for the term is past range
+abbrev pub IsValueInRange : World → List (Option Value) → TermTree → Result (Option Value) RangeNote → Type 0
+IsValueInRange w frame t result = IfOk result (λ v. AreInRange (looked_under w frame t))
 
 -- these are the values of the terms, or a note of them
 abbrev pub AreValues : World → List (Option Value) → TermTrees → Result (Option (List Value)) RangeNote → Type 0
@@ -62,6 +68,10 @@ looked_on_sides w frame cmp s t = followed_if (leaves_open cmp (value_under w fr
 -- it says whether the two terms stand in the comparison, or is a note of them
 abbrev pub IsComparison : World → List (Option Value) → Cmp → TermTree → TermTree → Result Bool RangeNote → Type 0
 IsComparison w frame cmp s t result = Evaluates (compared cmp (value_under w frame s) (value_under w frame t)) (looked_on_sides w frame cmp s t) result
+
+-- so it is of two terms that are no trees yet
+abbrev pub IsTermComparison : World → List (Option Value) → Cmp → Term → Term → Result Bool RangeNote → Type 0
+IsTermComparison w frame cmp s t result = IsComparison w frame cmp (tree_of_term s) (tree_of_term t) result
 
 -- whether the world gives the place of the arguments the value of the last, under the frame
 abbrev pub gives_value : World → List (Option Value) → ℕ → List Arg → Arg → Bool

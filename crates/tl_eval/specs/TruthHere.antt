@@ -8,7 +8,7 @@ use Rattle.tl_eval.specs.Frames.{current_assignment}
 use Rattle.tl_eval.specs.Notes.{Evaluates}
 use Rattle.tl_eval.specs.Reading.{situation_read, looked_read}
 use Rattle.tl_eval.specs.Remembered.{Remembered, AreTruths}
-use Rattle.tl_eval.specs.StateTruth.{IsTruth, FitsAt, HasRoomIn}
+use Rattle.tl_eval.specs.StateTruth.{IsTruth, FitsAt}
 use Rattle.tl_syntax.specs.declared.formula.Formulas.{Formulas}
 use Rattle.tl_syntax.specs.declared.junction.Junction.{Junction}
 use Rattle.tl_syntax.specs.declared.term.Terms.{Terms}
@@ -49,7 +49,7 @@ defined_atom n ts = defined n (tree_of_terms ts)
 abbrev pub AreTruthsHere : Here → List Remembered → Type 0
 AreTruthsHere here rs = AreTruths (problem_here here) here.world.now rs
 
--- the formula's truth under the first of the frames; or a note
+-- the formula's truth under the frame; or a note
 abbrev pub IsTruthHere : Here → List (Option Value) → FormulaTree → Result Bool RangeNote → Type 0
 IsTruthHere here frames f result = IsTruth (problem_here here) here.world.now here.reading.number here.reading.level (current_assignment frames) f result
 
@@ -65,7 +65,3 @@ FitsHere here f = FitsAt (signature_here here) here.reading.number f
 -- definition n can be named where this is read, and takes so many arguments
 abbrev pub TakesHere : Here → ℕ → ℕ → Type 0
 TakesHere here n count = Takes (with_definitions_below (here.reading.number + 1) (signature_here here)).definitions n count
-
--- so many slots are enough where this is read
-abbrev pub HasRoomHere : Here → ℕ → Type 0
-HasRoomHere here slots = HasRoomIn here.task.now here.reading slots

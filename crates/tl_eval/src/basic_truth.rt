@@ -1,14 +1,14 @@
 // The truth of formulas that have no formula below them.
-ghost use Rattle.std.specs.Prelude.{◌≡◌, ◌≤◌, [], length, Some, Ok, IfSome};
+ghost use Rattle.std.specs.Prelude.{◌≡◌, ◌≤◌, [], length, Some, IfSome};
 ghost use Rattle.tl_eval.specs.Frames.{assignment_in};
 ghost use Rattle.tl_eval.specs.InPlace.{in_place};
-ghost use Rattle.tl_eval.specs.Plain.{IsPlainComparison};
+ghost use Rattle.tl_eval.specs.Plain.{IsPlainAtom, IsPlainComparison};
 ghost use Rattle.tl_eval.specs.Small.{HasFewArguments, HaveFewArguments};
-ghost use Rattle.tl_eval.specs.TermValues.{gives_value, IsAtomTruth, IsComparison};
+ghost use Rattle.tl_eval.specs.TermValues.{gives_value, IsAtomTruth, IsTermComparison};
 ghost use Rattle.tl_syntax.specs.Fits.{term_count};
 ghost use Rattle.tl_syntax.specs.TreeOfTerm.{tree_of_term, tree_of_terms};
 ghost use Rattle.tl_terms.specs.Bounds.{arg_value, arg_values, fact_in, same_value};
-ghost use Rattle.tl_terms.specs.Looked.{is_defined_integer, leaves_open};
+ghost use Rattle.tl_terms.specs.Looked.{leaves_open};
 ghost use Rattle.tl_terms.specs.Terms.{prepend};
 ghost use Rattle.tl_terms.specs.Truth.{compared};
 
@@ -134,7 +134,7 @@ pub(crate) fn plain_atom(
     pred: u32,
     args: &Terms,
 ) -> Option<bool>
-    ensures { IfSome result (λ b. IsAtomTruth w.now frame.now pred (tree_of_terms args.now) (Ok b)) }
+    ensures { IfSome result (IsPlainAtom w.now frame.now pred args.now) }
 {
     match args.as_slice() {
         [only] => match plain_value(frame, only) {
@@ -177,7 +177,7 @@ fn sides_compared(
 ) -> Result<bool, RangeNote>
     requires left { HasFewArguments (tree_of_term left.now) }
     requires right { HasFewArguments (tree_of_term right.now) }
-    ensures { IsComparison w.now frame.now cmp (tree_of_term left.now) (tree_of_term right.now) result }
+    ensures { IsTermComparison w.now frame.now cmp left.now right.now result }
 {
     match value_of_term(w, frame, left) {
         Ok(first) => {
@@ -220,7 +220,7 @@ pub(crate) fn compare_true(
 ) -> Result<bool, RangeNote>
     requires left { HasFewArguments (tree_of_term left.now) }
     requires right { HasFewArguments (tree_of_term right.now) }
-    ensures { IsComparison w.now frame.now cmp (tree_of_term left.now) (tree_of_term right.now) result }
+    ensures { IsTermComparison w.now frame.now cmp left.now right.now result }
 {
     match plain_comparison(frame, cmp, left, right) {
         Some(truth) => Ok(truth),

@@ -1,11 +1,10 @@
-// Values of variables, scope by scope.
-ghost use Rattle.std.specs.Prelude.{◌≡◌, [], ◌<◌, ◌≤◌, ◌==◌, ℕ, cond, length, IfOk, Some, None, slice_set};
-ghost use Rattle.tl_eval.specs.Frames.{assignment_in, given_back, AgreeElsewhere, AreKept, GivesBack};
-ghost use Rattle.tl_syntax.specs.Assignment.{bind};
+// Values of variables, slot by slot.
+ghost use Rattle.std.specs.Prelude.{◌≡◌, [], ◌<◌, ◌≤◌, ℕ, length, IfOk, Some, None, slice_set};
+ghost use Rattle.tl_eval.specs.Frames.{assignment_in, AreKept, Binds, ChangesOnly, GivesBack, GivesSlot, PutsBack};
 ghost use Rattle.tl_syntax.specs.Lists.{Each};
 
 use crate::kept::{give_back, keep};
-use crate::memory::{Memory, TRIES};
+use crate::memory::{Memory, PLACES};
 use crate::scope::{put_in_scope, restore, saved};
 use crate::term_value::value_in;
 use std::alloc::Global;
@@ -14,20 +13,11 @@ use std::mem;
 use tl_syntax::{NoMemory, Value, Var};
 use tl_world::Task;
 
-/// How many variables a frame has.
+/// How many slots the frame has.
 pub(crate) const SLOTS: usize = 32;
 
-/// How many frames there are: one of the caller, and one for each level of a definition.
-pub(crate) const FRAMES: usize = 129;
-
-/// How many places there are for truths of definitions, some 290 KiB.
-const PLACES: usize = 2047 + TRIES;
-
-/// How many there are in a copy, some 36 KiB.
-const FEW_PLACES: usize = 255 + TRIES;
-
-/// Frames of variable values. A frame holds the variables of one scope, by their slots; the body of a definition has a frame of its own.
-/// Contracts see the caller's frame: for each of its 32 slots the value, where it has one. Beside the frames stands what one call of `state` remembers of definitions, or calls of `state_in` in one world, to which it is lent.
+/// A frame of variable values. It holds the variables of one scope, by their slots; while the body of a definition is read, its own stand there, and then the caller's again.
+/// Contracts see the frame: for each of its 32 slots the value, where it has one. Beside it stands what one call of `state` remembers of definitions, or calls of `state_in` in one world, to which it is lent.
 #[derive(Drop)]
 pub struct Env {
     pub(crate) values: Vec<Option<Value>>,
@@ -46,37 +36,36 @@ impl Model for Env {
 
     ghost view = { λ env. take 32 env.values.items };
 
-    ghost invariant = { λ env. length env.values.items ≡ 4128 };
+    ghost invariant = { λ env. length env.values.items ≡ 32 };
 }
 
 impl Env {
-    /// All frames, with no value in any slot. They are reserved once, some 390 KiB in all, and no evaluation takes memory.
+    /// No value in any slot. What there is to remember is reserved once, some 290 KiB, and no evaluation takes memory.
     pub fn new(alloc: Global) -> Result<Env, NoMemory>
         ensures slots { IfOk result (λ env. length env ≡ 32) }
         ensures empty { IfOk result (λ env. (q : ℕ) → assignment_in env q ≡ None) }
     {
-        Env::with_places(alloc, PLACES)
+        let memory = Memory::new(alloc, PLACES)?;
+        Env::with_memory(alloc, memory)
     }
 
-    /// `new` for the evaluations of one task. Where nothing is defined there is little to remember, and some 140 KiB are reserved in place of 390.
+    /// `new` for the evaluations of one task. Where nothing is defined there is nothing to remember, and less than a KiB is reserved.
     pub fn for_task(alloc: Global, task: &Task) -> Result<Env, NoMemory>
         ensures slots { IfOk result (λ env. length env ≡ 32) }
         ensures empty { IfOk result (λ env. (q : ℕ) → assignment_in env q ≡ None) }
     {
         if task.problem.domain.definitions.is_empty() {
-            return Env::with_places(alloc, FEW_PLACES);
+            return Env::with_memory(alloc, Memory::without_places(alloc));
         }
         Env::new(alloc)
     }
 
-    /// All frames, with no value in any slot, and so many places for truths of definitions.
-    fn with_places(alloc: Global, places: usize) -> Result<Env, NoMemory>
-        requires { 8 ≤ places }
+    /// No value in any slot, and a memory for truths of definitions.
+    fn with_memory(alloc: Global, memory: Memory) -> Result<Env, NoMemory>
         ensures slots { IfOk result (λ env. length env ≡ 32) }
         ensures empty { IfOk result (λ env. (q : ℕ) → assignment_in env q ≡ None) }
     {
-        let values = vec![in alloc; None; FRAMES * SLOTS]?;
-        let memory = Memory::new(alloc, places)?;
+        let values = vec![in alloc; None; SLOTS]?;
         Ok(Env { values, memory })
     }
 
@@ -84,7 +73,7 @@ impl Env {
     pub fn put(&mut self, slot: u32, value: Value)
         requires { slot < 32 }
         ensures value { self.new ≡ slice_set self.old slot (Some value) }
-        ensures others { (q : ℕ) → assignment_in self.new q ≡ cond (q == slot) (Some value) (assignment_in self.old q) }
+        ensures others { GivesSlot slot value self.old self.new }
     {
         self.values[slot as usize] = Some(value);
     }
@@ -111,8 +100,8 @@ impl Env {
     pub fn put_values(&mut self, vars: &[Var], values: &[Value])
         requires slots { Each (λ s. s.slot < 32) vars.now }
         requires same { length vars.now ≡ length values.now }
-        ensures values { assignment_in self.new ≡ bind vars.now values.now (assignment_in self.old) }
-        ensures elsewhere { AgreeElsewhere vars.now (assignment_in self.new) (assignment_in self.old) }
+        ensures values { Binds vars.now values.now self.old self.new }
+        ensures elsewhere { ChangesOnly vars.now self.old self.new }
         ensures slots { length self.new ≡ length self.old }
     {
         put_in_scope(self.values.as_mut_slice(), vars, values);
@@ -145,20 +134,20 @@ impl Env {
     pub fn give_back(&mut self, vars: &[Var], values: &[Option<Value>; 9])
         requires slots { Each (λ s. s.slot < 32) vars.now }
         requires few { length vars.now ≤ 9 }
-        ensures values { assignment_in self.new ≡ given_back vars.now values.now (assignment_in self.old) }
+        ensures values { PutsBack vars.now values.now self.old self.new }
         ensures frame { GivesBack vars.now values.now self.old self.new }
     {
         give_back(self.values.as_mut_slice(), vars, values);
     }
 
-    /// New frames of which the caller's has the same values, with less room to remember, some 140 KiB in all. It fails for want of memory alone.
+    /// A new frame that has the same values, with less room to remember, at most some 37 KiB. It fails for want of memory alone.
     pub fn copy(&self, alloc: Global) -> Result<Env, NoMemory>
         ensures { IfOk result (λ copy. copy ≡ self.now) }
     {
-        let mut values = vec![in alloc; None; FRAMES * SLOTS]?;
+        let mut values = vec![in alloc; None; SLOTS]?;
         let frame = saved(self.values.as_slice());
         restore(values.as_mut_slice(), &frame);
-        let memory = Memory::new(alloc, FEW_PLACES)?;
+        let memory = self.memory.smaller(alloc)?;
         Ok(Env { values, memory })
     }
 

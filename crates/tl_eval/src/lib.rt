@@ -1,9 +1,10 @@
 //! The values of terms and the truth of state formulas in a world.
 //!
 //! - `basic_truth`: the truth of formulas that have no formula below them.
+//! - `binder`: variables and what they range over.
 //! - `bound_truth`: the truth of bounds.
 //! - `bound_tuples`: the tuples of a bound in a world, one after another.
-//! - `env`: frames of variable values.
+//! - `env`: a frame of variable values.
 //! - `here`: where a formula is read, in a world.
 //! - `kept`: the values of a quantifier's own slots, kept while its tuples stand there.
 //! - `laws`: what is proved of the tuples of bounds.
@@ -15,13 +16,14 @@
 //! - `reader`: the same, where the world is given at each step.
 //! - `reading`: where a formula is read.
 //! - `row`: a few values, kept without memory.
-//! - `scope`: the frames of scopes.
+//! - `scope`: the frame of the scope that is read.
 //! - `state_truth`: the truth of state formulas.
 //! - `term_value`: the values of terms.
 //! - `tuples`: the next tuple of a bound.
 #![tactic(auto)]
 
 mod basic_truth;
+mod binder;
 mod bound_truth;
 mod bound_tuples;
 mod env;
@@ -41,6 +43,7 @@ mod state_truth;
 mod term_value;
 mod tuples;
 
+pub use binder::Binder;
 pub use bound_truth::bound_holds;
 pub use bound_tuples::{BoundPattern, BoundTuples};
 pub use env::Env;

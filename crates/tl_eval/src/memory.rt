@@ -1,7 +1,7 @@
 // The truths of definitions that are remembered in one world.
 ghost use Rattle.std.specs.Prelude.{◌≡◌, ◌≤◌, ◌<◌, ◌+◌, [], length, take, IfOk, IfSome, IsTrue};
-ghost use Rattle.tl_eval.specs.Memory.{said};
-ghost use Rattle.tl_eval.specs.Remembered.{remembered, AreFrom};
+ghost use Rattle.tl_eval.specs.Memory.{answered, said};
+ghost use Rattle.tl_eval.specs.Remembered.{AreFrom};
 ghost use Rattle.tl_syntax.specs.Lists.{Among};
 
 use std::alloc::Global;
@@ -11,8 +11,25 @@ use tl_syntax::{NoMemory, Value};
 /// At how many places, one after another, a truth may stand.
 pub(crate) const TRIES: usize = 8;
 
+/// How many places there are, some 290 KiB.
+pub(crate) const PLACES: usize = 2047 + TRIES;
+
+/// How many there are in a smaller one, some 36 KiB.
+const FEW_PLACES: usize = 255 + TRIES;
+
 /// What hashes are multiplied by: an odd number whose bits are mixed, from the golden ratio.
 const MULTIPLIER: u64 = 0x9e37_79b9_7f4a_7c15;
+
+/// What is asked of a memory: whether a definition holds of values.
+#[derive(Clone, Copy)]
+pub(crate) struct Asked<'a> {
+    /// The number of the definition.
+    pub(crate) number: u32,
+    /// The level at which it is read.
+    pub(crate) level: u32,
+    /// The values of its parameters.
+    pub(crate) values: &'a [Value],
+}
 
 /// A truth of a definition at one place of a memory.
 #[derive(Clone, Copy)]
@@ -46,15 +63,16 @@ impl Entry {
         }
     }
 
-    /// Makes it the truth of a definition at a level, put there in a generation. It takes no memory.
-    fn set(&mut self, generation: u32, number: u32, level: u32, values: &[Value], truth: bool)
-        requires { length values.now ≤ 8 }
-        ensures said { said self.new ≡ remembered number level values.now truth }
+    /// Makes it the truth of what is asked, put there in a generation. It takes no memory.
+    fn set(&mut self, generation: u32, asked: &Asked, truth: bool)
+        requires { length asked.now.values.now ≤ 8 }
+        ensures said { said self.new ≡ answered asked.now truth }
         ensures generation { self.new.generation ≡ generation }
     {
+        let values = asked.values;
         self.generation = generation;
-        self.number = number;
-        self.level = level;
+        self.number = asked.number;
+        self.level = asked.level;
         self.truth = truth;
         self.count = values.len() as u8;
         self.values[..values.len()].copy_from_slice(values);
@@ -71,15 +89,17 @@ impl Entry {
         &self.values[..values.len()] == values
     }
 
-    /// Whether it says the truth of the definition at the level for these values. It takes no memory.
-    fn is_of(&self, number: u32, level: u32, values: &[Value]) -> bool
-        requires { length values.now ≤ 8 }
-        ensures { IsTrue result → said self.now ≡ remembered number level values.now self.now.truth }
+    /// Whether it says the truth of what is asked. It takes no memory.
+    fn is_of(&self, asked: &Asked) -> bool
+        requires { length asked.now.values.now ≤ 8 }
+        ensures { IsTrue result → said self.now ≡ answered asked.now self.now.truth }
     {
+        let number = asked.number;
+        let level = asked.level;
         if self.number != number || self.level != level {
             return false;
         }
-        self.has_values(values)
+        self.has_values(asked.values)
     }
 }
 
@@ -96,12 +116,12 @@ fn word_of(value: Value) -> u64 {
     }
 }
 
-/// The hash of a definition at a level with values, for `find` and `put`. It takes no memory.
+/// The hash of what is asked, for `find` and `put`. It takes no memory.
 ///
 /// What is remembered does not depend on it: it only says where to look.
-pub(crate) fn hash_of(number: u32, level: u32, values: &[Value]) -> u64 {
-    let mut hash = mixed(number as u64, level as u64);
-    for value in values.iter() {
+pub(crate) fn hash_of(asked: &Asked) -> u64 {
+    let mut hash = mixed(asked.number as u64, asked.level as u64);
+    for value in asked.values.iter() {
         hash = mixed(hash, word_of(*value));
     }
     hash
@@ -175,6 +195,16 @@ impl Memory {
         }
     }
 
+    /// Nothing remembered, in a table with fewer places, or with none where this one has none.
+    pub(crate) fn smaller(&self, alloc: Global) -> Result<Memory, NoMemory>
+        ensures { IfOk result (λ m. m ≡ []) }
+    {
+        if self.entries.is_empty() {
+            return Ok(Memory::without_places(alloc));
+        }
+        Memory::new(alloc, FEW_PLACES)
+    }
+
     /// Forgets all: no entry is of the next generation. It takes no memory, and a time that does not depend on the table's size, but for one call of 2^32.
     pub(crate) fn forget_all(&mut self)
         ensures { self.new ≡ [] }
@@ -186,10 +216,10 @@ impl Memory {
         self.generation += 1;
     }
 
-    /// Whether a definition at a level holds of the values, where that is remembered. It takes no memory.
-    pub(crate) fn find(&self, hash: u64, number: u32, level: u32, values: &[Value]) -> Option<bool>
-        requires { length values.now ≤ 8 }
-        ensures { IfSome result (λ b. Among (remembered number level values.now b) self.now) }
+    /// The truth of what is asked, where that is remembered. It takes no memory.
+    pub(crate) fn find(&self, hash: u64, asked: &Asked) -> Option<bool>
+        requires { length asked.now.values.now ≤ 8 }
+        ensures { IfSome result (λ b. Among (answered asked.now b) self.now) }
     {
         if self.entries.is_empty() {
             return None;
@@ -200,17 +230,17 @@ impl Memory {
             if entry.generation != self.generation {
                 return None;
             }
-            if entry.is_of(number, level, values) {
+            if entry.is_of(asked) {
                 return Some(entry.truth);
             }
         }
         None
     }
 
-    /// Remembers whether a definition at a level holds of the values, where there is a place for it. Something else may be forgotten for it. It takes no memory.
-    pub(crate) fn put(&mut self, hash: u64, number: u32, level: u32, values: &[Value], truth: bool)
-        requires { length values.now ≤ 8 }
-        ensures { AreFrom (remembered number level values.now truth) self.old self.new }
+    /// Remembers the truth of what is asked, where there is a place for it. Something else may be forgotten for it. It takes no memory.
+    pub(crate) fn put(&mut self, hash: u64, asked: &Asked, truth: bool)
+        requires { length asked.now.values.now ≤ 8 }
+        ensures { AreFrom (answered asked.now truth) self.old self.new }
     {
         if self.entries.is_empty() {
             return;
@@ -219,6 +249,6 @@ impl Memory {
         let home = home_of(hash, self.entries.len());
         let at = place_from(self.entries.as_slice(), generation, home);
         let entry = &mut self.entries[at];
-        entry.set(generation, number, level, values, truth);
+        entry.set(generation, asked, truth);
     }
 }

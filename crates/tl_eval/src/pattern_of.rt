@@ -1,9 +1,9 @@
 // The pattern of a bound.
 ghost use Rattle.std.specs.List.{position};
-ghost use Rattle.std.specs.Prelude.{◌≡◌, ◌==◌, ◌≤◌, ◌∷◌, [], ◌++◌, length, true, false};
+ghost use Rattle.std.specs.Prelude.{◌≡◌, ◌==◌, ◌≤◌, length};
 ghost use Rattle.tl_eval.specs.Frames.{assignment_in};
 ghost use Rattle.tl_eval.specs.InPlace.{in_place};
-ghost use Rattle.tl_eval.specs.PatternOf.{part_for, AreParts, IsPatternOfArgs, IsPatternOf};
+ghost use Rattle.tl_eval.specs.PatternOf.{part_for, AreParts, IsPatternOf, PutsFact, PutsPlace};
 ghost use Rattle.tl_syntax.specs.BoundVariables.{args_of, DifferInSlot, OccurIn};
 
 use crate::term_value::value_in;
@@ -53,7 +53,7 @@ fn put_parts(frame: &[Option<Value>], vars: &[Var], args: &[Arg], parts: &mut [P
 fn put_fact(frame: &[Option<Value>], vars: &[Var], args: &[Arg], pattern: &mut Pattern) -> bool
     requires few { length vars.now ≤ 9 }
     requires short { length args.now ≤ 9 }
-    ensures { IsPatternOfArgs vars.now (assignment_in frame.now) false pattern.old.name args.now (in_place result pattern.new) }
+    ensures { PutsFact vars.now frame.now args.now result pattern.old pattern.new }
 {
     pattern.place = false;
     pattern.len = args.len() as u32;
@@ -71,7 +71,7 @@ fn put_place(
 ) -> bool
     requires few { length vars.now ≤ 9 }
     requires short { length args.now ≤ 8 }
-    ensures { IsPatternOfArgs vars.now (assignment_in frame.now) true pattern.old.name (args.now ++ value.now ∷ []) (in_place result pattern.new) }
+    ensures { PutsPlace vars.now frame.now args.now value.now result pattern.old pattern.new }
 {
     pattern.place = true;
     pattern.len = args.len() as u32 + 1;

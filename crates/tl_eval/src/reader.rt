@@ -27,12 +27,11 @@ pub struct TupleReader {
 
 impl Model for TupleReader {
     ghost use Rattle.tl_eval.specs.InPlace.{in_place};
-    ghost use Rattle.tl_eval.specs.Reader.{Reader, CanGoOn};
-    ghost use Rattle.tl_world.specs.Patterns.{tuple_in_place};
+    ghost use Rattle.tl_eval.specs.Reader.{Reader, CanGoOn, reader_of};
 
     ghost Value = { Reader };
 
-    ghost view = { λ r. record { pattern = in_place r.has_pattern r.pattern; tuple = tuple_in_place r.begun r.tuple } };
+    ghost view = { λ r. reader_of r.has_pattern r.pattern r.begun r.tuple };
 
     ghost invariant = { λ r. CanGoOn (in_place r.has_pattern r.pattern) r.begun r.tuple };
 }

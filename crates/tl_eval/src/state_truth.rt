@@ -1,18 +1,17 @@
 // The truth of state formulas.
-ghost use Rattle.std.specs.Prelude.{◌≡◌, ◌<◌, length, take, []};
-ghost use Rattle.tl_eval.specs.Frames.{current_assignment, AgreeElsewhere};
-ghost use Rattle.tl_eval.specs.StateTruth.{IsTruthFound, IsFoundInRange, IsNoteOf, HasRoomIn, IsWholeTruth, Remembers};
-ghost use Rattle.tl_eval.specs.TruthHere.{definitions_here, joined_formula, defined_atom, quantified_formula, AreTruthsHere, IsTruthHere, IsDefinitionTruth, FitsHere, TakesHere, HasRoomHere};
+ghost use Rattle.std.specs.Prelude.{◌≡◌, ◌<◌, ◌≤◌, length, take, []};
+ghost use Rattle.tl_eval.specs.Frames.{ChangesOnlyInScope};
+ghost use Rattle.tl_eval.specs.StateTruth.{IsTruthFound, IsFoundInRange, IsNoteOf, IsWholeTruth, Remembers};
+ghost use Rattle.tl_eval.specs.TruthHere.{definitions_here, joined_formula, defined_atom, quantified_formula, AreTruthsHere, IsTruthHere, IsDefinitionTruth, FitsHere, TakesHere};
 ghost use Rattle.tl_syntax.specs.Fits.{Fits};
 ghost use Rattle.tl_syntax.specs.Signature.{signature_of, Takes};
 ghost use Rattle.tl_syntax.specs.StateFormulas.{IsState};
 ghost use Rattle.tl_syntax.specs.TreeOfFormula.{tree_of_formula};
 
 use crate::basic_truth::{atom_true, compare_true, fact_true, place_true};
-use crate::env::SLOTS;
 use crate::here::Here;
 use crate::kept::{give_back, keep};
-use crate::memory::{Memory, hash_of};
+use crate::memory::{Asked, Memory, hash_of};
 use crate::quantified::Quantified;
 use crate::reading::Reading;
 use crate::row::Row;
@@ -22,7 +21,7 @@ use crate::{BoundPattern, Env, RangeNote};
 use tl_syntax::{Formula, Formulas, Junction, Terms, Value};
 use tl_world::{Task, World};
 
-/// The truth of a formula under the first frame, where it is read. The frame stays as it was. It takes no memory.
+/// The truth of a formula under the frame, where it is read. The frame stays as it was. It takes no memory.
 #[cycle(truth_of)]
 fn truth_of(
     here: &Here,
@@ -31,7 +30,7 @@ fn truth_of(
     f: &Formula,
 ) -> Result<bool, RangeNote>
     requires fits { FitsHere here.now (tree_of_formula f.now) }
-    requires room { HasRoomHere here.now (length frames.old) }
+    requires room { 32 ≤ length frames.old }
     requires truths { AreTruthsHere here.now memory.old }
     ensures truth { IsTruthHere here.now frames.old (tree_of_formula f.now) result }
     ensures frame { take 32 frames.new ≡ take 32 frames.old }
@@ -108,7 +107,7 @@ fn parts_true(
     parts: &Formulas,
 ) -> Result<bool, RangeNote>
     requires fits { FitsHere here.now (joined_formula junction parts.now) }
-    requires room { HasRoomHere here.now (length frames.old) }
+    requires room { 32 ≤ length frames.old }
     requires truths { AreTruthsHere here.now memory.old }
     ensures truth { IsTruthHere here.now frames.old (joined_formula junction parts.now) result }
     ensures frame { take 32 frames.new ≡ take 32 frames.old }
@@ -139,7 +138,7 @@ fn defined_true(
     args: &Terms,
 ) -> Result<bool, RangeNote>
     requires fits { FitsHere here.now (defined_atom number args.now) }
-    requires room { HasRoomHere here.now (length frames.old) }
+    requires room { 32 ≤ length frames.old }
     requires truths { AreTruthsHere here.now memory.old }
     ensures truth { IsTruthHere here.now frames.old (defined_atom number args.now) result }
     ensures frame { take 32 frames.new ≡ take 32 frames.old }
@@ -169,7 +168,7 @@ fn body_true(
     values: &[Value],
 ) -> Result<bool, RangeNote>
     requires takes { TakesHere here.now number (length values.now) }
-    requires room { HasRoomHere here.now (length frames.old) }
+    requires room { 32 ≤ length frames.old }
     requires truths { AreTruthsHere here.now memory.old }
     ensures truth { IsDefinitionTruth here.now here.now.reading number values.now result }
     ensures frame { take 32 frames.new ≡ take 32 frames.old }
@@ -180,20 +179,25 @@ fn body_true(
     if level == 0 {
         return Ok(false);
     }
-    let hash = hash_of(number, level, values);
-    if let Some(truth) = memory.find(hash, number, level, values) {
+    let asked = Asked {
+        number,
+        level,
+        values,
+    };
+    let hash = hash_of(&asked);
+    if let Some(truth) = memory.find(hash, &asked) {
         return Ok(truth);
     }
     match opened_true(here, frames, memory, Reading { number, level }, values) {
         Ok(truth) => {
-            memory.put(hash, number, level, values, truth);
+            memory.put(hash, &asked, truth);
             Ok(truth)
         }
         Err(note) => Err(note),
     }
 }
 
-/// Whether the body of a definition, which is read at a level above 0, is true of the values: it is read one level lower, in the next frame, of which it looks at its own variables alone. It takes no memory.
+/// Whether the body of a definition, which is read at a level above 0, is true of the values: it is read one level lower, in the frame, of which it looks at its own variables alone. The slots of its parameters get back what they had. It takes no memory.
 #[cycle(truth_of)]
 fn opened_true(
     here: &Here,
@@ -204,7 +208,7 @@ fn opened_true(
 ) -> Result<bool, RangeNote>
     requires takes { Takes (definitions_here here.now) reading.number (length values.now) }
     requires level { 0 < reading.level }
-    requires room { HasRoomIn here.now.task.now reading (length frames.old) }
+    requires room { 32 ≤ length frames.old }
     requires truths { AreTruthsHere here.now memory.old }
     ensures truth { IsDefinitionTruth here.now reading reading.number values.now result }
     ensures frame { take 32 frames.new ≡ take 32 frames.old }
@@ -219,12 +223,16 @@ fn opened_true(
             level: reading.level - 1,
         },
     };
-    let inner = &mut frames[SLOTS..];
-    put_in_scope(inner, definition.params.as_slice(), values);
-    truth_of(&below, inner, memory, &definition.body)
+    let params = definition.params.as_slice();
+    let mut outer = [None; 9];
+    keep(frames, params, &mut outer);
+    put_in_scope(frames, params, values);
+    let truth = truth_of(&below, frames, memory, &definition.body);
+    give_back(frames, params, &outer);
+    truth
 }
 
-/// The truth of a universal or an existential formula. Its tuples stand in the first frame one after another, which gets the values of their slots back. It takes no memory.
+/// The truth of a universal or an existential formula. Its tuples stand in the frame one after another, which gets the values of their slots back. It takes no memory.
 #[cycle(truth_of)]
 #[inline(never)]
 fn quantified_true(
@@ -234,7 +242,7 @@ fn quantified_true(
     quantified: &Quantified,
 ) -> Result<bool, RangeNote>
     requires fits { FitsHere here.now (quantified_formula quantified.now) }
-    requires room { HasRoomHere here.now (length frames.old) }
+    requires room { 32 ≤ length frames.old }
     requires truths { AreTruthsHere here.now memory.old }
     ensures truth { IsTruthHere here.now frames.old (quantified_formula quantified.now) result }
     ensures frame { take 32 frames.new ≡ take 32 frames.old }
@@ -247,7 +255,7 @@ fn quantified_true(
     truth
 }
 
-/// The truth of a quantified formula: the first tuple whose instance has the truth that decides it. The last tuple is left in the first frame. It takes no memory.
+/// The truth of a quantified formula: the first tuple whose instance has the truth that decides it. The last tuple is left in the frame. It takes no memory.
 #[cycle(truth_of)]
 fn tuples_true(
     here: &Here,
@@ -256,11 +264,10 @@ fn tuples_true(
     quantified: &Quantified,
 ) -> Result<bool, RangeNote>
     requires fits { FitsHere here.now (quantified_formula quantified.now) }
-    requires room { HasRoomHere here.now (length frames.old) }
+    requires room { 32 ≤ length frames.old }
     requires truths { AreTruthsHere here.now memory.old }
     ensures truth { IsTruthHere here.now frames.old (quantified_formula quantified.now) result }
-    ensures others { AgreeElsewhere quantified.now.vars.now (current_assignment frames.new)
-        (current_assignment frames.old) }
+    ensures others { ChangesOnlyInScope quantified.now.vars.now frames.old frames.new }
     ensures truths { AreTruthsHere here.now memory.new }
 {
     let stop = quantified.junction.deciding_truth();

@@ -1,9 +1,9 @@
 // The values of terms.
 ghost use Rattle.std.specs.Prelude.{◌≡◌, ◌≤◌, [], IfOk, IfErr, IfSome};
 ghost use Rattle.tl_eval.specs.Frames.{assignment_in};
-ghost use Rattle.tl_eval.specs.Notes.{integer_found, row_found, AreInRange, Tells};
+ghost use Rattle.tl_eval.specs.Notes.{integer_found, row_found, Tells};
 ghost use Rattle.tl_eval.specs.Small.{HasFewArguments, HaveFewArguments};
-ghost use Rattle.tl_eval.specs.TermValues.{value_under, looked_under, IsPlainValue, IsValue, AreValues, IsPlaceValue, IsOperationValue};
+ghost use Rattle.tl_eval.specs.TermValues.{value_under, looked_under, IsPlainValue, IsValue, IsValueInRange, AreValues, IsPlaceValue, IsOperationValue};
 ghost use Rattle.tl_syntax.specs.Fits.{TermFits, term_count};
 ghost use Rattle.tl_syntax.specs.Signature.{signature_of};
 ghost use Rattle.tl_syntax.specs.TreeOfTerm.{tree_of_term, tree_of_terms};
@@ -81,7 +81,7 @@ fn value_of_operation(
 ) -> Result<Option<Value>, RangeNote>
     requires left { HasFewArguments (tree_of_term left.now) }
     requires right { HasFewArguments (tree_of_term right.now) }
-    ensures { IsOperationValue w.now frame.now operator (tree_of_term left.now) (tree_of_term right.now) result }
+    ensures { IsOperationValue w.now frame.now operator left.now right.now result }
 {
     match integer_of(value_of_term(w, frame, left)) {
         Ok(Some(a)) => match integer_of(value_of_term(w, frame, right)) {
@@ -157,7 +157,7 @@ pub(crate) fn put_values_of_terms(
 pub fn term(task: &Task, w: &World, env: &mut Env, t: &Term) -> Result<Option<Value>, RangeNote>
     requires fits { TermFits (signature_of task.now.problem.domain) (tree_of_term t.now) }
     ensures value { IfOk result (λ v. v ≡ value_under w.now env.old (tree_of_term t.now)) }
-    ensures in_range { IfOk result (λ v. AreInRange (looked_under w.now env.old (tree_of_term t.now))) }
+    ensures in_range { IsValueInRange w.now env.old (tree_of_term t.now) result }
     ensures note { IfErr result (λ n. Tells (looked_under w.now env.old (tree_of_term t.now)) n) }
     ensures frame { env.new ≡ env.old }
 {

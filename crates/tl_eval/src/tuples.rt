@@ -1,16 +1,15 @@
 // The next tuple of a bound.
 ghost use Rattle.std.specs.Prelude.{◌≡◌, length, IfSome};
-ghost use Rattle.tl_eval.specs.Frames.{assignment_in};
+ghost use Rattle.tl_eval.specs.Binders.{IsNextIn};
 ghost use Rattle.tl_eval.specs.PatternOf.{world_read};
-ghost use Rattle.tl_eval.specs.Reader.{IsNextMatch};
 ghost use Rattle.tl_eval.specs.Reading.{situation_in};
 ghost use Rattle.tl_syntax.specs.BoundVariables.{DifferInSlot, OccurIn};
 ghost use Rattle.tl_syntax.specs.Fits.{BoundFits};
 ghost use Rattle.tl_syntax.specs.Signature.{signature_of};
 
-use crate::Env;
 use crate::pattern_of::{no_pattern, put_pattern_of};
-use tl_syntax::{Bound, Value, Var, Vars};
+use crate::{Binder, Env};
+use tl_syntax::{Bound, Value};
 use tl_world::{Match, Task, World};
 
 /// The world that a bound speaks of: the current one, that of the goal list, or that of its negated facts. It takes no memory.
@@ -26,31 +25,30 @@ pub(crate) fn world_of_bound<'a>(task: &'a Task, w: &'a World, b: &Bound) -> &'a
     }
 }
 
-/// `next_tuple` for variables and a frame that are given as slices. It takes no memory.
-pub(crate) fn next_tuple_in(
+/// `next_tuple` for a frame that is given as a slice. It takes no memory.
+fn next_tuple_in(
     task: &Task,
     w: &World,
     frame: &[Option<Value>],
-    vars: &[Var],
-    b: &Bound,
+    binder: &Binder,
     after: Option<Match>,
 ) -> Option<Match>
-    requires differ { DifferInSlot vars.now }
-    requires occur { OccurIn vars.now b.now }
-    requires fits { BoundFits (signature_of task.now.problem.domain) b.now }
-    requires after { IfSome after (λ m. m.len ≡ length vars.now) }
-    ensures next { IsNextMatch (situation_in task.now w.now) vars.now (assignment_in frame.now) b.now after result }
-    ensures len { IfSome result (λ m. m.len ≡ length vars.now) }
+    requires differ { DifferInSlot binder.now.vars.now }
+    requires occur { OccurIn binder.now.vars.now binder.now.bound.now }
+    requires fits { BoundFits (signature_of task.now.problem.domain) binder.now.bound.now }
+    requires after { IfSome after (λ m. m.len ≡ length binder.now.vars.now) }
+    ensures next { IsNextIn task.now w.now frame.now binder.now after result }
+    ensures len { IfSome result (λ m. m.len ≡ length binder.now.vars.now) }
 {
     let mut pattern = no_pattern();
-    if put_pattern_of(frame, vars, b, &mut pattern) {
-        world_of_bound(task, w, b).next_match(&pattern, after)
+    if put_pattern_of(frame, binder.vars, binder.bound, &mut pattern) {
+        world_of_bound(task, w, binder.bound).next_match(&pattern, after)
     } else {
         None
     }
 }
 
-/// The least tuple for the variables, in lexicographic value order, that makes the bound true in the world and comes after `after`, where that is given: None exactly where there is none.
+/// The least tuple for the binder's variables, in lexicographic value order, that makes its bound true in the world and comes after `after`, where that is given: None exactly where there is none.
 /// All other variables have their values in the caller's frame; a bound with one that has no value there is true of no tuple. It takes no memory.
 ///
 /// With no variable and no `after` it tests the bound: the answer is the empty tuple or None.
@@ -58,16 +56,15 @@ pub fn next_tuple(
     task: &Task,
     w: &World,
     env: &Env,
-    vars: &Vars,
-    b: &Bound,
+    binder: &Binder,
     after: Option<Match>,
 ) -> Option<Match>
-    requires differ { DifferInSlot vars.now }
-    requires occur { OccurIn vars.now b.now }
-    requires fits { BoundFits (signature_of task.now.problem.domain) b.now }
-    requires after { IfSome after (λ m. m.len ≡ length vars.now) }
-    ensures next { IsNextMatch (situation_in task.now w.now) vars.now (assignment_in env.now) b.now after result }
-    ensures len { IfSome result (λ m. m.len ≡ length vars.now) }
+    requires differ { DifferInSlot binder.now.vars.now }
+    requires occur { OccurIn binder.now.vars.now binder.now.bound.now }
+    requires fits { BoundFits (signature_of task.now.problem.domain) binder.now.bound.now }
+    requires after { IfSome after (λ m. m.len ≡ length binder.now.vars.now) }
+    ensures next { IsNextIn task.now w.now env.now binder.now after result }
+    ensures len { IfSome result (λ m. m.len ≡ length binder.now.vars.now) }
 {
-    next_tuple_in(task, w, env.frame(), vars.as_slice(), b, after)
+    next_tuple_in(task, w, env.frame(), binder, after)
 }

@@ -1,6 +1,5 @@
-use Rattle.std.proofs.Common.{◌≡◌, ◌<◌, ◌+◌, ◌-◌, List, length, take, drop, Option, Some, None, Result, Ok, Err, Bool, true, false, refl, sym, ap, ◌∙◌, subst, suc, arith}
-use Rattle.std.proofs.lemmas.List.{length-take, length-drop}
-use Rattle.std.proofs.lemmas.Slice.{take-put_mid_below}
+use Rattle.std.proofs.Common.{◌≡◌, ◌<◌, ◌+◌, ◌-◌, List, length, take, Option, Some, None, Result, Ok, Err, Bool, true, false, refl, sym, ap, ◌∙◌, subst, suc, arith}
+use Rattle.std.proofs.lemmas.List.{length-take}
 use Rattle.tl_eval.specs.Frames.{assignment_in}
 use Rattle.tl_eval.specs.PatternOf.{IsPatternOf}
 use Rattle.tl_eval.specs.Remembered.{remembered}
@@ -32,37 +31,53 @@ use Rattle.tl_eval.proofs.state_truth.+truth_of.Goals as goal
 
 -- ---- the body of a definition
 
-pub opened_true-put_in_scope-requires-clause-room : goal.opened_true-put_in_scope-requires-clause-room
-opened_true-put_in_scope-requires-clause-room t c =
+pub opened_true-keep-requires-clause-few : goal.opened_true-keep-requires-clause-few
+opened_true-keep-requires-clause-few t c =
     let d = c.index-as_slice-reading.result in
     let at = at_own c.args.here.now.task.now.problem c.args.reading.level c.args.reading.number (length c.args.values.now) c.as_slice.result.now d c.as_slice.ensures c.requires.takes c.index-as_slice-reading.is in
     let lower : c.args.reading.level ≡ suc (c.args.reading.level - 1) = omega (arith, c.requires.level) in
-    let body = body-is c.args.here.now.task.now.problem c.args.reading.number c.args.reading.level c.args.reading.number (c.args.reading.level - 1) (length c.args.frames.now) d at.listed at.below (at.level ∙ lower) c.requires.room in
-    omega (arith, body.room, length-take (length c.args.frames.now - 32) (drop 32 c.args.frames.now), length-drop 32 c.args.frames.now)
+    let body = body-is c.args.here.now.task.now.problem c.args.reading.number c.args.reading.level c.args.reading.number (c.args.reading.level - 1) d at.listed at.below (at.level ∙ lower) in
+    rw c.as_slice-params.ensures body.few
 
 pub opened_true-put_in_scope-requires-clause-slots : goal.opened_true-put_in_scope-requires-clause-slots
 opened_true-put_in_scope-requires-clause-slots t c =
     let d = c.index-as_slice-reading.result in
     let at = at_own c.args.here.now.task.now.problem c.args.reading.level c.args.reading.number (length c.args.values.now) c.as_slice.result.now d c.as_slice.ensures c.requires.takes c.index-as_slice-reading.is in
     let lower : c.args.reading.level ≡ suc (c.args.reading.level - 1) = omega (arith, c.requires.level) in
-    let body = body-is c.args.here.now.task.now.problem c.args.reading.number c.args.reading.level c.args.reading.number (c.args.reading.level - 1) (length c.args.frames.now) d at.listed at.below (at.level ∙ lower) c.requires.room in
-    rw c.as_slice-2.ensures body.in_frame
+    let body = body-is c.args.here.now.task.now.problem c.args.reading.number c.args.reading.level c.args.reading.number (c.args.reading.level - 1) d at.listed at.below (at.level ∙ lower) in
+    rw c.as_slice-params.ensures body.in_frame
 
 pub opened_true-put_in_scope-requires-clause-same : goal.opened_true-put_in_scope-requires-clause-same
 opened_true-put_in_scope-requires-clause-same t c =
     let d = c.index-as_slice-reading.result in
     let at = at_own c.args.here.now.task.now.problem c.args.reading.level c.args.reading.number (length c.args.values.now) c.as_slice.result.now d c.as_slice.ensures c.requires.takes c.index-as_slice-reading.is in
-    rw c.as_slice-2.ensures at.params
+    rw c.as_slice-params.ensures at.params
 
-pub opened_true-truth_of-requires : goal.opened_true-truth_of-requires
-opened_true-truth_of-requires t c =
+pub opened_true-truth_of-truth-requires : goal.opened_true-truth_of-truth-requires
+opened_true-truth_of-truth-requires t c =
     let p = plain_problem c.args.here.now.task.now.problem in
     let d = c.index-as_slice-reading.result in
     let at = at_own c.args.here.now.task.now.problem c.args.reading.level c.args.reading.number (length c.args.values.now) c.as_slice.result.now d c.as_slice.ensures c.requires.takes c.index-as_slice-reading.is in
     let lower : c.args.reading.level ≡ suc (c.args.reading.level - 1) = omega (arith, c.requires.level) in
-    let body = body-is c.args.here.now.task.now.problem c.args.reading.number c.args.reading.level c.args.reading.number (c.args.reading.level - 1) (length c.args.frames.now) d at.listed at.below (at.level ∙ lower) c.requires.room in
+    let body = body-is c.args.here.now.task.now.problem c.args.reading.number c.args.reading.level c.args.reading.number (c.args.reading.level - 1) d at.listed at.below (at.level ∙ lower) in
     let less = body-lighter p c.args.reading.number c.args.reading.level c.args.reading.number (c.args.reading.level - 1) (formula_nodes (tree_of_formula d.body)) body.falls body.smaller in
-    (omega (arith, less, c.decreases), (body.fits, (omega (arith, body.room, c.put_in_scope.auto.frames, length-take (length c.args.frames.now - 32) (drop 32 c.args.frames.now), length-drop 32 c.args.frames.now), c.requires.truths)))
+    (omega (arith, less, c.decreases), (body.fits, (omega (arith, c.put_in_scope.auto.frames, c.requires.room), c.requires.truths)))
+
+pub opened_true-give_back-requires-clause-slots : goal.opened_true-give_back-requires-clause-slots
+opened_true-give_back-requires-clause-slots t c =
+    let d = c.index-as_slice-reading.result in
+    let at = at_own c.args.here.now.task.now.problem c.args.reading.level c.args.reading.number (length c.args.values.now) c.as_slice.result.now d c.as_slice.ensures c.requires.takes c.index-as_slice-reading.is in
+    let lower : c.args.reading.level ≡ suc (c.args.reading.level - 1) = omega (arith, c.requires.level) in
+    let body = body-is c.args.here.now.task.now.problem c.args.reading.number c.args.reading.level c.args.reading.number (c.args.reading.level - 1) d at.listed at.below (at.level ∙ lower) in
+    rw c.as_slice-params.ensures body.in_frame
+
+pub opened_true-give_back-requires-clause-few : goal.opened_true-give_back-requires-clause-few
+opened_true-give_back-requires-clause-few t c =
+    let d = c.index-as_slice-reading.result in
+    let at = at_own c.args.here.now.task.now.problem c.args.reading.level c.args.reading.number (length c.args.values.now) c.as_slice.result.now d c.as_slice.ensures c.requires.takes c.index-as_slice-reading.is in
+    let lower : c.args.reading.level ≡ suc (c.args.reading.level - 1) = omega (arith, c.requires.level) in
+    let body = body-is c.args.here.now.task.now.problem c.args.reading.number c.args.reading.level c.args.reading.number (c.args.reading.level - 1) d at.listed at.below (at.level ∙ lower) in
+    rw c.as_slice-params.ensures body.few
 
 pub opened_true-returns-clause-truth : goal.opened_true-returns-clause-truth
 opened_true-returns-clause-truth t c =
@@ -70,14 +85,18 @@ opened_true-returns-clause-truth t c =
     let d = c.index-as_slice-reading.result in
     let at = at_own c.args.here.now.task.now.problem c.args.reading.level c.args.reading.number (length c.args.values.now) c.as_slice.result.now d c.as_slice.ensures c.requires.takes c.index-as_slice-reading.is in
     let lower : c.args.reading.level ≡ suc (c.args.reading.level - 1) = omega (arith, c.requires.level) in
-    opened-is p c.args.here.now.world.now c.args.reading.number c.args.reading.level c.args.reading.number (c.args.reading.level - 1) (plain_definition d) c.args.values.now (assignment_in (take 32 c.put_in_scope.new.frames)) _ c.truth_of.result
+    opened-is p c.args.here.now.world.now c.args.reading.number c.args.reading.level c.args.reading.number (c.args.reading.level - 1) (plain_definition d) c.args.values.now (assignment_in (take 32 c.put_in_scope.new.frames)) _ c.truth_of-truth.result
     (read-opened p c.args.here.now.world.now c.args.reading.number c.args.reading.level c.args.reading.number (c.args.reading.level - 1) (plain_definition d) c.args.values.now at.there at.below (at.level ∙ lower))
     (c.args.here.now.task.now.problem.domain_keeps.definitions c.args.reading.number d at.listed).scope
-    (rw c.as_slice-2.ensures at c.put_in_scope.ensures)
-    c.truth_of.ensures.truth
+    (rw c.as_slice-params.ensures at c.put_in_scope.ensures)
+    c.truth_of-truth.ensures.truth
 
 pub opened_true-returns-clause-frame : goal.opened_true-returns-clause-frame
-opened_true-returns-clause-frame t c = take-put_mid_below 32 (length c.args.frames.now - 32) c.args.frames.now c.truth_of.new.frames 32 (omega arith) (omega (arith, c.requires.room))
+opened_true-returns-clause-frame t c =
+    let size : length (take 32 c.give_back.new.frames) ≡ length (take 32 c.args.frames.now) = omega (arith, length-take 32 c.give_back.new.frames, length-take 32 c.args.frames.now, c.give_back.auto.frames, c.truth_of-truth.auto.frames, c.put_in_scope.auto.frames) in
+    same-frame (take 32 c.give_back.new.frames) (take 32 c.args.frames.now) size
+    (c.give_back.ensures ∙ all-back c.as_slice-params.result.now c.keep.new.values (assignment_in (take 32 c.truth_of-truth.new.frames)) (assignment_in (take 32 c.args.frames.now))
+    (λ u. bind-through c.as_slice-params.result.now u c.args.values.now (assignment_in (take 32 c.truth_of-truth.new.frames)) (assignment_in (take 32 c.args.frames.now)) (ap assignment_in c.truth_of-truth.ensures.frame ∙ c.put_in_scope.ensures)) c.keep.ensures)
 
 -- ---- a definition of values, as it is remembered or else by its body
 
@@ -110,9 +129,9 @@ body_true-opened_true-requires t c =
     let d = c.index-as_slice-number.result in
     let at = at_definition q c.args.here.now.reading.number c.args.here.now.reading.level c.args.number (length c.args.values.now) c.level_of-level.result c.as_slice.result.now d c.as_slice.ensures c.requires.takes c.index-as_slice-number.is c.level_of-level.ensures in
     let above : 0 < c.level_of-level.result = omega (arith, c.if-level-eq0.false) in
-    let own = at_own_level q c.args.here.now.reading.number c.args.here.now.reading.level c.args.number (length c.args.values.now) c.level_of-level.result (length c.args.frames.now) d at c.requires.takes above c.requires.room in
+    let own = at_own_level q c.args.here.now.reading.number c.args.here.now.reading.level c.args.number (length c.args.values.now) c.level_of-level.result d at c.requires.takes above in
     let less = level-lighter p c.args.here.now.reading.number c.args.here.now.reading.level c.args.number c.level_of-level.result own.rank in
-    (omega (arith, less, c.decreases), (own.takes, (above, (own.room, c.requires.truths))))
+    (omega (arith, less, c.decreases), (own.takes, (above, (c.requires.room, c.requires.truths))))
 
 pub body_true-put-requires : goal.body_true-put-requires
 body_true-put-requires t c = few-visible (signature_of c.args.here.now.task.now.problem.domain).definitions (c.args.here.now.reading.number + 1) (defined-few _ _ c.args.here.now.task.now.problem.domain.definitions c.args.here.now.task.now.problem.domain_keeps.definitions) c.args.number (length c.args.values.now) c.requires.takes

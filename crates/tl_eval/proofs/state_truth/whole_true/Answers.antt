@@ -1,8 +1,8 @@
-use Rattle.std.proofs.Common.{◌≡◌, length, take, List, Option, sym, ap, ◌∙◌, subst, arith}
+use Rattle.std.proofs.Common.{◌≡◌, length, take, List, Option, ap, ◌∙◌, subst, arith}
 use Rattle.std.proofs.lemmas.List.{length-map}
 use Rattle.tl_eval.specs.Frames.{assignment_in}
-use Rattle.tl_eval.specs.StateTruth.{IsTruth, HaveSlots}
-use Rattle.tl_eval.proofs.BodyLaws.{count-plain, room-whole}
+use Rattle.tl_eval.specs.StateTruth.{IsTruth}
+use Rattle.tl_eval.proofs.BodyLaws.{count-plain}
 use Rattle.tl_eval.proofs.WholeLaws.{same-frames, whole-fits, whole-is}
 use Rattle.tl_syntax.specs.declared.definition.Definition.{Definition}
 use Rattle.tl_syntax.specs.declared.value.Value.{Value}
@@ -18,9 +18,8 @@ truth_of-requires-clause-fits c =
 
 pub truth_of-requires-clause-room : goal.truth_of-requires-clause-room
 truth_of-requires-clause-room c =
-    let size : length c.as_mut_slice.result.now ≡ 4128 = ap (λ (xs : List (Option Value)). length xs) c.as_mut_slice.ensures.value ∙ c.env.invariant in
-    subst (λ l. HaveSlots (plain_problem c.args.task.now.problem) c.whole-reading.result.number l (length c.as_mut_slice.result.now)) (sym c.whole-reading.ensures.level)
-    (room-whole c.args.task.now.problem c.whole-reading.result.number (length c.as_mut_slice.result.now) (omega (arith, c.whole-reading.ensures.number)) (omega arith))
+    let size : length c.as_mut_slice.result.now ≡ 32 = ap (λ (xs : List (Option Value)). length xs) c.as_mut_slice.ensures.value ∙ c.env.invariant in
+    omega arith
 
 pub returns-clause-truth : goal.returns-clause-truth
 returns-clause-truth c =

@@ -1,8 +1,4 @@
-use Rattle.std.proofs.Common.{subst}
-use Rattle.tl_eval.specs.Frames.{assignment_in}
-use Rattle.tl_eval.specs.PatternOf.{IsPatternOf}
 use Rattle.tl_eval.proofs.ArityLaws.{declared-few}
-use Rattle.tl_eval.proofs.BoundReading.{same-pattern, stands-lawful}
 use Rattle.tl_eval.proofs.PatternLaws.{few-variables, bound-few}
 use Rattle.tl_syntax.specs.Signature.{signature_of}
 use Rattle.tl_eval.proofs.bound_tuples.BoundPattern.open_at.Goals as goal
