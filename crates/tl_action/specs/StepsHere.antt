@@ -3,8 +3,8 @@ use Rattle.std.specs.Prelude.{◌≡◌, Option, IfSome}
 use Rattle.tl_action.specs.declared.changes.Changes.{Changes}
 use Rattle.tl_action.specs.declared.fault.ActFault.{ActFault}
 use Rattle.tl_action.specs.declared.here.Here.{Here}
-use Rattle.tl_action.specs.Actions.{HasOperator, IsCausedByAction, StaysNamed, name_count}
-use Rattle.tl_action.specs.ChangedWorlds.{AreChangesOf, LeaveNamed}
+use Rattle.tl_action.specs.Actions.{HasOperator, IsCausedByAction, IsExecutable, StaysNamed, name_count}
+use Rattle.tl_action.specs.ChangedWorlds.{AreChangesOf, LeaveNamed, MakeWorldAfter}
 use Rattle.tl_action.specs.UnderFrames.{problem_here}
 use Rattle.tl_syntax.specs.declared.action.Action.{Action}
 use Rattle.tl_terms.specs.Step.{step}
@@ -13,6 +13,18 @@ use Rattle.tl_terms.specs.World.{World}
 -- the action's operator exists and has as many parameters as the action has arguments
 abbrev pub HasOperatorHere : Here → Action → Type 0
 HasOperatorHere here a = HasOperator (problem_here here) a
+
+-- the action has a step in the world
+abbrev pub IsExecutableHere : Here → Action → Type 0
+IsExecutableHere here a = IsExecutable (problem_here here) here.world.now a
+
+-- the changes make the world after the action
+abbrev pub MakeWorldHere : Here → Action → Changes → Type 0
+MakeWorldHere here a c = MakeWorldAfter (problem_here here) here.world.now a c
+
+-- where the world and the arguments of the action are named, so is the world that the changes make
+abbrev pub KeepNamesHere : Here → Action → Changes → Type 0
+KeepNamesHere here a c = LeaveNamed (name_count here.task.now) here.world.now a c
 
 -- the world after the action, or none exactly where it has no step
 abbrev pub IsStepHere : Here → Action → Option World → Type 0

@@ -1,7 +1,7 @@
 -- What the parts of the crate say in a world of a task, under the values of a frame.
 use Rattle.std.specs.Global.{Vec}
 use Rattle.std.specs.List.{list_all}
-use Rattle.std.specs.Prelude.{ℕ, List, [], length, take, Bool, Option, Result}
+use Rattle.std.specs.Prelude.{ℕ, List, [], length, take, Bool, Option, Result, IfOk}
 use Rattle.tl_action.specs.declared.arranged.Arranged.{Arranged}
 use Rattle.tl_action.specs.declared.changes.Changes.{Changes}
 use Rattle.tl_action.specs.declared.collect.ForEach.{ForEach}
@@ -192,6 +192,10 @@ OperatorIsKept here o = OperatorKeeps (signature_here here) (length here.task.no
 -- the rows with which the operator can be applied, in order, each once
 abbrev pub AreRowsUnder : Here → Operator → List (Option Value) → List (List Value) → Type 0
 AreRowsUnder here o frame rows = AreRowsOf (problem_here here) here.world.now (plain_operator o) (assignment_in frame) rows
+
+-- the rows that are answered are those
+abbrev pub GivesRowsUnder : Here → Operator → List (Option Value) → Result (Vec (List Value)) ActFault → Type 0
+GivesRowsUnder here o frame result = IfOk result (λ rows. AreRowsUnder here o frame rows.items)
 
 -- a range fault tells an operation that is looked at with the values of a row that the bounds allow
 abbrev pub IsRowFaultUnder : Here → Operator → List (Option Value) → ActFault → Type 0

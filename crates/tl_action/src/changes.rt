@@ -20,7 +20,7 @@ pub struct Changes {
 
 impl Changes {
     /// No change. It takes no memory.
-    pub(crate) fn new(alloc: Global) -> Changes
+    pub fn new(alloc: Global) -> Changes
         ensures { result ≡ no_changes }
     {
         Changes {
@@ -28,6 +28,15 @@ impl Changes {
             adds: Facts::new(alloc),
             sets: PlaceValues::new(alloc),
         }
+    }
+
+    /// Lets all changes go and keeps the room for them. It takes no memory.
+    pub(crate) fn clear(&mut self)
+        ensures { self.new ≡ no_changes }
+    {
+        self.dels.clear();
+        self.adds.clear();
+        self.sets.clear();
     }
 
     /// The world that the changes make of a world, which stays as it is. It fails for want of memory alone.

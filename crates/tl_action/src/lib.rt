@@ -2,7 +2,7 @@
 //!
 //! - `fault`: why a call gives no answer.
 //! - `step`: the step of an action.
-//! - `next`: the step of an action that is known to be executable, in one call or in two.
+//! - `next`: what an action changes that is known to be executable.
 //! - `all_actions`: all actions that are executable in a world, and what is worked out once to list those of many.
 //! - `bounds`: whether bounds are true.
 //! - `changes`: what effects change, and the world that this makes.
@@ -50,5 +50,4 @@ pub use changes::Changes;
 pub use check_fault::CheckFault;
 pub use fault::ActFault;
 pub use here::Here;
-pub use next::{changes_by, next_world};
 pub use step::{apply, changes_if_executable};

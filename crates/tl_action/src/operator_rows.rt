@@ -1,8 +1,8 @@
 // The rows of values with which an operator can be applied, in order.
-ghost use Rattle.std.specs.Prelude.{◌≡◌, ◌<◌, length, IfOk, IfErr};
+ghost use Rattle.std.specs.Prelude.{◌≡◌, ◌<◌, length, IfErr};
 ghost use Rattle.tl_action.specs.OwnOrders.{own_order};
 ghost use Rattle.tl_action.specs.RowLists.{IsRows};
-ghost use Rattle.tl_action.specs.UnderFrames.{OperatorIsKept, AreRowsUnder, IsRowFaultUnder};
+ghost use Rattle.tl_action.specs.UnderFrames.{OperatorIsKept, GivesRowsUnder, IsRowFaultUnder};
 
 use crate::ActFault;
 use crate::first_bound::first_bound;
@@ -30,7 +30,7 @@ fn rows_by(
     many: usize,
 ) -> Result<Vec<Values>, ActFault>
     requires { OperatorIsKept here.now order.now.bounds.operator.now }
-    ensures rows { IfOk result (λ rows. AreRowsUnder here.now order.now.bounds.operator.now env.old rows.items) }
+    ensures rows { GivesRowsUnder here.now order.now.bounds.operator.now env.old result }
     ensures cause { IfErr result (IsRowFaultUnder here.now order.now.bounds.operator.now env.old) }
 {
     let mut rows = Vec::with_capacity(here.alloc, many)?;
@@ -58,7 +58,7 @@ fn own_rows(
     requires keeps { OperatorIsKept here.now operator.now }
     requires own { own.old ≡ own_order operator.now }
     ensures own { own.new ≡ own_order operator.now }
-    ensures rows { IfOk result (λ rows. AreRowsUnder here.now operator.now env.old rows.items) }
+    ensures rows { GivesRowsUnder here.now operator.now env.old result }
     ensures cause { IfErr result (IsRowFaultUnder here.now operator.now env.old) }
 {
     let many = own.many();
@@ -77,7 +77,7 @@ fn moved_rows(
 ) -> Result<Vec<Values>, ActFault>
     requires keeps { OperatorIsKept here.now operator.now }
     requires first { 0 < length operator.now.bounds → first < length operator.now.bounds }
-    ensures rows { IfOk result (λ rows. AreRowsUnder here.now operator.now env.old rows.items) }
+    ensures rows { GivesRowsUnder here.now operator.now env.old result }
     ensures cause { IfErr result (IsRowFaultUnder here.now operator.now env.old) }
 {
     let order = JoinOrder::of(here.alloc, operator, first)?;
@@ -94,7 +94,7 @@ pub(crate) fn rows_of(
     requires keeps { OperatorIsKept here.now operator.now }
     requires own { own.old ≡ own_order operator.now }
     ensures own { own.new ≡ own_order operator.now }
-    ensures rows { IfOk result (λ rows. AreRowsUnder here.now operator.now env.old rows.items) }
+    ensures rows { GivesRowsUnder here.now operator.now env.old result }
     ensures cause { IfErr result (IsRowFaultUnder here.now operator.now env.old) }
 {
     let first = first_bound(here.task, here.world, operator);
