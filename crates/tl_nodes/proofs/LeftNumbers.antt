@@ -13,15 +13,11 @@ use Rattle.tl_syntax.proofs.Plain.{both, with_both}
 use Rattle.tl_terms.specs.Simplification.{without_repeats}
 use Rattle.tl_nodes.specs.Fits.{all_below}
 use Rattle.tl_nodes.specs.Joins.{junction_parts, dropped, decides}
-use Rattle.tl_nodes.specs.Left.{left_of, IsOpened, IsLeft}
+use Rattle.tl_nodes.specs.Left.{left_of, kept_with, IsOpened, IsLeft}
 use Rattle.tl_nodes.specs.NodeTrees.{tree_at}
 use Rattle.tl_nodes.proofs.JoinWalk.{below-append}
 use Rattle.tl_nodes.proofs.KeptOnce.{dedup, kept-once, nat-swap, below-filter, below-dedup}
 use Rattle.tl_nodes.proofs.OpenedJoins.{leaves, leaves-append}
-
--- the number is kept, unless it is the constant that is dropped
-abbrev pub kept_with : Junction → List ℕ → ℕ → List ℕ
-kept_with junction ids i = cond (nat_eq i (dropped junction)) ids (insert_key nat_eq ids i)
 
 left-more : (junction : Junction) (flat : List ℕ) (i : ℕ) → left_of junction (flat ++ i ∷ []) ≡ kept_with junction (left_of junction flat) i
 left-more junction flat i =

@@ -36,3 +36,7 @@ same_bindings [] [] = true
 same_bindings [] (b ∷ bs) = false
 same_bindings (a ∷ as') [] = false
 same_bindings (a ∷ as') (b ∷ bs) = ((a.slot == b.slot) && same_option a.value b.value) && same_bindings as' bs
+
+-- the bindings of the entry are these
+abbrev pub HasBindings : Filled → List Binding → Type 0
+HasBindings m bs = same_bindings (bindings_in m) bs ≡ true

@@ -1,7 +1,7 @@
 -- What is left of the parts of a join.
-use Rattle.std.specs.Prelude.{◌≡◌, ℕ, List, [], true, length, filter, not, nat_eq, Result, IfOk}
+use Rattle.std.specs.Prelude.{◌≡◌, ◌++◌, ℕ, List, [], true, cond, length, filter, not, nat_eq, Result, IfOk}
 use Rattle.std.specs.List.{flat_map}
-use Rattle.indexmap.specs.IndexSet.{insert_all}
+use Rattle.indexmap.specs.IndexSet.{insert_all, insert_key}
 use Rattle.tl_syntax.specs.declared.junction.Junction.{Junction}
 use Rattle.tl_syntax.specs.Trees.{FormulaTree}
 use Rattle.tl_terms.specs.Simplification.{without_repeats}
@@ -11,9 +11,17 @@ use Rattle.tl_nodes.specs.Joins.{junction_parts, dropped, simplified_join}
 use Rattle.tl_nodes.specs.NodeTrees.{trees_at}
 use Rattle.tl_nodes.specs.Numbers.{trees, Denotes}
 
+-- the numbers without this one, each once
+abbrev pub distinct_without : ℕ → List ℕ → List ℕ
+distinct_without unit ids = insert_all nat_eq [] (filter (λ i. not (nat_eq i unit)) ids)
+
 -- the numbers without the constant that is dropped, each once
 abbrev pub left_of : Junction → List ℕ → List ℕ
-left_of junction flat = insert_all nat_eq [] (filter (λ i. not (nat_eq i (dropped junction))) flat)
+left_of junction flat = distinct_without (dropped junction) flat
+
+-- the numbers with this one at the end, unless it is the constant that is dropped or is there
+abbrev pub kept_with : Junction → List ℕ → ℕ → List ℕ
+kept_with junction ids i = cond (nat_eq i (dropped junction)) ids (insert_key nat_eq ids i)
 
 -- the numbers are left of those that the parts open to
 pub record IsOpened (ts : List FormulaTree) (junction : Junction) (parts ids : List ℕ) : Type 0 where
@@ -28,6 +36,10 @@ pub record IsLeft (ts : List FormulaTree) (junction : Junction) (parts ids : Lis
   pub below : all_below (length ts) flat ≡ true
   pub same : without_repeats (trees_at ts flat) ≡ without_repeats (flat_map (junction_parts junction) (trees_at ts parts))
   pub left : ids ≡ left_of junction flat
+
+-- of whatever parts the old numbers are left, the new ones are left of those and of these further ones
+abbrev pub GoesOnWith : Nodes → Junction → List ℕ → List ℕ → List ℕ → Type 0
+GoesOnWith s junction more old new = (parts : List ℕ) → IsOpened (trees s) junction parts old → IsOpened (trees s) junction (parts ++ more) new
 
 -- of whatever parts the numbers are left, a number that is given denotes the join of these
 abbrev pub JoinsLeft : {E : Type 0} → Nodes → Nodes → Junction → List ℕ → Result ℕ E → Type 0

@@ -6,6 +6,7 @@ pub mod Joins
 pub mod Left
 pub mod Seen
 pub mod Numbers
+pub mod Given
 pub mod Opened
 pub mod Examples
 pub mod Filled

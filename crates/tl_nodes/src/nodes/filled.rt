@@ -1,6 +1,6 @@
 // Trees with values put in, as they were found before.
-ghost use Rattle.std.specs.Prelude.{◌≡◌, ◌<◌, ◌≤◌, length, true, IsTrue};
-ghost use Rattle.tl_nodes.specs.Filled.{bindings_in, same_bindings, same_option};
+ghost use Rattle.std.specs.Prelude.{◌≡◌, ◌<◌, ◌≤◌, length, IsTrue};
+ghost use Rattle.tl_nodes.specs.Filled.{bindings_in, same_bindings, same_option, HasBindings};
 
 use tl_syntax::{Binding, Value};
 
@@ -71,7 +71,7 @@ impl Filled {
     pub fn is_of(&self, at: usize, bindings: &[Binding]) -> bool
         requires { self.now.count ≤ 4 }
         ensures at { IsTrue result → self.now.at ≡ at }
-        ensures bindings { IsTrue result → same_bindings (bindings_in self.now) bindings.now ≡ true }
+        ensures bindings { IsTrue result → HasBindings self.now bindings.now }
     {
         if self.at != at {
             return false;

@@ -1,9 +1,8 @@
 // The parts of joins, opened at any depth.
-ghost use Rattle.std.specs.Prelude.{◌≡◌, ◌<◌, ◌++◌, true, length, reverse, IfOk, IfSome, MatchOption, OnOk};
+ghost use Rattle.std.specs.Prelude.{◌≡◌, ◌<◌, ◌++◌, true, length, reverse, IfOk, IfSome, OnOk};
 ghost use Rattle.tl_nodes.specs.Fits.{all_below};
-ghost use Rattle.tl_nodes.specs.Joins.{breadth};
-ghost use Rattle.tl_nodes.specs.Numbers.{trees, tree_in};
-ghost use Rattle.tl_nodes.specs.Opened.{IsSingle, OpensTo, AreOpened, breadths_in};
+ghost use Rattle.tl_nodes.specs.Numbers.{trees};
+ghost use Rattle.tl_nodes.specs.Opened.{AreNested, AreOpened, AreSmaller};
 
 use super::Nodes;
 use crate::Node;
@@ -15,9 +14,9 @@ impl Nodes {
     // The parts of a number that is itself a join of the same kind.
     pub(crate) fn nested(&self, id: usize, junction: Junction) -> Option<&Ids>
         requires { id < length (trees self.now) }
-        ensures parts { MatchOption result (IsSingle self.now junction id) (λ ids. OpensTo self.now junction id ids.now) }
+        ensures parts { AreNested self.now junction id result }
         ensures below { IfSome result (λ ids. all_below id ids.now ≡ true) }
-        ensures smaller { IfSome result (λ ids. breadths_in self.now ids.now < breadth (tree_in self.now id)) }
+        ensures smaller { IfSome result (λ ids. AreSmaller self.now id ids.now) }
     {
         match self.get(id) {
             Node::And(ids) => match junction {

@@ -1,9 +1,9 @@
 // One number for one layer.
-ghost use Rattle.std.specs.Prelude.{◌≡◌, true, length, IfOk, OnErr};
+ghost use Rattle.std.specs.Prelude.{◌≡◌, true, length, OnErr};
 ghost use Rattle.tl_nodes.specs.Fits.{fits};
-ghost use Rattle.tl_nodes.specs.NodeTrees.{tree_of_node};
+ghost use Rattle.tl_nodes.specs.Given.{node_over, GivesNumber};
 ghost use Rattle.tl_nodes.specs.Numbering.{Keeps};
-ghost use Rattle.tl_nodes.specs.Numbers.{trees, Denotes, StaysIfKnown};
+ghost use Rattle.tl_nodes.specs.Numbers.{trees, StaysIfKnown};
 
 use super::Nodes;
 use super::flags::temporal_of;
@@ -16,8 +16,8 @@ impl Nodes {
     /// A refused call drops the node and leaves all trees as they were.
     pub fn intern(&mut self, node: Node) -> Result<usize, NoMemory>
         requires { fits (length (trees self.old)) node ≡ true }
-        ensures number { IfOk result (λ i. Denotes self.new i (tree_of_node (trees self.old) node)) }
-        ensures known { StaysIfKnown self.old self.new (tree_of_node (trees self.old) node) }
+        ensures number { GivesNumber self.new (node_over self.old node) result }
+        ensures known { StaysIfKnown self.old self.new (node_over self.old node) }
         ensures kept { Keeps (trees self.old) (trees self.new) }
         ensures refused { OnErr result (trees self.new ≡ trees self.old) }
     {

@@ -1,12 +1,11 @@
 // Conjunction and disjunction that simplify.
 ghost use Rattle.std.specs.Prelude.{◌≡◌, [], true, length, IfOk, IfSome, IsTrue, OnErr};
 ghost use Rattle.tl_nodes.specs.Fits.{all_below};
-ghost use Rattle.tl_nodes.specs.Joins.{simplified_join, dropped, decides, join_node};
+ghost use Rattle.tl_nodes.specs.Given.{conjunction_of, disjunction_of, join_of, join_over, GivesNumber};
+ghost use Rattle.tl_nodes.specs.Joins.{dropped, decides, join_node};
 ghost use Rattle.tl_nodes.specs.Left.{JoinsLeft, StaysIfJoined};
-ghost use Rattle.tl_nodes.specs.NodeTrees.{tree_of_node};
 ghost use Rattle.tl_nodes.specs.Numbering.{Keeps};
-ghost use Rattle.tl_nodes.specs.Numbers.{trees, Denotes, trees_of_numbers, StaysIfKnown};
-ghost use Rattle.tl_terms.specs.Simplification.{simplified_and, simplified_or};
+ghost use Rattle.tl_nodes.specs.Numbers.{trees, Denotes, StaysIfKnown};
 
 use super::Nodes;
 use super::few::Few;
@@ -21,8 +20,8 @@ impl Nodes {
     /// of equal parts the first stays, no part gives true, and one part stands alone.
     pub fn and(&mut self, parts: &[usize]) -> Result<usize, NoMemory>
         requires { all_below (length (trees self.old)) parts.now ≡ true }
-        ensures number { IfOk result (λ i. Denotes self.new i (simplified_and (trees_of_numbers self.old parts.now))) }
-        ensures known { StaysIfKnown self.old self.new (simplified_and (trees_of_numbers self.old parts.now)) }
+        ensures number { GivesNumber self.new (conjunction_of self.old parts.now) result }
+        ensures known { StaysIfKnown self.old self.new (conjunction_of self.old parts.now) }
         ensures kept { Keeps (trees self.old) (trees self.new) }
         ensures refused { OnErr result (trees self.new ≡ trees self.old) }
     {
@@ -32,8 +31,8 @@ impl Nodes {
     /// The number of the parts' disjunction: as `and` with the constants exchanged.
     pub fn or(&mut self, parts: &[usize]) -> Result<usize, NoMemory>
         requires { all_below (length (trees self.old)) parts.now ≡ true }
-        ensures number { IfOk result (λ i. Denotes self.new i (simplified_or (trees_of_numbers self.old parts.now))) }
-        ensures known { StaysIfKnown self.old self.new (simplified_or (trees_of_numbers self.old parts.now)) }
+        ensures number { GivesNumber self.new (disjunction_of self.old parts.now) result }
+        ensures known { StaysIfKnown self.old self.new (disjunction_of self.old parts.now) }
         ensures kept { Keeps (trees self.old) (trees self.new) }
         ensures refused { OnErr result (trees self.new ≡ trees self.old) }
     {
@@ -42,8 +41,8 @@ impl Nodes {
 
     fn join(&mut self, parts: &[usize], junction: Junction) -> Result<usize, NoMemory>
         requires { all_below (length (trees self.old)) parts.now ≡ true }
-        ensures number { IfOk result (λ i. Denotes self.new i (simplified_join junction (trees_of_numbers self.old parts.now))) }
-        ensures known { StaysIfKnown self.old self.new (simplified_join junction (trees_of_numbers self.old parts.now)) }
+        ensures number { GivesNumber self.new (join_of self.old junction parts.now) result }
+        ensures known { StaysIfKnown self.old self.new (join_of self.old junction parts.now) }
         ensures kept { Keeps (trees self.old) (trees self.new) }
         ensures refused { OnErr result (trees self.new ≡ trees self.old) }
     {
@@ -56,8 +55,8 @@ impl Nodes {
     // The same, where what is left of the parts is put elsewhere.
     fn join_opened(&mut self, parts: &[usize], junction: Junction) -> Result<usize, NoMemory>
         requires { all_below (length (trees self.old)) parts.now ≡ true }
-        ensures number { IfOk result (λ i. Denotes self.new i (simplified_join junction (trees_of_numbers self.old parts.now))) }
-        ensures known { StaysIfKnown self.old self.new (simplified_join junction (trees_of_numbers self.old parts.now)) }
+        ensures number { GivesNumber self.new (join_of self.old junction parts.now) result }
+        ensures known { StaysIfKnown self.old self.new (join_of self.old junction parts.now) }
         ensures kept { Keeps (trees self.old) (trees self.new) }
         ensures refused { OnErr result (trees self.new ≡ trees self.old) }
     {
@@ -77,8 +76,8 @@ impl Nodes {
     ) -> Result<usize, NoMemory>
         requires below { all_below (length (trees self.old)) parts.now ≡ true }
         requires none { few.old ≡ [] }
-        ensures number { IfOk result (λ i. Denotes self.new i (simplified_join junction (trees_of_numbers self.old parts.now))) }
-        ensures known { StaysIfKnown self.old self.new (simplified_join junction (trees_of_numbers self.old parts.now)) }
+        ensures number { GivesNumber self.new (join_of self.old junction parts.now) result }
+        ensures known { StaysIfKnown self.old self.new (join_of self.old junction parts.now) }
         ensures kept { Keeps (trees self.old) (trees self.new) }
         ensures refused { OnErr result (trees self.new ≡ trees self.old) }
     {
@@ -116,7 +115,7 @@ impl Nodes {
 
     // The number of the join of these numbers, where it is remembered. It takes no memory.
     fn find_join(&self, home: usize, left: &[usize], junction: Junction) -> Option<usize>
-        ensures { IfSome result (λ i. Denotes self.now i (tree_of_node (trees self.now) (join_node junction left.now))) }
+        ensures { IfSome result (λ i. Denotes self.now i (join_over self.now junction left.now)) }
     {
         let at = match self.joins.get(home) {
             Some(at) => *at,
@@ -137,8 +136,8 @@ impl Nodes {
         junction: Junction,
     ) -> Result<usize, NoMemory>
         requires { all_below (length (trees self.old)) left.now ≡ true }
-        ensures number { IfOk result (λ i. Denotes self.new i (tree_of_node (trees self.old) (join_node junction left.now))) }
-        ensures known { StaysIfKnown self.old self.new (tree_of_node (trees self.old) (join_node junction left.now)) }
+        ensures number { GivesNumber self.new (join_over self.old junction left.now) result }
+        ensures known { StaysIfKnown self.old self.new (join_over self.old junction left.now) }
         ensures kept { Keeps (trees self.old) (trees self.new) }
         ensures refused { OnErr result (trees self.new ≡ trees self.old) }
     {

@@ -1,9 +1,7 @@
 // What is left of the parts of a join.
-ghost use Rattle.std.specs.Prelude.{◌≡◌, ◌<◌, ◌∷◌, ◌++◌, [], List, ℕ, true, false, cond, filter, not, length, nat_eq, IsTrue, IfOk, IfSome};
-ghost use Rattle.indexmap.specs.IndexSet.{insert_all, insert_key};
+ghost use Rattle.std.specs.Prelude.{◌≡◌, ◌<◌, ◌∷◌, ◌++◌, [], true, false, length, IsTrue, IfOk, IfSome};
 ghost use Rattle.tl_nodes.specs.Fits.{all_below};
-ghost use Rattle.tl_nodes.specs.Joins.{dropped};
-ghost use Rattle.tl_nodes.specs.Left.{IsLeft, IsOpened};
+ghost use Rattle.tl_nodes.specs.Left.{distinct_without, kept_with, IsLeft, IsOpened, GoesOnWith};
 ghost use Rattle.tl_nodes.specs.Numbers.{trees};
 
 use super::Nodes;
@@ -64,8 +62,7 @@ impl Nodes {
     // Keeps the parts of a join. False: one of them is a join of the same kind, or there is no memory.
     fn keep_all(&self, few: &mut Few, ids: &[usize], junction: Junction) -> bool
         requires { all_below (length (trees self.now)) ids.now ≡ true }
-        ensures { IsTrue result → (parts : List ℕ) → IsOpened (trees self.now) junction parts few.old
-            → IsOpened (trees self.now) junction (parts ++ ids.now) few.new }
+        ensures { IsTrue result → GoesOnWith self.now junction ids.now few.old few.new }
     {
         for id in ids.iter() {
             if !self.keep(few, *id, junction) {
@@ -78,8 +75,7 @@ impl Nodes {
     // Keeps a part. False: it is a join of the same kind, or there is no memory.
     fn keep(&self, few: &mut Few, id: usize, junction: Junction) -> bool
         requires { id < length (trees self.now) }
-        ensures { IsTrue result → (parts : List ℕ) → IsOpened (trees self.now) junction parts few.old
-            → IsOpened (trees self.now) junction (parts ++ id ∷ []) few.new }
+        ensures { IsTrue result → GoesOnWith self.now junction (id ∷ []) few.old few.new }
     {
         match self.nested(id, junction) {
             Some(_) => false,
@@ -103,15 +99,15 @@ impl Nodes {
 
 // Whether a number is not kept: it is the constant that is dropped, or is there.
 fn is_dropped(row: &[usize], id: usize, junction: Junction) -> bool
-    ensures dropped { IsTrue result → row.now ≡ cond (nat_eq id (dropped junction)) row.now (insert_key nat_eq row.now id) }
-    ensures kept { result ≡ false → row.now ++ id ∷ [] ≡ cond (nat_eq id (dropped junction)) row.now (insert_key nat_eq row.now id) }
+    ensures dropped { IsTrue result → row.now ≡ kept_with junction row.now id }
+    ensures kept { result ≡ false → row.now ++ id ∷ [] ≡ kept_with junction row.now id }
 {
     id == unit_of(junction) || row.contains(&id)
 }
 
 // Keeps a number, unless it is the constant that is dropped or is there. False: there is no memory.
 fn keep_one(few: &mut Few, id: usize, junction: Junction) -> bool
-    ensures { IsTrue result → few.new ≡ cond (nat_eq id (dropped junction)) few.old (insert_key nat_eq few.old id) }
+    ensures { IsTrue result → few.new ≡ kept_with junction few.old id }
 {
     if id == unit_of(junction) {
         return true;
@@ -121,7 +117,7 @@ fn keep_one(few: &mut Few, id: usize, junction: Junction) -> bool
 
 // The numbers without `unit`, each once.
 fn distinct_but(alloc: Global, ids: &[usize], unit: usize) -> Result<IndexSet<usize>, NoMemory>
-    ensures { IfOk result (λ s. s.keys ≡ insert_all nat_eq [] (filter (λ i. not (nat_eq i unit)) ids.now)) }
+    ensures { IfOk result (λ s. s.keys ≡ distinct_without unit ids.now) }
 {
     let mut kept = IndexSet::new(alloc);
     for id in ids.iter() {

@@ -1,10 +1,11 @@
 // The numbers of whole formulas.
-ghost use Rattle.std.specs.Prelude.{◌≡◌, true, map, length, IfOk};
+ghost use Rattle.std.specs.Prelude.{◌≡◌, true, length, IfOk};
 ghost use Rattle.tl_nodes.specs.Fits.{all_below, fits};
-ghost use Rattle.tl_nodes.specs.NodeTrees.{tree_of_node, trees_at};
+ghost use Rattle.tl_nodes.specs.Given.{DenoteFormulas};
+ghost use Rattle.tl_nodes.specs.NodeTrees.{tree_of_node};
 ghost use Rattle.tl_nodes.specs.Numbering.{Keeps};
 ghost use Rattle.tl_nodes.specs.Numbers.{trees, Denotes};
-ghost use Rattle.tl_syntax.specs.TreeOfFormula.{formulas_in, tree_of_formula};
+ghost use Rattle.tl_syntax.specs.TreeOfFormula.{tree_of_formula};
 
 use super::Nodes;
 use crate::Node;
@@ -113,7 +114,7 @@ impl Nodes {
     fn of_trees(&mut self, fs: &Formulas) -> Result<Ids, NoMemory>
         ensures kept { Keeps (trees self.old) (trees self.new) }
         ensures below { IfOk result (λ ids. all_below (length (trees self.new)) ids ≡ true) }
-        ensures numbers { IfOk result (λ ids. trees_at (trees self.new) ids ≡ map tree_of_formula (formulas_in fs.now)) }
+        ensures numbers { IfOk result (DenoteFormulas self.new fs.now) }
     {
         let mut ids = Ids::new(self.alloc);
         for f in fs.as_slice().iter() {
