@@ -74,7 +74,7 @@ looked-at n d bs s e o ts (i ∷ ids) q h f =
       | inr k ↦ inr (looked-at n d bs s e o ts ids q k f)
     ])
 
-less-at : (at : ℕ) (ids : List ℕ) (q : ℕ) → all_below at ids ≡ true → Among q ids → q < at
+pub less-at : (at : ℕ) (ids : List ℕ) (q : ℕ) → all_below at ids ≡ true → Among q ids → q < at
 less-at at [] q b h = absurd h
 less-at at (i ∷ ids) q b h =
     let p = both (nat_lt i at) (all_below at ids) b in
@@ -145,10 +145,13 @@ module _ (n : Bool) (ts : List FormulaTree) (junction : Junction) (ids : List �
       by All = looked-at n d bs s e o ts ids q h x
       by Any = looked-at n d bs s e o ts ids q h x
 
+pub among-or : (ids : List ℕ) (i d : ℕ) → i < length ids → Among (get_or ids i d) ids
+among-or [] i d h = absurd (omega arith)
+among-or (j ∷ ids) zero d h = inl refl
+among-or (j ∷ ids) (suc i) d h = inr (among-or ids i d (omega arith))
+
 pub among-at : (ids : List ℕ) (i : ℕ) → i < length ids → Among (get_or ids i 0) ids
-among-at [] i h = absurd (omega arith)
-among-at (j ∷ ids) zero h = inl refl
-among-at (j ∷ ids) (suc i) h = inr (among-at ids i (omega arith))
+among-at ids i h = among-or ids i 0 h
 
 -- ---- the parts of a join by their positions
 

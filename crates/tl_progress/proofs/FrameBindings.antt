@@ -5,19 +5,13 @@ use native.Mathlib.Decide.{dec_lt}
 use borrow.Author.Tests.{eq-eqb, ne_eqb}
 use Rattle.std.proofs.lemmas.Option.{slice_get_past, slice_get-get_or}
 use Rattle.tl_eval.specs.Frames.{slot_value, assignment_in}
-use Rattle.tl_progress.specs.FrameValues.{with_slot}
+use Rattle.tl_progress.specs.FrameValues.{with_slot, BindsBefore}
 use Rattle.tl_syntax.specs.declared.substitution.Binding.{Binding}
 use Rattle.tl_syntax.specs.declared.value.Value.{Value}
 use Rattle.tl_syntax.specs.Bindings.{assignment_of}
 use Rattle.tl_syntax.specs.Lists.{Each}
 use Rattle.tl_syntax.specs.Substitution.{or_else}
 use Rattle.tl_syntax.proofs.ListLaws.{Each-append}
-
--- the bindings have values, which are those of the slots before n
-pub record Binds (n : ℕ) (frame : List (Option Value)) (bs : List Binding) : Type 0 where
-  pub set : Each (λ b. is_some b.value ≡ true) bs
-  pub values : (q : ℕ) → q < n → assignment_of bs q ≡ assignment_in frame q
-  pub rest : (q : ℕ) → n ≤ q → assignment_of bs q ≡ None
 
 appended : (bs : List Binding) (b : Binding) (q : ℕ) → Each (λ x. is_some x.value ≡ true) bs → assignment_of (bs ++ b ∷ []) q ≡ or_else (assignment_of bs q) (cond (q == b.slot) b.value None)
 appended [] b q h = refl
@@ -30,16 +24,16 @@ appended (x ∷ bs) b q h = (elim (q == x.slot) as (λ t. cond t x.value (assign
     known (Some v) k = refl
     known None k = absurd (let z : ⊥ = cc in z)
 
-pub binds-none : (frame : List (Option Value)) (bs : List Binding) → bs ≡ [] → Binds 0 frame bs
-binds-none frame bs e = subst (Binds 0 frame) (sym e) (record { set = tt; values = λ q h. absurd (omega arith); rest = λ q h. refl })
+pub binds-none : (frame : List (Option Value)) (bs : List Binding) → bs ≡ [] → BindsBefore 0 frame bs
+binds-none frame bs e = subst (BindsBefore 0 frame) (sym e) (record { set = tt; values = λ q h. absurd (omega arith); rest = λ q h. refl })
 
 or-none : (o : Option Value) → or_else o None ≡ o
 or-none (Some v) = refl
 or-none None = refl
 
-module _ (n : ℕ) (frame : List (Option Value)) (bs : List Binding) (was : Binds n frame bs) where
+module _ (n : ℕ) (frame : List (Option Value)) (bs : List Binding) (was : BindsBefore n frame bs) where
   -- the next slot has no value
-  pub binds-past : assignment_in frame n ≡ None → Binds (n + 1) frame bs
+  pub binds-past : assignment_in frame n ≡ None → BindsBefore (n + 1) frame bs
   binds-past none = record {
     set = was.set;
     values = λ q h. elim (dec_lt q n) [
@@ -50,8 +44,8 @@ module _ (n : ℕ) (frame : List (Option Value)) (bs : List Binding) (was : Bind
   }
 
   -- the next slot has this value
-  pub binds-more : (v : Value) → assignment_in frame n ≡ Some v → (b : Binding) → b.slot ≡ n → b.value ≡ Some v → (cs : List Binding) → cs ≡ bs ++ b ∷ [] → Binds (n + 1) frame cs
-  binds-more v is b slot value cs e = subst (Binds (n + 1) frame) (sym e) (record {
+  pub binds-more : (v : Value) → assignment_in frame n ≡ Some v → (b : Binding) → b.slot ≡ n → b.value ≡ Some v → (cs : List Binding) → cs ≡ bs ++ b ∷ [] → BindsBefore (n + 1) frame cs
+  binds-more v is b slot value cs e = subst (BindsBefore (n + 1) frame) (sym e) (record {
     set = (Each-append (λ x. is_some x.value ≡ true) bs (b ∷ [])).1 (was.set, (ap is_some value, tt));
     values = λ q h. elim (dec_lt q n) [
       | yes l ↦ other q (λ k. absurd (omega arith)) ∙ was.values q l
@@ -71,14 +65,14 @@ module _ (n : ℕ) (frame : List (Option Value)) (bs : List Binding) (was : Bind
           ∙ (ap (λ t. cond t b.value None) (eq-eqb n b.slot (sym slot)) ∙ (value ∙ sym is)))
 
 -- the next slot has this value, or none
-pub binds-next : (n : ℕ) (frame : List (Option Value)) (bs : List Binding) → Binds n frame bs → (o : Option Value) → assignment_in frame n ≡ o → (cs : List Binding) → cs ≡ with_slot bs n o → Binds (n + 1) frame cs
+pub binds-next : (n : ℕ) (frame : List (Option Value)) (bs : List Binding) → BindsBefore n frame bs → (o : Option Value) → assignment_in frame n ≡ o → (cs : List Binding) → cs ≡ with_slot bs n o → BindsBefore (n + 1) frame cs
 binds-next n frame bs was (Some v) is cs e = binds-more n frame bs was v is (record { slot = n; value = Some v }) refl refl cs e
-binds-next n frame bs was None is cs e = subst (Binds (n + 1) frame) (sym e) (binds-past n frame bs was is)
+binds-next n frame bs was None is cs e = subst (BindsBefore (n + 1) frame) (sym e) (binds-past n frame bs was is)
 
 pub slot-is : (frame : List (Option Value)) (n : ℕ) (d o : Option Value) → n < length frame → get_or frame n d ≡ o → assignment_in frame n ≡ o
 slot-is frame n d o h e = ap slot_value (slice_get-get_or frame n d h) ∙ e
 
-pub binds-all : (n : ℕ) (frame : List (Option Value)) (bs : List Binding) → Binds n frame bs → length frame ≤ n → assignment_of bs ≡ assignment_in frame
+pub binds-all : (n : ℕ) (frame : List (Option Value)) (bs : List Binding) → BindsBefore n frame bs → length frame ≤ n → assignment_of bs ≡ assignment_in frame
 binds-all n frame bs was h = fun_ext (λ q. elim (dec_lt q n) [
   | yes l ↦ was.values q l
   | no l ↦ was.rest q (omega arith) ∙ sym (ap slot_value (slice_get_past frame q (omega arith)))

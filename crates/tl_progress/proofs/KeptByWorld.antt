@@ -1,21 +1,20 @@
 -- What is kept of worlds, and one number more.
 use Rattle.std.proofs.Common.{◌≡◌, ◌&&◌, ℕ, List, Bool, true, false, cond, nat_eq, eqb-true, eq-eqb, Option, Some, refl, sym, ap, ◌∙◌}
-use Rattle.std.specs.Map.{lookup}
-use Rattle.indexmap.specs.IndexMap.{get}
 use Rattle.tl_syntax.specs.Trees.{FormulaTree}
 use Rattle.tl_terms.specs.Problem.{PlainProblem}
 use Rattle.tl_terms.specs.World.{World}
 use Rattle.tl_progress.specs.declared.residuals.Incoming.{Incoming}
 use Rattle.tl_progress.specs.declared.residuals.Residuals.{Residuals}
-use Rattle.tl_progress.specs.KeptResiduals.{same_incoming, found_in, StaysElsewhere}
+use Rattle.tl_progress.specs.KeptResiduals.{found_in, StaysElsewhere}
 use Rattle.tl_progress.specs.Known.{AreResiduals}
+use Rattle.tl_progress.specs.WorldsKept.{number_for, HasPut}
 
 -- the entries are the same
-pub same-found : (old new : Residuals) → new.table.entries ≡ old.table.entries → (n k : ℕ) → found_in new n k ≡ found_in old n k
+pub same-found : (old new : Residuals) → new.table ≡ old.table → (n k : ℕ) → found_in new n k ≡ found_in old n k
 unfolding found_in
-same-found old new e n k = ap (λ (es : List (Incoming × ℕ)). lookup (same_incoming (record { world = n; formula = k })) es) e
+same-found old new e n k = ap (λ (es : List (Incoming × ℕ)). number_for es (record { world = n; formula = k })) e
 
-module _ (old new : Residuals) (i : Incoming) (x : ℕ) (put : (q : Incoming) → get same_incoming new.table q ≡ cond (same_incoming i q) (Some x) (get same_incoming old.table q)) where
+module _ (old new : Residuals) (i : Incoming) (x : ℕ) (put : HasPut old.table new.table i x) where
   pub put-here : (k : ℕ) → found_in new i.world k ≡ cond (nat_eq i.formula k) (Some x) (found_in old i.world k)
   unfolding found_in
   put-here k = put (record { world = i.world; formula = k }) ∙ ap (λ (b : Bool). cond (b && nat_eq i.formula k) (Some x) (found_in old i.world k)) (eq-eqb i.world i.world refl)

@@ -22,6 +22,7 @@ pub mod NamedResiduals
 pub mod FrameBindings
 pub mod Learned
 pub mod BrokenLaws
+pub mod EntryLaws
 pub mod KeptByWorld
 pub mod OpenParts
 pub mod KnownHere

@@ -1,12 +1,16 @@
 -- Formulas that changes of facts make true or false.
 use Rattle.std.specs.Prelude.{◌≡◌, ◌==◌, ℕ, List, [], ◌∷◌, map, Bool, true, false, not, ◌&&◌}
 use Rattle.std.specs.List.{list_any}
+use Rattle.tl_nodes.specs.declared.nodes.Nodes.{Nodes}
+use Rattle.tl_nodes.specs.NodeTrees.{tree_at}
+use Rattle.tl_nodes.specs.Numbers.{trees}
 use Rattle.tl_syntax.specs.declared.fact.Fact.{Fact}
 use Rattle.tl_syntax.specs.declared.term.Term.{Term}
 use Rattle.tl_syntax.specs.declared.value.Value.{Value}
 use Rattle.tl_syntax.specs.Assignment.{no_values}
 use Rattle.tl_syntax.specs.DerivedTests.{fact_eq, value_eq}
 use Rattle.tl_syntax.specs.Keys.{fact_key}
+use Rattle.tl_syntax.specs.Lists.{Among}
 use Rattle.tl_syntax.specs.TreeOfTerm.{tree_of_term}
 use Rattle.tl_syntax.specs.Trees.{FormulaTree, TermTree, variable, value, place, arith}
 use Rattle.tl_terms.specs.Definitions.{situation_of}
@@ -22,6 +26,10 @@ AreChanged w v dels adds = v.facts ≡ with_all (without_all w.facts (map fact_k
 -- in each world after the changes the formula leaves the constant of this truth
 abbrev pub LeavesTruth : Bool → FormulaTree → List Fact → List Fact → Type 0
 LeavesTruth b f dels adds = (p : PlainProblem) (w v : World) → AreChanged w v dels adds → progressed (situation_of p v) no_values f ≡ constant b
+
+-- one of the numbers' trees leaves FALSE
+abbrev pub OneLeavesFalse : Nodes → List ℕ → List Fact → List Fact → Type 0
+OneLeavesFalse nodes ids dels adds = (q : ℕ) × Among q ids × LeavesTruth false (tree_at (trees nodes) q) dels adds
 
 -- the term is the value itself
 abbrev pub is_value_term : TermTree → Value → Bool

@@ -1,14 +1,16 @@
 -- What calls take and answer, by their arguments: a task, a world, the values of a frame, and formulas by their numbers.
-use Rattle.std.specs.Prelude.{◌≡◌, ◌↔◌, ℕ, suc, List, length, map, Bool, Option}
+use Rattle.std.specs.Prelude.{◌≡◌, ◌↔◌, ℕ, suc, List, length, map, Bool, Option, Result, IfOk, IfErr}
 use Rattle.tl_eval.specs.Frames.{assignment_in}
 use Rattle.tl_nodes.specs.declared.nodes.Nodes.{Nodes}
 use Rattle.tl_nodes.specs.Joins.{join_node, simplified_join}
 use Rattle.tl_nodes.specs.NodeTrees.{tree_at, trees_at, tree_of_node}
-use Rattle.tl_nodes.specs.Numbers.{trees}
+use Rattle.tl_nodes.specs.Numbers.{trees, Denotes}
+use Rattle.tl_progress.specs.declared.fault.ProgressFault.{ProgressFault}
 use Rattle.tl_progress.specs.declared.joined.Joined.{Joined}
 use Rattle.tl_progress.specs.declared.known.WorkedOut.{WorkedOut}
-use Rattle.tl_progress.specs.Answers.{idly_true, looked_idly, residual, looked_for_residual}
-use Rattle.tl_progress.specs.KeptResiduals.{AreOpen}
+use Rattle.tl_progress.specs.declared.residuals.Residuals.{Residuals}
+use Rattle.tl_progress.specs.Answers.{IsCausedBy, idly_true, looked_idly, residual, looked_for_residual}
+use Rattle.tl_progress.specs.KeptResiduals.{AreOpen, found_in}
 use Rattle.tl_progress.specs.Known.{AreTruths, AreResiduals, IsRightlyKnown}
 use Rattle.tl_progress.specs.Sentences.{IsSentence, FitsSomewhere}
 use Rattle.tl_syntax.specs.declared.bound.Bound.{Bound}
@@ -46,6 +48,10 @@ AreTruthsIn task w nodes found = AreTruths (plain_problem task.problem) w (trees
 -- the numbers are those of what has to hold next for the numbers' trees
 abbrev pub AreResidualsIn : Task → World → Nodes → (ℕ → Option ℕ) → Type 0
 AreResidualsIn task w nodes found = AreResiduals (plain_problem task.problem) w (trees nodes) found
+
+-- what is kept for the world, by its number, are those numbers
+abbrev pub KeepsRightly : Task → World → Nodes → Residuals → ℕ → Type 0
+KeepsRightly task w nodes kept n = AreResidualsIn task w nodes (found_in kept n)
 
 -- what is known is right of the task's world
 abbrev pub IsRightIn : Task → World → Nodes → WorkedOut → Type 0
@@ -134,3 +140,19 @@ IsProgression task w old i new n = (r : Run) (k : ℕ) → state_at r k ≡ w �
 -- where the task names all that the world and the one number's tree have, it names all that the other's has
 abbrev pub StaysNamed : Task → World → Nodes → ℕ → Nodes → ℕ → Type 0
 StaysNamed task w old i new n = WorldIsNamed (length task.problem.names) w → IsNamed (length task.problem.names) (tree_at (trees old) i) → IsNamed (length task.problem.names) (tree_at (trees new) n)
+
+-- no tree is added
+abbrev pub AddsNoTree : Nodes → Nodes → Type 0
+AddsNoTree old new = trees new ≡ trees old
+
+-- it is the number of a number's sentence progressed through the world
+abbrev pub IsProgressed : Task → World → Nodes → ℕ → Nodes → Result ℕ ProgressFault → Type 0
+IsProgressed task w old i new result = IfOk result (λ n. Denotes new n (progressed_at task w old i))
+
+-- or a fault of what is looked at for it
+abbrev pub IsProgressFault : Task → World → Nodes → ℕ → Result ℕ ProgressFault → Type 0
+IsProgressFault task w nodes i result = IfErr result (IsCausedBy (looked_by_progressing_at task w nodes i))
+
+-- a number that is answered is such a progression
+abbrev pub GivesProgression : Task → World → Nodes → ℕ → Nodes → Result ℕ ProgressFault → Type 0
+GivesProgression task w old i new result = IfOk result (λ n. IsProgression task w old i new n)

@@ -2,7 +2,7 @@
 use Rattle.std.specs.Borrow.{Bor}
 use Rattle.std.specs.Prelude.{◌≡◌, ℕ, List, Bool, Option, Some, None, Result, IfOk, IfErr, IfSome, IfNone, nat_eq}
 use Rattle.indexmap.specs.IndexMap.{get}
-use Rattle.tl_eval.specs.Frames.{assignment_in, AgreeElsewhere}
+use Rattle.tl_eval.specs.Frames.{assignment_in}
 use Rattle.tl_eval.specs.BoundTuples.{ReadsBound}
 use Rattle.tl_eval.specs.Reading.{situation_in}
 use Rattle.tl_eval.specs.Remembered.{Remembered}
@@ -12,15 +12,16 @@ use Rattle.tl_nodes.specs.Numbers.{Denotes}
 use Rattle.tl_progress.specs.declared.fault.ProgressFault.{ProgressFault}
 use Rattle.tl_progress.specs.declared.here.Here.{Here}
 use Rattle.tl_progress.specs.declared.joined.Joined.{Joined}
+use Rattle.tl_progress.specs.declared.joined.OpenParts.{OpenParts}
 use Rattle.tl_progress.specs.declared.known.WorkedOut.{WorkedOut}
 use Rattle.tl_progress.specs.declared.layers.Join.{Join}
 use Rattle.tl_progress.specs.declared.layers.Quantified.{Quantified}
 use Rattle.tl_progress.specs.declared.quantifier.Quantifier.{Quantifier}
+use Rattle.tl_progress.specs.declared.residuals.Residuals.{Residuals}
 use Rattle.tl_progress.specs.Answers.{IsCausedBy}
-use Rattle.tl_progress.specs.Calls.{IsDecided, AreOpenIn, FitsTask, IsSentenceIn, AreTruthsIn, AreResidualsIn, IsRightIn, state_true_in, looked_in_world, idly_true_at, looked_idly_at, join_at, idly_true_join, looked_idly_join, quantified_at, idly_true_over, looked_idly_over, residual_at, looked_for_residual_at}
+use Rattle.tl_progress.specs.Calls.{IsDecided, AreOpenIn, KeepsRightly, IsProgressed, IsProgressFault, join_of_residuals, FitsTask, IsSentenceIn, AreTruthsIn, AreResidualsIn, IsRightIn, state_true_in, looked_in_world, idly_true_at, looked_idly_at, join_at, idly_true_join, looked_idly_join, quantified_at, idly_true_over, looked_idly_over, residual_at, looked_for_residual_at}
 use Rattle.tl_progress.specs.Quantifiers.{ReadsAt}
 use Rattle.tl_syntax.specs.declared.value.Value.{Value}
-use Rattle.tl_syntax.specs.declared.variable.Var.{Var}
 use Rattle.tl_syntax.specs.Trees.{FormulaTree}
 use Rattle.tl_terms.specs.Progression.{constant}
 use Rattle.tl_world.specs.MatchReading.{Reading}
@@ -55,6 +56,10 @@ KnowsTruths here nodes = AreTruthsIn here.task.now here.world.now nodes (truths_
 pub record KnowsRightly (here : Here) (nodes : Nodes) : Type 0 where
   pub truths : KnowsTruths here nodes
   pub residuals : AreResidualsIn here.task.now here.world.now nodes (residuals_in here.known)
+
+-- what is kept for the world, by its number, is right of it
+abbrev pub KeepsRightlyHere : Here → Nodes → Residuals → ℕ → Type 0
+KeepsRightlyHere here nodes kept n = KeepsRightly here.task.now here.world.now nodes kept n
 
 -- the truths of definitions that are remembered are those in the world
 abbrev pub RemembersHere : Here → List Remembered → Type 0
@@ -108,10 +113,6 @@ ReadsQuantified here q frame r = ReadsBound (situation_in here.task.now here.wor
 abbrev pub ReadsInstances : Here → Nodes → Quantifier → List (Option Value) → Reading → Type 0
 ReadsInstances here nodes q frame r = ReadsAt here.task.now here.world.now nodes q frame r
 
--- but for the variables, the two frames give all slots the same
-abbrev pub ChangesOnly : List Var → List (Option Value) → List (Option Value) → Type 0
-ChangesOnly ss old new = AgreeElsewhere ss (assignment_in new) (assignment_in old)
-
 -- what has to hold next for a number's tree is the constant of this truth
 abbrev pub IsNextConstant : Here → List (Option Value) → Nodes → ℕ → Result Bool ProgressFault → Type 0
 IsNextConstant here frame nodes i result = IfOk result (λ b. residual_at here.task.now here.world.now frame nodes i ≡ constant b)
@@ -135,3 +136,15 @@ IsDecidedEarly here frame nodes joined result = IfOk result (λ o. IfNone o (IsD
 -- else these are the parts with temporal words
 abbrev pub AreOpenParts : Here → List (Option Value) → Nodes → Joined → Result (Option (List ℕ)) ProgressFault → Type 0
 AreOpenParts here frame nodes joined result = IfOk result (λ o. IfSome o (λ ids. AreOpenIn here.task.now here.world.now frame nodes joined ids))
+
+-- it is the number of the join of what has to hold next for the parts
+abbrev pub IsOpenResidual : Here → List (Option Value) → Nodes → OpenParts → Nodes → Result ℕ ProgressFault → Type 0
+IsOpenResidual here frame old o new result = IfOk result (λ n. Denotes new n (join_of_residuals here.task.now here.world.now frame old o.joined o.parts.now))
+
+-- it is the number of a number's sentence progressed through the world
+abbrev pub IsProgressedHere : Here → Nodes → ℕ → Nodes → Result ℕ ProgressFault → Type 0
+IsProgressedHere here old i new result = IsProgressed here.task.now here.world.now old i new result
+
+-- or a fault of what is looked at for it
+abbrev pub IsProgressFaultHere : Here → Nodes → ℕ → Result ℕ ProgressFault → Type 0
+IsProgressFaultHere here nodes i result = IsProgressFault here.task.now here.world.now nodes i result

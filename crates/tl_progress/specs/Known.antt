@@ -21,3 +21,7 @@ AreResiduals p w ts found = (k i : ℕ) → found k ≡ Some i → (k < length t
 pub record IsRightlyKnown (p : PlainProblem) (w : World) (ts : List FormulaTree) (known : WorkedOut) : Type 0 where
   pub truths : AreTruths p w ts (get nat_eq known.truths)
   pub residuals : AreResiduals p w ts (get nat_eq known.residuals)
+
+-- so it is whatever the problem, the world and the trees
+abbrev pub IsRightAnywhere : WorkedOut → Type 0
+IsRightAnywhere known = (p : PlainProblem) (w : World) (ts : List FormulaTree) → IsRightlyKnown p w ts known

@@ -3,6 +3,7 @@ pub mod Answers
 pub mod Sentences
 pub mod Known
 pub mod Broken
+pub mod WorldsKept
 pub mod KeptResiduals
 pub mod FrameValues
 pub mod FewNumbers
@@ -12,3 +13,4 @@ pub mod Remaining
 pub mod Calls
 pub mod CallsHere
 pub mod Quick
+pub mod PutIn

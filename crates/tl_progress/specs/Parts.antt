@@ -1,5 +1,5 @@
 -- The parts of a node that are worked through before it, and what is below a number.
-use Rattle.std.specs.Prelude.{◌≤◌, ◌⊎◌, ℕ, List, [], ◌∷◌, ◌++◌, Bool, cond, ◌≡◌}
+use Rattle.std.specs.Prelude.{◌≤◌, ◌⊎◌, ℕ, List, [], ◌∷◌, ◌++◌, Bool, cond, ◌≡◌, slice_get, Some}
 use Rattle.tl_nodes.specs.declared.node.Node.{Node}
 use Rattle.tl_nodes.specs.declared.node.Node.TheVariants as node
 use Rattle.tl_nodes.specs.declared.nodes.Nodes.{Nodes}
@@ -56,6 +56,10 @@ abbrev pub join_parts : FormulaTree → List FormulaTree
 join_parts (conjunction fs) = formulas_in fs
 join_parts (disjunction fs) = formulas_in fs
 join_parts f = []
+
+-- the number denotes part i of a number's tree
+abbrev pub IsPartAt : Nodes → ℕ → ℕ → ℕ → Type 0
+IsPartAt nodes at i part = slice_get (join_parts (tree_at (trees nodes) at)) i ≡ Some (tree_at (trees nodes) part)
 
 -- the formula is the conjunction or the disjunction of its parts
 abbrev pub IsJoin : Junction → FormulaTree → Type 0

@@ -5,8 +5,10 @@ use Rattle.tl_nodes.specs.declared.nodes.Nodes.{Nodes}
 use Rattle.tl_nodes.specs.Joins.{simplified_join}
 use Rattle.tl_nodes.specs.NodeTrees.{tree_at}
 use Rattle.tl_nodes.specs.Numbers.{trees}
+use Rattle.tl_progress.specs.declared.remaining.PartAndRest.{PartAndRest}
+use Rattle.tl_progress.specs.declared.remaining.StepsAnswer.{StepsAnswer}
+use Rattle.tl_progress.specs.declared.remaining.UntilAnswers.{UntilAnswers}
 use Rattle.tl_progress.specs.Steps.{steps_left}
-use Rattle.tl_syntax.specs.declared.junction.Junction.{Junction}
 use Rattle.tl_syntax.specs.declared.junction.Junction.TheVariants.{All, Any}
 use Rattle.tl_syntax.specs.declared.value.Value.{Value}
 use Rattle.tl_syntax.specs.Substitution.{substituted}
@@ -17,13 +19,13 @@ abbrev pub remaining_at : Nodes → List (Option Value) → ℕ → FormulaTree
 remaining_at nodes frame i = substituted (assignment_in frame) (tree_at (trees nodes) i)
 
 -- the join of a part and of what remains of a number's tree
-abbrev pub with_remaining : Nodes → List (Option Value) → Junction → ℕ → ℕ → FormulaTree
-with_remaining nodes frame junction part i = simplified_join junction (tree_at (trees nodes) part ∷ substituted (assignment_in frame) (tree_at (trees nodes) i) ∷ [])
+abbrev pub with_remaining : Nodes → List (Option Value) → PartAndRest → FormulaTree
+with_remaining nodes frame b = simplified_join b.junction (tree_at (trees nodes) b.part ∷ substituted (assignment_in frame) (tree_at (trees nodes) b.at) ∷ [])
 
 -- what has to hold next for an `until`, from that for its second part and its first
-abbrev pub until_remaining : Nodes → List (Option Value) → ℕ → ℕ → ℕ → FormulaTree
-until_remaining nodes frame second first i = simplified_join Any (tree_at (trees nodes) second ∷ simplified_join All (tree_at (trees nodes) first ∷ substituted (assignment_in frame) (tree_at (trees nodes) i) ∷ []) ∷ [])
+abbrev pub until_remaining : Nodes → List (Option Value) → UntilAnswers → FormulaTree
+until_remaining nodes frame u = simplified_join Any (tree_at (trees nodes) u.second ∷ simplified_join All (tree_at (trees nodes) u.first ∷ substituted (assignment_in frame) (tree_at (trees nodes) u.at) ∷ []) ∷ [])
 
 -- what has to hold next for a formula that counts states, from that for its part
-abbrev pub steps_left_at : Nodes → List (Option Value) → Junction → ℕ → ℕ → ℕ → FormulaTree
-steps_left_at nodes frame junction steps answer part = steps_left junction (assignment_in frame) steps (tree_at (trees nodes) answer) (tree_at (trees nodes) part)
+abbrev pub steps_left_at : Nodes → List (Option Value) → StepsAnswer → FormulaTree
+steps_left_at nodes frame s = steps_left s.junction (assignment_in frame) s.steps (tree_at (trees nodes) s.answer) (tree_at (trees nodes) s.part)

@@ -1,18 +1,18 @@
 // Formulas that changes of facts make false, whatever else is true.
 ghost use Rattle.std.specs.List.{list_any};
-ghost use Rattle.std.specs.Prelude.{◌≡◌, ◌<◌, ℕ, true, false, length, IsTrue};
+ghost use Rattle.std.specs.Prelude.{◌≡◌, ◌<◌, true, false, length, IsTrue};
 ghost use Rattle.tl_nodes.specs.Fits.{all_below};
 ghost use Rattle.tl_nodes.specs.NodeTrees.{tree_at};
 ghost use Rattle.tl_nodes.specs.Numbers.{trees};
-ghost use Rattle.tl_progress.specs.Broken.{LeavesTruth, are_value_terms, is_added, is_deleted, is_fact_of, is_value_term};
+ghost use Rattle.tl_progress.specs.Broken.{LeavesTruth, OneLeavesFalse, are_value_terms, is_added, is_deleted, is_fact_of, is_value_term};
 ghost use Rattle.tl_syntax.specs.DerivedTests.{fact_eq};
-ghost use Rattle.tl_syntax.specs.Lists.{Among};
 ghost use Rattle.tl_syntax.specs.TreeOfFormula.{tree_of_formula};
 ghost use Rattle.tl_syntax.specs.TreeOfTerm.{tree_of_term};
 
 use crate::changed::Changed;
+use crate::part_places::{Conjunction, PartPlaces};
 use tl_nodes::{Node, Nodes};
-use tl_syntax::{Fact, Formula, Ids, Term, Value};
+use tl_syntax::{Fact, Formula, Term, Value};
 
 // Whether the term is the value itself.
 fn is_value_term(term: &Term, value: Value) -> bool
@@ -115,14 +115,19 @@ fn is_broken(nodes: &Nodes, at: usize, dels: &[Fact], adds: &[Fact]) -> bool
     }
 }
 
-// Whether one of the numbers' trees is a fact that the changes delete, or the negation of one that they add. All are below `at`.
-fn is_one_broken(nodes: &Nodes, at: usize, parts: &Ids, dels: &[Fact], adds: &[Fact]) -> bool
-    requires inside { at < length (trees nodes.now) }
-    requires below { all_below at parts.now ≡ true }
-    ensures { IsTrue result → (q : ℕ) × Among q parts.now × LeavesTruth false (tree_at (trees nodes.now) q) dels.now adds.now }
+// Whether one of the conjunction's parts is a fact that the changes delete, or the negation of one that they add, seen by a look at each.
+fn is_seen_broken(
+    conjunction: &Conjunction<'_>,
+    changed: &Changed,
+    dels: &[Fact],
+    adds: &[Fact],
+) -> bool
+    requires inside { conjunction.now.at < length (trees conjunction.now.nodes.now) }
+    requires below { all_below conjunction.now.at conjunction.now.parts.now ≡ true }
+    ensures { IsTrue result → OneLeavesFalse conjunction.now.nodes.now conjunction.now.parts.now dels.now adds.now }
 {
-    let changed = Changed::of(dels, adds);
-    for part in parts.as_slice().iter() {
+    let nodes = conjunction.nodes;
+    for part in conjunction.parts.as_slice().iter() {
         if changed.may_break(nodes.mark(*part)) && is_broken(nodes, *part, dels, adds) {
             return true;
         }
@@ -130,14 +135,69 @@ fn is_one_broken(nodes: &Nodes, at: usize, parts: &Ids, dels: &[Fact], adds: &[F
     false
 }
 
+// Whether one of the conjunction's parts is found by the fingerprints of the changes to be a fact that they delete, or the negation of one that they add.
+fn is_found_broken(
+    conjunction: &Conjunction<'_>,
+    places: &PartPlaces,
+    marks: &[u64],
+    dels: &[Fact],
+    adds: &[Fact],
+) -> bool
+    requires inside { conjunction.now.at < length (trees conjunction.now.nodes.now) }
+    requires below { all_below conjunction.now.at conjunction.now.parts.now ≡ true }
+    ensures { IsTrue result → OneLeavesFalse conjunction.now.nodes.now conjunction.now.parts.now dels.now adds.now }
+{
+    for mark in marks.iter() {
+        if let Some(part) = places.part(conjunction, *mark) {
+            if is_broken(conjunction.nodes, part, dels, adds) {
+                return true;
+            }
+        }
+    }
+    false
+}
+
+// Whether one of the conjunction's parts is a fact that the changes delete, or the negation of one that they add, as far as that is found.
+fn is_one_broken(
+    conjunction: &Conjunction<'_>,
+    places: &mut PartPlaces,
+    dels: &[Fact],
+    adds: &[Fact],
+) -> bool
+    requires inside { conjunction.now.at < length (trees conjunction.now.nodes.now) }
+    requires below { all_below conjunction.now.at conjunction.now.parts.now ≡ true }
+    ensures { IsTrue result → OneLeavesFalse conjunction.now.nodes.now conjunction.now.parts.now dels.now adds.now }
+{
+    let changed = Changed::of(dels, adds);
+    if places.know(conjunction) {
+        if let Some(marks) = changed.marks() {
+            return is_found_broken(conjunction, places, marks, dels, adds);
+        }
+    }
+    is_seen_broken(conjunction, &changed, dels, adds)
+}
+
 /// Whether the changes of facts decide by themselves that the number's tree leaves FALSE in the world after them: it is a fact that they delete, or the negation of one that they add, or a conjunction with such a part.
-/// Most residuals that prune a search are decided so, and the world need not be made. It takes no memory.
-pub fn is_broken_by(nodes: &Nodes, id: usize, dels: &[Fact], adds: &[Fact]) -> bool
+/// Most residuals that prune a search are decided so, and the world need not be made. Of a conjunction with many parts those that the changes name are looked up, and where they stand is noted once for many actions; that takes memory, and where there is none each part is looked at.
+pub fn is_broken_by(
+    nodes: &Nodes,
+    id: usize,
+    places: &mut PartPlaces,
+    dels: &[Fact],
+    adds: &[Fact],
+) -> bool
     requires { id < length (trees nodes.now) }
     ensures { IsTrue result → LeavesTruth false (tree_at (trees nodes.now) id) dels.now adds.now }
 {
     match nodes.get(id) {
-        Node::And(parts) => is_one_broken(nodes, id, parts, dels, adds),
+        Node::And(parts) => {
+            let conjunction = Conjunction {
+                nodes,
+                at: id,
+                parts,
+            };
+            is_one_broken(&conjunction, places, dels, adds)
+        }
         _ => is_broken(nodes, id, dels, adds),
     }
 }

@@ -47,6 +47,15 @@ impl Changed {
         self.count += 1;
     }
 
+    /// The fingerprints, where there are not too many of them.
+    pub fn marks(&self) -> Option<&[u64]> {
+        if self.is_full {
+            None
+        } else {
+            Some(&self.marks[..self.count])
+        }
+    }
+
     /// Whether a tree with this fingerprint may be made false.
     pub fn may_break(&self, mark: u64) -> bool {
         if self.sieve >> (mark >> 58) & 1 == 0 {

@@ -7,6 +7,7 @@ ghost use Rattle.tl_progress.specs.Parts.{IsJoin};
 use crate::ProgressFault;
 use crate::here::Here;
 use crate::joins::decides;
+use crate::layers::JoinAt;
 use crate::order::is_plain;
 use crate::parts::{part_at, part_count};
 use crate::residual::state_residual;
@@ -20,25 +21,24 @@ fn early_join(
     nodes: &Nodes,
     env: &mut Env,
     memory: &mut Memory,
-    at: usize,
-    junction: Junction,
+    whole: JoinAt,
 ) -> Result<Option<usize>, ProgressFault>
-    requires at { at < length (trees nodes.now) }
-    requires join { IsJoin junction (tree_in nodes.now at) }
-    requires fits { FitsHere here.now (tree_in nodes.now at) }
+    requires at { whole.at < length (trees nodes.now) }
+    requires join { IsJoin whole.junction (tree_in nodes.now whole.at) }
+    requires fits { FitsHere here.now (tree_in nodes.now whole.at) }
     requires known { KnowsTruths here.now nodes.now }
     requires remembers { RemembersHere here.now memory.old }
-    ensures number { IsEarlyResidual here.now env.old nodes.now at result }
-    ensures cause { IsResidualFault here.now env.old nodes.now at result }
+    ensures number { IsEarlyResidual here.now env.old nodes.now whole.at result }
+    ensures cause { IsResidualFault here.now env.old nodes.now whole.at result }
     ensures frame { env.new ≡ env.old }
     ensures remembers { RemembersHere here.now memory.new }
 {
-    for i in 0..part_count(nodes, at) {
-        let part = part_at(nodes, at, i);
+    for i in 0..part_count(nodes, whole.at) {
+        let part = part_at(nodes, whole.at, i);
         if is_plain(nodes, part) && !nodes.temporal(part) {
             match state_residual(here, nodes, env, memory, part) {
                 Ok(number) => {
-                    if decides(nodes, number, junction) {
+                    if decides(nodes, number, whole.junction) {
                         return Ok(Some(number));
                     }
                 }
@@ -68,8 +68,20 @@ pub(crate) fn early_residual(
     ensures remembers { RemembersHere here.now memory.new }
 {
     match nodes.get(at) {
-        Node::And(_) => early_join(here, nodes, env, memory, at, Junction::All),
-        Node::Or(_) => early_join(here, nodes, env, memory, at, Junction::Any),
+        Node::And(_) => {
+            let whole = JoinAt {
+                junction: Junction::All,
+                at,
+            };
+            early_join(here, nodes, env, memory, whole)
+        }
+        Node::Or(_) => {
+            let whole = JoinAt {
+                junction: Junction::Any,
+                at,
+            };
+            early_join(here, nodes, env, memory, whole)
+        }
         _ => Ok(None),
     }
 }

@@ -1,7 +1,7 @@
 // Frames as they are read by a call.
-ghost use Rattle.std.specs.Prelude.{◌≡◌, [], length, IfOk, OnOk, IsTrue};
+ghost use Rattle.std.specs.Prelude.{◌≡◌, ◌≤◌, ◌+◌, [], false, length, IfOk, OnOk, IsTrue};
 ghost use Rattle.tl_eval.specs.Frames.{assignment_in};
-ghost use Rattle.tl_progress.specs.FrameValues.{with_slot};
+ghost use Rattle.tl_progress.specs.FrameValues.{with_slot, BindsBefore, HaveNoValue};
 ghost use Rattle.tl_syntax.specs.Assignment.{no_values};
 ghost use Rattle.tl_syntax.specs.Bindings.{assignment_of};
 
@@ -57,14 +57,45 @@ fn bind_few(out: &mut FewBindings, slot: u32, value: Option<Value>) -> bool
     }
 }
 
+// Adds the bindings of the slots from one on up to another. False: there is no room for them.
+fn put_slots(out: &mut FewBindings, frame: &[Option<Value>], from: u32, to: u32) -> bool
+    requires before { BindsBefore from frame.now out.old }
+    requires within { to ≤ length frame.now }
+    requires up { from ≤ to }
+    ensures { IsTrue result → BindsBefore to frame.now out.new }
+{
+    for slot in from..to {
+        if !bind_few(out, slot, frame[slot as usize]) {
+            return false;
+        }
+    }
+    true
+}
+
+// Whether one of the four slots from this one on has a value.
+fn has_value(frame: &[Option<Value>], slot: usize) -> bool
+    requires { slot + 4 ≤ length frame.now }
+    ensures { result ≡ false → HaveNoValue slot frame.now }
+{
+    let first = frame[slot].is_some() | frame[slot + 1].is_some();
+    let second = frame[slot + 2].is_some() | frame[slot + 3].is_some();
+    first | second
+}
+
 /// Puts the values of a frame to no bindings, as bindings of their slots. False: they are more than a few. It takes no memory.
+///
+/// Most slots have no value, and four are asked at once.
 pub(crate) fn put_few(out: &mut FewBindings, frame: &[Option<Value>]) -> bool
     requires none { out.old ≡ [] }
     requires slots { length frame.now ≡ 32 }
     ensures { IsTrue result → assignment_of out.new ≡ assignment_in frame.now }
 {
-    for slot in 0..32_u32 {
-        if !bind_few(out, slot, frame[slot as usize]) {
+    for four in 0..8_u32 {
+        let slot = 4 * four;
+        if !has_value(frame, slot as usize) {
+            continue;
+        }
+        if !put_slots(out, frame, slot, slot + 4) {
             return false;
         }
     }

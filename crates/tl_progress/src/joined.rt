@@ -1,11 +1,9 @@
 // What has to hold next for a conjunction or a disjunction without free variables, from its parts with temporal words: the others are read first, and most residuals that prune a search are decided by one of them.
-ghost use Rattle.std.specs.Prelude.{◌≡◌, ◌<◌, length, IfOk, IfErr, IfSome, IfNone, false};
+ghost use Rattle.std.specs.Prelude.{◌≡◌, ◌<◌, length, false};
 ghost use Rattle.tl_nodes.specs.Numbering.{Keeps};
-ghost use Rattle.tl_nodes.specs.Numbers.{trees, Denotes, tree_in};
-ghost use Rattle.tl_progress.specs.Answers.{IsCausedBy};
-ghost use Rattle.tl_progress.specs.Calls.{IsSentenceIn, AreResidualsIn, residual_at, looked_for_residual_at, join_of_residuals, IsDecided, AreOpenIn};
-ghost use Rattle.tl_progress.specs.CallsHere.{IsSentenceHere, KnowsTruths, RemembersHere, IsNextConstant, IsResidualFault, IsDecidedEarly, AreOpenParts};
-ghost use Rattle.tl_progress.specs.KeptResiduals.{StaysElsewhere, found_in};
+ghost use Rattle.tl_nodes.specs.Numbers.{trees, tree_in};
+ghost use Rattle.tl_progress.specs.CallsHere.{IsSentenceHere, KnowsTruths, KeepsRightlyHere, RemembersHere, IsNextConstant, IsResidual, IsResidualFault, IsDecidedEarly, AreOpenParts, IsOpenResidual};
+ghost use Rattle.tl_progress.specs.KeptResiduals.{StaysElsewhere};
 ghost use Rattle.tl_progress.specs.Parts.{IsBelow, IsJoin};
 ghost use Rattle.tl_syntax.specs.Lists.{Each};
 ghost use Rattle.tl_syntax.specs.StateFormulas.{IsState};
@@ -20,11 +18,9 @@ use crate::parts::{part_at, part_count};
 use crate::progression::temporal_residual;
 use crate::residuals::{Incoming, Residuals};
 use crate::truth::{basic_truth, truth_of};
-use std::alloc::Global;
 use tl_eval::{Env, Memory};
 use tl_nodes::{Node, Nodes};
 use tl_syntax::Junction;
-use tl_world::{Task, World};
 
 /// A conjunction or a disjunction that comes in to a world.
 #[derive(Clone, Copy)]
@@ -35,6 +31,15 @@ pub(crate) struct Joined {
     pub world: usize,
     /// The number of the formula.
     pub at: usize,
+}
+
+/// The parts of a conjunction or a disjunction that are left once those without temporal words are read.
+#[derive(Clone, Copy)]
+struct OpenParts<'p> {
+    /// The conjunction or the disjunction.
+    joined: Joined,
+    /// The numbers of the parts.
+    parts: &'p [usize],
 }
 
 // The truth of a number's tree, which has neither a temporal word nor a free variable.
@@ -106,53 +111,50 @@ fn remembering_open_parts(
 
 // The parts with temporal words: None where one of the others decides the join.
 fn open_parts(
-    alloc: Global,
+    here: &Here,
     nodes: &Nodes,
-    task: &Task,
-    w: &World,
     env: &mut Env,
     joined: Joined,
 ) -> Result<Option<Numbers>, ProgressFault>
     requires at { joined.at < length (trees nodes.now) }
     requires join { IsJoin joined.junction (tree_in nodes.now joined.at) }
-    requires sentence { IsSentenceIn task.now (tree_in nodes.now joined.at) }
-    ensures decided { IfOk result (λ o. IfNone o (IsDecided task.now w.now env.old nodes.now joined)) }
-    ensures parts { IfOk result (λ o. IfSome o (λ v. AreOpenIn task.now w.now env.old nodes.now joined v)) }
-    ensures cause { IfErr result (IsCausedBy (looked_for_residual_at task.now w.now env.old nodes.now joined.at)) }
+    requires sentence { IsSentenceHere here.now (tree_in nodes.now joined.at) }
+    ensures decided { IsDecidedEarly here.now env.old nodes.now joined result }
+    ensures parts { AreOpenParts here.now env.old nodes.now joined result }
+    ensures cause { IsResidualFault here.now env.old nodes.now joined.at result }
     ensures frame { env.new ≡ env.old }
 {
-    let here = Here {
-        alloc,
-        task,
-        world: w,
+    let anew = Here {
+        alloc: here.alloc,
+        task: here.task,
+        world: here.world,
         known: None,
     };
-    let mut memory = env.lend_memory(alloc);
-    let answer = remembering_open_parts(&here, nodes, env, &mut memory, joined);
+    let mut memory = env.lend_memory(here.alloc);
+    let answer = remembering_open_parts(&anew, nodes, env, &mut memory, joined);
     env.take_back(memory);
     answer
 }
 
 // The number of what has to hold next for a number's tree, which has a temporal word and no free variable, where it is not kept. It is kept then.
 fn residual_anew(
+    here: &Here,
     nodes: &mut Nodes,
-    task: &Task,
-    w: &World,
     env: &mut Env,
     residuals: &mut Residuals,
     incoming: Incoming,
 ) -> Result<usize, ProgressFault>
     requires at { incoming.formula < length (trees nodes.old) }
-    requires sentence { IsSentenceIn task.now (tree_in nodes.old incoming.formula) }
-    requires found { AreResidualsIn task.now w.now nodes.old (found_in residuals.old incoming.world) }
+    requires sentence { IsSentenceHere here.now (tree_in nodes.old incoming.formula) }
+    requires found { KeepsRightlyHere here.now nodes.old residuals.old incoming.world }
     ensures kept { Keeps (trees nodes.old) (trees nodes.new) }
-    ensures number { IfOk result (λ i. Denotes nodes.new i (residual_at task.now w.now env.old nodes.old incoming.formula)) }
-    ensures found { AreResidualsIn task.now w.now nodes.new (found_in residuals.new incoming.world) }
+    ensures number { IsResidual here.now env.old nodes.old incoming.formula nodes.new result }
+    ensures found { KeepsRightlyHere here.now nodes.new residuals.new incoming.world }
     ensures elsewhere { StaysElsewhere incoming.world residuals.old residuals.new }
-    ensures cause { IfErr result (IsCausedBy (looked_for_residual_at task.now w.now env.old nodes.old incoming.formula)) }
+    ensures cause { IsResidualFault here.now env.old nodes.old incoming.formula result }
     ensures frame { env.new ≡ env.old }
 {
-    match temporal_residual(residuals.alloc, nodes, task, w, env, incoming.formula) {
+    match temporal_residual(here, nodes, env, incoming.formula) {
         Ok(number) => match residuals.keep(incoming, number) {
             Ok(()) => Ok(number),
             Err(_) => Err(ProgressFault::NoMemory),
@@ -163,93 +165,93 @@ fn residual_anew(
 
 /// The number of what has to hold next for a number's tree, which has a temporal word and no free variable: the one that is kept, or else the one that is worked out and then kept.
 pub(crate) fn kept_residual(
+    here: &Here,
     nodes: &mut Nodes,
-    task: &Task,
-    w: &World,
     env: &mut Env,
     residuals: &mut Residuals,
     incoming: Incoming,
 ) -> Result<usize, ProgressFault>
     requires at { incoming.formula < length (trees nodes.old) }
-    requires sentence { IsSentenceIn task.now (tree_in nodes.old incoming.formula) }
-    requires found { AreResidualsIn task.now w.now nodes.old (found_in residuals.old incoming.world) }
+    requires sentence { IsSentenceHere here.now (tree_in nodes.old incoming.formula) }
+    requires found { KeepsRightlyHere here.now nodes.old residuals.old incoming.world }
     ensures kept { Keeps (trees nodes.old) (trees nodes.new) }
-    ensures number { IfOk result (λ i. Denotes nodes.new i (residual_at task.now w.now env.old nodes.old incoming.formula)) }
-    ensures found { AreResidualsIn task.now w.now nodes.new (found_in residuals.new incoming.world) }
+    ensures number { IsResidual here.now env.old nodes.old incoming.formula nodes.new result }
+    ensures found { KeepsRightlyHere here.now nodes.new residuals.new incoming.world }
     ensures elsewhere { StaysElsewhere incoming.world residuals.old residuals.new }
-    ensures cause { IfErr result (IsCausedBy (looked_for_residual_at task.now w.now env.old nodes.old incoming.formula)) }
+    ensures cause { IsResidualFault here.now env.old nodes.old incoming.formula result }
     ensures frame { env.new ≡ env.old }
 {
     match residuals.find(incoming) {
         Some(number) => Ok(number),
-        None => residual_anew(nodes, task, w, env, residuals, incoming),
+        None => residual_anew(here, nodes, env, residuals, incoming),
     }
 }
 
 // The number of the join of what has to hold next for the parts.
 fn parts_residual(
+    here: &Here,
     nodes: &mut Nodes,
-    task: &Task,
-    w: &World,
     env: &mut Env,
     residuals: &mut Residuals,
-    joined: Joined,
-    parts: &[usize],
+    rest: &OpenParts,
 ) -> Result<usize, ProgressFault>
-    requires at { joined.at < length (trees nodes.old) }
-    requires sentence { IsSentenceIn task.now (tree_in nodes.old joined.at) }
-    requires below { Each (IsBelow false (trees nodes.old) joined.at) parts.now }
-    requires found { AreResidualsIn task.now w.now nodes.old (found_in residuals.old joined.world) }
+    requires at { rest.now.joined.at < length (trees nodes.old) }
+    requires sentence { IsSentenceHere here.now (tree_in nodes.old rest.now.joined.at) }
+    requires below { Each (IsBelow false (trees nodes.old) rest.now.joined.at) rest.now.parts.now }
+    requires found { KeepsRightlyHere here.now nodes.old residuals.old rest.now.joined.world }
     ensures kept { Keeps (trees nodes.old) (trees nodes.new) }
-    ensures number { IfOk result (λ i. Denotes nodes.new i (join_of_residuals task.now w.now env.old nodes.old joined parts.now)) }
-    ensures found { AreResidualsIn task.now w.now nodes.new (found_in residuals.new joined.world) }
-    ensures elsewhere { StaysElsewhere joined.world residuals.old residuals.new }
-    ensures cause { IfErr result (IsCausedBy (looked_for_residual_at task.now w.now env.old nodes.old joined.at)) }
+    ensures number { IsOpenResidual here.now env.old nodes.old rest.now nodes.new result }
+    ensures found { KeepsRightlyHere here.now nodes.new residuals.new rest.now.joined.world }
+    ensures elsewhere { StaysElsewhere rest.now.joined.world residuals.old residuals.new }
+    ensures cause { IsResidualFault here.now env.old nodes.old rest.now.joined.at result }
     ensures frame { env.new ≡ env.old }
 {
-    let mut answers = Numbers::new(residuals.alloc);
-    for part in parts.iter() {
+    let mut answers = Numbers::new(here.alloc);
+    for part in rest.parts.iter() {
         let incoming = Incoming {
-            world: joined.world,
+            world: rest.joined.world,
             formula: *part,
         };
-        match kept_residual(nodes, task, w, env, residuals, incoming) {
+        match kept_residual(here, nodes, env, residuals, incoming) {
             Ok(answer) => {
-                if decides(nodes, answer, joined.junction) {
+                if decides(nodes, answer, rest.joined.junction) {
                     return Ok(answer);
                 }
-                gather(nodes, &mut answers, answer, joined.junction)?;
+                gather(nodes, &mut answers, answer, rest.joined.junction)?;
             }
             Err(fault) => return Err(fault),
         }
     }
-    let number = join(nodes, answers.as_slice(), joined.junction)?;
+    let number = join(nodes, answers.as_slice(), rest.joined.junction)?;
     Ok(number)
 }
 
 /// The number of what has to hold next for a conjunction or a disjunction without free variables.
 pub(crate) fn joined_residual(
+    here: &Here,
     nodes: &mut Nodes,
-    task: &Task,
-    w: &World,
     env: &mut Env,
     residuals: &mut Residuals,
     joined: Joined,
 ) -> Result<usize, ProgressFault>
     requires at { joined.at < length (trees nodes.old) }
     requires join { IsJoin joined.junction (tree_in nodes.old joined.at) }
-    requires sentence { IsSentenceIn task.now (tree_in nodes.old joined.at) }
-    requires found { AreResidualsIn task.now w.now nodes.old (found_in residuals.old joined.world) }
+    requires sentence { IsSentenceHere here.now (tree_in nodes.old joined.at) }
+    requires found { KeepsRightlyHere here.now nodes.old residuals.old joined.world }
     ensures kept { Keeps (trees nodes.old) (trees nodes.new) }
-    ensures number { IfOk result (λ i. Denotes nodes.new i (residual_at task.now w.now env.old nodes.old joined.at)) }
-    ensures found { AreResidualsIn task.now w.now nodes.new (found_in residuals.new joined.world) }
+    ensures number { IsResidual here.now env.old nodes.old joined.at nodes.new result }
+    ensures found { KeepsRightlyHere here.now nodes.new residuals.new joined.world }
     ensures elsewhere { StaysElsewhere joined.world residuals.old residuals.new }
-    ensures cause { IfErr result (IsCausedBy (looked_for_residual_at task.now w.now env.old nodes.old joined.at)) }
+    ensures cause { IsResidualFault here.now env.old nodes.old joined.at result }
     ensures frame { env.new ≡ env.old }
 {
-    match open_parts(residuals.alloc, nodes, task, w, env, joined) {
+    match open_parts(here, nodes, env, joined) {
         Ok(Some(parts)) => {
-            parts_residual(nodes, task, w, env, residuals, joined, parts.as_slice())
+            let rest = OpenParts {
+                joined,
+                parts: parts.as_slice(),
+            };
+            parts_residual(here, nodes, env, residuals, &rest)
         }
         Ok(None) => Ok(constant_number(nodes, joined.junction.deciding_truth())),
         Err(fault) => Err(fault),

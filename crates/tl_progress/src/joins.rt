@@ -1,9 +1,9 @@
 // Joins of numbers.
-ghost use Rattle.std.specs.Prelude.{◌≡◌, ◌<◌, true, length, IsTrue, IfOk, OnOk};
+ghost use Rattle.std.specs.Prelude.{◌≡◌, ◌<◌, true, length, IsTrue, OnOk};
 ghost use Rattle.tl_nodes.specs.Fits.{all_below};
-ghost use Rattle.tl_nodes.specs.Joins.{simplified_join};
+ghost use Rattle.tl_nodes.specs.Given.{join_of, GivesNumber};
 ghost use Rattle.tl_nodes.specs.Numbering.{Keeps};
-ghost use Rattle.tl_nodes.specs.Numbers.{trees, Denotes, tree_in, trees_of_numbers};
+ghost use Rattle.tl_nodes.specs.Numbers.{trees, Denotes, tree_in};
 ghost use Rattle.tl_progress.specs.Parts.{GathersPart};
 ghost use Rattle.tl_syntax.specs.Junctions.{deciding_truth};
 ghost use Rattle.tl_terms.specs.Progression.{constant};
@@ -68,7 +68,7 @@ pub(crate) fn join(
 ) -> Result<usize, NoMemory>
     requires { all_below (length (trees nodes.old)) parts.now ≡ true }
     ensures kept { Keeps (trees nodes.old) (trees nodes.new) }
-    ensures number { IfOk result (λ i. Denotes nodes.new i (simplified_join junction (trees_of_numbers nodes.old parts.now))) }
+    ensures number { GivesNumber nodes.new (join_of nodes.old junction parts.now) result }
 {
     match junction {
         Junction::All => nodes.and(parts),

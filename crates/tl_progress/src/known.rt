@@ -1,10 +1,5 @@
 // What a call has worked out.
-ghost use Rattle.std.specs.Prelude.{ℕ};
-ghost use Rattle.tl_progress.specs.Known.{IsRightlyKnown};
-ghost use Rattle.tl_syntax.specs.Trees.{FormulaTree};
-ghost use Rattle.std.specs.Prelude.{List};
-ghost use Rattle.tl_terms.specs.Problem.{PlainProblem};
-ghost use Rattle.tl_terms.specs.World.{World};
+ghost use Rattle.tl_progress.specs.Known.{IsRightAnywhere};
 
 use indexmap::IndexMap;
 use std::alloc::Global;
@@ -21,7 +16,7 @@ pub(crate) struct WorkedOut {
 impl WorkedOut {
     /// Nothing is known yet. It takes no memory.
     pub fn new(alloc: Global) -> WorkedOut
-        ensures { (p : PlainProblem) (w : World) (ts : List FormulaTree) → IsRightlyKnown p w ts result }
+        ensures { IsRightAnywhere result }
     {
         WorkedOut {
             truths: IndexMap::new(alloc),

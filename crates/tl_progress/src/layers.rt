@@ -12,6 +12,15 @@ pub(crate) struct Join<'a> {
     pub parts: &'a Ids,
 }
 
+/// A conjunction or a disjunction, by its number.
+#[derive(Clone, Copy)]
+pub(crate) struct JoinAt {
+    /// All parts, or any.
+    pub junction: Junction,
+    /// The number of the formula.
+    pub at: usize,
+}
+
 /// A quantified formula, as it stands in its node.
 #[derive(Clone, Copy)]
 pub(crate) struct Quantified<'a> {

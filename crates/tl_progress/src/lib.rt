@@ -15,14 +15,15 @@
 //! - `quantifier`: a quantifier in its node, and its instances, one after another.
 //! - `residual`: what has to hold next, under a frame.
 //! - `broken`: formulas that changes of facts make false, whatever else is true.
-//! - `changed`: the fingerprints of what changes of facts make false.
+//! - `changed`: the fingerprints of what changes of facts make false; `part_places`, where the parts of a conjunction stand by theirs.
 //! - `early`: what decides a conjunction or a disjunction before its parts are worked out.
 //! - `joined`: conjunctions and disjunctions, by their parts with temporal words.
-//! - `residuals`: what is kept of worlds between calls.
+//! - `residuals`: what is kept of worlds between calls; `by_world`, entry by entry.
 //! - `progression`: progression.
 #![tactic(auto)]
 
 mod broken;
+mod by_world;
 mod changed;
 mod early;
 mod fault;
@@ -36,6 +37,7 @@ mod known;
 mod layers;
 mod numbers;
 mod order;
+mod part_places;
 mod parts;
 mod progression;
 mod quantifier;
@@ -49,5 +51,6 @@ mod truth;
 pub use broken::is_broken_by;
 pub use fault::ProgressFault;
 pub use idling::idle;
+pub use part_places::PartPlaces;
 pub use progression::{progress, progress_kept};
 pub use residuals::{Incoming, Residuals};

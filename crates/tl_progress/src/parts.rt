@@ -2,7 +2,7 @@
 ghost use Rattle.std.specs.Prelude.{◌≡◌, ◌<◌, length, slice_get, Some};
 ghost use Rattle.tl_nodes.specs.NodeTrees.{tree_at};
 ghost use Rattle.tl_nodes.specs.Numbers.{trees};
-ghost use Rattle.tl_progress.specs.Parts.{join_parts};
+ghost use Rattle.tl_progress.specs.Parts.{join_parts, IsPartAt};
 
 use tl_nodes::{Node, Nodes};
 use tl_syntax::Ids;
@@ -32,7 +32,7 @@ pub(crate) fn part_at(nodes: &Nodes, at: usize, i: usize) -> usize
     requires at { at < length (trees nodes.now) }
     requires i { i < length (join_parts (tree_at (trees nodes.now) at)) }
     ensures smaller { result < at }
-    ensures tree { slice_get (join_parts (tree_at (trees nodes.now) at)) i ≡ Some (tree_at (trees nodes.now) result) }
+    ensures tree { IsPartAt nodes.now at i result }
 {
     match nodes.get(at) {
         Node::And(parts) => part_of(parts, i),

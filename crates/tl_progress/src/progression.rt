@@ -1,11 +1,10 @@
 // Progression.
-ghost use Rattle.std.specs.Prelude.{◌≡◌, ◌<◌, length, IfOk, IfErr, OnOk};
+ghost use Rattle.std.specs.Prelude.{◌≡◌, ◌<◌, length, IfOk, OnOk};
 ghost use Rattle.tl_nodes.specs.Numbering.{Keeps};
-ghost use Rattle.tl_nodes.specs.Numbers.{trees, Denotes, tree_in};
-ghost use Rattle.tl_progress.specs.Answers.{IsCausedBy};
-ghost use Rattle.tl_progress.specs.Calls.{IsSentenceIn, AreResidualsIn, residual_at, looked_for_residual_at, progressed_at, looked_by_progressing_at, IsProgression, StaysNamed};
-ghost use Rattle.tl_progress.specs.CallsHere.{IsSentenceHere, AreRightHere, KnowsRightly, RemembersHere, IsResidual, IsResidualFault};
-ghost use Rattle.tl_progress.specs.KeptResiduals.{StaysElsewhere, found_in};
+ghost use Rattle.tl_nodes.specs.Numbers.{trees, tree_in};
+ghost use Rattle.tl_progress.specs.Calls.{IsSentenceIn, KeepsRightly, IsProgressed, IsProgressFault, GivesProgression, StaysNamed, AddsNoTree};
+ghost use Rattle.tl_progress.specs.CallsHere.{IsSentenceHere, AreRightHere, KnowsRightly, KeepsRightlyHere, RemembersHere, IsResidual, IsResidualFault, IsProgressedHere, IsProgressFaultHere};
+ghost use Rattle.tl_progress.specs.KeptResiduals.{StaysElsewhere};
 ghost use Rattle.tl_syntax.specs.StateFormulas.{IsState};
 
 use crate::ProgressFault;
@@ -136,49 +135,46 @@ fn remembering_residual(
 
 /// The number of what has to hold next for a number's tree, which has no free variable: a part that decides it, or else what its parts give. Nothing is kept between calls, and within one a definition is read once for its values and level, where that is still remembered.
 pub(crate) fn temporal_residual(
-    alloc: Global,
+    here: &Here,
     nodes: &mut Nodes,
-    task: &Task,
-    w: &World,
     env: &mut Env,
     id: usize,
 ) -> Result<usize, ProgressFault>
     requires id { id < length (trees nodes.old) }
-    requires sentence { IsSentenceIn task.now (tree_in nodes.old id) }
+    requires sentence { IsSentenceHere here.now (tree_in nodes.old id) }
     ensures kept { Keeps (trees nodes.old) (trees nodes.new) }
-    ensures number { IfOk result (λ i. Denotes nodes.new i (residual_at task.now w.now env.old nodes.old id)) }
-    ensures cause { IfErr result (IsCausedBy (looked_for_residual_at task.now w.now env.old nodes.old id)) }
+    ensures number { IsResidual here.now env.old nodes.old id nodes.new result }
+    ensures cause { IsResidualFault here.now env.old nodes.old id result }
     ensures frame { env.new ≡ env.old }
 {
-    let here = Here {
-        alloc,
-        task,
-        world: w,
+    let anew = Here {
+        alloc: here.alloc,
+        task: here.task,
+        world: here.world,
         known: None,
     };
-    let mut memory = env.lend_memory(alloc);
-    let answer = remembering_residual(&here, nodes, env, &mut memory, id);
+    let mut memory = env.lend_memory(here.alloc);
+    let answer = remembering_residual(&anew, nodes, env, &mut memory, id);
     env.take_back(memory);
     answer
 }
 
 // The number of what has to hold next for a number's tree, which has a temporal word and no free variable, by what is kept of the world.
 fn found_residual(
+    here: &Here,
     nodes: &mut Nodes,
-    task: &Task,
-    w: &World,
     env: &mut Env,
     residuals: &mut Residuals,
     incoming: Incoming,
 ) -> Result<usize, ProgressFault>
     requires at { incoming.formula < length (trees nodes.old) }
-    requires sentence { IsSentenceIn task.now (tree_in nodes.old incoming.formula) }
-    requires found { AreResidualsIn task.now w.now nodes.old (found_in residuals.old incoming.world) }
+    requires sentence { IsSentenceHere here.now (tree_in nodes.old incoming.formula) }
+    requires found { KeepsRightlyHere here.now nodes.old residuals.old incoming.world }
     ensures kept { Keeps (trees nodes.old) (trees nodes.new) }
-    ensures number { IfOk result (λ i. Denotes nodes.new i (residual_at task.now w.now env.old nodes.old incoming.formula)) }
-    ensures found { AreResidualsIn task.now w.now nodes.new (found_in residuals.new incoming.world) }
+    ensures number { IsResidual here.now env.old nodes.old incoming.formula nodes.new result }
+    ensures found { KeepsRightlyHere here.now nodes.new residuals.new incoming.world }
     ensures elsewhere { StaysElsewhere incoming.world residuals.old residuals.new }
-    ensures cause { IfErr result (IsCausedBy (looked_for_residual_at task.now w.now env.old nodes.old incoming.formula)) }
+    ensures cause { IsResidualFault here.now env.old nodes.old incoming.formula result }
     ensures frame { env.new ≡ env.old }
 {
     match nodes.get(incoming.formula) {
@@ -188,7 +184,7 @@ fn found_residual(
                 world: incoming.world,
                 at: incoming.formula,
             };
-            joined_residual(nodes, task, w, env, residuals, joined)
+            joined_residual(here, nodes, env, residuals, joined)
         }
         Node::Or(_) => {
             let joined = Joined {
@@ -196,45 +192,43 @@ fn found_residual(
                 world: incoming.world,
                 at: incoming.formula,
             };
-            joined_residual(nodes, task, w, env, residuals, joined)
+            joined_residual(here, nodes, env, residuals, joined)
         }
-        _ => kept_residual(nodes, task, w, env, residuals, incoming),
+        _ => kept_residual(here, nodes, env, residuals, incoming),
     }
 }
 
 // The number of what has to hold next for a number's tree, which has no free variable. Where it has no temporal word, it is a constant.
 fn sentence_residual(
+    here: &Here,
     nodes: &mut Nodes,
-    task: &Task,
-    w: &World,
     env: &mut Env,
     residuals: &mut Residuals,
     incoming: Incoming,
 ) -> Result<usize, ProgressFault>
     requires at { incoming.formula < length (trees nodes.old) }
-    requires sentence { IsSentenceIn task.now (tree_in nodes.old incoming.formula) }
-    requires found { AreResidualsIn task.now w.now nodes.old (found_in residuals.old incoming.world) }
+    requires sentence { IsSentenceHere here.now (tree_in nodes.old incoming.formula) }
+    requires found { KeepsRightlyHere here.now nodes.old residuals.old incoming.world }
     ensures kept { Keeps (trees nodes.old) (trees nodes.new) }
-    ensures number { IfOk result (λ i. Denotes nodes.new i (residual_at task.now w.now env.old nodes.old incoming.formula)) }
-    ensures found { AreResidualsIn task.now w.now nodes.new (found_in residuals.new incoming.world) }
+    ensures number { IsResidual here.now env.old nodes.old incoming.formula nodes.new result }
+    ensures found { KeepsRightlyHere here.now nodes.new residuals.new incoming.world }
     ensures elsewhere { StaysElsewhere incoming.world residuals.old residuals.new }
-    ensures same { IsState (tree_in nodes.old incoming.formula) → trees nodes.new ≡ trees nodes.old }
+    ensures same { IsState (tree_in nodes.old incoming.formula) → AddsNoTree nodes.old nodes.new }
     ensures constant { IsState (tree_in nodes.old incoming.formula) → IfOk result (λ i. i < 2) }
-    ensures cause { IfErr result (IsCausedBy (looked_for_residual_at task.now w.now env.old nodes.old incoming.formula)) }
+    ensures cause { IsResidualFault here.now env.old nodes.old incoming.formula result }
     ensures frame { env.new ≡ env.old }
 {
     if nodes.temporal(incoming.formula) {
-        return found_residual(nodes, task, w, env, residuals, incoming);
+        return found_residual(here, nodes, env, residuals, incoming);
     }
-    let alloc = residuals.alloc;
-    let here = Here {
-        alloc,
-        task,
-        world: w,
+    let anew = Here {
+        alloc: here.alloc,
+        task: here.task,
+        world: here.world,
         known: None,
     };
-    let mut memory = env.lend_memory(alloc);
-    let answer = sentence_truth(&here, nodes, env, &mut memory, incoming.formula);
+    let mut memory = env.lend_memory(here.alloc);
+    let answer = sentence_truth(&anew, nodes, env, &mut memory, incoming.formula);
     env.take_back(memory);
     match answer {
         Ok(truth) => Ok(constant_number(nodes, truth)),
@@ -244,32 +238,31 @@ fn sentence_residual(
 
 // The number of what has to hold next for a number's tree, whatever values the caller's frame has.
 fn lone_residual(
+    here: &Here,
     nodes: &mut Nodes,
-    task: &Task,
-    w: &World,
     env: &mut Env,
     residuals: &mut Residuals,
     incoming: Incoming,
 ) -> Result<usize, ProgressFault>
     requires at { incoming.formula < length (trees nodes.old) }
-    requires sentence { IsSentenceIn task.now (tree_in nodes.old incoming.formula) }
-    requires found { AreResidualsIn task.now w.now nodes.old (found_in residuals.old incoming.world) }
-    ensures number { IfOk result (λ n. Denotes nodes.new n (progressed_at task.now w.now nodes.old incoming.formula)) }
+    requires sentence { IsSentenceHere here.now (tree_in nodes.old incoming.formula) }
+    requires found { KeepsRightlyHere here.now nodes.old residuals.old incoming.world }
+    ensures number { IsProgressedHere here.now nodes.old incoming.formula nodes.new result }
     ensures kept { Keeps (trees nodes.old) (trees nodes.new) }
-    ensures found { AreResidualsIn task.now w.now nodes.new (found_in residuals.new incoming.world) }
+    ensures found { KeepsRightlyHere here.now nodes.new residuals.new incoming.world }
     ensures elsewhere { StaysElsewhere incoming.world residuals.old residuals.new }
-    ensures same { IsState (tree_in nodes.old incoming.formula) → trees nodes.new ≡ trees nodes.old }
+    ensures same { IsState (tree_in nodes.old incoming.formula) → AddsNoTree nodes.old nodes.new }
     ensures constant { IsState (tree_in nodes.old incoming.formula) → IfOk result (λ n. n < 2) }
-    ensures cause { IfErr result (IsCausedBy (looked_by_progressing_at task.now w.now nodes.old incoming.formula)) }
+    ensures cause { IsProgressFaultHere here.now nodes.old incoming.formula result }
     ensures frame { env.new ≡ env.old }
 {
     if is_empty_frame(env.slots()) {
-        return sentence_residual(nodes, task, w, env, residuals, incoming);
+        return sentence_residual(here, nodes, env, residuals, incoming);
     }
     let frame = env.saved();
     let empty = empty_frame();
     env.restore(&empty);
-    let answer = sentence_residual(nodes, task, w, env, residuals, incoming);
+    let answer = sentence_residual(here, nodes, env, residuals, incoming);
     env.restore(&frame);
     answer
 }
@@ -290,20 +283,26 @@ pub fn progress_kept(
 ) -> Result<usize, ProgressFault>
     requires at { incoming.formula < length (trees nodes.old) }
     requires sentence { IsSentenceIn task.now (tree_in nodes.old incoming.formula) }
-    requires found { AreResidualsIn task.now w.now nodes.old (found_in residuals.old incoming.world) }
-    ensures number { IfOk result (λ n. Denotes nodes.new n (progressed_at task.now w.now nodes.old incoming.formula)) }
-    ensures lemma { IfOk result (λ n. IsProgression task.now w.now nodes.old incoming.formula nodes.new n) }
+    requires found { KeepsRightly task.now w.now nodes.old residuals.old incoming.world }
+    ensures number { IsProgressed task.now w.now nodes.old incoming.formula nodes.new result }
+    ensures lemma { GivesProgression task.now w.now nodes.old incoming.formula nodes.new result }
     ensures sentence { IfOk result (λ n. IsSentenceIn task.now (tree_in nodes.new n)) }
-    ensures named { IfOk result (λ n. StaysNamed task.now w.now nodes.old incoming.formula nodes.new n) }
+    ensures named { IfOk result (StaysNamed task.now w.now nodes.old incoming.formula nodes.new) }
     ensures kept { Keeps (trees nodes.old) (trees nodes.new) }
-    ensures found { AreResidualsIn task.now w.now nodes.new (found_in residuals.new incoming.world) }
+    ensures found { KeepsRightly task.now w.now nodes.new residuals.new incoming.world }
     ensures elsewhere { StaysElsewhere incoming.world residuals.old residuals.new }
-    ensures same { IsState (tree_in nodes.old incoming.formula) → trees nodes.new ≡ trees nodes.old }
+    ensures same { IsState (tree_in nodes.old incoming.formula) → AddsNoTree nodes.old nodes.new }
     ensures constant { IsState (tree_in nodes.old incoming.formula) → IfOk result (λ n. n < 2) }
-    ensures cause { IfErr result (IsCausedBy (looked_by_progressing_at task.now w.now nodes.old incoming.formula)) }
+    ensures cause { IsProgressFault task.now w.now nodes.old incoming.formula result }
     ensures frame { env.new ≡ env.old }
 {
-    lone_residual(nodes, task, w, env, residuals, incoming)
+    let here = Here {
+        alloc: residuals.alloc,
+        task,
+        world: w,
+        known: None,
+    };
+    lone_residual(&here, nodes, env, residuals, incoming)
 }
 
 /// `progress_kept` where nothing is kept.
@@ -317,14 +316,14 @@ pub fn progress(
 ) -> Result<usize, ProgressFault>
     requires id { id < length (trees nodes.old) }
     requires sentence { IsSentenceIn task.now (tree_in nodes.old id) }
-    ensures number { IfOk result (λ n. Denotes nodes.new n (progressed_at task.now w.now nodes.old id)) }
-    ensures lemma { IfOk result (λ n. IsProgression task.now w.now nodes.old id nodes.new n) }
+    ensures number { IsProgressed task.now w.now nodes.old id nodes.new result }
+    ensures lemma { GivesProgression task.now w.now nodes.old id nodes.new result }
     ensures sentence { IfOk result (λ n. IsSentenceIn task.now (tree_in nodes.new n)) }
-    ensures named { IfOk result (λ n. StaysNamed task.now w.now nodes.old id nodes.new n) }
+    ensures named { IfOk result (StaysNamed task.now w.now nodes.old id nodes.new) }
     ensures kept { Keeps (trees nodes.old) (trees nodes.new) }
-    ensures same { IsState (tree_in nodes.old id) → trees nodes.new ≡ trees nodes.old }
+    ensures same { IsState (tree_in nodes.old id) → AddsNoTree nodes.old nodes.new }
     ensures constant { IsState (tree_in nodes.old id) → IfOk result (λ n. n < 2) }
-    ensures cause { IfErr result (IsCausedBy (looked_by_progressing_at task.now w.now nodes.old id)) }
+    ensures cause { IsProgressFault task.now w.now nodes.old id result }
     ensures frame { env.new ≡ env.old }
 {
     let mut nothing = Residuals::new(alloc);

@@ -1,5 +1,6 @@
 // What remains of a formula for the positions that follow.
 ghost use Rattle.std.specs.Prelude.{◌≡◌, ◌<◌, length, IfOk};
+ghost use Rattle.tl_nodes.specs.Given.{GivesNumber};
 ghost use Rattle.tl_nodes.specs.Numbering.{Keeps};
 ghost use Rattle.tl_nodes.specs.Numbers.{trees, Denotes, filled_at};
 ghost use Rattle.tl_progress.specs.Remaining.{remaining_at, with_remaining, until_remaining, steps_left_at};
@@ -70,25 +71,45 @@ pub(crate) fn remaining(
     filled(alloc, nodes, bindings.as_slice(), at)
 }
 
+/// A part of a join, and a tree of which what remains is joined to it.
+#[derive(Clone, Copy)]
+pub(crate) struct PartAndRest {
+    /// All, or any.
+    pub junction: Junction,
+    /// The number of the part.
+    pub part: usize,
+    /// The number of the tree.
+    pub at: usize,
+}
+
 /// The number of the join of a part and of what remains of a tree. Where the part decides, nothing is put in.
 pub(crate) fn with_remaining(
     alloc: Global,
     nodes: &mut Nodes,
     env: &Env,
-    part: usize,
-    at: usize,
-    junction: Junction,
+    both: PartAndRest,
 ) -> Result<usize, NoMemory>
-    requires part { part < length (trees nodes.old) }
-    requires at { at < length (trees nodes.old) }
+    requires part { both.part < length (trees nodes.old) }
+    requires at { both.at < length (trees nodes.old) }
     ensures kept { Keeps (trees nodes.old) (trees nodes.new) }
-    ensures number { IfOk result (λ i. Denotes nodes.new i (with_remaining nodes.old env.now junction part at)) }
+    ensures number { GivesNumber nodes.new (with_remaining nodes.old env.now both) result }
 {
-    if decides(nodes, part, junction) {
-        return Ok(part);
+    if decides(nodes, both.part, both.junction) {
+        return Ok(both.part);
     }
-    let rest = remaining(alloc, nodes, env, at)?;
-    join(nodes, &[part, rest], junction)
+    let rest = remaining(alloc, nodes, env, both.at)?;
+    join(nodes, &[both.part, rest], both.junction)
+}
+
+/// An `until`, and what has to hold next for its second part and its first.
+#[derive(Clone, Copy)]
+pub(crate) struct UntilAnswers {
+    /// The number of what has to hold next for the second part.
+    pub second: usize,
+    /// The number of what has to hold next for the first part.
+    pub first: usize,
+    /// The number of the `until`.
+    pub at: usize,
 }
 
 /// The number of what has to hold next for an `until`, from those for its second part and its first.
@@ -96,18 +117,21 @@ pub(crate) fn until_remaining(
     alloc: Global,
     nodes: &mut Nodes,
     env: &Env,
-    second: usize,
-    first: usize,
-    at: usize,
+    answers: UntilAnswers,
 ) -> Result<usize, NoMemory>
-    requires second { second < length (trees nodes.old) }
-    requires first { first < length (trees nodes.old) }
-    requires at { at < length (trees nodes.old) }
+    requires second { answers.second < length (trees nodes.old) }
+    requires first { answers.first < length (trees nodes.old) }
+    requires at { answers.at < length (trees nodes.old) }
     ensures kept { Keeps (trees nodes.old) (trees nodes.new) }
-    ensures number { IfOk result (λ i. Denotes nodes.new i (until_remaining nodes.old env.now second first at)) }
+    ensures number { GivesNumber nodes.new (until_remaining nodes.old env.now answers) result }
 {
-    let both = with_remaining(alloc, nodes, env, first, at, Junction::All)?;
-    join(nodes, &[second, both], Junction::Any)
+    let first = PartAndRest {
+        junction: Junction::All,
+        part: answers.first,
+        at: answers.at,
+    };
+    let both = with_remaining(alloc, nodes, env, first)?;
+    join(nodes, &[answers.second, both], Junction::Any)
 }
 
 // The node of a `within` or a `for`.
@@ -120,25 +144,40 @@ fn step_node(junction: Junction, steps: u32, part: usize) -> Node
     }
 }
 
+/// A `within` or a `for`, and what has to hold next for its part.
+#[derive(Clone, Copy)]
+pub(crate) struct StepsAnswer {
+    /// All steps, or any.
+    pub junction: Junction,
+    /// How many steps there are.
+    pub steps: u32,
+    /// The number of what has to hold next for the part.
+    pub answer: usize,
+    /// The number of the part.
+    pub part: usize,
+}
+
 /// The number of what has to hold next for a `within` or a `for`, from that for its part: it has one step less.
 pub(crate) fn with_fewer_steps(
     alloc: Global,
     nodes: &mut Nodes,
     env: &Env,
-    junction: Junction,
-    steps: u32,
-    answer: usize,
-    part: usize,
+    counted: StepsAnswer,
 ) -> Result<usize, NoMemory>
-    requires answer { answer < length (trees nodes.old) }
-    requires part { part < length (trees nodes.old) }
+    requires answer { counted.answer < length (trees nodes.old) }
+    requires part { counted.part < length (trees nodes.old) }
     ensures kept { Keeps (trees nodes.old) (trees nodes.new) }
-    ensures number { IfOk result (λ i. Denotes nodes.new i (steps_left_at nodes.old env.now junction steps answer part)) }
+    ensures number { GivesNumber nodes.new (steps_left_at nodes.old env.now counted) result }
 {
-    if steps == 0 {
-        return Ok(answer);
+    if counted.steps == 0 {
+        return Ok(counted.answer);
     }
-    let node = step_node(junction, steps - 1, part);
+    let node = step_node(counted.junction, counted.steps - 1, counted.part);
     let fewer = nodes.intern(node)?;
-    with_remaining(alloc, nodes, env, answer, fewer, junction)
+    let both = PartAndRest {
+        junction: counted.junction,
+        part: counted.answer,
+        at: fewer,
+    };
+    with_remaining(alloc, nodes, env, both)
 }

@@ -1,8 +1,9 @@
 // What has to hold from the next position on, under the values of a frame.
 ghost use Rattle.std.specs.Prelude.{◌≡◌, ◌<◌, length, None, IfOk};
+ghost use Rattle.tl_eval.specs.Frames.{ChangesOnly};
 ghost use Rattle.tl_nodes.specs.Numbering.{Keeps};
 ghost use Rattle.tl_nodes.specs.Numbers.{trees, tree_in};
-ghost use Rattle.tl_progress.specs.CallsHere.{FitsHere, KnowsTruths, KnowsRightly, RemembersHere, ChangesOnly, IsResidual, IsResidualFault, ReadsInstances};
+ghost use Rattle.tl_progress.specs.CallsHere.{FitsHere, KnowsTruths, KnowsRightly, RemembersHere, IsResidual, IsResidualFault, ReadsInstances};
 ghost use Rattle.tl_progress.specs.Parts.{IsJoin};
 ghost use Rattle.tl_progress.specs.Quantifiers.{Stands, vars_at};
 ghost use Rattle.tl_syntax.specs.StateFormulas.{IsState};
@@ -10,10 +11,14 @@ ghost use Rattle.tl_syntax.specs.StateFormulas.{IsState};
 use crate::ProgressFault;
 use crate::here::Here;
 use crate::joins::{constant_number, decides, gather, join};
+use crate::layers::JoinAt;
 use crate::numbers::Numbers;
 use crate::parts::{part_at, part_count};
 use crate::quantifier::Quantifier;
-use crate::remaining::{remaining, until_remaining, with_fewer_steps, with_remaining};
+use crate::remaining::{
+    PartAndRest, StepsAnswer, UntilAnswers, remaining, until_remaining, with_fewer_steps,
+    with_remaining,
+};
 use crate::truth::part_truth;
 use tl_eval::{BoundPattern, BoundTuples, Env, Memory};
 use tl_nodes::{Node, Nodes};
@@ -103,8 +108,20 @@ fn layer_residual(
             let number = nodes.not(answer)?;
             Ok(number)
         }
-        Node::And(_) => join_residual(here, nodes, env, memory, at, Junction::All),
-        Node::Or(_) => join_residual(here, nodes, env, memory, at, Junction::Any),
+        Node::And(_) => {
+            let whole = JoinAt {
+                junction: Junction::All,
+                at,
+            };
+            join_residual(here, nodes, env, memory, whole)
+        }
+        Node::Or(_) => {
+            let whole = JoinAt {
+                junction: Junction::Any,
+                at,
+            };
+            join_residual(here, nodes, env, memory, whole)
+        }
         Node::Next(part) => {
             let part = *part;
             let number = remaining(here.alloc, nodes, env, part)?;
@@ -113,13 +130,23 @@ fn layer_residual(
         Node::Always(part) => {
             let part = *part;
             let answer = residual_of(here, nodes, env, memory, part)?;
-            let number = with_remaining(here.alloc, nodes, env, answer, at, Junction::All)?;
+            let both = PartAndRest {
+                junction: Junction::All,
+                part: answer,
+                at,
+            };
+            let number = with_remaining(here.alloc, nodes, env, both)?;
             Ok(number)
         }
         Node::Eventually(part) => {
             let part = *part;
             let answer = residual_of(here, nodes, env, memory, part)?;
-            let number = with_remaining(here.alloc, nodes, env, answer, at, Junction::Any)?;
+            let both = PartAndRest {
+                junction: Junction::Any,
+                part: answer,
+                at,
+            };
+            let number = with_remaining(here.alloc, nodes, env, both)?;
             Ok(number)
         }
         Node::Until(first, second) => {
@@ -130,37 +157,38 @@ fn layer_residual(
                 return Ok(after);
             }
             let before = residual_of(here, nodes, env, memory, first)?;
-            let number = until_remaining(here.alloc, nodes, env, after, before, at)?;
+            let answers = UntilAnswers {
+                second: after,
+                first: before,
+                at,
+            };
+            let number = until_remaining(here.alloc, nodes, env, answers)?;
             Ok(number)
         }
         Node::Within(steps, part) => {
             let steps = *steps;
             let part = *part;
             let answer = residual_of(here, nodes, env, memory, part)?;
-            let number = with_fewer_steps(
-                here.alloc,
-                nodes,
-                env,
-                Junction::Any,
+            let counted = StepsAnswer {
+                junction: Junction::Any,
                 steps,
                 answer,
                 part,
-            )?;
+            };
+            let number = with_fewer_steps(here.alloc, nodes, env, counted)?;
             Ok(number)
         }
         Node::During(steps, part) => {
             let steps = *steps;
             let part = *part;
             let answer = residual_of(here, nodes, env, memory, part)?;
-            let number = with_fewer_steps(
-                here.alloc,
-                nodes,
-                env,
-                Junction::All,
+            let counted = StepsAnswer {
+                junction: Junction::All,
                 steps,
                 answer,
                 part,
-            )?;
+            };
+            let number = with_fewer_steps(here.alloc, nodes, env, counted)?;
             Ok(number)
         }
         Node::ForAll(_, _, part) => {
@@ -189,34 +217,33 @@ fn join_residual(
     nodes: &mut Nodes,
     env: &mut Env,
     memory: &mut Memory,
-    at: usize,
-    junction: Junction,
+    whole: JoinAt,
 ) -> Result<usize, ProgressFault>
-    requires at { at < length (trees nodes.old) }
-    requires join { IsJoin junction (tree_in nodes.old at) }
-    requires fits { FitsHere here.now (tree_in nodes.old at) }
+    requires at { whole.at < length (trees nodes.old) }
+    requires join { IsJoin whole.junction (tree_in nodes.old whole.at) }
+    requires fits { FitsHere here.now (tree_in nodes.old whole.at) }
     requires known { KnowsRightly here.now nodes.old }
     requires remembers { RemembersHere here.now memory.old }
     ensures kept { Keeps (trees nodes.old) (trees nodes.new) }
-    ensures number { IsResidual here.now env.old nodes.old at nodes.new result }
-    ensures cause { IsResidualFault here.now env.old nodes.old at result }
+    ensures number { IsResidual here.now env.old nodes.old whole.at nodes.new result }
+    ensures cause { IsResidualFault here.now env.old nodes.old whole.at result }
     ensures frame { env.new ≡ env.old }
     ensures remembers { RemembersHere here.now memory.new }
 {
     let mut answers = Numbers::new(here.alloc);
-    for i in 0..part_count(nodes, at) {
-        let part = part_at(nodes, at, i);
+    for i in 0..part_count(nodes, whole.at) {
+        let part = part_at(nodes, whole.at, i);
         match residual_of(here, nodes, env, memory, part) {
             Ok(answer) => {
-                if decides(nodes, answer, junction) {
+                if decides(nodes, answer, whole.junction) {
                     return Ok(answer);
                 }
-                gather(nodes, &mut answers, answer, junction)?;
+                gather(nodes, &mut answers, answer, whole.junction)?;
             }
             Err(fault) => return Err(fault),
         }
     }
-    let number = join(nodes, answers.as_slice(), junction)?;
+    let number = join(nodes, answers.as_slice(), whole.junction)?;
     Ok(number)
 }
 

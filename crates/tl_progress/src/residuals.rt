@@ -1,8 +1,8 @@
 // What is kept of worlds between calls of progression.
 ghost use Rattle.std.specs.Prelude.{◌≡◌, ℕ, None, OnOk, OnErr};
-ghost use Rattle.tl_progress.specs.KeptResiduals.{found_in, StaysElsewhere, KeepsNumber, StaysThere};
+ghost use Rattle.tl_progress.specs.KeptResiduals.{found_in, StaysElsewhere, KeepsNumber, KeepsNothing, KeepsFewer, StaysThere};
 
-use indexmap::IndexMap;
+use crate::by_world::ByWorld;
 use std::alloc::Global;
 use tl_syntax::NoMemory;
 
@@ -21,7 +21,7 @@ pub struct Incoming {
 #[derive(Drop)]
 pub struct Residuals {
     pub(crate) alloc: Global,
-    pub(crate) table: IndexMap<Incoming, usize>,
+    pub(crate) table: ByWorld,
 }
 
 impl Residuals {
@@ -31,7 +31,7 @@ impl Residuals {
     {
         Residuals {
             alloc,
-            table: IndexMap::new(alloc),
+            table: ByWorld::new(alloc),
         }
     }
 
@@ -39,10 +39,7 @@ impl Residuals {
     pub(crate) fn find(&self, incoming: Incoming) -> Option<usize>
         ensures { result ≡ found_in self.now incoming.world incoming.formula }
     {
-        match self.table.get(&incoming) {
-            Some(number) => Some(*number),
-            None => None,
-        }
+        self.table.find(incoming)
     }
 
     /// Keeps a number.
@@ -51,9 +48,19 @@ impl Residuals {
         ensures refused { OnErr result (StaysThere incoming.world self.old self.new) }
         ensures elsewhere { StaysElsewhere incoming.world self.old self.new }
     {
-        match self.table.insert(incoming, number) {
-            Ok(_) => Ok(()),
-            Err(_) => Err(NoMemory),
+        match self.table.keep(incoming, number) {
+            Ok(()) => Ok(()),
+            Err(fault) => Err(fault),
         }
+    }
+
+    /// Lets go what is kept of the world of this number, as for a world whose number is given again. It takes no memory.
+    ///
+    /// It is quick where no world with a greater number has come since; else all that is kept goes.
+    pub fn forget(&mut self, world: usize)
+        ensures none { KeepsNothing world self.new }
+        ensures fewer { KeepsFewer self.old self.new }
+    {
+        self.table.forget(world);
     }
 }

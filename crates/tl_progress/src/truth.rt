@@ -1,8 +1,9 @@
 // Truth where a world is repeated for ever, under the values of a frame.
 ghost use Rattle.std.specs.Prelude.{◌≡◌, ◌<◌, true, length, None};
+ghost use Rattle.tl_eval.specs.Frames.{ChangesOnly};
 ghost use Rattle.tl_nodes.specs.Fits.{all_below};
 ghost use Rattle.tl_nodes.specs.Numbers.{trees, tree_in};
-ghost use Rattle.tl_progress.specs.CallsHere.{FitsHere, KnowsTruths, RemembersHere, IsStateTruth, IsStateFault, IsTruthAt, IsTruthFault, tree_of_join, IsJoinTruth, IsJoinFault, tree_of_quantified, IsQuantifiedTruth, IsQuantifiedFault, ReadsQuantified, ChangesOnly};
+ghost use Rattle.tl_progress.specs.CallsHere.{FitsHere, KnowsTruths, RemembersHere, IsStateTruth, IsStateFault, IsTruthAt, IsTruthFault, tree_of_join, IsJoinTruth, IsJoinFault, tree_of_quantified, IsQuantifiedTruth, IsQuantifiedFault, ReadsQuantified};
 ghost use Rattle.tl_syntax.specs.Basic.{is_basic};
 ghost use Rattle.tl_syntax.specs.TreeOfFormula.{tree_of_formula};
 

@@ -1,5 +1,5 @@
-use Rattle.tl_progress.proofs.FrameBindings.{Binds}
+use Rattle.tl_progress.specs.FrameValues.{BindsBefore}
 use Rattle.tl_progress.proofs.frames.bindings_in.Given as goal
 
 abbrev pub invariant-loop-slot : goal.invariant-loop-slot
-invariant-loop-slot l = Binds l.slot l.frame l.out
+invariant-loop-slot l = BindsBefore l.slot l.frame l.out

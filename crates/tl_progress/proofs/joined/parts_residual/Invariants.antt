@@ -14,8 +14,8 @@ abbrev pub invariant-loop-part : goal.invariant-loop-part
 invariant-loop-part l = record {
   frame : l.env ≡ l.fn.env;
   kept : Keeps (trees l.fn.nodes) (trees l.nodes);
-  found : AreResiduals (plain_problem l.task.problem) l.w (trees l.nodes) (found_in l.residuals l.joined.world);
-  elsewhere : StaysElsewhere l.joined.world l.fn.residuals l.residuals;
-  passed : Gathered l.joined.junction (trees l.nodes) l.answers (map (residual (plain_problem l.task.problem) l.w (assignment_in l.fn.env)) (trees_at (trees l.fn.nodes) (drop l.part-index l.parts)))
-      (map (residual (plain_problem l.task.problem) l.w (assignment_in l.fn.env)) (trees_at (trees l.fn.nodes) l.parts));
+  found : AreResiduals (plain_problem l.here.task.now.problem) l.here.world.now (trees l.nodes) (found_in l.residuals l.rest.joined.world);
+  elsewhere : StaysElsewhere l.rest.joined.world l.fn.residuals l.residuals;
+  passed : Gathered l.rest.joined.junction (trees l.nodes) l.answers (map (residual (plain_problem l.here.task.now.problem) l.here.world.now (assignment_in l.fn.env)) (trees_at (trees l.fn.nodes) (drop l.part-index l.rest.parts.now)))
+      (map (residual (plain_problem l.here.task.now.problem) l.here.world.now (assignment_in l.fn.env)) (trees_at (trees l.fn.nodes) l.rest.parts.now));
 }

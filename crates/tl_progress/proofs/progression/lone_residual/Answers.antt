@@ -21,20 +21,20 @@ by_cause p w f e r n h = subst (λ (d : Assignment). IfErr r (IsCausedBy (looked
 
 pub returns-then-is_empty_frame-clause-number : goal.returns-then-is_empty_frame-clause-number
 returns-then-is_empty_frame-clause-number c =
-    by_number (plain_problem c.args.task.now.problem) c.args.w.now (tree_at (trees c.args.nodes.now) c.args.incoming.formula) (trees c.sentence_residual.new.nodes) (assignment_in c.args.env.now) c.sentence_residual.result
+    by_number (plain_problem c.args.here.now.task.now.problem) c.args.here.now.world.now (tree_at (trees c.args.nodes.now) c.args.incoming.formula) (trees c.sentence_residual.new.nodes) (assignment_in c.args.env.now) c.sentence_residual.result
     (sym (ap assignment_in c.slots.ensures.values) ∙ c.is_empty_frame.ensures c.if-is_empty_frame.true) c.sentence_residual.ensures.number
 
 pub returns-then-is_empty_frame-clause-cause : goal.returns-then-is_empty_frame-clause-cause
 returns-then-is_empty_frame-clause-cause c =
-    by_cause (plain_problem c.args.task.now.problem) c.args.w.now (tree_at (trees c.args.nodes.now) c.args.incoming.formula) (assignment_in c.args.env.now) c.sentence_residual.result
+    by_cause (plain_problem c.args.here.now.task.now.problem) c.args.here.now.world.now (tree_at (trees c.args.nodes.now) c.args.incoming.formula) (assignment_in c.args.env.now) c.sentence_residual.result
     (sym (ap assignment_in c.slots.ensures.values) ∙ c.is_empty_frame.ensures c.if-is_empty_frame.true) c.sentence_residual.ensures.cause
 
 pub returns-clause-number : goal.returns-clause-number
 returns-clause-number c =
-    by_number (plain_problem c.args.task.now.problem) c.args.w.now (tree_at (trees c.args.nodes.now) c.args.incoming.formula) (trees c.sentence_residual-answer.new.nodes) (assignment_in c.restore.new.self) c.sentence_residual-answer.result
+    by_number (plain_problem c.args.here.now.task.now.problem) c.args.here.now.world.now (tree_at (trees c.args.nodes.now) c.args.incoming.formula) (trees c.sentence_residual-answer.new.nodes) (assignment_in c.restore.new.self) c.sentence_residual-answer.result
     (ap assignment_in c.restore.ensures ∙ c.empty_frame-empty.ensures) c.sentence_residual-answer.ensures.number
 
 pub returns-clause-cause : goal.returns-clause-cause
 returns-clause-cause c =
-    by_cause (plain_problem c.args.task.now.problem) c.args.w.now (tree_at (trees c.args.nodes.now) c.args.incoming.formula) (assignment_in c.restore.new.self) c.sentence_residual-answer.result
+    by_cause (plain_problem c.args.here.now.task.now.problem) c.args.here.now.world.now (tree_at (trees c.args.nodes.now) c.args.incoming.formula) (assignment_in c.restore.new.self) c.sentence_residual-answer.result
     (ap assignment_in c.restore.ensures ∙ c.empty_frame-empty.ensures) c.sentence_residual-answer.ensures.cause

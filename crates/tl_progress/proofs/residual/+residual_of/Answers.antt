@@ -265,21 +265,21 @@ layer_residual-quantifier_residual-requires-in-Exists t c =
 -- ---- the parts of a join
 
 pub join_residual-loop-i-init : goal.join_residual-loop-i-init
-join_residual-loop-i-init t c = record { remembers = c.requires.remembers; frame = refl; kept = λ i f h. h; passed = gather-begun c.args.junction (trees c.args.nodes.now) _ (map (residual (plain_problem c.args.here.now.task.now.problem) c.args.here.now.world.now (assignment_in c.args.env.now)) (join_parts (tree_at (trees c.args.nodes.now) c.args.at))) c.new-answers.ensures }
+join_residual-loop-i-init t c = record { remembers = c.requires.remembers; frame = refl; kept = λ i f h. h; passed = gather-begun c.args.whole.junction (trees c.args.nodes.now) _ (map (residual (plain_problem c.args.here.now.task.now.problem) c.args.here.now.world.now (assignment_in c.args.env.now)) (join_parts (tree_at (trees c.args.nodes.now) c.args.whole.at))) c.new-answers.ensures }
 
 pub join_residual-part_at-part-requires : goal.join_residual-part_at-part-requires
 join_residual-part_at-part-requires t c = record {
-  at = longer (trees c.args.nodes.now) (trees c.loop-i.nodes) c.loop-i.invariant.kept c.args.at c.requires.at;
-  i = subst (λ (f : FormulaTree). c.loop-i.i < length (join_parts f)) (sym (stays (trees c.args.nodes.now) (trees c.loop-i.nodes) c.loop-i.invariant.kept c.args.at c.requires.at)) (omega (arith, c.loop-i-test.true, c.part_count-i-end.ensures));
+  at = longer (trees c.args.nodes.now) (trees c.loop-i.nodes) c.loop-i.invariant.kept c.args.whole.at c.requires.at;
+  i = subst (λ (f : FormulaTree). c.loop-i.i < length (join_parts f)) (sym (stays (trees c.args.nodes.now) (trees c.loop-i.nodes) c.loop-i.invariant.kept c.args.whole.at c.requires.at)) (omega (arith, c.loop-i-test.true, c.part_count-i-end.ensures));
 }
 
 pub join_residual-residual_of-requires : goal.join_residual-residual_of-requires
 join_residual-residual_of-requires t c =
     let less = c.part_at-part.ensures.smaller in
     let part : c.part_at-part.result < length (trees c.args.nodes.now) = omega (arith, less, c.requires.at) in
-    let there = subst (λ (f : FormulaTree). slice_get (join_parts f) c.loop-i.i ≡ Some (tree_at (trees c.loop-i.nodes) c.part_at-part.result)) (stays (trees c.args.nodes.now) (trees c.loop-i.nodes) c.loop-i.invariant.kept c.args.at c.requires.at) c.part_at-part.ensures.tree ∙ ap Some (stays (trees c.args.nodes.now) (trees c.loop-i.nodes) c.loop-i.invariant.kept c.part_at-part.result part) in
-    let low = part-among false (trees c.args.nodes.now) c.args.at c.args.junction c.requires.join c.loop-i.i c.part_at-part.result less there in
-    (omega (arith, less, c.decreases), (longer (trees c.args.nodes.now) (trees c.loop-i.nodes) c.loop-i.invariant.kept c.part_at-part.result part, (subst (FitsSomewhere (signature_of c.args.here.now.task.now.problem.domain)) (sym (stays (trees c.args.nodes.now) (trees c.loop-i.nodes) c.loop-i.invariant.kept c.part_at-part.result part)) (fits-below false (trees c.args.nodes.now) (signature_of c.args.here.now.task.now.problem.domain) c.args.at c.part_at-part.result low c.requires.fits), (knows-still c.args.here.now c.args.nodes.now c.loop-i.nodes c.loop-i.invariant.kept c.requires.known, c.loop-i.invariant.remembers))))
+    let there = subst (λ (f : FormulaTree). slice_get (join_parts f) c.loop-i.i ≡ Some (tree_at (trees c.loop-i.nodes) c.part_at-part.result)) (stays (trees c.args.nodes.now) (trees c.loop-i.nodes) c.loop-i.invariant.kept c.args.whole.at c.requires.at) c.part_at-part.ensures.tree ∙ ap Some (stays (trees c.args.nodes.now) (trees c.loop-i.nodes) c.loop-i.invariant.kept c.part_at-part.result part) in
+    let low = part-among false (trees c.args.nodes.now) c.args.whole.at c.args.whole.junction c.requires.join c.loop-i.i c.part_at-part.result less there in
+    (omega (arith, less, c.decreases), (longer (trees c.args.nodes.now) (trees c.loop-i.nodes) c.loop-i.invariant.kept c.part_at-part.result part, (subst (FitsSomewhere (signature_of c.args.here.now.task.now.problem.domain)) (sym (stays (trees c.args.nodes.now) (trees c.loop-i.nodes) c.loop-i.invariant.kept c.part_at-part.result part)) (fits-below false (trees c.args.nodes.now) (signature_of c.args.here.now.task.now.problem.domain) c.args.whole.at c.part_at-part.result low c.requires.fits), (knows-still c.args.here.now c.args.nodes.now c.loop-i.nodes c.loop-i.invariant.kept c.requires.known, c.loop-i.invariant.remembers))))
 
 pub join_residual-decides-requires : goal.join_residual-decides-requires
 join_residual-decides-requires t c = slice_get_within (trees c.residual_of.new.nodes) c.in-Ok.answer _ c.in-Ok.ensures.number
@@ -291,9 +291,9 @@ pub join_residual-returns-then-decides-clause-number : goal.join_residual-return
 join_residual-returns-then-decides-clause-number t c =
     let less = c.part_at-part.ensures.smaller in
     let part : c.part_at-part.result < length (trees c.args.nodes.now) = omega (arith, less, c.requires.at) in
-    let there = subst (λ (f : FormulaTree). slice_get (join_parts f) c.loop-i.i ≡ Some (tree_at (trees c.loop-i.nodes) c.part_at-part.result)) (stays (trees c.args.nodes.now) (trees c.loop-i.nodes) c.loop-i.invariant.kept c.args.at c.requires.at) c.part_at-part.ensures.tree ∙ ap Some (stays (trees c.args.nodes.now) (trees c.loop-i.nodes) c.loop-i.invariant.kept c.part_at-part.result part) in
-    let low = part-among false (trees c.args.nodes.now) c.args.at c.args.junction c.requires.join c.loop-i.i c.part_at-part.result less there in
-    gather-decided c.args.junction (trees c.loop-i.nodes) (trees c.residual_of.new.nodes) c.in-Ok.ensures.kept c.loop-i.answers ((residual (plain_problem c.args.here.now.task.now.problem) c.args.here.now.world.now (assignment_in c.args.env.now)) (tree_at (trees c.args.nodes.now) c.part_at-part.result)) (map (residual (plain_problem c.args.here.now.task.now.problem) c.args.here.now.world.now (assignment_in c.args.env.now)) (drop (c.loop-i.i + 1) (join_parts (tree_at (trees c.args.nodes.now) c.args.at)))) (map (residual (plain_problem c.args.here.now.task.now.problem) c.args.here.now.world.now (assignment_in c.args.env.now)) (join_parts (tree_at (trees c.args.nodes.now) c.args.at))) (subst (λ (fs : List FormulaTree). Gathered c.args.junction (trees c.loop-i.nodes) c.loop-i.answers fs (map (residual (plain_problem c.args.here.now.task.now.problem) c.args.here.now.world.now (assignment_in c.args.env.now)) (join_parts (tree_at (trees c.args.nodes.now) c.args.at)))) (part-next (residual (plain_problem c.args.here.now.task.now.problem) c.args.here.now.world.now (assignment_in c.args.env.now)) (join_parts (tree_at (trees c.args.nodes.now) c.args.at)) c.loop-i.i (tree_at (trees c.args.nodes.now) c.part_at-part.result) there) c.loop-i.invariant.passed) c.in-Ok.answer (subst (λ (f : FormulaTree). slice_get (trees c.residual_of.new.nodes) c.in-Ok.answer ≡ Some (residual (plain_problem c.args.here.now.task.now.problem) c.args.here.now.world.now (assignment_in c.args.env.now) f)) (stays (trees c.args.nodes.now) (trees c.loop-i.nodes) c.loop-i.invariant.kept c.part_at-part.result part) (subst (λ (v : List (Option Value)). slice_get (trees c.residual_of.new.nodes) c.in-Ok.answer ≡ Some (residual (plain_problem c.args.here.now.task.now.problem) c.args.here.now.world.now (assignment_in v) (tree_at (trees c.loop-i.nodes) c.part_at-part.result))) c.loop-i.invariant.frame c.in-Ok.ensures.number)) (c.decides.ensures c.if-decides.true) ∙ ap (λ (f : FormulaTree). Some f) (join-next (plain_problem c.args.here.now.task.now.problem) c.args.here.now.world.now (assignment_in c.args.env.now) c.args.junction (tree_at (trees c.args.nodes.now) c.args.at) c.requires.join)
+    let there = subst (λ (f : FormulaTree). slice_get (join_parts f) c.loop-i.i ≡ Some (tree_at (trees c.loop-i.nodes) c.part_at-part.result)) (stays (trees c.args.nodes.now) (trees c.loop-i.nodes) c.loop-i.invariant.kept c.args.whole.at c.requires.at) c.part_at-part.ensures.tree ∙ ap Some (stays (trees c.args.nodes.now) (trees c.loop-i.nodes) c.loop-i.invariant.kept c.part_at-part.result part) in
+    let low = part-among false (trees c.args.nodes.now) c.args.whole.at c.args.whole.junction c.requires.join c.loop-i.i c.part_at-part.result less there in
+    gather-decided c.args.whole.junction (trees c.loop-i.nodes) (trees c.residual_of.new.nodes) c.in-Ok.ensures.kept c.loop-i.answers ((residual (plain_problem c.args.here.now.task.now.problem) c.args.here.now.world.now (assignment_in c.args.env.now)) (tree_at (trees c.args.nodes.now) c.part_at-part.result)) (map (residual (plain_problem c.args.here.now.task.now.problem) c.args.here.now.world.now (assignment_in c.args.env.now)) (drop (c.loop-i.i + 1) (join_parts (tree_at (trees c.args.nodes.now) c.args.whole.at)))) (map (residual (plain_problem c.args.here.now.task.now.problem) c.args.here.now.world.now (assignment_in c.args.env.now)) (join_parts (tree_at (trees c.args.nodes.now) c.args.whole.at))) (subst (λ (fs : List FormulaTree). Gathered c.args.whole.junction (trees c.loop-i.nodes) c.loop-i.answers fs (map (residual (plain_problem c.args.here.now.task.now.problem) c.args.here.now.world.now (assignment_in c.args.env.now)) (join_parts (tree_at (trees c.args.nodes.now) c.args.whole.at)))) (part-next (residual (plain_problem c.args.here.now.task.now.problem) c.args.here.now.world.now (assignment_in c.args.env.now)) (join_parts (tree_at (trees c.args.nodes.now) c.args.whole.at)) c.loop-i.i (tree_at (trees c.args.nodes.now) c.part_at-part.result) there) c.loop-i.invariant.passed) c.in-Ok.answer (subst (λ (f : FormulaTree). slice_get (trees c.residual_of.new.nodes) c.in-Ok.answer ≡ Some (residual (plain_problem c.args.here.now.task.now.problem) c.args.here.now.world.now (assignment_in c.args.env.now) f)) (stays (trees c.args.nodes.now) (trees c.loop-i.nodes) c.loop-i.invariant.kept c.part_at-part.result part) (subst (λ (v : List (Option Value)). slice_get (trees c.residual_of.new.nodes) c.in-Ok.answer ≡ Some (residual (plain_problem c.args.here.now.task.now.problem) c.args.here.now.world.now (assignment_in v) (tree_at (trees c.loop-i.nodes) c.part_at-part.result))) c.loop-i.invariant.frame c.in-Ok.ensures.number)) (c.decides.ensures c.if-decides.true) ∙ ap (λ (f : FormulaTree). Some f) (join-next (plain_problem c.args.here.now.task.now.problem) c.args.here.now.world.now (assignment_in c.args.env.now) c.args.whole.junction (tree_at (trees c.args.nodes.now) c.args.whole.at) c.requires.join)
 
 pub join_residual-returns-then-decides-clause-frame : goal.join_residual-returns-then-decides-clause-frame
 join_residual-returns-then-decides-clause-frame t c = c.residual_of.ensures.frame ∙ c.loop-i.invariant.frame
@@ -303,9 +303,9 @@ join_residual-gather-requires t c = record {
   parts =
       let less = c.part_at-part.ensures.smaller in
       let part : c.part_at-part.result < length (trees c.args.nodes.now) = omega (arith, less, c.requires.at) in
-      let there = subst (λ (f : FormulaTree). slice_get (join_parts f) c.loop-i.i ≡ Some (tree_at (trees c.loop-i.nodes) c.part_at-part.result)) (stays (trees c.args.nodes.now) (trees c.loop-i.nodes) c.loop-i.invariant.kept c.args.at c.requires.at) c.part_at-part.ensures.tree ∙ ap Some (stays (trees c.args.nodes.now) (trees c.loop-i.nodes) c.loop-i.invariant.kept c.part_at-part.result part) in
-      let low = part-among false (trees c.args.nodes.now) c.args.at c.args.junction c.requires.join c.loop-i.i c.part_at-part.result less there in
-      below-still c.args.junction (trees c.loop-i.nodes) (trees c.residual_of.new.nodes) c.in-Ok.ensures.kept c.loop-i.answers ((residual (plain_problem c.args.here.now.task.now.problem) c.args.here.now.world.now (assignment_in c.args.env.now)) (tree_at (trees c.args.nodes.now) c.part_at-part.result)) (map (residual (plain_problem c.args.here.now.task.now.problem) c.args.here.now.world.now (assignment_in c.args.env.now)) (drop (c.loop-i.i + 1) (join_parts (tree_at (trees c.args.nodes.now) c.args.at)))) (map (residual (plain_problem c.args.here.now.task.now.problem) c.args.here.now.world.now (assignment_in c.args.env.now)) (join_parts (tree_at (trees c.args.nodes.now) c.args.at))) (subst (λ (fs : List FormulaTree). Gathered c.args.junction (trees c.loop-i.nodes) c.loop-i.answers fs (map (residual (plain_problem c.args.here.now.task.now.problem) c.args.here.now.world.now (assignment_in c.args.env.now)) (join_parts (tree_at (trees c.args.nodes.now) c.args.at)))) (part-next (residual (plain_problem c.args.here.now.task.now.problem) c.args.here.now.world.now (assignment_in c.args.env.now)) (join_parts (tree_at (trees c.args.nodes.now) c.args.at)) c.loop-i.i (tree_at (trees c.args.nodes.now) c.part_at-part.result) there) c.loop-i.invariant.passed) c.in-Ok.answer (subst (λ (f : FormulaTree). slice_get (trees c.residual_of.new.nodes) c.in-Ok.answer ≡ Some (residual (plain_problem c.args.here.now.task.now.problem) c.args.here.now.world.now (assignment_in c.args.env.now) f)) (stays (trees c.args.nodes.now) (trees c.loop-i.nodes) c.loop-i.invariant.kept c.part_at-part.result part) (subst (λ (v : List (Option Value)). slice_get (trees c.residual_of.new.nodes) c.in-Ok.answer ≡ Some (residual (plain_problem c.args.here.now.task.now.problem) c.args.here.now.world.now (assignment_in v) (tree_at (trees c.loop-i.nodes) c.part_at-part.result))) c.loop-i.invariant.frame c.in-Ok.ensures.number));
+      let there = subst (λ (f : FormulaTree). slice_get (join_parts f) c.loop-i.i ≡ Some (tree_at (trees c.loop-i.nodes) c.part_at-part.result)) (stays (trees c.args.nodes.now) (trees c.loop-i.nodes) c.loop-i.invariant.kept c.args.whole.at c.requires.at) c.part_at-part.ensures.tree ∙ ap Some (stays (trees c.args.nodes.now) (trees c.loop-i.nodes) c.loop-i.invariant.kept c.part_at-part.result part) in
+      let low = part-among false (trees c.args.nodes.now) c.args.whole.at c.args.whole.junction c.requires.join c.loop-i.i c.part_at-part.result less there in
+      below-still c.args.whole.junction (trees c.loop-i.nodes) (trees c.residual_of.new.nodes) c.in-Ok.ensures.kept c.loop-i.answers ((residual (plain_problem c.args.here.now.task.now.problem) c.args.here.now.world.now (assignment_in c.args.env.now)) (tree_at (trees c.args.nodes.now) c.part_at-part.result)) (map (residual (plain_problem c.args.here.now.task.now.problem) c.args.here.now.world.now (assignment_in c.args.env.now)) (drop (c.loop-i.i + 1) (join_parts (tree_at (trees c.args.nodes.now) c.args.whole.at)))) (map (residual (plain_problem c.args.here.now.task.now.problem) c.args.here.now.world.now (assignment_in c.args.env.now)) (join_parts (tree_at (trees c.args.nodes.now) c.args.whole.at))) (subst (λ (fs : List FormulaTree). Gathered c.args.whole.junction (trees c.loop-i.nodes) c.loop-i.answers fs (map (residual (plain_problem c.args.here.now.task.now.problem) c.args.here.now.world.now (assignment_in c.args.env.now)) (join_parts (tree_at (trees c.args.nodes.now) c.args.whole.at)))) (part-next (residual (plain_problem c.args.here.now.task.now.problem) c.args.here.now.world.now (assignment_in c.args.env.now)) (join_parts (tree_at (trees c.args.nodes.now) c.args.whole.at)) c.loop-i.i (tree_at (trees c.args.nodes.now) c.part_at-part.result) there) c.loop-i.invariant.passed) c.in-Ok.answer (subst (λ (f : FormulaTree). slice_get (trees c.residual_of.new.nodes) c.in-Ok.answer ≡ Some (residual (plain_problem c.args.here.now.task.now.problem) c.args.here.now.world.now (assignment_in c.args.env.now) f)) (stays (trees c.args.nodes.now) (trees c.loop-i.nodes) c.loop-i.invariant.kept c.part_at-part.result part) (subst (λ (v : List (Option Value)). slice_get (trees c.residual_of.new.nodes) c.in-Ok.answer ≡ Some (residual (plain_problem c.args.here.now.task.now.problem) c.args.here.now.world.now (assignment_in v) (tree_at (trees c.loop-i.nodes) c.part_at-part.result))) c.loop-i.invariant.frame c.in-Ok.ensures.number));
   part = slice_get_within (trees c.residual_of.new.nodes) c.in-Ok.answer _ c.in-Ok.ensures.number;
 }
 
@@ -313,13 +313,13 @@ pub join_residual-loop-i-preserved : goal.join_residual-loop-i-preserved
 join_residual-loop-i-preserved t c =
     let less = c.part_at-part.ensures.smaller in
     let part : c.part_at-part.result < length (trees c.args.nodes.now) = omega (arith, less, c.requires.at) in
-    let there = subst (λ (f : FormulaTree). slice_get (join_parts f) c.loop-i.i ≡ Some (tree_at (trees c.loop-i.nodes) c.part_at-part.result)) (stays (trees c.args.nodes.now) (trees c.loop-i.nodes) c.loop-i.invariant.kept c.args.at c.requires.at) c.part_at-part.ensures.tree ∙ ap Some (stays (trees c.args.nodes.now) (trees c.loop-i.nodes) c.loop-i.invariant.kept c.part_at-part.result part) in
-    let low = part-among false (trees c.args.nodes.now) c.args.at c.args.junction c.requires.join c.loop-i.i c.part_at-part.result less there in
+    let there = subst (λ (f : FormulaTree). slice_get (join_parts f) c.loop-i.i ≡ Some (tree_at (trees c.loop-i.nodes) c.part_at-part.result)) (stays (trees c.args.nodes.now) (trees c.loop-i.nodes) c.loop-i.invariant.kept c.args.whole.at c.requires.at) c.part_at-part.ensures.tree ∙ ap Some (stays (trees c.args.nodes.now) (trees c.loop-i.nodes) c.loop-i.invariant.kept c.part_at-part.result part) in
+    let low = part-among false (trees c.args.nodes.now) c.args.whole.at c.args.whole.junction c.requires.join c.loop-i.i c.part_at-part.result less there in
     record {
       remembers = c.residual_of.ensures.remembers;
       frame = c.residual_of.ensures.frame ∙ c.loop-i.invariant.frame;
       kept = λ i f h. c.in-Ok.ensures.kept i f (c.loop-i.invariant.kept i f h);
-      passed = gather-on c.args.junction (trees c.loop-i.nodes) (trees c.residual_of.new.nodes) c.in-Ok.ensures.kept c.loop-i.answers ((residual (plain_problem c.args.here.now.task.now.problem) c.args.here.now.world.now (assignment_in c.args.env.now)) (tree_at (trees c.args.nodes.now) c.part_at-part.result)) (map (residual (plain_problem c.args.here.now.task.now.problem) c.args.here.now.world.now (assignment_in c.args.env.now)) (drop (c.loop-i.i + 1) (join_parts (tree_at (trees c.args.nodes.now) c.args.at)))) (map (residual (plain_problem c.args.here.now.task.now.problem) c.args.here.now.world.now (assignment_in c.args.env.now)) (join_parts (tree_at (trees c.args.nodes.now) c.args.at))) (subst (λ (fs : List FormulaTree). Gathered c.args.junction (trees c.loop-i.nodes) c.loop-i.answers fs (map (residual (plain_problem c.args.here.now.task.now.problem) c.args.here.now.world.now (assignment_in c.args.env.now)) (join_parts (tree_at (trees c.args.nodes.now) c.args.at)))) (part-next (residual (plain_problem c.args.here.now.task.now.problem) c.args.here.now.world.now (assignment_in c.args.env.now)) (join_parts (tree_at (trees c.args.nodes.now) c.args.at)) c.loop-i.i (tree_at (trees c.args.nodes.now) c.part_at-part.result) there) c.loop-i.invariant.passed) c.in-Ok.answer (subst (λ (f : FormulaTree). slice_get (trees c.residual_of.new.nodes) c.in-Ok.answer ≡ Some (residual (plain_problem c.args.here.now.task.now.problem) c.args.here.now.world.now (assignment_in c.args.env.now) f)) (stays (trees c.args.nodes.now) (trees c.loop-i.nodes) c.loop-i.invariant.kept c.part_at-part.result part) (subst (λ (v : List (Option Value)). slice_get (trees c.residual_of.new.nodes) c.in-Ok.answer ≡ Some (residual (plain_problem c.args.here.now.task.now.problem) c.args.here.now.world.now (assignment_in v) (tree_at (trees c.loop-i.nodes) c.part_at-part.result))) c.loop-i.invariant.frame c.in-Ok.ensures.number)) c.gather.new.parts c.in_ok-gather-in-Ok.ensures.below c.in_ok-gather-in-Ok.ensures.same;
+      passed = gather-on c.args.whole.junction (trees c.loop-i.nodes) (trees c.residual_of.new.nodes) c.in-Ok.ensures.kept c.loop-i.answers ((residual (plain_problem c.args.here.now.task.now.problem) c.args.here.now.world.now (assignment_in c.args.env.now)) (tree_at (trees c.args.nodes.now) c.part_at-part.result)) (map (residual (plain_problem c.args.here.now.task.now.problem) c.args.here.now.world.now (assignment_in c.args.env.now)) (drop (c.loop-i.i + 1) (join_parts (tree_at (trees c.args.nodes.now) c.args.whole.at)))) (map (residual (plain_problem c.args.here.now.task.now.problem) c.args.here.now.world.now (assignment_in c.args.env.now)) (join_parts (tree_at (trees c.args.nodes.now) c.args.whole.at))) (subst (λ (fs : List FormulaTree). Gathered c.args.whole.junction (trees c.loop-i.nodes) c.loop-i.answers fs (map (residual (plain_problem c.args.here.now.task.now.problem) c.args.here.now.world.now (assignment_in c.args.env.now)) (join_parts (tree_at (trees c.args.nodes.now) c.args.whole.at)))) (part-next (residual (plain_problem c.args.here.now.task.now.problem) c.args.here.now.world.now (assignment_in c.args.env.now)) (join_parts (tree_at (trees c.args.nodes.now) c.args.whole.at)) c.loop-i.i (tree_at (trees c.args.nodes.now) c.part_at-part.result) there) c.loop-i.invariant.passed) c.in-Ok.answer (subst (λ (f : FormulaTree). slice_get (trees c.residual_of.new.nodes) c.in-Ok.answer ≡ Some (residual (plain_problem c.args.here.now.task.now.problem) c.args.here.now.world.now (assignment_in c.args.env.now) f)) (stays (trees c.args.nodes.now) (trees c.loop-i.nodes) c.loop-i.invariant.kept c.part_at-part.result part) (subst (λ (v : List (Option Value)). slice_get (trees c.residual_of.new.nodes) c.in-Ok.answer ≡ Some (residual (plain_problem c.args.here.now.task.now.problem) c.args.here.now.world.now (assignment_in v) (tree_at (trees c.loop-i.nodes) c.part_at-part.result))) c.loop-i.invariant.frame c.in-Ok.ensures.number)) c.gather.new.parts c.in_ok-gather-in-Ok.ensures.below c.in_ok-gather-in-Ok.ensures.same;
     }
 
 pub join_residual-returns-in_err-gather-in-Ok-clause-kept : goal.join_residual-returns-in_err-gather-in-Ok-clause-kept
@@ -335,9 +335,9 @@ pub join_residual-returns-in-Err-clause-cause : goal.join_residual-returns-in-Er
 join_residual-returns-in-Err-clause-cause t c =
     let less = c.part_at-part.ensures.smaller in
     let part : c.part_at-part.result < length (trees c.args.nodes.now) = omega (arith, less, c.requires.at) in
-    let there = subst (λ (f : FormulaTree). slice_get (join_parts f) c.loop-i.i ≡ Some (tree_at (trees c.loop-i.nodes) c.part_at-part.result)) (stays (trees c.args.nodes.now) (trees c.loop-i.nodes) c.loop-i.invariant.kept c.args.at c.requires.at) c.part_at-part.ensures.tree ∙ ap Some (stays (trees c.args.nodes.now) (trees c.loop-i.nodes) c.loop-i.invariant.kept c.part_at-part.result part) in
-    let low = part-among false (trees c.args.nodes.now) c.args.at c.args.junction c.requires.join c.loop-i.i c.part_at-part.result less there in
-    residual-fault (plain_problem c.args.here.now.task.now.problem) c.args.here.now.world.now (assignment_in c.args.env.now) (trees c.args.nodes.now) c.args.at c.part_at-part.result low c.in-Err.fault
+    let there = subst (λ (f : FormulaTree). slice_get (join_parts f) c.loop-i.i ≡ Some (tree_at (trees c.loop-i.nodes) c.part_at-part.result)) (stays (trees c.args.nodes.now) (trees c.loop-i.nodes) c.loop-i.invariant.kept c.args.whole.at c.requires.at) c.part_at-part.ensures.tree ∙ ap Some (stays (trees c.args.nodes.now) (trees c.loop-i.nodes) c.loop-i.invariant.kept c.part_at-part.result part) in
+    let low = part-among false (trees c.args.nodes.now) c.args.whole.at c.args.whole.junction c.requires.join c.loop-i.i c.part_at-part.result less there in
+    residual-fault (plain_problem c.args.here.now.task.now.problem) c.args.here.now.world.now (assignment_in c.args.env.now) (trees c.args.nodes.now) c.args.whole.at c.part_at-part.result low c.in-Err.fault
     (subst (λ (f : FormulaTree). IsCausedBy (looked_for_residual (plain_problem c.args.here.now.task.now.problem) c.args.here.now.world.now (assignment_in c.args.env.now) f) c.in-Err.fault) (stays (trees c.args.nodes.now) (trees c.loop-i.nodes) c.loop-i.invariant.kept c.part_at-part.result part)
     (subst (λ (v : List (Option Value)). IsCausedBy (looked_for_residual (plain_problem c.args.here.now.task.now.problem) c.args.here.now.world.now (assignment_in v) (tree_at (trees c.loop-i.nodes) c.part_at-part.result)) c.in-Err.fault) c.loop-i.invariant.frame c.in-Err.ensures.cause))
 
@@ -355,9 +355,9 @@ join_residual-returns-in_err-number-clause-kept t c = λ i f h. c.in_err-number.
 
 pub join_residual-returns-clause-number : goal.join_residual-returns-clause-number
 join_residual-returns-clause-number t c =
-    c.in_ok-number.ensures.number ∙ ap (λ (f : FormulaTree). Some f) (ap (λ (ids : List ℕ). simplified_join c.args.junction (trees_at (trees c.loop-i.nodes) ids)) c.as_slice.ensures
-    ∙ (gather-end c.args.junction (trees c.loop-i.nodes) c.loop-i.answers (map (residual (plain_problem c.args.here.now.task.now.problem) c.args.here.now.world.now (assignment_in c.args.env.now)) (drop c.loop-i.i (join_parts (tree_at (trees c.args.nodes.now) c.args.at)))) (map (residual (plain_problem c.args.here.now.task.now.problem) c.args.here.now.world.now (assignment_in c.args.env.now)) (join_parts (tree_at (trees c.args.nodes.now) c.args.at))) c.loop-i.invariant.passed (parts-done (residual (plain_problem c.args.here.now.task.now.problem) c.args.here.now.world.now (assignment_in c.args.env.now)) (join_parts (tree_at (trees c.args.nodes.now) c.args.at)) c.loop-i.i (omega (arith, c.loop-i-test.false, c.part_count-i-end.ensures)))
-    ∙ join-next (plain_problem c.args.here.now.task.now.problem) c.args.here.now.world.now (assignment_in c.args.env.now) c.args.junction (tree_at (trees c.args.nodes.now) c.args.at) c.requires.join))
+    c.in_ok-number.ensures.number ∙ ap (λ (f : FormulaTree). Some f) (ap (λ (ids : List ℕ). simplified_join c.args.whole.junction (trees_at (trees c.loop-i.nodes) ids)) c.as_slice.ensures
+    ∙ (gather-end c.args.whole.junction (trees c.loop-i.nodes) c.loop-i.answers (map (residual (plain_problem c.args.here.now.task.now.problem) c.args.here.now.world.now (assignment_in c.args.env.now)) (drop c.loop-i.i (join_parts (tree_at (trees c.args.nodes.now) c.args.whole.at)))) (map (residual (plain_problem c.args.here.now.task.now.problem) c.args.here.now.world.now (assignment_in c.args.env.now)) (join_parts (tree_at (trees c.args.nodes.now) c.args.whole.at))) c.loop-i.invariant.passed (parts-done (residual (plain_problem c.args.here.now.task.now.problem) c.args.here.now.world.now (assignment_in c.args.env.now)) (join_parts (tree_at (trees c.args.nodes.now) c.args.whole.at)) c.loop-i.i (omega (arith, c.loop-i-test.false, c.part_count-i-end.ensures)))
+    ∙ join-next (plain_problem c.args.here.now.task.now.problem) c.args.here.now.world.now (assignment_in c.args.env.now) c.args.whole.junction (tree_at (trees c.args.nodes.now) c.args.whole.at) c.requires.join))
 
 -- ---- the instances of a quantifier
 

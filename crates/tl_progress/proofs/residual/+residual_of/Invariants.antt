@@ -22,7 +22,7 @@ abbrev pub decreases-layer_residual : goal.decreases-layer_residual
 decreases-layer_residual l = 4 * l.at + 1
 
 abbrev pub decreases-join_residual : goal.decreases-join_residual
-decreases-join_residual l = 4 * l.at
+decreases-join_residual l = 4 * l.whole.at
 
 abbrev pub decreases-quantifier_residual : goal.decreases-quantifier_residual
 decreases-quantifier_residual l = 4 * l.quantifier.part + 4
@@ -35,7 +35,7 @@ invariant-join_residual-loop-i l = record {
   remembers : AreTruths (plain_problem l.here.task.now.problem) l.here.world.now l.memory;
   frame : l.env ≡ l.fn.env;
   kept : Keeps (trees l.fn.nodes) (trees l.nodes);
-  passed : Gathered l.junction (trees l.nodes) l.answers (map (residual (plain_problem l.here.task.now.problem) l.here.world.now (assignment_in l.fn.env)) (drop l.i (join_parts (tree_at (trees l.fn.nodes) l.at)))) (map (residual (plain_problem l.here.task.now.problem) l.here.world.now (assignment_in l.fn.env)) (join_parts (tree_at (trees l.fn.nodes) l.at)));
+  passed : Gathered l.whole.junction (trees l.nodes) l.answers (map (residual (plain_problem l.here.task.now.problem) l.here.world.now (assignment_in l.fn.env)) (drop l.i (join_parts (tree_at (trees l.fn.nodes) l.whole.at)))) (map (residual (plain_problem l.here.task.now.problem) l.here.world.now (assignment_in l.fn.env)) (join_parts (tree_at (trees l.fn.nodes) l.whole.at)));
 }
 
 abbrev pub decreases-instances_residual-tuples : goal.decreases-instances_residual-tuples

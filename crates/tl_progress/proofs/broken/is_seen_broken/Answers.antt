@@ -3,12 +3,12 @@ use Rattle.tl_nodes.specs.Fits.{all_below}
 use Rattle.tl_syntax.specs.Lists.{Among}
 use Rattle.tl_progress.proofs.Below.{among-at}
 use Rattle.tl_progress.proofs.PutLayers.{at-below}
-use Rattle.tl_progress.proofs.broken.is_one_broken.Goals as goal
+use Rattle.tl_progress.proofs.broken.is_seen_broken.Goals as goal
 
 pub is_broken-requires : goal.is_broken-requires
 is_broken-requires c =
-    let below = subst (λ (ids : List ℕ). all_below c.args.at ids ≡ true) (sym c.as_slice-part-items.ensures) c.requires.below in
-    let less = at-below c.args.at c.as_slice-part-items.result.now c.loop-part.part-index below c.loop-part-test.true in
+    let below = subst (λ (ids : List ℕ). all_below c.args.conjunction.now.at ids ≡ true) (sym c.as_slice-part-items.ensures) c.requires.below in
+    let less = at-below c.args.conjunction.now.at c.as_slice-part-items.result.now c.loop-part.part-index below c.loop-part-test.true in
     omega (arith, less, c.requires.inside)
 
 pub returns-then-is_broken : goal.returns-then-is_broken
