@@ -5,7 +5,6 @@ use Rattle.tl_syntax.specs.Trees.{FormulaTree}
 use Rattle.tl_terms.specs.Problem.{PlainProblem}
 use Rattle.tl_terms.specs.World.{World}
 use Rattle.tl_nodes.specs.NodeTrees.{tree_at}
-use Rattle.tl_nodes.specs.Numbers.{trees}
 use Rattle.tl_progress.specs.declared.residuals.Residuals.{Residuals}
 use Rattle.tl_progress.specs.Answers.{residual}
 use Rattle.tl_progress.specs.Known.{AreResiduals}

@@ -1,6 +1,6 @@
 -- What a set's answers say of its keys, where the test of equality tells which are the same.
-use Rattle.std.proofs.Common.{◌≡◌, ◌||◌, ◌<◌, ◌+◌, cond, position, nat_lt, ℕ, zero, suc, Bool, true, false, not, List, [], ◌∷◌, ◌++◌, length, slice_get, Some, inl, inr, refl, sym, ap, subst, ◌∙◌, true≢false, if◌then◌else◌, arith}
-use Rattle.std.specs.List.{list_any, IsDistinct, AllByRecursion, position_or_len}
+use Rattle.std.proofs.Common.{◌≡◌, ◌||◌, ◌<◌, ◌+◌, cond, position, nat_lt, ℕ, suc, Bool, true, false, not, List, [], ◌∷◌, ◌++◌, length, slice_get, Some, inl, inr, refl, sym, ap, subst, ◌∙◌, if◌then◌else◌, arith}
+use Rattle.std.specs.List.{list_any, position_or_len}
 use Rattle.std.proofs.lemmas.Option.{cond_some}
 use borrow.Author.Tests.{ltb-true}
 use Rattle.indexmap.specs.IndexSet.{insert_key}

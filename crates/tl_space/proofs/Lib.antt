@@ -11,3 +11,4 @@ pub mod Walked
 pub mod FoundStay
 pub mod PrunedChildren
 pub mod MetWays
+pub mod Forgetting

@@ -46,7 +46,7 @@ pub mets-more : (us : List Action) (ws vs : List Way) (w : Way) (m : Met) → vs
 mets-more us ws vs w m e f = ap (mets_of us) e ∙ (map-append (met_by us) ws (w ∷ []) ∙ ap (λ (x : Met). mets_of us ws ++ x ∷ []) f)
 
 -- the first ways alone
-each-taken : {A : Type 0} (P : A → Type 0) (n : ℕ) (xs : List A) → Each P xs → Each P (take n xs)
+pub each-taken : {A : Type 0} (P : A → Type 0) (n : ℕ) (xs : List A) → Each P xs → Each P (take n xs)
 each-taken P zero xs h = tt
 each-taken P (suc n) [] h = tt
 each-taken P (suc n) (x ∷ xs) h = (h.0, each-taken P n xs h.1)

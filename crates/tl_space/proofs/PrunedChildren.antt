@@ -1,5 +1,5 @@
 -- Pairs that the changes of an action prune.
-use Rattle.std.proofs.Common.{◌≡◌, ℕ, List, map, false, Some, sym, ap, ◌∙◌}
+use Rattle.std.proofs.Common.{◌≡◌, List, map, false, Some, sym, ap, ◌∙◌}
 use Rattle.std.specs.Option.{option_map}
 use Rattle.tl_action.specs.declared.changes.Changes.{Changes}
 use Rattle.tl_action.specs.ChangedWorlds.{world_after}

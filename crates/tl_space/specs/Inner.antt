@@ -1,6 +1,7 @@
 -- What the parts of a space say to each other.
-use Rattle.std.specs.Prelude.{◌≡◌, ◌≢◌, ◌++◌, ◌∷◌, [], ℕ, List, slice_get, Some}
+use Rattle.std.specs.Prelude.{◌≡◌, ◌≢◌, ◌<◌, ◌≤◌, ◌++◌, ◌∷◌, [], ℕ, suc, List, length, slice_get, Some}
 use Rattle.tl_syntax.specs.Assignment.{no_values}
+use Rattle.tl_syntax.specs.Lists.{Each}
 use Rattle.tl_syntax.specs.Signature.{signature_of}
 use Rattle.tl_syntax.specs.declared.action.Action.{Action}
 use Rattle.tl_syntax.specs.Trees.{falsum}
@@ -62,6 +63,22 @@ pub record KeepsPairs (old new : Space) : Type 0 where
   pub trees : Stay (trees old.nodes) (trees new.nodes)
   pub pairs : new.pairs.keys ≡ old.pairs.keys
   pub from : new.from ≡ old.from
+
+-- the worlds stay, and what is remembered of arrivals
+pub record KeepsMet (old new : Space) : Type 0 where
+  pub worlds : new.worlds ≡ old.worlds
+  pub arrivals : new.arrivals ≡ old.arrivals
+
+-- one world more has a number at most, and what is remembered of arrivals stays
+pub record MeetsOneMore (old new : Space) : Type 0 where
+  pub worlds : length (worlds_in new.worlds) ≤ suc (length (worlds_in old.worlds))
+  pub arrivals : new.arrivals ≡ old.arrivals
+
+-- the number is that of the last world, and all kept pairs and all arrivals that are remembered are of worlds before it
+pub record IsLastUnmet (s : Space) (n : ℕ) : Type 0 where
+  pub last : suc n ≡ length (worlds_in s.worlds)
+  pub pairs : (i : ℕ) (m : Numbers) → slice_get s.pairs.keys i ≡ Some m → m.world < n
+  pub arrivals : Each (λ (e : Numbers × Arrival). e.0.world < n) s.arrivals
 
 -- the pair of these numbers is not pruned, and is not kept
 pub record IsNew (s : Space) (n : Numbers) : Type 0 where

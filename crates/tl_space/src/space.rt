@@ -27,17 +27,19 @@ use crate::numbers::Numbers;
 use crate::ways::Ways;
 use indexmap::IndexSet;
 use std::alloc::Global;
-use tl_action::Lister;
+use tl_action::{Changes, Lister};
 use tl_eval::Env;
 use tl_nodes::Nodes;
-use tl_progress::Residuals;
+use tl_progress::{PartPlaces, Residuals};
 use tl_terms::NoMemory;
 use tl_world::{Task, Unmet, Worlds};
 
 /// Pairs of a world and a residual, each kept once under a number, with the path by which it was met first.
 ///
 /// No call changes the task, the tree of a number, or the number, label, world or path of a kept pair. A pair is kept as the last growth of a call: after a refused call the kept pairs are as before, and the same call can be made again.
-/// A pair is two numbers, that of its world and that of its residual. What came of an arrival is remembered by its world and the formula that came in, where there is memory for it, so progression is asked once for each; and what formulas that come in to one world have in common is progressed once for the world.
+/// A pair is two numbers, that of its world and that of its residual. What came of an arrival in a world that was met before is remembered by its world and the formula that came in, where there is memory for it, so progression is asked once for each; and what formulas that come in to one world have in common is progressed once for the world.
+/// Where an action leads to a new world and its arrival is pruned there, that world is let go, with all that was found of it.
+/// What an action changes is put into one list, again for each, so that a child that is seen or pruned takes no memory for it.
 /// Actions are looked at under a frame of their own. That of formulas has no values between calls, so progression need not put any away.
 #[derive(Drop)]
 pub struct Space {
@@ -53,6 +55,8 @@ pub struct Space {
     pub(crate) arrivals: Arrivals,
     pub(crate) residuals: Residuals,
     pub(crate) unmet: Unmet,
+    pub(crate) places: PartPlaces,
+    pub(crate) changes: Changes,
     ghost lists: { ListsFor task lister },
     ghost named_worlds: { Each (WorldIsNamed (length task.problem.names)) (worlds_in worlds) } by { worlds_named-prop (length task.problem.names) (worlds_in worlds) },
     ghost kept: { AreKeptBy (signature_of task.problem.domain) (length task.problem.names) (plain_problem task.problem) (worlds_in worlds) (trees nodes) pairs.keys from } by { kept-prop (signature_of task.problem.domain) (length task.problem.names) (plain_problem task.problem) (worlds_in worlds) (trees nodes) pairs.keys from },
@@ -135,6 +139,8 @@ impl Space {
             arrivals: Arrivals::new(alloc),
             residuals: Residuals::new(alloc),
             unmet: Unmet { table: 0, row: 0 },
+            places: PartPlaces::new(alloc),
+            changes: Changes::new(alloc),
         }
     }
 }

@@ -1,6 +1,6 @@
 // What is known of an arrival.
 ghost use Rattle.std.specs.Prelude.{◌≡◌, IsTrue, IfOk, IfErr, IfSome, IfNone};
-ghost use Rattle.tl_space.specs.Inner.{node_in, nodes_in, arriving_in, AreNumbersIn, IsKnownIn, KeepsPairs, IsNew, IsArrivalFound, IsProgressFault};
+ghost use Rattle.tl_space.specs.Inner.{node_in, nodes_in, arriving_in, AreNumbersIn, IsKnownIn, KeepsPairs, KeepsMet, IsNew, IsArrivalFound, IsProgressFault};
 ghost use Rattle.tl_space.specs.Remembered.{IsKnown};
 
 use super::Space;
@@ -93,10 +93,28 @@ impl Space {
         }
     }
 
-    /// What is found of the arrival by progression.
+    /// What is found of the arrival by progression. It is remembered where no pair is to be kept.
     fn find_anew(&mut self, key: Numbers) -> Result<Found, ProgressFault>
         requires { AreNumbersIn self.old key }
         ensures keeps { KeepsPairs self.old self.new }
+        ensures found { IfOk result (IsArrivalFound self.new key) }
+        ensures cause { IfErr result (IsProgressFault self.old key) }
+    {
+        match self.find_progressed(key) {
+            Ok(Found::Known(arrival)) => {
+                self.remember(key, arrival);
+                Ok(Found::Known(arrival))
+            }
+            Ok(Found::New(numbers)) => Ok(Found::New(numbers)),
+            Err(fault) => Err(fault),
+        }
+    }
+
+    /// What is found of the arrival by progression. Nothing is remembered of it.
+    fn find_progressed(&mut self, key: Numbers) -> Result<Found, ProgressFault>
+        requires { AreNumbersIn self.old key }
+        ensures keeps { KeepsPairs self.old self.new }
+        ensures met { KeepsMet self.old self.new }
         ensures found { IfOk result (IsArrivalFound self.new key) }
         ensures cause { IfErr result (IsProgressFault self.old key) }
     {
@@ -109,11 +127,23 @@ impl Space {
             label,
         };
         match self.known(numbers) {
-            Some(arrival) => {
-                self.remember(key, arrival);
-                Ok(Found::Known(arrival))
-            }
+            Some(arrival) => Ok(Found::Known(arrival)),
             None => Ok(Found::New(numbers)),
+        }
+    }
+
+    /// What is found of the first arrival in a new world: at once where TRUE comes in, or else by progression. Nothing is remembered of it.
+    pub(crate) fn find_in_new(&mut self, key: Numbers) -> Result<Found, ProgressFault>
+        requires { AreNumbersIn self.old key }
+        ensures keeps { KeepsPairs self.old self.new }
+        ensures met { KeepsMet self.old self.new }
+        ensures found { IfOk result (IsArrivalFound self.new key) }
+        ensures cause { IfErr result (IsProgressFault self.old key) }
+    {
+        if self.leaves_itself(key) {
+            Ok(self.find_itself(key))
+        } else {
+            self.find_progressed(key)
         }
     }
 }

@@ -1,16 +1,16 @@
 // The pair after an action.
-ghost use Rattle.std.specs.Prelude.{◌≡◌, ◌<◌, ◌+◌, length, IfOk, IfErr, IfNone, IfSome, OnErr};
+ghost use Rattle.std.specs.Prelude.{◌≡◌, ◌<◌, ◌+◌, length, IsTrue, IfOk, IfErr, IfNone, IfSome, OnErr};
 ghost use Rattle.tl_action.specs.Actions.{ArgumentsAreNamed};
 ghost use Rattle.tl_search.specs.Calls.{IsExecutableAt, ChildArrives, IsChildFault};
 ghost use Rattle.tl_search.specs.Kept.{AreKept};
 ghost use Rattle.tl_search.specs.PairGraph.{pair_graph};
-ghost use Rattle.tl_space.specs.Inner.{node_in, AreNumbersIn, KeepsPairs, IsToKeep, IsChildKey, IsChildPruned, IsProgressFault, way_after, IsWalk, LeadsTo, ArrivesBy, IsKeptLast};
+ghost use Rattle.tl_space.specs.Inner.{node_in, AreNumbersIn, KeepsPairs, MeetsOneMore, IsLastUnmet, IsToKeep, IsChildKey, IsChildPruned, IsProgressFault, way_after, IsWalk, LeadsTo, ArrivesBy, IsKeptLast};
 ghost use Rattle.tl_space.specs.Spaces.{problem_of, name_count, kept_of, Grows};
 
 use super::Space;
 use crate::numbers::{Found, Met, Numbers};
 use std::sync::ledger::Ledger;
-use tl_action::{ActFault, changes_by};
+use tl_action::{ActFault, Here};
 use tl_progress::{ProgressFault, is_broken_by};
 use tl_search::{Arrival, SpaceFault};
 use tl_terms::{Action, NoMemory, Steps};
@@ -33,12 +33,14 @@ impl Space {
         ensures cause { IfErr result (IsChildFault (problem_of self.old) (kept_of self.old) at a.now) }
         ensures ticks { steps.new ≡ steps.old + 1 }
     {
+        let before = self.worlds.len();
         let key = match self.child_key(at, a, steps) {
             Ok(Some(key)) => key,
             Ok(None) => return Ok(Arrival::Pruned),
             Err(fault) => return Err(fault),
         };
-        match self.arrive_after(key, at, a) {
+        let is_new = key.world == before;
+        match self.arrive_after(key, is_new, at, a) {
             Ok(arrival) => Ok(arrival),
             Err(ProgressFault::Range(note)) => Err(SpaceFault::RangeAfter(note)),
             Err(ProgressFault::NoMemory) => Err(SpaceFault::NoMemory),
@@ -49,10 +51,12 @@ impl Space {
     fn arrive_after(
         &mut self,
         key: Numbers,
+        is_new: bool,
         at: usize,
         a: &Action,
     ) -> Result<Arrival, ProgressFault>
         requires key { AreNumbersIn self.old key }
+        requires unmet { IsTrue is_new → IsLastUnmet self.old key.world }
         requires at { at < length (kept_of self.old) }
         requires named { ArgumentsAreNamed (name_count self.old) a.now }
         requires walk { LeadsTo self.old (way_after self.old at a.now) key }
@@ -61,8 +65,37 @@ impl Space {
         ensures refused { OnErr result (kept_of self.new ≡ kept_of self.old) }
         ensures cause { IfErr result (IsProgressFault self.old key) }
     {
+        if is_new {
+            return self.arrive_new(key, at, a);
+        }
         match self.find(key) {
             Ok(Found::Known(arrival)) => Ok(arrival),
+            Ok(Found::New(numbers)) => match self.keep_after(key, numbers, at, a) {
+                Ok(k) => Ok(Arrival::Fresh(k)),
+                Err(_) => Err(ProgressFault::NoMemory),
+            },
+            Err(fault) => Err(fault),
+        }
+    }
+
+    /// The pair after an action of the pair `at` arrives, in this new world with this formula. Where it is pruned the world is let go again, and nothing is remembered of it.
+    #[inline(never)]
+    fn arrive_new(&mut self, key: Numbers, at: usize, a: &Action) -> Result<Arrival, ProgressFault>
+        requires key { AreNumbersIn self.old key }
+        requires unmet { IsLastUnmet self.old key.world }
+        requires at { at < length (kept_of self.old) }
+        requires named { ArgumentsAreNamed (name_count self.old) a.now }
+        requires walk { LeadsTo self.old (way_after self.old at a.now) key }
+        ensures grows { Grows self.old self.new }
+        ensures arrival { IfOk result (ArrivesBy self.old self.new key (way_after self.old at a.now)) }
+        ensures refused { OnErr result (kept_of self.new ≡ kept_of self.old) }
+        ensures cause { IfErr result (IsProgressFault self.old key) }
+    {
+        match self.find_in_new(key) {
+            Ok(Found::Known(arrival)) => {
+                self.forget_world(key.world);
+                Ok(arrival)
+            }
             Ok(Found::New(numbers)) => match self.keep_after(key, numbers, at, a) {
                 Ok(k) => Ok(Arrival::Fresh(k)),
                 Err(_) => Err(ProgressFault::NoMemory),
@@ -103,6 +136,7 @@ impl Space {
         requires at { at < length (kept_of self.old) }
         requires executable { IsExecutableAt (problem_of self.old) (kept_of self.old) at a.now }
         ensures keeps { KeepsPairs self.old self.new }
+        ensures met { MeetsOneMore self.old self.new }
         ensures numbers { IfOk result (λ o. IfSome o (AreNumbersIn self.new)) }
         ensures key { IfOk result (λ o. IfSome o (IsChildKey self.old self.new at a.now)) }
         ensures pruned { IfOk result (λ o. IfNone o (IsChildPruned self.old at a.now)) }
@@ -110,24 +144,23 @@ impl Space {
         ensures ticks { steps.new ≡ steps.old + 1 }
     {
         let from = self.numbers(at);
-        let changes = match changes_by(
-            self.alloc,
-            &self.task,
-            self.worlds.get(from.world),
-            &mut self.env,
-            a,
-            steps,
-        ) {
-            Ok(changes) => changes,
+        let world = self.worlds.get(from.world);
+        let here = Here {
+            alloc: self.alloc,
+            task: &self.task,
+            world,
+        };
+        match self.changes.put_those_of(&here, &mut self.env, a, steps) {
+            Ok(()) => {}
             Err(ActFault::Range(note)) => return Err(SpaceFault::RangeHere(note)),
             Err(ActFault::NoMemory) => return Err(SpaceFault::NoMemory),
-        };
-        let dels = changes.dels.as_slice();
-        let adds = changes.adds.as_slice();
-        if is_broken_by(&self.nodes, from.label, dels, adds) {
+        }
+        let dels = self.changes.dels.as_slice();
+        let adds = self.changes.adds.as_slice();
+        if is_broken_by(&self.nodes, from.label, &mut self.places, dels, adds) {
             return Ok(None);
         }
-        match self.number_after(from.world, &changes) {
+        match self.number_after(from.world) {
             Ok(world) => Ok(Some(Numbers {
                 world,
                 label: from.label,

@@ -1,11 +1,11 @@
-// Worlds and formulas get their numbers. The pairs stay.
+// Worlds and formulas get their numbers, and a world is let go. The pairs stay.
 ghost use Rattle.std.specs.Prelude.{◌≡◌, ◌<◌, length, slice_get, Some, IfOk, IfErr};
 ghost use Rattle.tl_action.specs.ChangedWorlds.{world_after};
 ghost use Rattle.tl_nodes.specs.Numbering.{Keeps};
 ghost use Rattle.tl_nodes.specs.Numbers.{trees, Denotes};
-ghost use Rattle.tl_space.specs.Inner.{arriving_in, IsLabelIn, AreNumbersIn, KeepsPairs, IsProgressFault};
+ghost use Rattle.tl_space.specs.Inner.{arriving_in, IsLabelIn, AreNumbersIn, KeepsPairs, KeepsMet, MeetsOneMore, IsLastUnmet, IsProgressFault};
 ghost use Rattle.tl_space.specs.Kept.{world_at};
-ghost use Rattle.tl_space.specs.Spaces.{problem_of, name_count};
+ghost use Rattle.tl_space.specs.Spaces.{problem_of, name_count, kept_of, Grows};
 ghost use Rattle.tl_world.specs.NumberedLists.{IsAdded};
 ghost use Rattle.tl_world.specs.WorldNumbers.{worlds_in};
 ghost use Rattle.tl_terms.specs.NamedWorlds.{WorldIsNamed};
@@ -61,15 +61,27 @@ impl Space {
         self.worlds.number(world)
     }
 
-    /// The number of the world that the changes make of the world of a number. A world that has a number is seldom made for it.
-    pub(crate) fn number_after(&mut self, from: usize, changes: &Changes) -> Result<usize, NoMemory>
+    /// The number of the world that the space's changes make of the world of a number. A world that has a number is seldom made for it.
+    pub(crate) fn number_after(&mut self, from: usize) -> Result<usize, NoMemory>
         requires from { from < length (worlds_in self.old.worlds) }
-        requires named { WorldIsNamed (name_count self.old) (world_after (world_at (worlds_in self.old.worlds) from) changes.now) }
+        requires named { WorldIsNamed (name_count self.old)
+            (world_after (world_at (worlds_in self.old.worlds) from) self.old.changes) }
         ensures keeps { KeepsPairs self.old self.new }
+        ensures met { MeetsOneMore self.old self.new }
         ensures number { IfOk result (λ n. slice_get (worlds_in self.new.worlds) n
-            ≡ Some (world_after (world_at (worlds_in self.old.worlds) from) changes.now)) }
+            ≡ Some (world_after (world_at (worlds_in self.old.worlds) from) self.old.changes)) }
     {
-        number_changed(&mut self.worlds, from, changes)
+        number_changed(&mut self.worlds, from, &self.changes)
+    }
+
+    /// Lets the last world go, of which nothing is kept, with what progression found there. It takes no memory.
+    pub(crate) fn forget_world(&mut self, world: usize)
+        requires { IsLastUnmet self.old world }
+        ensures grows { Grows self.old self.new }
+        ensures kept { kept_of self.new ≡ kept_of self.old }
+    {
+        self.residuals.forget(world);
+        self.worlds.forget_last();
     }
 
     /// The number of the first world.
@@ -94,6 +106,7 @@ impl Space {
     pub(crate) fn number_of_residual(&mut self, key: Numbers) -> Result<usize, ProgressFault>
         requires { AreNumbersIn self.old key }
         ensures keeps { KeepsPairs self.old self.new }
+        ensures met { KeepsMet self.old self.new }
         ensures number { IfOk result (λ n. slice_get (trees self.new.nodes) n ≡ Some (arriving_in self.old key).formula) }
         ensures label { IfOk result (IsLabelIn self.new) }
         ensures cause { IfErr result (IsProgressFault self.old key) }

@@ -1,4 +1,4 @@
-use Rattle.std.proofs.Common.{refl, ap}
+use Rattle.std.proofs.Common.{refl}
 use Rattle.std.proofs.lemmas.Option.{slice_get_read}
 use Rattle.tl_search.proofs.ListLaws.{among-at}
 use Rattle.tl_space.specs.Spaces.{problem_of, kept_of}

@@ -1,10 +1,11 @@
-use Rattle.std.proofs.Common.{◌<◌, ◌++◌, ◌∷◌, List, length, [], sym, ap, subst, ◌∙◌}
+use Rattle.std.proofs.Common.{◌<◌, ◌++◌, ◌∷◌, List, length, [], sym, ap, subst, ◌∙◌, eqb-true}
 use Rattle.tl_syntax.specs.declared.action.Action.{Action}
 use Rattle.tl_search.specs.PairGraph.{next_pair}
 use Rattle.tl_space.specs.Inner.{arriving_in, way_after}
 use Rattle.tl_space.specs.Spaces.{problem_of, kept_of}
 use Rattle.tl_space.proofs.SpaceLaws.{all-kept, keeps-kept, keeps-problem, keeps-grows, grows-behind}
 use Rattle.tl_space.proofs.Arriving.{child-walk, child-pair, child-told, arrives-as, path-later}
+use Rattle.tl_space.proofs.Forgetting.{new-is-unmet}
 use Rattle.tl_space.proofs.Judging.{arguments-named}
 use Rattle.tl_space.proofs.PrunedChildren.{pruned-arrives}
 use Rattle.tl_space.proofs.space.Space.child.Goals as goal
@@ -32,6 +33,11 @@ returns-in-Ok-None-clause-kept g c = all-kept c.child_key.new.self
 
 pub arrive_after-requires-clause-key : goal.arrive_after-requires-clause-key
 arrive_after-requires-clause-key g c = rw c.in-Ok-Some.field-0-is at c.in-Ok-Some.ensures.numbers
+
+pub arrive_after-requires-clause-unmet : goal.arrive_after-requires-clause-unmet
+arrive_after-requires-clause-unmet g c = λ t.
+    new-is-unmet c.args.self.now c.child_key.new.self c.in-Ok-Some.key c.child_key.ensures.keeps c.child_key.ensures.met (rw c.in-Ok-Some.field-0-is at c.in-Ok-Some.ensures.numbers)
+    (eqb-true c.in-Ok-Some.key.world c.len-before.result t ∙ c.len-before.ensures.len)
 
 pub arrive_after-requires-clause-at : goal.arrive_after-requires-clause-at
 arrive_after-requires-clause-at g c = subst (λ xs. c.args.at < length xs) (sym (keeps-kept c.args.self.now c.child_key.new.self c.child_key.ensures.keeps)) c.requires.at

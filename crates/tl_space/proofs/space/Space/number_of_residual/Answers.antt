@@ -1,4 +1,4 @@
-use Rattle.std.proofs.Common.{◌≡◌, slice_get, Some, sym, subst, IfOk, IfErr}
+use Rattle.std.proofs.Common.{◌≡◌, slice_get, Some, refl, sym, subst, IfOk, IfErr}
 use Rattle.tl_nodes.specs.NodeTrees.{tree_at}
 use Rattle.tl_nodes.specs.Numbers.{trees}
 use Rattle.tl_progress.specs.Answers.{IsCausedBy}
@@ -29,6 +29,9 @@ pub progress_kept-requires-clause-found : goal.progress_kept-requires-clause-fou
 progress_kept-requires-clause-found c =
     let s = c.args.self.now in
     found-here (problem_of s) (worlds_in s.worlds) (trees s.nodes) c.args.key.world c.get.result.now (world-at (worlds_in s.worlds) c.args.key.world c.get.result.now c.get.ensures) s.residuals s.found
+
+pub returns-clause-met : goal.returns-clause-met
+returns-clause-met c = record { worlds = refl; arrivals = refl }
 
 pub returns-clause-number : goal.returns-clause-number
 unfolding pair_in_at
