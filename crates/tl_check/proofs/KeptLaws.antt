@@ -74,3 +74,8 @@ cause-unless p plan keeps trail follows (Err unlabelled.NotKept) h = by keeps fo
 pub followed-cause : (p : PlainProblem) (keeps : Bool) (plan : List Action) (y : CheckFault) → IsFollowed p keeps plan (Err y) → IsCause p plan y
 followed-cause p keeps plan (fault.Range k note) h = inl h
 followed-cause p keeps plan fault.NoMemory h = tt
+
+-- as it leaves by a `?`
+pub followed-noted : {A : Type 0} (p : PlainProblem) (keeps : Bool) (plan : List Action) (r : Result A Unlabelled) (y : CheckFault) → IsErrAnd r (λ u. u ≡ unlabelled.Fault y) → IsFollowed p keeps plan (Err y) → IfErr r (IsCauseUnlessKept p plan keeps)
+followed-noted p keeps plan (Ok v) y same h = absurd same
+followed-noted p keeps plan (Err u) y same h = subst (λ (v : Unlabelled). IsCauseUnlessKept p plan keeps v) (sym same) (followed-cause p keeps plan y h)

@@ -28,6 +28,11 @@ module _ {A B : Type 0} (along : Along) (P : Result A CheckFault → Type 0) (Q 
   passed-on (Ok b) x same h = absurd same
   passed-on (Err y) x same h = subst (λ (z : Unlabelled). UnlessFew along Q (Err z)) (sym same) (passed x h)
 
+-- the same of a call that wants no states kept
+pub fault-passed : {A : Type 0} (along : Along) (P : Result A CheckFault → Type 0) (r : Result A Unlabelled) (y : CheckFault) → IsErrAnd r (λ u. u ≡ unlabelled.Fault y) → P (Err y) → UnlessFew along P r
+fault-passed along P (Ok b) y same h = absurd same
+fault-passed along P (Err u) y same h = subst (λ (z : Unlabelled). UnlessFew along P (Err z)) (sym same) h
+
 module _ {A : Type 0} (along : Along) (P Q : Result A CheckFault → Type 0) (step : (r : Result A CheckFault) → P r → Q r) where
   pub by-cases : (r : Result A Unlabelled) → UnlessFew along P r → UnlessFew along Q r
   by-cases (Ok x) h = step (Ok x) h

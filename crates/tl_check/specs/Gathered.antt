@@ -1,10 +1,11 @@
 -- The tuples of a bound along some states, and where each makes it true.
-use Rattle.std.specs.Prelude.{◌≡◌, ◌↔◌, ◌≤◌, ◌<◌, ◌+◌, ◌⊎◌, ℕ, List, [], ◌∷◌, ◌++◌, length, Option, Some, true, false, slice_get}
+use Rattle.std.specs.Prelude.{◌≡◌, ◌↔◌, ◌≤◌, ◌<◌, ◌+◌, ◌⊎◌, ℕ, List, [], ◌∷◌, ◌++◌, length, Option, Some, Result, IfOk, IfSome, true, false, slice_get}
 use Rattle.tl_check.specs.Lines.{truth_from, AreBefore}
 use Rattle.tl_check.specs.StatesAlong.{states_along}
 use Rattle.tl_check.specs.Tracks.{Lines, line_in, fact_with, HaveSeenAll}
 use Rattle.tl_check.specs.declared.along.Along.{Along}
 use Rattle.tl_check.specs.declared.binder.Binder.{Binder}
+use Rattle.tl_check.specs.declared.gathered.Alike.{Alike}
 use Rattle.tl_check.specs.declared.line.Change.{Change}
 use Rattle.tl_check.specs.declared.span.Span.{Span}
 use Rattle.tl_check.specs.declared.tracks.Tracks.{Tracks}
@@ -51,14 +52,18 @@ pub record HoldsThere (span : Span) (old new : List Change) : Type 0 where
 abbrev pub HoldsIn : Span → List Change → List Change → Type 0
 HoldsIn span old new = AreBefore (span.from + 1) old → HoldsThere span old new
 
+-- so it is by the fact's changes
+abbrev pub FactHoldsIn : Span → Fact → Lines → Lines → Type 0
+FactHoldsIn span fact old new = HoldsIn span (line_in old fact) (line_in new fact)
+
 -- the tuple is not among these and its changes stay, or it is and is told to hold in the span
 abbrev pub IsNoted : List (List Value) → Span → List Value → List Change → List Change → Type 0
 IsNoted all here a old new = ((Among a all → ⊥) × (new ≡ old)) ⊎ (Among a all × HoldsIn here old new)
 
--- the tuples of the bound in this world are told to hold in the span, and no others
-abbrev pub NoteTuples : Along → List (Option Value) → Binder → World → Span → Lines → Lines → Type 0
-NoteTuples along frame b w here old new = (a : List Value)
-    → IsNoted (tuples (situation_of (plain_problem along.task.now.problem) w) (assignment_in frame) b.vars.now b.bound.now) here a (line_in old (fact_with 0 a)) (line_in new (fact_with 0 a))
+-- the tuples of the bound in the first of these states are told to hold in all of them, and no others
+abbrev pub NoteTuples : Along → List (Option Value) → Alike → Tracks → Tracks → Type 0
+NoteTuples along frame alike old new = (a : List Value)
+    → IsNoted (tuples (situation_of (plain_problem along.task.now.problem) alike.first.now) (assignment_in frame) alike.binder.vars.now alike.binder.bound.now) alike.span a (line_in old.lines (fact_with 0 a)) (line_in new.lines (fact_with 0 a))
 
 -- the fact is that of a tuple with so many values
 abbrev pub IsTuple : ℕ → Fact → Type 0
@@ -68,14 +73,23 @@ IsTuple n f = (f ≡ fact_with 0 f.args) × (length f.args ≡ n)
 abbrev pub HaveCounts : Binder → List Fact → Type 0
 HaveCounts b fs = Each (IsTuple (length b.vars.now)) fs
 
+-- so each that was seen stays
+abbrev pub KeepCounts : Binder → Tracks → Tracks → Type 0
+KeepCounts b old new = HaveCounts b old.seen.items → HaveCounts b new.seen.items
+
 -- at each position of the span the tuples that are told to hold are those of the bound, and each that holds at some position was seen
 pub record TellTuples (p : PlainProblem) (ws : List World) (e : Assignment) (ss : List Var) (b : Bound) (span : Span) (t : Tracks) : Type 0 where
   pub tell : (a : List Value) (k : ℕ) (w : World) → span.from ≤ k → k < span.to → slice_get ws k ≡ Some w → (truth_from false (line_in t.lines (fact_with 0 a)) k ≡ true) ↔ Among a (tuples (situation_of p w) e ss b)
   pub covered : HaveSeenAll t
   pub counts : Each (IsTuple (length ss)) t.seen.items
 
+-- so it is along the states of a plan
 abbrev pub AreGathered : Along → List (Option Value) → Binder → Span → Tracks → Type 0
 AreGathered along frame b span t = TellTuples (plain_problem along.task.now.problem) (states_along along) (assignment_in frame) b.vars.now b.bound.now span t
+
+-- where there are some, they are those
+abbrev pub GivesGathered : {E : Type 0} → Along → List (Option Value) → Binder → Span → Result (Option Tracks) E → Type 0
+GivesGathered along frame b span r = IfOk r (λ found. IfSome found (AreGathered along frame b span))
 
 -- the places of the function have the same values in both worlds
 abbrev pub HaveSamePlaces : ℕ → World → World → Type 0

@@ -1,5 +1,5 @@
 -- Labels of the positions of a span.
-use Rattle.std.specs.Prelude.{◌≡◌, ◌<◌, ◌≤◌, ◌+◌, ◌-◌, ◌&&◌, ◌⊎◌, ℕ, List, length, take, drop, Bool, true, false, cond, nat_le, nat_lt, slice_index_or}
+use Rattle.std.specs.Prelude.{◌≡◌, ◌<◌, ◌≤◌, ◌+◌, ◌-◌, ◌&&◌, ◌⊎◌, ℕ, List, length, take, drop, Bool, true, false, cond, Result, OnOk, nat_le, nat_lt, slice_index_or}
 use Rattle.tl_check.specs.Ahead.{Ahead, marks}
 use Rattle.tl_check.specs.Passes.{joins}
 use Rattle.tl_check.specs.declared.span.Span.{Span}
@@ -42,3 +42,7 @@ joined_where j there other at k b = cond ((nat_le at k && nat_lt k (at + length 
 -- each label is joined in this way
 abbrev pub JoinsWhere : Junction → List Bool → List Bool → ℕ → List Bool → List Bool → Type 0
 JoinsWhere j there other at old new = (k : ℕ) → k < length old → slice_index_or new k false ≡ joined_where j there other at k (slice_index_or old k false)
+
+-- so it is where nothing is refused
+abbrev pub AreJoinedWhere : {A E : Type 0} → Junction → List Bool → List Bool → ℕ → List Bool → List Bool → Result A E → Type 0
+AreJoinedWhere j there other at old new r = OnOk r (JoinsWhere j there other at old new)

@@ -33,6 +33,10 @@ HaveSeenAll t = (g : Fact) → IsSome (get fact_eq t.lines g) → Among g t.seen
 abbrev pub TakesLine : Fact → Lines → Lines → Type 0
 TakesLine fact old new = (g : Fact) → get fact_eq new g ≡ cond (fact_eq fact g) None (get fact_eq old g)
 
+-- the changes of the other facts stay
+abbrev pub OthersStay : Fact → Lines → Lines → Type 0
+OthersStay fact old new = (g : Fact) → fact_eq fact g ≡ false → line_in new g ≡ line_in old g
+
 -- the fact of a predicate with these arguments
 abbrev pub fact_with : ℕ → List Value → Fact
 fact_with q a = record { pred = q; args = a }
@@ -47,6 +51,10 @@ pub record TellsTruth (fact : Fact) (change : Change) (old new : Fact → List C
 -- so the changes tell it of the fact
 abbrev pub TellsOf : Fact → Change → Lines → Lines → Type 0
 TellsOf fact change old new = TellsTruth fact change (line_in old) (line_in new)
+
+-- each fact that was seen still is
+abbrev pub StaySeen : Tracks → Tracks → Type 0
+StaySeen old new = (g : Fact) → Among g old.seen.items → Among g new.seen.items
 
 -- those that were seen are as before, or this one is new among them
 abbrev pub SeesOne : Fact → List Fact → List Fact → Type 0

@@ -9,6 +9,7 @@ use Rattle.tl_check.specs.StatesAlong.{states_of}
 use Rattle.tl_check.specs.Told.{AreNoted}
 use Rattle.tl_check.specs.Tracks.{fact_with, line_in, HaveSeenAll, TellsOf}
 use Rattle.tl_check.specs.Verdicts.{StopsAt, IsPastInAction}
+use Rattle.tl_check.specs.declared.following.Follow.{Follow}
 use Rattle.tl_check.specs.declared.following.Followed.{Followed}
 use Rattle.tl_check.specs.declared.following.Followed.TheVariants as followed
 use Rattle.tl_check.specs.declared.history.History.{History}
@@ -20,6 +21,7 @@ use Rattle.tl_syntax.specs.Keys.{fact_key}
 use Rattle.tl_syntax.specs.Lists.{Among, Each}
 use Rattle.tl_terms.specs.Acceptance.{states}
 use Rattle.tl_terms.specs.Problem.{PlainProblem}
+use Rattle.tl_terms.specs.ProblemMeaning.{plain_problem}
 use Rattle.tl_terms.specs.World.{World, has_fact}
 
 -- the changes tell which facts of the predicate hold in each of the worlds
@@ -92,3 +94,7 @@ IsFollowed p keeps plan (Ok (followed.Stopped k)) = StopsAt p plan k
 IsFollowed p keeps plan (Ok (followed.Ended trail)) = HasStates p plan × Follows keeps (states_of p plan) trail
 IsFollowed p keeps plan (Err (fault.Range k note)) = IsPastInAction p plan k note
 IsFollowed p keeps plan (Err fault.NoMemory) = Unit {0}
+
+-- so it is where the plan is followed in this way
+abbrev pub IsFollowedBy : Follow → List Action → Result Followed CheckFault → Type 0
+IsFollowedBy follow plan r = IsFollowed (plain_problem follow.task.now.problem) follow.keeps plan r

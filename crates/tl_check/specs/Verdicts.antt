@@ -1,5 +1,5 @@
 -- The verdict on a plan, and why a check gives none.
-use Rattle.std.specs.Prelude.{◌≡◌, ◌+◌, ◌≤◌, ◌⊎◌, ℕ, List, ◌∷◌, ◌++◌, length, false, Some, None, IsTrue}
+use Rattle.std.specs.Prelude.{◌≡◌, ◌↔◌, ◌+◌, ◌≤◌, ◌⊎◌, ℕ, List, ◌∷◌, ◌++◌, length, false, Some, None, IsTrue}
 use Rattle.tl_action.specs.declared.check_fault.CheckFault.{CheckFault}
 use Rattle.tl_action.specs.declared.check_fault.CheckFault.TheVariants as fault
 use Rattle.tl_check.specs.declared.verdict.Verdict.{Verdict}
@@ -47,6 +47,10 @@ IsVerdict p plan verdict.Valid = IsAccepted p plan
 IsVerdict p plan (verdict.NotExecutable k) = StopsAt p plan k
 IsVerdict p plan verdict.GoalUnmet = MissesGoal p plan
 IsVerdict p plan verdict.Disobeys = BreaksControl p plan
+
+-- it is Valid exactly where the plan is accepted
+abbrev pub AcceptsRightly : PlainProblem → List Action → Verdict → Type 0
+AcceptsRightly p plan v = (v ≡ verdict.Valid) ↔ IsAccepted p plan
 
 -- the first k actions execute, and the next one looks at the noted operation in the world after them, where it is past range
 pub record IsPastInAction (p : PlainProblem) (plan : List Action) (k : ℕ) (note : RangeNote) : Type 0 where

@@ -1,13 +1,12 @@
 // The labels of atoms and of bounds, by when their facts hold.
 ghost use Rattle.std.specs.Prelude.{◌≡◌, length, IfOk, IfSome, IfNone};
-ghost use Rattle.tl_check.specs.AlongStates.{GuidesAlong, fact_along, atom_along, bound_along};
+ghost use Rattle.tl_check.specs.AlongStates.{BoundFitsAlong, GuidesAlong, bound_along};
+ghost use Rattle.tl_check.specs.AlongStates.{GivesFactLabels, GivesAtomLabels, GivesBoundLabels};
 ghost use Rattle.tl_check.specs.Facts.{IsAlong, IsOverGoal};
 ghost use Rattle.tl_check.specs.FixedTerms.{HasFixedValue, HaveFixedValues};
 ghost use Rattle.tl_check.specs.Spans.{IsWithin};
 ghost use Rattle.tl_check.specs.StatesAlong.{states_along, KeepsFew};
 ghost use Rattle.tl_eval.specs.Frames.{assignment_in};
-ghost use Rattle.tl_syntax.specs.Fits.{BoundFits};
-ghost use Rattle.tl_syntax.specs.Signature.{signature_of};
 ghost use Rattle.tl_terms.specs.Bounds.{arg_value, arg_values};
 
 use crate::along::Along;
@@ -81,7 +80,7 @@ fn fact_labels(
 ) -> Result<Option<Labels>, NoMemory>
     requires along { IsAlong along.now }
     requires span { IsWithin span (length (states_along along.now)) }
-    ensures { IfOk result (λ found. IfSome found (λ labels. labels ≡ fact_along along.now span (pred, row))) }
+    ensures { GivesFactLabels along.now span (pred, row) result }
 {
     match along.history(pred) {
         Some(history) => {
@@ -103,7 +102,7 @@ pub(crate) fn atom_labels(
 ) -> Result<Option<Labels>, NoMemory>
     requires along { IsAlong along.now }
     requires span { IsWithin span (length (states_along along.now)) }
-    ensures { IfOk result (λ found. IfSome found (λ labels. labels ≡ atom_along along.now span env.now pred terms.now)) }
+    ensures { GivesAtomLabels along.now span env.now pred terms.now result }
 {
     match row_of_terms(along.alloc, env, terms)? {
         Some(row) => fact_labels(pred, row, along, span),
@@ -121,7 +120,7 @@ fn bound_read(
 ) -> Result<Labels, NoMemory>
     requires worlds { worlds.now ≡ states_along along.now }
     requires span { IsWithin span (length (states_along along.now)) }
-    requires fits { BoundFits (signature_of along.now.task.now.problem.domain) bound.now }
+    requires fits { BoundFitsAlong along.now bound.now }
     ensures { IfOk result (λ labels. labels ≡ bound_along along.now span env.now bound.now) }
 {
     let mut labels = Labels::new(along.alloc);
@@ -140,8 +139,8 @@ fn bound_in_states(
 ) -> Result<Option<Labels>, NoMemory>
     requires along { IsAlong along.now }
     requires span { IsWithin span (length (states_along along.now)) }
-    requires fits { BoundFits (signature_of along.now.task.now.problem.domain) bound.now }
-    ensures labels { IfOk result (λ found. IfSome found (λ labels. labels ≡ bound_along along.now span env.now bound.now)) }
+    requires fits { BoundFitsAlong along.now bound.now }
+    ensures labels { GivesBoundLabels along.now span env.now bound.now result }
     ensures few { IfOk result (λ found. IfNone found (KeepsFew along.now)) }
 {
     match along.states() {
@@ -161,9 +160,9 @@ fn goal_bound_labels(
     env: &Env,
 ) -> Result<Option<Labels>, NoMemory>
     requires span { IsWithin span (length (states_along along.now)) }
-    requires fits { BoundFits (signature_of along.now.task.now.problem.domain) bound.now }
+    requires fits { BoundFitsAlong along.now bound.now }
     requires goal { IsOverGoal bound.now }
-    ensures labels { IfOk result (λ found. IfSome found (λ labels. labels ≡ bound_along along.now span env.now bound.now)) }
+    ensures labels { GivesBoundLabels along.now span env.now bound.now result }
     ensures few { IfOk result (λ found. IfNone found (KeepsFew along.now)) }
 {
     let truth = bound_holds(along.task, &along.task.first, env, bound);
@@ -171,9 +170,8 @@ fn goal_bound_labels(
     Ok(Some(labels))
 }
 
-/// The labels of a bound over the facts of the states, where they are known or the states are kept. It fails for want of memory alone.
+/// The labels of a bound over facts of the states, where its arguments have values, and it is known when the facts of its predicate hold. It fails for want of memory alone.
 fn fact_bound_labels(
-    bound: &Bound,
     pred: u32,
     args: &Args,
     along: &Along,
@@ -182,17 +180,12 @@ fn fact_bound_labels(
 ) -> Result<Option<Labels>, NoMemory>
     requires along { IsAlong along.now }
     requires span { IsWithin span (length (states_along along.now)) }
-    requires fits { BoundFits (signature_of along.now.task.now.problem.domain) bound.now }
-    requires bound { bound.now ≡ Bound.Fact pred args.now }
-    ensures labels { IfOk result (λ found. IfSome found (λ labels. labels ≡ bound_along along.now span env.now bound.now)) }
-    ensures few { IfOk result (λ found. IfNone found (KeepsFew along.now)) }
+    ensures { GivesBoundLabels along.now span env.now (Bound.Fact pred args.now) result }
 {
-    if let Some(row) = row_of_args(along.alloc, env, args.as_slice())? {
-        if let Some(labels) = fact_labels(pred, row, along, span)? {
-            return Ok(Some(labels));
-        }
+    match row_of_args(along.alloc, env, args.as_slice())? {
+        Some(row) => fact_labels(pred, row, along, span),
+        None => Ok(None),
     }
-    bound_in_states(bound, along, span, env)
 }
 
 /// The truth of a bound at each position of the span, where it is known or the states are kept. It fails for want of memory alone.
@@ -204,12 +197,15 @@ pub(crate) fn bound_labels(
 ) -> Result<Option<Labels>, NoMemory>
     requires along { IsAlong along.now }
     requires span { IsWithin span (length (states_along along.now)) }
-    requires fits { BoundFits (signature_of along.now.task.now.problem.domain) bound.now }
-    ensures labels { IfOk result (λ found. IfSome found (λ labels. labels ≡ bound_along along.now span env.now bound.now)) }
+    requires fits { BoundFitsAlong along.now bound.now }
+    ensures labels { GivesBoundLabels along.now span env.now bound.now result }
     ensures few { IfOk result (λ found. IfNone found (KeepsFew along.now)) }
 {
     match bound {
-        Bound::Fact(pred, args) => fact_bound_labels(bound, *pred, args, along, span, env),
+        Bound::Fact(pred, args) => match fact_bound_labels(*pred, args, along, span, env)? {
+            Some(labels) => Ok(Some(labels)),
+            None => bound_in_states(bound, along, span, env),
+        },
         Bound::Place(_, _, _) => bound_in_states(bound, along, span, env),
         Bound::GoalFact(_, _) => goal_bound_labels(bound, along, span, env),
         Bound::GoalPlace(_, _, _) => goal_bound_labels(bound, along, span, env),

@@ -1,12 +1,11 @@
 // The check of a plan.
-ghost use Rattle.std.specs.Prelude.{◌≡◌, ◌↔◌, ◌<◌, ◌≤◌, ◌^◌, length, true, IfOk, IfErr};
+ghost use Rattle.std.specs.Prelude.{◌≡◌, ◌<◌, ◌^◌, length, true, IfOk, IfErr};
 ghost use Rattle.tl_action.specs.Actions.{HasOperator};
 ghost use Rattle.tl_check.specs.Executions.{IsExecution};
-ghost use Rattle.tl_check.specs.Judged.{IsTrailOf, IsCauseByTrail, IsCauseUnlessKept};
-ghost use Rattle.tl_check.specs.Trails.{HasStates, IsFollowed};
-ghost use Rattle.tl_check.specs.Verdicts.{IsVerdict, IsCause};
+ghost use Rattle.tl_check.specs.Judged.{IsTrailOf, IsCauseByTrail, IsCauseFollowing};
+ghost use Rattle.tl_check.specs.Trails.{HasStates, IsFollowedBy};
+ghost use Rattle.tl_check.specs.Verdicts.{IsVerdict, IsCause, AcceptsRightly};
 ghost use Rattle.tl_syntax.specs.Lists.{Each};
-ghost use Rattle.tl_terms.specs.Acceptance.{IsAccepted};
 ghost use Rattle.tl_terms.specs.ProblemMeaning.{plain_problem};
 
 use crate::along::Along;
@@ -89,7 +88,7 @@ fn followed_by<L: Ledger>(
     requires name { blank.name ≡ L.name }
     requires parts { blank.parts ≡ L.parts }
     requires some { 0 < blank.parts }
-    ensures { IsFollowed (plain_problem follow.now.task.now.problem) follow.now.keeps plan.now result }
+    ensures { IsFollowedBy follow.now plan.now result }
 {
     let mut env = Env::for_task(follow.alloc, follow.task)?;
     let mut steps: Steps<L> = Steps::new(blank);
@@ -101,12 +100,11 @@ fn verdict_by(follow: &Follow, plan: &[Action]) -> Result<Verdict, Unlabelled>
     requires operators { Each (HasOperator (plain_problem follow.now.task.now.problem)) plan.now }
     requires short { length plan.now < 2 ^ 32 }
     ensures verdict { IfOk result (IsVerdict (plain_problem follow.now.task.now.problem) plan.now) }
-    ensures cause { IfErr result (IsCauseUnlessKept (plain_problem follow.now.task.now.problem) plan.now follow.now.keeps) }
+    ensures cause { IfErr result (IsCauseFollowing follow.now plan.now) }
 {
-    match followed_by::<Brand>(follow, plan, Blank::new(1)) {
-        Ok(Followed::Stopped(k)) => Ok(Verdict::NotExecutable(k)),
-        Ok(Followed::Ended(trail)) => judged(follow.alloc, follow.task, plan, trail),
-        Err(fault) => Err(Unlabelled::Fault(fault)),
+    match followed_by::<Brand>(follow, plan, Blank::new(1))? {
+        Followed::Stopped(k) => Ok(Verdict::NotExecutable(k)),
+        Followed::Ended(trail) => judged(follow.alloc, follow.task, plan, trail),
     }
 }
 
@@ -135,7 +133,7 @@ pub fn check(alloc: Global, task: &Task, plan: &[Action]) -> Result<Verdict, Che
     requires operators { Each (HasOperator (plain_problem task.now.problem)) plan.now }
     requires short { length plan.now < 2 ^ 32 }
     ensures verdict { IfOk result (IsVerdict (plain_problem task.now.problem) plan.now) }
-    ensures valid { IfOk result (λ v. (v ≡ Verdict.Valid) ↔ IsAccepted (plain_problem task.now.problem) plan.now) }
+    ensures valid { IfOk result (AcceptsRightly (plain_problem task.now.problem) plan.now) }
     ensures cause { IfErr result (IsCause (plain_problem task.now.problem) plan.now) }
 {
     let control = &task.problem.domain.control;

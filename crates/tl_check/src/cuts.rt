@@ -3,7 +3,7 @@ ghost use Rattle.std.specs.Prelude.{◌≡◌, ◌⊎◌, [], length, IfOk, IfSo
 ghost use Rattle.tl_check.specs.Passes.{joins, joined_labels};
 ghost use Rattle.tl_check.specs.Cuts.{CutsLeft, CutsRight, lefts, rights};
 ghost use Rattle.tl_check.specs.Rests.{rest_labels};
-ghost use Rattle.tl_check.specs.Runs.{spread};
+ghost use Rattle.tl_check.specs.Runs.{spread, HaveLabels};
 
 use crate::rest::{Rest, rest_after, rest_of};
 use crate::run::{Cut, Run};
@@ -64,7 +64,7 @@ pub(crate) fn join_cuts(
     cuts: &[Cut],
     junction: Junction,
 ) -> Result<Vec<Run>, NoMemory>
-    ensures { IfOk result (λ runs. spread runs.items ≡ joined_labels junction (lefts cuts.now) (rights cuts.now)) }
+    ensures { IfOk result (HaveLabels (joined_labels junction (lefts cuts.now) (rights cuts.now))) }
 {
     let mut runs = Vec::new(alloc);
     for cut in cuts.iter() {

@@ -1,5 +1,6 @@
 // Where a label is true for the first time, and for the last time.
-ghost use Rattle.std.specs.Prelude.{◌≡◌, ◌<◌, ◌≤◌, ◌^◌, length, IfSome, IfNone, slice_index_or, false, true};
+ghost use Rattle.std.specs.Prelude.{◌≡◌, ◌<◌, ◌≤◌, ◌^◌, length, slice_index_or};
+ghost use Rattle.std.specs.Prelude.{IfSome, IfNone, false, true};
 ghost use Rattle.tl_check.specs.Ends.{IsFalse, IsFalseBefore, IsFalseFrom};
 ghost use Rattle.tl_check.specs.Runs.{spread};
 

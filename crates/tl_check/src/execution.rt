@@ -41,9 +41,8 @@ pub(crate) fn executed<L: Ledger>(
         preds: &[],
         keeps: true,
     };
-    match follow_plan(&follow, plan, env, steps) {
-        Ok(Followed::Stopped(k)) => Ok(Execution::Stopped(k)),
-        Ok(Followed::Ended(trail)) => Ok(Execution::Executed(trail.kept)),
-        Err(fault) => Err(fault),
+    match follow_plan(&follow, plan, env, steps)? {
+        Followed::Stopped(k) => Ok(Execution::Stopped(k)),
+        Followed::Ended(trail) => Ok(Execution::Executed(trail.kept)),
     }
 }

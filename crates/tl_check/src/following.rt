@@ -2,7 +2,7 @@
 ghost use Rattle.std.specs.Prelude.{◌≡◌, ◌<◌, ◌^◌, length};
 ghost use Rattle.tl_action.specs.Actions.{HasOperator};
 ghost use Rattle.tl_check.specs.Executions.{told_after};
-ghost use Rattle.tl_check.specs.Trails.{IsFollowed};
+ghost use Rattle.tl_check.specs.Trails.{IsFollowedBy};
 ghost use Rattle.tl_syntax.specs.Lists.{Each};
 ghost use Rattle.tl_terms.specs.ProblemMeaning.{plain_problem};
 
@@ -57,7 +57,7 @@ pub(crate) fn follow_plan<L: Ledger>(
 ) -> Result<Followed, CheckFault>
     requires operators { Each (HasOperator (plain_problem follow.now.task.now.problem)) plan.now }
     requires short { length plan.now < 2 ^ 32 }
-    ensures { IsFollowed (plain_problem follow.now.task.now.problem) follow.now.keeps plan.now result }
+    ensures { IsFollowedBy follow.now plan.now result }
 {
     let alloc = follow.alloc;
     let task = follow.task;

@@ -1,6 +1,10 @@
 // The labels of formulas.
 ghost use Rattle.std.specs.Prelude.{◌≡◌, ◌+◌, length, OnOk};
-ghost use Rattle.tl_check.specs.AlongStates.{FitsAlong, AreLabelsAlong, JoinsPartAlong, JoinsAlong, GuidesAlong, IsInstanceAlong};
+ghost use Rattle.tl_check.specs.AlongStates.{FitsAlong, GuidesAlong, IsInstanceAlong};
+ghost use Rattle.tl_check.specs.AlongStates.{AreLabelsAlong, JoinsPartAlong, JoinsAlong};
+ghost use Rattle.tl_check.specs.AlongStates.{AreNegatedLabels, AreNextLabels, AreLaterLabels};
+ghost use Rattle.tl_check.specs.AlongStates.{AreUntilLabels, AreJoinedLabels};
+ghost use Rattle.tl_check.specs.AlongStates.{AreQuantifiedLabels, AreGuidedLabels};
 ghost use Rattle.tl_check.specs.Facts.{IsAlong};
 ghost use Rattle.tl_check.specs.Later.{later_tree};
 ghost use Rattle.tl_check.specs.PartTrees.{until_tree, instance_tree, guided_tree, quantified_tree};
@@ -18,7 +22,8 @@ use crate::instance::{GuidedBinder, Instance};
 use crate::labels::Labels;
 use crate::later::Later;
 use crate::line::line_labels;
-use crate::plain::is_plain;
+use crate::part::Part;
+use crate::plain::{has_parts, is_plain};
 use crate::span::Span;
 use crate::state_labels::state_labels;
 use crate::table_order::table_order;
@@ -45,7 +50,7 @@ pub(crate) fn labels_of(
     ensures labels { AreLabelsAlong along.now span env.old (tree_of_formula f.now) result }
     ensures frame { OnOk result (env.new ≡ env.old) }
 {
-    if !is_plain(f) && is_state(f) {
+    if has_parts(f) && !is_plain(f) && is_state(f) {
         return state_labels(f, along, span, env);
     }
     match f {
@@ -104,7 +109,7 @@ fn negated_labels(
     requires span { IsWithin span (length (states_along along.now)) }
     requires frame { length env.old ≡ 32 }
     requires fits { FitsAlong along.now (negation (tree_of_formula part.now)) }
-    ensures labels { AreLabelsAlong along.now span env.old (negation (tree_of_formula part.now)) result }
+    ensures labels { AreNegatedLabels along.now span env.old part.now result }
     ensures frame { OnOk result (env.new ≡ env.old) }
 {
     let mut found = labels_of(part, along, span, env)?;
@@ -124,7 +129,7 @@ fn next_labels(
     requires span { IsWithin span (length (states_along along.now)) }
     requires frame { length env.old ≡ 32 }
     requires fits { FitsAlong along.now (next (tree_of_formula part.now)) }
-    ensures labels { AreLabelsAlong along.now span env.old (next (tree_of_formula part.now)) result }
+    ensures labels { AreNextLabels along.now span env.old part.now result }
     ensures frame { OnOk result (env.new ≡ env.old) }
 {
     if span.to < along.count {
@@ -152,7 +157,7 @@ fn later_labels(
     requires span { IsWithin span (length (states_along along.now)) }
     requires frame { length env.old ≡ 32 }
     requires fits { FitsAlong along.now (later_tree word (tree_of_formula part.now)) }
-    ensures labels { AreLabelsAlong along.now span env.old (later_tree word (tree_of_formula part.now)) result }
+    ensures labels { AreLaterLabels along.now span env.old word part.now result }
     ensures frame { OnOk result (env.new ≡ env.old) }
 {
     let rest = Span {
@@ -178,7 +183,7 @@ fn until_labels(
     requires span { IsWithin span (length (states_along along.now)) }
     requires frame { length env.old ≡ 32 }
     requires fits { FitsAlong along.now (until_tree first.now second.now) }
-    ensures labels { AreLabelsAlong along.now span env.old (until_tree first.now second.now) result }
+    ensures labels { AreUntilLabels along.now span env.old first.now second.now result }
     ensures frame { OnOk result (env.new ≡ env.old) }
 {
     let rest = Span {
@@ -205,12 +210,16 @@ fn parts_labels(
     requires span { IsWithin span (length (states_along along.now)) }
     requires frame { length env.old ≡ 32 }
     requires fits { FitsAlong along.now (joined junction (tree_of_formulas parts.now)) }
-    ensures labels { AreLabelsAlong along.now span env.old (joined junction (tree_of_formulas parts.now)) result }
+    ensures labels { AreJoinedLabels along.now span env.old junction parts.now result }
     ensures frame { OnOk result (env.new ≡ env.old) }
 {
     let mut all = Labels::all(along.alloc, span.to - span.from, !junction.deciding_truth())?;
     for part in parts.as_slice().iter() {
-        join_part(part, junction, along, span, env, &mut all)?;
+        let part = Part {
+            junction,
+            formula: part,
+        };
+        join_part(&part, along, span, env, &mut all)?;
     }
     Ok(all)
 }
@@ -218,8 +227,7 @@ fn parts_labels(
 /// Joins the labels of a part with those of the parts before it. It is labelled from the first to the last position that these leave open.
 #[cycle(labels_of)]
 fn join_part(
-    part: &Formula,
-    junction: Junction,
+    part: &Part,
     along: &Along,
     span: Span,
     env: &mut Env,
@@ -228,16 +236,16 @@ fn join_part(
     requires along { IsAlong along.now }
     requires span { IsWithin span (length (states_along along.now)) }
     requires frame { length env.old ≡ 32 }
-    requires fits { FitsAlong along.now (tree_of_formula part.now) }
+    requires fits { FitsAlong along.now (tree_of_formula part.now.formula.now) }
     requires size { span.from + length all.old ≡ span.to }
-    ensures joined { JoinsPartAlong along.now span env.old junction (tree_of_formula part.now) all.old all.new result }
+    ensures joined { JoinsPartAlong along.now span env.old part.now all.old all.new result }
     ensures frame { OnOk result (env.new ≡ env.old) }
 {
-    match all.undecided(span, junction) {
+    match all.undecided(span, part.junction) {
         None => Ok(()),
         Some(inner) => {
-            let found = labels_of(part, along, inner, env)?;
-            all.join_at(&found, inner.from - span.from, junction)?;
+            let found = labels_of(part.formula, along, inner, env)?;
+            all.join_at(&found, inner.from - span.from, part.junction)?;
             Ok(())
         }
     }
@@ -258,7 +266,7 @@ fn quantified_labels<'a>(
     requires span { IsWithin span (length (states_along along.now)) }
     requires frame { length env.old ≡ 32 }
     requires fits { FitsAlong along.now (quantified_tree binder.now part.now) }
-    ensures labels { AreLabelsAlong along.now span env.old (quantified_tree binder.now part.now) result }
+    ensures labels { AreQuantifiedLabels along.now span env.old binder.now part.now result }
     ensures frame { OnOk result (env.new ≡ env.old) }
 {
     if !is_plain(part) {
@@ -290,7 +298,7 @@ fn ordered_labels<'a>(
     requires span { IsWithin span (length (states_along along.now)) }
     requires frame { length env.old ≡ 32 }
     requires fits { FitsAlong along.now (quantified_tree binder.now part.now) }
-    ensures labels { AreLabelsAlong along.now span env.old (quantified_tree binder.now part.now) result }
+    ensures labels { AreQuantifiedLabels along.now span env.old binder.now part.now result }
     ensures frame { OnOk result (env.new ≡ env.old) }
 {
     match guide_of(binder.bound, along) {
@@ -319,7 +327,7 @@ fn guided_labels<'a>(
     requires frame { length env.old ≡ 32 }
     requires fits { FitsAlong along.now (guided_tree guided.now part.now) }
     requires guide { GuidesAlong along.now guided.now.binder.bound.now guided.now.guide.now }
-    ensures labels { AreLabelsAlong along.now span env.old (guided_tree guided.now part.now) result }
+    ensures labels { AreGuidedLabels along.now span env.old guided.now part.now result }
     ensures frame { OnOk result (env.new ≡ env.old) }
 {
     let binder = guided.binder;
@@ -398,7 +406,7 @@ fn stepped_labels<'a>(
     requires span { IsWithin span (length (states_along along.now)) }
     requires frame { length env.old ≡ 32 }
     requires fits { FitsAlong along.now (quantified_tree binder.now part.now) }
-    ensures labels { AreLabelsAlong along.now span env.old (quantified_tree binder.now part.now) result }
+    ensures labels { AreQuantifiedLabels along.now span env.old binder.now part.now result }
     ensures frame { OnOk result (env.new ≡ env.old) }
 {
     let tracks = match gathered(binder, along, span, env)? {

@@ -1,13 +1,12 @@
 // The tuples of a bound along some states, and where each makes it true.
-ghost use Rattle.std.specs.Prelude.{◌≡◌, ◌<◌, length, IfOk, IfSome, IfNone, OnOk};
+ghost use Rattle.std.specs.Prelude.{◌≡◌, ◌<◌, length, IfOk, IfNone, OnOk};
+ghost use Rattle.tl_check.specs.AlongStates.{BoundFitsAlong};
 ghost use Rattle.tl_check.specs.Facts.{IsAlong};
-ghost use Rattle.tl_check.specs.Gathered.{AreGathered, NoteTuples, HaveCounts};
+ghost use Rattle.tl_check.specs.Gathered.{AreGathered, GivesGathered, NoteTuples, KeepCounts};
 ghost use Rattle.tl_check.specs.Spans.{IsWithin};
 ghost use Rattle.tl_check.specs.StatesAlong.{states_along, KeepsFew};
 ghost use Rattle.tl_check.specs.Tracks.{HaveSeenAll};
 ghost use Rattle.tl_syntax.specs.BoundVariables.{DifferInSlot, OccurIn};
-ghost use Rattle.tl_syntax.specs.Fits.{BoundFits};
-ghost use Rattle.tl_syntax.specs.Signature.{signature_of};
 
 use crate::along::Along;
 use crate::binder::Binder;
@@ -18,32 +17,37 @@ use tl_eval::{Env, TupleReader};
 use tl_syntax::NoMemory;
 use tl_world::World;
 
+/// States in a row in which the tuples of a quantifier are the same.
+#[derive(Clone, Copy)]
+struct Alike<'a> {
+    /// The quantifier.
+    binder: Binder<'a>,
+    /// The first of them.
+    first: &'a World,
+    /// Their positions.
+    span: Span,
+}
+
 impl Tracks {
-    /// Adds that each tuple of the bound in a world makes it true at all positions of the span. It fails for want of memory alone.
+    /// Adds that each tuple of the bound in the first of the states makes it true in all of them. It fails for want of memory alone.
     ///
     /// A tuple is kept as a fact of predicate 0.
-    fn note_tuples(
-        &mut self,
-        binder: &Binder,
-        along: &Along,
-        w: &World,
-        here: Span,
-        env: &Env,
-    ) -> Result<(), NoMemory>
+    fn note_tuples(&mut self, alike: &Alike, along: &Along, env: &Env) -> Result<(), NoMemory>
         requires covered { HaveSeenAll self.old }
-        requires some { here.from < here.to }
-        requires differ { DifferInSlot binder.now.vars.now }
-        requires occur { OccurIn binder.now.vars.now binder.now.bound.now }
-        requires fits { BoundFits (signature_of along.now.task.now.problem.domain) binder.now.bound.now }
-        ensures noted { OnOk result (NoteTuples along.now env.now binder.now w.now here self.old.lines self.new.lines) }
+        requires some { alike.now.span.from < alike.now.span.to }
+        requires differ { DifferInSlot alike.now.binder.vars.now }
+        requires occur { OccurIn alike.now.binder.vars.now alike.now.binder.bound.now }
+        requires fits { BoundFitsAlong along.now alike.now.binder.bound.now }
+        ensures noted { OnOk result (NoteTuples along.now env.now alike.now self.old self.new) }
         ensures covered { OnOk result (HaveSeenAll self.new) }
-        ensures counts { OnOk result (HaveCounts binder.now self.old.seen.items → HaveCounts binder.now self.new.seen.items) }
+        ensures counts { OnOk result (KeepCounts alike.now.binder self.old self.new) }
     {
+        let binder = alike.binder;
         let mut tuples = TupleReader::unopened();
         tuples.open_in_place(along.task, env, binder.vars, binder.bound);
-        'reading: while tuples.next(along.task, w, binder.bound) {
+        'reading: while tuples.next(along.task, alike.first, binder.bound) {
             let fact = fact_of(along.alloc, 0, tuples.values())?;
-            self.note_span(along.alloc, fact, here)?;
+            self.note_span(along.alloc, fact, alike.span)?;
         }
         Ok(())
     }
@@ -63,7 +67,7 @@ fn gathered_in(
     requires span { IsWithin span (length (states_along along.now)) }
     requires differ { DifferInSlot binder.now.vars.now }
     requires occur { OccurIn binder.now.vars.now binder.now.bound.now }
-    requires fits { BoundFits (signature_of along.now.task.now.problem.domain) binder.now.bound.now }
+    requires fits { BoundFitsAlong along.now binder.now.bound.now }
     ensures { IfOk result (AreGathered along.now env.now binder.now span) }
 {
     let mut tracks = Tracks::new(along.alloc);
@@ -75,7 +79,12 @@ fn gathered_in(
         };
         let end = same_up_to(binder.bound, worlds, rest);
         let w = &worlds[i];
-        tracks.note_tuples(binder, along, w, Span { from: i, to: end }, env)?;
+        let alike = Alike {
+            binder: *binder,
+            first: w,
+            span: Span { from: i, to: end },
+        };
+        tracks.note_tuples(&alike, along, env)?;
         i = end;
     }
     Ok(tracks)
@@ -92,8 +101,8 @@ pub(crate) fn gathered(
     requires span { IsWithin span (length (states_along along.now)) }
     requires differ { DifferInSlot binder.now.vars.now }
     requires occur { OccurIn binder.now.vars.now binder.now.bound.now }
-    requires fits { BoundFits (signature_of along.now.task.now.problem.domain) binder.now.bound.now }
-    ensures gathered { IfOk result (λ found. IfSome found (AreGathered along.now env.now binder.now span)) }
+    requires fits { BoundFitsAlong along.now binder.now.bound.now }
+    ensures gathered { GivesGathered along.now env.now binder.now span result }
     ensures few { IfOk result (λ found. IfNone found (KeepsFew along.now)) }
 {
     match along.states() {

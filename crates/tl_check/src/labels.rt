@@ -1,10 +1,12 @@
 // The truth of a formula at each of some positions in a row.
-ghost use Rattle.std.specs.Prelude.{◌≡◌, ◌<◌, ◌≤◌, ◌+◌, ℕ, map, not, length, replicate, take, drop, IfOk, IfSome, IfNone, OnOk, OnErr, slice_index_or, false, [], ◌∷◌, ◌++◌};
+ghost use Rattle.std.specs.Prelude.{◌≡◌, ◌<◌, ◌≤◌, ◌+◌, ℕ, [], ◌∷◌, ◌++◌, map, not, length};
+ghost use Rattle.std.specs.Prelude.{replicate, take, drop, slice_index_or, false};
+ghost use Rattle.std.specs.Prelude.{IfOk, IfSome, IfNone, OnOk, OnErr};
 ghost use Rattle.tl_check.specs.Passes.{next_labels, until_labels, within_labels, joined_labels};
 ghost use Rattle.tl_check.specs.Later.{later_labels};
 ghost use Rattle.tl_check.specs.Rests.{rest_labels};
 ghost use Rattle.tl_check.specs.Picked.{JoinsAt};
-ghost use Rattle.tl_check.specs.Spans.{AreDecided, IsHull, IsOpen, JoinsWhere};
+ghost use Rattle.tl_check.specs.Spans.{AreDecided, IsHull, IsOpen, AreJoinedWhere};
 
 use crate::cuts::{cuts_of, join_cuts};
 use crate::ends::{before_true, up_to_true};
@@ -124,7 +126,7 @@ impl Labels {
         Ok(())
     }
 
-    /// The labels of now or within so many steps. A refused call leaves the labels as they were.
+    /// The labels of now or within so many steps. It fails for want of memory alone.
     fn within(&mut self, steps: u32) -> Result<(), NoMemory>
         ensures within { OnOk result (self.new ≡ within_labels steps self.old) }
     {
@@ -242,7 +244,7 @@ impl Labels {
         requires size { length self.old ≡ length there.now }
         requires within { at + length other.now ≤ length there.now }
         ensures size { OnOk result (length self.new ≡ length self.old) }
-        ensures joined { OnOk result (JoinsWhere junction there.now other.now at self.old self.new) }
+        ensures joined { AreJoinedWhere junction there.now other.now at self.old self.new result }
         ensures unchanged { OnErr result (self.new ≡ self.old) }
     {
         let alloc = *self.runs.allocator();

@@ -15,13 +15,14 @@
 //! - `atoms`: the labels of atoms and bounds.
 //! - `state_labels`: the labels of formulas that are read in each state.
 //! - `steady`: formulas that read no state.
-//! - `temporal`, `plain`: whether a formula has temporal words, and whether it speaks of facts alone.
+//! - `temporal`, `plain`: whether a formula has temporal words, whether it has parts, and whether it speaks of facts alone.
 //! - `labels`, `later`: the truth of a formula at each of some positions.
 //! - `run`, `runs`, `rest`: labels as runs of equal ones, and what is left of them as they are read.
 //! - `passes`, `waiting`: what words that ask for later positions make of them.
 //! - `cuts`: two lists of labels, cut at each other's ends of runs.
 //! - `picked`: labels that count at some positions alone.
 //! - `ends`: where a label is true for the first time, and for the last time.
+//! - `part`: the parts of conjunctions and disjunctions.
 //! - `binder`, `instance`: quantifiers and their instances.
 //! - `table_order`: the order in which the tuples of a quantifier's bound are read.
 //! - `gathered`: the tuples of a quantifier's bound, and where each makes it true.
@@ -45,6 +46,7 @@ mod labels;
 mod later;
 pub mod laws;
 mod line;
+mod part;
 mod passes;
 mod picked;
 mod plain;

@@ -1,8 +1,7 @@
 // Labels that count at some positions alone.
 ghost use Rattle.std.specs.Prelude.{◌≡◌, ◌≤◌, ◌+◌, cond, length, IfOk};
-ghost use Rattle.tl_check.specs.Cuts.{lefts, rights};
-ghost use Rattle.tl_check.specs.Picked.{placed_labels, chosen_labels, picked_labels};
-ghost use Rattle.tl_check.specs.Runs.{spread};
+ghost use Rattle.tl_check.specs.Picked.{placed_labels, chosen_cuts, picked_runs};
+ghost use Rattle.tl_check.specs.Runs.{spread, HaveLabels};
 
 use crate::cuts::cuts_of;
 use crate::run::{Cut, Run};
@@ -19,7 +18,7 @@ pub(crate) fn placed(
     elsewhere: bool,
 ) -> Result<Vec<Run>, NoMemory>
     requires { at + length (spread labels.now) ≤ count }
-    ensures { IfOk result (λ made. spread made.items ≡ placed_labels (spread labels.now) at count elsewhere) }
+    ensures { IfOk result (HaveLabels (placed_labels (spread labels.now) at count elsewhere)) }
 {
     let rest = count - at - positions(labels)?;
     let mut made = Vec::new(alloc);
@@ -38,7 +37,7 @@ fn choice(cut: Cut, elsewhere: bool) -> bool
 
 /// The second labels where the first ones are true, and this label elsewhere. It fails for want of memory alone.
 fn chosen(alloc: Global, cuts: &[Cut], elsewhere: bool) -> Result<Vec<Run>, NoMemory>
-    ensures { IfOk result (λ made. spread made.items ≡ chosen_labels elsewhere (lefts cuts.now) (rights cuts.now)) }
+    ensures { IfOk result (HaveLabels (chosen_cuts elsewhere cuts.now)) }
 {
     let mut made = Vec::new(alloc);
     for cut in cuts.iter() {
@@ -57,7 +56,7 @@ pub(crate) fn picked(
     elsewhere: bool,
 ) -> Result<Vec<Run>, NoMemory>
     requires { at + length (spread labels.now) ≤ length (spread there.now) }
-    ensures { IfOk result (λ made. spread made.items ≡ picked_labels (spread there.now) (spread labels.now) at elsewhere) }
+    ensures { IfOk result (HaveLabels (picked_runs there.now labels.now at elsewhere)) }
 {
     let count = positions(there)?;
     let whole = placed(alloc, labels, at, count, elsewhere)?;

@@ -1,4 +1,4 @@
-// Which formulas speak of facts alone.
+// Which formulas have parts, and which speak of facts alone.
 
 use tl_syntax::{Bound, Formula, Formulas, Term, Terms};
 
@@ -30,6 +30,21 @@ fn is_plain_bound(bound: &Bound) -> bool {
         Bound::GoalFact(_, _) => true,
         Bound::GoalPlace(_, _, _) => true,
         Bound::GoalNot(_, _) => true,
+    }
+}
+
+/// Whether the formula has formulas below it. It takes no memory.
+pub(crate) fn has_parts(f: &Formula) -> bool {
+    match f {
+        Formula::True => false,
+        Formula::False => false,
+        Formula::Atom(_, _) => false,
+        Formula::Defined(_, _) => false,
+        Formula::Compare(_, _, _) => false,
+        Formula::GoalFact(_, _) => false,
+        Formula::GoalPlace(_, _, _) => false,
+        Formula::GoalNot(_, _) => false,
+        _ => true,
     }
 }
 

@@ -1,8 +1,9 @@
 // Labels as runs.
-ghost use Rattle.std.specs.Prelude.{◌≡◌, ◌≤◌, ◌++◌, length, replicate, take, drop, IfOk, OnOk, OnErr, slice_index_or, false};
+ghost use Rattle.std.specs.Prelude.{◌≡◌, ◌≤◌, length, replicate, take, drop, slice_index_or};
+ghost use Rattle.std.specs.Prelude.{IfOk, OnOk, OnErr, false};
 ghost use Rattle.tl_check.specs.Kept.{TakesKept, HasPart};
 ghost use Rattle.tl_check.specs.Passes.{last_or};
-ghost use Rattle.tl_check.specs.Runs.{spread};
+ghost use Rattle.tl_check.specs.Runs.{spread, AddLabels, HaveLabels};
 
 use crate::run::Run;
 use std::alloc::Global;
@@ -10,7 +11,7 @@ use tl_syntax::NoMemory;
 
 /// Adds the label of so many more positions at the end: to the last run, where it has this label and there is room in it. A refused call leaves the runs as they were.
 pub(crate) fn add(runs: &mut Vec<Run>, truth: bool, count: usize) -> Result<(), NoMemory>
-    ensures added { OnOk result (spread runs.new.items ≡ spread runs.old.items ++ replicate count truth) }
+    ensures added { OnOk result (AddLabels (replicate count truth) runs.old runs.new) }
     ensures unchanged { OnErr result (spread runs.new.items ≡ spread runs.old.items) }
 {
     if count == 0 {
@@ -33,7 +34,7 @@ pub(crate) fn add(runs: &mut Vec<Run>, truth: bool, count: usize) -> Result<(), 
 
 /// Adds the labels of other runs at the end. It fails for want of memory alone.
 pub(crate) fn add_all(runs: &mut Vec<Run>, others: &[Run]) -> Result<(), NoMemory>
-    ensures { OnOk result (spread runs.new.items ≡ spread runs.old.items ++ spread others.now) }
+    ensures { OnOk result (AddLabels (spread others.now) runs.old runs.new) }
 {
     for run in others.iter() {
         add(runs, run.truth, run.count)?;
@@ -92,7 +93,7 @@ fn lesser(left: usize, right: usize) -> usize
 
 /// The labels from a position on. It fails for want of memory alone.
 pub(crate) fn runs_from(alloc: Global, runs: &[Run], at: usize) -> Result<Vec<Run>, NoMemory>
-    ensures { IfOk result (λ made. spread made.items ≡ drop at (spread runs.now)) }
+    ensures { IfOk result (HaveLabels (drop at (spread runs.now))) }
 {
     let mut left = at;
     let mut made = Vec::new(alloc);

@@ -65,10 +65,10 @@ pub(crate) fn state_labels(
     ensures frame { OnOk result (env.new ≡ env.old) }
 {
     match along.states() {
-        Some(worlds) => match labels_in(f, along, worlds, span, env) {
-            Ok(labels) => Ok(labels),
-            Err(fault) => Err(Unlabelled::Fault(fault)),
-        },
+        Some(worlds) => {
+            let labels = labels_in(f, along, worlds, span, env)?;
+            Ok(labels)
+        }
         None => labels_unread(f, along, span, env),
     }
 }

@@ -1,6 +1,7 @@
 // The order in which the variables of a quantifier stand in its bound.
 ghost use Rattle.std.specs.Prelude.{◌≡◌, true, false, IfOk, IfSome, OnOk};
-ghost use Rattle.tl_check.specs.TableOrder.{HasSlot, HasNoSlot, HaveSlots, AreOrdered, AreOrderedSoFar};
+ghost use Rattle.tl_check.specs.TableOrder.{HasSlot, HasNoSlot, HaveSlots};
+ghost use Rattle.tl_check.specs.TableOrder.{AreOrdered, AreOrderedSoFar};
 
 use std::alloc::Global;
 use tl_syntax::{Arg, Bound, NoMemory, Var, Vars};

@@ -1,10 +1,10 @@
 // The changes of facts, as they are found.
-ghost use Rattle.std.specs.Prelude.{◌≡◌, ◌<◌, [], IfOk, OnOk, false};
-ghost use Rattle.tl_check.specs.Gathered.{HoldsIn};
+ghost use Rattle.std.specs.Prelude.{◌≡◌, ◌<◌, [], IfOk, OnOk};
+ghost use Rattle.tl_check.specs.Gathered.{FactHoldsIn};
 ghost use Rattle.tl_check.specs.Lines.{IsLastTruth};
 ghost use Rattle.tl_check.specs.Told.{NotesRows, TellsFirst};
-ghost use Rattle.tl_check.specs.Tracks.{line_in, fact_with, HaveSeenAll, TakesLine, TellsOf, SeesOne};
-ghost use Rattle.tl_syntax.specs.DerivedTests.{fact_eq};
+ghost use Rattle.tl_check.specs.Tracks.{line_in, fact_with, HaveSeenAll, TakesLine, TellsOf};
+ghost use Rattle.tl_check.specs.Tracks.{OthersStay, SeesOne, StaySeen};
 ghost use Rattle.tl_syntax.specs.Lists.{Among};
 ghost use Rattle.tl_syntax.specs.declared.fact.Fact.{Fact as PlainFact};
 
@@ -15,7 +15,7 @@ use std::collections::HashMap;
 use tl_syntax::{Fact, NoMemory, Value, Values};
 use tl_world::{Rows, World};
 
-/// The changes of the facts of one predicate, along the states so far.
+/// The changes of some facts, along the states so far.
 #[derive(Drop)]
 pub(crate) struct Tracks {
     /// The changes of each fact that held in a state so far.
@@ -72,7 +72,7 @@ impl Tracks {
         ensures line { IfOk result (λ line. line.items ≡ line_in self.old.lines fact.now) }
         ensures lines { OnOk result (TakesLine fact.now self.old.lines self.new.lines) }
         ensures seen { OnOk result (Among fact.now self.new.seen.items) }
-        ensures stay { OnOk result ((g : PlainFact) → Among g self.old.seen.items → Among g self.new.seen.items) }
+        ensures stay { OnOk result (StaySeen self.old self.new) }
         ensures one { OnOk result (SeesOne fact.now self.old.seen.items self.new.seen.items) }
     {
         match self.lines.remove(fact) {
@@ -157,8 +157,8 @@ impl Tracks {
     ) -> Result<(), NoMemory>
         requires covered { HaveSeenAll self.old }
         requires some { span.from < span.to }
-        ensures here { OnOk result (HoldsIn span (line_in self.old.lines fact) (line_in self.new.lines fact)) }
-        ensures others { OnOk result ((g : PlainFact) → fact_eq fact g ≡ false → line_in self.new.lines g ≡ line_in self.old.lines g) }
+        ensures here { OnOk result (FactHoldsIn span fact self.old.lines self.new.lines) }
+        ensures others { OnOk result (OthersStay fact self.old.lines self.new.lines) }
         ensures covered { OnOk result (HaveSeenAll self.new) }
         ensures one { OnOk result (SeesOne fact self.old.seen.items self.new.seen.items) }
     {

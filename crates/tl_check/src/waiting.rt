@@ -2,7 +2,7 @@
 ghost use Rattle.std.specs.Prelude.{◌≡◌, ◌≤◌, ◌||◌, not, IfOk};
 ghost use Rattle.tl_check.specs.Passes.{until_labels, within_labels};
 ghost use Rattle.tl_check.specs.Cuts.{lefts, rights};
-ghost use Rattle.tl_check.specs.Runs.{spread};
+ghost use Rattle.tl_check.specs.Runs.{spread, HaveLabels};
 ghost use Rattle.tl_check.specs.Waiting.{WaitsWithin, WaitsUntil};
 
 use crate::run::{Cut, Run};
@@ -32,7 +32,7 @@ fn within_run(made: &mut Vec<Run>, run: Run, most: usize, waiting: usize) -> Res
 
 /// The labels of now or within so many steps. It fails for want of memory alone.
 pub(crate) fn within(alloc: Global, runs: &[Run], steps: u32) -> Result<Vec<Run>, NoMemory>
-    ensures { IfOk result (λ made. spread made.items ≡ within_labels steps (spread runs.now)) }
+    ensures { IfOk result (HaveLabels (within_labels steps (spread runs.now))) }
 {
     let mut waiting: usize = 0;
     let mut made = Vec::new(alloc);
@@ -68,7 +68,7 @@ fn until_cut(made: &mut Vec<Run>, cut: Cut, waiting: usize) -> Result<usize, NoM
 
 /// The labels of now or later for the second list, where those of the first hold until then. It fails for want of memory, or where the number of positions does not fit a `usize`.
 pub(crate) fn until(alloc: Global, cuts: &[Cut]) -> Result<Vec<Run>, NoMemory>
-    ensures { IfOk result (λ made. spread made.items ≡ until_labels (lefts cuts.now) (rights cuts.now)) }
+    ensures { IfOk result (HaveLabels (until_labels (lefts cuts.now) (rights cuts.now))) }
 {
     let mut waiting: usize = 0;
     let mut made = Vec::new(alloc);

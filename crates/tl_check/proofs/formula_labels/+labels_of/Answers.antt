@@ -408,19 +408,19 @@ parts_labels-returns-in_err-join_part-clause-labels t c =
 
 pub join_part-labels_of-requires : goal.join_part-labels_of-requires
 join_part-labels_of-requires t c =
-    let within = inner-within c.args.junction c.args.all.now (true_ahead (plain_problem c.args.along.now.task.now.problem) (assignment_in c.args.env.now) (tree_of_formula c.args.part.now)) (states_along c.args.along.now) c.args.span c.in-Some.inner c.requires.span c.requires.size c.in-Some.ensures.inner in
+    let within = inner-within c.args.part.now.junction c.args.all.now (true_ahead (plain_problem c.args.along.now.task.now.problem) (assignment_in c.args.env.now) (tree_of_formula c.args.part.now.formula.now)) (states_along c.args.along.now) c.args.span c.in-Some.inner c.requires.span c.requires.size c.in-Some.ensures.inner in
     (omega (arith, c.decreases), (c.requires.along, (within, (c.requires.frame, c.requires.fits))))
 
 pub join_part-join_at-requires : goal.join_part-join_at-requires
 join_part-join_at-requires t c =
-    let test = true_ahead (plain_problem c.args.along.now.task.now.problem) (assignment_in c.args.env.now) (tree_of_formula c.args.part.now) in
-    let room = inner-room c.args.junction c.args.all.now test (states_along c.args.along.now) c.args.span c.in-Some.inner c.requires.span c.requires.size c.in-Some.ensures.inner in
+    let test = true_ahead (plain_problem c.args.along.now.task.now.problem) (assignment_in c.args.env.now) (tree_of_formula c.args.part.now.formula.now) in
+    let room = inner-room c.args.part.now.junction c.args.all.now test (states_along c.args.along.now) c.args.span c.in-Some.inner c.requires.span c.requires.size c.in-Some.ensures.inner in
     omega (arith, room, ap length c.in_ok-found-in-Some.ensures.labels, ap length c.in-Some.ensures.same)
 
 pub join_part-returns-in_ok-join_at-in-Some-clause-joined : goal.join_part-returns-in_ok-join_at-in-Some-clause-joined
 join_part-returns-in_ok-join_at-in-Some-clause-joined t c =
-    let test = true_ahead (plain_problem c.args.along.now.task.now.problem) (assignment_in c.args.env.now) (tree_of_formula c.args.part.now) in
-    let j = c.args.junction in
+    let test = true_ahead (plain_problem c.args.along.now.task.now.problem) (assignment_in c.args.env.now) (tree_of_formula c.args.part.now.formula.now) in
+    let j = c.args.part.now.junction in
     let at = c.in-Some.inner.from - c.args.span.from in
     let fill = not (deciding_truth j) in
     c.in_ok-join_at-in-Some.ensures.joined
@@ -430,8 +430,8 @@ join_part-returns-in_ok-join_at-in-Some-clause-joined t c =
 
 pub join_part-returns-in-None-clause-joined : goal.join_part-returns-in-None-clause-joined
 join_part-returns-in-None-clause-joined t c =
-    let test = true_ahead (plain_problem c.args.along.now.task.now.problem) (assignment_in c.args.env.now) (tree_of_formula c.args.part.now) in
-    c.in-None.ensures.same ∙ decided-part c.args.junction c.args.all.now test (states_along c.args.along.now) c.args.span c.args.span c.requires.span c.requires.size c.in-None.ensures.none
+    let test = true_ahead (plain_problem c.args.along.now.task.now.problem) (assignment_in c.args.env.now) (tree_of_formula c.args.part.now.formula.now) in
+    c.in-None.ensures.same ∙ decided-part c.args.part.now.junction c.args.all.now test (states_along c.args.along.now) c.args.span c.args.span c.requires.span c.requires.size c.in-None.ensures.none
 
 pub quantified_labels-ordered_labels-requires : goal.quantified_labels-ordered_labels-requires
 quantified_labels-ordered_labels-requires t c =

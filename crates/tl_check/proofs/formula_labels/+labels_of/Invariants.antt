@@ -33,7 +33,7 @@ abbrev pub decreases-parts_labels : goal.decreases-parts_labels
 decreases-parts_labels l = 4 * sizes (tree_of_formulas l.parts.now)
 
 abbrev pub decreases-join_part : goal.decreases-join_part
-decreases-join_part l = 1 + 4 * size (tree_of_formula l.part.now)
+decreases-join_part l = 1 + 4 * size (tree_of_formula l.part.now.formula.now)
 
 abbrev pub decreases-quantified_labels : goal.decreases-quantified_labels
 decreases-quantified_labels l = 4 + 4 * size (tree_of_formula l.part.now)

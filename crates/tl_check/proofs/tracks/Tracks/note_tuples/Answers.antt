@@ -12,36 +12,36 @@ use Rattle.tl_check.proofs.tracks.Tracks.note_tuples.Goals as goal
 
 pub reading-init : goal.reading-init
 reading-init c =
-    let s = situation_of (plain_problem c.args.along.now.task.now.problem) c.args.w.now in
+    let s = situation_of (plain_problem c.args.along.now.task.now.problem) c.args.alike.now.first.now in
     record {
       reads = c.open_in_place.ensures.reads;
-      noted = tuples-begun s (assignment_in c.args.env.now) c.args.binder.now.vars.now c.args.binder.now.bound.now c.requires.differ c.requires.occur c.args.here c.args.self.now.lines c.open_in_place.new.self.tuple c.open_in_place.ensures.before;
+      noted = tuples-begun s (assignment_in c.args.env.now) c.args.alike.now.binder.vars.now c.args.alike.now.binder.bound.now c.requires.differ c.requires.occur c.args.alike.now.span c.args.self.now.lines c.open_in_place.new.self.tuple c.open_in_place.ensures.before;
       covered = c.requires.covered;
       counts = λ h. h;
     }
 
 pub reading-smaller : goal.reading-smaller
 reading-smaller c =
-    let s = situation_of (plain_problem c.args.along.now.task.now.problem) c.args.w.now in
+    let s = situation_of (plain_problem c.args.along.now.task.now.problem) c.args.alike.now.first.now in
     let e = assignment_in c.args.env.now in
-    let ss = c.args.binder.now.vars.now in
-    let b = c.args.binder.now.bound.now in
+    let ss = c.args.alike.now.binder.vars.now in
+    let b = c.args.alike.now.binder.bound.now in
     let next = subst (IsNext (length ss) (λ t. bound_true s (bind ss t e) b) c.reading.tuples.tuple) c.values.ensures.values (c.next.ensures.next ss e c.reading.invariant.reads) in
     subst (λ (o : Option (List Value)). length (rest_after o (tuples s e ss b)) < length (rest_after c.reading.tuples.tuple (tuples s e ss b))) (sym c.values.ensures.values)
-    (tuples-fewer s e ss b c.requires.differ c.requires.occur c.args.here c.args.self.now.lines c.reading.tuples.tuple c.values.result.now next)
+    (tuples-fewer s e ss b c.requires.differ c.requires.occur c.args.alike.now.span c.args.self.now.lines c.reading.tuples.tuple c.values.result.now next)
 
 pub reading-preserved : goal.reading-preserved
 reading-preserved c =
-    let s = situation_of (plain_problem c.args.along.now.task.now.problem) c.args.w.now in
+    let s = situation_of (plain_problem c.args.along.now.task.now.problem) c.args.alike.now.first.now in
     let e = assignment_in c.args.env.now in
-    let ss = c.args.binder.now.vars.now in
-    let b = c.args.binder.now.bound.now in
+    let ss = c.args.alike.now.binder.vars.now in
+    let b = c.args.alike.now.binder.bound.now in
     let next = subst (IsNext (length ss) (λ t. bound_true s (bind ss t e) b) c.reading.tuples.tuple) c.values.ensures.values (c.next.ensures.next ss e c.reading.invariant.reads) in
     let reads = c.next.ensures.reads ss e c.reading.invariant.reads in
     record {
       reads = reads;
-      noted = subst (λ (o : Option (List Value)). Noting (tuples s e ss b) c.args.here c.args.self.now.lines (rest_after o (tuples s e ss b)) c.note_span.new.self.lines) (sym c.values.ensures.values)
-          (tuples-on s e ss b c.requires.differ c.requires.occur c.args.here c.args.self.now.lines c.reading.tuples.tuple c.values.result.now next c.reading.self.lines c.note_span.new.self.lines c.in_ok-fact.fact c.in_ok-fact.ensures c.in_ok-note_span.ensures.here c.in_ok-note_span.ensures.others c.reading.invariant.noted);
+      noted = subst (λ (o : Option (List Value)). Noting (tuples s e ss b) c.args.alike.now.span c.args.self.now.lines (rest_after o (tuples s e ss b)) c.note_span.new.self.lines) (sym c.values.ensures.values)
+          (tuples-on s e ss b c.requires.differ c.requires.occur c.args.alike.now.span c.args.self.now.lines c.reading.tuples.tuple c.values.result.now next c.reading.self.lines c.note_span.new.self.lines c.in_ok-fact.fact c.in_ok-fact.ensures c.in_ok-note_span.ensures.here c.in_ok-note_span.ensures.others c.reading.invariant.noted);
       covered = c.in_ok-note_span.ensures.covered;
       counts = λ h. one-counts (length ss) c.in_ok-fact.fact c.reading.self.seen.items c.note_span.new.self.seen.items c.in_ok-note_span.ensures.one
           (fact-is_tuple (length ss) c.in_ok-fact.fact c.values.result.now c.in_ok-fact.ensures (c.values.ensures.count ss e b reads)) (c.reading.invariant.counts h);
@@ -49,8 +49,8 @@ reading-preserved c =
 
 pub returns-clause-noted : goal.returns-clause-noted
 returns-clause-noted c = λ a.
-    let s = situation_of (plain_problem c.args.along.now.task.now.problem) c.args.w.now in
+    let s = situation_of (plain_problem c.args.along.now.task.now.problem) c.args.alike.now.first.now in
     let e = assignment_in c.args.env.now in
-    let ss = c.args.binder.now.vars.now in
-    let b = c.args.binder.now.bound.now in
-    tuples-end s e ss b c.requires.differ c.requires.occur c.args.here c.args.self.now.lines c.reading.tuples.tuple c.next.new.self.tuple c.reading.self.lines (c.next.ensures.next ss e c.reading.invariant.reads) (c.next.ensures.end c.reading-test.false) c.reading.invariant.noted a
+    let ss = c.args.alike.now.binder.vars.now in
+    let b = c.args.alike.now.binder.bound.now in
+    tuples-end s e ss b c.requires.differ c.requires.occur c.args.alike.now.span c.args.self.now.lines c.reading.tuples.tuple c.next.new.self.tuple c.reading.self.lines (c.next.ensures.next ss e c.reading.invariant.reads) (c.next.ensures.end c.reading-test.false) c.reading.invariant.noted a

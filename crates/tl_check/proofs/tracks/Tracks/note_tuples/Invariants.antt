@@ -1,6 +1,6 @@
 use Rattle.std.proofs.Common.{length}
 use Rattle.tl_check.proofs.GatheredLaws.{Noting}
-use Rattle.tl_check.specs.Gathered.{HaveCounts}
+use Rattle.tl_check.specs.Gathered.{KeepCounts}
 use Rattle.tl_check.specs.Tracks.{HaveSeenAll}
 use Rattle.tl_eval.proofs.TupleRest.{rest_after}
 use Rattle.tl_eval.specs.Frames.{assignment_in}
@@ -11,13 +11,13 @@ use Rattle.tl_terms.specs.ProblemMeaning.{plain_problem}
 use Rattle.tl_check.proofs.tracks.Tracks.note_tuples.Given as goal
 
 abbrev pub decreases-reading : goal.decreases-reading
-decreases-reading l = length (rest_after l.tuples.tuple (tuples (situation_of (plain_problem l.along.task.now.problem) l.w) (assignment_in l.env) l.binder.vars.now l.binder.bound.now))
+decreases-reading l = length (rest_after l.tuples.tuple (tuples (situation_of (plain_problem l.along.task.now.problem) l.alike.first.now) (assignment_in l.env) l.alike.binder.vars.now l.alike.binder.bound.now))
 
 abbrev pub invariant-reading : goal.invariant-reading
 invariant-reading l = record {
-  reads : ReadsTuples l.binder.vars.now (assignment_in l.env) l.binder.bound.now l.tuples;
-  noted : Noting (tuples (situation_of (plain_problem l.along.task.now.problem) l.w) (assignment_in l.env) l.binder.vars.now l.binder.bound.now) l.here l.fn.self.lines
-      (rest_after l.tuples.tuple (tuples (situation_of (plain_problem l.along.task.now.problem) l.w) (assignment_in l.env) l.binder.vars.now l.binder.bound.now)) l.self.lines;
+  reads : ReadsTuples l.alike.binder.vars.now (assignment_in l.env) l.alike.binder.bound.now l.tuples;
+  noted : Noting (tuples (situation_of (plain_problem l.along.task.now.problem) l.alike.first.now) (assignment_in l.env) l.alike.binder.vars.now l.alike.binder.bound.now) l.alike.span l.fn.self.lines
+      (rest_after l.tuples.tuple (tuples (situation_of (plain_problem l.along.task.now.problem) l.alike.first.now) (assignment_in l.env) l.alike.binder.vars.now l.alike.binder.bound.now)) l.self.lines;
   covered : HaveSeenAll l.self;
-  counts : HaveCounts l.binder l.fn.self.seen.items → HaveCounts l.binder l.self.seen.items;
+  counts : KeepCounts l.alike.binder l.fn.self l.self;
 }
