@@ -81,6 +81,10 @@ pub record IsTicked (p : PlainProblem) (n from : ℕ) (kept : List KeptPair) (st
 abbrev pub TicksArrival : PlainProblem → ℕ → Bool → List KeptPair → List KeptPair → ℕ → Action → List Event → ℕ → ℕ → Type 0
 TicksArrival p n watch old new at a es steps more = (from k : ℕ) (pair : KeptPair) (listed : List Action) → slice_get old at ≡ Some pair → length pair.path < n → ListsActions p pair.node.world listed → slice_get listed k ≡ Some a → IsReported p n watch from old at (take k listed) es steps → IsTicked p n from new more
 
+-- so it is in the search
+abbrev pub TicksArrivalIn : BreadthFirst → PlainProblem → List KeptPair → List KeptPair → ℕ → Action → List Event → ℕ → ℕ → Type 0
+TicksArrivalIn s p old new at a es steps more = TicksArrival p s.within s.watch old new at a es steps more
+
 -- so are the steps between two pairs' turns
 abbrev pub Ticks : PlainProblem → ℕ → Bool → List KeptPair → List KeptPair → ℕ → List Event → ℕ → ℕ → Type 0
 Ticks p n watch old new at es steps more = (from : ℕ) → IsReported p n watch from old at [] es steps → IsTicked p n from new more
@@ -89,16 +93,28 @@ Ticks p n watch old new at es steps more = (from : ℕ) → IsReported p n watch
 abbrev pub ReportsArrival : PlainProblem → ℕ → Bool → List KeptPair → List KeptPair → ℕ → Action → List Event → List Event → ℕ → ℕ → Type 0
 ReportsArrival p n watch old new at a es later steps more = (from k : ℕ) (pair : KeptPair) (listed : List Action) → slice_get old at ≡ Some pair → length pair.path < n → ListsActions p pair.node.world listed → slice_get listed k ≡ Some a → IsReported p n watch from old at (take k listed) es steps → IsReported p n watch from new at (take (k + 1) listed) later more
 
+-- so it is in the search
+abbrev pub ReportsArrivalIn : BreadthFirst → PlainProblem → List KeptPair → List KeptPair → ℕ → Action → List Event → List Event → ℕ → ℕ → Type 0
+ReportsArrivalIn s p old new at a es later steps more = ReportsArrival p s.within s.watch old new at a es later steps more
+
 -- what happened between two pairs' turns is reported; where it ended the search, up to somewhere
 abbrev pub ReportsTurn : PlainProblem → ℕ → Bool → List KeptPair → List KeptPair → ℕ → ℕ → List Event → List Event → ℕ → ℕ → Option Outcome → Type 0
 ReportsTurn p n watch old new at next es later steps more None = (from : ℕ) → IsReported p n watch from old at [] es steps → IsReported p n watch from new next [] later more
 ReportsTurn p n watch old new at next es later steps more (Some o) = (from : ℕ) → IsReported p n watch from old at [] es steps → IsReportedSomewhere p n watch from new later more
+
+-- so it is in the search
+abbrev pub ReportsTurnIn : BreadthFirst → PlainProblem → List KeptPair → List KeptPair → ℕ → ℕ → List Event → List Event → ℕ → ℕ → Option Outcome → Type 0
+ReportsTurnIn s p old new at next es later steps more o = ReportsTurn p s.within s.watch old new at next es later steps more o
 
 -- the arrivals and events of a whole search: where there is no plan, none is left out
 abbrev pub HasReported : PlainProblem → ℕ → Bool → ℕ → List KeptPair → List Event → ℕ → Outcome → Type 0
 HasReported p n watch from kept events steps outcome.NoPlan = (done : ℕ) × (r : IsReported p n watch from kept done [] events steps) × AreAllArrivals p n kept r.arrived
 HasReported p n watch from kept events steps outcome.NoneWithin = (done : ℕ) × (r : IsReported p n watch from kept done [] events steps) × AreAllArrivals p n kept r.arrived
 HasReported p n watch from kept events steps o = IsReportedSomewhere p n watch from kept events steps
+
+-- so it is of the search
+abbrev pub ReportsSearch : BreadthFirst → PlainProblem → ℕ → List KeptPair → List Event → ℕ → Outcome → Type 0
+ReportsSearch s p from kept events steps o = HasReported p s.within s.watch from kept events steps o
 
 -- where the arrivals and events before the first pair's turn are reported, so are those of the whole search
 abbrev pub ReportsRest : BreadthFirst → PlainProblem → List KeptPair → List KeptPair → List Event → List Event → ℕ → ℕ → Outcome → Type 0
@@ -125,3 +141,7 @@ EndsWithPath watch kept events o = EndsAtLast kept (Some o) × Ends watch kept e
 abbrev pub EndsWithPathIfAny : Bool → List KeptPair → List Event → Option Outcome → Type 0
 EndsWithPathIfAny watch kept events None = Unit {0}
 EndsWithPathIfAny watch kept events (Some o) = EndsWithPath watch kept events o
+
+-- so it is in the search
+abbrev pub EndsIfAny : BreadthFirst → List KeptPair → List Event → Option Outcome → Type 0
+EndsIfAny s kept events o = EndsWithPathIfAny s.watch kept events o

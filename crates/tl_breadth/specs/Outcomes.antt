@@ -10,6 +10,7 @@ use Rattle.tl_search.specs.RangeCauses.{IsRangeCause}
 use Rattle.tl_search.specs.KeptPairs.{KeptPair, pairs_of}
 use Rattle.tl_breadth.specs.BreadthFirst.{IsBreadthFirst, NoneAccepted}
 use Rattle.tl_breadth.specs.declared.levels.BreadthFirst.{BreadthFirst}
+use Rattle.tl_breadth.specs.declared.levels.Level.{Level}
 use Rattle.tl_search.specs.ListedActions.{ListsActions}
 use Rattle.tl_search.specs.declared.outcome.Outcome.{Outcome}
 use Rattle.tl_search.specs.declared.outcome.Outcome.TheVariants as outcome
@@ -47,6 +48,10 @@ pub record AwaitsJudgement (p : PlainProblem) (n b : ℕ) (kept : List KeptPair)
   pub last : length kept ≡ k + 1
   pub few : k ≤ b
 
+-- so it is in the search
+abbrev pub AwaitsJudgementIn : BreadthFirst → PlainProblem → List KeptPair → ℕ → Type 0
+AwaitsJudgementIn s p kept k = AwaitsJudgement p s.within s.nodes kept k
+
 -- the action is tried next at pair `at`: the k-th of the listed ones, of which those before it were tried
 pub record HasTurn (p : PlainProblem) (n b : ℕ) (kept : List KeptPair) (at : ℕ) (a : Action) : Type 0 where
   pub pair : KeptPair
@@ -57,6 +62,10 @@ pub record HasTurn (p : PlainProblem) (n b : ℕ) (kept : List KeptPair) (at : �
   pub k : ℕ
   pub turn : slice_get listed k ≡ Some a
   pub searching : IsSearching p n b kept at (take k listed)
+
+-- so it is in the search
+abbrev pub HasTurnIn : BreadthFirst → PlainProblem → List KeptPair → ℕ → Action → Type 0
+HasTurnIn s p kept at a = HasTurn p s.within s.nodes kept at a
 
 -- the search went on by trying the action, the k-th of any listed ones, and kept at most one more pair
 abbrev pub IsTriedThen : PlainProblem → ℕ → ℕ → List KeptPair → List KeptPair → ℕ → Action → Type 0
@@ -75,6 +84,10 @@ pub record IsReady (p : PlainProblem) (n b : ℕ) (kept : List KeptPair) (at : �
   pub short : length pair.path < n
   pub searching : IsSearching p n b kept at []
 
+-- so it is in the search
+abbrev pub IsReadyIn : BreadthFirst → PlainProblem → List KeptPair → ℕ → Type 0
+IsReadyIn s p kept at = IsReady p s.within s.nodes kept at
+
 -- the pairs from `done` on are of two levels: those below `end` have paths of `depth` actions, the others of one more
 abbrev pub HasLevels : List KeptPair → ℕ → ℕ → ℕ → Type 0
 HasLevels kept done end depth = (i : ℕ) (x : KeptPair) → slice_get kept i ≡ Some x → done ≤ i → (i < end → length x.path ≡ depth) × (end ≤ i → length x.path ≡ depth + 1)
@@ -90,6 +103,14 @@ pub record IsAtLevel (p : PlainProblem) (n b : ℕ) (kept : List KeptPair) (done
   pub levels : HasLevels kept done end depth
   pub inside : end ≤ length kept
   pub here : done ≤ length kept
+
+-- so it is of a level of the search
+abbrev pub IsAtLevelIn : BreadthFirst → PlainProblem → List KeptPair → Level → Type 0
+IsAtLevelIn s p kept level = IsAtLevel p s.within s.nodes kept level.start level.end level.depth
+
+-- and of its first level, that of the root
+abbrev pub IsAtRootIn : BreadthFirst → PlainProblem → List KeptPair → Type 0
+IsAtRootIn s p kept = IsAtLevel p s.within s.nodes kept 0 (length kept) 0
 
 -- an outcome that ends it, or the next pair has its turn
 abbrev pub LeavesNext : BreadthFirst → PlainProblem → List KeptPair → ℕ → Option Outcome → Type 0

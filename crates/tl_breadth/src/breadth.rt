@@ -1,7 +1,8 @@
 // Breadth-first search as its callers see it.
 ghost use Rattle.std.specs.Prelude.{◌≡◌, ◌≤◌, [], IfOk, IfErr};
 ghost use Rattle.tl_search.specs.NamedAnswers.{FaultIsNamed};
-ghost use Rattle.tl_search.specs.Reports.{BeginsRightly, PrunesRightly, ReportIsNamed, AnswersWhereCalm};
+ghost use Rattle.tl_search.specs.Reports.{BeginsRightly, PrunesRightly};
+ghost use Rattle.tl_search.specs.Reports.{ReportIsNamed, AnswersWhereCalm};
 ghost use Rattle.tl_breadth.specs.Events.{IsTicked};
 ghost use Rattle.tl_breadth.specs.Outcomes.{IsBreadthFirstFault};
 ghost use Rattle.tl_breadth.specs.Reports.{IsBreadthFirstReport, ReportsArrivals, EndsRightly};
@@ -29,7 +30,8 @@ pub fn search<S: Pairs, L: Ledger>(
     requires nodes { nodes ≤ 100000 }
     ensures task { S.task space.new ≡ S.task space.old }
     ensures problem { S.problem space.new ≡ S.problem space.old }
-    ensures outcome { IfOk result (IsBreadthFirstReport (S.problem space.old) within nodes (S.kept space.new)) }
+    ensures outcome { IfOk result (IsBreadthFirstReport (S.problem space.old) within nodes
+        (S.kept space.new)) }
     ensures reported { IfOk result (ReportsArrivals (S.problem space.old) within watch steps.old
         (S.kept space.new) steps.new) }
     ensures steps { IsTicked (S.problem space.old) within steps.old (S.kept space.new) steps.new }

@@ -1,8 +1,11 @@
 // A search from the root on, level by level.
-ghost use Rattle.std.specs.Prelude.{◌≡◌, ◌≤◌, ◌<◌, ◌+◌, [], length, IfOk, IfErr, OnOk, OnErr};
-ghost use Rattle.tl_search.specs.NamedAnswers.{OutcomeIsNamed, EndIsNamed, FaultIsNamed, EventsAreNamed};
-ghost use Rattle.tl_breadth.specs.Events.{HasReported, ReportsRest, IsTicked, Ticks, ReportsTurn, EndsWithPath, EndsWithPathIfAny};
-ghost use Rattle.tl_breadth.specs.Outcomes.{IsBreadthFirstOutcome, IsBreadthFirstFault, IsAtLevel, LeavesLevel, EndsEarly};
+ghost use Rattle.std.specs.Prelude.{◌≡◌, ◌≤◌, ◌<◌, ◌+◌, [], IfOk, IfErr, OnOk, OnErr};
+ghost use Rattle.tl_search.specs.NamedAnswers.{OutcomeIsNamed, EndIsNamed};
+ghost use Rattle.tl_search.specs.NamedAnswers.{FaultIsNamed, EventsAreNamed};
+ghost use Rattle.tl_breadth.specs.Events.{ReportsSearch, ReportsRest, ReportsTurnIn};
+ghost use Rattle.tl_breadth.specs.Events.{IsTicked, Ticks, EndsWithPath, EndsIfAny};
+ghost use Rattle.tl_breadth.specs.Outcomes.{IsBreadthFirstOutcome, IsBreadthFirstFault};
+ghost use Rattle.tl_breadth.specs.Outcomes.{IsAtRootIn, IsAtLevelIn, LeavesLevel, EndsEarly};
 
 use std::alloc::Global;
 use std::sync::ledger::Ledger;
@@ -48,7 +51,7 @@ impl BreadthFirst {
         ensures problem { S.problem space.new ≡ S.problem space.old }
         ensures outcome { IfOk result (IsBreadthFirstOutcome (S.problem space.old)
             self.now.within self.now.nodes (S.kept space.new)) }
-        ensures reported { IfOk result (HasReported (S.problem space.old) self.now.within self.now.watch
+        ensures reported { IfOk result (ReportsSearch self.now (S.problem space.old)
             steps.old (S.kept space.new) events.new steps.new) }
         ensures ticked { OnErr result (IsTicked (S.problem space.old) self.now.within steps.old
             (S.kept space.new) steps.new) }
@@ -88,15 +91,14 @@ impl BreadthFirst {
         events: &mut Events,
         steps: &mut Steps<L>,
     ) -> Result<Outcome, SearchFault>
-        requires level { IsAtLevel (S.problem space.old) self.now.within self.now.nodes (S.kept space.old)
-            0 (length (S.kept space.old)) 0 }
+        requires level { IsAtRootIn self.now (S.problem space.old) (S.kept space.old) }
         requires events { EventsAreNamed (S.task space.old) events.old }
         ensures task { S.task space.new ≡ S.task space.old }
         ensures problem { S.problem space.new ≡ S.problem space.old }
         ensures outcome { IfOk result (IsBreadthFirstOutcome (S.problem space.old)
             self.now.within self.now.nodes (S.kept space.new)) }
-        ensures reported { IfOk result (λ outcome. ReportsRest self.now (S.problem space.old) (S.kept space.old)
-            (S.kept space.new) events.old events.new steps.old steps.new outcome) }
+        ensures reported { IfOk result (ReportsRest self.now (S.problem space.old)
+            (S.kept space.old) (S.kept space.new) events.old events.new steps.old steps.new) }
         ensures ticked { OnErr result (Ticks (S.problem space.old) self.now.within self.now.watch
             (S.kept space.old) (S.kept space.new) 0 events.old steps.old steps.new) }
         ensures ends { IfOk result (EndsWithPath self.now.watch (S.kept space.new) events.new) }
@@ -133,8 +135,7 @@ impl BreadthFirst {
         events: &mut Events,
         steps: &mut Steps<L>,
     ) -> Result<Option<Outcome>, SearchFault>
-        requires level { IsAtLevel (S.problem space.old) self.now.within self.now.nodes (S.kept space.old)
-            level.start level.end level.depth }
+        requires level { IsAtLevelIn self.now (S.problem space.old) (S.kept space.old) level }
         requires start { level.start ≤ level.end }
         requires depth { level.depth < self.now.within }
         requires events { EventsAreNamed (S.task space.old) events.old }
@@ -142,13 +143,13 @@ impl BreadthFirst {
         ensures problem { S.problem space.new ≡ S.problem space.old }
         ensures outcome { IfOk result (LeavesLevel self.now (S.problem space.old) (S.kept space.new)
             level.end (level.depth + 1)) }
-        ensures reported { IfOk result (ReportsTurn (S.problem space.old) self.now.within self.now.watch
+        ensures reported { IfOk result (ReportsTurnIn self.now (S.problem space.old)
             (S.kept space.old) (S.kept space.new) level.start level.end
             events.old events.new steps.old steps.new) }
         ensures ticked { OnErr result (Ticks (S.problem space.old) self.now.within self.now.watch
             (S.kept space.old) (S.kept space.new) level.start events.old steps.old steps.new) }
         ensures early { IfOk result EndsEarly }
-        ensures ends { IfOk result (EndsWithPathIfAny self.now.watch (S.kept space.new) events.new) }
+        ensures ends { IfOk result (EndsIfAny self.now (S.kept space.new) events.new) }
         ensures fault { IfErr result (IsBreadthFirstFault (S.problem space.old) self.now.within) }
         ensures plan_named { IfOk result (EndIsNamed (S.task space.old)) }
         ensures path_named { IfErr result (FaultIsNamed (S.task space.old)) }

@@ -1,8 +1,11 @@
 // What a search does with the pair whose turn it is.
 ghost use Rattle.std.specs.Prelude.{◌≡◌, ◌+◌, IfOk, IfErr, OnOk, OnErr};
 ghost use Rattle.tl_search.specs.NamedAnswers.{IsNamedIn, EndIsNamed, FaultIsNamed, EventsAreNamed};
-ghost use Rattle.tl_breadth.specs.Events.{TicksArrival, Ticks, ReportsArrival, ReportsTurn, EndsAtLast, EndsWithPathIfAny};
-ghost use Rattle.tl_breadth.specs.Outcomes.{IsBreadthFirstFault, AwaitsJudgement, HasTurn, IsReady, LeavesNext, LeavesTried, LeavesUnaccepted, GrowsAfter, EndsEarly};
+ghost use Rattle.tl_breadth.specs.Events.{TicksArrivalIn, Ticks, ReportsArrivalIn, ReportsTurnIn};
+ghost use Rattle.tl_breadth.specs.Events.{EndsAtLast, EndsIfAny};
+ghost use Rattle.tl_breadth.specs.Outcomes.{IsBreadthFirstFault, EndsEarly, GrowsAfter};
+ghost use Rattle.tl_breadth.specs.Outcomes.{AwaitsJudgementIn, HasTurnIn, IsReadyIn};
+ghost use Rattle.tl_breadth.specs.Outcomes.{LeavesNext, LeavesTried, LeavesUnaccepted};
 
 use crate::levels::BreadthFirst;
 use std::sync::ledger::Ledger;
@@ -18,18 +21,20 @@ impl BreadthFirst {
         events: &mut Events,
         steps: &mut Steps<L>,
     ) -> Result<Option<Outcome>, SearchFault>
-        requires ready { IsReady (S.problem space.old) self.now.within self.now.nodes (S.kept space.old) at }
+        requires ready { IsReadyIn self.now (S.problem space.old) (S.kept space.old) at }
         requires events { EventsAreNamed (S.task space.old) events.old }
         ensures task { S.task space.new ≡ S.task space.old }
         ensures problem { S.problem space.new ≡ S.problem space.old }
-        ensures outcome { IfOk result (LeavesNext self.now (S.problem space.old) (S.kept space.new) (at + 1)) }
+        ensures outcome { IfOk result (LeavesNext self.now (S.problem space.old)
+            (S.kept space.new) (at + 1)) }
         ensures grows { OnOk result (GrowsAfter at (S.kept space.old) (S.kept space.new)) }
-        ensures reported { IfOk result (ReportsTurn (S.problem space.old) self.now.within self.now.watch
-            (S.kept space.old) (S.kept space.new) at (at + 1) events.old events.new steps.old steps.new) }
+        ensures reported { IfOk result (ReportsTurnIn self.now (S.problem space.old)
+            (S.kept space.old) (S.kept space.new) at (at + 1)
+            events.old events.new steps.old steps.new) }
         ensures ticked { OnErr result (Ticks (S.problem space.old) self.now.within self.now.watch
             (S.kept space.old) (S.kept space.new) at events.old steps.old steps.new) }
         ensures early { IfOk result EndsEarly }
-        ensures ends { IfOk result (EndsWithPathIfAny self.now.watch (S.kept space.new) events.new) }
+        ensures ends { IfOk result (EndsIfAny self.now (S.kept space.new) events.new) }
         ensures fault { IfErr result (IsBreadthFirstFault (S.problem space.old) self.now.within) }
         ensures plan_named { IfOk result (EndIsNamed (S.task space.old)) }
         ensures path_named { IfErr result (FaultIsNamed (S.task space.old)) }
@@ -62,7 +67,7 @@ impl BreadthFirst {
         events: &mut Events,
         steps: &mut Steps<L>,
     ) -> Result<Option<Outcome>, SearchFault>
-        requires turn { HasTurn (S.problem space.old) self.now.within self.now.nodes (S.kept space.old) at a.now }
+        requires turn { HasTurnIn self.now (S.problem space.old) (S.kept space.old) at a.now }
         requires named { IsNamedIn (S.task space.old) a.now }
         requires events { EventsAreNamed (S.task space.old) events.old }
         ensures task { S.task space.new ≡ S.task space.old }
@@ -70,12 +75,13 @@ impl BreadthFirst {
         ensures outcome { IfOk result (LeavesTried self.now (S.problem space.old) (S.kept space.old)
             (S.kept space.new) at a.now) }
         ensures grows { OnOk result (GrowsAfter at (S.kept space.old) (S.kept space.new)) }
-        ensures reported { OnOk result (ReportsArrival (S.problem space.old) self.now.within self.now.watch
-            (S.kept space.old) (S.kept space.new) at a.now events.old events.new steps.old steps.new) }
-        ensures ticked { OnErr result (TicksArrival (S.problem space.old) self.now.within self.now.watch
+        ensures reported { OnOk result (ReportsArrivalIn self.now (S.problem space.old)
+            (S.kept space.old) (S.kept space.new) at a.now
+            events.old events.new steps.old steps.new) }
+        ensures ticked { OnErr result (TicksArrivalIn self.now (S.problem space.old)
             (S.kept space.old) (S.kept space.new) at a.now events.old steps.old steps.new) }
         ensures early { IfOk result EndsEarly }
-        ensures ends { IfOk result (EndsWithPathIfAny self.now.watch (S.kept space.new) events.new) }
+        ensures ends { IfOk result (EndsIfAny self.now (S.kept space.new) events.new) }
         ensures fault { IfErr result (IsBreadthFirstFault (S.problem space.old) self.now.within) }
         ensures plan_named { IfOk result (EndIsNamed (S.task space.old)) }
         ensures path_named { IfErr result (FaultIsNamed (S.task space.old)) }
@@ -110,11 +116,12 @@ impl BreadthFirst {
 
     /// The last pair that was kept ends the search where there are too many or where it is accepted.
     pub fn judged<S: Pairs>(&self, space: &mut S, k: usize) -> Result<Option<Outcome>, SearchFault>
-        requires { AwaitsJudgement (S.problem space.old) self.now.within self.now.nodes (S.kept space.old) k }
+        requires { AwaitsJudgementIn self.now (S.problem space.old) (S.kept space.old) k }
         ensures task { S.task space.new ≡ S.task space.old }
         ensures problem { S.problem space.new ≡ S.problem space.old }
         ensures kept { S.kept space.new ≡ S.kept space.old }
-        ensures outcome { IfOk result (LeavesUnaccepted self.now (S.problem space.old) (S.kept space.old) (k + 1)) }
+        ensures outcome { IfOk result (LeavesUnaccepted self.now (S.problem space.old)
+            (S.kept space.old) (k + 1)) }
         ensures early { IfOk result EndsEarly }
         ensures last { IfOk result (EndsAtLast (S.kept space.old)) }
         ensures fault { IfErr result (IsBreadthFirstFault (S.problem space.old) self.now.within) }

@@ -3,7 +3,7 @@ use Rattle.std.proofs.Common.{◌≡◌, ◌⊎◌, ℕ, suc, ◌+◌, List, [],
 use Rattle.tl_syntax.specs.declared.action.Action.{Action}
 use Rattle.tl_syntax.specs.declared.problem.Problem.{Problem}
 use Rattle.tl_syntax.specs.Trees.{FormulaTree}
-use Rattle.tl_terms.specs.Acceptance.{last_of, states, states_from, then_states}
+use Rattle.tl_terms.specs.Acceptance.{last_of, states_from, then_states}
 use Rattle.tl_terms.specs.Pairs.{residual}
 use Rattle.tl_terms.specs.ProblemMeaning.{plain_problem}
 use Rattle.tl_terms.specs.Step.{step}

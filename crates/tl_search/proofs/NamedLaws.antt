@@ -1,6 +1,5 @@
 -- Actions that are given out stay named.
 use Rattle.std.proofs.Common.{◌≡◌, ℕ, List, [], ◌∷◌, ◌++◌, Bool, true, false, sym, subst}
-use Rattle.tl_syntax.specs.Lists.{Each}
 use Rattle.tl_syntax.specs.declared.action.Action.{Action}
 use Rattle.tl_syntax.proofs.ListLaws.{Each-append}
 use Rattle.tl_world.specs.declared.task.Task.{Task}

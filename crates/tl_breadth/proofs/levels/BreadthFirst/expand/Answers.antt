@@ -4,7 +4,7 @@ use Rattle.std.proofs.Common.{◌≡◌, ◌+◌, [], take, slice_get, Some, ref
 use Rattle.std.proofs.lemmas.Option.{slice_get_read}
 use Rattle.tl_syntax.proofs.ListLaws.{Each-Among}
 use Rattle.tl_search.specs.Calls.{AreNamedIn}
-use Rattle.tl_search.specs.NamedAnswers.{IsNamedIn, OutcomeIsNamed, FaultIsNamed, EventsAreNamed}
+use Rattle.tl_search.specs.NamedAnswers.{IsNamedIn, OutcomeIsNamed, EventsAreNamed}
 use Rattle.tl_search.proofs.ListLaws.{among-at}
 use Rattle.tl_search.specs.ListedActions.{ListsActions}
 use Rattle.tl_breadth.specs.Outcomes.{HasTurn, IsTriedThen, IsSearching, IsBreadthFirstOutcome}
