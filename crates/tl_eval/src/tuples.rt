@@ -9,7 +9,7 @@ ghost use Rattle.tl_syntax.specs.Signature.{signature_of};
 
 use crate::pattern_of::{no_pattern, put_pattern_of};
 use crate::{Binder, Env};
-use tl_syntax::{Bound, Value};
+use tl_syntax::{Bound, Value, Vars};
 use tl_world::{Match, Task, World};
 
 /// The world that a bound speaks of: the current one, that of the goal list, or that of its negated facts. It takes no memory.
@@ -25,7 +25,7 @@ pub(crate) fn world_of_bound<'a>(task: &'a Task, w: &'a World, b: &Bound) -> &'a
     }
 }
 
-/// `next_tuple` for a frame that is given as a slice. It takes no memory.
+/// `next_tuple` for a binder, and a frame that is given as a slice. It takes no memory.
 fn next_tuple_in(
     task: &Task,
     w: &World,
@@ -37,7 +37,8 @@ fn next_tuple_in(
     requires occur { OccurIn binder.now.vars.now binder.now.bound.now }
     requires fits { BoundFits (signature_of task.now.problem.domain) binder.now.bound.now }
     requires after { IfSome after (λ m. m.len ≡ length binder.now.vars.now) }
-    ensures next { IsNextIn task.now w.now frame.now binder.now after result }
+    ensures next { IsNextIn task.now w.now frame.now
+        binder.now.vars.now binder.now.bound.now after result }
     ensures len { IfSome result (λ m. m.len ≡ length binder.now.vars.now) }
 {
     let mut pattern = no_pattern();
@@ -48,7 +49,7 @@ fn next_tuple_in(
     }
 }
 
-/// The least tuple for the binder's variables, in lexicographic value order, that makes its bound true in the world and comes after `after`, where that is given: None exactly where there is none.
+/// The least tuple for the variables, in lexicographic value order, that makes the bound true in the world and comes after `after`, where that is given: None exactly where there is none.
 /// All other variables have their values in the caller's frame; a bound with one that has no value there is true of no tuple. It takes no memory.
 ///
 /// With no variable and no `after` it tests the bound: the answer is the empty tuple or None.
@@ -56,15 +57,20 @@ pub fn next_tuple(
     task: &Task,
     w: &World,
     env: &Env,
-    binder: &Binder,
+    vars: &Vars,
+    b: &Bound,
     after: Option<Match>,
 ) -> Option<Match>
-    requires differ { DifferInSlot binder.now.vars.now }
-    requires occur { OccurIn binder.now.vars.now binder.now.bound.now }
-    requires fits { BoundFits (signature_of task.now.problem.domain) binder.now.bound.now }
-    requires after { IfSome after (λ m. m.len ≡ length binder.now.vars.now) }
-    ensures next { IsNextIn task.now w.now env.now binder.now after result }
-    ensures len { IfSome result (λ m. m.len ≡ length binder.now.vars.now) }
+    requires differ { DifferInSlot vars.now }
+    requires occur { OccurIn vars.now b.now }
+    requires fits { BoundFits (signature_of task.now.problem.domain) b.now }
+    requires after { IfSome after (λ m. m.len ≡ length vars.now) }
+    ensures next { IsNextIn task.now w.now env.now vars.now b.now after result }
+    ensures len { IfSome result (λ m. m.len ≡ length vars.now) }
 {
-    next_tuple_in(task, w, env.frame(), binder, after)
+    let binder = Binder {
+        vars: vars.as_slice(),
+        bound: b,
+    };
+    next_tuple_in(task, w, env.frame(), &binder, after)
 }

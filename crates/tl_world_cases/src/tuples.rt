@@ -7,7 +7,7 @@ use crate::checks::{is_text, is_true};
 use std::alloc::Global;
 use std::process::Abort;
 use std::test::Fail;
-use tl_eval::{Binder, Env, next_tuple};
+use tl_eval::{Env, next_tuple};
 use tl_syntax::{Bound, Vars};
 use tl_tables::{column, filled, is_row, put_tuple, task_of};
 use tl_world::{Match, Task};
@@ -33,17 +33,13 @@ fn next_after(
     requires occur { OccurIn vars.now bound.now }
     requires fits { BoundFits (signature_of task.now.problem.domain) bound.now }
 {
-    let binder = Binder {
-        vars: vars.as_slice(),
-        bound,
-    };
     let Some(m) = after else {
-        return Ok(next_tuple(task, &task.first, env, &binder, None));
+        return Ok(next_tuple(task, &task.first, env, vars, bound, None));
     };
     if m.len as usize != vars.len() {
         return Err(Fail::new("the tuple is of other variables"));
     }
-    Ok(next_tuple(task, &task.first, env, &binder, Some(m)))
+    Ok(next_tuple(task, &task.first, env, vars, bound, Some(m)))
 }
 
 /// The next tuple, for the parameters and the only bound of the first operator.
