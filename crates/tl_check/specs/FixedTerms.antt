@@ -4,7 +4,9 @@ use Rattle.tl_eval.specs.Frames.{assignment_in}
 use Rattle.tl_syntax.specs.declared.term.Term.{Term}
 use Rattle.tl_syntax.specs.declared.term.Terms.{Terms}
 use Rattle.tl_syntax.specs.declared.value.Value.{Value}
+use Rattle.tl_syntax.specs.Assignment.{Assignment}
 use Rattle.tl_syntax.specs.TreeOfTerm.{tree_of_term, tree_of_terms}
+use Rattle.tl_syntax.specs.Trees.{TermTree}
 use Rattle.tl_terms.specs.Terms.{term_value, term_values}
 use Rattle.tl_terms.specs.World.{World}
 
@@ -17,9 +19,5 @@ abbrev pub HaveFixedValues : List (Option Value) → Terms → List Value → Ty
 HaveFixedValues frame ts vs = (w : World) → term_values w (assignment_in frame) (tree_of_terms ts) ≡ Some vs
 
 -- the term has the same value in every world, or none in any
-abbrev pub IsFixed : List (Option Value) → Term → Type 0
-IsFixed frame t = (v w : World) → term_value v (assignment_in frame) (tree_of_term t) ≡ term_value w (assignment_in frame) (tree_of_term t)
-
--- so it is of both terms
-abbrev pub AreFixed : List (Option Value) → Term → Term → Type 0
-AreFixed frame x y = IsFixed frame x × IsFixed frame y
+abbrev pub IsFixed : TermTree → Type 0
+IsFixed t = (e : Assignment) (v w : World) → term_value v e t ≡ term_value w e t

@@ -7,5 +7,5 @@ use Rattle.tl_terms.specs.Problem.{PlainProblem}
 use Rattle.tl_terms.specs.World.{World}
 
 -- its truth in one state is its truth in any other, whatever states follow
-abbrev pub IsSteady : Assignment → FormulaTree → Type 0
-IsSteady e f = (p : PlainProblem) (v w : World) (vs ws : List World) → true_ahead p e f (v ∷ vs) ≡ true_ahead p e f (w ∷ ws)
+abbrev pub IsSteady : FormulaTree → Type 0
+IsSteady f = (p : PlainProblem) (e : Assignment) (v w : World) (vs ws : List World) → true_ahead p e f (v ∷ vs) ≡ true_ahead p e f (w ∷ ws)

@@ -13,7 +13,7 @@ use crate::execution::{Execution, executed};
 use crate::following::{Follow, Followed, follow_plan};
 use crate::formula_labels::labels_of;
 use crate::history::histories_of;
-use crate::plain::is_plain;
+use crate::plain::{Compared, is_plain};
 use crate::predicates::predicates_of;
 use crate::span::Span;
 use crate::trail::Trail;
@@ -128,7 +128,7 @@ fn verdict_by_states(follow: &Follow, plan: &[Action]) -> Result<Verdict, CheckF
 /// The plan is executed first, and on the way the changes of the facts of the control formula's predicates are noted. Then each subformula of the control formula is labelled with its truth at the states where it is asked for, as runs of states with the same truth, and no formula is progressed.
 /// It fails for want of memory, or where an operation is past range that an action looks at in its turn, or the control formula along the states.
 ///
-/// Of the states one is held at a time, and they are kept only where functions, arithmetic, definitions or bounds over places stand in the control formula, which are read in them. When the facts of its predicates hold is found by looking up in each state those that the action before it deletes or adds, and which tuples make a bound over places true by one over its places. After that an instance of a quantifier over facts takes the time of the changes of its labels and of those of the instances so far; functions, arithmetic and definitions in it are read in each state from the first to the last at which its tuple makes the bound true, and below temporal words up to the last one. The labels of one instance are kept at a time. Worlds share the tables that stay as they were.
+/// Of the states one is held at a time, and they are kept only where functions, definitions, bounds over places or facts with arithmetic in them stand in the control formula, which are read in them. A comparison with arithmetic on variables and values is read once; where an operation in it is past range, the plan is followed again with its states kept, to find the state in which it is looked at. When the facts of its predicates hold is found by looking up in each state those that the action before it deletes or adds, and which tuples make a bound over places true by one over its places. After that an instance of a quantifier over facts takes the time of the changes of its labels and of those of the instances so far; functions, arithmetic and definitions in it are read in each state from the first to the last at which its tuple makes the bound true, and below temporal words up to the last one. The labels of one instance are kept at a time. Worlds share the tables that stay as they were.
 pub fn check(alloc: Global, task: &Task, plan: &[Action]) -> Result<Verdict, CheckFault>
     requires operators { Each (HasOperator (plain_problem task.now.problem)) plan.now }
     requires short { length plan.now < 2 ^ 32 }
@@ -144,7 +144,7 @@ pub fn check(alloc: Global, task: &Task, plan: &[Action]) -> Result<Verdict, Che
         preds: preds.as_slice(),
         keeps: true,
     };
-    if !is_plain(control) {
+    if !is_plain(control, Compared::Fixed) {
         return verdict_by_states(&with_states, plan);
     }
     let follow = Follow {

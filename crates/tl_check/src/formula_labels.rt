@@ -1,5 +1,5 @@
 // The labels of formulas.
-ghost use Rattle.std.specs.Prelude.{◌≡◌, ◌+◌, length, OnOk};
+ghost use Rattle.std.specs.Prelude.{◌≡◌, ◌+◌, length, true, OnOk};
 ghost use Rattle.tl_check.specs.AlongStates.{FitsAlong, GuidesAlong, IsInstanceAlong};
 ghost use Rattle.tl_check.specs.AlongStates.{AreLabelsAlong, JoinsPartAlong, JoinsAlong};
 ghost use Rattle.tl_check.specs.AlongStates.{AreNegatedLabels, AreNextLabels, AreLaterLabels};
@@ -11,6 +11,7 @@ ghost use Rattle.tl_check.specs.PartTrees.{until_tree, instance_tree, guided_tre
 ghost use Rattle.tl_check.specs.Spans.{IsWithin};
 ghost use Rattle.tl_check.specs.StatesAlong.{states_along};
 ghost use Rattle.tl_syntax.specs.Junctions.{joined};
+ghost use Rattle.tl_syntax.specs.StateFormulas.{IsState};
 ghost use Rattle.tl_syntax.specs.TreeOfFormula.{tree_of_formula, tree_of_formulas};
 ghost use Rattle.tl_syntax.specs.Trees.{negation, next};
 
@@ -23,7 +24,7 @@ use crate::labels::Labels;
 use crate::later::Later;
 use crate::line::line_labels;
 use crate::part::Part;
-use crate::plain::{has_parts, is_plain};
+use crate::plain::{Compared, has_parts, is_plain};
 use crate::span::Span;
 use crate::state_labels::state_labels;
 use crate::table_order::table_order;
@@ -32,6 +33,18 @@ use crate::tracks::line_of;
 use crate::unlabelled::Unlabelled;
 use tl_eval::{Env, TupleReader};
 use tl_syntax::{Formula, Formulas, Junction};
+
+/// Whether the formula is read as a whole in each state, so that a decided part of it ends the reading: it has parts and no temporal word, and functions, definitions or operations stand in it. Where no states are kept, none is read for an operation on variables and values. It takes no memory.
+fn is_read_whole(f: &Formula, along: &Along) -> bool
+    ensures { result ≡ true → IsState (tree_of_formula f.now) }
+{
+    let compared = if along.kept.is_empty() {
+        Compared::Fixed
+    } else {
+        Compared::Plain
+    };
+    has_parts(f) && !is_plain(f, compared) && is_state(f)
+}
 
 /// The truth of a formula at each position of the span, under the frame's values, where the last state is repeated for ever.
 ///
@@ -50,7 +63,7 @@ pub(crate) fn labels_of(
     ensures labels { AreLabelsAlong along.now span env.old (tree_of_formula f.now) result }
     ensures frame { OnOk result (env.new ≡ env.old) }
 {
-    if has_parts(f) && !is_plain(f) && is_state(f) {
+    if is_read_whole(f, along) {
         return state_labels(f, along, span, env);
     }
     match f {
@@ -269,7 +282,7 @@ fn quantified_labels<'a>(
     ensures labels { AreQuantifiedLabels along.now span env.old binder.now part.now result }
     ensures frame { OnOk result (env.new ≡ env.old) }
 {
-    if !is_plain(part) {
+    if !is_plain(part, Compared::Plain) {
         return ordered_labels(part, binder, along, span, env);
     }
     match table_order(along.alloc, binder.vars, binder.bound)? {

@@ -32,7 +32,7 @@ fn labels_in(
     ensures labels { AreLabelsIn along.now worlds.now span env.old (tree_of_formula f.now) result }
     ensures frame { OnOk result (env.new ≡ env.old) }
 {
-    if is_steady(f, env) {
+    if is_steady(f) {
         return steady_labels(f, along, worlds, span, env);
     }
     let mut labels = Labels::new(along.alloc);

@@ -1,17 +1,16 @@
 // The labels of formulas that read no state.
 ghost use Rattle.std.specs.Prelude.{◌≡◌, ◌≤◌, ◌^◌, OnOk, length, true};
 ghost use Rattle.tl_check.specs.AlongStates.{FitsAlong, AreLabelsIn, AreLabelsAlong};
-ghost use Rattle.tl_check.specs.FixedTerms.{AreFixed};
+ghost use Rattle.tl_check.specs.FixedTerms.{IsFixed};
 ghost use Rattle.tl_check.specs.Spans.{IsWithin};
 ghost use Rattle.tl_check.specs.StatesAlong.{states_along, KeepsFew};
 ghost use Rattle.tl_check.specs.Steady.{IsSteady};
-ghost use Rattle.tl_eval.specs.Frames.{assignment_in};
 ghost use Rattle.tl_syntax.specs.StateFormulas.{IsState};
 ghost use Rattle.tl_syntax.specs.TreeOfFormula.{tree_of_formula};
+ghost use Rattle.tl_syntax.specs.TreeOfTerm.{tree_of_term};
 
 use crate::CheckFault;
 use crate::along::Along;
-use crate::atoms::plain_value;
 use crate::labels::Labels;
 use crate::span::Span;
 use crate::unlabelled::Unlabelled;
@@ -19,29 +18,28 @@ use tl_eval::{Env, state};
 use tl_syntax::{Formula, Term};
 use tl_world::World;
 
-/// Whether both terms are variables with values, or values. It takes no memory.
-fn are_fixed(env: &Env, x: &Term, y: &Term) -> bool
-    ensures { result ≡ true → AreFixed env.now x.now y.now }
+/// Whether the term has the same value in every state, or none in any: no function stands in it. It takes no memory.
+pub(crate) fn is_fixed(term: &Term) -> bool
+    ensures { result ≡ true → IsFixed (tree_of_term term.now) }
 {
-    match plain_value(env, x) {
-        Some(_) => match plain_value(env, y) {
-            Some(_) => true,
-            None => false,
-        },
-        None => false,
+    match term {
+        Term::Var(_) => true,
+        Term::Val(_) => true,
+        Term::Place(_, _) => false,
+        Term::Arith(_, left, right, _) => is_fixed(left) && is_fixed(right),
     }
 }
 
 /// Whether the formula reads no state: it speaks of the goal list or of values alone. It takes no memory.
-pub(crate) fn is_steady(f: &Formula, env: &Env) -> bool
-    ensures { result ≡ true → IsSteady (assignment_in env.now) (tree_of_formula f.now) }
+pub(crate) fn is_steady(f: &Formula) -> bool
+    ensures { result ≡ true → IsSteady (tree_of_formula f.now) }
 {
     match f {
         Formula::True => true,
         Formula::False => true,
         Formula::Atom(_, _) => false,
         Formula::Defined(_, _) => false,
-        Formula::Compare(_, x, y) => are_fixed(env, x, y),
+        Formula::Compare(_, x, y) => is_fixed(x) && is_fixed(y),
         Formula::GoalFact(_, _) => true,
         Formula::GoalPlace(_, _, _) => true,
         Formula::GoalNot(_, _) => true,
@@ -71,7 +69,7 @@ pub(crate) fn steady_labels(
     requires few { length worlds.now ≤ 2 ^ 32 }
     requires fits { FitsAlong along.now (tree_of_formula f.now) }
     requires state { IsState (tree_of_formula f.now) }
-    requires steady { IsSteady (assignment_in env.old) (tree_of_formula f.now) }
+    requires steady { IsSteady (tree_of_formula f.now) }
     ensures labels { AreLabelsIn along.now worlds.now span env.old (tree_of_formula f.now) result }
     ensures frame { OnOk result (env.new ≡ env.old) }
 {
@@ -105,7 +103,7 @@ pub(crate) fn labels_unread(
     ensures labels { AreLabelsAlong along.now span env.old (tree_of_formula f.now) result }
     ensures frame { OnOk result (env.new ≡ env.old) }
 {
-    if !is_steady(f, env) {
+    if !is_steady(f) {
         return Err(Unlabelled::NotKept);
     }
     match state(along.task, &along.task.first, env, f) {

@@ -34,6 +34,11 @@ check d p q | d = {0} & p = {1} & q = {2} | {3} | {4}
 (domain c (function n 0) (operator (look) (pre (or true (< (* (n) 2) 0))))) | (problem p (init {max}) (goal)) | (look) (look) | 0 | ; valid
 (domain c (function n 0) (operator (low) (pre (< (- -2 (n)) 0)))) | (problem p (init {max}) (goal)) | (low) | 4 | ; range at 49: -2 - 9223372036854775807 / ; after 0 actions
 (domain c (function n 0) (control (always (< (+ (n) 1) 5)))) | (problem p (init (= (n) 9223372036854775807)) (goal (= (n) 0))) | - | 1 | ; goal unmet
+(domain c (predicate q 1) (control (always (forall (?x) (q ?x) (< (+ ?x 1) 5)))) (operator (up) (effects (add (q 9223372036854775807))))) | (problem p (init (q 3)) (goal)) | - | 0 | ; valid
+(domain c (predicate q 1) (control (always (forall (?x) (q ?x) (< (+ ?x 1) 5)))) (operator (up) (effects (add (q 9223372036854775807))))) | (problem p (init (q 3) (q 4)) (goal)) | - | 1 | ; disobeys
+(domain c (predicate q 1) (control (always (forall (?x) (q ?x) (< (+ ?x 1) 5)))) (operator (up) (effects (add (q 9223372036854775807))))) | (problem p (init (q 9223372036854775807)) (goal)) | - | 4 | ; range at 66: 9223372036854775807 + 1 / ; after 0 actions
+(domain c (predicate q 1) (control (always (forall (?x) (q ?x) (< (+ ?x 1) 5)))) (operator (up) (effects (add (q 9223372036854775807))))) | (problem p (init (q 3)) (goal)) | (up) | 4 | ; range at 66: 9223372036854775807 + 1 / ; after 1 actions
+(domain c (predicate q 1) (control (always (exists (?x) (q ?x) (< (+ ?x 1) 5)))) (operator (up) (effects (add (q 9223372036854775807))))) | (problem p (init (q 3)) (goal)) | (up) | 0 | ; valid
 ";
 
 #[test]

@@ -20,7 +20,7 @@ returns-in_ok-labels-in-Ok-clause-labels c =
     let ws = c.args.worlds.now in
     let w = c.index-worlds-first.result in
     let told = state-told p e e f w (drop (suc c.args.span.from) ws) c.in-Ok.truth c.requires.state refl c.in-Ok.ensures.value in
-    c.in_ok-labels-in-Ok.ensures.same ∙ same-marks p e ws c.args.span (true_ahead p e f) c.in-Ok.truth c.requires.span (λ v vs. c.requires.steady p v w vs (drop (suc c.args.span.from) ws) ∙ sym told)
+    c.in_ok-labels-in-Ok.ensures.same ∙ same-marks p e ws c.args.span (true_ahead p e f) c.in-Ok.truth c.requires.span (λ v vs. c.requires.steady p e v w vs (drop (suc c.args.span.from) ws) ∙ sym told)
 
 pub returns-in-Err-clause-labels : goal.returns-in-Err-clause-labels
 returns-in-Err-clause-labels c =
