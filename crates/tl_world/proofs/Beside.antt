@@ -1,11 +1,13 @@
 -- Tables of facts of which one row is taken out and one is put in, and sets of facts that differ in some facts alone.
-use Rattle.std.proofs.Common.{◌≡◌, ◌||◌, ◌&&◌, ℕ, zero, suc, ◌<◌, ◌≤◌, Bool, true, false, not, true≢false, eqb, eqb-true, List, [], ◌∷◌, map, length, get_or, drop, drop-cons, ◌-◌, inl, inr, refl, sym, ap, ◌∙◌, subst, arith, Equal}
+use Rattle.std.proofs.Common.{◌≡◌, ◌||◌, ◌&&◌, ℕ, zero, suc, ◌<◌, ◌≤◌, Bool, true, false, not, true≢false, eqb, eqb-true, List, [], ◌∷◌, map, length, get_or, drop, drop-cons, ◌-◌, inl, inr, refl, sym, ap, ◌∙◌, subst, arith, Equal, Err}
 use Rattle.std.proofs.lemmas.List.Edits.{length-insert, length-remove, get_or-insert_at}
+use Rattle.std.proofs.Math.ListN as put-at
 use Rattle.std.specs.Cmp.{nat_cmp_total, tied_itself}
 use Rattle.std.specs.FinMap as dict
 use Rattle.std.specs.FinSet as set
 use Rattle.std.specs.FinMap.Entries.{where_key}
 use Rattle.std.specs.List.{insert, remove, list_any, HoldsAt}
+use Rattle.std.specs.List.Sorted.{IsBinarySearchResult}
 use Rattle.std.specs.Ordering.{eq_by_cmp, nat_cmp}
 use Rattle.tl_syntax.specs.declared.fact.Fact.{Fact}
 use Rattle.tl_syntax.specs.declared.value.Value.{Value}
@@ -14,7 +16,7 @@ use Rattle.tl_syntax.specs.Lists.{Among}
 use Rattle.tl_syntax.proofs.TotalOrders.{key_total, key_ties}
 use Rattle.tl_terms.specs.Step.{with_all}
 use Rattle.tl_world.specs.declared.named.Named.{Named}
-use Rattle.tl_world.specs.Moves.{place_after, IsMoved, AreSameBeside}
+use Rattle.tl_world.specs.Moves.{place_after, IsComing, IsMoved, IsTakenOut, AreSameBeside}
 use Rattle.tl_world.specs.Plain.{HasItem}
 use Rattle.tl_world.specs.Tables.{row_cmp, InOrder, fact_row, fact_tables, entries_of, set_of}
 use Rattle.tl_world.proofs.Change as change
@@ -74,6 +76,24 @@ pub among-at : {A : Type 0} (xs : List A) (k : ℕ) (x : A) → k < length xs �
 among-at [] k x p e = absurd (omega arith)
 among-at (y ∷ xs) zero x p e = inl (sym e)
 among-at (y ∷ xs) (suc k) x p e = inr (among-at xs k x (omega arith) e)
+
+-- a fact that was found to be missing comes in
+pub comes-in : (rows after : List (List Value)) (n cut : ℕ) (adds : List Fact) (found : ℕ × ℕ) (a : Fact) → IsComing rows n adds found → a ≡ get_or adds found.0 a → after ≡ remove (insert rows found.1 a.args) (place_after found.1 cut) → IsMoved rows cut n adds after
+comes-in rows after n cut adds found a m is made = record {
+  fact = a;
+  at = found.1;
+  among = among-at adds found.0 a m.below is;
+  of_table = ap (λ (f : Fact). f.pred) is ∙ m.of_table a;
+  within = m.within;
+  absent = subst (λ (f : Fact). IsBinarySearchResult (λ (r : List Value). row_cmp r f.args) rows (Err found.1)) (sym is) (m.absent a);
+  is = made;
+}
+
+-- an item in place of another, as a removal and an insertion
+pub set-edit : {A : Type 0} (xs : List A) (i : ℕ) (y : A) → i < length xs → put-at.set xs i y ≡ insert (remove xs i) i y
+set-edit [] i y p = absurd (let no : i < 0 = p in omega arith)
+set-edit (x ∷ xs) zero y p = refl
+set-edit (x ∷ xs) (suc i) y p = ap (λ zs. x ∷ zs) (set-edit xs i y (let m : suc i < suc (length xs) = p in omega arith))
 
 undone : {A : Type 0} (xs : List A) (i : ℕ) (x : A) → i ≤ length xs → remove (insert xs i x) i ≡ xs
 undone [] zero x p = refl
@@ -145,3 +165,30 @@ module _ (ts : List (Named (List (List Value)))) (n i : ℕ) (old fresh : Named 
       set-put (fact_tables ts) (fact_tables grown) (n, m.fact.args) (λ q. change.find-put fact_row ts n i old f between refl m.fact.args tt come-in q) in
       λ q h. ap (λ s. set.contains s q) (out ∙ ap (λ s. set.remove s (n, a)) (in_now ∙ ap (λ j. set.insert (set_of (fact_tables ts)) (j, m.fact.args)) (sym m.of_table)))
       ∙ moved-beside fs (set_of (fact_tables ts)) m.fact (n, a) m.among q h
+
+-- the table after one of its rows was taken out, where it still has rows
+module _ (ts : List (Named (List (List Value)))) (n i : ℕ) (old fresh : Named (List (List Value))) (fs : List Fact) (k : ℕ) (a : List Value)
+    (f : change.Found fact_row ts n i old) (e : fresh.name ≡ n) (taken : IsTakenOut old.rows.value k n fs fresh.rows.value) (p : k < length old.rows.value) (t : HoldsAt (λ (r : List Value). row_cmp r a ≡ Equal) old.rows.value k)
+    (filled : HasItem (map fact_row fresh.rows.value)) where
+  only-out : fresh.rows.value ≡ remove old.rows.value k → map fact_row fresh.rows.value ≡ where_key row_cmp (other_than row_cmp a) (map fact_row old.rows.value)
+  only-out rows = ap (map fact_row) rows ∙ change.row-taken fact_row ts n i old f a k old.rows.value refl p t
+
+  pub order-out : InOrder (fact_tables (insert (remove ts i) i fresh))
+  order-out = elim taken [
+    | inl rows ↦ change.order-taken fact_row ts n i old f fresh e a (only-out rows) filled
+    | inr m ↦ order-moved ts n i old fresh fs k a f e m p t filled
+  ]
+
+  pub facts-out : AreSameBeside fs (set_of (fact_tables (insert (remove ts i) i fresh))) (set.remove (set_of (fact_tables ts)) (n, a))
+  facts-out = elim taken [
+    | inl rows ↦ same-beside fs _ _ (set-taken (fact_tables ts) (fact_tables (insert (remove ts i) i fresh)) (n, a) (λ q. change.find-taken-out fact_row ts n i old f fresh e a (only-out rows) q))
+    | inr m ↦ facts-moved ts n i old fresh fs k a f e m p t filled
+  ]
+
+-- rows of which one was taken out are left, where there were two
+pub still-filled : (rows after : List (List Value)) (k n : ℕ) (fs : List Fact) → IsTakenOut rows k n fs after → k < length rows → 1 < length rows → HasItem (map fact_row after)
+still-filled rows [] k n fs taken p q = elim taken [
+  | inl e ↦ let r = length-remove rows k p in let z : 0 ≡ length (remove rows k) = ap length e in absurd (omega (arith, r, z, q))
+  | inr m ↦ absurd (not-emptied rows [] k n fs true m p refl refl)
+]
+still-filled rows (r ∷ after) k n fs taken p q = tt

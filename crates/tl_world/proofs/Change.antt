@@ -43,6 +43,9 @@ module _ {R X : Type 0} (g : R → List Value × X) where
     number : (get_or ts i old).name ≡ n
     number = set.nat_cmp-IsAntisymmetric (get_or ts i old).name n f.tie
 
+    pub name-is : old.name ≡ n
+    name-is = ap (λ (u : Named (List R)). u.name) f.is ∙ number
+
     pub rows-rise : T (dict.is_sorted row_cmp (map g old.rows.value))
     rows-rise = subst (λ (u : Named (List R)). T (dict.is_sorted row_cmp (map g u.rows.value))) (sym f.is) (each-at named ts i old f.below f.order.1)
 

@@ -113,6 +113,12 @@ pub even-all : (w n : ℕ) (es v : List ℕ) → length es ≡ 0 → ends_of w n
 even-all w n [] v none view = sym view ∙ ap (even_ends 0 w) (sym (even-length 0 w n) ∙ ap length view)
 even-all w n (e ∷ es) v none view = absurd (omega (arith, none))
 
+pub even-less : (w n : ℕ) (es v : List ℕ) → length es ≡ 0 → ends_of w n es ≡ v → ends_of w (n - 1) es ≡ even_ends 0 w (length v - 1)
+even-less w n [] v none view =
+    let l = even-length 0 w n in
+    ap (even_ends 0 w) (let e : n - 1 ≡ length v - 1 = omega (arith, l, ap length view) in e)
+even-less w n (e ∷ es) v none view = absurd (omega (arith, none))
+
 -- the ends that are listed
 pub listed-are : (w n : ℕ) (es v : List ℕ) → 0 < length es → ends_of w n es ≡ v → es ≡ v
 listed-are w n [] v some view = absurd (omega (arith, some))

@@ -34,6 +34,7 @@ pub mod MatchReading
 pub mod Truths
 pub mod Orders
 pub mod Contents
+pub mod Going
 pub mod GoalTests
 pub mod Lacking
 pub mod Finite

@@ -54,6 +54,34 @@ module _ {X : Type 0} where
     | false ↦ λ e. let l = length-insert xs at x p in (get_or-insert_below xs at x d cut (leb-false at cut e) p, let r : cut < length (insert xs at x) = omega (arith, l, q) in r)
   ]) refl
 
+-- the place of what stood at `cut`, by whether the row that came in stands before it
+pub place-back : (at cut : ℕ) → at ≤ cut → cut + 1 ≡ place_after at cut
+place-back at cut p = (elim (leb at cut) as (λ b. leb at cut ≡ b → cut + 1 ≡ cond b (cut + 1) cut) [
+  | true ↦ λ e. refl
+  | false ↦ λ e. absurd (let q = leb-false at cut e in omega (arith, p, q))
+]) refl
+
+pub place-on : (at cut : ℕ) → cut < at → cut ≡ place_after at cut
+place-on at cut p = (elim (leb at cut) as (λ b. leb at cut ≡ b → cut ≡ cond b (cut + 1) cut) [
+  | true ↦ λ e. absurd (let q = leb-true at cut e in omega (arith, p, q))
+  | false ↦ λ e. refl
+]) refl
+
+-- the same, so many places further on
+pub place-further : (n a c at cut : ℕ) → at ≡ n + a → cut ≡ n + c → place_after at cut ≡ n + place_after a c
+place-further n a c at cut e f = (elim (leb a c) as (λ b. leb a c ≡ b → place_after at cut ≡ n + place_after a c) [
+  | true ↦ λ h.
+      let p = leb-true a c h in
+      let here = place-back a c p in
+      let there = place-back at cut (omega (arith, p, e, f)) in
+      omega (arith, here, there, f)
+  | false ↦ λ h.
+      let p = leb-false a c h in
+      let here = place-on a c p in
+      let there = place-on at cut (omega (arith, p, e, f)) in
+      omega (arith, here, there, f)
+]) refl
+
 kept-up : (code a b s t m : ℕ) → code ≡ s % m → t + b ≡ s + a → b ≤ m → ((code + a) % m + (m - b)) % m ≡ t % m
 kept-up code a b s t m e f p =
     ap (λ c. ((c + a) % m + (m - b)) % m) e

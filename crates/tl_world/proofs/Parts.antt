@@ -100,6 +100,12 @@ insert-back [] t n k x e = ap (λ i. insert t i x) (let m : n ≡ k = omega (ari
 insert-back (y ∷ s) t n zero x e = absurd (omega (arith, e))
 insert-back (y ∷ s) t n (suc k) x e = ap (λ ys. y ∷ ys) (insert-back s t n k x (omega (arith, e)))
 
+-- one less at a place after the first
+pub remove-back : {X : Type 0} (s t : List X) (n k : ℕ) → k ≡ length s + n → s ++ remove t n ≡ remove (s ++ t) k
+remove-back [] t n k e = ap (remove t) (let m : n ≡ k = omega (arith, e) in m)
+remove-back (y ∷ s) t n zero e = absurd (omega (arith, e))
+remove-back (y ∷ s) t n (suc k) e = ap (λ ys. y ∷ ys) (remove-back s t n k (omega (arith, e)))
+
 -- what stands before a place, and what stands after it
 pub taken-out : {X : Type 0} (xs o a b : List X) (k n : ℕ) → n ≡ length xs → o ≡ [] → a ≡ o ++ between xs 0 k → b ≡ a ++ between xs (k + 1) n → b ≡ remove xs k
 taken-out xs o a b k n l e f g =

@@ -67,3 +67,7 @@ items_back xs at cut ys = take at xs ++ (ys ++ (take (cut - at) (drop at xs) ++ 
 -- the items with others before those from `at` on, and without as many from `cut` on, which all come before it
 abbrev pub items_on : {X : Type 0} → List X → ℕ → ℕ → List X → List X
 items_on xs cut at ys = take cut xs ++ (take (at - (cut + length ys)) (drop (cut + length ys) xs) ++ (ys ++ drop at xs))
+
+-- the items without as many as are given from a place on
+abbrev pub items_without : {X : Type 0} → List X → ℕ → ℕ → List X
+items_without xs at n = take at xs ++ drop (at + n) xs

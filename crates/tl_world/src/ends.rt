@@ -1,5 +1,5 @@
 // The places at which rows end that follow one another in one list.
-ghost use Rattle.std.specs.Prelude.{◌≡◌, ◌<◌, ◌≤◌, ◌+◌, ◌-◌, ◌^◌, [], ◌∷◌, ◌++◌, length, slice_index_or, true, false, IfOk, IfSome, OnOk, OnErr};
+ghost use Rattle.std.specs.Prelude.{◌≡◌, ◌<◌, ◌≤◌, ◌+◌, ◌-◌, ◌^◌, [], ◌∷◌, ◌++◌, length, slice_index_or, true, false, IfNone, IfOk, IfSome, OnOk, OnErr};
 ghost use Rattle.tl_world.specs.Cuts.{begin, end_of, ends_joined, ends_with, even_ends};
 
 use std::alloc::Global;
@@ -64,9 +64,22 @@ impl Ends {
         }
     }
 
+    /// How many values row `k` has.
+    #[inline]
+    pub(crate) fn size(&self, k: usize) -> usize
+        requires { k < length self.now }
+        ensures { result ≡ slice_index_or self.now k 0 - begin 0 self.now k }
+    {
+        if self.listed.is_empty() {
+            self.width
+        } else {
+            self.end(k).saturating_sub(self.begin(k))
+        }
+    }
+
     /// The place at which row `k` ends.
     #[inline]
-    pub(crate) fn end(&self, k: usize) -> usize
+    fn end(&self, k: usize) -> usize
         requires { k < length self.now }
         ensures { result ≡ slice_index_or self.now k 0 }
     {
@@ -121,6 +134,29 @@ impl Ends {
         self.width = size;
         self.count += 1;
         true
+    }
+
+    /// One row less, where all rows have one length: that length, where they have, and so one is taken out.
+    #[inline]
+    pub(crate) fn cut_even(&mut self) -> Option<usize>
+        requires { 0 < length self.old }
+        ensures even { IfSome result (λ w. self.old ≡ even_ends 0 w (length self.old)) }
+        ensures less { IfSome result (λ w. self.new ≡ even_ends 0 w (length self.old - 1)) }
+        ensures same { IfNone result (self.new ≡ self.old) }
+    {
+        if !self.listed.is_empty() {
+            return None;
+        }
+        self.count -= 1;
+        Some(self.width)
+    }
+
+    /// Whether all rows have this length, and no end is listed.
+    #[inline]
+    pub(crate) fn have_width(&self, size: usize) -> bool
+        ensures { result ≡ true → self.now ≡ even_ends 0 size (length self.now) }
+    {
+        self.listed.is_empty() && self.width == size
     }
 
     /// One more row of so many values, where each end is listed. After a failure the ends are those of before.

@@ -3,8 +3,9 @@ ghost use Rattle.std.specs.List.{insert, list_any, remove};
 ghost use Rattle.std.specs.List.Sorted.{IsPermutation};
 ghost use Rattle.std.specs.Prelude.{◌≡◌, ◌<◌, ◌≤◌, Bool, true, false, length, IfOk, IfSome, OnOk};
 ghost use Rattle.tl_syntax.specs.declared.fact.Fact.{Fact as PlainFact};
+ghost use Rattle.tl_syntax.specs.Keys.{fact_key};
 ghost use Rattle.tl_world.specs.Edits.{AreChangedBy, FactIsTakenOut, FactsAreTakenOut, GainsFact, GainsFacts};
-ghost use Rattle.tl_world.specs.Moves.{IsMoved, IsTakenOut};
+ghost use Rattle.tl_world.specs.Moves.{IsComing, IsTakenOut};
 ghost use Rattle.tl_world.specs.Tables.{InOrder, fact_tables};
 
 use crate::Rows;
@@ -15,42 +16,94 @@ use std::alloc::Global;
 use std::rc::Rc;
 use tl_syntax::{Fact, NoMemory, Value, Values};
 
-/// The rows without that at place `cut`, and with the arguments of the first of the facts that is of this table and not among them: None where there is no such fact.
-fn moved_row(
-    alloc: Global,
-    rows: &Rows,
-    cut: usize,
-    pred: u32,
-    adds: &[Fact],
-) -> Result<Option<Rows>, NoMemory>
-    requires { cut < length rows.now }
-    ensures { IfOk result (λ found. IfSome found (IsMoved rows.now cut pred adds.now)) }
+/// That no guess is kept of an added fact's place.
+const NONE: usize = usize::MAX;
+
+/// The place of what stood at `at`, where the place `cut` is taken out.
+fn place_left(cut: usize, at: usize) -> usize {
+    if at <= cut { at } else { at - 1 }
+}
+
+/// The guess that is kept of the place of added fact `j` in its table.
+#[inline]
+fn guess_of(guesses: &[usize], j: usize) -> usize {
+    if j < guesses.len() { guesses[j] } else { NONE }
+}
+
+/// Keeps a guess of the place of added fact `j` in its table.
+#[inline]
+fn keep_guess(guesses: &mut [usize], j: usize, place: usize) {
+    if j < guesses.len() {
+        guesses[j] = place;
+    }
+}
+
+/// The last of the facts that is of the table and not among its rows, where no guess is kept of its place, and the place at which it would stand.
+#[inline(always)]
+fn coming(table: &Named<Rows>, adds: &[Fact], guesses: &[usize]) -> Option<(usize, usize)>
+    ensures { IfSome result (IsComing table.now.rows.value table.now.name adds.now) }
 {
-    for a in adds {
-        if a.pred == pred {
-            if let Err(at) = find_row(rows.runs(), a.args.as_slice()) {
-                let moved = rows.moved(alloc, cut, at, a.args.as_slice())?;
-                return Ok(Some(moved));
+    let mut j = adds.len();
+    while j > 0 {
+        j -= 1;
+        let a = &adds[j];
+        if a.pred == table.name && guess_of(guesses, j) == NONE {
+            if let Err(at) = find_row(table.rows.runs(), a.args.as_slice()) {
+                return Some((j, at));
             }
         }
     }
-    Ok(None)
+    None
 }
 
-/// The rows without that at place `cut`. A fact of this table that is to be added comes in with the same copy.
+/// The rows without that at place `cut`. A fact of this table that is to be added comes in with the same copy, and a guess is kept of its place.
+#[inline]
 fn rows_without(
     alloc: Global,
-    rows: &Rows,
+    table: &Named<Rows>,
     cut: usize,
-    pred: u32,
     adds: &[Fact],
+    guesses: &mut [usize],
 ) -> Result<Rows, NoMemory>
-    requires { cut < length rows.now }
-    ensures { IfOk result (IsTakenOut rows.now cut pred adds.now) }
+    requires { cut < length table.now.rows.value }
+    ensures { IfOk result (IsTakenOut table.now.rows.value cut table.now.name adds.now) }
 {
-    match moved_row(alloc, rows, cut, pred, adds)? {
-        Some(moved) => Ok(moved),
-        None => rows.without(alloc, cut),
+    match coming(table, adds, guesses) {
+        Some((j, at)) => {
+            keep_guess(guesses, j, place_left(cut, at));
+            table.rows.moved(alloc, cut, at, adds[j].args.as_slice())
+        }
+        None => table.rows.without(alloc, cut),
+    }
+}
+
+/// Takes the row at place `cut` out of the table, in place where no other world shares it. A fact of this table that is to be added comes in with the same step, and a guess is kept of its place.
+#[inline(never)]
+fn cut_row(
+    alloc: Global,
+    table: &mut Named<Rows>,
+    cut: usize,
+    adds: &[Fact],
+    guesses: &mut [usize],
+) -> Result<(), NoMemory>
+    requires { cut < length table.old.rows.value }
+    ensures name { table.new.name ≡ table.old.name }
+    ensures rows { OnOk result (IsTakenOut table.old.rows.value cut table.old.name adds.now table.new.rows.value) }
+{
+    let found = coming(table, adds, guesses);
+    match Rc::get_mut(&mut table.rows) {
+        Some(rows) => match found {
+            Some((j, at)) => {
+                keep_guess(guesses, j, place_left(cut, at));
+                rows.move_row(alloc, cut, at, adds[j].args.as_slice())
+            }
+            None => rows.cut_row(alloc, cut),
+        },
+        None => {
+            let rows = table.rows.without(alloc, cut)?;
+            table.rows = Rc::new(alloc, rows)?;
+            Ok(())
+        }
     }
 }
 
@@ -67,29 +120,32 @@ fn put_table(tables: &mut Vec<Named<Rows>>, i: usize, fresh: Named<Rows>)
 fn without(
     alloc: Global,
     tables: &mut Vec<Named<Rows>>,
-    pred: u32,
-    args: &[Value],
+    fact: &Fact,
     adds: &[Fact],
+    guesses: &mut [usize],
 ) -> Result<(), NoMemory>
     requires { InOrder (fact_tables tables.old.items) }
     ensures order { OnOk result (InOrder (fact_tables tables.new.items)) }
-    ensures facts { OnOk result (FactIsTakenOut adds.now (pred, args.now) tables.old.items tables.new.items) }
+    ensures facts { OnOk result (FactIsTakenOut adds.now (fact_key fact.now) tables.old.items tables.new.items) }
 {
-    match find_table(tables.as_slice(), pred) {
+    match find_table(tables.as_slice(), fact.pred) {
         Err(_) => Ok(()),
         Ok(i) => {
             let t = &tables[i];
-            match find_row(t.rows.runs(), args) {
+            match find_row(t.rows.runs(), fact.args.as_slice()) {
                 Err(_) => Ok(()),
                 Ok(k) => {
-                    let rows = rows_without(alloc, t.rows.as_ref(), k, pred, adds)?;
+                    if Rc::strong_count(&t.rows) == 1 && t.rows.len() > 1 {
+                        return cut_row(alloc, &mut tables[i], k, adds, guesses);
+                    }
+                    let rows = rows_without(alloc, t, k, adds, guesses)?;
                     if rows.is_empty() {
                         tables.remove(i);
                         return Ok(());
                     }
                     let shared = Rc::new(alloc, rows)?;
                     let fresh = Named {
-                        name: pred,
+                        name: fact.pred,
                         rows: shared,
                     };
                     put_table(tables, i, fresh);
@@ -100,12 +156,13 @@ fn without(
     }
 }
 
-/// Takes the facts out of the tables, from the last on. Those of `adds` may come in.
+/// Takes the facts out of the tables, from the last on. Those of `adds` may come in, and guesses are kept of their places.
 fn without_each(
     alloc: Global,
     tables: &mut Vec<Named<Rows>>,
     dels: &[Fact],
     adds: &[Fact],
+    guesses: &mut [usize],
 ) -> Result<(), NoMemory>
     requires { InOrder (fact_tables tables.old.items) }
     ensures order { OnOk result (InOrder (fact_tables tables.new.items)) }
@@ -115,19 +172,24 @@ fn without_each(
     while i > 0 {
         i -= 1;
         let d = &dels[i];
-        without(alloc, tables, d.pred, d.args.as_slice(), adds)?;
+        without(alloc, tables, d, adds, guesses)?;
     }
     Ok(())
 }
 
-/// The rows with one more at place `k`. They are copied where another world shares them.
-fn rows_with(alloc: Global, rows: Rc<Rows>, k: usize, row: &[Value]) -> Result<Rows, NoMemory>
-    requires { k ≤ length rows.value }
-    ensures { IfOk result (λ r. r ≡ insert rows.value k row.now) }
+/// Puts one more row at place `k` into the table. The rows are copied where another world shares them.
+fn put_row(alloc: Global, table: &mut Named<Rows>, k: usize, row: &[Value]) -> Result<(), NoMemory>
+    requires { k ≤ length table.old.rows.value }
+    ensures name { table.new.name ≡ table.old.name }
+    ensures rows { OnOk result (table.new.rows.value ≡ insert table.old.rows.value k row.now) }
 {
-    match Rc::try_unwrap(rows) {
-        Ok(own) => own.put(alloc, k, row),
-        Err(shared) => shared.with(alloc, k, row),
+    match Rc::get_mut(&mut table.rows) {
+        Some(rows) => rows.put_row(alloc, k, row),
+        None => {
+            let rows = table.rows.with(alloc, k, row)?;
+            table.rows = Rc::new(alloc, rows)?;
+            Ok(())
+        }
     }
 }
 
@@ -156,45 +218,40 @@ fn with_fact(
         }
         Ok(i) => {
             let t = &tables[i];
-            match t.rows.find(args.as_slice()) {
+            match find_row(t.rows.runs(), args.as_slice()) {
                 Ok(_) => Ok(()),
-                Err(k) => {
-                    let old = tables.remove(i);
-                    let rows = rows_with(alloc, old.rows, k, args.as_slice())?;
-                    let shared = Rc::new(alloc, rows)?;
-                    let fresh = Named {
-                        name: pred,
-                        rows: shared,
-                    };
-                    tables.insert(i, fresh)?;
-                    Ok(())
-                }
+                Err(k) => put_row(alloc, &mut tables[i], k, args.as_slice()),
             }
         }
     }
 }
 
-/// Whether the fact is of the row that came into its table last.
+/// Whether the fact is found at the place in its table that is guessed.
 #[inline(always)]
-fn is_fresh(tables: &[Named<Rows>], pred: u32, args: &[Value]) -> bool
+fn is_at(tables: &[Named<Rows>], fact: &Fact, guess: usize) -> bool
     requires { InOrder (fact_tables tables.now) }
-    ensures { result ≡ true → GainsFact (pred, args.now) tables.now tables.now }
+    ensures { result ≡ true → GainsFact (fact_key fact.now) tables.now tables.now }
 {
-    match find_table(tables, pred) {
+    if guess == NONE {
+        return false;
+    }
+    match find_table(tables, fact.pred) {
         Err(_) => false,
         Ok(i) => {
             let t = &tables[i];
-            match t.rows.fresh_place(args) {
-                Some(_) => true,
-                None => false,
-            }
+            t.rows.has_at(guess, fact.args.as_slice())
         }
     }
 }
 
-/// Puts the facts into the tables, from the last on.
+/// Puts the facts into the tables, from the last on. One is looked for first at the place that is guessed.
 #[inline(always)]
-fn with_each(alloc: Global, tables: &mut Vec<Named<Rows>>, adds: &[Fact]) -> Result<(), NoMemory>
+fn with_each(
+    alloc: Global,
+    tables: &mut Vec<Named<Rows>>,
+    adds: &[Fact],
+    guesses: &[usize],
+) -> Result<(), NoMemory>
     requires { InOrder (fact_tables tables.old.items) }
     ensures order { OnOk result (InOrder (fact_tables tables.new.items)) }
     ensures facts { OnOk result (GainsFacts adds.now tables.old.items tables.new.items) }
@@ -203,7 +260,7 @@ fn with_each(alloc: Global, tables: &mut Vec<Named<Rows>>, adds: &[Fact]) -> Res
     while j > 0 {
         j -= 1;
         let a = &adds[j];
-        if !is_fresh(tables.as_slice(), a.pred, a.args.as_slice()) {
+        if !is_at(tables.as_slice(), a, guess_of(guesses, j)) {
             with_fact(alloc, tables, a.pred, &a.args)?;
         }
     }
@@ -223,16 +280,21 @@ fn falling(alloc: Global, facts: &[Fact]) -> Result<Vec<Fact>, NoMemory>
 }
 
 /// Puts the facts into the tables. Many are sorted first, so that each comes after the rows that are there, where a table is new.
-fn with_facts(alloc: Global, tables: &mut Vec<Named<Rows>>, adds: &[Fact]) -> Result<(), NoMemory>
+fn with_facts(
+    alloc: Global,
+    tables: &mut Vec<Named<Rows>>,
+    adds: &[Fact],
+    guesses: &[usize],
+) -> Result<(), NoMemory>
     requires { InOrder (fact_tables tables.old.items) }
     ensures order { OnOk result (InOrder (fact_tables tables.new.items)) }
     ensures facts { OnOk result (GainsFacts adds.now tables.old.items tables.new.items) }
 {
     if adds.len() < 8 {
-        with_each(alloc, tables, adds)
+        with_each(alloc, tables, adds, guesses)
     } else {
         let sorted = falling(alloc, adds)?;
-        with_each(alloc, tables, sorted.as_slice())
+        with_each(alloc, tables, sorted.as_slice(), &[])
     }
 }
 
@@ -256,7 +318,8 @@ pub(crate) fn change_facts(
     ensures order { OnOk result (InOrder (fact_tables tables.new.items)) }
     ensures facts { OnOk result (AreChangedBy dels.now adds.now tables.old.items tables.new.items) }
 {
-    without_each(alloc, tables, dels, few(adds))?;
-    with_facts(alloc, tables, adds)?;
+    let mut guesses = [NONE; 8];
+    without_each(alloc, tables, dels, few(adds), &mut guesses)?;
+    with_facts(alloc, tables, adds, &guesses)?;
     keep_second_orders(alloc, tables)
 }

@@ -1,8 +1,8 @@
 // Rows one after another in one list.
 ghost use Rattle.std.specs.List.{insert, remove};
-ghost use Rattle.std.specs.Prelude.{◌≡◌, ◌<◌, ◌≤◌, ◌+◌, ◌-◌, ◌*◌, ◌^◌, ◌↔◌, List, [], ◌∷◌, ◌++◌, length, take, drop, slice_index_or, true, IfOk, OnOk};
+ghost use Rattle.std.specs.Prelude.{◌≡◌, ◌<◌, ◌≤◌, ◌+◌, ◌-◌, ◌*◌, ◌^◌, ◌↔◌, List, [], ◌∷◌, ◌++◌, length, take, drop, slice_index_or, true, IfOk, OnErr, OnOk};
 ghost use Rattle.tl_syntax.proofs.Telling.{tells-partial};
-ghost use Rattle.tl_world.specs.Cuts.{items_back, items_on, items_over, items_with};
+ghost use Rattle.tl_world.specs.Cuts.{items_back, items_on, items_over, items_without};
 ghost use Rattle.tl_world.specs.Moves.{place_after};
 ghost use Rattle.tl_world.specs.Runs.{between};
 ghost use Rattle.tl_world.specs.RowTests.{rows_eq, rows-tell};
@@ -41,6 +41,15 @@ fn part(values: &[Value], from: usize, to: usize) -> &[Value]
     &values[from..to]
 }
 
+/// So many values from a place on.
+#[inline]
+fn run(values: &[Value], from: usize, size: usize) -> &[Value]
+    requires { from + size ≤ length values.now }
+    ensures { result.now ≡ take size (drop from values.now) }
+{
+    &values[from..from + size]
+}
+
 /// The values from a place on.
 #[inline]
 fn values_from(values: &[Value], from: usize) -> &[Value]
@@ -77,23 +86,6 @@ fn whole_rows(values: usize, width: usize) -> usize
     if width == 1 { values } else { values / width }
 }
 
-/// The row's values, put before the others from a place on. A failure leaves any of them there.
-fn put_values(values: &mut Vec<Value>, at: usize, row: &[Value]) -> Result<(), NoMemory>
-    requires { at ≤ length values.old.items }
-    ensures { OnOk result (values.new.items ≡ items_with values.old.items at row.now) }
-{
-    if at == values.len() {
-        values.extend_from_slice(row)?;
-        return Ok(());
-    }
-    let mut j = row.len();
-    while j > 0 {
-        j -= 1;
-        values.insert(at, row[j])?;
-    }
-    Ok(())
-}
-
 /// Writes the row's values over others from a place on.
 #[inline]
 fn write_values(values: &mut Vec<Value>, at: usize, row: &[Value])
@@ -128,6 +120,17 @@ fn shift_on(values: &mut Vec<Value>, cut: usize, at: usize, row: &[Value])
     let size = row.len();
     values.copy_within(cut + size..at, cut);
     write_values(values, at - size, row);
+}
+
+/// Takes so many values out from a place on.
+#[inline]
+fn cut_values(values: &mut Vec<Value>, at: usize, size: usize)
+    requires { at + size ≤ length values.old.items }
+    ensures { values.new.items ≡ items_without values.old.items at size }
+{
+    let count = values.len();
+    values.copy_within(at + size..count, at);
+    values.truncate(count - size);
 }
 
 impl PartialEq for Flat {
@@ -195,7 +198,11 @@ impl Flat {
         requires { k < length self.now }
         ensures { result.now ≡ slice_index_or self.now k result.now }
     {
-        part(self.values.as_slice(), self.ends.begin(k), self.ends.end(k))
+        run(
+            self.values.as_slice(),
+            self.ends.begin(k),
+            self.ends.size(k),
+        )
     }
 
     /// How many rows from place `k` on are those of the other from place `l` on, by a comparison of each.
@@ -340,20 +347,64 @@ impl Flat {
         Ok(out)
     }
 
-    /// The rows with one more at place `k`, which is put into them where all have its length.
-    pub(crate) fn put(self, alloc: Global, k: usize, row: &[Value]) -> Result<Flat, NoMemory>
-        requires { k ≤ length self }
-        ensures { IfOk result (λ f. f ≡ insert self k row.now) }
+    /// Puts one more row at place `k`, in place where all rows have its length. After a failure the rows are those of before.
+    pub(crate) fn put_row(&mut self, alloc: Global, k: usize, row: &[Value]) -> Result<(), NoMemory>
+        requires { k ≤ length self.old }
+        ensures all { OnOk result (self.new ≡ insert self.old k row.now) }
+        ensures same { OnErr result (self.new ≡ self.old) }
     {
-        let mut ends = self.ends;
-        let mut values = self.values;
-        let start = ends.begin(k);
-        if !ends.put_even(k, row.len()) {
-            let rows = Flat { ends, values };
-            return rows.with(alloc, k, row);
+        let start = self.ends.begin(k);
+        let count = self.values.len();
+        self.values.extend_from_slice(row)?;
+        if self.ends.put_even(k, row.len()) {
+            shift_back(&mut self.values, start, count, row);
+            return Ok(());
         }
-        put_values(&mut values, start, row)?;
-        Ok(Flat { ends, values })
+        self.values.truncate(count);
+        *self = self.with(alloc, k, row)?;
+        Ok(())
+    }
+
+    /// Takes row `k` out, in place where all rows have one length. After a failure the rows are those of before.
+    pub(crate) fn cut_row(&mut self, alloc: Global, k: usize) -> Result<(), NoMemory>
+        requires { k < length self.old }
+        ensures all { OnOk result (self.new ≡ remove self.old k) }
+        ensures same { OnErr result (self.new ≡ self.old) }
+    {
+        let start = self.ends.begin(k);
+        if let Some(size) = self.ends.cut_even() {
+            cut_values(&mut self.values, start, size);
+            return Ok(());
+        }
+        *self = self.without(alloc, k)?;
+        Ok(())
+    }
+
+    /// Puts one more row at place `at` and takes that at place `cut` out, in place where all rows have its length. After a failure the rows are those of before.
+    pub(crate) fn move_row(
+        &mut self,
+        alloc: Global,
+        cut: usize,
+        at: usize,
+        row: &[Value],
+    ) -> Result<(), NoMemory>
+        requires cut { cut < length self.old }
+        requires at { at ≤ length self.old }
+        ensures all { OnOk result (self.new ≡ remove (insert self.old at row.now) (place_after at cut)) }
+        ensures same { OnErr result (self.new ≡ self.old) }
+    {
+        if !self.ends.have_width(row.len()) {
+            *self = self.moved(alloc, cut, at, row)?;
+            return Ok(());
+        }
+        let from = self.ends.begin(cut);
+        let to = self.ends.begin(at);
+        if at <= cut {
+            shift_back(&mut self.values, to, from, row);
+        } else {
+            shift_on(&mut self.values, from, to, row);
+        }
+        Ok(())
     }
 
     /// The rows without that at place `k`.

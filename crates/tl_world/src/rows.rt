@@ -2,16 +2,14 @@
 ghost use Rattle.std.specs.Hash as fed;
 ghost use Rattle.std.specs.Hash.{same_Alike};
 ghost use Rattle.std.specs.List.{insert, remove};
-ghost use Rattle.std.specs.List.Sorted.{IsBinarySearchResult, IsSearchInRange};
-ghost use Rattle.std.specs.Prelude.{◌≡◌, ◌<◌, ◌≤◌, ◌==◌, [], ◌∷◌, length, take, drop, slice_index_or, IfOk, IfSome};
+ghost use Rattle.std.specs.Prelude.{◌≡◌, ◌<◌, ◌≤◌, ◌==◌, [], ◌∷◌, length, take, drop, slice_index_or, true, IfOk, IfSome, OnOk};
 ghost use Rattle.tl_syntax.proofs.Telling.{tells-partial, tells-equivalence};
 ghost use Rattle.tl_world.specs.Codes.{row_code, rows_code, values_eq};
 ghost use Rattle.tl_world.specs.Moves.{place_after, HasRowAt};
 ghost use Rattle.tl_world.specs.RowTests.{rows_eq, rows-tell};
 ghost use Rattle.tl_world.specs.Second.{IsSecond};
-ghost use Rattle.tl_world.specs.Tables.{row_cmp};
 
-use crate::runs::{Runs, find_row};
+use crate::runs::Runs;
 use crate::same_row::is_same_row;
 use crate::second::Second;
 use std::alloc::Global;
@@ -21,13 +19,12 @@ use tl_syntax::{NoMemory, Value};
 
 /// The argument lists of one predicate's facts. Contracts see it as the list of its rows.
 ///
-/// The rows stand in runs, which tables share. A large table of rows with two values or more keeps them by their second value too. The place at which a row came in for another one is kept as a guess.
+/// The rows stand in runs, which tables share. A large table of rows with two values or more keeps them by their second value too.
 #[derive(Drop)]
 pub struct Rows {
     runs: Runs,
     second: Second,
     code: u64,
-    fresh: usize,
 }
 
 /// How many rows a table has at least that is given a second order.
@@ -54,11 +51,6 @@ pub(crate) fn code_of_row(row: &[Value]) -> u64
     let mut hasher = FoldHasher::default();
     row.hash(&mut hasher);
     hasher.finish()
-}
-
-/// The place of what stood at `at`, where the place `cut` is taken out.
-fn place_left(cut: usize, at: usize) -> usize {
-    if at <= cut { at } else { at - 1 }
 }
 
 impl Rows {
@@ -94,27 +86,12 @@ impl Rows {
         self.runs.same_rows(k, &other.runs, l)
     }
 
-    /// The place of the row with these arguments, where it is the one that came in last.
+    /// Whether the row at place `k` has these arguments. It takes no memory.
     #[inline(always)]
-    pub(crate) fn fresh_place(&self, args: &[Value]) -> Option<usize>
-        ensures { IfSome result (HasRowAt args.now self.now) }
+    pub(crate) fn has_at(&self, k: usize, args: &[Value]) -> bool
+        ensures { result ≡ true → HasRowAt args.now self.now k }
     {
-        let k = self.fresh;
-        if k < self.runs.len() && is_same_row(self.runs.row(k), args) {
-            return Some(k);
-        }
-        None
-    }
-
-    /// The place of the row with these arguments, or the place at which it would stand, by halves where the row that came in last is another one.
-    pub(crate) fn find(&self, args: &[Value]) -> Result<usize, usize>
-        ensures range { IsSearchInRange result (length self.now) }
-        ensures place { IsBinarySearchResult (λ r. row_cmp r args.now) self.now result }
-    {
-        match self.fresh_place(args) {
-            Some(k) => Ok(k),
-            None => find_row(&self.runs, args),
-        }
+        k < self.runs.len() && is_same_row(self.runs.row(k), args)
     }
 
     /// The code of the rows. It takes no memory.
@@ -151,7 +128,6 @@ impl Rows {
             runs: self.runs,
             second,
             code: self.code,
-            fresh: self.fresh,
         })
     }
 
@@ -163,7 +139,6 @@ impl Rows {
             runs: Runs::of_one(alloc, row)?,
             second: Second::none(),
             code: code_of_row(row),
-            fresh: 0,
         })
     }
 
@@ -176,21 +151,6 @@ impl Rows {
             runs: self.runs.with(alloc, k, row)?,
             second: self.second.with(alloc, row)?,
             code: self.code.wrapping_add(code_of_row(row)),
-            fresh: k,
-        })
-    }
-
-    /// The rows with one more at place `k`, which is put into them.
-    pub(crate) fn put(self, alloc: Global, k: usize, row: &[Value]) -> Result<Rows, NoMemory>
-        requires { k ≤ length self }
-        ensures { IfOk result (λ r. r ≡ insert self k row.now) }
-    {
-        let second = self.second.with(alloc, row)?;
-        Ok(Rows {
-            runs: self.runs.put(alloc, k, row)?,
-            second,
-            code: self.code.wrapping_add(code_of_row(row)),
-            fresh: k,
         })
     }
 
@@ -203,7 +163,6 @@ impl Rows {
             runs: self.runs.without(alloc, k)?,
             second: self.second.without(alloc, self.runs.row(k))?,
             code: self.code.wrapping_sub(code_of_row(self.runs.row(k))),
-            fresh: k,
         })
     }
 
@@ -220,13 +179,64 @@ impl Rows {
         requires at { at ≤ length self.now }
         ensures { IfOk result (λ r. r ≡ remove (insert self.now at row.now) (place_after at cut)) }
     {
+        let gone = self.runs.row(cut);
         let more = self.code.wrapping_add(code_of_row(row));
         Ok(Rows {
             runs: self.runs.moved(alloc, cut, at, row)?,
-            second: self.second.moved(alloc, self.runs.row(cut), row)?,
-            code: more.wrapping_sub(code_of_row(self.runs.row(cut))),
-            fresh: place_left(cut, at),
+            second: self.second.moved(alloc, gone, row)?,
+            code: more.wrapping_sub(code_of_row(gone)),
         })
+    }
+}
+
+impl Rows {
+    /// Puts one more row at place `k` into the table.
+    pub(crate) fn put_row(&mut self, alloc: Global, k: usize, row: &[Value]) -> Result<(), NoMemory>
+        requires { k ≤ length self.old }
+        ensures { OnOk result (self.new ≡ insert self.old k row.now) }
+    {
+        let more = self.code.wrapping_add(code_of_row(row));
+        let second = self.second.with(alloc, row)?;
+        self.runs.put_row(alloc, k, row)?;
+        self.second = second;
+        self.code = more;
+        Ok(())
+    }
+
+    /// Takes the row at place `k` out of the table.
+    pub(crate) fn cut_row(&mut self, alloc: Global, k: usize) -> Result<(), NoMemory>
+        requires { k < length self.old }
+        ensures { OnOk result (self.new ≡ remove self.old k) }
+    {
+        let gone = self.runs.row(k);
+        let code = self.code.wrapping_sub(code_of_row(gone));
+        let second = self.second.without(alloc, gone)?;
+        self.runs.cut_row(alloc, k)?;
+        self.second = second;
+        self.code = code;
+        Ok(())
+    }
+
+    /// Puts one more row at place `at` into the table, and takes that at place `cut` out.
+    pub(crate) fn move_row(
+        &mut self,
+        alloc: Global,
+        cut: usize,
+        at: usize,
+        row: &[Value],
+    ) -> Result<(), NoMemory>
+        requires cut { cut < length self.old }
+        requires at { at ≤ length self.old }
+        ensures { OnOk result (self.new ≡ remove (insert self.old at row.now) (place_after at cut)) }
+    {
+        let gone = self.runs.row(cut);
+        let more = self.code.wrapping_add(code_of_row(row));
+        let code = more.wrapping_sub(code_of_row(gone));
+        let second = self.second.moved(alloc, gone, row)?;
+        self.runs.move_row(alloc, cut, at, row)?;
+        self.second = second;
+        self.code = code;
+        Ok(())
     }
 }
 

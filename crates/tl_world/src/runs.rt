@@ -1,8 +1,9 @@
 // The rows of a table, in runs.
-ghost use Rattle.std.specs.List.{insert};
+ghost use Rattle.std.specs.List.{insert, remove};
 ghost use Rattle.std.specs.List.Sorted.{IsBinarySearchResult, IsSearchInRange};
-ghost use Rattle.std.specs.Prelude.{◌≡◌, ◌<◌, ◌≤◌, ◌+◌, ◌^◌, ◌↔◌, ◌++◌, [], ◌∷◌, length, take, drop, slice_index_or, true, IfOk, IfSome, OnOk};
+ghost use Rattle.std.specs.Prelude.{◌≡◌, ◌<◌, ◌≤◌, ◌+◌, ◌^◌, ◌↔◌, ◌++◌, [], ◌∷◌, length, take, drop, slice_index_or, true, IfOk, IfSome, OnErr, OnOk};
 ghost use Rattle.tl_syntax.proofs.Telling.{tells-partial};
+ghost use Rattle.tl_world.specs.Moves.{place_after};
 ghost use Rattle.tl_world.specs.RowTests.{rows_eq, rows-tell};
 ghost use Rattle.tl_world.specs.Runs.{between, GainsSomeUpTo, GainsUpTo, IsPart, IsPartFor};
 ghost use Rattle.tl_world.specs.Tables.{row_cmp};
@@ -323,18 +324,53 @@ impl Runs {
         Ok(out)
     }
 
-    /// The rows with one more at place `k`, which is put into them where it comes among the last rows and there is room.
-    pub(crate) fn put(self, alloc: Global, k: usize, row: &[Value]) -> Result<Runs, NoMemory>
-        requires { k ≤ length self }
-        ensures { IfOk result (λ r. r ≡ insert self k row.now) }
+    /// Puts one more row at place `k`, in place where it comes among the last rows and there is room. After a failure the rows are those of before.
+    pub(crate) fn put_row(&mut self, alloc: Global, k: usize, row: &[Value]) -> Result<(), NoMemory>
+        requires { k ≤ length self.old }
+        ensures all { OnOk result (self.new ≡ insert self.old k row.now) }
+        ensures same { OnErr result (self.new ≡ self.old) }
     {
         let full = self.shared.len();
         if k < full || self.last.len() >= MOST {
-            return self.with(alloc, k, row);
+            *self = self.with(alloc, k, row)?;
+            return Ok(());
         }
-        let shared = self.shared;
-        let last = self.last.put(alloc, k - full, row)?;
-        Ok(Runs { shared, last })
+        self.last.put_row(alloc, k - full, row)
+    }
+
+    /// Takes row `k` out, in place where it is among the last rows. After a failure the rows are those of before.
+    pub(crate) fn cut_row(&mut self, alloc: Global, k: usize) -> Result<(), NoMemory>
+        requires { k < length self.old }
+        ensures all { OnOk result (self.new ≡ remove self.old k) }
+        ensures same { OnErr result (self.new ≡ self.old) }
+    {
+        let full = self.shared.len();
+        if k < full {
+            *self = self.without(alloc, k)?;
+            return Ok(());
+        }
+        self.last.cut_row(alloc, k - full)
+    }
+
+    /// Puts one more row at place `at` and takes that at place `cut` out, in place where the rows are not cut into runs. After a failure the rows are those of before.
+    pub(crate) fn move_row(
+        &mut self,
+        alloc: Global,
+        cut: usize,
+        at: usize,
+        row: &[Value],
+    ) -> Result<(), NoMemory>
+        requires cut { cut < length self.old }
+        requires at { at ≤ length self.old }
+        ensures all { OnOk result (self.new ≡ remove (insert self.old at row.now) (place_after at cut)) }
+        ensures same { OnErr result (self.new ≡ self.old) }
+    {
+        let full = self.shared.len();
+        if cut < full || at < full {
+            *self = self.moved(alloc, cut, at, row)?;
+            return Ok(());
+        }
+        self.last.move_row(alloc, cut - full, at - full, row)
     }
 
     /// Whether the rows stand in the table from the place on, by a comparison of each row.

@@ -1,18 +1,12 @@
-use Rattle.std.proofs.Common.{map, ap, ◌∙◌, Ok, Err}
-use Rattle.std.specs.Prelude.{OnOk}
+use Rattle.std.proofs.Common.{map, ap, ◌∙◌}
 use Rattle.std.specs.Ordering.{eq_by_cmp}
 use Rattle.tl_syntax.specs.Keys.{key_cmp, fact_key}
 use Rattle.tl_terms.specs.Step.{without_all}
 use Rattle.tl_world.specs.Moves.{AreSameBeside}
 use Rattle.tl_world.specs.Tables.{fact_tables, set_of}
 use Rattle.tl_world.proofs.Beside.{with-beside}
-use Rattle.std.specs.declared.result.Result.{Result}
+use Rattle.tl_world.proofs.Going.{on-ok}
 use Rattle.tl_world.proofs.facts.change_facts.Goals as goal
-
--- what follows where a call went well
-on-ok : {A E P Q : Type 0} (r : Result A E) → (P → Q) → OnOk r P → OnOk r Q
-on-ok (Ok x) f h = f h
-on-ok (Err e) f h = h
 
 pub returns-clause-facts : goal.returns-clause-facts
 returns-clause-facts c =

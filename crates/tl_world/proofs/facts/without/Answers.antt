@@ -1,5 +1,6 @@
-use Rattle.std.proofs.Common.{◌≡◌, ℕ, ◌<◌, inl, inr, Bool, true, false, eqb, eqb-true, true≢false, List, [], ◌∷◌, map, length, sym, ap, ◌∙◌, subst, refl, arith, Equal}
+use Rattle.std.proofs.Common.{◌≡◌, ◌<◌, ℕ, Bool, true, false, eqb, eqb-true, true≢false, List, [], ◌∷◌, map, length, inl, inr, sym, ap, ◌∙◌, subst, refl, arith, Equal}
 use Rattle.std.specs.List.{remove, insert, HoldsAt}
+use Rattle.std.proofs.lemmas.List.{get_or_default}
 use Rattle.std.specs.FinMap as dict
 use Rattle.std.specs.FinSet as set
 use Rattle.tl_syntax.specs.declared.value.Value.{Value}
@@ -9,8 +10,9 @@ use Rattle.tl_world.specs.Tables.{row_cmp, InOrder, fact_row, fact_table, fact_t
 use Rattle.tl_world.specs.Plain.{HasItem}
 use Rattle.tl_world.proofs.Change as change
 use Rattle.tl_world.proofs.Lookup.{at-table, no-table}
-use Rattle.tl_world.specs.Moves.{IsTakenOut, IsMoved, AreSameBeside}
-use Rattle.tl_world.proofs.Beside.{same-beside, not-emptied, order-moved, facts-moved}
+use Rattle.tl_world.specs.Moves.{IsTakenOut, AreSameBeside}
+use Rattle.tl_world.proofs.Beside.{same-beside, not-emptied, order-out, facts-out, set-edit, still-filled}
+use Rattle.tl_world.proofs.Going.{on-ok}
 use Rattle.tl_world.proofs.Step.{set-taken, set-absent}
 use Rattle.tl_world.proofs.facts.without.Goals as goal
 
@@ -22,81 +24,149 @@ filled : (xs : List (List Value)) (b : Bool) → b ≡ false → b ≡ eqb (leng
 filled [] b t z = absurd (true≢false (sym z ∙ t))
 filled (x ∷ xs) b t z = tt
 
-pub rows_without-requires : goal.rows_without-requires
-rows_without-requires c =
-    let found = change.found-at fact_row _ c.args.tables.now.items c.args.pred c.in-Ok.i c.index-t.result.now c.as_slice.ensures.value c.requires c.in-Ok.ensures.range c.in-Ok.ensures.place c.index-t.ensures in
+pub cut_row-requires : goal.cut_row-requires
+cut_row-requires c =
+    let ts = c.args.tables.now.items in
+    let n = c.args.fact.now.pred in
+    let a = c.args.fact.now.args in
+    let old = c.index-t.result.now in
+    let found = change.found-at fact_row _ ts n c.in-Ok.i old c.as_slice.ensures.value c.requires c.in-Ok.ensures.range c.in-Ok.ensures.place c.index-t.ensures in
     let same = c.runs.ensures ∙ c.deref.ensures in
-    subst (λ xs. c.in-Ok-find_row.k < length xs) (same ∙ sym c.as_ref.ensures) c.in-Ok-find_row.ensures.range
+    let here : c.index_mut.result.now ≡ old = c.index_mut.ensures.value ∙ (get_or_default ts c.in-Ok.i c.index_mut.result.now old found.below ∙ sym found.is) in
+    subst (λ xs. c.in-Ok-find_row.k < length xs) (same ∙ ap (λ (u : Named (List (List Value))). u.rows.value) (sym here)) c.in-Ok-find_row.ensures.range
+
+pub rows_without-requires : goal.rows_without-requires
+rows_without-requires c = subst (λ xs. c.in-Ok-find_row.k < length xs) (c.runs.ensures ∙ c.deref.ensures) c.in-Ok-find_row.ensures.range
+
+pub returns-then-len-gt1-clause-order : goal.returns-then-len-gt1-clause-order
+returns-then-len-gt1-clause-order c =
+    let ts = c.args.tables.now.items in
+    let n = c.args.fact.now.pred in
+    let a = c.args.fact.now.args in
+    let old = c.index-t.result.now in
+    let found = change.found-at fact_row _ ts n c.in-Ok.i old c.as_slice.ensures.value c.requires c.in-Ok.ensures.range c.in-Ok.ensures.place c.index-t.ensures in
+    let same = c.runs.ensures ∙ c.deref.ensures in
+    let k = c.in-Ok-find_row.k in
+    let below : k < length old.rows.value = subst (λ xs. k < length xs) same c.in-Ok-find_row.ensures.range in
+    let tied : HoldsAt (λ (r : List Value). row_cmp r a ≡ Equal) old.rows.value k = subst (λ xs. HoldsAt (λ (r : List Value). row_cmp r a ≡ Equal) xs k) same (subst (λ xs. HoldsAt (λ (r : List Value). row_cmp r xs ≡ Equal) c.runs.result.now k) c.as_slice-in-Ok.ensures c.in-Ok-find_row.ensures.place) in
+    let fresh = c.cut_row.new.table in
+    let here : c.index_mut.result.now ≡ old = c.index_mut.ensures.value ∙ (get_or_default ts c.in-Ok.i c.index_mut.result.now old found.below ∙ sym found.is) in
+    let named = change.name-is fact_row _ _ _ _ found in
+    let name : fresh.name ≡ n = c.cut_row.ensures.name ∙ (ap (λ (u : Named (List (List Value))). u.name) here ∙ named) in
+    let two : 1 < length old.rows.value = omega (arith, c.if-len-gt1.true, c.len.ensures, ap length c.deref-then-strong_count-eq1.ensures) in
+    on-ok c.cut_row.result (λ e.
+    let taken = subst (λ m. IsTakenOut old.rows.value k m c.args.adds.now fresh.rows.value) named (subst (λ (u : Named (List (List Value))). IsTakenOut u.rows.value k u.name c.args.adds.now fresh.rows.value) here e) in
+    let full = still-filled old.rows.value fresh.rows.value k n c.args.adds.now taken below two in
+    subst (λ us. InOrder (fact_tables us)) (sym (set-edit ts c.in-Ok.i fresh found.below)) (order-out ts n c.in-Ok.i old fresh c.args.adds.now k a found name taken below tied full)) c.cut_row.ensures.rows
+
+pub returns-then-len-gt1-clause-facts : goal.returns-then-len-gt1-clause-facts
+returns-then-len-gt1-clause-facts c =
+    let ts = c.args.tables.now.items in
+    let n = c.args.fact.now.pred in
+    let a = c.args.fact.now.args in
+    let old = c.index-t.result.now in
+    let found = change.found-at fact_row _ ts n c.in-Ok.i old c.as_slice.ensures.value c.requires c.in-Ok.ensures.range c.in-Ok.ensures.place c.index-t.ensures in
+    let same = c.runs.ensures ∙ c.deref.ensures in
+    let k = c.in-Ok-find_row.k in
+    let below : k < length old.rows.value = subst (λ xs. k < length xs) same c.in-Ok-find_row.ensures.range in
+    let tied : HoldsAt (λ (r : List Value). row_cmp r a ≡ Equal) old.rows.value k = subst (λ xs. HoldsAt (λ (r : List Value). row_cmp r a ≡ Equal) xs k) same (subst (λ xs. HoldsAt (λ (r : List Value). row_cmp r xs ≡ Equal) c.runs.result.now k) c.as_slice-in-Ok.ensures c.in-Ok-find_row.ensures.place) in
+    let fresh = c.cut_row.new.table in
+    let here : c.index_mut.result.now ≡ old = c.index_mut.ensures.value ∙ (get_or_default ts c.in-Ok.i c.index_mut.result.now old found.below ∙ sym found.is) in
+    let named = change.name-is fact_row _ _ _ _ found in
+    let name : fresh.name ≡ n = c.cut_row.ensures.name ∙ (ap (λ (u : Named (List (List Value))). u.name) here ∙ named) in
+    let two : 1 < length old.rows.value = omega (arith, c.if-len-gt1.true, c.len.ensures, ap length c.deref-then-strong_count-eq1.ensures) in
+    on-ok c.cut_row.result (λ e.
+    let taken = subst (λ m. IsTakenOut old.rows.value k m c.args.adds.now fresh.rows.value) named (subst (λ (u : Named (List (List Value))). IsTakenOut u.rows.value k u.name c.args.adds.now fresh.rows.value) here e) in
+    let full = still-filled old.rows.value fresh.rows.value k n c.args.adds.now taken below two in
+    subst (λ us. AreSameBeside c.args.adds.now (set_of (fact_tables us)) (set.remove (set_of (fact_tables ts)) (n, a))) (sym (set-edit ts c.in-Ok.i fresh found.below)) (facts-out ts n c.in-Ok.i old fresh c.args.adds.now k a found name taken below tied full)) c.cut_row.ensures.rows
 
 pub returns-then-is_empty-clause-order : goal.returns-then-is_empty-clause-order
 returns-then-is_empty-clause-order c =
-    let found = change.found-at fact_row _ c.args.tables.now.items c.args.pred c.in-Ok.i c.index-t.result.now c.as_slice.ensures.value c.requires c.in-Ok.ensures.range c.in-Ok.ensures.place c.index-t.ensures in
-    subst (λ ts. InOrder (fact_tables ts)) (sym c.remove.ensures.items) (change.order-emptied fact_row _ _ _ _ found)
+    let ts = c.args.tables.now.items in
+    let n = c.args.fact.now.pred in
+    let a = c.args.fact.now.args in
+    let old = c.index-t.result.now in
+    let found = change.found-at fact_row _ ts n c.in-Ok.i old c.as_slice.ensures.value c.requires c.in-Ok.ensures.range c.in-Ok.ensures.place c.index-t.ensures in
+    let same = c.runs.ensures ∙ c.deref.ensures in
+    subst (λ us. InOrder (fact_tables us)) (sym c.remove.ensures.items) (change.order-emptied fact_row _ _ _ _ found)
 
 pub returns-then-is_empty-clause-facts : goal.returns-then-is_empty-clause-facts
 returns-then-is_empty-clause-facts c =
-    let found = change.found-at fact_row _ c.args.tables.now.items c.args.pred c.in-Ok.i c.index-t.result.now c.as_slice.ensures.value c.requires c.in-Ok.ensures.range c.in-Ok.ensures.place c.index-t.ensures in
+    let ts = c.args.tables.now.items in
+    let n = c.args.fact.now.pred in
+    let a = c.args.fact.now.args in
+    let old = c.index-t.result.now in
+    let found = change.found-at fact_row _ ts n c.in-Ok.i old c.as_slice.ensures.value c.requires c.in-Ok.ensures.range c.in-Ok.ensures.place c.index-t.ensures in
     let same = c.runs.ensures ∙ c.deref.ensures in
     let k = c.in-Ok-find_row.k in
-    let taken : IsTakenOut c.index-t.result.now.rows.value k c.args.pred c.args.adds.now c.in_ok-rows-in-Ok-find_row.rows = subst (λ xs. IsTakenOut xs k c.args.pred c.args.adds.now c.in_ok-rows-in-Ok-find_row.rows) c.as_ref.ensures c.in_ok-rows-in-Ok-find_row.ensures in
-    let below : k < length c.index-t.result.now.rows.value = subst (λ xs. k < length xs) same c.in-Ok-find_row.ensures.range in
-    elim taken [
-      | inl rows ↦ same-beside c.args.adds.now _ _ (
-          let none = emptied c.index-t.result.now.rows.value c.in_ok-rows-in-Ok-find_row.rows k _ c.is_empty.result rows c.if-is_empty.true c.is_empty.ensures (change.row-taken fact_row _ _ _ _ found c.args.args.now k _ same c.in-Ok-find_row.ensures.range c.in-Ok-find_row.ensures.place) in
-          set-taken (fact_tables c.args.tables.now.items) (fact_tables c.remove.new.self.items) (c.args.pred, c.args.args.now)
-          (λ q. ap (λ ts. dict.find key_cmp q (entries_of (fact_tables ts))) c.remove.ensures.items ∙ change.find-emptied-out fact_row _ _ _ _ found c.args.args.now none q)
+    let below : k < length old.rows.value = subst (λ xs. k < length xs) same c.in-Ok-find_row.ensures.range in
+    let tied : HoldsAt (λ (r : List Value). row_cmp r a ≡ Equal) old.rows.value k = subst (λ xs. HoldsAt (λ (r : List Value). row_cmp r a ≡ Equal) xs k) same (subst (λ xs. HoldsAt (λ (r : List Value). row_cmp r xs ≡ Equal) c.runs.result.now k) c.as_slice-in-Ok.ensures c.in-Ok-find_row.ensures.place) in
+    let adds = c.args.adds.now in
+    let after = c.in_ok-rows-in-Ok-find_row.rows in
+    elim c.in_ok-rows-in-Ok-find_row.ensures [
+      | inl rows ↦ same-beside adds _ _ (
+          let none = emptied old.rows.value after k _ c.is_empty.result rows c.if-is_empty.true c.is_empty.ensures (change.row-taken fact_row _ _ _ _ found a k _ refl below tied) in
+          set-taken (fact_tables ts) (fact_tables c.remove.new.self.items) (n, a)
+          (λ q. ap (λ us. dict.find key_cmp q (entries_of (fact_tables us))) c.remove.ensures.items ∙ change.find-emptied-out fact_row _ _ _ _ found a none q)
           )
-      | inr m ↦ absurd (not-emptied c.index-t.result.now.rows.value c.in_ok-rows-in-Ok-find_row.rows k c.args.pred c.args.adds.now c.is_empty.result m below c.if-is_empty.true c.is_empty.ensures)
+      | inr m ↦ absurd (not-emptied old.rows.value after k old.name adds c.is_empty.result m below c.if-is_empty.true c.is_empty.ensures)
     ]
 
 pub returns-in-Err-clause-facts : goal.returns-in-Err-clause-facts
-returns-in-Err-clause-facts c = same-beside c.args.adds.now _ _ (
-    set-absent (fact_tables c.args.tables.now.items) (c.args.pred, c.args.args.now)
-    (no-table fact_table c.args.tables.now.items c.args.pred c.args.args.now c.in-Err.field-0 c.requires (rw c.as_slice.ensures.value at c.in-Err.ensures.place))
-    )
+returns-in-Err-clause-facts c =
+    let ts = c.args.tables.now.items in
+    let n = c.args.fact.now.pred in
+    let a = c.args.fact.now.args in
+    same-beside c.args.adds.now _ _ (set-absent (fact_tables ts) (n, a) (no-table fact_table ts n a c.in-Err.field-0 c.requires (rw c.as_slice.ensures.value at c.in-Err.ensures.place)))
 
 pub returns-in-Err-find_row-clause-facts : goal.returns-in-Err-find_row-clause-facts
 returns-in-Err-find_row-clause-facts c =
-    let found = change.found-at fact_row _ c.args.tables.now.items c.args.pred c.in-Ok.i c.index-t.result.now c.as_slice.ensures.value c.requires c.in-Ok.ensures.range c.in-Ok.ensures.place c.index-t.ensures in
+    let ts = c.args.tables.now.items in
+    let n = c.args.fact.now.pred in
+    let a = c.args.fact.now.args in
+    let old = c.index-t.result.now in
+    let found = change.found-at fact_row _ ts n c.in-Ok.i old c.as_slice.ensures.value c.requires c.in-Ok.ensures.range c.in-Ok.ensures.place c.index-t.ensures in
     let same = c.runs.ensures ∙ c.deref.ensures in
     same-beside c.args.adds.now _ _ (
-    set-absent (fact_tables c.args.tables.now.items) (c.args.pred, c.args.args.now)
-    (at-table fact_table c.args.tables.now.items c.args.pred c.args.args.now c.in-Ok.i c.index-t.result.now c.requires found.below found.tie
-    ∙ change.row-absent fact_row _ _ _ _ found c.args.args.now c.in-Err-find_row.field-0 _ same c.in-Err-find_row.ensures.place)
+    set-absent (fact_tables ts) (n, a)
+    (at-table fact_table ts n a c.in-Ok.i old c.requires found.below found.tie
+    ∙ change.row-absent fact_row _ _ _ _ found a c.in-Err-find_row.field-0 _ same (rw c.as_slice-in-Ok.ensures at c.in-Err-find_row.ensures.place))
     )
 
 pub returns-in_ok-shared-in-Ok-find_row-clause-order : goal.returns-in_ok-shared-in-Ok-find_row-clause-order
 returns-in_ok-shared-in-Ok-find_row-clause-order c =
-    let found = change.found-at fact_row _ c.args.tables.now.items c.args.pred c.in-Ok.i c.index-t.result.now c.as_slice.ensures.value c.requires c.in-Ok.ensures.range c.in-Ok.ensures.place c.index-t.ensures in
+    let ts = c.args.tables.now.items in
+    let n = c.args.fact.now.pred in
+    let a = c.args.fact.now.args in
+    let old = c.index-t.result.now in
+    let found = change.found-at fact_row _ ts n c.in-Ok.i old c.as_slice.ensures.value c.requires c.in-Ok.ensures.range c.in-Ok.ensures.place c.index-t.ensures in
     let same = c.runs.ensures ∙ c.deref.ensures in
     let k = c.in-Ok-find_row.k in
-    let taken : IsTakenOut c.index-t.result.now.rows.value k c.args.pred c.args.adds.now c.in_ok-rows-in-Ok-find_row.rows = subst (λ xs. IsTakenOut xs k c.args.pred c.args.adds.now c.in_ok-rows-in-Ok-find_row.rows) c.as_ref.ensures c.in_ok-rows-in-Ok-find_row.ensures in
-    let below : k < length c.index-t.result.now.rows.value = subst (λ xs. k < length xs) same c.in-Ok-find_row.ensures.range in
-    let fresh : Named (List (List Value)) = record { name = c.args.pred; rows = c.in_ok-shared-in-Ok-find_row.shared } in
+    let below : k < length old.rows.value = subst (λ xs. k < length xs) same c.in-Ok-find_row.ensures.range in
+    let tied : HoldsAt (λ (r : List Value). row_cmp r a ≡ Equal) old.rows.value k = subst (λ xs. HoldsAt (λ (r : List Value). row_cmp r a ≡ Equal) xs k) same (subst (λ xs. HoldsAt (λ (r : List Value). row_cmp r xs ≡ Equal) c.runs.result.now k) c.as_slice-in-Ok.ensures c.in-Ok-find_row.ensures.place) in
+    let adds = c.args.adds.now in
+    let rows = c.in_ok-rows-in-Ok-find_row.rows in
+    let fresh : Named (List (List Value)) = record { name = n; rows = c.in_ok-shared-in-Ok-find_row.shared } in
     let held = c.in_ok-shared-in-Ok-find_row.ensures.ok in
-    let full = subst (λ xs. HasItem (map fact_row xs)) (sym held) (filled c.in_ok-rows-in-Ok-find_row.rows c.is_empty.result c.if-is_empty.false c.is_empty.ensures) in
-    subst (λ ts. InOrder (fact_tables ts)) (sym c.put_table.ensures) (elim taken [
-      | inl rows ↦ change.order-taken fact_row _ _ _ _ found fresh refl c.args.args.now (ap (map fact_row) (held ∙ rows) ∙ change.row-taken fact_row _ _ _ _ found c.args.args.now k _ same c.in-Ok-find_row.ensures.range c.in-Ok-find_row.ensures.place) full
-      | inr m ↦ order-moved c.args.tables.now.items c.args.pred c.in-Ok.i c.index-t.result.now fresh c.args.adds.now k c.args.args.now found refl (subst (IsMoved c.index-t.result.now.rows.value k c.args.pred c.args.adds.now) (sym held) m) below
-          (subst (λ xs. HoldsAt (λ (r : List Value). row_cmp r c.args.args.now ≡ Equal) xs k) same c.in-Ok-find_row.ensures.place) full
-    ])
+    let full = subst (λ xs. HasItem (map fact_row xs)) (sym held) (filled rows c.is_empty.result c.if-is_empty.false c.is_empty.ensures) in
+    let taken = subst (λ m. IsTakenOut old.rows.value k m adds fresh.rows.value) (change.name-is fact_row _ _ _ _ found) (subst (IsTakenOut old.rows.value k old.name adds) (sym held) c.in_ok-rows-in-Ok-find_row.ensures) in
+    subst (λ us. InOrder (fact_tables us)) (sym c.put_table.ensures) (order-out ts n c.in-Ok.i old fresh adds k a found refl taken below tied full)
 
 pub returns-in_ok-shared-in-Ok-find_row-clause-facts : goal.returns-in_ok-shared-in-Ok-find_row-clause-facts
 returns-in_ok-shared-in-Ok-find_row-clause-facts c =
-    let found = change.found-at fact_row _ c.args.tables.now.items c.args.pred c.in-Ok.i c.index-t.result.now c.as_slice.ensures.value c.requires c.in-Ok.ensures.range c.in-Ok.ensures.place c.index-t.ensures in
+    let ts = c.args.tables.now.items in
+    let n = c.args.fact.now.pred in
+    let a = c.args.fact.now.args in
+    let old = c.index-t.result.now in
+    let found = change.found-at fact_row _ ts n c.in-Ok.i old c.as_slice.ensures.value c.requires c.in-Ok.ensures.range c.in-Ok.ensures.place c.index-t.ensures in
     let same = c.runs.ensures ∙ c.deref.ensures in
     let k = c.in-Ok-find_row.k in
-    let taken : IsTakenOut c.index-t.result.now.rows.value k c.args.pred c.args.adds.now c.in_ok-rows-in-Ok-find_row.rows = subst (λ xs. IsTakenOut xs k c.args.pred c.args.adds.now c.in_ok-rows-in-Ok-find_row.rows) c.as_ref.ensures c.in_ok-rows-in-Ok-find_row.ensures in
-    let below : k < length c.index-t.result.now.rows.value = subst (λ xs. k < length xs) same c.in-Ok-find_row.ensures.range in
-    let fresh : Named (List (List Value)) = record { name = c.args.pred; rows = c.in_ok-shared-in-Ok-find_row.shared } in
+    let below : k < length old.rows.value = subst (λ xs. k < length xs) same c.in-Ok-find_row.ensures.range in
+    let tied : HoldsAt (λ (r : List Value). row_cmp r a ≡ Equal) old.rows.value k = subst (λ xs. HoldsAt (λ (r : List Value). row_cmp r a ≡ Equal) xs k) same (subst (λ xs. HoldsAt (λ (r : List Value). row_cmp r xs ≡ Equal) c.runs.result.now k) c.as_slice-in-Ok.ensures c.in-Ok-find_row.ensures.place) in
+    let adds = c.args.adds.now in
+    let rows = c.in_ok-rows-in-Ok-find_row.rows in
+    let fresh : Named (List (List Value)) = record { name = n; rows = c.in_ok-shared-in-Ok-find_row.shared } in
     let held = c.in_ok-shared-in-Ok-find_row.ensures.ok in
-    let full = subst (λ xs. HasItem (map fact_row xs)) (sym held) (filled c.in_ok-rows-in-Ok-find_row.rows c.is_empty.result c.if-is_empty.false c.is_empty.ensures) in
-    let now = c.put_table.ensures in
-    subst (λ ts. AreSameBeside c.args.adds.now (set_of (fact_tables ts)) (set.remove (set_of (fact_tables c.args.tables.now.items)) (c.args.pred, c.args.args.now))) (sym now) (elim taken [
-      | inl rows ↦ same-beside c.args.adds.now _ _ (
-          set-taken (fact_tables c.args.tables.now.items) (fact_tables (insert (remove c.args.tables.now.items c.in-Ok.i) c.in-Ok.i fresh)) (c.args.pred, c.args.args.now)
-          (λ q. change.find-taken-out fact_row _ _ _ _ found fresh refl c.args.args.now (ap (map fact_row) (held ∙ rows) ∙ change.row-taken fact_row _ _ _ _ found c.args.args.now k _ same c.in-Ok-find_row.ensures.range c.in-Ok-find_row.ensures.place) q)
-          )
-      | inr m ↦ facts-moved c.args.tables.now.items c.args.pred c.in-Ok.i c.index-t.result.now fresh c.args.adds.now k c.args.args.now found refl (subst (IsMoved c.index-t.result.now.rows.value k c.args.pred c.args.adds.now) (sym held) m) below
-          (subst (λ xs. HoldsAt (λ (r : List Value). row_cmp r c.args.args.now ≡ Equal) xs k) same c.in-Ok-find_row.ensures.place) full
-    ])
+    let full = subst (λ xs. HasItem (map fact_row xs)) (sym held) (filled rows c.is_empty.result c.if-is_empty.false c.is_empty.ensures) in
+    let taken = subst (λ m. IsTakenOut old.rows.value k m adds fresh.rows.value) (change.name-is fact_row _ _ _ _ found) (subst (IsTakenOut old.rows.value k old.name adds) (sym held) c.in_ok-rows-in-Ok-find_row.ensures) in
+    subst (λ us. AreSameBeside adds (set_of (fact_tables us)) (set.remove (set_of (fact_tables ts)) (n, a))) (sym c.put_table.ensures) (facts-out ts n c.in-Ok.i old fresh adds k a found refl taken below tied full)

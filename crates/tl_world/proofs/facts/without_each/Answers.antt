@@ -16,7 +16,7 @@ loop-i-preserved c =
     let new = set_of (fact_tables c.without.new.tables.items) in
     let first = set_of (fact_tables c.args.tables.now.items) in
     let cut : drop (c.loop-i.i - 1) dels ≡ d ∷ drop c.loop-i.i dels = one-before dels c.loop-i.i d (omega arith) c.loop-i.invariant.within (search rules) in
-    let taken : AreSameBeside adds new (set.remove old (d.pred, d.args)) = subst (λ xs. AreSameBeside adds new (set.remove old (d.pred, xs))) c.as_slice.ensures c.in_ok-without.ensures.facts in
+    let taken : AreSameBeside adds new (set.remove old (d.pred, d.args)) = c.in_ok-without.ensures.facts in
     let before = removed-beside adds old (without_all first (map fact_key (drop c.loop-i.i dels))) (d.pred, d.args) c.loop-i.invariant.now in
     record {
       within = omega arith;
