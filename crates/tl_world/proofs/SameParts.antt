@@ -1,6 +1,6 @@
 -- When rows in runs are the same.
 use Rattle.std.proofs.Common.{◌≡◌, ℕ, suc, ◌+◌, ◌-◌, ◌<◌, ◌≤◌, Bool, ◌&&◌, true, false, true≢false, List, [], ◌∷◌, ◌++◌, length, get_or, take, drop, drop-cons, drop-drop, refl, sym, ap, ◌∙◌, arith}
-use Rattle.std.proofs.lemmas.List.{take_all, take-append-drop, take-take, take_more, length-drop, length-take, drop-take, get_or-take}
+use Rattle.std.proofs.lemmas.List.{take_all, take-take, take_more, length-drop, length-take, drop-take}
 use Rattle.std.proofs.Math.Seq.{take-append_seam}
 use Rattle.tl_syntax.specs.declared.value.Value.{Value}
 use Rattle.tl_syntax.specs.DerivedTests.{value_eq}

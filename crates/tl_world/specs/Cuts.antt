@@ -52,10 +52,6 @@ ends_with es k w = take k es ++ grown w (begin 0 es k ∷ drop k es)
 abbrev pub ends_joined : List ℕ → List ℕ → ℕ → ℕ → List ℕ
 ends_joined es others from to = es ++ moved (begin 0 others from) (end_of es) (take (to - from) (drop from others))
 
--- the items with others before those from a place on
-abbrev pub items_with : {X : Type 0} → List X → ℕ → List X → List X
-items_with xs at ys = take at xs ++ (ys ++ drop at xs)
-
 -- the items with others in place of as many from a place on
 abbrev pub items_over : {X : Type 0} → List X → ℕ → List X → List X
 items_over xs at ys = take at xs ++ (ys ++ drop (at + length ys) xs)

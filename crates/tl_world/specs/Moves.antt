@@ -17,6 +17,10 @@ use Rattle.tl_world.specs.Plain.{row_cmp}
 abbrev pub place_after : ℕ → ℕ → ℕ
 place_after at cut = cond (leb at cut) (cut + 1) cut
 
+-- the rows with one more at place `at`, and without that at place `cut`
+abbrev pub row_moved : {X : Type 0} → List X → ℕ → ℕ → X → List X
+row_moved xs cut at x = remove (insert xs at x) (place_after at cut)
+
 -- the row at place k has these arguments
 abbrev pub HasRowAt : List Value → List (List Value) → ℕ → Type 0
 HasRowAt args rows k = (k < length rows) × HoldsAt (λ (r : List Value). row_cmp r args ≡ Equal) rows k
@@ -36,7 +40,7 @@ pub record IsMoved (rows : List (List Value)) (cut n : ℕ) (facts : List Fact) 
   pub of_table : fact.pred ≡ n
   pub within : at ≤ length rows
   pub absent : IsBinarySearchResult (λ (r : List Value). row_cmp r fact.args) rows (Err at)
-  pub is : after ≡ remove (insert rows at fact.args) (place_after at cut)
+  pub is : after ≡ row_moved rows cut at fact.args
 
 -- the rows without that at place `cut`, where nothing else is said of those of the facts
 abbrev pub IsTakenOut : List (List Value) → ℕ → ℕ → List Fact → List (List Value) → Type 0

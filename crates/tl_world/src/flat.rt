@@ -3,7 +3,7 @@ ghost use Rattle.std.specs.List.{insert, remove};
 ghost use Rattle.std.specs.Prelude.{◌≡◌, ◌<◌, ◌≤◌, ◌+◌, ◌-◌, ◌*◌, ◌^◌, ◌↔◌, List, [], ◌∷◌, ◌++◌, length, take, drop, slice_index_or, true, IfOk, OnErr, OnOk};
 ghost use Rattle.tl_syntax.proofs.Telling.{tells-partial};
 ghost use Rattle.tl_world.specs.Cuts.{items_back, items_on, items_over, items_without};
-ghost use Rattle.tl_world.specs.Moves.{place_after};
+ghost use Rattle.tl_world.specs.Moves.{row_moved};
 ghost use Rattle.tl_world.specs.Runs.{between};
 ghost use Rattle.tl_world.specs.RowTests.{rows_eq, rows-tell};
 
@@ -390,7 +390,7 @@ impl Flat {
     ) -> Result<(), NoMemory>
         requires cut { cut < length self.old }
         requires at { at ≤ length self.old }
-        ensures all { OnOk result (self.new ≡ remove (insert self.old at row.now) (place_after at cut)) }
+        ensures all { OnOk result (self.new ≡ row_moved self.old cut at row.now) }
         ensures same { OnErr result (self.new ≡ self.old) }
     {
         if !self.ends.have_width(row.len()) {
@@ -521,7 +521,7 @@ impl Flat {
     ) -> Result<Flat, NoMemory>
         requires cut { cut < length self.now }
         requires at { at ≤ length self.now }
-        ensures { IfOk result (λ f. f ≡ remove (insert self.now at row.now) (place_after at cut)) }
+        ensures { IfOk result (λ f. f ≡ row_moved self.now cut at row.now) }
     {
         if at <= cut {
             self.moved_back(alloc, cut, at, row)

@@ -1,7 +1,7 @@
 // Rows in runs without one of them, and with another one in its stead.
 ghost use Rattle.std.specs.List.{insert, remove};
 ghost use Rattle.std.specs.Prelude.{◌≡◌, ◌<◌, ◌≤◌, ◌+◌, length, IfOk};
-ghost use Rattle.tl_world.specs.Moves.{place_after};
+ghost use Rattle.tl_world.specs.Moves.{row_moved};
 
 use crate::runs::Runs;
 use std::alloc::Global;
@@ -76,7 +76,7 @@ impl Runs {
     ) -> Result<Runs, NoMemory>
         requires cut { cut < length self.now }
         requires at { at ≤ length self.now }
-        ensures { IfOk result (λ r. r ≡ remove (insert self.now at row.now) (place_after at cut)) }
+        ensures { IfOk result (λ r. r ≡ row_moved self.now cut at row.now) }
     {
         if at <= cut {
             self.moved_back(alloc, cut, at, row)
@@ -96,7 +96,7 @@ impl Runs {
     ) -> Result<Runs, NoMemory>
         requires cut { cut < length self.now }
         requires at { at ≤ length self.now }
-        ensures { IfOk result (λ r. r ≡ remove (insert self.now at row.now) (place_after at cut)) }
+        ensures { IfOk result (λ r. r ≡ row_moved self.now cut at row.now) }
     {
         if let Some(rows) = self.uncut() {
             return Ok(Runs::of_list(alloc, rows.moved(alloc, cut, at, row)?));

@@ -4,8 +4,8 @@ ghost use Rattle.std.specs.Hash.{same_Alike};
 ghost use Rattle.std.specs.List.{insert, remove};
 ghost use Rattle.std.specs.Prelude.{◌≡◌, ◌<◌, ◌≤◌, ◌==◌, [], ◌∷◌, length, take, drop, slice_index_or, true, IfOk, IfSome, OnOk};
 ghost use Rattle.tl_syntax.proofs.Telling.{tells-partial, tells-equivalence};
-ghost use Rattle.tl_world.specs.Codes.{row_code, rows_code, values_eq};
-ghost use Rattle.tl_world.specs.Moves.{place_after, HasRowAt};
+ghost use Rattle.tl_world.specs.Codes.{row_code, rows_code};
+ghost use Rattle.tl_world.specs.Moves.{row_moved, HasRowAt};
 ghost use Rattle.tl_world.specs.RowTests.{rows_eq, rows-tell};
 ghost use Rattle.tl_world.specs.Second.{IsSecond};
 
@@ -177,7 +177,7 @@ impl Rows {
     ) -> Result<Rows, NoMemory>
         requires cut { cut < length self.now }
         requires at { at ≤ length self.now }
-        ensures { IfOk result (λ r. r ≡ remove (insert self.now at row.now) (place_after at cut)) }
+        ensures { IfOk result (λ r. r ≡ row_moved self.now cut at row.now) }
     {
         let gone = self.runs.row(cut);
         let more = self.code.wrapping_add(code_of_row(row));
@@ -227,7 +227,7 @@ impl Rows {
     ) -> Result<(), NoMemory>
         requires cut { cut < length self.old }
         requires at { at ≤ length self.old }
-        ensures { OnOk result (self.new ≡ remove (insert self.old at row.now) (place_after at cut)) }
+        ensures { OnOk result (self.new ≡ row_moved self.old cut at row.now) }
     {
         let gone = self.runs.row(cut);
         let more = self.code.wrapping_add(code_of_row(row));

@@ -3,7 +3,7 @@ ghost use Rattle.std.specs.List.{insert, remove};
 ghost use Rattle.std.specs.List.Sorted.{IsBinarySearchResult, IsSearchInRange};
 ghost use Rattle.std.specs.Prelude.{◌≡◌, ◌<◌, ◌≤◌, ◌+◌, ◌^◌, ◌↔◌, ◌++◌, [], ◌∷◌, length, take, drop, slice_index_or, true, IfOk, IfSome, OnErr, OnOk};
 ghost use Rattle.tl_syntax.proofs.Telling.{tells-partial};
-ghost use Rattle.tl_world.specs.Moves.{place_after};
+ghost use Rattle.tl_world.specs.Moves.{row_moved};
 ghost use Rattle.tl_world.specs.RowTests.{rows_eq, rows-tell};
 ghost use Rattle.tl_world.specs.Runs.{between, GainsSomeUpTo, GainsUpTo, IsPart, IsPartFor};
 ghost use Rattle.tl_world.specs.Tables.{row_cmp};
@@ -362,7 +362,7 @@ impl Runs {
     ) -> Result<(), NoMemory>
         requires cut { cut < length self.old }
         requires at { at ≤ length self.old }
-        ensures all { OnOk result (self.new ≡ remove (insert self.old at row.now) (place_after at cut)) }
+        ensures all { OnOk result (self.new ≡ row_moved self.old cut at row.now) }
         ensures same { OnErr result (self.new ≡ self.old) }
     {
         let full = self.shared.len();

@@ -1,5 +1,5 @@
 use Rattle.std.proofs.Common.{◌≡◌, ◌<◌, ℕ, Bool, true, false, eqb, eqb-true, true≢false, List, [], ◌∷◌, map, length, inl, inr, sym, ap, ◌∙◌, subst, refl, arith, Equal}
-use Rattle.std.specs.List.{remove, insert, HoldsAt}
+use Rattle.std.specs.List.{remove, HoldsAt}
 use Rattle.std.proofs.lemmas.List.{get_or_default}
 use Rattle.std.specs.FinMap as dict
 use Rattle.std.specs.FinSet as set

@@ -1,4 +1,4 @@
-use Rattle.std.proofs.Common.{◌≡◌, ◌∷◌, ◌-◌, drop, map, sym, ap, ◌∙◌, subst, arith, rules}
+use Rattle.std.proofs.Common.{◌≡◌, ◌∷◌, ◌-◌, drop, map, sym, ap, ◌∙◌, arith, rules}
 use Rattle.std.specs.FinSet as set
 use Rattle.tl_syntax.specs.Keys.{fact_key}
 use Rattle.tl_terms.specs.Step.{without_all}

@@ -1,4 +1,4 @@
-use Rattle.std.proofs.Common.{◌≡◌, length, refl, ap, ◌∙◌, arith}
+use Rattle.std.proofs.Common.{length, refl, ap, ◌∙◌, arith}
 use Rattle.std.specs.List.{insert, remove}
 use Rattle.tl_world.proofs.Moving.{place-back, place-on}
 use Rattle.tl_world.proofs.Pushing.{within-ends}

@@ -1,4 +1,4 @@
-use Rattle.std.proofs.Common.{take, subst, sym}
+use Rattle.std.proofs.Common.{subst, sym}
 use Rattle.tl_terms.proofs.SameWorlds.{world-tells}
 use Rattle.tl_terms.specs.SameWorlds.{world_eq}
 use Rattle.tl_world.proofs.Numbering.{once}
