@@ -307,7 +307,7 @@ fn few(facts: &[Fact]) -> &[Fact]
 
 /// Takes the facts of `dels` out of the tables, and then puts those of `adds` in.
 ///
-/// A fact that is deleted and one that is added to the same table are one copy of it, where not many are added.
+/// A fact that is deleted and one that is added to the same table are one copy of it, or one edit of that copy, where not many are added.
 pub(crate) fn change_facts(
     alloc: Global,
     tables: &mut Vec<Named<Rows>>,

@@ -204,7 +204,7 @@ impl World {
     /// This world without the facts of `dels`, with those of `adds`, and with the values of `sets`; of two values for one place the earlier counts.
     /// This world stays as it is, and tables that do not change are shared. It fails for want of memory alone.
     ///
-    /// A table is copied for each fact that is deleted, and one fact that is added to it comes in with the same copy. The first fact that is added to another table of this world copies it, and later ones are put into the copies.
+    /// A table is copied once: by the first fact that is deleted from it, where one that is added to it comes in with the same copy, or else by the first that is added to it. Later facts are taken out of the copy and put into it where they stand, one that goes and one that comes in one step where that can be. In a table of more than 48 rows only the last rows, some 48 at most, are edited so, and each fact that is deleted or added among the others copies it once more.
     /// A copy of a table of facts takes its rows where they are at most 48. Of a larger one it takes the runs in which rows change and the last rows, some 150 rows at most, and a step for each of the other runs, which the worlds share: a table of n rows has some n / 48 to n / 12 of them. A copy of a table of places takes all its rows.
     /// A table of facts that grows past 128 rows is sorted by the second value once, and its rows by the second value are copied with it from then on, so that a copy takes about twice the steps.
     pub fn changed(
