@@ -41,6 +41,7 @@ pub mod Finite
 pub mod Numbering
 pub mod Moving
 pub mod Strides
+pub mod RunEdits
 pub mod SameValues
 pub mod Exchanged
 pub mod Beside

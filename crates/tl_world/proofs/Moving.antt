@@ -8,7 +8,7 @@ use Rattle.std.proofs.lemmas.List.Sums.{sum_by-insert, sum_by-remove}
 use Rattle.std.specs.List.{insert, remove, sum_by}
 use Rattle.tl_syntax.specs.declared.value.Value.{Value}
 use Rattle.tl_world.specs.Codes.{row_code, rows_code}
-use Rattle.tl_world.specs.Moves.{place_after}
+use Rattle.tl_world.specs.Moves.{place_after, place_left, row_moved}
 
 module _ {X : Type 0} where
   to-end : (xs : List X) (k n : ℕ) → n ≡ length xs → take (n - k) (drop k xs) ≡ drop k xs
@@ -81,6 +81,26 @@ place-further n a c at cut e f = (elim (leb a c) as (λ b. leb a c ≡ b → pla
       let there = place-on at cut (omega (arith, p, e, f)) in
       omega (arith, here, there, f)
 ]) refl
+
+-- one less, and then one more at the place that is left
+pub cut-then-put : {X : Type 0} (xs : List X) (cut at : ℕ) (x : X) → cut < length xs → at ≤ length xs → insert (remove xs cut) (place_left cut at) x ≡ row_moved xs cut at x
+cut-then-put {X} xs cut at x p q = (elim (leb at cut) as (λ b. leb at cut ≡ b → insert (remove xs cut) (cond b at (at - 1)) x ≡ remove (insert xs at x) (cond b (cut + 1) cut)) [
+  | true ↦ λ e. low xs cut at (leb-true at cut e) p ∙ ap (remove (insert xs at x)) (let m : suc cut ≡ cut + 1 = omega arith in m)
+  | false ↦ λ e. let r = leb-false at cut e in high xs cut (at - 1) at (omega (arith, r)) (omega (arith, r)) q
+]) refl
+  where
+    low : (ys : List X) (cut at : ℕ) → at ≤ cut → cut < length ys → insert (remove ys cut) at x ≡ remove (insert ys at x) (suc cut)
+    low [] cut at r p = absurd (omega (arith, p))
+    low (y ∷ ys) cut zero r p = refl
+    low (y ∷ ys) zero (suc at) r p = absurd (omega (arith, r))
+    low (y ∷ ys) (suc cut) (suc at) r p = ap (λ zs. y ∷ zs) (low ys cut at (omega (arith, r)) (omega (arith, p)))
+
+    high : (ys : List X) (cut k at : ℕ) → at ≡ suc k → cut ≤ k → at ≤ length ys → insert (remove ys cut) k x ≡ remove (insert ys at x) cut
+    high [] cut k at e r q = absurd (omega (arith, e, q))
+    high (y ∷ ys) cut k zero e r q = absurd (omega (arith, e))
+    high (y ∷ ys) zero k (suc at) e r q = ap (λ m. insert ys m x) (let m : k ≡ at = omega (arith, e) in m)
+    high (y ∷ ys) (suc cut) zero (suc at) e r q = absurd (omega (arith, r))
+    high (y ∷ ys) (suc cut) (suc k) (suc at) e r q = ap (λ zs. y ∷ zs) (high ys cut k at (omega (arith, e)) (omega (arith, r)) (omega (arith, q)))
 
 kept-up : (code a b s t m : ℕ) → code ≡ s % m → t + b ≡ s + a → b ≤ m → ((code + a) % m + (m - b)) % m ≡ t % m
 kept-up code a b s t m e f p =

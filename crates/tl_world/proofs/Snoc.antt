@@ -56,6 +56,6 @@ pub of-some : (o : Option ℕ) (P : Type 0) → is_some o ≡ true → IfSome o 
 of-some None P h s = absurd (true≢false (sym h))
 of-some (Some x) P h s = s
 
-pub of-none : (o : Option ℕ) (P : Type 0) → is_some o ≡ false → IfNone o P → P
+pub of-none : {A : Type 0} (o : Option A) (P : Type 0) → is_some o ≡ false → IfNone o P → P
 of-none None P h s = s
 of-none (Some x) P h s = absurd (true≢false h)

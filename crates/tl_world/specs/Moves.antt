@@ -1,5 +1,5 @@
 -- Rows of which one is taken out and one is put in, and sets of facts that differ in some facts alone.
-use Rattle.std.specs.Prelude.{◌≡◌, ◌+◌, ◌<◌, ◌≤◌, ◌⊎◌, ℕ, List, false, cond, length, map, slice_index_or, Err}
+use Rattle.std.specs.Prelude.{◌≡◌, ◌+◌, ◌-◌, ◌<◌, ◌≤◌, ◌⊎◌, ℕ, List, false, cond, length, map, slice_index_or, Err}
 use Rattle.std.proofs.Common.{leb}
 use Rattle.std.specs.FinSet as set
 use Rattle.std.specs.List.{insert, remove, list_any, HoldsAt}
@@ -16,6 +16,10 @@ use Rattle.tl_world.specs.Plain.{row_cmp}
 -- the place of what stood at `cut`, after one more at `at`
 abbrev pub place_after : ℕ → ℕ → ℕ
 place_after at cut = cond (leb at cut) (cut + 1) cut
+
+-- the place of what stood at `at`, without that at `cut`
+abbrev pub place_left : ℕ → ℕ → ℕ
+place_left cut at = cond (leb at cut) at (at - 1)
 
 -- the rows with one more at place `at`, and without that at place `cut`
 abbrev pub row_moved : {X : Type 0} → List X → ℕ → ℕ → X → List X

@@ -1,5 +1,5 @@
 -- Rows in runs that follow one another.
-use Rattle.std.specs.Prelude.{◌≡◌, ◌≢◌, ◌<◌, ◌≤◌, ◌+◌, ◌-◌, ◌^◌, ℕ, List, [], ◌∷◌, ◌++◌, length, take, drop, slice_index_or}
+use Rattle.std.specs.Prelude.{◌≡◌, ◌≢◌, ◌<◌, ◌≤◌, ◌+◌, ◌-◌, ◌%◌, ◌^◌, ℕ, List, [], ◌∷◌, ◌++◌, length, take, drop, slice_index_or}
 use Rattle.std.specs.declared.cmp.Ordering.TheVariants.{Greater}
 use Rattle.tl_syntax.specs.declared.value.Value.{Value}
 use Rattle.tl_world.specs.declared.shared.Run.{Run}
@@ -26,6 +26,13 @@ first_row rs i = slice_index_or (rows_in rs) (run_place rs i) []
 abbrev pub AreCounted : ℕ → List Run → Type 0
 AreCounted n [] = Unit {0}
 AreCounted n (r ∷ rs) = ((n < r.end) × (r.end < 2 ^ 63) × (r.end ≡ n + length r.rows.value)) × AreCounted r.end rs
+
+-- the run with one less at its end, and with one more
+abbrev pub lowered : Run → Run
+lowered r = record r { end = r.end - 1 }
+
+abbrev pub raised : Run → Run
+raised r = record r { end = (r.end + 1) % 2 ^ 64 }
 
 -- the rows are some that follow one another, from a place on
 pub record IsPart (all : List (List Value)) (from : ℕ) (rows : List (List Value)) : Type 0 where

@@ -11,6 +11,7 @@ ghost use Rattle.tl_world.specs.Tables.{InOrder, fact_tables};
 use crate::Rows;
 use crate::kept::keep_second_orders;
 use crate::named::{Named, find_table};
+use crate::rows::place_left;
 use crate::runs::find_row;
 use std::alloc::Global;
 use std::rc::Rc;
@@ -18,11 +19,6 @@ use tl_syntax::{Fact, NoMemory, Value, Values};
 
 /// That no guess is kept of an added fact's place.
 const NONE: usize = usize::MAX;
-
-/// The place of what stood at `at`, where the place `cut` is taken out.
-fn place_left(cut: usize, at: usize) -> usize {
-    if at <= cut { at } else { at - 1 }
-}
 
 /// The guess that is kept of the place of added fact `j` in its table.
 #[inline]
@@ -68,7 +64,7 @@ fn rows_without(
     requires { cut < length table.now.rows.value }
     ensures { IfOk result (IsTakenOut table.now.rows.value cut table.now.name adds.now) }
 {
-    match coming(table, adds, guesses) {
+    match coming(table, adds, &[]) {
         Some((j, at)) => {
             keep_guess(guesses, j, place_left(cut, at));
             table.rows.moved(alloc, cut, at, adds[j].args.as_slice())

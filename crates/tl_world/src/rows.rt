@@ -2,10 +2,10 @@
 ghost use Rattle.std.specs.Hash as fed;
 ghost use Rattle.std.specs.Hash.{same_Alike};
 ghost use Rattle.std.specs.List.{insert, remove};
-ghost use Rattle.std.specs.Prelude.{◌≡◌, ◌<◌, ◌≤◌, ◌==◌, [], ◌∷◌, length, take, drop, slice_index_or, true, IfOk, IfSome, OnOk};
+ghost use Rattle.std.specs.Prelude.{◌≡◌, ◌<◌, ◌≤◌, ◌==◌, [], ◌∷◌, length, take, drop, slice_index_or, true, false, IfOk, IfSome, OnOk};
 ghost use Rattle.tl_syntax.proofs.Telling.{tells-partial, tells-equivalence};
 ghost use Rattle.tl_world.specs.Codes.{row_code, rows_code};
-ghost use Rattle.tl_world.specs.Moves.{row_moved, HasRowAt};
+ghost use Rattle.tl_world.specs.Moves.{place_left, row_moved, HasRowAt};
 ghost use Rattle.tl_world.specs.RowTests.{rows_eq, rows-tell};
 ghost use Rattle.tl_world.specs.Second.{IsSecond};
 
@@ -15,6 +15,7 @@ use crate::second::Second;
 use std::alloc::Global;
 use std::hash::{FoldHasher, Hash, Hasher};
 use std::marker::Model;
+use std::mem;
 use tl_syntax::{NoMemory, Value};
 
 /// The argument lists of one predicate's facts. Contracts see it as the list of its rows.
@@ -51,6 +52,13 @@ pub(crate) fn code_of_row(row: &[Value]) -> u64
     let mut hasher = FoldHasher::default();
     row.hash(&mut hasher);
     hasher.finish()
+}
+
+/// The place of what stood at `at`, where the place `cut` is taken out.
+pub(crate) fn place_left(cut: usize, at: usize) -> usize
+    ensures { result ≡ place_left cut at }
+{
+    if at <= cut { at } else { at - 1 }
 }
 
 impl Rows {
@@ -195,11 +203,11 @@ impl Rows {
         requires { k ≤ length self.old }
         ensures { OnOk result (self.new ≡ insert self.old k row.now) }
     {
-        let more = self.code.wrapping_add(code_of_row(row));
-        let second = self.second.with(alloc, row)?;
+        let code = self.code.wrapping_add(code_of_row(row));
+        let second = mem::replace(&mut self.second, Second::none()).put_row(alloc, row)?;
         self.runs.put_row(alloc, k, row)?;
         self.second = second;
-        self.code = more;
+        self.code = code;
         Ok(())
     }
 
@@ -210,11 +218,56 @@ impl Rows {
     {
         let gone = self.runs.row(k);
         let code = self.code.wrapping_sub(code_of_row(gone));
-        let second = self.second.without(alloc, gone)?;
+        let second = mem::replace(&mut self.second, Second::none()).cut_row(alloc, gone)?;
         self.runs.cut_row(alloc, k)?;
         self.second = second;
         self.code = code;
         Ok(())
+    }
+
+    /// Puts one more row at place `at` into the table and takes that at place `cut` out, where the table keeps no second order and both are in one run: whether that is so.
+    fn move_in_run(
+        &mut self,
+        alloc: Global,
+        cut: usize,
+        at: usize,
+        row: &[Value],
+    ) -> Result<bool, NoMemory>
+        requires cut { cut < length self.old }
+        requires at { at ≤ length self.old }
+        ensures all { IfOk result (λ b. b ≡ true → self.new ≡ row_moved self.old cut at row.now) }
+        ensures none { IfOk result (λ b. b ≡ false → self.new ≡ self.old) }
+    {
+        if self.second.rows().is_some() {
+            return Ok(false);
+        }
+        let gone = self.runs.row(cut);
+        let more = self.code.wrapping_add(code_of_row(row));
+        let code = more.wrapping_sub(code_of_row(gone));
+        if self.runs.move_row(alloc, cut, at, row)? {
+            self.code = code;
+            return Ok(true);
+        }
+        Ok(false)
+    }
+
+    /// Puts one more row at place `at` into the table and takes that at place `cut` out, in one step where both are in one run.
+    fn move_either(
+        &mut self,
+        alloc: Global,
+        cut: usize,
+        at: usize,
+        row: &[Value],
+    ) -> Result<(), NoMemory>
+        requires cut { cut < length self.old }
+        requires at { at ≤ length self.old }
+        ensures { OnOk result (self.new ≡ row_moved self.old cut at row.now) }
+    {
+        if self.move_in_run(alloc, cut, at, row)? {
+            return Ok(());
+        }
+        self.cut_row(alloc, cut)?;
+        self.put_row(alloc, place_left(cut, at), row)
     }
 
     /// Puts one more row at place `at` into the table, and takes that at place `cut` out.
@@ -229,13 +282,13 @@ impl Rows {
         requires at { at ≤ length self.old }
         ensures { OnOk result (self.new ≡ row_moved self.old cut at row.now) }
     {
-        let gone = self.runs.row(cut);
-        let more = self.code.wrapping_add(code_of_row(row));
-        let code = more.wrapping_sub(code_of_row(gone));
-        let second = self.second.moved(alloc, gone, row)?;
-        self.runs.move_row(alloc, cut, at, row)?;
+        if self.second.rows().is_none() {
+            return self.move_either(alloc, cut, at, row);
+        }
+        let kept = mem::replace(&mut self.second, Second::none());
+        let second = kept.move_row(alloc, self.runs.row(cut), row)?;
+        self.move_either(alloc, cut, at, row)?;
         self.second = second;
-        self.code = code;
         Ok(())
     }
 }

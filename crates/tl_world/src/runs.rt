@@ -1,7 +1,7 @@
 // The rows of a table, in runs.
 ghost use Rattle.std.specs.List.{insert, remove};
 ghost use Rattle.std.specs.List.Sorted.{IsBinarySearchResult, IsSearchInRange};
-ghost use Rattle.std.specs.Prelude.{◌≡◌, ◌<◌, ◌≤◌, ◌+◌, ◌^◌, ◌↔◌, ◌++◌, [], ◌∷◌, length, take, drop, slice_index_or, true, IfOk, IfSome, OnErr, OnOk};
+ghost use Rattle.std.specs.Prelude.{◌≡◌, ◌<◌, ◌≤◌, ◌+◌, ◌^◌, ◌↔◌, ◌++◌, [], ◌∷◌, length, take, drop, slice_index_or, true, false, IfOk, IfSome, OnErr, OnOk};
 ghost use Rattle.tl_syntax.proofs.Telling.{tells-partial};
 ghost use Rattle.tl_world.specs.Moves.{row_moved};
 ghost use Rattle.tl_world.specs.RowTests.{rows_eq, rows-tell};
@@ -324,53 +324,63 @@ impl Runs {
         Ok(out)
     }
 
-    /// Puts one more row at place `k`, in place where it comes among the last rows and there is room. After a failure the rows are those of before.
+    /// Puts one more row at place `k`, in place where its run or the last rows have room. After a failure the rows are those of before.
     pub(crate) fn put_row(&mut self, alloc: Global, k: usize, row: &[Value]) -> Result<(), NoMemory>
         requires { k ≤ length self.old }
         ensures all { OnOk result (self.new ≡ insert self.old k row.now) }
         ensures same { OnErr result (self.new ≡ self.old) }
     {
         let full = self.shared.len();
-        if k < full || self.last.len() >= MOST {
-            *self = self.with(alloc, k, row)?;
+        if k >= full && self.last.len() < MOST {
+            return self.last.put_row(alloc, k - full, row);
+        }
+        if k < full && self.shared.put_row(alloc, k, row)? {
             return Ok(());
         }
-        self.last.put_row(alloc, k - full, row)
+        *self = self.with(alloc, k, row)?;
+        Ok(())
     }
 
-    /// Takes row `k` out, in place where it is among the last rows. After a failure the rows are those of before.
+    /// Takes row `k` out, in place where it is among the last rows or its run has rows enough. After a failure the rows are those of before.
     pub(crate) fn cut_row(&mut self, alloc: Global, k: usize) -> Result<(), NoMemory>
         requires { k < length self.old }
         ensures all { OnOk result (self.new ≡ remove self.old k) }
         ensures same { OnErr result (self.new ≡ self.old) }
     {
         let full = self.shared.len();
-        if k < full {
-            *self = self.without(alloc, k)?;
+        if k >= full {
+            return self.last.cut_row(alloc, k - full);
+        }
+        if self.shared.cut_row(alloc, k)? {
             return Ok(());
         }
-        self.last.cut_row(alloc, k - full)
+        *self = self.without(alloc, k)?;
+        Ok(())
     }
 
-    /// Puts one more row at place `at` and takes that at place `cut` out, in place where the rows are not cut into runs. After a failure the rows are those of before.
+    /// Puts one more row at place `at` and takes that at place `cut` out, where both are in one run or among the last rows: whether they are. After a failure the rows are those of before.
     pub(crate) fn move_row(
         &mut self,
         alloc: Global,
         cut: usize,
         at: usize,
         row: &[Value],
-    ) -> Result<(), NoMemory>
+    ) -> Result<bool, NoMemory>
         requires cut { cut < length self.old }
         requires at { at ≤ length self.old }
-        ensures all { OnOk result (self.new ≡ row_moved self.old cut at row.now) }
+        ensures all { IfOk result (λ b. b ≡ true → self.new ≡ row_moved self.old cut at row.now) }
+        ensures none { IfOk result (λ b. b ≡ false → self.new ≡ self.old) }
         ensures same { OnErr result (self.new ≡ self.old) }
     {
         let full = self.shared.len();
-        if cut < full || at < full {
-            *self = self.moved(alloc, cut, at, row)?;
-            return Ok(());
+        if cut < full && at <= full {
+            return self.shared.move_row(alloc, cut, at, row);
         }
-        self.last.move_row(alloc, cut - full, at - full, row)
+        if cut < full || at < full {
+            return Ok(false);
+        }
+        self.last.move_row(alloc, cut - full, at - full, row)?;
+        Ok(true)
     }
 
     /// Whether the rows stand in the table from the place on, by a comparison of each row.

@@ -1,5 +1,5 @@
 // The rows of a table by their second value.
-ghost use Rattle.std.specs.Prelude.{◌≡◌, Some, None, IfSome, IfOk};
+ghost use Rattle.std.specs.Prelude.{◌≡◌, Some, None, IfNone, IfSome, IfOk};
 ghost use Rattle.tl_world.specs.Second.{exchanged, KeepsWith, KeepsWithout, KeepsMoved};
 
 use crate::runs::{Runs, find_row};
@@ -78,7 +78,8 @@ impl Second {
     /// The exchanged rows, where they are kept.
     #[inline]
     pub(crate) fn rows(&self) -> Option<&Runs>
-        ensures { IfSome result (λ rows. self.now ≡ Some rows.now) }
+        ensures some { IfSome result (λ rows. self.now ≡ Some rows.now) }
+        ensures none { IfNone result (self.now ≡ None) }
     {
         match &self.rows {
             Some(rows) => Some(rows.as_ref()),
@@ -130,5 +131,55 @@ impl Second {
             Some(rows) => moved_second(alloc, rows, gone, row),
             None => Ok(Second::none()),
         }
+    }
+
+    /// What is kept with one more row, which is put into the exchanged rows. Nothing is kept any more where the row was there.
+    pub(crate) fn put_row(self, alloc: Global, row: &[Value]) -> Result<Second, NoMemory>
+        ensures { IfOk result (KeepsWith self row.now) }
+    {
+        let Some(mut rows) = self.rows else {
+            return Ok(Second::none());
+        };
+        let other = exchanged(alloc, row)?;
+        match find_row(rows.as_ref(), other.as_slice()) {
+            Ok(_) => Ok(Second::none()),
+            Err(k) => {
+                rows.put_row(alloc, k, other.as_slice())?;
+                Ok(Second { rows: Some(rows) })
+            }
+        }
+    }
+
+    /// What is kept without the row, which is taken out of the exchanged rows. Nothing is kept any more where few rows are left.
+    pub(crate) fn cut_row(self, alloc: Global, gone: &[Value]) -> Result<Second, NoMemory>
+        ensures { IfOk result (KeepsWithout self gone.now) }
+    {
+        let Some(mut rows) = self.rows else {
+            return Ok(Second::none());
+        };
+        if rows.len() <= MOST {
+            return Ok(Second::none());
+        }
+        let other = exchanged(alloc, gone)?;
+        match find_row(rows.as_ref(), other.as_slice()) {
+            Ok(k) => {
+                rows.cut_row(alloc, k)?;
+                Ok(Second { rows: Some(rows) })
+            }
+            Err(_) => Ok(Second::none()),
+        }
+    }
+
+    /// What is kept without the row `gone` and with one more, by edits of the exchanged rows.
+    pub(crate) fn move_row(
+        self,
+        alloc: Global,
+        gone: &[Value],
+        row: &[Value],
+    ) -> Result<Second, NoMemory>
+        ensures { IfOk result (KeepsMoved self gone.now row.now) }
+    {
+        let without = self.cut_row(alloc, gone)?;
+        without.put_row(alloc, row)
     }
 }

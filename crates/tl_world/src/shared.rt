@@ -1,7 +1,9 @@
 // Runs of rows that tables share.
-ghost use Rattle.std.specs.Prelude.{◌≡◌, ◌≢◌, ◌<◌, ◌≤◌, ◌+◌, ◌^◌, [], ◌++◌, length, true, IfOk, OnOk};
+ghost use Rattle.std.specs.List.{insert, remove};
+ghost use Rattle.std.specs.Prelude.{◌≡◌, ◌≢◌, ◌<◌, ◌≤◌, ◌+◌, ◌^◌, [], ◌++◌, length, map, take, drop, true, false, IfOk, OnErr, OnOk};
 ghost use Rattle.std.specs.declared.cmp.Ordering.TheVariants.{Greater};
-ghost use Rattle.tl_world.specs.Runs.{between, first_row, rows_in, run_place, AreCounted, BeginsAfter, IsPart, IsPartFor};
+ghost use Rattle.tl_world.specs.Moves.{row_moved};
+ghost use Rattle.tl_world.specs.Runs.{between, first_row, lowered, raised, rows_in, run_place, AreCounted, BeginsAfter, IsPart, IsPartFor};
 ghost use Rattle.tl_world.specs.Tables.{row_cmp};
 
 use crate::flat::Flat;
@@ -120,6 +122,151 @@ fn is_whole(run: &Run, to: usize) -> bool
     ensures { result ≡ true → run.now.end ≤ to }
 {
     run.end <= to && run.rows.len() >= FEWEST
+}
+
+/// Takes row `k` out of the run, in place where no other table shares it. After a failure its rows are those of before.
+fn cut_in_run(alloc: Global, run: &mut Run, k: usize) -> Result<(), NoMemory>
+    requires { k < length run.old.rows.value }
+    ensures end { run.new.end ≡ run.old.end }
+    ensures all { OnOk result (run.new.rows.value ≡ remove run.old.rows.value k) }
+    ensures same { OnErr result (run.new.rows.value ≡ run.old.rows.value) }
+{
+    match Rc::get_mut(&mut run.rows) {
+        Some(rows) => rows.cut_row(alloc, k),
+        None => {
+            let rows = run.rows.without(alloc, k)?;
+            run.rows = Rc::new(alloc, rows)?;
+            Ok(())
+        }
+    }
+}
+
+/// Puts one more row at place `k` into the run, in place where no other table shares it. After a failure its rows are those of before.
+fn put_in_run(alloc: Global, run: &mut Run, k: usize, row: &[Value]) -> Result<(), NoMemory>
+    requires { k ≤ length run.old.rows.value }
+    ensures end { run.new.end ≡ run.old.end }
+    ensures all { OnOk result (run.new.rows.value ≡ insert run.old.rows.value k row.now) }
+    ensures same { OnErr result (run.new.rows.value ≡ run.old.rows.value) }
+{
+    match Rc::get_mut(&mut run.rows) {
+        Some(rows) => rows.put_row(alloc, k, row),
+        None => {
+            let rows = run.rows.with(alloc, k, row)?;
+            run.rows = Rc::new(alloc, rows)?;
+            Ok(())
+        }
+    }
+}
+
+/// Puts one more row at place `at` into the run and takes that at place `cut` out, in place where no other table shares it. After a failure its rows are those of before.
+fn move_in_run(
+    alloc: Global,
+    run: &mut Run,
+    cut: usize,
+    at: usize,
+    row: &[Value],
+) -> Result<(), NoMemory>
+    requires cut { cut < length run.old.rows.value }
+    requires at { at ≤ length run.old.rows.value }
+    ensures end { run.new.end ≡ run.old.end }
+    ensures all { OnOk result (run.new.rows.value ≡ row_moved run.old.rows.value cut at row.now) }
+    ensures same { OnErr result (run.new.rows.value ≡ run.old.rows.value) }
+{
+    match Rc::get_mut(&mut run.rows) {
+        Some(rows) => rows.move_row(alloc, cut, at, row),
+        None => {
+            let rows = run.rows.moved(alloc, cut, at, row)?;
+            run.rows = Rc::new(alloc, rows)?;
+            Ok(())
+        }
+    }
+}
+
+/// One less at each of the ends from run `i` on.
+fn lower_ends(runs: &mut Vec<Run>, i: usize)
+    requires { i ≤ length runs.old.items }
+    ensures { runs.new.items ≡ take i runs.old.items ++ map lowered (drop i runs.old.items) }
+{
+    let mut j = runs.len();
+    while j > i {
+        j -= 1;
+        runs[j].end = runs[j].end.saturating_sub(1);
+    }
+}
+
+/// One more at each of the ends from run `i` on.
+fn raise_ends(runs: &mut Vec<Run>, i: usize)
+    requires { i ≤ length runs.old.items }
+    ensures { runs.new.items ≡ take i runs.old.items ++ map raised (drop i runs.old.items) }
+{
+    let mut j = runs.len();
+    while j > i {
+        j -= 1;
+        runs[j].end = runs[j].end.wrapping_add(1);
+    }
+}
+
+impl Shared {
+    /// Takes row `k` out of its run, where that has rows enough: whether it has. After a failure the rows are those of before.
+    pub(crate) fn cut_row(&mut self, alloc: Global, k: usize) -> Result<bool, NoMemory>
+        requires { k < length self.old }
+        ensures all { IfOk result (λ b. b ≡ true → self.new ≡ remove self.old k) }
+        ensures none { IfOk result (λ b. b ≡ false → self.new ≡ self.old) }
+        ensures same { OnErr result (self.new ≡ self.old) }
+    {
+        let i = find_run(self.runs.as_slice(), k, k / MOST);
+        let from = begin(self.runs.as_slice(), i);
+        if self.runs[i].rows.len() <= FEWEST {
+            return Ok(false);
+        }
+        cut_in_run(alloc, &mut self.runs[i], k - from)?;
+        lower_ends(&mut self.runs, i);
+        Ok(true)
+    }
+
+    /// Puts one more row at place `k` into the run that has one there, where that has room: whether it has. After a failure the rows are those of before.
+    pub(crate) fn put_row(
+        &mut self,
+        alloc: Global,
+        k: usize,
+        row: &[Value],
+    ) -> Result<bool, NoMemory>
+        requires { k < length self.old }
+        ensures all { IfOk result (λ b. b ≡ true → self.new ≡ insert self.old k row.now) }
+        ensures none { IfOk result (λ b. b ≡ false → self.new ≡ self.old) }
+        ensures same { OnErr result (self.new ≡ self.old) }
+    {
+        let i = find_run(self.runs.as_slice(), k, k / MOST);
+        let from = begin(self.runs.as_slice(), i);
+        if self.runs[i].rows.len() >= MOST || self.len() + 1 >= COUNTED {
+            return Ok(false);
+        }
+        put_in_run(alloc, &mut self.runs[i], k - from, row)?;
+        raise_ends(&mut self.runs, i);
+        Ok(true)
+    }
+
+    /// Puts one more row at place `at` and takes that at place `cut` out, where both are in one run: whether they are. After a failure the rows are those of before.
+    pub(crate) fn move_row(
+        &mut self,
+        alloc: Global,
+        cut: usize,
+        at: usize,
+        row: &[Value],
+    ) -> Result<bool, NoMemory>
+        requires { cut < length self.old }
+        ensures all { IfOk result (λ b. b ≡ true → self.new ≡ row_moved self.old cut at row.now) }
+        ensures none { IfOk result (λ b. b ≡ false → self.new ≡ self.old) }
+        ensures same { OnErr result (self.new ≡ self.old) }
+    {
+        let i = find_run(self.runs.as_slice(), cut, cut / MOST);
+        let from = begin(self.runs.as_slice(), i);
+        if at < from || at > self.runs[i].end {
+            return Ok(false);
+        }
+        move_in_run(alloc, &mut self.runs[i], cut - from, at - from, row)?;
+        Ok(true)
+    }
 }
 
 impl Shared {

@@ -2,4 +2,4 @@ use Rattle.tl_world.proofs.Exchanged.{kept-some}
 use Rattle.tl_world.proofs.rows.Rows.second.Goals as goal
 
 pub returns : goal.returns
-returns c = kept-some c.self.inside.runs c.args.self.now c.self.inside.second c.rows.result c.self.view_is c.self.invariant.1 c.rows.ensures
+returns c = kept-some c.self.inside.runs c.args.self.now c.self.inside.second c.rows.result c.self.view_is c.self.invariant.1 c.rows.ensures.some

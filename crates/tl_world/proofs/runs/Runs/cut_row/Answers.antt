@@ -4,11 +4,11 @@ use Rattle.tl_world.proofs.Going.{on-ok}
 use Rattle.tl_world.proofs.Parts.{remove-back}
 use Rattle.tl_world.proofs.runs.Runs.cut_row.Goals as goal
 
-pub returns-clause-all : goal.returns-clause-all
-returns-clause-all c =
+pub returns-then-k-full-clause-all : goal.returns-then-k-full-clause-all
+returns-then-k-full-clause-all c =
     let s = c.self.inside.shared in
     let t = c.self.inside.last in
     let k = c.args.k in
     let n = k - c.len-full.result in
-    let at : k ≡ length s + n = omega (arith, c.len-full.ensures.len, c.if-k-full.false) in
+    let at : k ≡ length s + n = omega (arith, c.len-full.ensures.len, c.if-k-full.true) in
     on-ok c.cut_row.result (λ e. ap (λ xs. s ++ xs) e ∙ (remove-back s t n k at ∙ ap (λ xs. remove xs k) c.self.view_is)) c.cut_row.ensures.all

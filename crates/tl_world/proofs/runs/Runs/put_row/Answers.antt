@@ -4,12 +4,12 @@ use Rattle.tl_world.proofs.Going.{on-ok}
 use Rattle.tl_world.proofs.Parts.{insert-back}
 use Rattle.tl_world.proofs.runs.Runs.put_row.Goals as goal
 
-pub returns-clause-all : goal.returns-clause-all
-returns-clause-all c =
+pub returns-then-len-lt-MOST-clause-all : goal.returns-then-len-lt-MOST-clause-all
+returns-then-len-lt-MOST-clause-all c =
     let s = c.self.inside.shared in
     let t = c.self.inside.last in
     let row = c.args.row.now in
     let k = c.args.k in
     let n = k - c.len-full.result in
-    let at : k ≡ length s + n = omega (arith, c.len-full.ensures.len, c.if-k-full.false) in
+    let at : k ≡ length s + n = omega (arith, c.len-full.ensures.len, c.if-k-full.true) in
     on-ok c.put_row.result (λ e. ap (λ xs. s ++ xs) e ∙ (insert-back s t n k row at ∙ ap (λ xs. insert xs k row) c.self.view_is)) c.put_row.ensures.all

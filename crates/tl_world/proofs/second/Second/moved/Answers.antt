@@ -4,4 +4,4 @@ use Rattle.tl_world.specs.Second.{KeepsMoved}
 use Rattle.tl_world.proofs.second.Second.moved.Goals as goal
 
 pub returns-in-Some : goal.returns-in-Some
-returns-in-Some c = subst (λ before. IfOk c.moved_second.result (KeepsMoved before c.args.gone.now c.args.row.now)) (sym c.in-Some.ensures) c.moved_second.ensures
+returns-in-Some c = subst (λ before. IfOk c.moved_second.result (KeepsMoved before c.args.gone.now c.args.row.now)) (sym c.in-Some.ensures.some) c.moved_second.ensures
