@@ -1,14 +1,14 @@
 -- Tables of facts of which one row is taken out and one is put in, and sets of facts that differ in some facts alone.
-use Rattle.std.proofs.Common.{◌≡◌, ◌||◌, ◌&&◌, ℕ, zero, suc, ◌<◌, ◌≤◌, Bool, true, false, not, true≢false, eqb, eqb-true, List, [], ◌∷◌, map, length, get_or, drop, drop-cons, ◌-◌, inl, inr, refl, sym, ap, ◌∙◌, subst, arith, Equal, Err}
+use Rattle.std.proofs.Common.{◌≡◌, ◌||◌, ◌&&◌, ℕ, zero, suc, ◌<◌, ◌≤◌, Bool, true, false, not, true≢false, eqb, eqb-true, List, [], ◌∷◌, map, length, get_or, drop, drop-cons, ◌-◌, inl, inr, Some, None, is_some, refl, sym, ap, ◌∙◌, subst, arith, Ordering, Less, Equal, Greater, Err}
 use Rattle.std.proofs.lemmas.List.Edits.{length-insert, length-remove, get_or-insert_at}
 use Rattle.std.proofs.Math.ListN as put-at
-use Rattle.std.specs.Cmp.{nat_cmp_total, tied_itself}
+use Rattle.std.specs.Cmp.{nat_cmp_total, tied_back, tied_itself}
 use Rattle.std.specs.FinMap as dict
 use Rattle.std.specs.FinSet as set
-use Rattle.std.specs.FinMap.Entries.{where_key}
+use Rattle.std.specs.FinMap.Entries.{find_tied, where_key}
 use Rattle.std.specs.List.{insert, remove, list_any, HoldsAt}
 use Rattle.std.specs.List.Sorted.{IsBinarySearchResult}
-use Rattle.std.specs.Ordering.{eq_by_cmp, nat_cmp}
+use Rattle.std.specs.Ordering.{eq_by_cmp, is_eq, nat_cmp}
 use Rattle.tl_syntax.specs.declared.fact.Fact.{Fact}
 use Rattle.tl_syntax.specs.declared.value.Value.{Value}
 use Rattle.tl_syntax.specs.Keys.{Key, key_cmp, fact_key}
@@ -155,16 +155,19 @@ module _ (ts : List (Named (List (List Value)))) (n i : ℕ) (old fresh : Named 
   pub order-moved : InOrder (fact_tables (insert (remove ts i) i fresh))
   order-moved = subst (λ us. InOrder (fact_tables us)) same (change.order-taken fact_row grown n i between found fresh e a gone-out filled)
 
-  pub facts-moved : AreSameBeside fs (set_of (fact_tables (insert (remove ts i) i fresh))) (set.remove (set_of (fact_tables ts)) (n, a))
+  -- the new fact comes in, and then the old one goes
+  pub facts-in-place : set_of (fact_tables (insert (remove ts i) i fresh)) ≡ set.remove (set.insert (set_of (fact_tables ts)) (fact_key m.fact)) (n, a)
   unfolding between grown
-  facts-moved =
+  facts-in-place =
       let out : set_of (fact_tables (insert (remove ts i) i fresh)) ≡ set.remove (set_of (fact_tables grown)) (n, a) =
       set-taken (fact_tables grown) (fact_tables (insert (remove ts i) i fresh)) (n, a)
       (λ q. ap (λ us. dict.find key_cmp q (entries_of (fact_tables us))) (sym same) ∙ change.find-taken-out fact_row grown n i between found fresh e a gone-out q) in
       let in_now : set_of (fact_tables grown) ≡ set.insert (set_of (fact_tables ts)) (n, m.fact.args) =
       set-put (fact_tables ts) (fact_tables grown) (n, m.fact.args) (λ q. change.find-put fact_row ts n i old f between refl m.fact.args tt come-in q) in
-      λ q h. ap (λ s. set.contains s q) (out ∙ ap (λ s. set.remove s (n, a)) (in_now ∙ ap (λ j. set.insert (set_of (fact_tables ts)) (j, m.fact.args)) (sym m.of_table)))
-      ∙ moved-beside fs (set_of (fact_tables ts)) m.fact (n, a) m.among q h
+      out ∙ ap (λ s. set.remove s (n, a)) (in_now ∙ ap (λ j. set.insert (set_of (fact_tables ts)) (j, m.fact.args)) (sym m.of_table))
+
+  pub facts-moved : AreSameBeside fs (set_of (fact_tables (insert (remove ts i) i fresh))) (set.remove (set_of (fact_tables ts)) (n, a))
+  facts-moved q h = ap (λ s. set.contains s q) facts-in-place ∙ moved-beside fs (set_of (fact_tables ts)) m.fact (n, a) m.among q h
 
 -- the table after one of its rows was taken out, where it still has rows
 module _ (ts : List (Named (List (List Value)))) (n i : ℕ) (old fresh : Named (List (List Value))) (fs : List Fact) (k : ℕ) (a : List Value)
@@ -192,3 +195,43 @@ still-filled rows [] k n fs taken p q = elim taken [
   | inr m ↦ absurd (not-emptied rows [] k n fs true m p refl refl)
 ]
 still-filled rows (r ∷ after) k n fs taken p q = tt
+
+-- rows of which one is in place of another are left
+pub filled-moved : (rows after : List (List Value)) (k n : ℕ) (fs : List Fact) → IsMoved rows k n fs after → k < length rows → HasItem (map fact_row after)
+filled-moved rows [] k n fs m p = absurd (not-emptied rows [] k n fs true m p refl refl)
+filled-moved rows (r ∷ after) k n fs m p = tt
+
+-- what is there is not what is not there
+pub differ : {X : Type 0} (es : List (Key × X)) (k l : Key) (x : X) → dict.find key_cmp k es ≡ Some x → dict.find key_cmp l es ≡ None → eq_by_cmp key_cmp l k ≡ false
+differ es k l x some none = (elim (eq_by_cmp key_cmp l k) as (λ b. eq_by_cmp key_cmp l k ≡ b → b ≡ false) [
+  | false ↦ λ e. refl
+  | true ↦ λ e. absurd (Some≢None x (sym some ∙ (sym (find_tied key_cmp key_total k l (tied_back key_total l k (is-tied _ e)) es) ∙ none)))
+]) refl
+  where
+    is-tied : (r : Ordering) → is_eq r ≡ true → r ≡ Equal
+    is-tied Less e = absurd (true≢false (sym e))
+    is-tied Equal e = refl
+    is-tied Greater e = absurd (true≢false (sym e))
+
+    Some≢None : {X : Type 0} (x : X) → Some x ≡ None → ⊥
+    Some≢None x e = absurd (true≢false (ap is_some e))
+
+-- of two facts, one may come in before the other goes
+pub swapped : (s : set.FinSet key_cmp) (k l : Key) → eq_by_cmp key_cmp l k ≡ false → set.remove (set.insert s l) k ≡ set.insert (set.remove s k) l
+swapped s k l d = set.same_set key_total key_ties (set.remove (set.insert s l) k) (set.insert (set.remove s k) l) (λ q.
+    set.contains-remove key_total (set.insert s l) k q
+    ∙ (ap (λ b. not (eq_by_cmp key_cmp q k) && b) (set.contains-insert key_total s l q)
+    ∙ (turned q ∙ (ap (λ b. eq_by_cmp key_cmp q l || b) (sym (set.contains-remove key_total s k q)) ∙ sym (set.contains-insert key_total (set.remove s k) l q)))))
+  where
+    is-tied : (r : Ordering) → is_eq r ≡ true → r ≡ Equal
+    is-tied Less e = absurd (true≢false (sym e))
+    is-tied Equal e = refl
+    is-tied Greater e = absurd (true≢false (sym e))
+
+    either : (a b c : Bool) → (b ≡ true → a ≡ false) → (not a && (b || c)) ≡ (b || (not a && c))
+    either true true c h = absurd (true≢false (h refl))
+    either true false c h = refl
+    either false b c h = refl
+
+    turned : (q : Key) → (not (eq_by_cmp key_cmp q k) && (eq_by_cmp key_cmp q l || set.contains s q)) ≡ (eq_by_cmp key_cmp q l || (not (eq_by_cmp key_cmp q k) && set.contains s q))
+    turned q = either (eq_by_cmp key_cmp q k) (eq_by_cmp key_cmp q l) (set.contains s q) (λ e. ap is_eq (key_total.congr q l k (is-tied _ e)) ∙ d)

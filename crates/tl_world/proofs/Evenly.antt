@@ -18,7 +18,7 @@ even-begin from w (suc n) (suc k) p =
     let m = mul-suc w k in
     even-begin (from + w) w n k (omega (arith, p)) ∙ (let e : from + w + w * k ≡ from + w * suc k = omega (arith, m) in e)
 
-even-get : (from w n k d : ℕ) → k < n → get_or (even_ends from w n) k d ≡ from + w * k + w
+pub even-get : (from w n k d : ℕ) → k < n → get_or (even_ends from w n) k d ≡ from + w * k + w
 even-get from w zero k d p = absurd (omega (arith, p))
 even-get from w (suc n) zero d p = let e : from + w ≡ from + w * zero + w = omega arith in e
 even-get from w (suc n) (suc k) d p =
@@ -54,7 +54,7 @@ even-grown : (a w n : ℕ) → grown w (even_ends a w n) ≡ even_ends (a + w) w
 even-grown a w zero = refl
 even-grown a w (suc n) = ap (λ es. (a + w + w) ∷ es) (even-grown (a + w) w n)
 
-even-put : (from w n k : ℕ) → k ≤ n → even_ends from w (suc n) ≡ take k (even_ends from w n) ++ grown w (begin from (even_ends from w n) k ∷ drop k (even_ends from w n))
+pub even-put : (from w n k : ℕ) → k ≤ n → even_ends from w (suc n) ≡ take k (even_ends from w n) ++ grown w (begin from (even_ends from w n) k ∷ drop k (even_ends from w n))
 even-put from w n zero p = first (even_ends from w n) (even-grown from w n)
   where
     first : (es : List ℕ) → grown w es ≡ even_ends (from + w) w n → even_ends from w (suc n) ≡ take zero es ++ grown w (begin from es zero ∷ drop zero es)

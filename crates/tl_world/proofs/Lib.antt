@@ -1,5 +1,7 @@
 pub mod Cuts
 pub mod Evenly
+pub mod EvenRows
+pub mod EvenCopies
 pub mod Pushing
 pub mod Inserting
 pub mod Parts

@@ -27,7 +27,7 @@ module _ {A : Type 0} (P : A → Type 0) where
   each-drop (suc n) (x ∷ xs) h = each-drop n xs h.1
 
 -- the ends of so many rows of one length
-even-fits : (w from n : ℕ) → AreEnds from (even_ends from w n) (from + w * n)
+pub even-fits : (w from n : ℕ) → AreEnds from (even_ends from w n) (from + w * n)
 even-fits w from zero = let e : from ≡ from + w * zero = omega arith in e
 even-fits w from (suc n) =
     let s = mul-suc w n in
@@ -82,7 +82,7 @@ module _ {X : Type 0} (w : ℕ) where
     ends : AreEnds 0 (even_ends 0 w n) (length xs)
     ends = subst (λ fs. AreEnds 0 fs (length xs)) even h
 
-    whole : w * n ≡ length xs
+    pub whole : w * n ≡ length xs
     whole = sym (even-end w n) ∙ end-is 0 (even_ends 0 w n) (length xs) ends
 
     shown : rows_between 0 (even_ends 0 w n) xs ≡ v

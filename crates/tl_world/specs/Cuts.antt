@@ -22,6 +22,14 @@ abbrev pub even_ends : ℕ → ℕ → ℕ → List ℕ
 even_ends from w zero = []
 even_ends from w (suc n) = (from + w) ∷ even_ends (from + w) w n
 
+-- the values cut into n rows of one length
+abbrev pub even_rows : {X : Type 0} → ℕ → ℕ → List X → List (List X)
+even_rows w n xs = rows_between 0 (even_ends 0 w n) xs
+
+-- row k of rows of one length
+abbrev pub even_row : {X : Type 0} → ℕ → ℕ → List X → List X
+even_row w k xs = take w (drop (w * k) xs)
+
 -- the ends of n rows: those that are listed, or where none is, those of rows of one length
 abbrev pub ends_of : ℕ → ℕ → List ℕ → List ℕ
 ends_of w n [] = even_ends 0 w n
@@ -63,6 +71,10 @@ items_back xs at cut ys = take at xs ++ (ys ++ (take (cut - at) (drop at xs) ++ 
 -- the items with others before those from `at` on, and without as many from `cut` on, which all come before it
 abbrev pub items_on : {X : Type 0} → List X → ℕ → ℕ → List X → List X
 items_on xs cut at ys = take cut xs ++ (take (at - (cut + length ys)) (drop (cut + length ys) xs) ++ (ys ++ drop at xs))
+
+-- the items with others before those from a place on
+abbrev pub items_with : {X : Type 0} → List X → ℕ → List X → List X
+items_with xs at ys = take at xs ++ (ys ++ drop at xs)
 
 -- the items without as many as are given from a place on
 abbrev pub items_without : {X : Type 0} → List X → ℕ → ℕ → List X

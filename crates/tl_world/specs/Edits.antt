@@ -1,5 +1,6 @@
 -- What edits of tables make of their facts and places.
-use Rattle.std.specs.Prelude.{◌≡◌, List, map}
+use Rattle.std.specs.Prelude.{◌≡◌, List, [], ◌∷◌, map, Bool, true, IfOk}
+use Rattle.std.specs.declared.result.Result.{Result}
 use Rattle.std.specs.FinMap as dict
 use Rattle.std.specs.FinSet as set
 use Rattle.tl_syntax.specs.declared.fact.Fact.{Fact}
@@ -43,3 +44,11 @@ SetsPlace q v old new = places_of new ≡ dict.insert (places_of old) q v
 -- the tables have the same values, but for the places that are set
 abbrev pub SetsPlaces : List PlaceValue → List (Named (List PlaceRow)) → List (Named (List PlaceRow)) → Type 0
 SetsPlaces sets old new = places_of new ≡ changed_places (places_of old) sets
+
+-- the tables have the same facts without one and then with another
+abbrev pub IsReplaced : Fact → Fact → List (Named (List (List Value))) → List (Named (List (List Value))) → Type 0
+IsReplaced gone fact old new = AreChangedBy (gone ∷ []) (fact ∷ []) old new
+
+-- this holds where the answer is yes
+abbrev pub OnTrue : {E : Type 0} → Result Bool E → Type 0 → Type 0
+OnTrue answer P = IfOk answer (λ b. b ≡ true → P)

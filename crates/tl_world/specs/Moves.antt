@@ -6,11 +6,14 @@ use Rattle.std.specs.List.{insert, remove, list_any, HoldsAt}
 use Rattle.std.specs.List.Sorted.{IsBinarySearchResult}
 use Rattle.std.specs.Ordering.{eq_by_cmp}
 use Rattle.std.specs.declared.cmp.Ordering.TheVariants.{Equal}
+use Rattle.std.specs.declared.result.Result.{Result}
 use Rattle.tl_syntax.specs.declared.fact.Fact.{Fact}
 use Rattle.tl_syntax.specs.declared.value.Value.{Value}
 use Rattle.tl_syntax.specs.Keys.{Key, key_cmp, fact_key}
 use Rattle.tl_syntax.specs.Lists.{Among}
 use Rattle.tl_terms.specs.Step.{with_all, without_all}
+use Rattle.tl_world.specs.declared.named.Named.{Named}
+use Rattle.tl_world.specs.Cuts.{even_rows}
 use Rattle.tl_world.specs.Plain.{row_cmp}
 
 -- the place of what stood at `cut`, after one more at `at`
@@ -49,6 +52,14 @@ pub record IsMoved (rows : List (List Value)) (cut n : ℕ) (facts : List Fact) 
 -- the rows without that at place `cut`, where nothing else is said of those of the facts
 abbrev pub IsTakenOut : List (List Value) → ℕ → ℕ → List Fact → List (List Value) → Type 0
 IsTakenOut rows cut n facts after = (after ≡ remove rows cut) ⊎ IsMoved rows cut n facts after
+
+-- the same for the rows of a table
+abbrev pub IsTakenOutOf : Named (List (List Value)) → ℕ → List Fact → List (List Value) → Type 0
+IsTakenOutOf table cut facts after = IsTakenOut table.rows.value cut table.name facts after
+
+-- where a row with these arguments stands or would stand among n rows with as many values
+abbrev pub IsEvenPlace : List Value → ℕ → List Value → Result ℕ ℕ → Type 0
+IsEvenPlace args n xs found = IsBinarySearchResult (λ (r : List Value). row_cmp r args) (even_rows (length args) n xs) found
 
 -- the same facts, but for those of a list
 abbrev pub AreSameBeside : List Fact → set.FinSet key_cmp → set.FinSet key_cmp → Type 0

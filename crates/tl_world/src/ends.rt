@@ -1,5 +1,5 @@
 // The places at which rows end that follow one another in one list.
-ghost use Rattle.std.specs.Prelude.{◌≡◌, ◌<◌, ◌≤◌, ◌+◌, ◌-◌, ◌^◌, [], ◌∷◌, ◌++◌, length, slice_index_or, true, false, IfNone, IfOk, IfSome, OnOk, OnErr};
+ghost use Rattle.std.specs.Prelude.{◌≡◌, ◌<◌, ◌≤◌, ◌+◌, ◌-◌, ◌*◌, ◌^◌, [], ◌∷◌, ◌++◌, length, slice_index_or, true, false, IfNone, IfOk, IfSome, OnOk, OnErr};
 ghost use Rattle.tl_world.specs.Cuts.{begin, end_of, ends_joined, ends_with, even_ends};
 
 use std::alloc::Global;
@@ -36,6 +36,20 @@ impl Ends {
         Ends {
             width: 0,
             count: 0,
+            listed: Vec::new(alloc),
+        }
+    }
+
+    /// The ends of so many rows of one length. It takes no memory.
+    #[inline(always)]
+    pub(crate) fn even(alloc: Global, size: usize, count: usize) -> Ends
+        requires count { count < 2 ^ 63 }
+        requires values { size * count < 2 ^ 63 }
+        ensures { result ≡ even_ends 0 size count }
+    {
+        Ends {
+            width: size,
+            count,
             listed: Vec::new(alloc),
         }
     }

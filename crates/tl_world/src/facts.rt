@@ -4,14 +4,15 @@ ghost use Rattle.std.specs.List.Sorted.{IsPermutation};
 ghost use Rattle.std.specs.Prelude.{◌≡◌, ◌<◌, ◌≤◌, Bool, true, false, length, IfOk, IfSome, OnOk};
 ghost use Rattle.tl_syntax.specs.declared.fact.Fact.{Fact as PlainFact};
 ghost use Rattle.tl_syntax.specs.Keys.{fact_key};
-ghost use Rattle.tl_world.specs.Edits.{AreChangedBy, FactIsTakenOut, FactsAreTakenOut, GainsFact, GainsFacts};
-ghost use Rattle.tl_world.specs.Moves.{IsComing, IsTakenOut};
+ghost use Rattle.tl_world.specs.Edits.{AreChangedBy, FactIsTakenOut, FactsAreTakenOut, GainsFact, GainsFacts, IsReplaced, OnTrue};
+ghost use Rattle.tl_world.specs.Moves.{IsComing, IsTakenOutOf};
 ghost use Rattle.tl_world.specs.Tables.{InOrder, fact_tables};
 
 use crate::Rows;
 use crate::kept::keep_second_orders;
 use crate::named::{Named, find_table};
-use crate::rows::place_left;
+use crate::row_search::{find_in, find_near};
+use crate::rows::{place_left, share_rows};
 use crate::runs::find_row;
 use std::alloc::Global;
 use std::rc::Rc;
@@ -52,7 +53,7 @@ fn coming(table: &Named<Rows>, adds: &[Fact], guesses: &[usize]) -> Option<(usiz
     None
 }
 
-/// The rows without that at place `cut`. A fact of this table that is to be added comes in with the same copy, and a guess is kept of its place.
+/// The rows without that at place `cut`. A fact of this table that is to be added comes in with the same copy, and a guess is kept of its place. No fact came into these rows before, since another world shares them: so no guess is looked at.
 #[inline]
 fn rows_without(
     alloc: Global,
@@ -60,16 +61,18 @@ fn rows_without(
     cut: usize,
     adds: &[Fact],
     guesses: &mut [usize],
-) -> Result<Rows, NoMemory>
+) -> Result<Rc<Rows>, NoMemory>
     requires { cut < length table.now.rows.value }
-    ensures { IfOk result (IsTakenOut table.now.rows.value cut table.now.name adds.now) }
+    ensures { IfOk result (λ rows. IsTakenOutOf table.now cut adds.now rows.value) }
 {
     match coming(table, adds, &[]) {
         Some((j, at)) => {
             keep_guess(guesses, j, place_left(cut, at));
-            table.rows.moved(alloc, cut, at, adds[j].args.as_slice())
+            table
+                .rows
+                .shared_moved(alloc, cut, at, adds[j].args.as_slice())
         }
-        None => table.rows.without(alloc, cut),
+        None => table.rows.shared_without(alloc, cut),
     }
 }
 
@@ -84,7 +87,7 @@ fn cut_row(
 ) -> Result<(), NoMemory>
     requires { cut < length table.old.rows.value }
     ensures name { table.new.name ≡ table.old.name }
-    ensures rows { OnOk result (IsTakenOut table.old.rows.value cut table.old.name adds.now table.new.rows.value) }
+    ensures rows { OnOk result (IsTakenOutOf table.old cut adds.now table.new.rows.value) }
 {
     let found = coming(table, adds, guesses);
     match Rc::get_mut(&mut table.rows) {
@@ -96,8 +99,7 @@ fn cut_row(
             None => rows.cut_row(alloc, cut),
         },
         None => {
-            let rows = table.rows.without(alloc, cut)?;
-            table.rows = Rc::new(alloc, rows)?;
+            table.rows = table.rows.shared_without(alloc, cut)?;
             Ok(())
         }
     }
@@ -139,10 +141,9 @@ fn without(
                         tables.remove(i);
                         return Ok(());
                     }
-                    let shared = Rc::new(alloc, rows)?;
                     let fresh = Named {
                         name: fact.pred,
-                        rows: shared,
+                        rows,
                     };
                     put_table(tables, i, fresh);
                     Ok(())
@@ -182,8 +183,7 @@ fn put_row(alloc: Global, table: &mut Named<Rows>, k: usize, row: &[Value]) -> R
     match Rc::get_mut(&mut table.rows) {
         Some(rows) => rows.put_row(alloc, k, row),
         None => {
-            let rows = table.rows.with(alloc, k, row)?;
-            table.rows = Rc::new(alloc, rows)?;
+            table.rows = table.rows.shared_with(alloc, k, row)?;
             Ok(())
         }
     }
@@ -204,7 +204,7 @@ fn with_fact(
     match find_table(tables.as_slice(), pred) {
         Err(i) => {
             let rows = Rows::of_one(alloc, args.as_slice())?;
-            let shared = Rc::new(alloc, rows)?;
+            let shared = share_rows(alloc, rows)?;
             let fresh = Named {
                 name: pred,
                 rows: shared,
@@ -301,10 +301,60 @@ fn few(facts: &[Fact]) -> &[Fact]
     if facts.len() < 8 { facts } else { &facts[..0] }
 }
 
-/// Takes the facts of `dels` out of the tables, and then puts those of `adds` in.
-///
-/// A fact that is deleted and one that is added to the same table are one copy of it, or one edit of that copy, where not many are added.
-pub(crate) fn change_facts(
+/// Takes the fact `gone` out of its table, where it is there, and puts another one of the same table in. It does so only where the rows stand in one list and the other fact is not among them: whether that is so.
+#[inline(always)]
+fn replace_fact(
+    alloc: Global,
+    tables: &mut Vec<Named<Rows>>,
+    gone: &Fact,
+    fact: &Fact,
+) -> Result<bool, NoMemory>
+    requires { InOrder (fact_tables tables.old.items) }
+    ensures order { IfOk result (λ b. InOrder (fact_tables tables.new.items)) }
+    ensures all { OnTrue result (IsReplaced gone.now fact.now tables.old.items tables.new.items) }
+    ensures none { IfOk result (λ b. b ≡ false → tables.new.items ≡ tables.old.items) }
+{
+    if gone.pred != fact.pred {
+        return Ok(false);
+    }
+    let Ok(i) = find_table(tables.as_slice(), gone.pred) else {
+        return Ok(false);
+    };
+    let t = &tables[i];
+    let Some(list) = t.rows.list() else {
+        return Ok(false);
+    };
+    match find_in(list, gone.args.as_slice()) {
+        Ok(cut) => {
+            let Err(at) = find_near(list, cut, fact.args.as_slice()) else {
+                return Ok(false);
+            };
+            let rows = t.rows.shared_moved(alloc, cut, at, fact.args.as_slice())?;
+            let fresh = Named {
+                name: gone.pred,
+                rows,
+            };
+            put_table(tables, i, fresh);
+            Ok(true)
+        }
+        Err(_) => {
+            let Err(at) = find_in(list, fact.args.as_slice()) else {
+                return Ok(false);
+            };
+            let rows = t.rows.shared_with(alloc, at, fact.args.as_slice())?;
+            let fresh = Named {
+                name: gone.pred,
+                rows,
+            };
+            put_table(tables, i, fresh);
+            Ok(true)
+        }
+    }
+}
+
+/// Takes the facts of `dels` out of the tables, and then puts those of `adds` in, one after another.
+#[inline(never)]
+fn change_many(
     alloc: Global,
     tables: &mut Vec<Named<Rows>>,
     dels: &[Fact],
@@ -318,4 +368,26 @@ pub(crate) fn change_facts(
     without_each(alloc, tables, dels, few(adds), &mut guesses)?;
     with_facts(alloc, tables, adds, &guesses)?;
     keep_second_orders(alloc, tables)
+}
+
+/// Takes the facts of `dels` out of the tables, and then puts those of `adds` in.
+///
+/// A fact that is deleted and one that is added to the same table are one copy of it, or one edit of that copy, where not many are added.
+#[inline(always)]
+pub(crate) fn change_facts(
+    alloc: Global,
+    tables: &mut Vec<Named<Rows>>,
+    dels: &[Fact],
+    adds: &[Fact],
+) -> Result<(), NoMemory>
+    requires { InOrder (fact_tables tables.old.items) }
+    ensures order { OnOk result (InOrder (fact_tables tables.new.items)) }
+    ensures facts { OnOk result (AreChangedBy dels.now adds.now tables.old.items tables.new.items) }
+{
+    if dels.len() == 1 && adds.len() == 1 {
+        if replace_fact(alloc, tables, &dels[0], &adds[0])? {
+            return Ok(());
+        }
+    }
+    change_many(alloc, tables, dels, adds)
 }

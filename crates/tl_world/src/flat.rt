@@ -1,8 +1,8 @@
 // Rows one after another in one list.
 ghost use Rattle.std.specs.List.{insert, remove};
-ghost use Rattle.std.specs.Prelude.{◌≡◌, ◌<◌, ◌≤◌, ◌+◌, ◌-◌, ◌*◌, ◌^◌, ◌↔◌, List, [], ◌∷◌, ◌++◌, length, take, drop, slice_index_or, true, IfOk, OnErr, OnOk};
+ghost use Rattle.std.specs.Prelude.{◌≡◌, ◌<◌, ◌≤◌, ◌+◌, ◌-◌, ◌*◌, ◌^◌, ◌↔◌, List, [], ◌∷◌, ◌++◌, length, take, drop, slice_index_or, true, IfOk, IfSome, OnErr, OnOk};
 ghost use Rattle.tl_syntax.proofs.Telling.{tells-partial};
-ghost use Rattle.tl_world.specs.Cuts.{items_back, items_on, items_over, items_without};
+ghost use Rattle.tl_world.specs.Cuts.{even_rows, items_back, items_on, items_over, items_without};
 ghost use Rattle.tl_world.specs.Moves.{row_moved};
 ghost use Rattle.tl_world.specs.Runs.{between};
 ghost use Rattle.tl_world.specs.RowTests.{rows_eq, rows-tell};
@@ -101,7 +101,7 @@ fn write_values(values: &mut Vec<Value>, at: usize, row: &[Value])
 
 /// Puts the row's values before those from `at` on, and takes as many out from the place `cut` on, which is not before it.
 #[inline]
-fn shift_back(values: &mut Vec<Value>, at: usize, cut: usize, row: &[Value])
+pub(crate) fn shift_back(values: &mut Vec<Value>, at: usize, cut: usize, row: &[Value])
     requires order { at ≤ cut }
     requires bound { cut + length row.now ≤ length values.old.items }
     ensures { values.new.items ≡ items_back values.old.items at cut row.now }
@@ -112,7 +112,7 @@ fn shift_back(values: &mut Vec<Value>, at: usize, cut: usize, row: &[Value])
 
 /// Puts the row's values before those from `at` on, and takes as many out from the place `cut` on, which all come before it.
 #[inline]
-fn shift_on(values: &mut Vec<Value>, cut: usize, at: usize, row: &[Value])
+pub(crate) fn shift_on(values: &mut Vec<Value>, cut: usize, at: usize, row: &[Value])
     requires order { cut + length row.now ≤ at }
     requires bound { at ≤ length values.old.items }
     ensures { values.new.items ≡ items_on values.old.items cut at row.now }
@@ -155,6 +155,32 @@ impl Flat {
             ends: Ends::none(alloc),
             values: Vec::with_capacity(alloc, values)?,
         })
+    }
+
+    /// The rows of so many values each that stand one after another in the list.
+    #[inline(always)]
+    pub(crate) fn of_even(alloc: Global, size: usize, count: usize, values: Vec<Value>) -> Flat
+        requires count { count < 2 ^ 63 }
+        requires size { size * count ≡ length values.items }
+        ensures { result ≡ even_rows size count values.items }
+    {
+        Flat {
+            ends: Ends::even(alloc, size, count),
+            values,
+        }
+    }
+
+    /// The values of all rows, where each row has so many.
+    #[inline(always)]
+    pub(crate) fn even_values(&self, size: usize) -> Option<&[Value]>
+        ensures rows { IfSome result (λ v. self.now ≡ even_rows size (length self.now) v.now) }
+        ensures size { IfSome result (λ v. size * length self.now ≡ length v.now) }
+    {
+        if self.ends.have_width(size) {
+            Some(self.values.as_slice())
+        } else {
+            None
+        }
     }
 
     /// Makes room for as many values in all, where there are no rows yet, and no more.

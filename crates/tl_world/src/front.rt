@@ -1,8 +1,8 @@
 // How the leading values of a row stand to those that a pattern asks for.
 ghost use Rattle.std.specs.Prelude.{◌≡◌, ◌<◌, ◌≤◌, ◌+◌, ◌^◌, length, IfSome};
-ghost use Rattle.tl_syntax.specs.Keys.{value_cmp};
 ghost use Rattle.tl_world.specs.Front.{known_value, seen_after, front, front_cmp, known_of, is_in_turn, are_in_turn};
 
+use crate::row_order::order_of_values;
 use crate::{Match, Part};
 use std::cmp::Ordering;
 use tl_syntax::Value;
@@ -59,14 +59,6 @@ pub(crate) fn are_in_turn(parts: &[Part]) -> bool
         k += 1;
     }
     true
-}
-
-/// How one value stands to another in value order.
-#[tactic(auto, using(crate::proofs::Order::orders))]
-fn order_of_values(x: Value, y: Value) -> Ordering
-    ensures { result ≡ value_cmp x y }
-{
-    x.cmp(&y)
 }
 
 /// How the values of the leading parts, as far as they are fixed or known in turn, stand to as many leading values of the row.

@@ -4,6 +4,7 @@ ghost use Rattle.tl_world.specs.Tables.{fact_tables};
 
 use crate::Rows;
 use crate::named::Named;
+use crate::rows::share_rows;
 use std::alloc::Global;
 use std::rc::Rc;
 use tl_syntax::NoMemory;
@@ -13,7 +14,7 @@ fn keep_second(alloc: Global, rows: Rc<Rows>) -> Result<Rc<Rows>, NoMemory>
     ensures { IfOk result (λ kept. kept.value ≡ rows.value) }
 {
     match Rc::try_unwrap(rows) {
-        Ok(own) => Ok(Rc::new(alloc, own.with_second(alloc)?)?),
+        Ok(own) => share_rows(alloc, own.with_second(alloc)?),
         Err(shared) => Ok(shared),
     }
 }

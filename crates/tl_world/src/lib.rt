@@ -6,7 +6,8 @@
 //! - `second`, `second_made`: rows by their second value, and how they are made.
 //! - `rows`: the facts of one predicate, with a code that is kept.
 //! - `table`: the places of one function with their values, with a code that is kept.
-//! - `row_search`: the place of a row in one list, found by halves.
+//! - `even`: rows of one length as the list of their values, with searches and copies.
+//! - `row_order`, `row_search`: how a row stands to another, and the place of a row in one list, found by halves.
 //! - `named`: a table with the number of its predicate or function, shared between worlds.
 //! - `facts`, `places`: the tables of facts and of places, and edits of them.
 //! - `kept`: which tables keep their rows by the second value too.
@@ -26,6 +27,7 @@
 mod after;
 mod by_second;
 mod ends;
+mod even;
 mod facts;
 mod first;
 mod first_place;
@@ -46,6 +48,7 @@ mod pattern;
 mod places;
 mod places_beside;
 mod row_match;
+mod row_order;
 mod row_search;
 mod rows;
 mod rows_beside;

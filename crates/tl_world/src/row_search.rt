@@ -4,17 +4,11 @@ ghost use Rattle.std.specs.Ordering.{is_gt};
 ghost use Rattle.std.specs.Prelude.{◌≡◌, ◌<◌, [], length, slice_index_or};
 ghost use Rattle.tl_world.specs.Tables.{row_cmp};
 
+use crate::even::{find_even, place_beside};
 use crate::flat::Flat;
+use crate::row_order::order_of;
 use std::cmp::Ordering;
 use tl_syntax::Value;
-
-/// How the row stands to the arguments, in lexicographic value order.
-#[tactic(auto, using(crate::proofs::Order::orders))]
-fn order_of(row: &[Value], args: &[Value]) -> Ordering
-    ensures { result ≡ row_cmp row.now args.now }
-{
-    row.cmp(args)
-}
 
 /// Whether the first row comes after the arguments.
 pub(crate) fn begins_after(rows: &Flat, args: &[Value]) -> bool
@@ -24,9 +18,9 @@ pub(crate) fn begins_after(rows: &Flat, args: &[Value]) -> bool
     order_of(rows.row(0), args).is_gt()
 }
 
-/// The place of the row with these arguments, or the place at which it would stand.
-#[inline(always)]
-pub(crate) fn find_in(rows: &Flat, args: &[Value]) -> Result<usize, usize>
+/// The place of the row with these arguments, or the place at which it would stand, by a look at each row's ends.
+#[inline(never)]
+fn find_each(rows: &Flat, args: &[Value]) -> Result<usize, usize>
     ensures range { IsSearchInRange result (length rows.now) }
     ensures place { IsBinarySearchResult (λ r. row_cmp r args.now) rows.now result }
 {
@@ -41,4 +35,40 @@ pub(crate) fn find_in(rows: &Flat, args: &[Value]) -> Result<usize, usize>
         }
     }
     Err(low)
+}
+
+/// The place of the row with these arguments, or the place at which it would stand.
+#[inline(always)]
+pub(crate) fn find_in(rows: &Flat, args: &[Value]) -> Result<usize, usize>
+    ensures range { IsSearchInRange result (length rows.now) }
+    ensures place { IsBinarySearchResult (λ r. row_cmp r args.now) rows.now result }
+{
+    match rows.even_values(args.len()) {
+        Some(values) => find_even(values, rows.len(), args),
+        None => find_each(rows, args),
+    }
+}
+
+/// The same. It looks beside row `k` first.
+#[inline(always)]
+pub(crate) fn find_near(rows: &Flat, k: usize, args: &[Value]) -> Result<usize, usize>
+    requires { k < length rows.now }
+    ensures range { IsSearchInRange result (length rows.now) }
+    ensures place { IsBinarySearchResult (λ r. row_cmp r args.now) rows.now result }
+{
+    if let Some(values) = rows.even_values(args.len())
+        && let Some(at) = place_beside(values, rows.len(), k, args)
+    {
+        return Err(at);
+    }
+    find_far(rows, args)
+}
+
+/// The same, by halves.
+#[inline(never)]
+fn find_far(rows: &Flat, args: &[Value]) -> Result<usize, usize>
+    ensures range { IsSearchInRange result (length rows.now) }
+    ensures place { IsBinarySearchResult (λ r. row_cmp r args.now) rows.now result }
+{
+    find_in(rows, args)
 }

@@ -21,14 +21,14 @@ one xs r a e is = ap (map fact_row) e ∙ ap (λ x. fact_row x ∷ []) is
 pub returns-in_ok-insert-in-Err-clause-order : goal.returns-in_ok-insert-in-Err-clause-order
 returns-in_ok-insert-in-Err-clause-order c =
     let fresh : Named (List (List Value)) = record { name = c.args.pred; rows = c.in_ok-shared-in-Err.shared } in
-    let row = one _ c.as_slice-in-Err.result.now c.args.args.now (c.in_ok-shared-in-Err.ensures.ok ∙ c.in_ok-rows-in-Err.ensures) c.as_slice-in-Err.ensures in
+    let row = one _ c.as_slice-in-Err.result.now c.args.args.now (c.in_ok-shared-in-Err.ensures ∙ c.in_ok-rows-in-Err.ensures) c.as_slice-in-Err.ensures in
     subst (λ ts. InOrder (fact_tables ts)) (sym c.in_ok-insert-in-Err.ensures.items)
     (change.order-new fact_row _ c.args.tables.now.items c.args.pred c.in-Err.i c.as_slice.ensures.value c.requires c.in-Err.ensures.range c.in-Err.ensures.place fresh c.args.args.now tt refl row)
 
 pub returns-in_ok-insert-in-Err-clause-facts : goal.returns-in_ok-insert-in-Err-clause-facts
 returns-in_ok-insert-in-Err-clause-facts c =
     let fresh : Named (List (List Value)) = record { name = c.args.pred; rows = c.in_ok-shared-in-Err.shared } in
-    let row = one _ c.as_slice-in-Err.result.now c.args.args.now (c.in_ok-shared-in-Err.ensures.ok ∙ c.in_ok-rows-in-Err.ensures) c.as_slice-in-Err.ensures in
+    let row = one _ c.as_slice-in-Err.result.now c.args.args.now (c.in_ok-shared-in-Err.ensures ∙ c.in_ok-rows-in-Err.ensures) c.as_slice-in-Err.ensures in
     set-put (fact_tables c.args.tables.now.items) (fact_tables c.insert.new.self.items) (c.args.pred, c.args.args.now)
     (λ q. ap (λ ts. dict.find key_cmp q (entries_of (fact_tables ts))) c.in_ok-insert-in-Err.ensures.items
     ∙ change.find-new fact_row _ c.args.tables.now.items c.args.pred c.in-Err.i c.as_slice.ensures.value c.requires c.in-Err.ensures.range c.in-Err.ensures.place fresh c.args.args.now tt refl row q)

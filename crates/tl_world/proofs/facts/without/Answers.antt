@@ -102,14 +102,15 @@ returns-then-is_empty-clause-facts c =
     let below : k < length old.rows.value = subst (λ xs. k < length xs) same c.in-Ok-find_row.ensures.range in
     let tied : HoldsAt (λ (r : List Value). row_cmp r a ≡ Equal) old.rows.value k = subst (λ xs. HoldsAt (λ (r : List Value). row_cmp r a ≡ Equal) xs k) same (subst (λ xs. HoldsAt (λ (r : List Value). row_cmp r xs ≡ Equal) c.runs.result.now k) c.as_slice-in-Ok.ensures c.in-Ok-find_row.ensures.place) in
     let adds = c.args.adds.now in
-    let after = c.in_ok-rows-in-Ok-find_row.rows in
+    let after = c.in_ok-rows-in-Ok-find_row.rows.value in
+    let empty = c.is_empty.ensures ∙ ap (λ xs. eqb (length xs) 0) c.deref-in-Ok-find_row.ensures in
     elim c.in_ok-rows-in-Ok-find_row.ensures [
       | inl rows ↦ same-beside adds _ _ (
-          let none = emptied old.rows.value after k _ c.is_empty.result rows c.if-is_empty.true c.is_empty.ensures (change.row-taken fact_row _ _ _ _ found a k _ refl below tied) in
+          let none = emptied old.rows.value after k _ c.is_empty.result rows c.if-is_empty.true empty (change.row-taken fact_row _ _ _ _ found a k _ refl below tied) in
           set-taken (fact_tables ts) (fact_tables c.remove.new.self.items) (n, a)
           (λ q. ap (λ us. dict.find key_cmp q (entries_of (fact_tables us))) c.remove.ensures.items ∙ change.find-emptied-out fact_row _ _ _ _ found a none q)
           )
-      | inr m ↦ absurd (not-emptied old.rows.value after k old.name adds c.is_empty.result m below c.if-is_empty.true c.is_empty.ensures)
+      | inr m ↦ absurd (not-emptied old.rows.value after k old.name adds c.is_empty.result m below c.if-is_empty.true empty)
     ]
 
 pub returns-in-Err-clause-facts : goal.returns-in-Err-clause-facts
@@ -133,8 +134,8 @@ returns-in-Err-find_row-clause-facts c =
     ∙ change.row-absent fact_row _ _ _ _ found a c.in-Err-find_row.field-0 _ same (rw c.as_slice-in-Ok.ensures at c.in-Err-find_row.ensures.place))
     )
 
-pub returns-in_ok-shared-in-Ok-find_row-clause-order : goal.returns-in_ok-shared-in-Ok-find_row-clause-order
-returns-in_ok-shared-in-Ok-find_row-clause-order c =
+pub returns-else-is_empty-clause-order : goal.returns-else-is_empty-clause-order
+returns-else-is_empty-clause-order c =
     let ts = c.args.tables.now.items in
     let n = c.args.fact.now.pred in
     let a = c.args.fact.now.args in
@@ -145,15 +146,15 @@ returns-in_ok-shared-in-Ok-find_row-clause-order c =
     let below : k < length old.rows.value = subst (λ xs. k < length xs) same c.in-Ok-find_row.ensures.range in
     let tied : HoldsAt (λ (r : List Value). row_cmp r a ≡ Equal) old.rows.value k = subst (λ xs. HoldsAt (λ (r : List Value). row_cmp r a ≡ Equal) xs k) same (subst (λ xs. HoldsAt (λ (r : List Value). row_cmp r xs ≡ Equal) c.runs.result.now k) c.as_slice-in-Ok.ensures c.in-Ok-find_row.ensures.place) in
     let adds = c.args.adds.now in
-    let rows = c.in_ok-rows-in-Ok-find_row.rows in
-    let fresh : Named (List (List Value)) = record { name = n; rows = c.in_ok-shared-in-Ok-find_row.shared } in
-    let held = c.in_ok-shared-in-Ok-find_row.ensures.ok in
-    let full = subst (λ xs. HasItem (map fact_row xs)) (sym held) (filled rows c.is_empty.result c.if-is_empty.false c.is_empty.ensures) in
-    let taken = subst (λ m. IsTakenOut old.rows.value k m adds fresh.rows.value) (change.name-is fact_row _ _ _ _ found) (subst (IsTakenOut old.rows.value k old.name adds) (sym held) c.in_ok-rows-in-Ok-find_row.ensures) in
+    let rows = c.in_ok-rows-in-Ok-find_row.rows.value in
+    let empty = c.is_empty.ensures ∙ ap (λ xs. eqb (length xs) 0) c.deref-in-Ok-find_row.ensures in
+    let fresh : Named (List (List Value)) = record { name = n; rows = c.in_ok-rows-in-Ok-find_row.rows } in
+    let full = filled rows c.is_empty.result c.if-is_empty.false empty in
+    let taken = subst (λ m. IsTakenOut old.rows.value k m adds fresh.rows.value) (change.name-is fact_row _ _ _ _ found) c.in_ok-rows-in-Ok-find_row.ensures in
     subst (λ us. InOrder (fact_tables us)) (sym c.put_table.ensures) (order-out ts n c.in-Ok.i old fresh adds k a found refl taken below tied full)
 
-pub returns-in_ok-shared-in-Ok-find_row-clause-facts : goal.returns-in_ok-shared-in-Ok-find_row-clause-facts
-returns-in_ok-shared-in-Ok-find_row-clause-facts c =
+pub returns-else-is_empty-clause-facts : goal.returns-else-is_empty-clause-facts
+returns-else-is_empty-clause-facts c =
     let ts = c.args.tables.now.items in
     let n = c.args.fact.now.pred in
     let a = c.args.fact.now.args in
@@ -164,9 +165,9 @@ returns-in_ok-shared-in-Ok-find_row-clause-facts c =
     let below : k < length old.rows.value = subst (λ xs. k < length xs) same c.in-Ok-find_row.ensures.range in
     let tied : HoldsAt (λ (r : List Value). row_cmp r a ≡ Equal) old.rows.value k = subst (λ xs. HoldsAt (λ (r : List Value). row_cmp r a ≡ Equal) xs k) same (subst (λ xs. HoldsAt (λ (r : List Value). row_cmp r xs ≡ Equal) c.runs.result.now k) c.as_slice-in-Ok.ensures c.in-Ok-find_row.ensures.place) in
     let adds = c.args.adds.now in
-    let rows = c.in_ok-rows-in-Ok-find_row.rows in
-    let fresh : Named (List (List Value)) = record { name = n; rows = c.in_ok-shared-in-Ok-find_row.shared } in
-    let held = c.in_ok-shared-in-Ok-find_row.ensures.ok in
-    let full = subst (λ xs. HasItem (map fact_row xs)) (sym held) (filled rows c.is_empty.result c.if-is_empty.false c.is_empty.ensures) in
-    let taken = subst (λ m. IsTakenOut old.rows.value k m adds fresh.rows.value) (change.name-is fact_row _ _ _ _ found) (subst (IsTakenOut old.rows.value k old.name adds) (sym held) c.in_ok-rows-in-Ok-find_row.ensures) in
+    let rows = c.in_ok-rows-in-Ok-find_row.rows.value in
+    let empty = c.is_empty.ensures ∙ ap (λ xs. eqb (length xs) 0) c.deref-in-Ok-find_row.ensures in
+    let fresh : Named (List (List Value)) = record { name = n; rows = c.in_ok-rows-in-Ok-find_row.rows } in
+    let full = filled rows c.is_empty.result c.if-is_empty.false empty in
+    let taken = subst (λ m. IsTakenOut old.rows.value k m adds fresh.rows.value) (change.name-is fact_row _ _ _ _ found) c.in_ok-rows-in-Ok-find_row.ensures in
     subst (λ us. AreSameBeside adds (set_of (fact_tables us)) (set.remove (set_of (fact_tables ts)) (n, a))) (sym c.put_table.ensures) (facts-out ts n c.in-Ok.i old fresh adds k a found refl taken below tied full)

@@ -1,4 +1,4 @@
-use Rattle.std.proofs.Common.{◌≡◌, ◌<◌, ◌≤◌, ◌-◌, length, get_or, take, drop, sym, ap, ◌∙◌, subst, arith}
+use Rattle.std.proofs.Common.{◌≡◌, ◌<◌, ◌≤◌, length, get_or, take, drop, sym, ap, ◌∙◌, subst, arith}
 use Rattle.tl_world.specs.Cuts.{begin}
 use Rattle.tl_world.proofs.Cuts.{length-between, get-between, begins-before-end, end-within}
 use Rattle.tl_world.proofs.flat.Flat.row.Goals as goal

@@ -1,6 +1,5 @@
 use Rattle.std.proofs.Common.{ap, ◌∙◌}
 use Rattle.std.specs.List.{insert, remove}
-use Rattle.tl_world.specs.Moves.{place_left}
 use Rattle.tl_world.proofs.Going.{on-ok}
 use Rattle.tl_world.proofs.Moving.{cut-then-put}
 use Rattle.tl_world.proofs.rows.Rows.move_either.Goals as goal

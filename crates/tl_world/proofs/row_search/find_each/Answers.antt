@@ -1,7 +1,7 @@
 use Rattle.std.proofs.Common.{◌<◌, ◌+◌, ◌-◌, ◌/◌, length, refl, sym, ◌∙◌, arith}
 use Rattle.tl_world.specs.Plain.{row_cmp}
 use Rattle.tl_world.proofs.Narrowing.{all-less, all-greater}
-use Rattle.tl_world.proofs.row_search.find_in.Goals as goal
+use Rattle.tl_world.proofs.row_search.find_each.Goals as goal
 
 pub loop-low-preserved-in-Less : goal.loop-low-preserved-in-Less
 loop-low-preserved-in-Less c =

@@ -6,7 +6,7 @@ use Rattle.tl_world.specs.Moves.{AreSameBeside}
 use Rattle.tl_world.specs.Tables.{fact_tables, set_of}
 use Rattle.tl_world.proofs.Beside.{with-beside}
 use Rattle.tl_world.proofs.Going.{on-ok}
-use Rattle.tl_world.proofs.facts.change_facts.Goals as goal
+use Rattle.tl_world.proofs.facts.change_many.Goals as goal
 
 pub returns-clause-facts : goal.returns-clause-facts
 returns-clause-facts c =

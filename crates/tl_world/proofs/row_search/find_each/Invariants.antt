@@ -3,7 +3,7 @@ use Rattle.std.specs.List.{AllWithin}
 use Rattle.std.specs.List.Sorted.{IsNonDecreasingBy}
 use Rattle.std.specs.Ordering.{ordering_index}
 use Rattle.tl_world.specs.Plain.{row_cmp}
-use Rattle.tl_world.proofs.row_search.find_in.Given as goal
+use Rattle.tl_world.proofs.row_search.find_each.Given as goal
 
 abbrev pub invariant-loop-low : goal.invariant-loop-low
 invariant-loop-low l = record {
