@@ -1,5 +1,6 @@
 pub mod Cuts
 pub mod Evenly
+pub mod PlaceLists
 pub mod EvenRows
 pub mod EvenCopies
 pub mod Pushing

@@ -1,5 +1,6 @@
 pub mod View
 pub mod Plain
+pub mod Places
 pub mod Codes
 pub mod RowTests
 pub mod Cuts

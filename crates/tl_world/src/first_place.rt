@@ -11,46 +11,57 @@ ghost use Rattle.tl_world.specs.Tables.{row_cmp, whole_row};
 use crate::after::{after_part, fits_in_turn};
 use crate::first::{put_value, put_values};
 use crate::front::{are_in_turn, order_of_front};
-use crate::{Part, PlaceRow};
+use crate::table::Place;
+use crate::{Part, PlaceRows};
 use tl_syntax::Value;
 
 /// How many places come before the first whose leading arguments are at least the known ones of the parts, found by halves.
-pub(crate) fn places_before(rows: &[PlaceRow], lead: &[Part], known: &[Value]) -> usize
+pub(crate) fn places_before(rows: &PlaceRows, lead: &[Part], known: &[Value]) -> usize
     requires { Rises row_cmp (map (λ r. r.args) rows.now) }
     ensures bound { result ≤ length rows.now }
     ensures before { Each (λ r. front_cmp (front 0 lead.now known.now) r.args ≡ Greater) (take result rows.now) }
 {
-    rows.partition_point(|r| order_of_front(lead, known, r.args.as_slice()).is_gt())
+    let mut low = 0;
+    let mut high = rows.len();
+    while low < high {
+        let middle = low + (high - low) / 2;
+        if order_of_front(lead, known, rows.args(middle)).is_gt() {
+            low = middle + 1;
+        } else {
+            high = middle;
+        }
+    }
+    low
 }
 
 /// Whether the leading parts and the last one are the arguments and the value of the place under the tuple's values, and the variables first stand in the order of their numbers.
-fn fits_place(lead: &[Part], last: Part, row: &PlaceRow, tuple: &[Value]) -> bool
+fn fits_place(lead: &[Part], last: Part, row: &Place<'_>, tuple: &[Value]) -> bool
     requires { length lead.now + 1 < 2 ^ 64 }
     ensures fits { result ≡ true → fits_all (lead.now ++ last ∷ []) (whole_row row.now) tuple.now ≡ true }
     ensures turn { result ≡ true → are_in_turn 0 (lead.now ++ last ∷ []) ≡ true }
 {
-    match fits_in_turn(lead, row.args.as_slice(), tuple) {
-        Some(seen) => after_part(last, row.value, seen, tuple).is_some(),
+    match fits_in_turn(lead, row.place_args(), tuple) {
+        Some(seen) => after_part(last, row.place_value(), seen, tuple).is_some(),
         None => false,
     }
 }
 
 /// Whether some tuple of `free` values makes the leading parts and the last one the arguments and the value of the place. Its values are then put into the first places of `values`.
-fn put_place(lead: &[Part], last: Part, free: u32, row: &PlaceRow, values: &mut [Value; 9]) -> bool
+fn put_place(lead: &[Part], last: Part, free: u32, row: &Place<'_>, values: &mut [Value; 9]) -> bool
     requires few { free ≤ 9 }
     requires slots { (n : ℕ) → occurs n (lead.now ++ last ∷ []) ≡ true → n < free }
     requires turn { are_in_turn 0 (lead.now ++ last ∷ []) ≡ true }
     ensures fits { result ≡ true → fits_all (lead.now ++ last ∷ []) (whole_row row.now) (take free values.new) ≡ true }
     ensures none { result ≡ false → (t : List Value) → fits_all (lead.now ++ last ∷ []) (whole_row row.now) t ≡ false }
 {
-    match put_values(lead, free, row.args.as_slice(), values) {
-        Some(seen) => put_value(last, row.value, seen, values).is_some(),
+    match put_values(lead, free, row.place_args(), values) {
+        Some(seen) => put_value(last, row.place_value(), seen, values).is_some(),
         None => false,
     }
 }
 
 /// Whether the place before `at` is the parts with the tuple's values put in, and the variables first stand in the order of their numbers.
-fn is_after_place(rows: &[PlaceRow], parts: &[Part], tuple: &[Value], at: usize) -> bool
+fn is_after_place(rows: &PlaceRows, parts: &[Part], tuple: &[Value], at: usize) -> bool
     requires { 1 ≤ length parts.now }
     ensures bound { result ≡ true → at ≤ length rows.now }
     ensures some { result ≡ true → 1 ≤ at }
@@ -58,12 +69,12 @@ fn is_after_place(rows: &[PlaceRow], parts: &[Part], tuple: &[Value], at: usize)
     ensures turn { result ≡ true → are_in_turn 0 parts.now ≡ true }
 {
     let n = parts.len() - 1;
-    at > 0 && at <= rows.len() && fits_place(&parts[..n], parts[n], &rows[at - 1], tuple)
+    at > 0 && at <= rows.len() && fits_place(&parts[..n], parts[n], &rows.place(at - 1), tuple)
 }
 
 /// How many places come before those with the tuples after that in place, or with all tuples where none is. None where the variables do not first stand in the order of their numbers, or `near` is another number, where a tuple is in place.
 pub(crate) fn places_up_to(
-    rows: &[PlaceRow],
+    rows: &PlaceRows,
     parts: &[Part],
     begun: bool,
     tuple: &[Value],
@@ -94,7 +105,7 @@ pub(crate) fn places_up_to(
 ///
 /// Places are looked at up to the first whose leading arguments exceed the fixed leading parts.
 pub(crate) fn put_first_place(
-    rows: &[PlaceRow],
+    rows: &PlaceRows,
     parts: &[Part],
     free: u32,
     from: usize,
@@ -114,11 +125,11 @@ pub(crate) fn put_first_place(
     let last = parts[n];
     let mut k = from;
     while k < rows.len() {
-        let row = &rows[k];
-        if put_place(lead, last, free, row, values) {
+        let row = rows.place(k);
+        if put_place(lead, last, free, &row, values) {
             return Some(k + 1);
         }
-        if order_of_front(lead, &[], row.args.as_slice()).is_lt() {
+        if order_of_front(lead, &[], row.place_args()).is_lt() {
             return None;
         }
         k += 1;

@@ -110,7 +110,7 @@ impl World {
         match self.places(pattern.name) {
             Some(rows) => {
                 let parts = &pattern.parts[..pattern.len as usize];
-                put_next_in_places(rows.as_slice(), parts, pattern.free, begun, tuple, near)
+                put_next_in_places(rows, parts, pattern.free, begun, tuple, near)
             }
             None => false,
         }

@@ -13,7 +13,7 @@ use crate::first_place::{places_before, places_up_to, put_first_place};
 use crate::front::{order_of_front, values_of};
 use crate::row_match::{match_place, match_row};
 use crate::runs::Runs;
-use crate::{Match, Part, PlaceRow};
+use crate::{Match, Part, PlaceRows};
 use tl_syntax::Value;
 
 #[tactic(auto, using(crate::proofs::Order::orders))]
@@ -172,7 +172,7 @@ fn least_in_rows(rows: &Runs, parts: &[Part], free: u32, after: &Option<Match>) 
 ///
 /// Where the variables first stand in the order of their numbers, it is that of the first place after that of the tuple in place that the parts fit.
 pub(crate) fn put_next_in_places(
-    rows: &[PlaceRow],
+    rows: &PlaceRows,
     parts: &[Part],
     free: u32,
     begun: bool,
@@ -203,7 +203,7 @@ pub(crate) fn put_next_in_places(
 
 /// Puts the least tuple after that in place that makes the parts one of the places with its value in place, whatever the order of the variables.
 fn put_least_place(
-    rows: &[PlaceRow],
+    rows: &PlaceRows,
     parts: &[Part],
     free: u32,
     begun: bool,
@@ -230,7 +230,7 @@ fn put_least_place(
 ///
 /// It looks at rows as `next_in_rows` does, by the parts for the arguments.
 fn next_in_places(
-    rows: &[PlaceRow],
+    rows: &PlaceRows,
     parts: &[Part],
     free: u32,
     after: &Option<Match>,
@@ -246,11 +246,11 @@ fn next_in_places(
     let mut k = places_before(rows, lead, values_of(after, free));
     let mut best = None;
     while k < rows.len() {
-        let row = &rows[k];
-        if is_past(lead, &best, free, row.args.as_slice()) {
+        let row = rows.place(k);
+        if is_past(lead, &best, free, row.place_args()) {
             return best;
         }
-        best = lesser(best, match_place(parts, free, row), after, free);
+        best = lesser(best, match_place(parts, free, &row), after, free);
         k += 1;
     }
     best

@@ -1,46 +1,72 @@
 // Tables of places with their values, and what changes them.
-ghost use Rattle.std.specs.Cmp.Lexicographic.{slice_cmp};
-ghost use Rattle.std.specs.FinMap as dict;
+ghost use Rattle.std.specs.List.{insert};
 ghost use Rattle.std.specs.List.Sorted.{IsBinarySearchResult, IsSearchInRange, IsStableBy};
-ghost use Rattle.std.specs.Prelude.{◌≡◌, length, map, T, IfOk, OnOk};
-ghost use Rattle.tl_syntax.specs.Keys.{key_cmp, value_cmp, place_entry};
+ghost use Rattle.std.specs.Prelude.{◌≡◌, ◌<◌, ◌≤◌, length, IfOk, OnOk};
+ghost use Rattle.tl_syntax.specs.Keys.{key_cmp, place_entry};
 ghost use Rattle.tl_world.specs.Edits.{SetsPlace, SetsPlaces};
 ghost use Rattle.tl_world.specs.Falling.{is_above};
-ghost use Rattle.tl_world.specs.Tables.{InOrder, place_row, place_tables, row_cmp};
+ghost use Rattle.tl_world.specs.Places.{place_set};
+ghost use Rattle.tl_world.specs.Tables.{InOrder, place_tables, row_cmp};
 
+use crate::PlaceRows;
 use crate::named::{Named, find_table};
-use crate::{PlaceRow, PlaceRows};
+use crate::row_search::find_in;
 use std::alloc::Global;
 use std::cmp::Ordering;
 use std::rc::Rc;
 use tl_syntax::{NoMemory, PlaceValue, Value, Values};
 
 /// The place of the row with these arguments, or the place at which it would stand.
-pub(crate) fn find_place(rows: &[PlaceRow], args: &[Value]) -> Result<usize, usize>
+pub(crate) fn find_place(rows: &PlaceRows, args: &[Value]) -> Result<usize, usize>
     ensures range { IsSearchInRange result (length rows.now) }
-    ensures place { IsBinarySearchResult (λ r. slice_cmp value_cmp r.args args.now) rows.now result }
+    ensures place { IsBinarySearchResult (λ r. row_cmp r.args args.now) rows.now result }
 {
-    rows.binary_search_by(|r| r.args.as_slice().cmp(args))
+    find_in(rows.all_args(), args)
 }
 
-/// The table, copied only where another world shares it.
-fn own_places(alloc: Global, rows: Rc<PlaceRows>) -> Result<PlaceRows, NoMemory>
-    ensures same { IfOk result (λ a. a ≡ rows.value) }
+/// Puts another value at place `k` of the table. The values are copied where another world shares them.
+fn set_value(
+    alloc: Global,
+    table: &mut Named<PlaceRows>,
+    k: usize,
+    value: Value,
+) -> Result<(), NoMemory>
+    requires { k < length table.old.rows.value }
+    ensures name { table.new.name ≡ table.old.name }
+    ensures rows { OnOk result (table.new.rows.value ≡ place_set table.old.rows.value k value) }
 {
-    match Rc::try_unwrap(rows) {
-        Ok(own) => Ok(own),
-        Err(shared) => shared.copy(alloc),
+    match Rc::get_mut(&mut table.rows) {
+        Some(rows) => {
+            rows.set_value(k, value);
+            Ok(())
+        }
+        None => {
+            let rows = table.rows.with_value(alloc, k, value)?;
+            table.rows = Rc::new(alloc, rows)?;
+            Ok(())
+        }
     }
 }
 
-/// The rows with this one in its place, instead of one with the same arguments.
-fn put_place(rows: PlaceRows, row: PlaceRow) -> Result<PlaceRows, NoMemory>
-    requires { T (dict.is_sorted row_cmp (map place_row rows)) }
-    ensures after { IfOk result (λ a. map place_row a ≡ dict.put row_cmp row.args row.value (map place_row rows)) }
+/// Puts one more row at place `k` of the table. The rows are copied where another world shares them.
+fn put_place(
+    alloc: Global,
+    table: &mut Named<PlaceRows>,
+    k: usize,
+    args: &[Value],
+    value: Value,
+) -> Result<(), NoMemory>
+    requires { k ≤ length table.old.rows.value }
+    ensures name { table.new.name ≡ table.old.name }
+    ensures rows { OnOk result (table.new.rows.value ≡ insert table.old.rows.value k (record { args = args.now; value = value })) }
 {
-    match find_place(rows.as_slice(), row.args.as_slice()) {
-        Ok(k) => rows.without(k).put(k, row),
-        Err(k) => rows.put(k, row),
+    match Rc::get_mut(&mut table.rows) {
+        Some(rows) => rows.put_row(alloc, k, args, value),
+        None => {
+            let rows = table.rows.with(alloc, k, args, value)?;
+            table.rows = Rc::new(alloc, rows)?;
+            Ok(())
+        }
     }
 }
 
@@ -56,13 +82,9 @@ fn with_place(
     ensures order { OnOk result (InOrder (place_tables tables.new.items)) }
     ensures places { OnOk result (SetsPlace (fun, args.now) value tables.old.items tables.new.items) }
 {
-    let row = PlaceRow {
-        args: args.copy(alloc)?,
-        value,
-    };
     match find_table(tables.as_slice(), fun) {
         Err(i) => {
-            let rows = PlaceRows::of_one(alloc, row)?;
+            let rows = PlaceRows::of_one(alloc, args.as_slice(), value)?;
             let shared = Rc::new(alloc, rows)?;
             let fresh = Named {
                 name: fun,
@@ -72,16 +94,11 @@ fn with_place(
             Ok(())
         }
         Ok(i) => {
-            let old = tables.remove(i);
-            let own = own_places(alloc, old.rows)?;
-            let rows = put_place(own, row)?;
-            let shared = Rc::new(alloc, rows)?;
-            let fresh = Named {
-                name: fun,
-                rows: shared,
-            };
-            tables.insert(i, fresh)?;
-            Ok(())
+            let t = &tables[i];
+            match find_place(t.rows.as_ref(), args.as_slice()) {
+                Ok(k) => set_value(alloc, &mut tables[i], k, value),
+                Err(k) => put_place(alloc, &mut tables[i], k, args.as_slice(), value),
+            }
         }
     }
 }

@@ -2,13 +2,15 @@
 ghost use Rattle.std.specs.Ordering.{eq_by_cmp};
 ghost use Rattle.std.specs.Prelude.{◌≡◌, [], drop, true};
 ghost use Rattle.tl_syntax.specs.Keys.{key_cmp, place_entry};
+ghost use Rattle.tl_world.specs.RowTests.{place_row_eq};
 ghost use Rattle.tl_world.specs.TableNumbers.{sets_fun};
 ghost use Rattle.tl_world.specs.Unset.{is_set, ArePlacesBeside, ArePlaceTablesBeside, TellPlaces};
 
+use crate::PlaceRows;
 use crate::named::Named;
 use crate::same_number::is_same_number;
 use crate::same_row::is_same_row;
-use crate::{PlaceRow, PlaceRows};
+use crate::table::Place;
 use tl_syntax::{PlaceValue, Value};
 
 /// Tables of places with their numbers, as far as these are known: where two tables of one function have one number, their places have the same values.
@@ -39,14 +41,22 @@ pub(crate) fn has_fun(sets: &[PlaceValue], fun: u32) -> bool
     sets.iter().any(|p| p.fun == fun)
 }
 
+/// Whether the places are the same and have the same value. It takes no memory.
+fn is_same_place(place: &Place<'_>, other: &Place<'_>) -> bool
+    ensures { result ≡ place_row_eq place.now other.now }
+{
+    is_same_row(place.place_args(), other.place_args())
+        && place.place_value() == other.place_value()
+}
+
 /// Whether all places from one on are set. It takes no memory.
-fn are_set_from(fun: u32, rows: &[PlaceRow], from: usize, sets: &[PlaceValue]) -> bool
+fn are_set_from(fun: u32, rows: &PlaceRows, from: usize, sets: &[PlaceValue]) -> bool
     ensures { result ≡ true → ArePlacesBeside sets.now fun (drop from rows.now) [] }
 {
     let mut k = from;
     while k < rows.len() {
-        let r = &rows[k];
-        if !is_one_set(sets, fun, r.args.as_slice()) {
+        let r = rows.place(k);
+        if !is_one_set(sets, fun, r.place_args()) {
             return false;
         }
         k += 1;
@@ -57,20 +67,20 @@ fn are_set_from(fun: u32, rows: &[PlaceRow], from: usize, sets: &[PlaceValue]) -
 /// Whether the places of a function are found to have the same values in both tables, but for those that are set. It takes no memory.
 ///
 /// Both tables are gone over once, side by side.
-fn are_places_beside(fun: u32, rows: &[PlaceRow], others: &[PlaceRow], sets: &[PlaceValue]) -> bool
+fn are_places_beside(fun: u32, rows: &PlaceRows, others: &PlaceRows, sets: &[PlaceValue]) -> bool
     ensures { result ≡ true → ArePlacesBeside sets.now fun rows.now others.now }
 {
     let mut k = 0;
     let mut l = 0;
     while k < rows.len() && l < others.len() {
-        let r = &rows[k];
-        let o = &others[l];
-        if *r == *o {
+        let r = rows.place(k);
+        let o = others.place(l);
+        if is_same_place(&r, &o) {
             k += 1;
             l += 1;
-        } else if is_one_set(sets, fun, r.args.as_slice()) {
+        } else if is_one_set(sets, fun, r.place_args()) {
             k += 1;
-        } else if is_one_set(sets, fun, o.args.as_slice()) {
+        } else if is_one_set(sets, fun, o.place_args()) {
             l += 1;
         } else {
             return false;
@@ -86,7 +96,7 @@ fn are_tables_set_from(tables: &[Named<PlaceRows>], from: usize, sets: &[PlaceVa
     let mut i = from;
     while i < tables.len() {
         let t = &tables[i];
-        if !are_set_from(t.name, t.rows.as_slice(), 0, sets) {
+        if !are_set_from(t.name, t.rows.as_ref(), 0, sets) {
             return false;
         }
         i += 1;
@@ -116,19 +126,19 @@ pub(crate) fn are_place_tables_beside(
         let u = &others[j];
         if t.name == u.name {
             if !is_same_number(these.numbers, i, those.numbers, j)
-                && !are_places_beside(t.name, t.rows.as_slice(), u.rows.as_slice(), sets)
+                && !are_places_beside(t.name, t.rows.as_ref(), u.rows.as_ref(), sets)
             {
                 return false;
             }
             i += 1;
             j += 1;
         } else if t.name < u.name {
-            if !are_set_from(t.name, t.rows.as_slice(), 0, sets) {
+            if !are_set_from(t.name, t.rows.as_ref(), 0, sets) {
                 return false;
             }
             i += 1;
         } else {
-            if !are_set_from(u.name, u.rows.as_slice(), 0, sets) {
+            if !are_set_from(u.name, u.rows.as_ref(), 0, sets) {
                 return false;
             }
             j += 1;

@@ -3,7 +3,8 @@ ghost use Rattle.std.specs.Prelude.{◌≡◌, ◌<◌, ◌≤◌, ℕ, length, 
 ghost use Rattle.tl_world.specs.Fits.{fits_at, fits_all, occurs, Known, IsMatch};
 ghost use Rattle.tl_world.specs.Tables.{whole_row};
 
-use crate::{Match, Part, PlaceRow};
+use crate::table::Place;
+use crate::{Match, Part};
 use tl_syntax::Value;
 
 fn fits_part(part: Part, v: Value, tuple: &[Value]) -> bool
@@ -73,18 +74,18 @@ pub(crate) fn match_row(parts: &[Part], free: u32, row: &[Value]) -> Option<Matc
 }
 
 /// The tuple of `free` values that makes the parts the arguments and then the value of the place, where there is one.
-pub(crate) fn match_place(parts: &[Part], free: u32, row: &PlaceRow) -> Option<Match>
+pub(crate) fn match_place(parts: &[Part], free: u32, row: &Place<'_>) -> Option<Match>
     requires few { free ≤ 9 }
     requires each { (n : ℕ) → n < free → occurs n parts.now ≡ true }
     requires short { length parts.now ≤ 9 }
     ensures { IsMatch parts.now (whole_row row.now) free result }
 {
-    let args = row.args.as_slice();
+    let args = row.place_args();
     let n = args.len();
     if n >= 9 {
         return None;
     }
-    let mut whole = [row.value; 9];
+    let mut whole = [row.place_value(); 9];
     whole[..n].copy_from_slice(args);
     match_row(parts, free, &whole[..n + 1])
 }

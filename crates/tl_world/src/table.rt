@@ -1,15 +1,19 @@
 // The places of one function.
 ghost use Rattle.std.specs.Hash as fed;
 ghost use Rattle.std.specs.Hash.{same_Alike};
-ghost use Rattle.std.specs.List.{insert, remove};
-ghost use Rattle.std.specs.Prelude.{◌≡◌, ◌<◌, ◌≤◌, ◌==◌, [], ◌∷◌, length, slice_index_or, IfOk};
+ghost use Rattle.std.specs.List.{insert};
+ghost use Rattle.std.specs.Prelude.{◌≡◌, ◌<◌, ◌≤◌, ◌==◌, [], ◌∷◌, length, map, slice_index_or, slice_set, IfOk, OnErr, OnOk};
 ghost use Rattle.tl_syntax.proofs.Telling.{tells-partial, tells-equivalence};
 ghost use Rattle.tl_world.specs.Codes.{place_code, places_code};
+ghost use Rattle.tl_world.specs.Places.{place_set};
 ghost use Rattle.tl_world.specs.RowTests.{place_rows_eq, place_rows-tell};
 
+use crate::even::values_with;
+use crate::flat::Flat;
 use std::alloc::Global;
 use std::hash::{FoldHasher, Hash, Hasher};
 use std::marker::Model;
+use std::rc::Rc;
 use tl_syntax::{NoMemory, Value, Values};
 
 /// A place of a function, by its arguments, with its value.
@@ -22,48 +26,101 @@ pub struct PlaceRow {
 }
 
 /// The places of one function with their values. Contracts see it as the list of its rows.
+///
+/// The arguments of all places stand in one list, and their values in another. Tables that differ in values alone share the arguments.
 #[derive(Drop)]
 pub struct PlaceRows {
-    rows: Vec<PlaceRow>,
+    args: Rc<Flat>,
+    values: Vec<Value>,
     code: u64,
 }
 
 impl Model for PlaceRows {
-    ghost use Rattle.std.specs.Prelude.{List, ◌≡◌};
+    ghost use Rattle.std.specs.Prelude.{List, ◌≡◌, length};
     ghost use Rattle.tl_world.specs.declared.table.PlaceRow.{PlaceRow as PlainPlaceRow};
     ghost use Rattle.tl_world.specs.Codes.{places_code};
+    ghost use Rattle.tl_world.specs.Places.{place_rows};
 
     ghost Value = { List PlainPlaceRow };
 
-    ghost view = { λ a. a.rows.items };
+    ghost view = { λ t. place_rows t.args.value t.values.items };
 
-    ghost invariant = { λ a. a.code ≡ places_code a.rows.items };
+    ghost invariant = { λ t. (length t.args.value ≡ length t.values.items) × (t.code ≡ places_code (place_rows t.args.value t.values.items)) };
+}
+
+/// A place with its value, where it stands in its table. Contracts see it as the row.
+#[derive(Drop)]
+pub(crate) struct Place<'a> {
+    args: &'a [Value],
+    value: Value,
+}
+
+impl<'a> Model for Place<'a> {
+    ghost use Rattle.tl_world.specs.declared.table.PlaceRow.{PlaceRow as PlainPlaceRow};
+
+    ghost Value = { PlainPlaceRow };
+
+    ghost view = { λ p. record { args = p.args.now; value = p.value } };
+}
+
+impl<'a> Place<'a> {
+    /// The arguments.
+    #[inline]
+    pub(crate) fn place_args(&self) -> &[Value]
+        ensures { result.now ≡ self.now.args }
+    {
+        self.args
+    }
+
+    /// The value.
+    #[inline]
+    pub(crate) fn place_value(&self) -> Value
+        ensures { result ≡ self.now.value }
+    {
+        self.value
+    }
 }
 
 /// The code of a place with its value.
 #[tactic(auto, unfolding(crate::specs::Codes::place_code))]
-fn code_of_place(row: &PlaceRow) -> u64
-    ensures { result ≡ place_code row.now }
+fn code_of_place(args: &[Value], value: Value) -> u64
+    ensures { result ≡ place_code (record { args = args.now; value = value }) }
 {
     let mut hasher = FoldHasher::default();
-    row.hash(&mut hasher);
+    args.hash(&mut hasher);
+    value.hash(&mut hasher);
     hasher.finish()
 }
 
-/// A copy of rows.
-fn copy_places(alloc: Global, rows: &[PlaceRow]) -> Result<Vec<PlaceRow>, NoMemory>
-    ensures same { IfOk result (λ v. v.items ≡ rows.now) }
+/// The values with another one at place `k`.
+fn values_set(
+    alloc: Global,
+    values: &[Value],
+    k: usize,
+    value: Value,
+) -> Result<Vec<Value>, NoMemory>
+    requires { k < length values.now }
+    ensures { IfOk result (λ v. v.items ≡ slice_set values.now k value) }
 {
-    let mut out = Vec::with_capacity(alloc, rows.len())?;
-    for r in rows {
-        let args = r.args.copy(alloc)?;
-        let one = PlaceRow {
-            args,
-            value: r.value,
-        };
-        out.push(one)?;
-    }
+    let mut out = Vec::from_slice(alloc, values)?;
+    out[k] = value;
     Ok(out)
+}
+
+/// Puts one more row at place `k`, in place where no other table shares the rows. After a failure they are those of before.
+fn put_args(alloc: Global, args: &mut Rc<Flat>, k: usize, row: &[Value]) -> Result<(), NoMemory>
+    requires { k ≤ length args.old.value }
+    ensures all { OnOk result (args.new.value ≡ insert args.old.value k row.now) }
+    ensures same { OnErr result (args.new.value ≡ args.old.value) }
+{
+    match Rc::get_mut(args) {
+        Some(list) => list.put_row(alloc, k, row),
+        None => {
+            let list = args.with(alloc, k, row)?;
+            *args = Rc::new(alloc, list)?;
+            Ok(())
+        }
+    }
 }
 
 impl PlaceRows {
@@ -71,14 +128,14 @@ impl PlaceRows {
     pub fn len(&self) -> usize
         ensures { result ≡ length self.now }
     {
-        self.rows.len()
+        self.values.len()
     }
 
     /// Whether there is no row.
     pub fn is_empty(&self) -> bool
         ensures { result ≡ (length self.now == 0) }
     {
-        self.rows.is_empty()
+        self.len() == 0
     }
 
     /// The arguments of the function's place at place `k` of the list, counted from 0.
@@ -86,7 +143,7 @@ impl PlaceRows {
         requires { k < length self.now }
         ensures { (d : _) → result.now ≡ (slice_index_or self.now k d).args }
     {
-        self.rows[k].args.as_slice()
+        self.args.row(k)
     }
 
     /// The value of the function's place at place `k` of the list, counted from 0.
@@ -94,7 +151,19 @@ impl PlaceRows {
         requires { k < length self.now }
         ensures { (d : _) → result ≡ (slice_index_or self.now k d).value }
     {
-        self.rows[k].value
+        self.values[k]
+    }
+
+    /// The place at place `k` of the list, with its value.
+    #[inline]
+    pub(crate) fn place(&self, k: usize) -> Place<'_>
+        requires { k < length self.now }
+        ensures { (d : _) → result ≡ slice_index_or self.now k d }
+    {
+        Place {
+            args: self.args(k),
+            value: self.value(k),
+        }
     }
 
     /// The code of the places with their values. It takes no memory.
@@ -102,53 +171,101 @@ impl PlaceRows {
         self.code
     }
 
-    pub(crate) fn as_slice(&self) -> &[PlaceRow]
-        ensures { result.now ≡ self.now }
+    /// The arguments of the places.
+    pub(crate) fn all_args(&self) -> &Flat
+        ensures { result.now ≡ map (λ r. r.args) self.now }
     {
-        self.rows.as_slice()
+        self.args.as_ref()
     }
 
     /// The table of one row.
-    pub(crate) fn of_one(alloc: Global, row: PlaceRow) -> Result<PlaceRows, NoMemory>
-        ensures { IfOk result (λ a. a ≡ row ∷ []) }
+    pub(crate) fn of_one(alloc: Global, args: &[Value], value: Value) -> Result<PlaceRows, NoMemory>
+        ensures { IfOk result (λ t. t ≡ record { args = args.now; value = value } ∷ []) }
     {
-        let code = code_of_place(&row);
-        let mut rows = Vec::new(alloc);
-        rows.push(row)?;
-        Ok(PlaceRows { rows, code })
+        let mut list = Flat::with_room(alloc, args.len())?;
+        list.push(alloc, args)?;
+        let mut values = Vec::new(alloc);
+        values.push(value)?;
+        Ok(PlaceRows {
+            args: Rc::new(alloc, list)?,
+            values,
+            code: code_of_place(args, value),
+        })
     }
 
-    /// A copy of the table.
-    pub(crate) fn copy(&self, alloc: Global) -> Result<PlaceRows, NoMemory>
-        ensures { IfOk result (λ a. a ≡ self.now) }
+    /// The rows with another value at place `k`. Their arguments are shared.
+    pub(crate) fn with_value(
+        &self,
+        alloc: Global,
+        k: usize,
+        value: Value,
+    ) -> Result<PlaceRows, NoMemory>
+        requires { k < length self.now }
+        ensures { IfOk result (λ t. t ≡ place_set self.now k value) }
     {
-        let rows = copy_places(alloc, self.rows.as_slice())?;
+        let args = self.args.row(k);
+        let less = self.code.wrapping_sub(code_of_place(args, self.values[k]));
+        let code = less.wrapping_add(code_of_place(args, value));
         Ok(PlaceRows {
-            rows,
-            code: self.code,
+            args: self.args.clone()?,
+            values: values_set(alloc, self.values.as_slice(), k, value)?,
+            code,
         })
     }
 
     /// The rows with one more at place `k`.
-    pub(crate) fn put(self, k: usize, row: PlaceRow) -> Result<PlaceRows, NoMemory>
-        requires { k ≤ length self }
-        ensures { IfOk result (λ a. a ≡ insert self k row) }
+    pub(crate) fn with(
+        &self,
+        alloc: Global,
+        k: usize,
+        args: &[Value],
+        value: Value,
+    ) -> Result<PlaceRows, NoMemory>
+        requires { k ≤ length self.now }
+        ensures { IfOk result (λ t. t ≡ insert self.now k (record { args = args.now; value = value })) }
     {
-        let code = self.code.wrapping_add(code_of_place(&row));
-        let mut rows = self.rows;
-        rows.insert(k, row)?;
-        Ok(PlaceRows { rows, code })
+        let list = self.args.with(alloc, k, args)?;
+        Ok(PlaceRows {
+            args: Rc::new(alloc, list)?,
+            values: values_with(alloc, self.values.as_slice(), k, &[value])?,
+            code: self.code.wrapping_add(code_of_place(args, value)),
+        })
     }
 
-    /// The rows without that at place `k`.
-    pub(crate) fn without(self, k: usize) -> PlaceRows
-        requires { k < length self }
-        ensures { result ≡ remove self k }
+    /// Puts another value at place `k`.
+    pub(crate) fn set_value(&mut self, k: usize, value: Value)
+        requires { k < length self.old }
+        ensures { self.new ≡ place_set self.old k value }
     {
-        let mut rows = self.rows;
-        let row = rows.remove(k);
-        let code = self.code.wrapping_sub(code_of_place(&row));
-        PlaceRows { rows, code }
+        let args = self.args.row(k);
+        let less = self.code.wrapping_sub(code_of_place(args, self.values[k]));
+        self.code = less.wrapping_add(code_of_place(args, value));
+        self.values[k] = value;
+    }
+
+    /// Puts one more row at place `k`.
+    pub(crate) fn put_row(
+        &mut self,
+        alloc: Global,
+        k: usize,
+        args: &[Value],
+        value: Value,
+    ) -> Result<(), NoMemory>
+        requires { k ≤ length self.old }
+        ensures { OnOk result (self.new ≡ insert self.old k (record { args = args.now; value = value })) }
+    {
+        let code = self.code.wrapping_add(code_of_place(args, value));
+        self.values.insert(k, value)?;
+        match put_args(alloc, &mut self.args, k, args) {
+            Ok(()) => {
+                self.code = code;
+                Ok(())
+            }
+            Err(fault) => {
+                self.values.remove(k);
+                Err(fault)
+            }
+        }
     }
 }
 
@@ -158,7 +275,13 @@ impl PartialEq for PlaceRows {
     ghost laws = { tells-partial place_rows_eq place_rows-tell };
 
     fn eq(&self, other: &PlaceRows) -> bool {
-        self.rows == other.rows
+        if self.code != other.code {
+            return false;
+        }
+        if *self.args != *other.args {
+            return false;
+        }
+        self.values == other.values
     }
 }
 

@@ -31,10 +31,11 @@ use crate::places::{change_places, find_place};
 use crate::places_beside::{NumberedPlaces, are_place_tables_beside};
 use crate::runs::find_row;
 use crate::same_number::numbers_from;
+use crate::table::Place;
 use crate::table_name::TableName;
 use crate::tables_beside::{NumberedTables, are_tables_beside};
 use crate::unmet::Unmet;
-use crate::{PlaceRow, PlaceRows, Rows};
+use crate::{PlaceRows, Rows};
 use std::alloc::Global;
 use std::hash::{FoldHasher, Hash, Hasher};
 use std::marker::Model;
@@ -157,9 +158,8 @@ impl World {
         match find_table(self.places.as_slice(), fun) {
             Ok(i) => {
                 let t = &self.places[i];
-                let rows = t.rows.as_slice();
-                match find_place(rows, args) {
-                    Ok(k) => Some(rows[k].value),
+                match find_place(t.rows.as_ref(), args) {
+                    Ok(k) => Some(t.rows.value(k)),
                     Err(_) => None,
                 }
             }
@@ -205,7 +205,7 @@ impl World {
     /// This world stays as it is, and tables that do not change are shared. It fails for want of memory alone.
     ///
     /// A table is copied once: by the first fact that is deleted from it, where one that is added to it comes in with the same copy, or else by the first that is added to it. Later facts are taken out of the copy and put into it where they stand, one that goes and one that comes in one step where that can be. In a table of more than 48 rows the run in which such a fact stands is copied once, where other tables share it. A run that would be left with fewer than 12 rows, or grow past 48, makes its table be copied once more.
-    /// A copy of a table of facts takes its rows where they are at most 48. Of a larger one it takes the runs in which rows change and the last rows, some 150 rows at most, and a step for each of the other runs, which the worlds share: a table of n rows has some n / 48 to n / 12 of them. A copy of a table of places takes all its rows.
+    /// A copy of a table of facts takes its rows where they are at most 48. Of a larger one it takes the runs in which rows change and the last rows, some 150 rows at most, and a step for each of the other runs, which the worlds share: a table of n rows has some n / 48 to n / 12 of them. A copy of a table of places takes the values, and the arguments too where a place comes in that had no value.
     /// A table of facts that grows past 128 rows is sorted by the second value once, and its rows by the second value are copied with it from then on, so that a copy takes about twice the steps.
     pub fn changed(
         &self,
@@ -458,7 +458,7 @@ impl World {
     {
         tables
             .iter()
-            .all(|t| self.gives_rows(t.name, t.rows.as_slice()))
+            .all(|t| self.gives_rows(t.name, t.rows.as_ref()))
     }
 
     fn holds_rows(&self, pred: u32, rows: &Rows) -> bool
@@ -487,10 +487,23 @@ impl World {
         true
     }
 
-    fn gives_rows(&self, fun: u32, rows: &[PlaceRow]) -> bool
+    fn gives_place(&self, fun: u32, row: &Place<'_>) -> bool
+        ensures { result ≡ gives_row self.now fun row.now }
+    {
+        self.value(fun, row.place_args()) == Some(row.place_value())
+    }
+
+    fn gives_rows(&self, fun: u32, rows: &PlaceRows) -> bool
         ensures { result ≡ list_all (λ r. gives_row self.now fun r) rows.now }
     {
-        rows.iter()
-            .all(|r| self.value(fun, r.args.as_slice()) == Some(r.value))
+        let mut k = 0;
+        while k < rows.len() {
+            let row = rows.place(k);
+            if !self.gives_place(fun, &row) {
+                return false;
+            }
+            k += 1;
+        }
+        true
     }
 }

@@ -1,5 +1,4 @@
-use Rattle.std.proofs.Common.{List, rules}
-use Rattle.std.proofs.lemmas.List.Sorted.{IsPartitionPoint-from_clause}
+use Rattle.std.proofs.Common.{◌≡◌, ◌<◌, ◌+◌, ◌-◌, ◌/◌, List, length, get_or, true, sym, ap, ◌∙◌, arith}
 use Rattle.std.specs.Ordering.{is_gt}
 use Rattle.tl_syntax.specs.declared.value.Value.{Value}
 use Rattle.tl_world.specs.declared.table.PlaceRow.{PlaceRow}
@@ -7,8 +6,23 @@ use Rattle.tl_world.specs.Front.{front, front_cmp}
 use Rattle.tl_world.proofs.Skipping.{parted, each-before}
 use Rattle.tl_world.proofs.first_place.places_before.Goals as goal
 
+pub loop-low-preserved-then-is_gt : goal.loop-low-preserved-then-is_gt
+loop-low-preserved-then-is_gt c =
+    let key : PlaceRow → List Value = λ r. r.args in
+    let f = front 0 c.args.lead.now c.args.known.now in
+    let rows = c.args.rows.now in
+    let middle = c.loop-low.low + (c.loop-low.high - c.loop-low.low) / 2 in
+    let below : middle < c.loop-low.high = omega (arith, c.loop-low-test.true, c.loop-low.invariant.order) in
+    let inside : middle < length rows = omega (arith, c.loop-low.invariant.within, below) in
+    record {
+      order = omega (arith, below);
+      within = c.loop-low.invariant.within;
+      before = λ j d p q.
+          let here : is_gt (front_cmp f (get_or rows middle d).args) ≡ true = ap (λ a. is_gt (front_cmp f a)) (sym (c.args-in-loop-low.ensures d)) ∙ (ap is_gt (sym c.order_of_front.ensures) ∙ (sym c.is_gt.ensures ∙ c.if-is_gt.true)) in
+          parted key f rows c.requires j middle d (omega (arith, q)) inside here;
+    }
+
 pub returns-clause-before : goal.returns-clause-before
 returns-clause-before c =
     let key : PlaceRow → List Value = λ r. r.args in
-    let point = IsPartitionPoint-from_clause (λ r. is_gt (front_cmp (front 0 c.args.lead.now c.args.known.now) r.args)) c.args.rows.now c.partition_point.result c.partition_point.ensures.partitioned (parted key (front 0 c.args.lead.now c.args.known.now) c.args.rows.now c.requires) (λ a r f' k. search rules) in
-    each-before key (front 0 c.args.lead.now c.args.known.now) c.args.rows.now c.partition_point.result c.partition_point.ensures.bound point.0
+    each-before key (front 0 c.args.lead.now c.args.known.now) c.args.rows.now c.loop-low.low (omega (arith, c.loop-low.invariant.order, c.loop-low.invariant.within)) c.loop-low.invariant.before

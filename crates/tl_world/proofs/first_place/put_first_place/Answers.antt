@@ -27,13 +27,13 @@ returns-then-put_place c =
     let parts = c.args.parts.now in
     let rows = c.args.rows.now in
     let k = c.loop-k.k in
-    let row = c.index-rows-k.result in
+    let row = c.place-row.result in
     let new = c.put_place.new.values in
     let m : Match = record { values = new; len = c.args.free } in
     let size = length-take-le c.args.free new (omega (arith, c.put_place.array_long, c.requires.few)) in
     let fit = subst (λ ps. fits_all ps (whole_row row) (take c.args.free new) ≡ true) (lead-last parts _ c.requires.some) (c.put_place.ensures.fits c.if-put_place.true) in
     least-same c.args.free (Some m) (λ t. fits_some parts (drop k (map whole_row rows)) t) (λ t. fits_some parts (drop c.args.from (map whole_row rows)) t) (λ t st. sym (c.loop-k.invariant.same t))
-    (least-first parts c.args.free c.requires.turn c.requires.each c.requires.slots m (map whole_row rows) k (whole_row row) (inside rows k c.loop-k-test.true) (here rows k row c.loop-k-test.true c.index-rows-k.is) (alike-whole rows c.requires.order) refl size fit)
+    (least-first parts c.args.free c.requires.turn c.requires.each c.requires.slots m (map whole_row rows) k (whole_row row) (inside rows k (omega (arith, c.loop-k-test.true, c.len.ensures))) (here rows k row (omega (arith, c.loop-k-test.true, c.len.ensures)) (c.place-row.ensures _)) (alike-whole rows c.requires.order) refl size fit)
 
 pub returns-then-is_lt : goal.returns-then-is_lt
 unfolding IsLeast
@@ -41,24 +41,24 @@ returns-then-is_lt c t size =
     let key : PlaceRow → List Value = λ r. r.args in
     let parts = c.args.parts.now in
     let rows = c.args.rows.now in
-    let row = c.index-rows-k.result in
+    let row = c.place-row.result in
     let lead = take (length parts - 1) parts in
-    let less : is_lt (front_cmp (front 0 lead []) row.args) ≡ true = ap (λ r. is_lt (front_cmp (front 0 lead []) r)) (sym c.as_slice.ensures) ∙ (ap is_lt (sym c.order_of_front.ensures) ∙ (sym c.is_lt.ensures ∙ c.if-is_lt.true)) in
+    let less : is_lt (front_cmp (front 0 lead []) row.args) ≡ true = ap (λ r. is_lt (front_cmp (front 0 lead []) r)) (sym c.place_args.ensures) ∙ (ap is_lt (sym c.order_of_front.ensures) ∙ (sym c.is_lt.ensures ∙ c.if-is_lt.true)) in
     c.loop-k.invariant.same t
-    ∙ none-past key whole_row lead parts (leading-fits parts) rows c.loop-k.k row c.loop-k-test.true c.requires.order (subst (λ (r : PlaceRow). is_lt (front_cmp (front 0 lead []) r.args) ≡ true) c.index-rows-k.is less) t
+    ∙ none-past key whole_row lead parts (leading-fits parts) rows c.loop-k.k row (omega (arith, c.loop-k-test.true, c.len.ensures)) c.requires.order (subst (λ (r : PlaceRow). is_lt (front_cmp (front 0 lead []) r.args) ≡ true) (c.place-row.ensures _) less) t
 
 pub loop-k-preserved : goal.loop-k-preserved
 loop-k-preserved c =
     let parts = c.args.parts.now in
     let rows = c.args.rows.now in
     let k = c.loop-k.k in
-    let row = c.index-rows-k.result in
+    let row = c.place-row.result in
     record {
-      within = omega (arith, c.loop-k-test.true);
+      within = omega (arith, c.loop-k-test.true, c.len.ensures);
       same = λ t.
           let miss = subst (λ ps. fits_all ps (whole_row row) t ≡ _) (lead-last parts _ c.requires.some) (c.put_place.ensures.none c.if-put_place.false t) in
           c.loop-k.invariant.same t
-          ∙ one-less parts c.args.free c.requires.turn c.requires.each c.requires.slots (map whole_row rows) k (whole_row row) (inside rows k c.loop-k-test.true) (here rows k row c.loop-k-test.true c.index-rows-k.is) t miss;
+          ∙ one-less parts c.args.free c.requires.turn c.requires.each c.requires.slots (map whole_row rows) k (whole_row row) (inside rows k (omega (arith, c.loop-k-test.true, c.len.ensures))) (here rows k row (omega (arith, c.loop-k-test.true, c.len.ensures)) (c.place-row.ensures _)) t miss;
     }
 
 pub returns : goal.returns
@@ -66,4 +66,4 @@ unfolding IsLeast
 returns c t size =
     let rows = c.args.rows.now in
     let l = length-map rows whole_row in
-    c.loop-k.invariant.same t ∙ ap (λ ws. fits_some c.args.parts.now ws t) (drop_all c.loop-k.k (map whole_row rows) (omega (arith, c.loop-k-test.false, l)))
+    c.loop-k.invariant.same t ∙ ap (λ ws. fits_some c.args.parts.now ws t) (drop_all c.loop-k.k (map whole_row rows) (omega (arith, c.loop-k-test.false, c.len.ensures, l)))

@@ -27,7 +27,7 @@ returns-in-Some-clause-fits c h =
     let begins = begins-taken new (seen_after seen c.args.last) c.args.free (seen-last c.args.lead.now c.args.last seen c.args.free c.requires.slots c.in-Some.ensures.bound) in
     let lead = c.in-Some.ensures.fits t (begins-before seen c.args.last c.put_values.new.values new t c.put_value.ensures.kept begins) in
     fits-snoc c.args.lead.now row.args c.args.last row.value t
-    ∙ with_both (subst (λ vs. fits_all c.args.lead.now vs t ≡ true) c.as_slice.ensures lead) (of-some c.put_value.result _ (sym c.is_some.ensures ∙ h) c.put_value.ensures.fits t begins)
+    ∙ with_both (subst (λ vs. fits_all c.args.lead.now vs t ≡ true) c.place_args.ensures lead) (ap (λ v. fits_at c.args.last v t) (sym c.place_value.ensures) ∙ of-some c.put_value.result _ (sym c.is_some.ensures ∙ h) c.put_value.ensures.fits t begins)
 
 pub returns-in-Some-clause-none : goal.returns-in-Some-clause-none
 returns-in-Some-clause-none c h t =
@@ -36,11 +36,11 @@ returns-in-Some-clause-none c h t =
     fits-snoc lead row.args c.args.last row.value t
     ∙ (elim (fits_all lead row.args t) as (λ b. fits_all lead row.args t ≡ b → (b && fits_at c.args.last row.value t) ≡ false) [
       | false ↦ λ _. refl
-      | true ↦ λ e. of-none c.put_value.result _ (sym c.is_some.ensures ∙ h) c.put_value.ensures.none t (c.in-Some.ensures.known t (subst (λ vs. fits_all lead vs t ≡ true) (sym c.as_slice.ensures) e))
+      | true ↦ λ e. ap (λ v. fits_at c.args.last v t) (sym c.place_value.ensures) ∙ of-none c.put_value.result _ (sym c.is_some.ensures ∙ h) c.put_value.ensures.none t (c.in-Some.ensures.known t (subst (λ vs. fits_all lead vs t ≡ true) (sym c.place_args.ensures) e))
     ]) refl
 
 pub returns-in-None-clause-none : goal.returns-in-None-clause-none
 returns-in-None-clause-none c _ t =
     let row = c.args.row.now in
     fits-snoc c.args.lead.now row.args c.args.last row.value t
-    ∙ ap (λ b. b && fits_at c.args.last row.value t) (subst (λ vs. fits_all c.args.lead.now vs t ≡ false) c.as_slice.ensures (c.in-None.ensures.none t))
+    ∙ ap (λ b. b && fits_at c.args.last row.value t) (subst (λ vs. fits_all c.args.lead.now vs t ≡ false) c.place_args.ensures (c.in-None.ensures.none t))

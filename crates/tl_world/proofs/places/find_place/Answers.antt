@@ -1,9 +1,9 @@
-use Rattle.std.proofs.Common.{rules}
-use Rattle.std.proofs.lemmas.Fn.{always_returns_same}
-use Rattle.std.specs.Cmp.Lexicographic.{slice_cmp}
-use Rattle.tl_syntax.specs.Keys.{value_cmp}
-use Rattle.tl_world.proofs.Order.{values_order}
+use Rattle.std.proofs.Common.{subst}
+use Rattle.std.specs.List.Sorted.{IsBinarySearchResult}
+use Rattle.tl_world.specs.declared.table.PlaceRow.{PlaceRow}
+use Rattle.tl_world.specs.Tables.{row_cmp}
+use Rattle.tl_world.proofs.PlaceLists.{search-mapped}
 use Rattle.tl_world.proofs.places.find_place.Goals as goal
 
 pub returns-clause-place : goal.returns-clause-place
-returns-clause-place c = c.binary_search_by.ensures.position (λ r. slice_cmp value_cmp r.args c.args.args.now) (always_returns_same _ _ _ (λ x r f' k. search (rules, values_order)))
+returns-clause-place c = search-mapped (λ (r : PlaceRow). r.args) c.args.args.now c.args.rows.now c.find_in.result (subst (λ xs. IsBinarySearchResult (λ r. row_cmp r c.args.args.now) xs c.find_in.result) c.all_args.ensures c.find_in.ensures.place)

@@ -1,9 +1,11 @@
-use Rattle.std.proofs.Common.{◌≡◌, ℕ, ◌<◌, List, map, length, get_or, T, None, Err, sym, ap, ◌∙◌, subst, Equal}
+use Rattle.std.proofs.Common.{◌≡◌, ℕ, ◌<◌, List, map, length, get_or, T, Some, None, Err, [], sym, ap, ◌∙◌, subst, Equal}
 use Rattle.std.specs.FinMap as dict
 use Rattle.std.specs.List.{HoldsAt}
 use Rattle.std.specs.List.Sorted.{IsBinarySearchResult}
 use Rattle.std.specs.Ordering.{nat_cmp}
+use Rattle.std.specs.Prelude.{pos}
 use Rattle.tl_syntax.specs.declared.value.Value.{Value}
+use Rattle.tl_syntax.specs.declared.value.Value.TheVariants.{Int}
 use Rattle.tl_terms.specs.World.{value_at, World}
 use Rattle.tl_world.specs.Tables.{row_cmp, InOrder, place_row, place_table, place_tables, map_of}
 use Rattle.tl_world.specs.declared.named.Named.{Named}
@@ -32,14 +34,15 @@ missed s ts n a i same h place =
 
 pub returns-in-Ok-find_place : goal.returns-in-Ok-find_place
 returns-in-Ok-find_place c =
-    let k = inside _ _ c.args.fun c.args.args.now c.in-Ok.i c.index-t.result.now _ c.as_slice.ensures.value c.index-t.ensures (c.as_slice-rows.ensures ∙ c.deref.ensures) c.self.invariant.0.1 c.in-Ok.ensures.range c.in-Ok.ensures.place in
-    sym (search-ok row_total place_row c.args.args.now c.as_slice-rows.result.now c.in-Ok-find_place.k k.0 c.in-Ok-find_place.ensures.range c.in-Ok-find_place.ensures.place c.index-rows-k.result)
+    let d : PlaceRow = record { args = []; value = Int (pos 0) } in
+    let k = inside _ _ c.args.fun c.args.args.now c.in-Ok.i c.index-t.result.now _ c.as_slice.ensures.value c.index-t.ensures c.as_ref.ensures c.self.invariant.0.1 c.in-Ok.ensures.range c.in-Ok.ensures.place in
+    sym (search-ok row_total place_row c.args.args.now c.as_ref.result.now c.in-Ok-find_place.k k.0 c.in-Ok-find_place.ensures.range c.in-Ok-find_place.ensures.place d ∙ ap (λ (v : Value). Some v) (ap (λ (rs : List PlaceRow). (get_or rs c.in-Ok-find_place.k d).value) (c.as_ref.ensures ∙ sym c.deref.ensures) ∙ sym (c.value.ensures d)))
     ∙ (k.1 ∙ ap (λ (w : World). value_at w (c.args.fun, c.args.args.now)) c.self.view_is)
 
 pub returns-in-Err-find_place : goal.returns-in-Err-find_place
 returns-in-Err-find_place c =
-    let k = inside _ _ c.args.fun c.args.args.now c.in-Ok.i c.index-t.result.now _ c.as_slice.ensures.value c.index-t.ensures (c.as_slice-rows.ensures ∙ c.deref.ensures) c.self.invariant.0.1 c.in-Ok.ensures.range c.in-Ok.ensures.place in
-    sym (search-err row_total place_row c.args.args.now c.as_slice-rows.result.now c.in-Err-find_place.field-0 k.0 c.in-Err-find_place.ensures.place)
+    let k = inside _ _ c.args.fun c.args.args.now c.in-Ok.i c.index-t.result.now _ c.as_slice.ensures.value c.index-t.ensures c.as_ref.ensures c.self.invariant.0.1 c.in-Ok.ensures.range c.in-Ok.ensures.place in
+    sym (search-err row_total place_row c.args.args.now c.as_ref.result.now c.in-Err-find_place.field-0 k.0 c.in-Err-find_place.ensures.place)
     ∙ (k.1 ∙ ap (λ (w : World). value_at w (c.args.fun, c.args.args.now)) c.self.view_is)
 
 pub returns-in-Err : goal.returns-in-Err
