@@ -1,8 +1,9 @@
 -- What edits of tables make of their facts and places.
-use Rattle.std.specs.Prelude.{◌≡◌, List, [], ◌∷◌, map, Bool, true, IfOk}
+use Rattle.std.specs.Prelude.{◌≡◌, ℕ, List, [], ◌∷◌, map, Bool, true, false, IfOk}
 use Rattle.std.specs.declared.result.Result.{Result}
 use Rattle.std.specs.FinMap as dict
 use Rattle.std.specs.FinSet as set
+use Rattle.std.specs.List.{insert, list_any, remove}
 use Rattle.tl_syntax.specs.declared.fact.Fact.{Fact}
 use Rattle.tl_syntax.specs.declared.place_value.PlaceValue.{PlaceValue}
 use Rattle.tl_syntax.specs.declared.value.Value.{Value}
@@ -13,13 +14,21 @@ use Rattle.tl_world.specs.declared.table.PlaceRow.{PlaceRow}
 use Rattle.tl_world.specs.Moves.{AreSameBeside, changed_facts}
 use Rattle.tl_world.specs.Tables.{facts_of, places_of}
 
+-- the items with another one at place i
+abbrev pub put_at : {X : Type 0} → List X → ℕ → X → List X
+put_at xs i x = insert (remove xs i) i x
+
 -- the tables have the same facts without this one, but for those of a list
-abbrev pub FactIsTakenOut : List Fact → Key → List (Named (List (List Value))) → List (Named (List (List Value))) → Type 0
-FactIsTakenOut beside q old new = AreSameBeside beside (facts_of new) (set.remove (facts_of old) q)
+abbrev pub LosesFact : List Fact → Fact → List (Named (List (List Value))) → List (Named (List (List Value))) → Type 0
+LosesFact beside f old new = AreSameBeside beside (facts_of new) (set.remove (facts_of old) (fact_key f))
 
 -- and so without some facts
-abbrev pub FactsAreTakenOut : List Fact → List Fact → List (Named (List (List Value))) → List (Named (List (List Value))) → Type 0
-FactsAreTakenOut beside dels old new = AreSameBeside beside (facts_of new) (without_all (facts_of old) (map fact_key dels))
+abbrev pub LosesFacts : List Fact → List Fact → List (Named (List (List Value))) → List (Named (List (List Value))) → Type 0
+LosesFacts beside dels old new = AreSameBeside beside (facts_of new) (without_all (facts_of old) (map fact_key dels))
+
+-- a test that none of the facts passes, none of the few passes
+abbrev pub AreSomeOf : List Fact → List Fact → Type 0
+AreSomeOf facts few = (test : Fact → Bool) → list_any test facts ≡ false → list_any test few ≡ false
 
 -- the places with the values that are set; of two for one place the earlier counts
 abbrev pub changed_places : dict.FinMap key_cmp Value → List PlaceValue → dict.FinMap key_cmp Value

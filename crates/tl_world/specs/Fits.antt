@@ -1,5 +1,5 @@
 -- When a tuple makes the parts of a pattern a row.
-use Rattle.std.specs.Prelude.{◌≡◌, ◌<◌, ℕ, List, [], ◌∷◌, Bool, true, false, ◌&&◌, ◌||◌, ◌==◌, Option, Some, None, slice_get, length, take}
+use Rattle.std.specs.Prelude.{◌≡◌, ◌<◌, ℕ, List, [], ◌∷◌, Bool, true, false, ◌&&◌, ◌||◌, ◌==◌, Option, Some, None, slice_get, slice_index_or, length, take, ◌-◌}
 use Rattle.tl_syntax.specs.declared.value.Value.{Value}
 use Rattle.tl_syntax.specs.DerivedTests.{value_eq}
 use Rattle.tl_world.specs.declared.pattern.Match.{Match}
@@ -45,3 +45,23 @@ IsMatch ps vs k (Some m) = (m.len ≡ k) × (length (take k m.values) ≡ k) × 
 -- the tuple begins with the first n of the values
 abbrev pub BeginsAs : ℕ → List Value → List Value → Type 0
 BeginsAs n values t = (m : ℕ) → m < n → slice_get values m ≡ slice_get t m
+
+-- every tuple that begins with the first n of the values makes the part v
+abbrev pub EachFitsAt : Part → Value → ℕ → List Value → Type 0
+EachFitsAt p v n values = (t : List Value) → BeginsAs n values t → fits_at p v t ≡ true
+
+-- no such tuple makes the part v
+abbrev pub NoneFitsAt : Part → Value → ℕ → List Value → Type 0
+NoneFitsAt p v n values = (t : List Value) → BeginsAs n values t → fits_at p v t ≡ false
+
+-- every tuple that begins with the first n of the values makes the parts the row
+abbrev pub EachFits : List Part → List Value → ℕ → List Value → Type 0
+EachFits ps row n values = (t : List Value) → BeginsAs n values t → fits_all ps row t ≡ true
+
+-- every tuple that makes the parts the row begins with them
+abbrev pub EachBegins : List Part → List Value → ℕ → List Value → Type 0
+EachBegins ps row n values = (t : List Value) → fits_all ps row t ≡ true → BeginsAs n values t
+
+-- whether the parts are the row before the place under the tuple's values
+abbrev pub fits_before : List Part → List (List Value) → ℕ → List Value → Bool
+fits_before ps rows at t = fits_all ps (slice_index_or rows (at - 1) []) t

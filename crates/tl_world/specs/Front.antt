@@ -54,11 +54,19 @@ is_passed ties Less = false
 is_passed ties Equal = ties
 is_passed ties Greater = true
 
+-- the first i rows are passed over
+abbrev pub ArePassed : Bool → List Value → List (List Value) → ℕ → Type 0
+ArePassed ties f rows i = Each (λ r. is_passed ties (front_cmp f r) ≡ true) (take i rows)
+
+-- the rows from place i on are not
+abbrev pub AreKept : Bool → List Value → List (List Value) → ℕ → Type 0
+AreKept ties f rows i = Each (λ r. is_passed ties (front_cmp f r) ≡ false) (drop i rows)
+
 -- place i is that of the first row that is not passed over
 pub record IsFirstKept (ties : Bool) (f : List Value) (rows : List (List Value)) (i : ℕ) : Type 0 where
   pub bound : i ≤ length rows
-  pub before : Each (λ r. is_passed ties (front_cmp f r) ≡ true) (take i rows)
-  pub after : Each (λ r. is_passed ties (front_cmp f r) ≡ false) (drop i rows)
+  pub before : ArePassed ties f rows i
+  pub after : AreKept ties f rows i
 
 -- whether the part is fixed, or one of the first variables, of which n came before, or the next one
 abbrev pub is_in_turn : ℕ → Part → Bool

@@ -13,6 +13,7 @@ use Rattle.tl_syntax.specs.Keys.{Key, key_cmp, fact_key}
 use Rattle.tl_syntax.specs.Lists.{Among}
 use Rattle.tl_terms.specs.Step.{with_all, without_all}
 use Rattle.tl_world.specs.declared.named.Named.{Named}
+use Rattle.tl_world.specs.declared.row_move.Move.{Move}
 use Rattle.tl_world.specs.Cuts.{even_rows}
 use Rattle.tl_world.specs.Plain.{row_cmp}
 
@@ -27,6 +28,14 @@ place_left cut at = cond (leb at cut) at (at - 1)
 -- the rows with one more at place `at`, and without that at place `cut`
 abbrev pub row_moved : {X : Type 0} → List X → ℕ → ℕ → X → List X
 row_moved xs cut at x = remove (insert xs at x) (place_after at cut)
+
+-- the rows with the one that a move puts in
+abbrev pub with_coming : List (List Value) → Move → List (List Value)
+with_coming rows step = insert rows step.at step.row.now
+
+-- the rows after the move, without the other one
+abbrev pub moved_by : List (List Value) → Move → List (List Value)
+moved_by rows step = row_moved rows step.cut step.at step.row.now
 
 -- the row at place k has these arguments
 abbrev pub HasRowAt : List Value → List (List Value) → ℕ → Type 0

@@ -1,13 +1,16 @@
 -- Numbers of the tables of worlds: where two tables of one name have one number, they say the same.
-use Rattle.std.specs.Prelude.{◌≡◌, ◌+◌, ◌<◌, ◌≤◌, ◌||◌, ◌⊎◌, ◌++◌, ℕ, suc, Bool, false, List, [], map, length, take, drop, slice_get, nat_eq, Option, Some, None}
+use Rattle.std.specs.Prelude.{◌≡◌, ◌+◌, ◌<◌, ◌≤◌, ◌||◌, ◌⊎◌, ◌++◌, ℕ, suc, Bool, false, List, [], ◌∷◌, map, length, take, drop, slice_get, nat_eq, Option, Some, None}
 use Rattle.std.specs.List.{list_any}
 use Rattle.tl_syntax.specs.declared.fact.Fact.{Fact}
 use Rattle.tl_syntax.specs.declared.place_value.PlaceValue.{PlaceValue}
 use Rattle.tl_syntax.specs.declared.value.Value.{Value}
 use Rattle.tl_terms.specs.Acceptance.{is_value}
 use Rattle.tl_terms.specs.World.{World, has_fact, value_at}
+use Rattle.tl_world.specs.declared.is_after.Numbered.{Numbered}
 use Rattle.tl_world.specs.declared.table_name.TableName.{TableName}
 use Rattle.tl_world.specs.declared.table_name.TableName.TheVariants.{Pred, Fun}
+use Rattle.tl_world.specs.declared.table_numbers.Source.{Source}
+use Rattle.tl_world.specs.declared.table_numbers.TableNumbers.{TableNumbers}
 use Rattle.tl_world.specs.WorldCode.{facts_in, places_in}
 
 -- the predicates that have facts in the world, in order, and then the functions that have places with a value: one for each of its tables
@@ -48,9 +51,21 @@ abbrev pub standing : List ℕ → Option ℕ → List ℕ
 standing all None = []
 standing all (Some s) = drop s all
 
+-- the numbers that stand from the place of the world of a number on
+abbrev pub numbers_at : List ℕ → List ℕ → ℕ → List ℕ
+numbers_at starts all n = standing all (slice_get starts n)
+
 -- where tables of one name in two worlds have one number, the worlds are alike in them
 abbrev pub TellAlike : World → List ℕ → World → List ℕ → Type 0
 TellAlike w ks v ls = (i j : ℕ) (t : TableName) (k : ℕ) → slice_get (tables_in w) i ≡ Some t → slice_get (tables_in v) j ≡ Some t → slice_get ks i ≡ Some k → slice_get ls j ≡ Some k → AreAlikeOf t w v
+
+-- there is one for each table of the world of the number
+abbrev pub AreOneEach : List World → ℕ → List ℕ → Type 0
+AreOneEach ws n ks = (w : World) → slice_get ws n ≡ Some w → length ks ≡ length (tables_in w)
+
+-- and so for worlds with their numbers
+abbrev pub AreToldAlike : Numbered → Numbered → Type 0
+AreToldAlike v w = TellAlike v.world.now v.numbers.now w.world.now w.numbers.now
 
 -- whether one of the facts is of the predicate
 abbrev pub lists_pred : List Fact → ℕ → Bool
@@ -69,6 +84,14 @@ changes_table dels adds sets (Fun f) = sets_fun sets f
 abbrev pub ComesFrom : List World → ℕ → List Fact → List Fact → List PlaceValue → World → Type 0
 ComesFrom ws from dels adds sets w = (v : World) (t : TableName) → slice_get ws from ≡ Some v → changes_table dels adds sets t ≡ false → AreAlikeOf t v w
 
+-- the numbers stand for the tables of the world of the number, where that comes from the source
+abbrev pub StandFor : List World → Source → ℕ → List ℕ → Type 0
+StandFor ws s n ks = (w : World) → slice_get ws n ≡ Some w → ComesFrom ws s.from s.dels.now s.adds.now s.sets.now w → AreTableNumbers ws w ks
+
+-- the numbers that come next stand after the others
+abbrev pub GainsStart : TableNumbers → TableNumbers → Type 0
+GainsStart old new = new.starts.items ≡ old.starts.items ++ length old.all.items ∷ []
+
 -- all of the numbers came after the others, or none did
-abbrev pub GainsAllOrNone : List ℕ → List ℕ → List ℕ → Type 0
-GainsAllOrNone old more new = (new ≡ old) ⊎ (new ≡ old ++ more)
+abbrev pub AllOrNone : List ℕ → List ℕ → List ℕ → Type 0
+AllOrNone old more new = (new ≡ old) ⊎ (new ≡ old ++ more)

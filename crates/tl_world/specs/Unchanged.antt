@@ -8,6 +8,7 @@ use Rattle.tl_syntax.specs.declared.value.Value.{Value}
 use Rattle.tl_syntax.specs.Keys.{Key, key_cmp, fact_key}
 use Rattle.tl_terms.specs.World.{World, has_fact}
 use Rattle.tl_world.specs.declared.named.Named.{Named}
+use Rattle.tl_world.specs.declared.tables_beside.NumberedTables.{NumberedTables}
 use Rattle.tl_world.specs.Edits.{changed_places}
 use Rattle.tl_world.specs.Moves.{changed_facts}
 
@@ -43,6 +44,14 @@ AreTablesBeside dels adds ts us = AreAlikeBeside (dels ++ adds) (table_keys ts) 
 -- where tables have one number and one predicate, they have the same facts
 abbrev pub TellRows : List (Named (List (List Value))) → List ℕ → List (Named (List (List Value))) → List ℕ → Type 0
 TellRows ts ks us ls = (i j k : ℕ) (t u : Named (List (List Value))) → i < length ts → j < length us → t ≡ slice_index_or ts i t → u ≡ slice_index_or us j u → t.name ≡ u.name → slice_get ks i ≡ Some k → slice_get ls j ≡ Some k → AreRowsBeside [] [] t.name t.rows.value u.rows.value
+
+-- and so for tables with their numbers
+abbrev pub TellRowsOf : NumberedTables → NumberedTables → Type 0
+TellRowsOf ts us = TellRows ts.tables.now ts.numbers.now us.tables.now us.numbers.now
+
+-- they have the same facts, but for those that are deleted or added
+abbrev pub AreNumberedBeside : List Fact → List Fact → NumberedTables → NumberedTables → Type 0
+AreNumberedBeside dels adds ts us = AreTablesBeside dels adds ts.tables.now us.tables.now
 
 -- the world without some facts, with others, and with the values that are set; of two for one place the earlier counts
 abbrev pub changed_world : World → List Fact → List Fact → List PlaceValue → World

@@ -1,8 +1,8 @@
 // How many rows of a table come before those with the tuples after one.
-ghost use Rattle.std.specs.Prelude.{◌≡◌, ◌<◌, ◌≤◌, ◌+◌, ◌-◌, ◌^◌, ℕ, [], length, take, drop, slice_get, slice_index_or, true, false, IfSome};
-ghost use Rattle.tl_syntax.specs.Lists.{Each, Rises};
-ghost use Rattle.tl_world.specs.Fits.{fits_at, fits_all, is_value, occurs};
-ghost use Rattle.tl_world.specs.Front.{front, front_cmp, is_passed, seen_after, seen_in, is_in_turn, are_in_turn, IsFirstKept};
+ghost use Rattle.std.specs.Prelude.{◌≡◌, ◌<◌, ◌≤◌, ◌+◌, ◌^◌, ℕ, [], length, slice_get, true, false, IfSome};
+ghost use Rattle.tl_syntax.specs.Lists.{Rises};
+ghost use Rattle.tl_world.specs.Fits.{fits_at, fits_all, fits_before, is_value, occurs};
+ghost use Rattle.tl_world.specs.Front.{front, is_passed, seen_after, seen_in, is_in_turn, are_in_turn, AreKept, ArePassed, IsFirstKept};
 ghost use Rattle.tl_world.specs.Least.{HasLater};
 ghost use Rattle.tl_world.specs.Tables.{row_cmp};
 
@@ -27,7 +27,7 @@ fn is_passed(ties: bool, order: Ordering) -> bool
 fn passes_before(rows: &Runs, lead: &[Part], known: &[Value], ties: bool, at: usize) -> bool
     requires order { Rises row_cmp rows.now }
     requires bound { at ≤ length rows.now }
-    ensures { result ≡ true → Each (λ r. is_passed ties (front_cmp (front 0 lead.now known.now) r) ≡ true) (take at rows.now) }
+    ensures { result ≡ true → ArePassed ties (front 0 lead.now known.now) rows.now at }
 {
     at == 0 || is_passed(ties, order_of_front(lead, known, rows.row(at - 1)))
 }
@@ -36,7 +36,7 @@ fn passes_before(rows: &Runs, lead: &[Part], known: &[Value], ties: bool, at: us
 fn keeps_from(rows: &Runs, lead: &[Part], known: &[Value], ties: bool, at: usize) -> bool
     requires order { Rises row_cmp rows.now }
     requires bound { at ≤ length rows.now }
-    ensures { result ≡ true → Each (λ r. is_passed ties (front_cmp (front 0 lead.now known.now) r) ≡ false) (drop at rows.now) }
+    ensures { result ≡ true → AreKept ties (front 0 lead.now known.now) rows.now at }
 {
     at == rows.len() || !is_passed(ties, order_of_front(lead, known, rows.row(at)))
 }
@@ -133,7 +133,7 @@ pub(crate) fn fits_in_turn(parts: &[Part], row: &[Value], tuple: &[Value]) -> Op
 fn is_after_row(rows: &Runs, parts: &[Part], tuple: &[Value], at: usize) -> bool
     ensures bound { result ≡ true → at ≤ length rows.now }
     ensures some { result ≡ true → 1 ≤ at }
-    ensures row { result ≡ true → fits_all parts.now (slice_index_or rows.now (at - 1) []) tuple.now ≡ true }
+    ensures row { result ≡ true → fits_before parts.now rows.now at tuple.now ≡ true }
     ensures turn { result ≡ true → are_in_turn 0 parts.now ≡ true }
 {
     let Some(k) = at.checked_sub(1) else {

@@ -1,16 +1,16 @@
 // Tables of facts, and what changes them.
-ghost use Rattle.std.specs.List.{insert, list_any, remove};
+ghost use Rattle.std.specs.List.{insert, remove};
 ghost use Rattle.std.specs.List.Sorted.{IsPermutation};
-ghost use Rattle.std.specs.Prelude.{◌≡◌, ◌<◌, ◌≤◌, Bool, true, false, length, IfOk, IfSome, OnOk};
-ghost use Rattle.tl_syntax.specs.declared.fact.Fact.{Fact as PlainFact};
+ghost use Rattle.std.specs.Prelude.{◌≡◌, ◌<◌, ◌≤◌, true, false, length, IfOk, IfSome, OnOk};
 ghost use Rattle.tl_syntax.specs.Keys.{fact_key};
-ghost use Rattle.tl_world.specs.Edits.{AreChangedBy, FactIsTakenOut, FactsAreTakenOut, GainsFact, GainsFacts, IsReplaced, OnTrue};
+ghost use Rattle.tl_world.specs.Edits.{put_at, AreChangedBy, AreSomeOf, GainsFact, GainsFacts, IsReplaced, LosesFact, LosesFacts, OnTrue};
 ghost use Rattle.tl_world.specs.Moves.{IsComing, IsTakenOutOf};
 ghost use Rattle.tl_world.specs.Tables.{InOrder, fact_tables};
 
 use crate::Rows;
 use crate::kept::keep_second_orders;
 use crate::named::{Named, find_table};
+use crate::row_move::Move;
 use crate::row_search::{find_in, find_near};
 use crate::rows::{place_left, share_rows};
 use crate::runs::find_row;
@@ -53,6 +53,20 @@ fn coming(table: &Named<Rows>, adds: &[Fact], guesses: &[usize]) -> Option<(usiz
     None
 }
 
+/// The move of the fact's row into a table before place `at`, where the row at place `cut` goes.
+#[inline]
+fn move_for(fact: &Fact, cut: usize, at: usize) -> Move<'_>
+    ensures cut { result.cut ≡ cut }
+    ensures at { result.at ≡ at }
+    ensures row { result.row.now ≡ fact.now.args }
+{
+    Move {
+        cut,
+        at,
+        row: fact.args.as_slice(),
+    }
+}
+
 /// The rows without that at place `cut`. A fact of this table that is to be added comes in with the same copy, and a guess is kept of its place. No fact came into these rows before, since another world shares them: so no guess is looked at.
 #[inline]
 fn rows_without(
@@ -68,9 +82,7 @@ fn rows_without(
     match coming(table, adds, &[]) {
         Some((j, at)) => {
             keep_guess(guesses, j, place_left(cut, at));
-            table
-                .rows
-                .shared_moved(alloc, cut, at, adds[j].args.as_slice())
+            table.rows.shared_moved(alloc, &move_for(&adds[j], cut, at))
         }
         None => table.rows.shared_without(alloc, cut),
     }
@@ -94,7 +106,7 @@ fn cut_row(
         Some(rows) => match found {
             Some((j, at)) => {
                 keep_guess(guesses, j, place_left(cut, at));
-                rows.move_row(alloc, cut, at, adds[j].args.as_slice())
+                rows.move_row(alloc, &move_for(&adds[j], cut, at))
             }
             None => rows.cut_row(alloc, cut),
         },
@@ -105,13 +117,13 @@ fn cut_row(
     }
 }
 
-/// Puts the table in place of the one at place `i`.
+/// Puts the rows of a predicate in place of the table at place `i`.
 #[inline]
-fn put_table(tables: &mut Vec<Named<Rows>>, i: usize, fresh: Named<Rows>)
+fn put_table(tables: &mut Vec<Named<Rows>>, i: usize, name: u32, rows: Rc<Rows>)
     requires { i < length tables.old.items }
-    ensures { tables.new.items ≡ insert (remove tables.old.items i) i fresh }
+    ensures { tables.new.items ≡ put_at tables.old.items i (record { name = name; rows = rows }) }
 {
-    tables[i] = fresh;
+    tables[i] = Named { name, rows };
 }
 
 /// Takes the fact out of the tables, where it is there. One of `adds` may come in.
@@ -124,7 +136,7 @@ fn without(
 ) -> Result<(), NoMemory>
     requires { InOrder (fact_tables tables.old.items) }
     ensures order { OnOk result (InOrder (fact_tables tables.new.items)) }
-    ensures facts { OnOk result (FactIsTakenOut adds.now (fact_key fact.now) tables.old.items tables.new.items) }
+    ensures facts { OnOk result (LosesFact adds.now fact.now tables.old.items tables.new.items) }
 {
     match find_table(tables.as_slice(), fact.pred) {
         Err(_) => Ok(()),
@@ -141,11 +153,7 @@ fn without(
                         tables.remove(i);
                         return Ok(());
                     }
-                    let fresh = Named {
-                        name: fact.pred,
-                        rows,
-                    };
-                    put_table(tables, i, fresh);
+                    put_table(tables, i, fact.pred, rows);
                     Ok(())
                 }
             }
@@ -163,7 +171,7 @@ fn without_each(
 ) -> Result<(), NoMemory>
     requires { InOrder (fact_tables tables.old.items) }
     ensures order { OnOk result (InOrder (fact_tables tables.new.items)) }
-    ensures facts { OnOk result (FactsAreTakenOut adds.now dels.now tables.old.items tables.new.items) }
+    ensures facts { OnOk result (LosesFacts adds.now dels.now tables.old.items tables.new.items) }
 {
     let mut i = dels.len();
     while i > 0 {
@@ -296,7 +304,7 @@ fn with_facts(
 
 /// The facts, where they are few, and else none of them.
 fn few(facts: &[Fact]) -> &[Fact]
-    ensures { (test : PlainFact → Bool) → list_any test facts.now ≡ false → list_any test result.now ≡ false }
+    ensures { AreSomeOf facts.now result.now }
 {
     if facts.len() < 8 { facts } else { &facts[..0] }
 }
@@ -329,12 +337,8 @@ fn replace_fact(
             let Err(at) = find_near(list, cut, fact.args.as_slice()) else {
                 return Ok(false);
             };
-            let rows = t.rows.shared_moved(alloc, cut, at, fact.args.as_slice())?;
-            let fresh = Named {
-                name: gone.pred,
-                rows,
-            };
-            put_table(tables, i, fresh);
+            let rows = t.rows.shared_moved(alloc, &move_for(fact, cut, at))?;
+            put_table(tables, i, gone.pred, rows);
             Ok(true)
         }
         Err(_) => {
@@ -342,11 +346,7 @@ fn replace_fact(
                 return Ok(false);
             };
             let rows = t.rows.shared_with(alloc, at, fact.args.as_slice())?;
-            let fresh = Named {
-                name: gone.pred,
-                rows,
-            };
-            put_table(tables, i, fresh);
+            put_table(tables, i, gone.pred, rows);
             Ok(true)
         }
     }

@@ -2,7 +2,7 @@
 ghost use Rattle.std.specs.Prelude.{◌≡◌, ◌<◌, ◌≤◌, ℕ, List, length, drop, take, true, false, IfSome, IfNone};
 ghost use Rattle.std.specs.Option.{is_some};
 ghost use Rattle.tl_syntax.specs.Lists.{Rises};
-ghost use Rattle.tl_world.specs.Fits.{fits_at, fits_all, occurs, BeginsAs};
+ghost use Rattle.tl_world.specs.Fits.{fits_all, occurs, BeginsAs, EachBegins, EachFits, EachFitsAt, NoneFitsAt};
 ghost use Rattle.tl_world.specs.Front.{BeginsOn, seen_after, seen_in, is_in_turn, are_in_turn};
 ghost use Rattle.tl_world.specs.Least.{IsLeastOf, HasLater};
 ghost use Rattle.tl_world.specs.Tables.{row_cmp};
@@ -18,9 +18,9 @@ pub(crate) fn put_value(part: Part, v: Value, seen: usize, values: &mut [Value; 
     requires room { seen_after seen part ≤ 9 }
     ensures seen { IfSome result (λ next. next ≡ seen_after seen part) }
     ensures kept { BeginsAs seen values.new values.old }
-    ensures fits { IfSome result (λ _. (t : List Value) → BeginsAs (seen_after seen part) values.new t → fits_at part v t ≡ true) }
+    ensures fits { IfSome result (λ _. EachFitsAt part v (seen_after seen part) values.new) }
     ensures known { IfSome result (λ _. BeginsOn part v seen values.old values.new) }
-    ensures none { IfNone result ((t : List Value) → BeginsAs seen values.old t → fits_at part v t ≡ false) }
+    ensures none { IfNone result (NoneFitsAt part v seen values.old) }
 {
     match part {
         Part::Fixed(u) => if u == v { Some(seen) } else { None },
@@ -51,8 +51,8 @@ pub(crate) fn put_values(
     requires turn { are_in_turn 0 parts.now ≡ true }
     ensures seen { IfSome result (λ seen. seen ≡ seen_in 0 parts.now) }
     ensures bound { IfSome result (λ seen. seen ≤ free) }
-    ensures fits { IfSome result (λ seen. (t : List Value) → BeginsAs seen values.new t → fits_all parts.now row.now t ≡ true) }
-    ensures known { IfSome result (λ seen. (t : List Value) → fits_all parts.now row.now t ≡ true → BeginsAs seen values.new t) }
+    ensures fits { IfSome result (λ seen. EachFits parts.now row.now seen values.new) }
+    ensures known { IfSome result (λ seen. EachBegins parts.now row.now seen values.new) }
     ensures none { IfNone result ((t : List Value) → fits_all parts.now row.now t ≡ false) }
 {
     if parts.len() != row.len() {
@@ -89,7 +89,7 @@ pub(crate) fn put_first(
     requires bound { from ≤ length rows.now }
     ensures least { IsLeastOf free parts.now (drop from rows.now) (is_some result) values.new }
     ensures bound { IfSome result (λ next. next ≤ length rows.now) }
-    ensures later { IfSome result (λ next. HasLater parts.now true (take free values.new) rows.now next) }
+    ensures later { IfSome result (HasLater parts.now true (take free values.new) rows.now) }
 {
     let mut k = from;
     while k < rows.len() {

@@ -1,11 +1,11 @@
 // The first place that a pattern fits, whose variables first stand in the order of their numbers.
 ghost use Rattle.std.specs.Option.{is_some};
-ghost use Rattle.std.specs.Prelude.{◌≡◌, ◌<◌, ◌≤◌, ◌+◌, ◌-◌, ◌^◌, ◌++◌, ◌∷◌, ℕ, List, [], length, map, drop, take, slice_index_or, true, false, IfSome};
-ghost use Rattle.std.specs.declared.cmp.Ordering.TheVariants.{Greater};
-ghost use Rattle.tl_syntax.specs.Lists.{Each, Rises};
-ghost use Rattle.tl_world.specs.Fits.{fits_all, occurs};
-ghost use Rattle.tl_world.specs.Front.{front, front_cmp, are_in_turn};
+ghost use Rattle.std.specs.Prelude.{◌≡◌, ◌<◌, ◌≤◌, ◌+◌, ◌^◌, ◌++◌, ◌∷◌, ℕ, List, [], length, map, take, true, false, IfSome};
+ghost use Rattle.tl_syntax.specs.Lists.{Rises};
+ghost use Rattle.tl_world.specs.Fits.{occurs};
+ghost use Rattle.tl_world.specs.Front.{front, are_in_turn};
 ghost use Rattle.tl_world.specs.Least.{IsLeastOf, HasLater};
+ghost use Rattle.tl_world.specs.Places.{fits_place, whole_from, ArePlacesPassed, FitsPlaceBefore};
 ghost use Rattle.tl_world.specs.Tables.{row_cmp, whole_row};
 
 use crate::after::{after_part, fits_in_turn};
@@ -19,7 +19,7 @@ use tl_syntax::Value;
 pub(crate) fn places_before(rows: &PlaceRows, lead: &[Part], known: &[Value]) -> usize
     requires { Rises row_cmp (map (λ r. r.args) rows.now) }
     ensures bound { result ≤ length rows.now }
-    ensures before { Each (λ r. front_cmp (front 0 lead.now known.now) r.args ≡ Greater) (take result rows.now) }
+    ensures before { ArePlacesPassed (front 0 lead.now known.now) rows.now result }
 {
     let mut low = 0;
     let mut high = rows.len();
@@ -37,7 +37,7 @@ pub(crate) fn places_before(rows: &PlaceRows, lead: &[Part], known: &[Value]) ->
 /// Whether the leading parts and the last one are the arguments and the value of the place under the tuple's values, and the variables first stand in the order of their numbers.
 fn fits_place(lead: &[Part], last: Part, row: &Place<'_>, tuple: &[Value]) -> bool
     requires { length lead.now + 1 < 2 ^ 64 }
-    ensures fits { result ≡ true → fits_all (lead.now ++ last ∷ []) (whole_row row.now) tuple.now ≡ true }
+    ensures fits { result ≡ true → fits_place lead.now last row.now tuple.now ≡ true }
     ensures turn { result ≡ true → are_in_turn 0 (lead.now ++ last ∷ []) ≡ true }
 {
     match fits_in_turn(lead, row.place_args(), tuple) {
@@ -51,8 +51,8 @@ fn put_place(lead: &[Part], last: Part, free: u32, row: &Place<'_>, values: &mut
     requires few { free ≤ 9 }
     requires slots { (n : ℕ) → occurs n (lead.now ++ last ∷ []) ≡ true → n < free }
     requires turn { are_in_turn 0 (lead.now ++ last ∷ []) ≡ true }
-    ensures fits { result ≡ true → fits_all (lead.now ++ last ∷ []) (whole_row row.now) (take free values.new) ≡ true }
-    ensures none { result ≡ false → (t : List Value) → fits_all (lead.now ++ last ∷ []) (whole_row row.now) t ≡ false }
+    ensures fits { result ≡ true → fits_place lead.now last row.now (take free values.new) ≡ true }
+    ensures none { result ≡ false → (t : List Value) → fits_place lead.now last row.now t ≡ false }
 {
     match put_values(lead, free, row.place_args(), values) {
         Some(seen) => put_value(last, row.place_value(), seen, values).is_some(),
@@ -65,7 +65,7 @@ fn is_after_place(rows: &PlaceRows, parts: &[Part], tuple: &[Value], at: usize) 
     requires { 1 ≤ length parts.now }
     ensures bound { result ≡ true → at ≤ length rows.now }
     ensures some { result ≡ true → 1 ≤ at }
-    ensures row { result ≡ true → (r : _) → fits_all parts.now (whole_row (slice_index_or rows.now (at - 1) r)) tuple.now ≡ true }
+    ensures row { result ≡ true → FitsPlaceBefore parts.now rows.now at tuple.now }
     ensures turn { result ≡ true → are_in_turn 0 parts.now ≡ true }
 {
     let n = parts.len() - 1;
@@ -86,7 +86,7 @@ pub(crate) fn places_up_to(
     requires order { Rises row_cmp (map (λ r. r.args) rows.now) }
     ensures turn { IfSome result (λ _. are_in_turn 0 parts.now ≡ true) }
     ensures bound { IfSome result (λ i. i ≤ length rows.now) }
-    ensures later { IfSome result (λ i. HasLater parts.now begun tuple.now (map whole_row rows.now) i) }
+    ensures later { IfSome result (HasLater parts.now begun tuple.now (map whole_row rows.now)) }
 {
     if begun {
         if is_after_place(rows, parts, tuple, near) {
@@ -118,7 +118,7 @@ pub(crate) fn put_first_place(
     requires some { 1 ≤ length parts.now }
     requires order { Rises row_cmp (map (λ r. r.args) rows.now) }
     requires bound { from ≤ length rows.now }
-    ensures { IsLeastOf free parts.now (drop from (map whole_row rows.now)) (is_some result) values.new }
+    ensures { IsLeastOf free parts.now (whole_from from rows.now) (is_some result) values.new }
 {
     let n = parts.len() - 1;
     let lead = &parts[..n];

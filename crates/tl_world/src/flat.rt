@@ -3,11 +3,12 @@ ghost use Rattle.std.specs.List.{insert, remove};
 ghost use Rattle.std.specs.Prelude.{◌≡◌, ◌<◌, ◌≤◌, ◌+◌, ◌-◌, ◌*◌, ◌^◌, ◌↔◌, List, [], ◌∷◌, ◌++◌, length, take, drop, slice_index_or, true, IfOk, IfSome, OnErr, OnOk};
 ghost use Rattle.tl_syntax.proofs.Telling.{tells-partial};
 ghost use Rattle.tl_world.specs.Cuts.{even_rows, items_back, items_on, items_over, items_without};
-ghost use Rattle.tl_world.specs.Moves.{row_moved};
+ghost use Rattle.tl_world.specs.Moves.{moved_by, with_coming};
 ghost use Rattle.tl_world.specs.Runs.{between};
 ghost use Rattle.tl_world.specs.RowTests.{rows_eq, rows-tell};
 
 use crate::ends::Ends;
+use crate::row_move::Move;
 use crate::same_row::is_same_row;
 use std::alloc::Global;
 use std::marker::Model;
@@ -406,29 +407,23 @@ impl Flat {
         Ok(())
     }
 
-    /// Puts one more row at place `at` and takes that at place `cut` out, in place where all rows have its length. After a failure the rows are those of before.
-    pub(crate) fn move_row(
-        &mut self,
-        alloc: Global,
-        cut: usize,
-        at: usize,
-        row: &[Value],
-    ) -> Result<(), NoMemory>
-        requires cut { cut < length self.old }
-        requires at { at ≤ length self.old }
-        ensures all { OnOk result (self.new ≡ row_moved self.old cut at row.now) }
+    /// Puts one row in the place of another, in place where all rows have its length. After a failure the rows are those of before.
+    pub(crate) fn move_row(&mut self, alloc: Global, step: &Move<'_>) -> Result<(), NoMemory>
+        requires cut { step.now.cut < length self.old }
+        requires at { step.now.at ≤ length self.old }
+        ensures all { OnOk result (self.new ≡ moved_by self.old step.now) }
         ensures same { OnErr result (self.new ≡ self.old) }
     {
-        if !self.ends.have_width(row.len()) {
-            *self = self.moved(alloc, cut, at, row)?;
+        if !self.ends.have_width(step.row.len()) {
+            *self = self.moved(alloc, step)?;
             return Ok(());
         }
-        let from = self.ends.begin(cut);
-        let to = self.ends.begin(at);
-        if at <= cut {
-            shift_back(&mut self.values, to, from, row);
+        let from = self.ends.begin(step.cut);
+        let to = self.ends.begin(step.at);
+        if step.at <= step.cut {
+            shift_back(&mut self.values, to, from, step.row);
         } else {
-            shift_on(&mut self.values, from, to, row);
+            shift_on(&mut self.values, from, to, step.row);
         }
         Ok(())
     }
@@ -446,113 +441,83 @@ impl Flat {
         Ok(out)
     }
 
-    /// The rows with one more at place `at`, and without that at the place `cut`, which is not before it, row by row.
+    /// The rows with one in the place of another that is not before it, row by row.
     #[inline(never)]
-    fn copied_back(
-        &self,
-        alloc: Global,
-        cut: usize,
-        at: usize,
-        row: &[Value],
-    ) -> Result<Flat, NoMemory>
-        requires order { at ≤ cut }
-        requires bound { cut < length self.now }
-        ensures { IfOk result (λ f. f ≡ remove (insert self.now at row.now) (cut + 1)) }
+    fn copied_back(&self, alloc: Global, step: &Move<'_>) -> Result<Flat, NoMemory>
+        requires order { step.now.at ≤ step.now.cut }
+        requires bound { step.now.cut < length self.now }
+        ensures { IfOk result (λ f. f ≡ remove (with_coming self.now step.now) (step.now.cut + 1)) }
     {
         let count = self.len();
-        let mut out = self.with_room_for(alloc, row)?;
-        out.push_rows(alloc, self, 0, at)?;
-        out.push(alloc, row)?;
-        out.push_rows(alloc, self, at, cut)?;
-        out.push_rows(alloc, self, cut + 1, count)?;
+        let mut out = self.with_room_for(alloc, step.row)?;
+        out.push_rows(alloc, self, 0, step.at)?;
+        out.push(alloc, step.row)?;
+        out.push_rows(alloc, self, step.at, step.cut)?;
+        out.push_rows(alloc, self, step.cut + 1, count)?;
         Ok(out)
     }
 
     /// The same. Where all rows have one length, the values are copied at once, and then those that move are.
     #[inline(always)]
-    fn moved_back(
-        &self,
-        alloc: Global,
-        cut: usize,
-        at: usize,
-        row: &[Value],
-    ) -> Result<Flat, NoMemory>
-        requires order { at ≤ cut }
-        requires bound { cut < length self.now }
-        ensures { IfOk result (λ f. f ≡ remove (insert self.now at row.now) (cut + 1)) }
+    fn moved_back(&self, alloc: Global, step: &Move<'_>) -> Result<Flat, NoMemory>
+        requires order { step.now.at ≤ step.now.cut }
+        requires bound { step.now.cut < length self.now }
+        ensures { IfOk result (λ f. f ≡ remove (with_coming self.now step.now) (step.now.cut + 1)) }
     {
-        if let Some(ends) = self.ends.copy_even(alloc, row.len()) {
+        if let Some(ends) = self.ends.copy_even(alloc, step.row.len()) {
             let mut values = Vec::from_slice(alloc, self.values.as_slice())?;
-            let from = self.ends.begin(cut);
-            let to = self.ends.begin(at);
-            shift_back(&mut values, to, from, row);
+            let from = self.ends.begin(step.cut);
+            let to = self.ends.begin(step.at);
+            shift_back(&mut values, to, from, step.row);
             return Ok(Flat { ends, values });
         }
-        self.copied_back(alloc, cut, at, row)
+        self.copied_back(alloc, step)
     }
 
-    /// The rows with one more at place `at`, and without that at the place `cut`, which is before it, row by row.
+    /// The rows with one in the place of another that is before it, row by row.
     #[inline(never)]
-    fn copied_on(
-        &self,
-        alloc: Global,
-        cut: usize,
-        at: usize,
-        row: &[Value],
-    ) -> Result<Flat, NoMemory>
-        requires order { cut < at }
-        requires bound { at ≤ length self.now }
-        ensures { IfOk result (λ f. f ≡ remove (insert self.now at row.now) cut) }
+    fn copied_on(&self, alloc: Global, step: &Move<'_>) -> Result<Flat, NoMemory>
+        requires order { step.now.cut < step.now.at }
+        requires bound { step.now.at ≤ length self.now }
+        ensures { IfOk result (λ f. f ≡ remove (with_coming self.now step.now) step.now.cut) }
     {
         let count = self.len();
-        let mut out = self.with_room_for(alloc, row)?;
-        out.push_rows(alloc, self, 0, cut)?;
-        out.push_rows(alloc, self, cut + 1, at)?;
-        out.push(alloc, row)?;
-        out.push_rows(alloc, self, at, count)?;
+        let mut out = self.with_room_for(alloc, step.row)?;
+        out.push_rows(alloc, self, 0, step.cut)?;
+        out.push_rows(alloc, self, step.cut + 1, step.at)?;
+        out.push(alloc, step.row)?;
+        out.push_rows(alloc, self, step.at, count)?;
         Ok(out)
     }
 
     /// The same. Where all rows have one length, the values are copied at once, and then those that move are.
     #[inline(always)]
-    fn moved_on(
-        &self,
-        alloc: Global,
-        cut: usize,
-        at: usize,
-        row: &[Value],
-    ) -> Result<Flat, NoMemory>
-        requires order { cut < at }
-        requires bound { at ≤ length self.now }
-        ensures { IfOk result (λ f. f ≡ remove (insert self.now at row.now) cut) }
+    fn moved_on(&self, alloc: Global, step: &Move<'_>) -> Result<Flat, NoMemory>
+        requires order { step.now.cut < step.now.at }
+        requires bound { step.now.at ≤ length self.now }
+        ensures { IfOk result (λ f. f ≡ remove (with_coming self.now step.now) step.now.cut) }
     {
-        if let Some(ends) = self.ends.copy_even(alloc, row.len()) {
+        if let Some(ends) = self.ends.copy_even(alloc, step.row.len()) {
             let mut values = Vec::from_slice(alloc, self.values.as_slice())?;
-            let from = self.ends.begin(cut);
-            let to = self.ends.begin(at);
-            shift_on(&mut values, from, to, row);
+            let from = self.ends.begin(step.cut);
+            let to = self.ends.begin(step.at);
+            shift_on(&mut values, from, to, step.row);
             return Ok(Flat { ends, values });
         }
-        self.copied_on(alloc, cut, at, row)
+        self.copied_on(alloc, step)
     }
 
-    /// The rows with one more at place `at`, and without that at place `cut`, in one copy.
+    /// The rows with one in the place of another, in one copy.
     #[inline(always)]
-    pub(crate) fn moved(
-        &self,
-        alloc: Global,
-        cut: usize,
-        at: usize,
-        row: &[Value],
-    ) -> Result<Flat, NoMemory>
-        requires cut { cut < length self.now }
-        requires at { at ≤ length self.now }
-        ensures { IfOk result (λ f. f ≡ row_moved self.now cut at row.now) }
+    pub(crate) fn moved(&self, alloc: Global, step: &Move<'_>) -> Result<Flat, NoMemory>
+        requires cut { step.now.cut < length self.now }
+        requires at { step.now.at ≤ length self.now }
+        ensures { IfOk result (λ f. f ≡ moved_by self.now step.now) }
     {
-        if at <= cut {
-            self.moved_back(alloc, cut, at, row)
+        if step.at <= step.cut {
+            self.moved_back(alloc, step)
         } else {
-            self.moved_on(alloc, cut, at, row)
+            self.moved_on(alloc, step)
         }
     }
 }

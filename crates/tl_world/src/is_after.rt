@@ -5,7 +5,7 @@ ghost use Rattle.tl_syntax.specs.Keys.{fact_key};
 ghost use Rattle.tl_terms.specs.World.{has_fact};
 ghost use Rattle.tl_world.specs.Edits.{changed_places};
 ghost use Rattle.tl_world.specs.Moves.{changed_facts};
-ghost use Rattle.tl_world.specs.TableNumbers.{TellAlike};
+ghost use Rattle.tl_world.specs.TableNumbers.{AreToldAlike};
 ghost use Rattle.tl_world.specs.Unchanged.{is_gone};
 ghost use Rattle.tl_world.specs.Unset.{has_value};
 
@@ -68,7 +68,7 @@ pub(crate) struct Numbered<'a> {
 impl<'a> Numbered<'a> {
     /// Whether the facts of this world are found to be those that the changes make of the facts of the world `from`. It takes no memory.
     fn has_changed_facts(&self, from: &Numbered<'a>, dels: &[Fact], adds: &[Fact]) -> bool
-        requires { TellAlike self.now.world.now self.now.numbers.now from.now.world.now from.now.numbers.now }
+        requires { AreToldAlike self.now from.now }
         ensures { result ≡ true
             → self.now.world.now.facts ≡ changed_facts from.now.world.now.facts dels.now adds.now }
     {
@@ -83,7 +83,7 @@ impl<'a> Numbered<'a> {
 
     /// Whether the places of this world are found to have the values that the settings leave of those of the world `from`. It takes no memory.
     fn has_changed_places(&self, from: &Numbered<'a>, sets: &[PlaceValue]) -> bool
-        requires { TellAlike self.now.world.now self.now.numbers.now from.now.world.now from.now.numbers.now }
+        requires { AreToldAlike self.now from.now }
         ensures { result ≡ true
             → self.now.world.now.places ≡ changed_places from.now.world.now.places sets.now }
     {
@@ -101,7 +101,7 @@ impl<'a> Numbered<'a> {
         adds: &[Fact],
         sets: &[PlaceValue],
     ) -> bool
-        requires { TellAlike self.now.world.now self.now.numbers.now from.now.world.now from.now.numbers.now }
+        requires { AreToldAlike self.now from.now }
         ensures facts { result ≡ true
             → self.now.world.now.facts ≡ changed_facts from.now.world.now.facts dels.now adds.now }
         ensures places { result ≡ true

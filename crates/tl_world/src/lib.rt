@@ -2,7 +2,7 @@
 //!
 //! - `ends`: the places at which rows end that follow one another in one list.
 //! - `flat`: rows in one list.
-//! - `shared`, `runs`, `moves`: rows in runs, which tables share, and edits of them.
+//! - `shared`, `runs`, `moves`: rows in runs, which tables share, and edits of them; `row_move`: what puts one row in the place of another.
 //! - `second`, `second_made`: rows by their second value, and how they are made.
 //! - `rows`: the facts of one predicate, with a code that is kept.
 //! - `table`: the places of one function with their values, with a code that is kept.
@@ -48,6 +48,7 @@ mod pattern;
 mod places;
 mod places_beside;
 mod row_match;
+mod row_move;
 mod row_order;
 mod row_search;
 mod rows;

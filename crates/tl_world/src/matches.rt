@@ -1,7 +1,7 @@
 // The tuples that make a pattern true in a world, one after another.
 ghost use Rattle.std.specs.Option.{option_map};
 ghost use Rattle.std.specs.Prelude.{◌≡◌, true, false, IfSome};
-ghost use Rattle.tl_world.specs.Next.{IsNext, PutsNextMatch, PutsNextOf};
+ghost use Rattle.tl_world.specs.Next.{IsNext, IsNextMatch, PutsNextMatch, PutsNextOf};
 ghost use Rattle.tl_world.specs.Patterns.{IsLawful, makes_true, tuple_of, tuple_in_place};
 
 use crate::by_second::put_next_in_table;
@@ -35,7 +35,7 @@ impl World {
     fn match_after(&self, pattern: &Pattern, begun: bool, tuple: Match) -> Option<Match>
         requires pattern { IsLawful pattern.now }
         requires before { begun ≡ true → tuple.len ≡ pattern.now.free }
-        ensures next { IsNext pattern.now.free (makes_true self.now pattern.now) (tuple_in_place begun tuple) (option_map tuple_of result) }
+        ensures next { IsNextMatch self.now pattern.now (tuple_in_place begun tuple) result }
         ensures len { IfSome result (λ m. m.len ≡ pattern.now.free) }
     {
         let mut next = tuple;

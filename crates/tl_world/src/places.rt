@@ -5,7 +5,7 @@ ghost use Rattle.std.specs.Prelude.{◌≡◌, ◌<◌, ◌≤◌, length, IfOk,
 ghost use Rattle.tl_syntax.specs.Keys.{key_cmp, place_entry};
 ghost use Rattle.tl_world.specs.Edits.{SetsPlace, SetsPlaces};
 ghost use Rattle.tl_world.specs.Falling.{is_above};
-ghost use Rattle.tl_world.specs.Places.{place_set};
+ghost use Rattle.tl_world.specs.Places.{place_set, GainsPlaceAt};
 ghost use Rattle.tl_world.specs.Tables.{InOrder, place_tables, row_cmp};
 
 use crate::PlaceRows;
@@ -58,7 +58,7 @@ fn put_place(
 ) -> Result<(), NoMemory>
     requires { k ≤ length table.old.rows.value }
     ensures name { table.new.name ≡ table.old.name }
-    ensures rows { OnOk result (table.new.rows.value ≡ insert table.old.rows.value k (record { args = args.now; value = value })) }
+    ensures rows { OnOk result (GainsPlaceAt table.old k args.now value table.new) }
 {
     match Rc::get_mut(&mut table.rows) {
         Some(rows) => rows.put_row(alloc, k, args, value),
@@ -80,7 +80,7 @@ fn with_place(
 ) -> Result<(), NoMemory>
     requires { InOrder (place_tables tables.old.items) }
     ensures order { OnOk result (InOrder (place_tables tables.new.items)) }
-    ensures places { OnOk result (SetsPlace (fun, args.now) value tables.old.items tables.new.items) }
+    ensures set { OnOk result (SetsPlace (fun, args.now) value tables.old.items tables.new.items) }
 {
     match find_table(tables.as_slice(), fun) {
         Err(i) => {

@@ -2,16 +2,17 @@
 ghost use Rattle.std.specs.Hash as fed;
 ghost use Rattle.std.specs.Hash.{same_Alike};
 ghost use Rattle.std.specs.List.{insert, remove};
-ghost use Rattle.std.specs.Prelude.{◌≡◌, ◌<◌, ◌≤◌, ◌+◌, ◌*◌, ◌^◌, ◌==◌, [], ◌∷◌, length, take, drop, slice_index_or, true, false, IfOk, IfSome, OnOk};
+ghost use Rattle.std.specs.Prelude.{◌≡◌, ◌<◌, ◌≤◌, ◌*◌, ◌^◌, ◌==◌, [], ◌∷◌, length, take, drop, slice_index_or, true, false, IfOk, IfSome, OnOk};
 ghost use Rattle.tl_syntax.proofs.Telling.{tells-partial, tells-equivalence};
 ghost use Rattle.tl_world.specs.Codes.{row_code, rows_code};
 ghost use Rattle.tl_world.specs.Cuts.{even_rows};
-ghost use Rattle.tl_world.specs.Moves.{place_left, row_moved, HasRowAt};
+ghost use Rattle.tl_world.specs.Moves.{place_left, moved_by, HasRowAt};
 ghost use Rattle.tl_world.specs.RowTests.{rows_eq, rows-tell};
 ghost use Rattle.tl_world.specs.Second.{IsSecond};
 
 use crate::even::{row_of, values_moved, values_with, values_without};
 use crate::flat::Flat;
+use crate::row_move::Move;
 use crate::runs::Runs;
 use crate::same_row::is_same_row;
 use crate::second::Second;
@@ -210,24 +211,18 @@ impl Rows {
         })
     }
 
-    /// The rows with one more at place `at`, and without that at place `cut`, in one copy.
+    /// The rows with one in the place of another, in one copy.
     #[inline(always)]
-    pub(crate) fn moved(
-        &self,
-        alloc: Global,
-        cut: usize,
-        at: usize,
-        row: &[Value],
-    ) -> Result<Rows, NoMemory>
-        requires cut { cut < length self.now }
-        requires at { at ≤ length self.now }
-        ensures { IfOk result (λ r. r ≡ row_moved self.now cut at row.now) }
+    pub(crate) fn moved(&self, alloc: Global, step: &Move<'_>) -> Result<Rows, NoMemory>
+        requires cut { step.now.cut < length self.now }
+        requires at { step.now.at ≤ length self.now }
+        ensures { IfOk result (λ r. r ≡ moved_by self.now step.now) }
     {
-        let gone = self.runs.row(cut);
-        let more = self.code.wrapping_add(code_of_row(row));
+        let gone = self.runs.row(step.cut);
+        let more = self.code.wrapping_add(code_of_row(step.row));
         Ok(Rows {
-            runs: self.runs.moved(alloc, cut, at, row)?,
-            second: self.second.moved(alloc, gone, row)?,
+            runs: self.runs.moved(alloc, step)?,
+            second: self.second.moved(alloc, gone, step.row)?,
             code: more.wrapping_sub(code_of_row(gone)),
         })
     }
@@ -303,46 +298,34 @@ impl Rows {
         self.shared_without_any(alloc, k)
     }
 
-    /// The rows with one more at place `at`, and without that at place `cut`, for worlds to share, by the general way.
+    /// The rows with one in the place of another, for worlds to share, by the general way.
     #[inline(never)]
-    fn shared_moved_any(
-        &self,
-        alloc: Global,
-        cut: usize,
-        at: usize,
-        row: &[Value],
-    ) -> Result<Rc<Rows>, NoMemory>
-        requires cut { cut < length self.now }
-        requires at { at ≤ length self.now }
-        ensures { IfOk result (λ rows. rows.value ≡ row_moved self.now cut at row.now) }
+    fn shared_moved_any(&self, alloc: Global, step: &Move<'_>) -> Result<Rc<Rows>, NoMemory>
+        requires cut { step.now.cut < length self.now }
+        requires at { step.now.at ≤ length self.now }
+        ensures { IfOk result (λ rows. rows.value ≡ moved_by self.now step.now) }
     {
-        share_rows(alloc, self.moved(alloc, cut, at, row)?)
+        share_rows(alloc, self.moved(alloc, step)?)
     }
 
-    /// The rows with one more at place `at`, and without that at place `cut`, in one copy, for worlds to share. Where the rows are few and of one length, the values alone are copied.
+    /// The rows with one in the place of another, in one copy, for worlds to share. Where the rows are few and of one length, the values alone are copied.
     #[inline(always)]
-    pub(crate) fn shared_moved(
-        &self,
-        alloc: Global,
-        cut: usize,
-        at: usize,
-        row: &[Value],
-    ) -> Result<Rc<Rows>, NoMemory>
-        requires cut { cut < length self.now }
-        requires at { at ≤ length self.now }
-        ensures { IfOk result (λ rows. rows.value ≡ row_moved self.now cut at row.now) }
+    pub(crate) fn shared_moved(&self, alloc: Global, step: &Move<'_>) -> Result<Rc<Rows>, NoMemory>
+        requires cut { step.now.cut < length self.now }
+        requires at { step.now.at ≤ length self.now }
+        ensures { IfOk result (λ rows. rows.value ≡ moved_by self.now step.now) }
     {
         if let Some(list) = self.list()
-            && let Some(values) = list.even_values(row.len())
+            && let Some(values) = list.even_values(step.row.len())
         {
-            let size = row.len();
-            let gone = row_of(values, cut, size);
-            let more = self.code.wrapping_add(code_of_row(row));
+            let size = step.row.len();
+            let gone = row_of(values, step.cut, size);
+            let more = self.code.wrapping_add(code_of_row(step.row));
             let code = more.wrapping_sub(code_of_row(gone));
-            let made = values_moved(alloc, values, size * cut, size * at, row)?;
+            let made = values_moved(alloc, values, size * step.cut, size * step.at, step.row)?;
             return share_even(alloc, size, list.len(), made, code);
         }
-        self.shared_moved_any(alloc, cut, at, row)
+        self.shared_moved_any(alloc, step)
     }
 }
 
@@ -374,69 +357,51 @@ impl Rows {
         Ok(())
     }
 
-    /// Puts one more row at place `at` into the table and takes that at place `cut` out, where the table keeps no second order and both are in one run: whether that is so.
-    fn move_in_run(
-        &mut self,
-        alloc: Global,
-        cut: usize,
-        at: usize,
-        row: &[Value],
-    ) -> Result<bool, NoMemory>
-        requires cut { cut < length self.old }
-        requires at { at ≤ length self.old }
-        ensures all { IfOk result (λ b. b ≡ true → self.new ≡ row_moved self.old cut at row.now) }
+    /// Puts one row in the place of another, where the table keeps no second order and both are in one run: whether that is so.
+    fn move_in_run(&mut self, alloc: Global, step: &Move<'_>) -> Result<bool, NoMemory>
+        requires cut { step.now.cut < length self.old }
+        requires at { step.now.at ≤ length self.old }
+        ensures all { IfOk result (λ b. b ≡ true → self.new ≡ moved_by self.old step.now) }
         ensures none { IfOk result (λ b. b ≡ false → self.new ≡ self.old) }
     {
         if self.second.rows().is_some() {
             return Ok(false);
         }
-        let gone = self.runs.row(cut);
-        let more = self.code.wrapping_add(code_of_row(row));
+        let gone = self.runs.row(step.cut);
+        let more = self.code.wrapping_add(code_of_row(step.row));
         let code = more.wrapping_sub(code_of_row(gone));
-        if self.runs.move_row(alloc, cut, at, row)? {
+        if self.runs.move_row(alloc, step)? {
             self.code = code;
             return Ok(true);
         }
         Ok(false)
     }
 
-    /// Puts one more row at place `at` into the table and takes that at place `cut` out, in one step where both are in one run.
-    fn move_either(
-        &mut self,
-        alloc: Global,
-        cut: usize,
-        at: usize,
-        row: &[Value],
-    ) -> Result<(), NoMemory>
-        requires cut { cut < length self.old }
-        requires at { at ≤ length self.old }
-        ensures { OnOk result (self.new ≡ row_moved self.old cut at row.now) }
+    /// Puts one row in the place of another, in one step where both are in one run.
+    fn move_either(&mut self, alloc: Global, step: &Move<'_>) -> Result<(), NoMemory>
+        requires cut { step.now.cut < length self.old }
+        requires at { step.now.at ≤ length self.old }
+        ensures { OnOk result (self.new ≡ moved_by self.old step.now) }
     {
-        if self.move_in_run(alloc, cut, at, row)? {
+        if self.move_in_run(alloc, step)? {
             return Ok(());
         }
-        self.cut_row(alloc, cut)?;
-        self.put_row(alloc, place_left(cut, at), row)
+        self.cut_row(alloc, step.cut)?;
+        self.put_row(alloc, place_left(step.cut, step.at), step.row)
     }
 
-    /// Puts one more row at place `at` into the table, and takes that at place `cut` out.
-    pub(crate) fn move_row(
-        &mut self,
-        alloc: Global,
-        cut: usize,
-        at: usize,
-        row: &[Value],
-    ) -> Result<(), NoMemory>
-        requires cut { cut < length self.old }
-        requires at { at ≤ length self.old }
-        ensures { OnOk result (self.new ≡ row_moved self.old cut at row.now) }
+    /// Puts one row in the place of another.
+    pub(crate) fn move_row(&mut self, alloc: Global, step: &Move<'_>) -> Result<(), NoMemory>
+        requires cut { step.now.cut < length self.old }
+        requires at { step.now.at ≤ length self.old }
+        ensures { OnOk result (self.new ≡ moved_by self.old step.now) }
     {
         if self.second.rows().is_none() {
-            return self.move_either(alloc, cut, at, row);
+            return self.move_either(alloc, step);
         }
         let kept = mem::replace(&mut self.second, Second::none());
-        let second = kept.move_row(alloc, self.runs.row(cut), row)?;
-        self.move_either(alloc, cut, at, row)?;
+        let second = kept.move_row(alloc, self.runs.row(step.cut), step.row)?;
+        self.move_either(alloc, step)?;
         self.second = second;
         Ok(())
     }

@@ -3,12 +3,13 @@ ghost use Rattle.std.specs.List.{insert, remove};
 ghost use Rattle.std.specs.List.Sorted.{IsBinarySearchResult, IsSearchInRange};
 ghost use Rattle.std.specs.Prelude.{◌≡◌, ◌<◌, ◌≤◌, ◌+◌, ◌^◌, ◌↔◌, ◌++◌, [], ◌∷◌, length, take, drop, slice_index_or, true, false, IfOk, IfSome, OnErr, OnOk};
 ghost use Rattle.tl_syntax.proofs.Telling.{tells-partial};
-ghost use Rattle.tl_world.specs.Moves.{row_moved};
+ghost use Rattle.tl_world.specs.Moves.{moved_by};
 ghost use Rattle.tl_world.specs.RowTests.{rows_eq, rows-tell};
 ghost use Rattle.tl_world.specs.Runs.{between, GainsSomeUpTo, GainsUpTo, IsPart, IsPartFor};
 ghost use Rattle.tl_world.specs.Tables.{row_cmp};
 
 use crate::flat::Flat;
+use crate::row_move::Move;
 use crate::row_search::{begins_after, find_in};
 use crate::same_row::is_same_row;
 use crate::shared::{FEWEST, MOST, Shared};
@@ -358,28 +359,22 @@ impl Runs {
         Ok(())
     }
 
-    /// Puts one more row at place `at` and takes that at place `cut` out, where both are in one run or among the last rows: whether they are. After a failure the rows are those of before.
-    pub(crate) fn move_row(
-        &mut self,
-        alloc: Global,
-        cut: usize,
-        at: usize,
-        row: &[Value],
-    ) -> Result<bool, NoMemory>
-        requires cut { cut < length self.old }
-        requires at { at ≤ length self.old }
-        ensures all { IfOk result (λ b. b ≡ true → self.new ≡ row_moved self.old cut at row.now) }
+    /// Puts one row in the place of another, where both are in one run or among the last rows: whether they are. After a failure the rows are those of before.
+    pub(crate) fn move_row(&mut self, alloc: Global, step: &Move<'_>) -> Result<bool, NoMemory>
+        requires cut { step.now.cut < length self.old }
+        requires at { step.now.at ≤ length self.old }
+        ensures all { IfOk result (λ b. b ≡ true → self.new ≡ moved_by self.old step.now) }
         ensures none { IfOk result (λ b. b ≡ false → self.new ≡ self.old) }
         ensures same { OnErr result (self.new ≡ self.old) }
     {
         let full = self.shared.len();
-        if cut < full && at <= full {
-            return self.shared.move_row(alloc, cut, at, row);
+        if step.cut < full && step.at <= full {
+            return self.shared.move_row(alloc, step);
         }
-        if cut < full || at < full {
+        if step.cut < full || step.at < full {
             return Ok(false);
         }
-        self.last.move_row(alloc, cut - full, at - full, row)?;
+        self.last.move_row(alloc, &step.among(full))?;
         Ok(true)
     }
 

@@ -2,6 +2,7 @@
 ghost use Rattle.std.specs.Prelude.{◌≡◌, Some, None, IfNone, IfSome, IfOk};
 ghost use Rattle.tl_world.specs.Second.{exchanged, KeepsWith, KeepsWithout, KeepsMoved};
 
+use crate::row_move::Move;
 use crate::runs::{Runs, find_row};
 use crate::shared::MOST;
 use std::alloc::Global;
@@ -55,7 +56,14 @@ fn moved_second(
     let other = exchanged(alloc, row)?;
     match find_row(rows, other.as_slice()) {
         Ok(_) => Ok(Second::none()),
-        Err(at) => Second::of(alloc, rows.moved(alloc, cut, at, other.as_slice())?),
+        Err(at) => {
+            let step = Move {
+                cut,
+                at,
+                row: other.as_slice(),
+            };
+            Second::of(alloc, rows.moved(alloc, &step)?)
+        }
     }
 }
 

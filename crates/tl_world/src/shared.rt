@@ -2,11 +2,12 @@
 ghost use Rattle.std.specs.List.{insert, remove};
 ghost use Rattle.std.specs.Prelude.{◌≡◌, ◌≢◌, ◌<◌, ◌≤◌, ◌+◌, ◌^◌, [], ◌++◌, length, map, take, drop, true, false, IfOk, OnErr, OnOk};
 ghost use Rattle.std.specs.declared.cmp.Ordering.TheVariants.{Greater};
-ghost use Rattle.tl_world.specs.Moves.{row_moved};
+ghost use Rattle.tl_world.specs.Moves.{moved_by};
 ghost use Rattle.tl_world.specs.Runs.{between, first_row, lowered, raised, rows_in, run_place, AreCounted, BeginsAfter, IsPart, IsPartFor};
 ghost use Rattle.tl_world.specs.Tables.{row_cmp};
 
 use crate::flat::Flat;
+use crate::row_move::Move;
 use crate::row_search::begins_after;
 use std::alloc::Global;
 use std::marker::Model;
@@ -158,24 +159,18 @@ fn put_in_run(alloc: Global, run: &mut Run, k: usize, row: &[Value]) -> Result<(
     }
 }
 
-/// Puts one more row at place `at` into the run and takes that at place `cut` out, in place where no other table shares it. After a failure its rows are those of before.
-fn move_in_run(
-    alloc: Global,
-    run: &mut Run,
-    cut: usize,
-    at: usize,
-    row: &[Value],
-) -> Result<(), NoMemory>
-    requires cut { cut < length run.old.rows.value }
-    requires at { at ≤ length run.old.rows.value }
+/// Puts one row of the run in the place of another, in place where no other table shares the run. After a failure its rows are those of before.
+fn move_in_run(alloc: Global, run: &mut Run, step: &Move<'_>) -> Result<(), NoMemory>
+    requires cut { step.now.cut < length run.old.rows.value }
+    requires at { step.now.at ≤ length run.old.rows.value }
     ensures end { run.new.end ≡ run.old.end }
-    ensures all { OnOk result (run.new.rows.value ≡ row_moved run.old.rows.value cut at row.now) }
+    ensures all { OnOk result (run.new.rows.value ≡ moved_by run.old.rows.value step.now) }
     ensures same { OnErr result (run.new.rows.value ≡ run.old.rows.value) }
 {
     match Rc::get_mut(&mut run.rows) {
-        Some(rows) => rows.move_row(alloc, cut, at, row),
+        Some(rows) => rows.move_row(alloc, step),
         None => {
-            let rows = run.rows.moved(alloc, cut, at, row)?;
+            let rows = run.rows.moved(alloc, step)?;
             run.rows = Rc::new(alloc, rows)?;
             Ok(())
         }
@@ -246,25 +241,19 @@ impl Shared {
         Ok(true)
     }
 
-    /// Puts one more row at place `at` and takes that at place `cut` out, where both are in one run: whether they are. After a failure the rows are those of before.
-    pub(crate) fn move_row(
-        &mut self,
-        alloc: Global,
-        cut: usize,
-        at: usize,
-        row: &[Value],
-    ) -> Result<bool, NoMemory>
-        requires { cut < length self.old }
-        ensures all { IfOk result (λ b. b ≡ true → self.new ≡ row_moved self.old cut at row.now) }
+    /// Puts one row in the place of another, where both are in one run: whether they are. After a failure the rows are those of before.
+    pub(crate) fn move_row(&mut self, alloc: Global, step: &Move<'_>) -> Result<bool, NoMemory>
+        requires { step.now.cut < length self.old }
+        ensures all { IfOk result (λ b. b ≡ true → self.new ≡ moved_by self.old step.now) }
         ensures none { IfOk result (λ b. b ≡ false → self.new ≡ self.old) }
         ensures same { OnErr result (self.new ≡ self.old) }
     {
-        let i = find_run(self.runs.as_slice(), cut, cut / MOST);
+        let i = find_run(self.runs.as_slice(), step.cut, step.cut / MOST);
         let from = begin(self.runs.as_slice(), i);
-        if at < from || at > self.runs[i].end {
+        if step.at < from || step.at > self.runs[i].end {
             return Ok(false);
         }
-        move_in_run(alloc, &mut self.runs[i], cut - from, at - from, row)?;
+        move_in_run(alloc, &mut self.runs[i], &step.among(from))?;
         Ok(true)
     }
 }

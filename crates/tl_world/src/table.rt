@@ -5,7 +5,7 @@ ghost use Rattle.std.specs.List.{insert};
 ghost use Rattle.std.specs.Prelude.{◌≡◌, ◌<◌, ◌≤◌, ◌==◌, [], ◌∷◌, length, map, slice_index_or, slice_set, IfOk, OnErr, OnOk};
 ghost use Rattle.tl_syntax.proofs.Telling.{tells-partial, tells-equivalence};
 ghost use Rattle.tl_world.specs.Codes.{place_code, places_code};
-ghost use Rattle.tl_world.specs.Places.{place_set};
+ghost use Rattle.tl_world.specs.Places.{place_put, place_set};
 ghost use Rattle.tl_world.specs.RowTests.{place_rows_eq, place_rows-tell};
 
 use crate::even::values_with;
@@ -222,7 +222,7 @@ impl PlaceRows {
         value: Value,
     ) -> Result<PlaceRows, NoMemory>
         requires { k ≤ length self.now }
-        ensures { IfOk result (λ t. t ≡ insert self.now k (record { args = args.now; value = value })) }
+        ensures { IfOk result (λ t. t ≡ place_put self.now k args.now value) }
     {
         let list = self.args.with(alloc, k, args)?;
         Ok(PlaceRows {
@@ -252,7 +252,7 @@ impl PlaceRows {
         value: Value,
     ) -> Result<(), NoMemory>
         requires { k ≤ length self.old }
-        ensures { OnOk result (self.new ≡ insert self.old k (record { args = args.now; value = value })) }
+        ensures { OnOk result (self.new ≡ place_put self.old k args.now value) }
     {
         let code = self.code.wrapping_add(code_of_place(args, value));
         self.values.insert(k, value)?;

@@ -1,7 +1,7 @@
 // Numbers of the tables of worlds, by which tables that two worlds have in common are told.
-ghost use Rattle.std.specs.Prelude.{◌≡◌, ◌<◌, ◌++◌, ◌∷◌, List, [], length, take, slice_get, Some, IfOk, IfSome, OnOk, OnErr};
+ghost use Rattle.std.specs.Prelude.{◌≡◌, ◌<◌, ◌++◌, List, [], length, take, slice_get, Some, IfOk, IfSome, OnOk, OnErr};
 ghost use Rattle.tl_terms.specs.World.{World as PlainWorld};
-ghost use Rattle.tl_world.specs.TableNumbers.{changes_table, standing, tables_in, GainsAllOrNone, AreNumbered, AreTableNumbers, ComesFrom, IsTableNumber};
+ghost use Rattle.tl_world.specs.TableNumbers.{changes_table, numbers_at, AllOrNone, AreNumbered, StandFor, AreOneEach, ComesFrom, GainsStart, IsTableNumber};
 
 use crate::World;
 use crate::marks::Marks;
@@ -101,7 +101,7 @@ impl TableNumbers {
 
     /// The numbers of the tables of the world of a number, from its first table on; those of other worlds follow. It takes no memory.
     pub(crate) fn of(&self, number: usize) -> &[u32]
-        ensures { result.now ≡ standing self.now.all.items (slice_get self.now.starts.items number) }
+        ensures { result.now ≡ numbers_at self.now.starts.items self.now.all.items number }
     {
         match self.starts.get(number) {
             Some(start) => {
@@ -174,12 +174,8 @@ impl TableNumbers {
         requires numbered { AreNumbered worlds.now.keys self.old.starts.items self.old.all.items }
         ensures starts { self.new.starts.items ≡ self.old.starts.items }
         ensures all { self.new.all.items ≡ self.old.all.items }
-        ensures many { IfOk result (λ v. (w : PlainWorld) → slice_get worlds.now.keys number ≡ Some w
-            → length v.items ≡ length (tables_in w)) }
-        ensures numbers { IfOk result (λ v. (w : PlainWorld) → slice_get worlds.now.keys number ≡ Some w
-            → ComesFrom worlds.now.keys source.now.from
-            source.now.dels.now source.now.adds.now source.now.sets.now w
-            → AreTableNumbers worlds.now.keys w v.items) }
+        ensures many { IfOk result (λ v. AreOneEach worlds.now.keys number v.items) }
+        ensures numbers { IfOk result (λ v. StandFor worlds.now.keys source.now number v.items) }
     {
         let world = world_at(worlds, number);
         let count = world.table_count();
@@ -193,10 +189,10 @@ impl TableNumbers {
 
     /// Puts the numbers of the tables of one more world after the others, where there is memory for them.
     fn push(&mut self, numbers: &[u32]) -> Result<(), NoMemory>
-        ensures starts { OnOk result (self.new.starts.items ≡ self.old.starts.items ++ length self.old.all.items ∷ []) }
+        ensures starts { OnOk result (GainsStart self.old self.new) }
         ensures refused { OnErr result (self.new.starts.items ≡ self.old.starts.items) }
         ensures all { OnOk result (self.new.all.items ≡ self.old.all.items ++ numbers.now) }
-        ensures rest { OnErr result (GainsAllOrNone self.old.all.items numbers.now self.new.all.items) }
+        ensures rest { OnErr result (AllOrNone self.old.all.items numbers.now self.new.all.items) }
     {
         let start = self.all.len();
         self.all.extend_from_slice(numbers)?;

@@ -1,6 +1,6 @@
 // Tables of two worlds that have the same facts but for those that changes name.
 ghost use Rattle.std.specs.Prelude.{◌≡◌, [], drop, true};
-ghost use Rattle.tl_world.specs.Unchanged.{AreRowsBeside, AreTablesBeside, TellRows};
+ghost use Rattle.tl_world.specs.Unchanged.{AreNumberedBeside, AreRowsBeside, AreTablesBeside, TellRowsOf};
 
 use crate::Rows;
 use crate::named::Named;
@@ -51,8 +51,8 @@ pub(crate) fn are_tables_beside(
     dels: &[Fact],
     adds: &[Fact],
 ) -> bool
-    requires { TellRows these.now.tables.now these.now.numbers.now those.now.tables.now those.now.numbers.now }
-    ensures { result ≡ true → AreTablesBeside dels.now adds.now these.now.tables.now those.now.tables.now }
+    requires { TellRowsOf these.now those.now }
+    ensures { result ≡ true → AreNumberedBeside dels.now adds.now these.now those.now }
 {
     let tables = these.tables;
     let others = those.tables;

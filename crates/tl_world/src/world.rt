@@ -3,15 +3,14 @@ ghost use Rattle.std.specs.FinMap as dict;
 ghost use Rattle.std.specs.FinSet as set;
 ghost use Rattle.std.specs.Hash.{same_Alike};
 ghost use Rattle.std.specs.List.{list_all};
-ghost use Rattle.std.specs.Prelude.{◌≡◌, ◌↔◌, ◌<◌, ◌&&◌, ◌++◌, List, [], map, length, slice_get, not, true, false, Some, None, IfNone, IfSome, IfOk};
+ghost use Rattle.std.specs.Prelude.{◌≡◌, ◌↔◌, ◌<◌, ◌++◌, List, [], map, length, slice_get, not, true, false, Some, None, IfNone, IfSome, IfOk};
 ghost use Rattle.tl_syntax.proofs.Telling.{tells-partial, tells-equivalence};
 ghost use Rattle.tl_syntax.specs.Lists.{Among, Rises};
 ghost use Rattle.tl_terms.proofs.SameWorlds.{world-tells};
-ghost use Rattle.tl_terms.specs.Acceptance.{is_value};
 ghost use Rattle.tl_terms.specs.ProblemMeaning.{world_of};
 ghost use Rattle.tl_terms.specs.SameWorlds.{world_eq};
 ghost use Rattle.tl_terms.specs.World.{has_fact, value_at};
-ghost use Rattle.tl_world.specs.Calls.{ArePlacesOf, IsNamedByParts, StaysNamedWith, LacksFacts, gives_row};
+ghost use Rattle.tl_world.specs.Calls.{gives_entry, gives_row, gives_table, has_row, has_table, lacks_table, ArePlacesOf, IsNamedByParts, LacksFacts, StaysNamedWith};
 ghost use Rattle.tl_world.specs.Codes.{tables_code};
 ghost use Rattle.tl_world.specs.TableNumbers.{tables_in, AreAlikeOf, TellAlike};
 ghost use Rattle.tl_world.specs.declared.table_name.TableName.TheVariants.{Pred, Fun};
@@ -400,7 +399,7 @@ impl World {
 
     /// Whether all places of the other world have their values in this one.
     pub(crate) fn has_all_values(&self, other: &World) -> bool
-        ensures { result ≡ list_all (λ k. is_value (value_at self.now k.0) k.1) (dict.entries other.now.places) }
+        ensures { result ≡ list_all (gives_entry self.now) (dict.entries other.now.places) }
     {
         self.gives_each(other.places.as_slice())
     }
@@ -425,7 +424,7 @@ impl World {
 
     /// The place of the first row from a place on that is not the arguments of a fact in this world.
     fn lacking_row(&self, pred: u32, rows: &Rows, from: usize) -> Option<usize>
-        ensures { IfSome result (λ _. list_all (λ a. has_fact self.now (pred, a)) rows.now ≡ false) }
+        ensures { IfSome result (λ _. list_all (has_row self.now pred) rows.now ≡ false) }
     {
         let mut k = from;
         while k < rows.len() {
@@ -438,7 +437,7 @@ impl World {
     }
 
     fn holds_each(&self, tables: &[Named<Rows>]) -> bool
-        ensures { result ≡ list_all (λ t. list_all (λ a. has_fact self.now (t.name, a)) t.rows.value) tables.now }
+        ensures { result ≡ list_all (has_table self.now) tables.now }
     {
         tables
             .iter()
@@ -446,7 +445,7 @@ impl World {
     }
 
     fn holds_none(&self, tables: &[Named<Rows>]) -> bool
-        ensures { result ≡ list_all (λ t. list_all (λ a. not (has_fact self.now (t.name, a))) t.rows.value) tables.now }
+        ensures { result ≡ list_all (lacks_table self.now) tables.now }
     {
         tables
             .iter()
@@ -454,7 +453,7 @@ impl World {
     }
 
     fn gives_each(&self, tables: &[Named<PlaceRows>]) -> bool
-        ensures { result ≡ list_all (λ t. list_all (λ r. gives_row self.now t.name r) t.rows.value) tables.now }
+        ensures { result ≡ list_all (gives_table self.now) tables.now }
     {
         tables
             .iter()
@@ -462,7 +461,7 @@ impl World {
     }
 
     fn holds_rows(&self, pred: u32, rows: &Rows) -> bool
-        ensures { result ≡ list_all (λ a. has_fact self.now (pred, a)) rows.now }
+        ensures { result ≡ list_all (has_row self.now pred) rows.now }
     {
         let mut k = 0;
         while k < rows.len() {

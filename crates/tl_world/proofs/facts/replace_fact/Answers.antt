@@ -36,7 +36,7 @@ returns-in_ok-rows-in-Ok-find_in-clause-order c =
       of_table = sym c.if-gone-fact.false;
       within = subst (λ xs. at ≤ length xs) same c.in-Err-find_near.ensures.range;
       absent = subst (λ xs. IsBinarySearchResult (λ (r : List Value). row_cmp r fact.args) xs (Err at)) same (subst (λ b. IsBinarySearchResult (λ (r : List Value). row_cmp r b) c.in-Some.list.now (Err at)) c.as_slice-in-Ok-find_in.ensures c.in-Err-find_near.ensures.place);
-      is = c.in_ok-rows-in-Ok-find_in.ensures ∙ λ j. row_moved (c.deref-in-Ok-find_in.ensures j) cut at (c.as_slice-in-Ok-find_in-2.ensures j);
+      is = c.in_ok-rows-in-Ok-find_in.ensures ∙ λ j. row_moved (c.deref-in-Ok-find_in.ensures j) (c.move_for.ensures.cut j) (c.move_for.ensures.at j) (c.move_for.ensures.row j);
     } in
     let full = filled-moved old.rows.value fresh.rows.value cut n (fact ∷ []) m below in
     subst (λ us. InOrder (fact_tables us)) (sym c.put_table.ensures) (order-moved ts n i old fresh (fact ∷ []) cut a found refl m below tied full)
@@ -63,7 +63,7 @@ returns-in_ok-rows-in-Ok-find_in-clause-all c told =
       of_table = sym c.if-gone-fact.false;
       within = subst (λ xs. at ≤ length xs) same c.in-Err-find_near.ensures.range;
       absent = subst (λ xs. IsBinarySearchResult (λ (r : List Value). row_cmp r fact.args) xs (Err at)) same (subst (λ b. IsBinarySearchResult (λ (r : List Value). row_cmp r b) c.in-Some.list.now (Err at)) c.as_slice-in-Ok-find_in.ensures c.in-Err-find_near.ensures.place);
-      is = c.in_ok-rows-in-Ok-find_in.ensures ∙ λ j. row_moved (c.deref-in-Ok-find_in.ensures j) cut at (c.as_slice-in-Ok-find_in-2.ensures j);
+      is = c.in_ok-rows-in-Ok-find_in.ensures ∙ λ j. row_moved (c.deref-in-Ok-find_in.ensures j) (c.move_for.ensures.cut j) (c.move_for.ensures.at j) (c.move_for.ensures.row j);
     } in
     let full = filled-moved old.rows.value fresh.rows.value cut n (fact ∷ []) m below in
     let s = set_of (fact_tables ts) in

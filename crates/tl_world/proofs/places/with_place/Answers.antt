@@ -38,8 +38,8 @@ returns-in_ok-insert-in-Err-clause-order c =
     let order = subst (λ ts. InOrder (place_tables ts)) (sym c.in_ok-insert-in-Err.ensures.items) rise in
     order
 
-pub returns-in_ok-insert-in-Err-clause-places : goal.returns-in_ok-insert-in-Err-clause-places
-returns-in_ok-insert-in-Err-clause-places c =
+pub returns-in_ok-insert-in-Err-clause-set : goal.returns-in_ok-insert-in-Err-clause-set
+returns-in_ok-insert-in-Err-clause-set c =
     let fresh : Named (List PlaceRow) = record { name = c.args.fun; rows = c.in_ok-shared-in-Err.shared } in
     let made : PlaceRow = record { args = c.as_slice-in-Err.result.now; value = c.args.value } in
     let row = one _ made c.args.args.now c.args.value (c.in_ok-shared-in-Err.ensures.ok ∙ c.in_ok-rows-in-Err.ensures) (ap (λ (a : List Value). (a, c.args.value)) c.as_slice-in-Err.ensures) in
@@ -87,8 +87,8 @@ returns-in-Ok-find_place-clause-order c =
     let held = e ∙ ap (λ (u : Named (List PlaceRow)). place_set u.rows.value k c.args.value) here in
     subst (λ us. InOrder (place_tables us)) (sym (set-edit ts c.in-Ok.i fresh found.below)) (change.order-put place_row _ _ _ _ found fresh name a c.args.value (ap (map place_row) held ∙ more))) c.set_value.ensures.rows
 
-pub returns-in-Ok-find_place-clause-places : goal.returns-in-Ok-find_place-clause-places
-returns-in-Ok-find_place-clause-places c =
+pub returns-in-Ok-find_place-clause-set : goal.returns-in-Ok-find_place-clause-set
+returns-in-Ok-find_place-clause-set c =
     let ts = c.args.tables.now.items in
     let n = c.args.fun in
     let a = c.args.args.now in
@@ -125,8 +125,8 @@ returns-in-Err-find_place-clause-order c =
     let held = e ∙ ap (λ (u : Named (List PlaceRow)). insert u.rows.value k row) here in
     subst (λ us. InOrder (place_tables us)) (sym (set-edit ts c.in-Ok.i fresh found.below)) (change.order-put place_row _ _ _ _ found fresh name a c.args.value (ap (map place_row) held ∙ more))) c.put_place.ensures.rows
 
-pub returns-in-Err-find_place-clause-places : goal.returns-in-Err-find_place-clause-places
-returns-in-Err-find_place-clause-places c =
+pub returns-in-Err-find_place-clause-set : goal.returns-in-Err-find_place-clause-set
+returns-in-Err-find_place-clause-set c =
     let ts = c.args.tables.now.items in
     let n = c.args.fun in
     let a = c.args.args.now in
