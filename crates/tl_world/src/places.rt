@@ -104,6 +104,7 @@ fn with_place(
 }
 
 /// Gives the places their values, from the last on.
+#[inline(always)]
 fn with_places(
     alloc: Global,
     tables: &mut Vec<Named<PlaceRows>>,

@@ -68,7 +68,7 @@ pub(crate) fn place_left(cut: usize, at: usize) -> usize
 }
 
 /// The rows, for worlds to share.
-#[inline(never)]
+#[inline(always)]
 pub(crate) fn share_rows(alloc: Global, rows: Rows) -> Result<Rc<Rows>, NoMemory>
     ensures { IfOk result (λ shared. shared.value ≡ rows) }
 {

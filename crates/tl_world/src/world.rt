@@ -104,6 +104,7 @@ fn code_of_tables(facts: &[Named<Rows>], places: &[Named<PlaceRows>]) -> u64
 }
 
 /// The world of the tables.
+#[inline(always)]
 fn whole(facts: Vec<Named<Rows>>, places: Vec<Named<PlaceRows>>) -> World
     requires facts { InOrder (fact_tables facts.items) }
     requires places { InOrder (place_tables places.items) }
