@@ -1,7 +1,6 @@
 -- The next tuple that passes a test, and the chain of all of them.
 use Rattle.std.specs.Prelude.{◌≡◌, ◌↔◌, ℕ, List, [], ◌∷◌, Bool, true, false, ◌&&◌, Option, Some, None, length}
 use Rattle.std.specs.declared.cmp.Ordering.TheVariants.{Less}
-use Rattle.std.specs.Option.{option_map}
 use Rattle.std.specs.Ordering.{is_gt}
 use Rattle.tl_syntax.specs.declared.value.Value.{Value}
 use Rattle.tl_syntax.specs.Lists.{Among, Rises}
@@ -10,7 +9,7 @@ use Rattle.tl_world.specs.declared.pattern.Match.{Match}
 use Rattle.tl_world.specs.declared.pattern.Pattern.{Pattern}
 use Rattle.tl_world.specs.Least.{IsLeast, above, match_in_place}
 use Rattle.tl_world.specs.Plain.{row_cmp}
-use Rattle.tl_world.specs.Patterns.{makes_true, is_true_of, filled, parts_of, tuple_in_place, tuple_of, IsLawful}
+use Rattle.tl_world.specs.Patterns.{makes_true, is_true_of, filled, parts_of, tuple_in_place, IsLawful}
 
 -- t comes after the tuple, where one is given, in lexicographic value order
 abbrev pub IsAfter : Option (List Value) → List Value → Type 0
@@ -25,10 +24,6 @@ IsLater k test after t = (length t ≡ k) × (test t ≡ true) × IsAfter after 
 abbrev pub IsNext : ℕ → (List Value → Bool) → Option (List Value) → Option (List Value) → Type 0
 IsNext k test after None = (t : List Value) → ¬ IsLater k test after t
 IsNext k test after (Some m) = IsLater k test after m × ((t : List Value) → IsLater k test after t → is_gt (row_cmp m t) ≡ false)
-
--- the match is that of the next tuple that makes the pattern true in the world
-abbrev pub IsNextMatch : World → Pattern → Option (List Value) → Option Match → Type 0
-IsNextMatch w p after found = IsNext p.free (makes_true w p) after (option_map tuple_of found)
 
 -- the least tuple after the one in place that makes the pattern true in the world is put in place, where there is one
 abbrev pub PutsNextMatch : World → Pattern → Bool → Match → Bool → Match → Type 0

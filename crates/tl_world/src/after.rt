@@ -7,7 +7,8 @@ ghost use Rattle.tl_world.specs.Least.{HasLater};
 ghost use Rattle.tl_world.specs.Tables.{row_cmp};
 
 use crate::Part;
-use crate::front::{are_in_turn, order_of_front};
+use crate::front::{are_in_turn, order_of_front, value_of_part};
+use crate::guess::Difference;
 use crate::runs::Runs;
 use std::cmp::Ordering;
 use tl_syntax::Value;
@@ -130,6 +131,7 @@ pub(crate) fn fits_in_turn(parts: &[Part], row: &[Value], tuple: &[Value]) -> Op
 }
 
 /// Whether the row before the place is the parts with the tuple's values put in, and the variables first stand in the order of their numbers.
+#[inline(always)]
 fn is_after_row(rows: &Runs, parts: &[Part], tuple: &[Value], at: usize) -> bool
     ensures bound { result ≡ true → at ≤ length rows.now }
     ensures some { result ≡ true → 1 ≤ at }
@@ -144,7 +146,7 @@ fn is_after_row(rows: &Runs, parts: &[Part], tuple: &[Value], at: usize) -> bool
 
 /// How many rows come before those with the tuples after that in place, or with all tuples where none is. None where the variables do not first stand in the order of their numbers.
 ///
-/// They are counted by halves where `near` is another number.
+/// They are looked for where `near` is another number.
 pub(crate) fn rows_up_to(
     rows: &Runs,
     parts: &[Part],
@@ -163,20 +165,49 @@ pub(crate) fn rows_up_to(
         return Some(near);
     }
     if are_in_turn(parts) {
-        Some(rows_up_to_by_halves(rows, parts, begun, tuple, near))
+        Some(look_up_to(rows, parts, begun, tuple, near))
     } else {
         None
     }
 }
 
-/// How many rows come before those with the tuples after that in place, counted by halves, or before all tuples where none is.
-fn rows_up_to_by_halves(
-    rows: &Runs,
-    parts: &[Part],
-    begun: bool,
-    tuple: &[Value],
-    near: usize,
-) -> usize
+/// A guess for the place after the row with the tuple's values.
+#[inline(always)]
+fn guess_after(rows: &Runs, parts: &[Part], tuple: &[Value]) -> usize {
+    let count = rows.len();
+    if count == 0 {
+        return 0;
+    }
+    let Some(apart) = Difference::of(rows.row(0), rows.row(count - 1)) else {
+        return 1;
+    };
+    let part = parts.get(apart.column).copied();
+    match part.and_then(|p| value_of_part(p, tuple.len(), tuple)) {
+        Some(v) => apart.steps_to(v, count - 1).saturating_add(1),
+        None => 0,
+    }
+}
+
+/// How many rows come before those with the tuples after that in place. They are counted by halves where it is not the number that is guessed.
+fn rows_with(rows: &Runs, parts: &[Part], tuple: &[Value]) -> usize
+    requires each { (n : ℕ) → n < length tuple.now → occurs n parts.now ≡ true }
+    requires slots { (n : ℕ) → occurs n parts.now ≡ true → n < length tuple.now }
+    requires turn { are_in_turn 0 parts.now ≡ true }
+    requires order { Rises row_cmp rows.now }
+    ensures bound { result ≤ length rows.now }
+    ensures later { HasLater parts.now true tuple.now rows.now result }
+{
+    let guess = guess_after(rows, parts, tuple);
+    if is_after_row(rows, parts, tuple, guess) {
+        guess
+    } else {
+        rows_before(rows, parts, tuple, true)
+    }
+}
+
+/// How many rows come before those with the tuples after that in place, or before all tuples where none is. `near` is a guess for the latter.
+#[inline(never)]
+fn look_up_to(rows: &Runs, parts: &[Part], begun: bool, tuple: &[Value], near: usize) -> usize
     requires each { (n : ℕ) → n < length tuple.now → occurs n parts.now ≡ true }
     requires slots { (n : ℕ) → occurs n parts.now ≡ true → n < length tuple.now }
     requires turn { are_in_turn 0 parts.now ≡ true }
@@ -185,7 +216,7 @@ fn rows_up_to_by_halves(
     ensures later { HasLater parts.now begun tuple.now rows.now result }
 {
     if begun {
-        rows_before(rows, parts, tuple, true)
+        rows_with(rows, parts, tuple)
     } else {
         rows_before_near(rows, parts, near)
     }

@@ -55,6 +55,9 @@ pub(crate) fn put_next_in_table(
 {
     if is_by_second(parts) {
         if let Some(second) = rows.second() {
+            if parts.len() == 2 {
+                return put_next(second, &[parts[1], parts[0]], free, begun, tuple, near);
+            }
             let other = exchanged_parts(parts);
             return put_next(second, &other[..parts.len()], free, begun, tuple, near);
         }

@@ -8,7 +8,7 @@ use std::cmp::Ordering;
 use tl_syntax::Value;
 
 /// The value of the part: a fixed one, or that of one of the first variables, of which `seen` came before.
-fn value_of_part(part: Part, seen: usize, known: &[Value]) -> Option<Value>
+pub(crate) fn value_of_part(part: Part, seen: usize, known: &[Value]) -> Option<Value>
     ensures { result ≡ known_value seen known.now part }
 {
     match part {

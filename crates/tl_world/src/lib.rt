@@ -8,6 +8,7 @@
 //! - `table`: the places of one function with their values, with a code that is kept.
 //! - `even`: rows of one length as the list of their values, with searches and copies.
 //! - `row_order`, `row_search`: how a row stands to another, and the place of a row in one list, found by halves.
+//! - `guess`: guesses for a place among rows, from the values of the first and the last of them.
 //! - `named`: a table with the number of its predicate or function, shared between worlds.
 //! - `facts`, `places`: the tables of facts and of places, and edits of them.
 //! - `kept`: which tables keep their rows by the second value too.
@@ -33,6 +34,7 @@ mod first;
 mod first_place;
 mod flat;
 mod front;
+mod guess;
 mod is_after;
 mod kept;
 pub mod laws;

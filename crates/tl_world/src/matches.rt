@@ -1,8 +1,8 @@
 // The tuples that make a pattern true in a world, one after another.
 ghost use Rattle.std.specs.Option.{option_map};
 ghost use Rattle.std.specs.Prelude.{◌≡◌, true, false, IfSome};
-ghost use Rattle.tl_world.specs.Next.{IsNext, IsNextMatch, PutsNextMatch, PutsNextOf};
-ghost use Rattle.tl_world.specs.Patterns.{IsLawful, makes_true, tuple_of, tuple_in_place};
+ghost use Rattle.tl_world.specs.Next.{IsNext, PutsNextMatch, PutsNextOf};
+ghost use Rattle.tl_world.specs.Patterns.{IsLawful, makes_true, tuple_of};
 
 use crate::by_second::put_next_in_table;
 use crate::next::put_next_in_places;
@@ -11,37 +11,21 @@ use tl_syntax::Value;
 
 impl World {
     /// The least tuple of values, in lexicographic value order, that makes the pattern true and comes after `after`, where that is given: None exactly where there is none.
-    /// It takes no memory. `put_next_match` gives the same tuples, and finds each at once where the caller keeps its place.
+    /// It takes no memory. The place of `after` is guessed from the values of the table's first and last row, and found by halves where it is another. `put_next_match` gives the same tuples, and finds each at once where the caller keeps its place.
     pub fn next_match(&self, pattern: &Pattern, after: Option<Match>) -> Option<Match>
         requires pattern { IsLawful pattern.now }
         requires after { IfSome after (λ m. m.len ≡ pattern.now.free) }
         ensures next { IsNext pattern.now.free (makes_true self.now pattern.now) (option_map tuple_of after) (option_map tuple_of result) }
         ensures len { IfSome result (λ m. m.len ≡ pattern.now.free) }
     {
-        match after {
-            Some(tuple) => self.match_after(pattern, true, tuple),
-            None => self.match_after(
-                pattern,
-                false,
-                Match {
-                    values: [Value::Sym(0); 9],
-                    len: 0,
-                },
-            ),
-        }
-    }
-
-    /// The next tuple, where one is in place or none is.
-    fn match_after(&self, pattern: &Pattern, begun: bool, tuple: Match) -> Option<Match>
-        requires pattern { IsLawful pattern.now }
-        requires before { begun ≡ true → tuple.len ≡ pattern.now.free }
-        ensures next { IsNextMatch self.now pattern.now (tuple_in_place begun tuple) result }
-        ensures len { IfSome result (λ m. m.len ≡ pattern.now.free) }
-    {
-        let mut next = tuple;
+        let begun = after.is_some();
+        let mut tuple = after.unwrap_or(Match {
+            values: [Value::Sym(0); 9],
+            len: 0,
+        });
         let mut near = 0;
-        if self.put_next_match(pattern, begun, &mut next, &mut near) {
-            Some(next)
+        if self.put_next_match(pattern, begun, &mut tuple, &mut near) {
+            Some(tuple)
         } else {
             None
         }
@@ -52,7 +36,7 @@ impl World {
     ///
     /// `near` is a guess for the place in the table at which the search begins, and the call leaves the place after the row that it found. It is only a help: any number gives the same answer.
     ///
-    /// It looks at one table. Where the variables first stand in the order of their numbers, the rows are looked at from the guess on, or, where this is wrong, from a place that is found by halves, up to the first that the pattern fits.
+    /// It looks at one table. Where the variables first stand in the order of their numbers, the rows are looked at from the guess on, or, where this is wrong, from a place that is guessed from the values of the first and the last row, or else found by halves, up to the first that the pattern fits.
     /// Where they do not, all rows with the same fixed leading values are looked at, up to the first whose leading values exceed those of the best tuple so far.
     /// Where the first part is free and the second fixed, and the table has more than 128 rows, the rows with that second value are found in the same way among those by their second value.
     #[inline(never)]

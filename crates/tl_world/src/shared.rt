@@ -7,6 +7,7 @@ ghost use Rattle.tl_world.specs.Runs.{between, first_row, lowered, raised, rows_
 ghost use Rattle.tl_world.specs.Tables.{row_cmp};
 
 use crate::flat::Flat;
+use crate::guess::Difference;
 use crate::row_move::Move;
 use crate::row_search::begins_after;
 use std::alloc::Global;
@@ -19,6 +20,9 @@ pub(crate) const MOST: usize = 48;
 
 /// How many rows a run has at least that is shared. One with fewer is copied, and so joined to the next.
 pub(crate) const FEWEST: usize = 12;
+
+/// How many runs there are at least, where the one for a row is guessed.
+const MANY: usize = 16;
 
 /// One more than the greatest place that is counted.
 const COUNTED: usize = 9223372036854775808;
@@ -96,7 +100,39 @@ fn find_run(runs: &[Run], k: usize, guess: usize) -> usize
     halve_runs(runs, k)
 }
 
-/// The last run that does not begin after the arguments, found by halves, or else the first one.
+/// A guess for the last run that does not begin after the arguments.
+#[inline(always)]
+fn guess_run_for(runs: &[Run], args: &[Value]) -> usize
+    requires counted { AreCounted 0 runs.now }
+    requires some { 0 < length runs.now }
+{
+    let steps = runs.len() - 1;
+    let first = runs[0].rows.as_ref().row(0);
+    let last = runs[steps].rows.as_ref().row(0);
+    let Some(apart) = Difference::of(first, last) else {
+        return 0;
+    };
+    match args.get(apart.column) {
+        Some(v) => apart.steps_to(*v, steps),
+        None => 0,
+    }
+}
+
+/// The guess, where it lies between the two places, and else the middle of them.
+#[inline(always)]
+fn look_between(low: usize, high: usize, guess: usize) -> usize
+    requires { low + 1 < high }
+    ensures low { low < result }
+    ensures high { result < high }
+{
+    if low < guess && guess < high {
+        guess
+    } else {
+        low + (high - low) / 2
+    }
+}
+
+/// The last run that does not begin after the arguments, or else the first one, found by halves. Of many runs those at growing distances from a guess are looked at before (exponential search, Bentley and Yao 1976).
 fn find_run_for(runs: &[Run], args: &[Value]) -> usize
     requires counted { AreCounted 0 runs.now }
     requires some { 0 < length runs.now }
@@ -106,12 +142,21 @@ fn find_run_for(runs: &[Run], args: &[Value]) -> usize
 {
     let mut low = 0;
     let mut high = runs.len();
+    let mut guess = 0;
+    let mut step = high;
+    if high >= MANY {
+        guess = guess_run_for(runs, args);
+        step = 0;
+    }
     while low + 1 < high {
-        let middle = low + (high - low) / 2;
-        if begins_after(runs[middle].rows.as_ref(), args) {
-            high = middle;
+        let at = look_between(low, high, guess);
+        step = step.saturating_mul(2).saturating_add(1);
+        if begins_after(runs[at].rows.as_ref(), args) {
+            high = at;
+            guess = at.saturating_sub(step);
         } else {
-            low = middle;
+            low = at;
+            guess = at.saturating_add(step);
         }
     }
     low
