@@ -7,7 +7,7 @@ use tl_eval::RangeNote;
 use tl_syntax::NoMemory;
 
 /// What a check of a plan may end with in place of a verdict. Both checkers have it: that of plans that end, and that of plans with a part that is repeated for ever.
-#[derive(Clone, Copy, Debug, PartialEq, Eq)]
+#[derive(Clone, Copy, PartialEq, Eq)]
 pub enum CheckFault {
     /// An operation is past range.
     Range {

@@ -7,7 +7,7 @@ use tl_eval::RangeNote;
 use tl_syntax::NoMemory;
 
 /// Why a call gives no answer.
-#[derive(Clone, Copy, Debug, PartialEq, Eq)]
+#[derive(Clone, Copy, PartialEq, Eq)]
 pub enum ActFault {
     /// An operation that the action looks at is past the 64 bits of an integer.
     Range(RangeNote),

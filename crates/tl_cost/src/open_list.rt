@@ -8,7 +8,7 @@ use std::collections::BTreeSet;
 use tl_terms::NoMemory;
 
 /// A kept pair that is still to be settled. Entries are ordered by cost, then by length, and then by number.
-#[derive(Clone, Copy, Debug, PartialEq, Eq, PartialOrd, Ord)]
+#[derive(Clone, Copy, PartialEq, Eq, PartialOrd, Ord)]
 pub(crate) struct Entry {
     /// The cost of its way.
     pub(crate) cost: u64,

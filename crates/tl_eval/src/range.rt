@@ -4,7 +4,7 @@ ghost use Rattle.tl_eval.specs.Operates.{Operates};
 use tl_syntax::{Op, Value};
 
 /// An operation whose exact result is past the 64 bits of an integer.
-#[derive(Clone, Copy, Debug, PartialEq, Eq)]
+#[derive(Clone, Copy, PartialEq, Eq)]
 pub struct RangeNote {
     /// The offset of its form in the domain file, in bytes.
     pub at: u32,

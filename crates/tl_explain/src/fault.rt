@@ -9,7 +9,7 @@ use tl_progress::ProgressFault;
 use tl_syntax::NoMemory;
 
 /// Why a plan is not explained.
-#[derive(Clone, Copy, Debug, PartialEq, Eq)]
+#[derive(Clone, Copy, PartialEq, Eq)]
 pub enum ExplainFault {
     /// An operation is past range.
     Range {

@@ -1,7 +1,7 @@
 // The verdict on a plan with a repeated part.
 
 /// The verdict on a plan with a repeated part. The first one in this order that is right is the answer, and no other one is right.
-#[derive(Clone, Copy, Debug, PartialEq, Eq)]
+#[derive(Clone, Copy, PartialEq, Eq)]
 pub enum LoopVerdict {
     /// The plan is accepted for ever: all actions execute once, the repeated part ends in the state in which it began, the goal is met there, and the control formula holds along the states, those of the repeated part for ever.
     Valid,

@@ -1,9 +1,41 @@
-//! The program `tlplan`.
+//! The program `tlplan`: a run over the machine's files and standard output.
 #![tactic(auto)]
 
+use std::io::ErrorKind;
 use std::process::ExitCode;
-use tl_program::start;
+use std::rt::{Env, Files};
+use std::{env, io};
+use tl_outside::{FileStore, OutSink};
+use tl_run::{Status, run};
 
+// The words after the program's name.
+fn words<R: Env + AllocGlobal>(rt: &R) -> io::Result<Vec<String>> {
+    let mut words = Vec::new(rt.alloc());
+    for word in env::args(rt)?.skip(1) {
+        words.push(word)?;
+    }
+    Ok(words)
+}
+
+// Runs the command of the words.
+fn status<R: Env + Files + Print + AllocGlobal>(rt: &R) -> Status {
+    match words(rt) {
+        Ok(words) => {
+            let mut store = FileStore::new(rt);
+            let mut out = OutSink::new(rt);
+            run(rt.alloc(), &words, &mut store, &mut out)
+        }
+        Err(error) if error.kind() == ErrorKind::OutOfMemory => Status::NoMemory,
+        Err(_) => Status::Usage,
+    }
+}
+
+// The exit status is the number of the run's status. Where that is without a whole answer a line on standard error says
+// so first; a fault of that write is ignored.
 fn main(rt: HostRuntime) -> ExitCode {
-    start(&rt)
+    let status = status(&rt);
+    if let Some(line) = status.complaint() {
+        let _ = eprintln!(&rt; "{line}");
+    }
+    ExitCode::from(status.number())
 }

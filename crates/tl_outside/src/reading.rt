@@ -9,7 +9,7 @@ use std::alloc::{AllocError, Global};
 use tl_syntax::Bytes;
 
 /// Why a file was not read.
-#[derive(Clone, Copy, Debug, PartialEq, Eq)]
+#[derive(Clone, Copy, PartialEq, Eq)]
 pub enum ReadFault {
     /// A call of the store failed: the file is not there, or the store counted a fault.
     Failed,

@@ -7,7 +7,7 @@ use std::alloc::{AllocError, AllocFailed};
 use tl_syntax::NoMemory;
 
 /// A rule of domain, problem, plan and proof files. `docs/COMMANDS.md` says when a form breaks which rule.
-#[derive(Clone, Copy, Debug, PartialEq, Eq)]
+#[derive(Clone, Copy, PartialEq, Eq)]
 pub enum Rule {
     /// The form has no shape that its place asks for.
     Shape,
@@ -77,7 +77,7 @@ pub fn breaks(broken: Rule, at: u32) -> FormFault
 }
 
 /// Why forms stand for nothing.
-#[derive(Clone, Copy, Debug, PartialEq, Eq)]
+#[derive(Clone, Copy, PartialEq, Eq)]
 pub enum FormFault {
     /// The form at an offset of the file breaks a rule.
     Breaks {

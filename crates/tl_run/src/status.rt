@@ -1,9 +1,9 @@
 // How a run ends.
-ghost use Rattle.std.specs.Prelude.{◌≡◌};
-ghost use Rattle.tl_run.specs.Statuses.{status_number};
+ghost use Rattle.std.specs.Prelude.{◌≡◌, option_map};
+ghost use Rattle.tl_run.specs.Statuses.{complaint_of, status_number};
 
 /// How a run ends. The exit statuses of the program are 0 to 8, in this order.
-#[derive(Clone, Copy, Debug, PartialEq, Eq)]
+#[derive(Clone, Copy, PartialEq, Eq)]
 pub enum Status {
     /// A plan, `; valid`, or a finished text.
     Yes,
@@ -40,6 +40,19 @@ impl Status {
             Status::WriteFault => 6,
             Status::NoMemory => 7,
             Status::Usage => 8,
+        }
+    }
+    /// The line on standard error for a status without a whole answer, without its line feed; None where the answer was
+    /// written whole.
+    pub fn complaint(self) -> Option<&'static str>
+        ensures { option_map (λ line. line.now) result ≡ complaint_of self }
+    {
+        match self {
+            Status::ReadFault => Some("tlplan: read fault"),
+            Status::WriteFault => Some("tlplan: write fault"),
+            Status::NoMemory => Some("tlplan: no memory"),
+            Status::Usage => Some("tlplan: usage"),
+            _ => None,
         }
     }
 }

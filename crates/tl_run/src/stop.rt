@@ -11,7 +11,7 @@ use tl_sexpr::TextFault;
 use tl_syntax::NoMemory;
 
 /// The rule by which a file is refused. The `u32` is the offset of the byte that it is about.
-#[derive(Clone, Copy, Debug, PartialEq, Eq)]
+#[derive(Clone, Copy, PartialEq, Eq)]
 pub(crate) enum Broken {
     /// Outside comments a byte that is no blank, no byte of a token and no parenthesis.
     BadByte(u32),
@@ -62,7 +62,7 @@ impl Broken {
 }
 
 /// Why the files of a command are not read on.
-#[derive(Clone, Copy, Debug, PartialEq, Eq)]
+#[derive(Clone, Copy, PartialEq, Eq)]
 pub(crate) enum Stop {
     /// A file could not be read.
     ReadFault,

@@ -7,7 +7,7 @@ use tl_eval::RangeNote;
 use tl_terms::{Actions, NoMemory};
 
 /// Why a search space gives no answer. What it keeps is as before the call.
-#[derive(Clone, Copy, Debug, PartialEq, Eq)]
+#[derive(Clone, Copy, PartialEq, Eq)]
 pub enum SpaceFault {
     /// An operation past the 64 bits of an integer, in the world of the pair; for the root, in the initial world.
     RangeHere(RangeNote),

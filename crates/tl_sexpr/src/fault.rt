@@ -9,7 +9,7 @@ use std::alloc::AllocError;
 /// Of `BadByte`, `StrayClose`, `TooDeep` and `BigInteger` the one with the least offset is told, and
 /// `Unclosed` only where none of these stands. A list is open between its `(` and its `)`, and what
 /// is in a comment does not count.
-#[derive(Clone, Copy, Debug, PartialEq, Eq)]
+#[derive(Clone, Copy, PartialEq, Eq)]
 pub enum TextFault {
     /// Outside comments a byte that is no blank, no byte of a token and no parenthesis.
     BadByte(u32),

@@ -10,7 +10,7 @@ use std::marker::Model;
 use tl_search::Arrival;
 
 /// What came of the first arrival in a world.
-#[derive(Clone, Copy, Debug)]
+#[derive(Clone, Copy)]
 pub(crate) struct FirstArrival {
     /// The number of the formula that came in.
     pub(crate) label: usize,

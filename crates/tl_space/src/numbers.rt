@@ -4,7 +4,7 @@ use tl_search::Arrival;
 use tl_terms::Action;
 
 /// A world and a formula, each by its number: a pair, or an arrival in a world with the formula that comes in.
-#[derive(Clone, Copy, Debug, PartialEq, Eq, Hash)]
+#[derive(Clone, Copy, PartialEq, Eq, Hash)]
 pub(crate) struct Numbers {
     /// The number of the world.
     pub(crate) world: usize,
@@ -22,7 +22,7 @@ pub(crate) enum Met {
 }
 
 /// What is found of an arrival before a pair is kept.
-#[derive(Clone, Copy, Debug)]
+#[derive(Clone, Copy)]
 pub(crate) enum Found {
     /// The pair is pruned, or is kept already.
     Known(Arrival),

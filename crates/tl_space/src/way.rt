@@ -1,7 +1,7 @@
 // How a pair was met first, by numbers.
 
 /// How a pair was met first.
-#[derive(Clone, Copy, Debug)]
+#[derive(Clone, Copy)]
 pub(crate) enum Way {
     /// By the empty path.
     First,

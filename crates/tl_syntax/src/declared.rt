@@ -3,7 +3,7 @@
 use crate::Items;
 
 /// A predicate or a function as a domain declares it. Trees name it by its position in the domain's list.
-#[derive(Clone, Copy, Debug, PartialEq, Eq)]
+#[derive(Clone, Copy, PartialEq, Eq)]
 pub struct Declared {
     /// The number of its name.
     pub name: u32,

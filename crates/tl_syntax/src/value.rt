@@ -8,7 +8,7 @@ use std::cmp::Ordering;
 /// An integer of 64 bits, or a symbol by the number of its name.
 ///
 /// The derived order puts integers first, by value, and then symbols, by number.
-#[derive(Clone, Copy, Debug, PartialEq, Eq, PartialOrd, Ord, Hash)]
+#[derive(Clone, Copy, PartialEq, Eq, PartialOrd, Ord, Hash)]
 pub enum Value {
     /// An integer.
     Int(i64),
@@ -36,7 +36,7 @@ impl Value {
 pub type Values = ShortList<Value>;
 
 /// An arithmetic operation.
-#[derive(Clone, Copy, Debug, PartialEq, Eq, Hash)]
+#[derive(Clone, Copy, PartialEq, Eq, Hash)]
 pub enum Op {
     /// `+`
     Plus,
@@ -47,7 +47,7 @@ pub enum Op {
 }
 
 /// A comparison of two terms.
-#[derive(Clone, Copy, Debug, PartialEq, Eq, Hash)]
+#[derive(Clone, Copy, PartialEq, Eq, Hash)]
 pub enum Cmp {
     /// `=`: both are defined and the same value
     Eq,

@@ -3,7 +3,7 @@
 use crate::{Items, Value};
 
 /// A variable. Its slot is the number of variables that are in scope before it.
-#[derive(Clone, Copy, Debug, PartialEq, Eq, Hash)]
+#[derive(Clone, Copy, PartialEq, Eq, Hash)]
 pub struct Var {
     /// The number of variables in scope before it.
     pub slot: u32,
@@ -15,7 +15,7 @@ pub struct Var {
 pub type Vars = Items<Var>;
 
 /// A variable or a value.
-#[derive(Clone, Copy, Debug, PartialEq, Eq, Hash)]
+#[derive(Clone, Copy, PartialEq, Eq, Hash)]
 pub enum Arg {
     /// A variable.
     Var(Var),
