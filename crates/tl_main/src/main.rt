@@ -1,6 +1,8 @@
 //! The program `tlplan`: a run over the machine's files and standard output.
 #![tactic(auto)]
 
+ghost use Rattle.std.specs.Prelude.{◌≡◌, drop};
+
 use std::io::ErrorKind;
 use std::process::ExitCode;
 use std::rt::{Env, Files};
@@ -8,22 +10,32 @@ use std::{env, io};
 use tl_outside::{FileStore, OutSink};
 use tl_run::{Status, run};
 
-// The words after the program's name.
-fn words<R: Env + AllocGlobal>(rt: &R) -> io::Result<Vec<String>> {
+// The words of the command line, of which the first is the program's name.
+fn all_words<R: Env + AllocGlobal>(rt: &R) -> io::Result<Vec<String>> {
     let mut words = Vec::new(rt.alloc());
-    for word in env::args(rt)?.skip(1) {
+    for word in env::args(rt)? {
         words.push(word)?;
     }
     Ok(words)
 }
 
+// The words after the program's name.
+fn after_name(words: &[String]) -> &[String]
+    ensures { result.now ≡ drop 1 words.now }
+{
+    match words.split_first() {
+        Some((_, after)) => after,
+        None => words,
+    }
+}
+
 // Runs the command of the words.
 fn status<R: Env + Files + Print + AllocGlobal>(rt: &R) -> Status {
-    match words(rt) {
+    match all_words(rt) {
         Ok(words) => {
             let mut store = FileStore::new(rt);
             let mut out = OutSink::new(rt);
-            run(rt.alloc(), &words, &mut store, &mut out)
+            run(rt.alloc(), after_name(&words), &mut store, &mut out)
         }
         Err(error) if error.kind() == ErrorKind::OutOfMemory => Status::NoMemory,
         Err(_) => Status::Usage,

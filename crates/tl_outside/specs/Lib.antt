@@ -1,5 +1,6 @@
 pub mod Causes
 pub mod Told
+pub mod Calls
 pub mod Puts
 pub mod FileList
 pub mod NamedFile

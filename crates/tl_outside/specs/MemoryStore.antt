@@ -26,10 +26,6 @@ taken_of store = store.taken
 abbrev pub bytes_left : MemoryStore → ℕ
 bytes_left store = left_after (whole_of store) (taken_of store)
 
--- how often a file was begun, by a counter of 64 bits that stays at its last value
-abbrev pub begun_of : MemoryStore → ℕ
-begun_of store = store.begun
-
 -- how often it has failed
 abbrev pub faults_of : MemoryStore → ℕ
 faults_of store = store.script.faults

@@ -1,6 +1,7 @@
 // The files of the machine.
 ghost use Rattle.std.specs.Prelude.{◌≡◌, None, is_some, false};
 
+use crate::machine::bytes_read;
 use crate::{Failed, Store};
 use std::fs::File;
 use std::io::Read;
@@ -63,14 +64,14 @@ impl<'a, R: Files> Store for FileStore<'a, R> {
         let Some(file) = &mut self.file else {
             unreachable!();
         };
-        match file.read(room) {
+        match bytes_read(file.read(room)) {
             Ok(count) => {
                 self.taken += count as u64;
                 Ok(count)
             }
-            Err(_) => {
+            Err(failed) => {
                 self.faults = self.faults.saturating_add(1);
-                Err(Failed)
+                Err(failed)
             }
         }
     }

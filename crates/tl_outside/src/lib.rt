@@ -5,7 +5,7 @@
 //! - `reading`, `writing`: a whole file from any store, a whole answer to any sink.
 //! - `script`: calls that are numbered, some of which fail.
 //! - `file_list`, `memory_store`, `memory_sink`: files, a store and a sink in memory, which tell all that they hold.
-//! - `file_store`, `out_sink`: the files and the standard output of the machine, which tell nothing.
+//! - `file_store`, `out_sink`: the files and the standard output of the machine, which tell nothing; `machine`: what its calls come to.
 //!
 //! A store and a sink count their faults. A count of 64 bits that has reached its last value stays there.
 //! So a count rose in a call where it is greater after the call than before, or stands at that value.
@@ -14,6 +14,7 @@
 mod failed;
 mod file_list;
 mod file_store;
+mod machine;
 mod memory_sink;
 mod memory_store;
 mod out_sink;

@@ -13,7 +13,6 @@ use crate::{Failed, FileList, Numbers, Store};
 /// Files in memory. Calls of `begin` and `take` are numbered together from 0.
 /// A `begin` of a name that is not there fails, and is no fault.
 /// Every other call fails, as a fault, where its number is among those given.
-/// It counts the calls of `begin`, whatever they answer.
 #[derive(Drop)]
 pub struct MemoryStore {
     files: FileList,
@@ -22,21 +21,18 @@ pub struct MemoryStore {
     // The place of the chosen file.
     chosen: Option<usize>,
     taken: usize,
-    // How many calls of `begin` there were.
-    begun: u64,
     ghost some: { 1 ≤ most },
     ghost within: { IsTakenWithin files chosen taken },
 }
 
 impl MemoryStore {
-    ghost use Rattle.tl_outside.specs.MemoryStore.{told_files, has_chosen, begun_of, faults_of, most_of, fails_of, calls_of};
+    ghost use Rattle.tl_outside.specs.MemoryStore.{told_files, has_chosen, faults_of, most_of, fails_of, calls_of};
 
     /// A store of these files. One `take` gives at most `most` bytes, and the calls of the numbers in `fails` fail.
     pub fn new(files: FileList, most: usize, fails: Numbers) -> MemoryStore
         requires { 1 ≤ most }
         ensures files { told_files result ≡ Some (files_of files) }
         ensures chosen { has_chosen result ≡ false }
-        ensures begun { begun_of result ≡ 0 }
         ensures faults { faults_of result ≡ 0 }
         ensures most { most_of result ≡ most }
         ensures fails { fails_of result ≡ fails }
@@ -48,13 +44,12 @@ impl MemoryStore {
             script: Script::new(fails),
             chosen: None,
             taken: 0,
-            begun: 0,
         }
     }
 }
 
 impl Store for MemoryStore {
-    ghost use Rattle.tl_outside.specs.MemoryStore.{told_files, has_chosen, whole_of, taken_of, bytes_left, begun_of, faults_of, most_of, fails_now, CountsCall};
+    ghost use Rattle.tl_outside.specs.MemoryStore.{told_files, has_chosen, whole_of, taken_of, bytes_left, faults_of, most_of, fails_now, CountsCall};
 
     ghost files = { told_files };
 
@@ -64,8 +59,6 @@ impl Store for MemoryStore {
 
     ghost taken = { taken_of };
 
-    ghost begun = { begun_of };
-
     ghost faults = { faults_of };
 
     fn begin(&mut self, name: &str) -> Result<(), Failed>
@@ -74,7 +67,6 @@ impl Store for MemoryStore {
         ensures whole { OnOk result (whole_of self.new ≡ told_file (told_files self.old) name.now) }
         ensures lacks { Lacks (told_files self.old) name.now → IsErr result × (faults_of self.new ≡ faults_of self.old) }
         ensures files { told_files self.new ≡ told_files self.old }
-        ensures begun { begun_of self.new ≤ begun_of self.old + 1 }
         ensures later { faults_of self.old ≤ faults_of self.new }
         ensures failed { OnErr result (Lacks (told_files self.old) name.now ⊎ Rose (faults_of self.old) (faults_of self.new)) }
 
@@ -82,11 +74,9 @@ impl Store for MemoryStore {
         ensures exact { IsErr result ↔ Lacks (told_files self.old) name.now ⊎ IsTrue (fails_now self.old) }
         ensures steady { OnOk result (faults_of self.new ≡ faults_of self.old) }
         ensures fault { OnErr result (Lacks (told_files self.old) name.now ⊎ (faults_of self.new ≡ counted (faults_of self.old))) }
-        ensures counts_begun { begun_of self.new ≡ counted (begun_of self.old) }
         ensures counts { CountsCall self.old self.new }
     {
         let fails = self.script.call();
-        self.begun = self.begun.saturating_add(1);
         self.chosen = None;
         self.taken = 0;
         let Some(index) = self.files.place(name) else {
@@ -109,7 +99,6 @@ impl Store for MemoryStore {
         ensures bytes { IfOk result (λ n. GivesFrom (whole_of self.old) (taken_of self.old) n room.new) }
         ensures files { told_files self.new ≡ told_files self.old }
         ensures chosen { has_chosen self.new ≡ has_chosen self.old }
-        ensures begun { begun_of self.new ≤ begun_of self.old }
         ensures whole { whole_of self.new ≡ whole_of self.old }
         ensures cause { HasCause (faults_of self.old) (faults_of self.new) result }
 
@@ -118,7 +107,6 @@ impl Store for MemoryStore {
         ensures exact { IsErr result ↔ IsTrue (fails_now self.old) }
         ensures steady { OnOk result (faults_of self.new ≡ faults_of self.old) }
         ensures fault { OnErr result (faults_of self.new ≡ counted (faults_of self.old)) }
-        ensures begun_stays { begun_of self.new ≡ begun_of self.old }
         ensures counts { CountsCall self.old self.new }
     {
         if self.script.call() {

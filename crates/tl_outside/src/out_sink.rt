@@ -1,6 +1,7 @@
 // The standard output of the machine.
 ghost use Rattle.std.specs.Prelude.{◌≡◌, None};
 
+use crate::machine::bytes_written;
 use crate::{Failed, Sink};
 
 /// The standard output of the machine. It tells no bytes, and a call that takes over nothing of some bytes is a fault.
@@ -26,12 +27,10 @@ impl<'a, R: Print> Sink for OutSink<'a, R> {
     ghost faults = { λ s. s.faults };
 
     fn put(&mut self, piece: &[u8]) -> Result<usize, Failed> {
-        match self.rt.write_some(piece) {
-            Ok(count) if count > 0 || piece.is_empty() => Ok(count),
-            _ => {
-                self.faults = self.faults.saturating_add(1);
-                Err(Failed)
-            }
+        let taken = bytes_written(self.rt.write_some(piece), piece.len());
+        if taken.is_err() {
+            self.faults = self.faults.saturating_add(1);
         }
+        taken
     }
 }

@@ -1,7 +1,8 @@
 // A file as a whole.
-ghost use Rattle.std.specs.Prelude.{◌≡◌, ◌+◌, ◌^◌, ◌<◌, ◌≤◌, length, IfOk, OnOk, IsErrOf, ◌⊎◌};
+ghost use Rattle.std.specs.Prelude.{◌≡◌, ◌+◌, ◌^◌, ◌<◌, ◌≤◌, length, IfOk, IsErrOf, ◌⊎◌};
+ghost use Rattle.tl_outside.specs.Calls.{ReadsBy, has_failed};
 ghost use Rattle.tl_outside.specs.Causes.{Rose};
-ghost use Rattle.tl_outside.specs.Told.{told_file, Lacks, IsContent, IsLonger};
+ghost use Rattle.tl_outside.specs.Told.{Lacks, IsContent, IsLonger};
 ghost use Rattle.tl_outside.specs.declared.reading.ReadFault.TheVariants as fault;
 
 use crate::{Failed, Store};
@@ -39,7 +40,6 @@ impl From<AllocError> for ReadFault {
 const PIECE: usize = 4096;
 
 /// The bytes of the file of this name, of which there may be as many as the limit says.
-/// It calls `begin` once, and takes no more than one byte past the limit.
 pub fn read_whole<S: Store>(
     alloc: Global,
     store: &mut S,
@@ -53,10 +53,8 @@ pub fn read_whole<S: Store>(
         × IsLonger (S.files store.old) name.now limit }
     ensures failed { IsErrOf result ReadFault.Failed
         → Lacks (S.files store.old) name.now ⊎ Rose (S.faults store.old) (S.faults store.new) }
-    ensures whole { OnOk result (S.whole store.new ≡ told_file (S.files store.old) name.now) }
-    ensures whole_too_long { IsErrOf result ReadFault.TooLong → S.whole store.new ≡ told_file (S.files store.old) name.now }
     ensures files { S.files store.new ≡ S.files store.old }
-    ensures begun { S.begun store.new ≤ S.begun store.old + 1 }
+    ensures calls { ReadsBy (S.calls store.old) (S.calls store.new) name.now limit (has_failed result) }
     ensures later { S.faults store.old ≤ S.faults store.new }
 {
     store.begin(name)?;

@@ -1,6 +1,7 @@
 // What files are read from.
-ghost use Rattle.std.specs.Prelude.{◌≡◌, ℕ, ◌+◌, ◌^◌, ◌≤◌, List, Bool, true, Option, length, is_ok, IsErr, IfOk, OnOk, OnErr, ◌⊎◌};
+ghost use Rattle.std.specs.Prelude.{◌≡◌, ℕ, ◌+◌, ◌^◌, ◌≤◌, List, [], ◌∷◌, Bool, true, Option, None, length, is_ok, IsErr, IfOk, OnOk, OnErr, ◌⊎◌};
 ghost use Rattle.std.specs.Io.{ReadsAtMost};
+ghost use Rattle.tl_outside.specs.Calls.{Call, begin_of, take_of, with_calls};
 ghost use Rattle.tl_outside.specs.Causes.{Rose, HasCause};
 ghost use Rattle.tl_outside.specs.Told.{Files, told_file, Lacks, GivesFrom};
 
@@ -20,9 +21,8 @@ pub trait Store {
     /// How many bytes were taken since the last `begin`.
     ghost taken: { Self → ℕ };
 
-    /// A number that rises by at most one in a call of `begin`, and not in a call of `take`.
-    /// A store that counts its calls of `begin` gives their count, and one that leaves it out tells nothing by it.
-    ghost begun: { Self → ℕ } = { λ _. 0 };
+    /// The calls in their order, where they are told. A store that leaves this out does not tell them.
+    ghost calls: { Self → Option (List Call) } = { λ _. None };
 
     /// How often the store has failed.
     ghost faults: { Self → ℕ };
@@ -35,7 +35,7 @@ pub trait Store {
         ensures whole { OnOk result (whole self.new ≡ told_file (files self.old) name.now) }
         ensures lacks { Lacks (files self.old) name.now → IsErr result × (faults self.new ≡ faults self.old) }
         ensures files { files self.new ≡ files self.old }
-        ensures begun { begun self.new ≤ begun self.old + 1 }
+        ensures calls { calls self.new ≡ with_calls (calls self.old) (begin_of name.now result ∷ []) }
         ensures later { faults self.old ≤ faults self.new }
         ensures failed { OnErr result (Lacks (files self.old) name.now ⊎ Rose (faults self.old) (faults self.new)) };
 
@@ -50,7 +50,7 @@ pub trait Store {
         ensures bytes { IfOk result (λ n. GivesFrom (whole self.old) (taken self.old) n room.new) }
         ensures files { files self.new ≡ files self.old }
         ensures chosen { chosen self.new ≡ chosen self.old }
-        ensures begun { begun self.new ≤ begun self.old }
+        ensures calls { calls self.new ≡ with_calls (calls self.old) (take_of result ∷ []) }
         ensures whole { whole self.new ≡ whole self.old }
         ensures cause { HasCause (faults self.old) (faults self.new) result };
 }

@@ -37,3 +37,4 @@ pub mod NamedCosts
 pub mod TrueTraces
 pub mod Numbers
 pub mod CommandWords
+pub mod Begins

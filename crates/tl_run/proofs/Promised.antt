@@ -26,7 +26,7 @@ use Rattle.tl_run.specs.Promises.{Allows, Headline, IsAnswer, IsCalm, IsCalmStat
 use Rattle.tl_run.specs.ProveNone.{unproved_status}
 use Rattle.tl_run.specs.Refusals.{refusal_text}
 use Rattle.tl_run.specs.Replies.{HasLines}
-use Rattle.tl_run.specs.Turns.{Begun, HoldInput, IsRefused}
+use Rattle.tl_run.specs.Turns.{CallsTold, HoldInput, IsRefused}
 use Rattle.tl_run.proofs.Agreement.{Agrees}
 use Rattle.tl_run.proofs.CheapestLaws.{cheapest_agrees, cheapest_calm, cheapest_says}
 use Rattle.tl_run.proofs.CheckLaws.{check_agrees, check_calm, check_says}
@@ -91,8 +91,8 @@ answer_has_lines (costed b o) = cost_has_lines o
 answer_has_lines (judged_loop v) = loop_has_lines v
 
 -- the status of an answer comes with lines
-pub has_lines : (files : Option Files) (c : Command) (begun : Begun) (status : Status) (text : List ℕ) → IsAnswer files c begun status text → HasLines status
-has_lines files c begun status text h = subst HasLines (sym h.status_is) (answer_has_lines h.answer)
+pub has_lines : (files : Option Files) (c : Command) (told : CallsTold) (status : Status) (text : List ℕ) → IsAnswer files c told status text → HasLines status
+has_lines files c told status text h = subst HasLines (sym h.status_is) (answer_has_lines h.answer)
 
 -- what the headline says of a refusal: nothing, one line for each command
 refused_says : (files : Option Files) (c : Command) (text : List ℕ) → Headline files c Refused text
@@ -133,8 +133,8 @@ allowed_says laws files c x (costed b o) text allowed line = right_says laws fil
 allowed_says laws files c x (judged_loop v) text allowed line = right_says laws files c x (judged_loop v) text allowed.0 allowed.1 line
 
 -- an answer that the files allow says what the headline says
-pub headline_of : Laws → (files : Option Files) (c : Command) (begun : Begun) (status : Status) (text : List ℕ) → IsAnswer files c begun status text → Headline files c status text
-headline_of laws files c begun status text h = subst (λ (s : Status). Headline files c s text) (sym h.status_is) (allowed_says laws files c h.input h.answer text h.allowed h.text_is)
+pub headline_of : Laws → (files : Option Files) (c : Command) (told : CallsTold) (status : Status) (text : List ℕ) → IsAnswer files c told status text → Headline files c status text
+headline_of laws files c told status text h = subst (λ (s : Status). Headline files c s text) (sym h.status_is) (allowed_says laws files c h.input h.answer text h.allowed h.text_is)
 
 -- two right answers over the same input: one line for each command
 right_agrees : Laws → (c : Command) (x y : Input) (a b : Answer) → SameInput x y → IsRightAnswer c x a → IsRightAnswer c y b → Agrees x a (status_of b) (text_of y b)
@@ -186,8 +186,8 @@ allowed_agrees : Laws → (files : Files) (c : Command) (x y : Input) (a b : Ans
 allowed_agrees laws files c x y a b h k = split_agree laws files c x y a b (splits files c x a h) (splits files c y b k)
 
 -- over told files, an answer that is allowed is the one that is given, or it yields to it
-pub answer_agrees : Laws → (files : Files) (c : Command) (begun : Begun) (x : Input) (a : Answer) (status : Status) (text : List ℕ) → Allows (Some files) c x a → IsAnswer (Some files) c begun status text → Agrees x a status text
-answer_agrees laws files c begun x a status text allowed h =
+pub answer_agrees : Laws → (files : Files) (c : Command) (told : CallsTold) (x : Input) (a : Answer) (status : Status) (text : List ℕ) → Allows (Some files) c x a → IsAnswer (Some files) c told status text → Agrees x a status text
+answer_agrees laws files c told x a status text allowed h =
     let agrees = allowed_agrees laws files c x h.input a h.answer allowed h.allowed in
     subst (λ (s : Status). Agrees x a s text) (sym h.status_is) (subst (λ (t : List ℕ). Agrees x a (status_of h.answer) t) (sym h.text_is) agrees)
 
@@ -231,5 +231,5 @@ split_calm laws files c x a calm (inl h) =
 split_calm laws files c x a calm (inr h) = right_calm laws files c x a calm h
 
 -- over told files where nothing past range is looked at and there is room, no answer has the status Range or Spent
-pub answer_calm : Laws → (files : Files) (c : Command) (begun : Begun) (status : Status) (text : List ℕ) → IsCalm (Some files) c → IsAnswer (Some files) c begun status text → IsCalmStatus status
-answer_calm laws files c begun status text calm h = subst IsCalmStatus (sym h.status_is) (split_calm laws files c h.input h.answer calm (splits files c h.input h.answer h.allowed))
+pub answer_calm : Laws → (files : Files) (c : Command) (told : CallsTold) (status : Status) (text : List ℕ) → IsCalm (Some files) c → IsAnswer (Some files) c told status text → IsCalmStatus status
+answer_calm laws files c told status text calm h = subst IsCalmStatus (sym h.status_is) (split_calm laws files c h.input h.answer calm (splits files c h.input h.answer h.allowed))

@@ -1,9 +1,9 @@
 -- Files of a command as they are read in turn.
 use Rattle.std.proofs.Common.{◌≡◌, inl, inr, ℕ, zero, suc, ◌+◌, ◌-◌, ◌<◌, ◌≤◌, List, [], ◌∷◌, ◌++◌, length, map, take, drop, get_or, Some, None, refl, sym, ap, ◌∙◌, subst, arith}
 use Rattle.std.specs.Option.{option_map}
-use Rattle.std.specs.Prelude.{Option, slice_get}
+use Rattle.std.specs.Prelude.{Option, slice_get, false}
 use Rattle.std.proofs.lemmas.Option.{slice_get-get_or, slice_get-map}
-use Rattle.tl_outside.specs.Told.{Files, IsContent, Lacks, told_file}
+use Rattle.tl_outside.specs.Told.{Files, IsContent, Lacks}
 use Rattle.tl_run.specs.declared.stop.Broken.{Broken}
 use Rattle.tl_run.specs.declared.stop.Stop.{Stop}
 use Rattle.tl_run.specs.declared.stop.Stop.TheVariants.{ReadFault, NoMemory, Refused}
@@ -14,8 +14,8 @@ use Rattle.tl_run.specs.declared.words.Role.{Role}
 use Rattle.tl_run.specs.Commands.{Command, check, search, trace, files_of, explain, prove_none, check_none, sample, cheapest, check_loop}
 use Rattle.tl_run.specs.Held.{AreInOrder, HoldsFile, IsHeld, KeepsBounds, last_role, role_before}
 use Rattle.tl_run.specs.Inputs.{Input, nothing, StandsFor, IsBroken}
-use Rattle.tl_run.specs.Stops.{IsSampleStop, IsStop, IsTurnStop, ReadsFiles}
-use Rattle.tl_run.specs.Turns.{StandTogether, Reaches, ReachesFile, HoldInput, IsRefused, Begun, BegunInTurn, EndsAt, LeavesOffAt, told_of}
+use Rattle.tl_run.specs.Stops.{IsSampleStop, IsStop, IsTurnStop, ReadsFiles, is_fault}
+use Rattle.tl_run.specs.Turns.{StandTogether, Reaches, ReachesFile, HoldInput, IsRefused, BegunInTurn, BeginsFirst, CallsTold}
 use Rattle.tl_run.specs.Words.{file_meant}
 
 -- a file of a command
@@ -28,7 +28,7 @@ pub file_at : (held : List HeldFile) (fs : List File) (i : ℕ) (d : HeldFile) �
 file_at held fs i d alike here =
     subst (λ (xs : List File). slice_get xs i ≡ Some (file_meant (get_or held i d))) alike (slice_get-map file_meant held i ∙ ap (option_map file_meant) (slice_get-get_or held i d here))
 
-next_taken : (fs : List File) (i : ℕ) (f : File) → slice_get fs i ≡ Some f → take (suc i) fs ≡ take i fs ++ f ∷ []
+pub next_taken : (fs : List File) (i : ℕ) (f : File) → slice_get fs i ≡ Some f → take (suc i) fs ≡ take i fs ++ f ∷ []
 next_taken [] i f at = absurd (let k : ⊥ = cc in k)
 next_taken (g ∷ fs) zero f at = let e : g ≡ f = cc in ap (λ (x : File). x ∷ []) e
 next_taken (g ∷ fs) (suc i) f at = ap (λ (xs : List File). g ∷ xs) (next_taken fs i f at)
@@ -80,33 +80,30 @@ next_passes files c i f x y bytes next content stands =
     (subst (λ (xs : List File). StandTogether files xs nothing y) (sym (next_taken fs i f next.at)) (stand_more files (take i fs) f nothing x y bytes next.stand content stands))
 
 -- no more files were begun than are reached
-pub begun_next : (files : Option Files) (c : Command) (i : ℕ) (f : File) (x : Input) (count : ℕ) → IsNext files c i f x → count ≤ i + 1 → BegunInTurn files c count
-begun_next files c i f x count next few = inr (reaches_next (λ k r name before. count ≤ k) files c i f x next few)
-
-told_next : (files : Option Files) (c : Command) (i : ℕ) (f : File) (x : Input) → IsNext files c i f x → told_of files (slice_get (files_of c) (i + 1 - 1)) ≡ told_file files f.1
-told_next files c i f x next =
-    let e : i + 1 - 1 ≡ i = omega arith in
-    ap (λ (n : ℕ). told_of files (slice_get (files_of c) n)) e ∙ ap (told_of files) next.at
+pub begun_next : (files : Option Files) (c : Command) (i : ℕ) (f : File) (x : Input) → IsNext files c i f x → BegunInTurn files c (i + 1)
+begun_next files c i f x next =
+    let le : i + 1 ≤ i + 1 = omega arith in
+    inr (reaches_next (λ k r name before. i + 1 ≤ k) files c i f x next le)
 
 -- a command that reads files is refused where one of them is
-files_refused : (files : Option Files) (c : Command) (begun : Begun) (number : ℕ) (m : Broken) → ReadsFiles c → ReachesFile (λ k r name before. (k ≡ number) × ((bs : List ℕ) × IsContent files name bs × IsBroken r before bs m)) files c → EndsAt files c begun number → IsRefused files c number m × LeavesOffAt files c begun number
-files_refused files (sample balls) begun number m reads h e = absurd reads
-files_refused files c begun number m reads h e = (h, e)
+files_refused : (files : Option Files) (c : Command) (number : ℕ) (m : Broken) → ReadsFiles c → ReachesFile (λ k r name before. (k ≡ number) × ((bs : List ℕ) × IsContent files name bs × IsBroken r before bs m)) files c → IsRefused files c number m
+files_refused files (sample balls) number m reads h = absurd reads
+files_refused files c number m reads h = h
 
-refused_next : (files : Option Files) (c : Command) (i : ℕ) (f : File) (x : Input) (begun : Begun) (bytes : List ℕ) (number : ℕ) (m : Broken) → ReadsFiles c → IsNext files c i f x → begun.whole ≡ told_file files f.1 → begun.count ≤ i + 1 → IsContent files f.1 bytes → IsBroken f.0 x bytes m → number ≡ i + 1 → IsRefused files c number m × LeavesOffAt files c begun number
-refused_next files c i f x begun bytes number m reads next whole few content broken e =
+refused_next : (files : Option Files) (c : Command) (i : ℕ) (f : File) (x : Input) (bytes : List ℕ) (m : Broken) → ReadsFiles c → IsNext files c i f x → IsContent files f.1 bytes → IsBroken f.0 x bytes m → IsRefused files c (i + 1) m
+refused_next files c i f x bytes m reads next content broken =
     let reached = reaches_next (λ k r name before. (k ≡ i + 1) × ((bs : List ℕ) × IsContent files name bs × IsBroken r before bs m)) files c i f x next (refl, (bytes, content, broken)) in
-    let ends : EndsAt files c begun (i + 1) = record { whole = whole ∙ sym (told_next files c i f x next); few = few } in
-    subst (λ (n : ℕ). IsRefused files c n m × LeavesOffAt files c begun n) (sym e) (files_refused files c begun (i + 1) m reads reached ends)
+    files_refused files c (i + 1) m reads reached
 
 -- why the next file adds nothing
-pub next_stops : (files : Option Files) (c : Command) (i : ℕ) (f : File) (x : Input) (begun : Begun) (start mid now : ℕ) (stop : Stop) → ReadsFiles c → IsNext files c i f x → start ≤ mid → begun.count ≤ i + 1 → IsTurnStop files f.0 f.1 x (i + 1) begun.whole mid now stop → IsStop files c begun start now stop
-next_stops files c i f x begun start mid now ReadFault reads next later few (inl lacks) = inl (reaches_next (λ k r name before. Lacks files name) files c i f x next lacks)
-next_stops files c i f x begun start mid now ReadFault reads next later few (inr rose) = inr (omega (arith, later, rose))
-next_stops files c i f x begun start mid now NoMemory reads next later few h = tt
-next_stops files c i f x begun start mid now (Refused number m) reads next later few h =
-    let broken = h.2 in
-    refused_next files c i f x begun broken.0 number m reads next h.1 few broken.1 broken.2 h.0
+pub next_stops : (files : Option Files) (c : Command) (i : ℕ) (f : File) (x : Input) (told : CallsTold) (start mid now : ℕ) (stop : Stop) → ReadsFiles c → IsNext files c i f x → start ≤ mid → BeginsFirst c told (i + 1) (is_fault stop) → IsTurnStop files f.0 f.1 x (i + 1) mid now stop → IsStop files c told start now stop
+next_stops files c i f x told start mid now ReadFault reads next later begins (inl lacks) = inl (reaches_next (λ k r name before. Lacks files name) files c i f x next lacks)
+next_stops files c i f x told start mid now ReadFault reads next later begins (inr rose) = inr (omega (arith, later, rose))
+next_stops files c i f x told start mid now NoMemory reads next later begins h = tt
+next_stops files c i f x told start mid now (Refused number m) reads next later begins h =
+    let broken = h.1 in
+    subst (λ (n : ℕ). IsRefused files c n m × BeginsFirst c told n false) (sym h.0)
+    (refused_next files c i f x broken.0 m reads next broken.1 broken.2, begins)
 
 -- the files of each command come in the order of their roles
 pub in_order : (c : Command) → AreInOrder None (files_of c)
@@ -174,7 +171,7 @@ pub has_read_all : (files : Option Files) (c : Command) (i : ℕ) (h : Held) →
 has_read_all files c i h reads all read = (read.input, files_hold files c read.input reads (subst (λ (xs : List File). StandTogether files xs nothing read.input) (taken_all (files_of c) i all) read.stand), read.is_held)
 
 -- why a text of a sample adds nothing, where no file was begun
-pub sample_stops : (files : Option Files) (balls : ℕ) (begun : Begun) (before now : ℕ) (stop : Stop) → begun.count ≡ 0 → IsSampleStop balls stop → IsStop files (sample balls) begun before now stop
-sample_stops files balls begun before now ReadFault none h = absurd h
-sample_stops files balls begun before now NoMemory none h = tt
-sample_stops files balls begun before now (Refused number m) none h = (h, none)
+pub sample_stops : (files : Option Files) (balls : ℕ) (told : CallsTold) (before now : ℕ) (stop : Stop) → ((number : ℕ) → BeginsFirst (sample balls) told number false) → IsSampleStop balls stop → IsStop files (sample balls) told before now stop
+sample_stops files balls told before now ReadFault none h = absurd h
+sample_stops files balls told before now NoMemory none h = tt
+sample_stops files balls told before now (Refused number m) none h = (h, none number)

@@ -1,6 +1,6 @@
 -- Replies to commands.
 use Rattle.std.proofs.Common.{◌≡◌, inl, inr, ℕ, List, [], ◌∷◌, map, length, refl, sym, subst}
-use Rattle.std.specs.Prelude.{Option, Result, Ok, Err, IfOk}
+use Rattle.std.specs.Prelude.{Option, Result, Ok, Err, IfOk, false}
 use Rattle.tl_action.specs.Actions.{HasOperator}
 use Rattle.tl_cert.specs.Causes.{IsNoneCause}
 use Rattle.tl_cert.specs.declared.proof.Proof.{Proof}
@@ -42,7 +42,7 @@ use Rattle.tl_run.specs.Promises.{Allows, IsAnswer, LeavesOff}
 use Rattle.tl_run.specs.Refusals.{refusal_text}
 use Rattle.tl_run.specs.Replies.{Replies}
 use Rattle.tl_run.specs.Sample.{IsSummary, sample_search, sample_text}
-use Rattle.tl_run.specs.Turns.{Begun, HoldInput, IsRefused, LeavesOffAt}
+use Rattle.tl_run.specs.Turns.{BeginsFirst, CallsTold, HoldInput, IsRefused}
 use Rattle.tl_run.proofs.SeenTwice.{map_seen}
 
 pub counts_seen : (p : Problem) → map (λ (o : PlainOperator). length o.params) (plain_problem p).operators ≡ map (λ o. length o.params) p.domain.operators
@@ -160,34 +160,34 @@ right_allowed files c x (sampled n kept o v) stand right = (stand, right)
 right_allowed files c x (costed b o) stand right = (stand, right)
 right_allowed files c x (judged_loop v) stand right = (stand, right)
 
-right_leaves : (files : Option Files) (c : Command) (begun : Begun) (x : Input) (a : Answer) → IsRightAnswer c x a → LeavesOff files c begun a
-right_leaves files c begun x (refusal number m) right = absurd (never_right c x number m right)
-right_leaves files c begun x (past_range after note path) right = tt
-right_leaves files c begun x (judged v) right = tt
-right_leaves files c begun x (searched s o) right = tt
-right_leaves files c begun x (traced s kept events o) right = tt
-right_leaves files c begun x explained right = tt
-right_leaves files c begun x (certified s proof) right = tt
-right_leaves files c begun x (unproved s o) right = tt
-right_leaves files c begun x (judged_proof v) right = tt
-right_leaves files c begun x (sampled n kept o v) right = tt
-right_leaves files c begun x (costed b o) right = tt
-right_leaves files c begun x (judged_loop v) right = tt
+right_leaves : (files : Option Files) (c : Command) (told : CallsTold) (x : Input) (a : Answer) → IsRightAnswer c x a → LeavesOff c told a
+right_leaves files c told x (refusal number m) right = absurd (never_right c x number m right)
+right_leaves files c told x (past_range after note path) right = tt
+right_leaves files c told x (judged v) right = tt
+right_leaves files c told x (searched s o) right = tt
+right_leaves files c told x (traced s kept events o) right = tt
+right_leaves files c told x explained right = tt
+right_leaves files c told x (certified s proof) right = tt
+right_leaves files c told x (unproved s o) right = tt
+right_leaves files c told x (judged_proof v) right = tt
+right_leaves files c told x (sampled n kept o v) right = tt
+right_leaves files c told x (costed b o) right = tt
+right_leaves files c told x (judged_loop v) right = tt
 
 -- a right reply over the input is an answer that the files allow
-pub reply_answers : (files : Option Files) (c : Command) (begun : Begun) (x : Input) (reply : Reply) → HoldInput files c x → Replies c x reply → IsAnswer files c begun reply.status reply.text
-reply_answers files c begun x reply stand r = record {
+pub reply_answers : (files : Option Files) (c : Command) (told : CallsTold) (x : Input) (reply : Reply) → HoldInput files c x → Replies c x reply → IsAnswer files c told reply.status reply.text
+reply_answers files c told x reply stand r = record {
   input = x;
   answer = r.answer;
   allowed = right_allowed files c x r.answer stand r.right;
-  leaves = right_leaves files c begun x r.answer r.right;
+  leaves = right_leaves files c told x r.answer r.right;
   status_is = r.status_is;
   text_is = r.text_is;
 }
 
 -- so is the line of a refusal
-pub refusal_answers : (files : Option Files) (c : Command) (begun : Begun) (number : ℕ) (m : Broken) (status : Status) (text : List ℕ) → IsRefused files c number m × LeavesOffAt files c begun number → status ≡ Refused → text ≡ refusal_text number m → IsAnswer files c begun status text
-refusal_answers files c begun number m status text h s t = record {
+pub refusal_answers : (files : Option Files) (c : Command) (told : CallsTold) (number : ℕ) (m : Broken) (status : Status) (text : List ℕ) → IsRefused files c number m × BeginsFirst c told number false → status ≡ Refused → text ≡ refusal_text number m → IsAnswer files c told status text
+refusal_answers files c told number m status text h s t = record {
   input = nothing;
   answer = refusal number m;
   allowed = h.0;

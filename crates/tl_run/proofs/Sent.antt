@@ -1,5 +1,5 @@
 -- What a run has written at its end.
-use Rattle.std.proofs.Common.{◌≡◌, ◌⊎◌, inl, inr, ℕ, List, sym, ◌∙◌, subst}
+use Rattle.std.proofs.Common.{◌≡◌, ◌⊎◌, inl, inr, ℕ, List, false, refl, sym, ap, ◌∙◌, subst}
 use Rattle.std.specs.Prelude.{Option, Some, None}
 use Rattle.std.specs.Io.KnownBytes.{append_known}
 use Rattle.tl_outside.specs.Causes.{Rose}
@@ -11,11 +11,12 @@ use Rattle.tl_run.specs.Commands.{Command}
 use Rattle.tl_run.specs.Inputs.{Input}
 use Rattle.tl_run.specs.Promises.{Gives, IsCalmStatus, Writes, Yields}
 use Rattle.tl_run.specs.Replies.{HasLines, Sends}
-use Rattle.tl_run.specs.Stops.{IsBareStatus}
+use Rattle.tl_run.specs.Sent.{SendsAll, SinkTold}
+use Rattle.tl_run.specs.Stops.{IsBareStatus, is_read_fault}
 use Rattle.tl_run.specs.Turns.{LacksFile}
 use Rattle.tl_run.proofs.Agreement.{Agrees}
 
-writes_all : (P : Status → List ℕ → Type 0) (old new : Option (List ℕ)) (status : Status) (text : List ℕ) → HasLines status → P status text → new ≡ append_known old text → Writes P old new status
+writes_all : (P : Status → List ℕ → Type 0) (old new : SinkTold) (status : Status) (text : List ℕ) → HasLines status → P status text → SendsAll old new text → Writes P old new status
 writes_all P old new Yes text lines p e = (text, p, e)
 writes_all P old new No text lines p e = (text, p, e)
 writes_all P old new Spent text lines p e = (text, p, e)
@@ -24,12 +25,12 @@ writes_all P old new Range text lines p e = (text, p, e)
 writes_all P old new status text lines p e = absurd lines
 
 -- what is sent is written
-pub sent_writes : (P : Status → List ℕ → Type 0) (old new : Option (List ℕ)) (status result : Status) (text : List ℕ) → HasLines status → P status text → Sends old new status text result → Writes P old new result
+pub sent_writes : (P : Status → List ℕ → Type 0) (old new : SinkTold) (status result : Status) (text : List ℕ) → HasLines status → P status text → Sends old new status text result → Writes P old new result
 sent_writes P old new status result text lines p (inl s) = subst (λ (r : Status). Writes P old new r) (sym s.0) (writes_all P old new status text lines p s.1)
 sent_writes P old new status result text lines p (inr s) = subst (λ (r : Status). Writes P old new r) (sym s.0) (status, text, p, s.1)
 
 -- without lines nothing is written
-pub bare_writes : (P : Status → List ℕ → Type 0) (files : Option Files) (c : Command) (before now : ℕ) (old new : Option (List ℕ)) (status : Status) → IsBareStatus files c before now status → new ≡ old → Writes P old new status
+pub bare_writes : (P : Status → List ℕ → Type 0) (files : Option Files) (c : Command) (before now : ℕ) (old new : SinkTold) (status : Status) → IsBareStatus files c before now status → new ≡ old → Writes P old new status
 bare_writes P files c before now old new ReadFault bare e = e
 bare_writes P files c before now old new NoMemory bare e = e
 bare_writes P files c before now old new status bare e = absurd bare
@@ -54,16 +55,16 @@ agrees_gives old new x a status text (inl agrees) e = inl (agrees.0, (text, agre
 agrees_gives old new x a status text (inr yields) e = inr yields
 
 -- what is sent is the right answer, or it yields
-pub sent_gives : (old new : Option (List ℕ)) (x : Input) (a : Answer) (status result : Status) (text : List ℕ) → Agrees x a status text → Sends old new status text result → Gives old new x a result
-sent_gives old new x a status result text agrees (inl s) = subst (λ (r : Status). Gives old new x a r) (sym s.0) (agrees_gives old new x a status text agrees s.1)
-sent_gives old new x a status result text agrees (inr s) = subst (λ (r : Status). Gives old new x a r) (sym s.0) (inr (yields_outside a).1)
+pub sent_gives : (old new : SinkTold) (x : Input) (a : Answer) (status result : Status) (text : List ℕ) → Agrees x a status text → Sends old new status text result → Gives old.bytes new.bytes x a result
+sent_gives old new x a status result text agrees (inl s) = subst (λ (r : Status). Gives old.bytes new.bytes x a r) (sym s.0) (agrees_gives old.bytes new.bytes x a status text agrees s.1.0)
+sent_gives old new x a status result text agrees (inr s) = subst (λ (r : Status). Gives old.bytes new.bytes x a r) (sym s.0) (inr (yields_outside a).1)
 
 pub bare_gives : (files : Option Files) (c : Command) (before now : ℕ) (old new : Option (List ℕ)) (x : Input) (a : Answer) (status : Status) → IsBareStatus files c before now status → Gives old new x a status
 bare_gives files c before now old new x a ReadFault bare = inr (yields_outside a).0
 bare_gives files c before now old new x a NoMemory bare = inr (yields_outside a).2
 bare_gives files c before now old new x a status bare = absurd bare
 
-pub sent_calm : (old new : Option (List ℕ)) (status result : Status) (text : List ℕ) → IsCalmStatus status → Sends old new status text result → IsCalmStatus result
+pub sent_calm : (old new : SinkTold) (status result : Status) (text : List ℕ) → IsCalmStatus status → Sends old new status text result → IsCalmStatus result
 sent_calm old new status result text calm (inl s) = subst IsCalmStatus (sym s.0) calm
 sent_calm old new status result text calm (inr s) = subst IsCalmStatus (sym s.0) tt
 
@@ -90,16 +91,29 @@ lines_sent Refused lines = tt
 lines_sent Range lines = tt
 lines_sent status lines = absurd lines
 
-sent : (old new : Option (List ℕ)) (status result : Status) (text : List ℕ) → HasLines status → Sends old new status text result → IsSent result
+sent : (old new : SinkTold) (status result : Status) (text : List ℕ) → HasLines status → Sends old new status text result → IsSent result
 sent old new status result text lines (inl s) = subst IsSent (sym s.0) (lines_sent status lines)
 sent old new status result text lines (inr s) = subst IsSent (sym s.0) tt
 
 -- sending ends neither as wrong words do nor as reading does
-pub sent_no_usage : (old new : Option (List ℕ)) (status result : Status) (text : List ℕ) → HasLines status → Sends old new status text result → result ≡ Usage → ⊥
+pub sent_no_usage : (old new : SinkTold) (status result : Status) (text : List ℕ) → HasLines status → Sends old new status text result → result ≡ Usage → ⊥
 sent_no_usage old new status result text lines s e = subst IsSent e (sent old new status result text lines s)
 
-pub sent_no_read_fault : (old new : Option (List ℕ)) (status result : Status) (text : List ℕ) → HasLines status → Sends old new status text result → result ≡ ReadFault → ⊥
+pub sent_no_read_fault : (old new : SinkTold) (status result : Status) (text : List ℕ) → HasLines status → Sends old new status text result → result ≡ ReadFault → ⊥
 sent_no_read_fault old new status result text lines s e = subst IsSent e (sent old new status result text lines s)
+
+-- a status with lines is no read fault, and neither is what sending it ends with
+sent_is_no_fault : (status : Status) → IsSent status → is_read_fault status ≡ false
+sent_is_no_fault Yes is = refl
+sent_is_no_fault No is = refl
+sent_is_no_fault Spent is = refl
+sent_is_no_fault Refused is = refl
+sent_is_no_fault Range is = refl
+sent_is_no_fault WriteFault is = refl
+sent_is_no_fault status is = absurd is
+
+pub sent_without_fault : (old new : SinkTold) (status result : Status) (text : List ℕ) → HasLines status → Sends old new status text result → false ≡ is_read_fault result
+sent_without_fault old new status result text lines s = sym (sent_is_no_fault result (sent old new status result text lines s))
 
 -- a bare status is ReadFault by its cause, or want of memory
 pub bare_read_fault : (files : Option Files) (c : Command) (before now : ℕ) (status : Status) → IsBareStatus files c before now status → status ≡ ReadFault → LacksFile files c ⊎ Rose before now

@@ -1,5 +1,5 @@
 -- What the program holds of files that were read, and the stops at one file.
-use Rattle.std.proofs.Common.{◌≡◌, ◌⊎◌, inl, inr, ℕ, ◌≤◌, List, [], length, None, refl, sym, subst, arith}
+use Rattle.std.proofs.Common.{◌≡◌, ◌⊎◌, inl, inr, ℕ, ◌≤◌, List, [], length, Bool, true, false, None, refl, sym, ap, subst, arith}
 use Rattle.std.specs.Prelude.{Option, Result, Ok, Err, IfErr}
 use Rattle.std.specs.Result.{IsErrAnd, IsErrOf}
 use Rattle.tl_sexpr.specs.Faults.{IsFaultOf}
@@ -15,8 +15,9 @@ use Rattle.tl_rules.specs.Reads.{IsLeastFault}
 use Rattle.tl_rules.specs.Rules.{Break}
 use Rattle.tl_rules.proofs.NamesWith.{length-names_with_all}
 use Rattle.tl_domain.specs.Files.{IsDomainOf}
+use Rattle.tl_outside.specs.Calls.{has_failed}
 use Rattle.tl_outside.specs.Causes.{Rose}
-use Rattle.tl_outside.specs.Told.{Files, IsContent, IsLonger, Lacks, told_file}
+use Rattle.tl_outside.specs.Told.{Files, IsContent, IsLonger, Lacks}
 use Rattle.tl_outside.specs.declared.reading.ReadFault.{ReadFault as Fault}
 use Rattle.tl_outside.specs.declared.reading.ReadFault.TheVariants as reading
 use Rattle.tl_run.specs.declared.stop.Broken.{Broken}
@@ -28,7 +29,7 @@ use Rattle.tl_run.specs.declared.words.Role.{Role}
 use Rattle.tl_run.specs.Files.{SpellShortly}
 use Rattle.tl_run.specs.Held.{IsHeld, last_role}
 use Rattle.tl_run.specs.Inputs.{Input, nothing, a_domain, a_problem, breaks_of, IsBroken}
-use Rattle.tl_run.specs.Stops.{stop_of_forms, stop_of_reading, stop_of_text, IsFileStop, IsFormsStop, IsTurnStop}
+use Rattle.tl_run.specs.Stops.{stop_of_forms, stop_of_reading, stop_of_text, IsFileStop, IsFormsStop, IsSampleStop, IsTurnStop, has_read_fault, is_fault}
 
 -- what the reader of forms tells is a stop at the file
 pub text_stop : (number : ℕ) (r : Role) (before : Input) (bytes : List ℕ) (told : TextFault) → length bytes ≤ 4194304 → (told ≡ text.NoMemory) ⊎ IsFaultOf bytes told → IsFileStop number (IsBroken r before bytes) (stop_of_text number told)
@@ -87,18 +88,43 @@ nothing_before P (held.Costs q costs) x e is p = absurd (let k : ⊥ = cc in k)
 nothing_before P (held.Loop q plan) x e is p = absurd (let k : ⊥ = cc in k)
 
 -- a fault of reading is a stop at the file
-pub read_stop : {T : Type 0} (files : Option Files) (r : Role) (name : List ℕ) (x : Input) (number : ℕ) (whole : Option (List ℕ)) (before now : ℕ) (told : Fault) → (IsErrOf {T = T} (Err told) reading.Failed → Lacks files name ⊎ Rose before now) → (IsErrOf {T = T} (Err told) reading.TooLong → IsLonger files name 4194304) → (IsErrOf {T = T} (Err told) reading.TooLong → whole ≡ told_file files name) → IsTurnStop files r name x number whole before now (stop_of_reading number told)
-read_stop files r name x number whole before now reading.Failed failed long whole_long = failed refl
-read_stop files r name x number whole before now reading.TooLong failed long whole_long =
+pub read_stop : {T : Type 0} (files : Option Files) (r : Role) (name : List ℕ) (x : Input) (number : ℕ) (before now : ℕ) (told : Fault) → (IsErrOf {T = T} (Err told) reading.Failed → Lacks files name ⊎ Rose before now) → (IsErrOf {T = T} (Err told) reading.TooLong → IsLonger files name 4194304) → IsTurnStop files r name x number before now (stop_of_reading number told)
+read_stop files r name x number before now reading.Failed failed long = failed refl
+read_stop files r name x number before now reading.TooLong failed long =
     let l = long refl in
-    (refl, whole_long refl, (l.0, l.1, l.2))
-read_stop files r name x number whole before now reading.NoMemory failed long whole_long = tt
+    (refl, (l.0, l.1, l.2))
+read_stop files r name x number before now reading.NoMemory failed long = tt
 
 -- so is a stop over its bytes
-pub turn_stop : (files : Option Files) (r : Role) (name : List ℕ) (x : Input) (number : ℕ) (whole : Option (List ℕ)) (bytes : List ℕ) (before now : ℕ) (stop : Stop) → IsContent files name bytes → whole ≡ told_file files name → IsFileStop number (IsBroken r x bytes) stop → IsTurnStop files r name x number whole before now stop
-turn_stop files r name x number whole bytes before now ReadFault content told h = absurd h
-turn_stop files r name x number whole bytes before now NoMemory content told h = tt
-turn_stop files r name x number whole bytes before now (Refused k m) content told h = (h.0, told, (bytes, content, h.1))
+pub turn_stop : (files : Option Files) (r : Role) (name : List ℕ) (x : Input) (number : ℕ) (bytes : List ℕ) (before now : ℕ) (stop : Stop) → IsContent files name bytes → IsFileStop number (IsBroken r x bytes) stop → IsTurnStop files r name x number before now stop
+turn_stop files r name x number bytes before now ReadFault content h = absurd h
+turn_stop files r name x number bytes before now NoMemory content h = tt
+turn_stop files r name x number bytes before now (Refused k m) content h = (h.0, (bytes, content, h.1))
+
+-- a stop over the bytes of a file is no fault of the store
+pub no_fault : {T : Type 0} (result : Result T Stop) (number : ℕ) (Breaks : Broken → Type 0) → IfErr result (IsFileStop number Breaks) → has_read_fault result ≡ false
+no_fault (Ok t) number Breaks h = refl
+no_fault (Err ReadFault) number Breaks h = absurd h
+no_fault (Err NoMemory) number Breaks h = refl
+no_fault (Err (Refused k m)) number Breaks h = refl
+
+-- neither is a stop over the texts of a sample
+pub no_sample_fault : {T : Type 0} (result : Result T Stop) (balls : ℕ) → IfErr result (IsSampleStop balls) → has_read_fault result ≡ false
+no_sample_fault (Ok t) balls h = refl
+no_sample_fault (Err ReadFault) balls h = absurd h
+no_sample_fault (Err NoMemory) balls h = refl
+no_sample_fault (Err (Refused number m)) balls h = refl
+
+-- a call of the store failed exactly where the stop says so
+pub same_fault : (T : Type 0) (number : ℕ) (told : Fault) → has_failed {T = T} (Err told) ≡ is_fault (stop_of_reading number told)
+same_fault T number reading.Failed = refl
+same_fault T number reading.TooLong = refl
+same_fault T number reading.NoMemory = refl
+
+-- the stop that `?` hands on is no other
+pub handed_fault : {A : Type 0} (result : Result A Stop) (stop : Stop) → IsErrAnd result (λ told. told ≡ stop) → is_fault stop ≡ has_read_fault result
+handed_fault (Ok x) stop same = absurd same
+handed_fault (Err told) stop same = ap is_fault (sym same)
 
 -- what holds of the stop that `?` hands on
 pub handed_on : {A : Type 0} (result : Result A Stop) (stop : Stop) (P : Stop → Type 0) → IsErrAnd result (λ told. told ≡ stop) → P stop → IfErr result P

@@ -18,6 +18,7 @@ pub mod Sample
 pub mod Cheapest
 pub mod CheckLoop
 pub mod Searched
+pub mod Sent
 pub mod Promises
 pub mod Held
 pub mod Stops

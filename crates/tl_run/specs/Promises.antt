@@ -1,11 +1,11 @@
 -- What a run promises.
-use Rattle.std.specs.Prelude.{◌≡◌, ◌⊎◌, ℕ, List, Option, ⊤}
+use Rattle.std.specs.Prelude.{◌≡◌, ◌⊎◌, ℕ, false, List, Option, ⊤}
 use Rattle.std.specs.Io.KnownBytes.{append_known}
 use Rattle.tl_cert.specs.declared.proof.Proof.{Proof}
 use Rattle.tl_check.specs.declared.verdict.Verdict.{Verdict}
 use Rattle.tl_cost.specs.declared.outcome.CostOutcome.{CostOutcome}
 use Rattle.tl_cost.specs.declared.outcome.CostOutcome.TheVariants as costs
-use Rattle.tl_outside.specs.Told.{Files, GrowsByPart}
+use Rattle.tl_outside.specs.Told.{Files}
 use Rattle.tl_search.specs.KeptPairs.{KeptPair}
 use Rattle.tl_search.specs.declared.event.Event.{Event}
 use Rattle.tl_search.specs.declared.outcome.Outcome.{Outcome}
@@ -24,7 +24,8 @@ use Rattle.tl_run.specs.Inputs.{Input}
 use Rattle.tl_run.specs.Plan.{PrintsPlan, SaysNoPlan, HasCalmSearch}
 use Rattle.tl_run.specs.ProveNone.{IsCertificateOver, PrintsProof}
 use Rattle.tl_run.specs.Trace.{IsTraceOver, TellsEvents}
-use Rattle.tl_run.specs.Turns.{Begun, HoldInput, IsRefused, LeavesOffAt}
+use Rattle.tl_run.specs.Turns.{BeginsFirst, CallsTold, HoldInput, IsRefused}
+use Rattle.tl_run.specs.Sent.{SendsAll, SendsPart, SinkTold}
 use Rattle.tl_run.specs.Sample.{IsSummaryOver, SaysSummary, HasCalmSample, sample_text}
 
 -- the files allow this answer to the command: the refusal of a file in its turn, or what is right over all of them
@@ -32,29 +33,30 @@ abbrev pub Allows : Option Files → Command → Input → Answer → Type 0
 Allows files c input (refusal number broken) = IsRefused files c number broken
 Allows files c input answer = HoldInput files c input × IsRightAnswer c input answer
 
--- after a refusal no file was begun that comes after the refused one
-abbrev pub LeavesOff : Option Files → Command → Begun → Answer → Type 0
-LeavesOff files c begun (refusal number broken) = LeavesOffAt files c begun number
-LeavesOff files c begun answer = ⊤
+-- after a refusal no file was begun that comes after the refused one, and no call failed
+abbrev pub LeavesOff : Command → CallsTold → Answer → Type 0
+LeavesOff c told (refusal number broken) = BeginsFirst c told number false
+LeavesOff c told answer = ⊤
 
 -- a status with the lines of an answer that the files allow
-pub record IsAnswer (files : Option Files) (c : Command) (begun : Begun) (status : Status) (text : List ℕ) : Type 0 where
+pub record IsAnswer (files : Option Files) (c : Command) (told : CallsTold) (status : Status) (text : List ℕ) : Type 0 where
   pub input : Input
   pub answer : Answer
   pub allowed : Allows files c input answer
-  pub leaves : LeavesOff files c begun answer
+  pub leaves : LeavesOff c told answer
   pub status_is : status ≡ status_of answer
   pub text_is : text ≡ text_of input answer
 
--- what is written: all of an answer of which P holds; a front part of one, where writing failed; or nothing
-abbrev pub Writes : (Status → List ℕ → Type 0) → Option (List ℕ) → Option (List ℕ) → Status → Type 0
+-- what is written: all of an answer of which P holds; a front part of one, where a call failed, which is then the last; or nothing, without a call
+abbrev pub Writes : (Status → List ℕ → Type 0) → SinkTold → SinkTold → Status → Type 0
 Writes P old new Usage = new ≡ old
 Writes P old new ReadFault = new ≡ old
 Writes P old new NoMemory = new ≡ old
-Writes P old new WriteFault = (status : Status) × (text : List ℕ) × P status text × GrowsByPart old new text
-Writes P old new status = (text : List ℕ) × P status text × (new ≡ append_known old text)
+Writes P old new WriteFault = (status : Status) × (text : List ℕ) × P status text × SendsPart old new text
+Writes P old new status = (text : List ℕ) × P status text × SendsAll old new text
 
--- the statuses that may come in place of the outcome of a search: past range and spent, each by its cause; to have met too many search nodes excludes no other answer
+-- the statuses that may come in place of the outcome of a search: past range and spent, each by its
+-- cause; to have met too many search nodes excludes no other answer
 abbrev pub OutcomeYields : Outcome → Status → Type 0
 OutcomeYields o Range = ⊤
 OutcomeYields o Spent = ⊤
@@ -62,7 +64,7 @@ OutcomeYields outcome.Spent Yes = ⊤
 OutcomeYields outcome.Spent No = ⊤
 OutcomeYields o status = ⊥
 
--- the statuses that may come in place of the outcome of a search for a cheapest plan: past range and spent, each by its cause; to have met too many search nodes excludes no other answer
+-- the same for a search for a cheapest plan
 abbrev pub CostYields : CostOutcome → Status → Type 0
 CostYields o Range = ⊤
 CostYields o Spent = ⊤
@@ -101,7 +103,8 @@ pub record SummarizesAlike (input : Input) (balls : ℕ) (o : Outcome) (text : L
   pub alike : (ended ≡ o) ⊎ OutcomeYields o (outcome_status ended)
   pub lines : text ≡ sample_text balls kept ended verdict
 
--- the lines are those of the answer; a trace may tell of other events that are right of its search and its outcome, a proof may be another one with the same bound that covers the search space, and a sample of another number of kept search nodes; of several cheapest plans with the same number of actions any one may be shown
+-- the lines are those of the answer; the events of a trace, the proof, the number of a sample's kept
+-- search nodes and the cheapest plan may be others, if they are right of the same input
 abbrev pub IsTextOf : Input → Answer → List ℕ → Type 0
 IsTextOf input (traced s kept events o) text =
     (others : List KeptPair) × (told : List Event) × IsTraceOver input s others told o × (text ≡ text_of input (traced s others told o))
@@ -115,7 +118,7 @@ IsTextOf input answer text = text ≡ text_of input answer
 abbrev pub Gives : Option (List ℕ) → Option (List ℕ) → Input → Answer → Status → Type 0
 Gives old new input answer status = ((status ≡ status_of answer) × ((text : List ℕ) × IsTextOf input answer text × (new ≡ append_known old text))) ⊎ Yields answer status
 
--- what a reader of the lines may rely on: `; valid` says that the plan is accepted; a printed plan is accepted and short enough, and breadth-first no accepted plan is shorter; `; none` says that no plan is accepted, and `; none within N` that none of at most N actions is; each branch that a trace reports as pruned begins no run that satisfies the control formula; the lines that explain a plan show the residual after each of its states, and which action is the first without a step; a printed proof covers the search space, and `; proved none` says that the proof of the files does, so that no plan is accepted, or none within the proof's bound; the lines of a sample say so too, and no sample ends with another status than Yes; a plan that is printed as a cheapest one is accepted and costs what is printed, no accepted plan costs less, and none of this cost has fewer actions, and `; none` says there too that no plan is accepted; and `; valid for ever` says that the plan is accepted for ever
+-- what a reader of the lines may rely on: a row for each command and each status that says something of plans
 abbrev pub Headline : Option Files → Command → Status → List ℕ → Type 0
 Headline files (check d p q) Yes text = SaysAccepted files (check d p q) text
 Headline files (search s d p) Yes text = PrintsPlan files (search s d p) s text
@@ -134,6 +137,10 @@ Headline files (cheapest b d p k) Yes text = PrintsCheapestPlan files (cheapest 
 Headline files (cheapest b d p k) No text = SaysNoPlanAtAll files (cheapest b d p k) text
 Headline files (check_loop d p q) Yes text = SaysAcceptedForEver files (check_loop d p q) text
 Headline files c status text = ⊤
+
+-- an answer that the files allow, and what a reader of its lines may rely on
+abbrev pub AnswersRightly : Option Files → Command → CallsTold → Status → List ℕ → Type 0
+AnswersRightly files c told status text = IsAnswer files c told status text × Headline files c status text
 
 -- nothing past range is looked at, and a search has room for the search nodes that it meets
 abbrev pub IsCalm : Option Files → Command → Type 0

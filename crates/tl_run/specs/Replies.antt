@@ -1,7 +1,5 @@
 -- Replies as the program holds and sends them.
 use Rattle.std.specs.Prelude.{◌≡◌, ◌⊎◌, ℕ, List, Option, Some, ⊤}
-use Rattle.std.specs.Io.KnownBytes.{append_known}
-use Rattle.tl_outside.specs.Told.{GrowsByPart}
 use Rattle.tl_run.specs.declared.reply.Reply.{Reply}
 use Rattle.tl_run.specs.declared.status.Status.{Status}
 use Rattle.tl_run.specs.declared.status.Status.TheVariants.{Yes, No, Spent, Refused, Range, WriteFault}
@@ -11,6 +9,7 @@ use Rattle.tl_run.specs.Held.{last_role}
 use Rattle.tl_run.specs.Answers.{Answer, IsRightAnswer, status_of, text_of}
 use Rattle.tl_run.specs.Commands.{Command, check, search, trace, explain, prove_none, check_none, sample, cheapest, check_loop}
 use Rattle.tl_run.specs.Inputs.{Input}
+use Rattle.tl_run.specs.Sent.{SendsAll, SendsPart, SinkTold}
 
 -- the status and the lines of a right answer
 pub record Replies (c : Command) (input : Input) (reply : Reply) : Type 0 where
@@ -41,5 +40,5 @@ HasLines Range = ⊤
 HasLines status = ⊥
 
 -- all lines are sent, or writing fails after a front part of them
-abbrev pub Sends : Option (List ℕ) → Option (List ℕ) → Status → List ℕ → Status → Type 0
-Sends old new status text result = ((result ≡ status) × (new ≡ append_known old text)) ⊎ ((result ≡ WriteFault) × GrowsByPart old new text)
+abbrev pub Sends : SinkTold → SinkTold → Status → List ℕ → Status → Type 0
+Sends old new status text result = ((result ≡ status) × SendsAll old new text) ⊎ ((result ≡ WriteFault) × SendsPart old new text)

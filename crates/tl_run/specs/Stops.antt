@@ -1,7 +1,7 @@
 -- Why files are not read on.
-use Rattle.std.specs.Prelude.{◌≡◌, ◌⊎◌, ℕ, List, Option, ⊤}
+use Rattle.std.specs.Prelude.{◌≡◌, ◌⊎◌, ℕ, Bool, true, false, List, Option, Result, Ok, Err, ⊤}
 use Rattle.tl_outside.specs.Causes.{Rose}
-use Rattle.tl_outside.specs.Told.{Files, told_file, IsContent, Lacks}
+use Rattle.tl_outside.specs.Told.{Files, IsContent, Lacks}
 use Rattle.tl_outside.specs.declared.reading.ReadFault.{ReadFault as Fault}
 use Rattle.tl_outside.specs.declared.reading.ReadFault.TheVariants as reading
 use Rattle.tl_sexpr.specs.declared.fault.TextFault.{TextFault}
@@ -19,7 +19,7 @@ use Rattle.tl_run.specs.declared.words.Role.{Role}
 use Rattle.tl_run.specs.Commands.{Command, sample}
 use Rattle.tl_run.specs.Inputs.{Input, IsBroken}
 use Rattle.tl_run.specs.SampleTexts.{BreaksSample}
-use Rattle.tl_run.specs.Turns.{Begun, IsRefused, LacksFile, LeavesOffAt}
+use Rattle.tl_run.specs.Turns.{BeginsFirst, CallsTold, IsRefused, LacksFile}
 
 -- the stop at the file of this number, whose text has this fault
 abbrev pub stop_of_text : ℕ → TextFault → Stop
@@ -42,10 +42,10 @@ stop_of_reading number reading.TooLong = Refused number broken.TooLong
 stop_of_reading number reading.NoMemory = NoMemory
 
 -- why a file of this role, of this name and this number, adds nothing to what was read before
-abbrev pub IsTurnStop : Option Files → Role → List ℕ → Input → ℕ → Option (List ℕ) → ℕ → ℕ → Stop → Type 0
-IsTurnStop files r name x number whole before now ReadFault = Lacks files name ⊎ Rose before now
-IsTurnStop files r name x number whole before now NoMemory = ⊤
-IsTurnStop files r name x number whole before now (Refused k m) = (k ≡ number) × (whole ≡ told_file files name) × ((bytes : List ℕ) × IsContent files name bytes × IsBroken r x bytes m)
+abbrev pub IsTurnStop : Option Files → Role → List ℕ → Input → ℕ → ℕ → ℕ → Stop → Type 0
+IsTurnStop files r name x number before now ReadFault = Lacks files name ⊎ Rose before now
+IsTurnStop files r name x number before now NoMemory = ⊤
+IsTurnStop files r name x number before now (Refused k m) = (k ≡ number) × ((bytes : List ℕ) × IsContent files name bytes × IsBroken r x bytes m)
 
 -- of the rules that forms break, this is the least one
 pub record IsLeastBroken (breaks : List Break) (b : Broken) : Type 0 where
@@ -77,10 +77,30 @@ IsSampleStop balls NoMemory = ⊤
 IsSampleStop balls (Refused number b) = BreaksSample balls number b
 
 -- why the files of a command were not read to their ends
-abbrev pub IsStop : Option Files → Command → Begun → ℕ → ℕ → Stop → Type 0
-IsStop files c begun before now ReadFault = LacksFile files c ⊎ Rose before now
-IsStop files c begun before now NoMemory = ⊤
-IsStop files c begun before now (Refused number b) = IsRefused files c number b × LeavesOffAt files c begun number
+abbrev pub IsStop : Option Files → Command → CallsTold → ℕ → ℕ → Stop → Type 0
+IsStop files c told before now ReadFault = LacksFile files c ⊎ Rose before now
+IsStop files c told before now NoMemory = ⊤
+IsStop files c told before now (Refused number b) = IsRefused files c number b × BeginsFirst c told number false
+
+-- whether a call of the store failed
+abbrev pub is_fault : Stop → Bool
+is_fault ReadFault = true
+is_fault stop = false
+
+-- whether reading stopped because a call of the store failed
+abbrev pub has_read_fault : {T : Type 0} → Result T Stop → Bool
+has_read_fault (Ok t) = false
+has_read_fault (Err stop) = is_fault stop
+
+-- whether a run that ends so stopped because a call of the store failed
+abbrev pub is_read_fault : Status → Bool
+is_read_fault status.ReadFault = true
+is_read_fault s = false
+
+-- the same, where it may have gone on
+abbrev pub ends_by_read_fault : {T : Type 0} → Result T Status → Bool
+ends_by_read_fault (Ok t) = false
+ends_by_read_fault (Err s) = is_read_fault s
 
 -- why a command is answered with this status alone, and no line
 abbrev pub IsBareStatus : Option Files → Command → ℕ → ℕ → Status → Type 0

@@ -1,6 +1,7 @@
 -- Files that are read in turn, each after those before it have passed.
-use Rattle.std.specs.Prelude.{◌≡◌, ◌⊎◌, ℕ, ◌+◌, ◌-◌, ◌≤◌, List, [], ◌∷◌, Option, Some, None, slice_get}
-use Rattle.tl_outside.specs.Told.{Files, IsContent, Lacks, told_file}
+use Rattle.std.specs.Prelude.{◌≡◌, ◌⊎◌, ℕ, ◌+◌, ◌≤◌, Bool, List, [], ◌∷◌, map, take, Option, Some, None}
+use Rattle.tl_outside.specs.Calls.{Call, EndsByFault, begun_names, with_calls}
+use Rattle.tl_outside.specs.Told.{Files, IsContent, Lacks}
 use Rattle.tl_run.specs.declared.words.Role.{Role}
 use Rattle.tl_run.specs.declared.stop.Broken.{Broken}
 use Rattle.tl_run.specs.Commands.{Command, sample, files_of}
@@ -38,26 +39,26 @@ IsRefused files (sample balls) number b = BreaksSample balls number b
 IsRefused files c number b =
     ReachesFile (λ k r name before. (k ≡ number) × ((bytes : List ℕ) × IsContent files name bytes × IsBroken r before bytes b)) files c
 
--- what a store shows of the files that a call began: the bytes of the last one, and at most how many there were
-pub record Begun : Type 0 where
-  pub whole : Option (List ℕ)
-  pub count : ℕ
+-- what a store tells of its calls, before a run and after it
+pub record CallsTold : Type 0 where
+  pub before : Option (List Call)
+  pub after : Option (List Call)
 
 -- no file was begun, or at most as many as the number of a file that has its turn
 abbrev pub BegunInTurn : Option Files → Command → ℕ → Type 0
 BegunInTurn files c count = (count ≡ 0) ⊎ ReachesFile (λ k r name before. count ≤ k) files c
 
--- the bytes that are told of a file in a list, or of none
-abbrev pub told_of : Option Files → Option (Role × List ℕ) → Option (List ℕ)
-told_of files None = None
-told_of files (Some f) = told_file files f.1
+-- the names of the first so many files of a command
+abbrev pub first_names : Command → ℕ → List (List ℕ)
+first_names c count = map (λ (f : Role × List ℕ). f.1) (take count (files_of c))
 
--- the file of this number was the last one that was begun, and no more files were begun than it and those before it
-pub record EndsAt (files : Option Files) (c : Command) (begun : Begun) (number : ℕ) : Type 0 where
-  pub whole : begun.whole ≡ told_of files (slice_get (files_of c) (number - 1))
-  pub few : begun.count ≤ number
+-- where calls are told, those that came began the first so many files of the command, in their order and no other; whether one failed, which is then the last
+pub record BeginsFirst (c : Command) (told : CallsTold) (count : ℕ) (failed : Bool) : Type 0 where
+  pub calls : List Call
+  pub came : told.after ≡ with_calls told.before calls
+  pub begun : begun_names calls ≡ first_names c count
+  pub ends : EndsByFault calls failed
 
--- reading was left off at the file of this number; for a sample no file was begun
-abbrev pub LeavesOffAt : Option Files → Command → Begun → ℕ → Type 0
-LeavesOffAt files (sample balls) begun number = begun.count ≡ 0
-LeavesOffAt files c begun number = EndsAt files c begun number
+-- the files of a command are begun in their turn, by their names; whether a call failed, which is then the last
+abbrev pub BeginsInTurn : Option Files → Command → CallsTold → Bool → Type 0
+BeginsInTurn files c told failed = (count : ℕ) × BegunInTurn files c count × BeginsFirst c told count failed

@@ -1,14 +1,15 @@
 // A run as a whole.
-ghost use Rattle.std.specs.Prelude.{◌≡◌, ◌-◌, ◌↔◌, ◌⊎◌, Some, None, map};
+ghost use Rattle.std.specs.Prelude.{◌≡◌, ◌↔◌, ◌⊎◌, Some, None, map};
 ghost use Rattle.std.specs.String.{string_bytes};
 ghost use Rattle.tl_outside.specs.Causes.{Rose};
 ghost use Rattle.tl_outside.specs.Told.{Files};
 ghost use Rattle.tl_run.specs.Answers.{Answer};
 ghost use Rattle.tl_run.specs.Commands.{Command, command_in};
 ghost use Rattle.tl_run.specs.Inputs.{Input};
-ghost use Rattle.tl_run.specs.Promises.{Allows, Gives, Headline, IsAnswer, IsCalm, IsCalmStatus, Writes};
+ghost use Rattle.tl_run.specs.Promises.{Allows, AnswersRightly, Gives, IsCalm, IsCalmStatus, Writes};
 ghost use Rattle.tl_run.specs.Replies.{HasLines, Sends};
-ghost use Rattle.tl_run.specs.Turns.{BegunInTurn, LacksFile};
+ghost use Rattle.tl_run.specs.Stops.{is_read_fault};
+ghost use Rattle.tl_run.specs.Turns.{BeginsInTurn, LacksFile};
 
 use crate::laws::laws;
 use crate::reply::{Reply, reply_to};
@@ -20,7 +21,8 @@ use tl_outside::{Sink, Store, write_whole};
 /// Sends the lines of a reply, and answers how the run ends.
 fn send<K: Sink>(out: &mut K, reply: &Reply) -> Status
     requires { HasLines reply.now.status }
-    ensures sent { Sends (K.bytes out.old) (K.bytes out.new) reply.now.status reply.now.text result }
+    ensures sent { Sends (record { bytes = K.bytes out.old; puts = K.puts out.old }) (record { bytes = K.bytes out.new; puts = K.puts out.new })
+        reply.now.status reply.now.text result }
     ensures fault { result ≡ Status.WriteFault → Rose (K.faults out.old) (K.faults out.new) }
 {
     match write_whole(out, reply.text.as_slice()) {
@@ -36,22 +38,19 @@ pub fn run<S: Store, K: Sink>(alloc: Global, words: &[String], store: &mut S, ou
     // Wrong words leave the store and the sink untouched.
     ensures untouched { result ≡ Status.Usage → (store.new ≡ store.old) × (out.new ≡ out.old) }
 
-    // A file is begun only in its turn, after those before it have passed.
-    ensures begun { (c : Command) → command_in (map string_bytes words.now) ≡ Some c
-        → BegunInTurn (S.files store.old) c (S.begun store.new - S.begun store.old) }
+    // A file is begun only in its turn, by its name, after those before it have passed; and a call of the store that
+    // fails is its last, and the answer a read fault.
+    ensures calls { (c : Command) → command_in (map string_bytes words.now) ≡ Some c
+        → BeginsInTurn (S.files store.old) c (record { before = S.calls store.old; after = S.calls store.new }) (is_read_fault result) }
     ensures read_fault { (c : Command) → command_in (map string_bytes words.now) ≡ Some c → result ≡ Status.ReadFault
         → LacksFile (S.files store.old) c ⊎ Rose (S.faults store.old) (S.faults store.new) }
     ensures write_fault { result ≡ Status.WriteFault → Rose (K.faults out.old) (K.faults out.new) }
 
-    // A plan is accepted where the answer is `; valid`. A printed plan is accepted and has at most N actions, and breadth-first no accepted plan is shorter; after `; none` no plan is accepted, and after `; none within N` none of at most N actions.
-    // The lines of `explain` show the residual in each state of the plan, and which action is the first without a step.
-    // A plan that `cheapest` prints is accepted and costs what is printed, no accepted plan costs less, and none of this cost has fewer actions. A plan with a repeated part is accepted for ever where the answer is `; valid for ever`.
-    ensures headline { (c : Command) → command_in (map string_bytes words.now) ≡ Some c
-        → Writes (Headline (S.files store.old) c) (K.bytes out.old) (K.bytes out.new) result }
-
-    // Nothing is written but an answer that the files allow, whole or, where writing fails, a front part of it.
-    ensures written { (c : Command) → command_in (map string_bytes words.now) ≡ Some c
-        → Writes (IsAnswer (S.files store.old) c (record { whole = S.whole store.new; count = S.begun store.new - S.begun store.old })) (K.bytes out.old) (K.bytes out.new) result }
+    // What is written is an answer that the files allow, and the headline holds of it: all of its text, or, where a
+    // call of the sink fails, a front part, and then nothing more.
+    ensures answers { (c : Command) → command_in (map string_bytes words.now) ≡ Some c
+        → Writes (AnswersRightly (S.files store.old) c (record { before = S.calls store.old; after = S.calls store.new }))
+        (record { bytes = K.bytes out.old; puts = K.puts out.old }) (record { bytes = K.bytes out.new; puts = K.puts out.new }) result }
 
     // An answer that the files allow is the one that is written, but for those that come in its place by a cause of their own.
     ensures exact { (c : Command) (told : Files) (input : Input) (answer : Answer)

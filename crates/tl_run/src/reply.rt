@@ -1,5 +1,5 @@
 // The reply to a command.
-ghost use Rattle.std.specs.Prelude.{◌≡◌, ◌-◌, IfOk, IfErr};
+ghost use Rattle.std.specs.Prelude.{◌≡◌, IfOk, IfErr};
 ghost use Rattle.tl_run.specs.declared.status.Status.TheVariants as status;
 ghost use Rattle.tl_run.specs.Commands.{KeepsLimits};
 ghost use Rattle.tl_run.specs.Held.{IsHeld, KeepsBounds};
@@ -7,8 +7,8 @@ ghost use Rattle.tl_run.specs.Inputs as inputs;
 ghost use Rattle.tl_run.specs.Promises.{IsAnswer};
 ghost use Rattle.tl_run.specs.Refusals.{refusal_text};
 ghost use Rattle.tl_run.specs.Replies.{FitsCommand, Replies};
-ghost use Rattle.tl_run.specs.Stops.{IsBareStatus};
-ghost use Rattle.tl_run.specs.Turns.{BegunInTurn};
+ghost use Rattle.tl_run.specs.Stops.{IsBareStatus, ends_by_read_fault};
+ghost use Rattle.tl_run.specs.Turns.{BeginsInTurn};
 ghost use Rattle.tl_run.specs.Words.{command_meant};
 
 use crate::commands::{
@@ -96,9 +96,10 @@ pub(crate) fn reply_to<S: Store>(
 ) -> Result<Reply, Status>
     requires { KeepsLimits (command_meant command) }
     ensures answer { IfOk result (λ reply. IsAnswer (S.files store.old) (command_meant command.entry)
-        (record { whole = S.whole store.new; count = S.begun store.new - S.begun store.old }) reply.status reply.text) }
+        (record { before = S.calls store.old; after = S.calls store.new }) reply.status reply.text) }
     ensures bare { IfErr result (IsBareStatus (S.files store.old) (command_meant command.entry) (S.faults store.old) (S.faults store.new)) }
-    ensures begun { BegunInTurn (S.files store.old) (command_meant command.entry) (S.begun store.new - S.begun store.old) }
+    ensures calls { BeginsInTurn (S.files store.old) (command_meant command.entry)
+        (record { before = S.calls store.old; after = S.calls store.new }) (ends_by_read_fault result) }
 {
     match read_input(alloc, store, command) {
         Ok(input) => Ok(reply_over(alloc, command, input)?),

@@ -1,5 +1,6 @@
 // One file of a command: its bytes, and what they add to what was read before.
 ghost use Rattle.std.specs.Prelude.{◌≡◌, ◌+◌, ◌≤◌, [], length, Some, IfOk, IfErr, OnOk};
+ghost use Rattle.tl_outside.specs.Calls.{ReadsBy};
 ghost use Rattle.tl_sexpr.specs.Offsets.{AreAsRead};
 ghost use Rattle.tl_sexpr.specs.Spelling.{Spells, symbols_in_all};
 ghost use Rattle.tl_sexpr.specs.Tree.{FormTrees, trees_of};
@@ -16,7 +17,7 @@ ghost use Rattle.tl_domain.specs.Files.{IsDomainOf};
 ghost use Rattle.tl_run.specs.Held.{HoldsFile, HoldsForms, IsHeld, KeepsBounds, KeepsParts, last_role, role_before};
 ghost use Rattle.tl_run.specs.Inputs.{nothing, a_domain, a_problem, breaks_of, IsBroken, StandsFor};
 ghost use Rattle.tl_run.specs.Inputs as inputs;
-ghost use Rattle.tl_run.specs.Stops.{IsFileStop, IsFormsStop, IsTurnStop};
+ghost use Rattle.tl_run.specs.Stops.{IsFileStop, IsFormsStop, IsTurnStop, has_read_fault};
 
 use crate::stop::Stop;
 use crate::words::{File, Role};
@@ -423,10 +424,11 @@ pub(crate) fn read_next<S: Store>(
     ensures keeps { OnOk result (KeepsBounds input.new) }
     ensures last { OnOk result (last_role input.new ≡ Some file.now.role) }
     ensures stop { (x : inputs.Input) → IsHeld input.old x
-        → IfErr result (IsTurnStop (S.files store.old) file.now.role file.now.name.now x number (S.whole store.new)
+        → IfErr result (IsTurnStop (S.files store.old) file.now.role file.now.name.now x number
         (S.faults store.old) (S.faults store.new)) }
     ensures files { S.files store.new ≡ S.files store.old }
-    ensures begun { S.begun store.new ≤ S.begun store.old + 1 }
+    ensures calls { (x : inputs.Input) → IsHeld input.old x
+        → ReadsBy (S.calls store.old) (S.calls store.new) file.now.name.now 4194304 (has_read_fault result) }
     ensures later { S.faults store.old ≤ S.faults store.new }
 {
     match read_whole(alloc, store, file.name, LIMIT) {

@@ -1,4 +1,6 @@
-use Rattle.std.proofs.Common.{rules, ◌≡◌, ◌≤◌, ◌+◌, ◌++◌, length, take, arith, length-append, ◌∙◌, sym, ap}
+use Rattle.std.proofs.Common.{rules, ◌≡◌, ◌≤◌, ◌+◌, ◌++◌, ℕ, length, take, arith, length-append, ◌∙◌, sym, ap, subst}
+use Rattle.std.proofs.lemmas.Result.{err_from_is_err_and}
+use Rattle.tl_outside.proofs.Calls.{TakesSo, take_failed, takes_end, takes_first, takes_more, takes_none}
 use Rattle.tl_outside.proofs.Front.{front_more, length_take_le}
 use Rattle.tl_outside.proofs.reading.read_whole.Goals as goal
 
@@ -18,15 +20,44 @@ takes-preserved g c =
       within = omega (arith, len, t.bound.0, room, c.min-want.ensures, c.len-in-takes.ensures);
       front = rw (t.whole, more) (front_more _ _ _ _ t.bound.0 i.front (rw i.taken at t.bytes));
       found = i.found;
-      begun = omega (arith, t.begun, i.begun);
+      calls = subst (λ (n : ℕ). TakesSo (g.S.Store.calls c.args.store.now) (g.S.Store.calls c.take.new.self) c.args.name.now c.args.limit n) (sym len)
+          (takes_more _ _ _ c.args.name.now c.args.limit (length c.takes.bytes) c.in_ok-count.count (omega (arith, c.takes-test.true)) c.if-count-eq0.false i.calls t.calls);
       later = omega (arith, t.cause.later);
     }
 
 pub takes-init : goal.takes-init
-takes-init g c = search rules
+takes-init g c = record {
+  chosen = c.in_ok-begin.ensures.chosen;
+  files = c.in_ok-begin.ensures.files;
+  whole = c.in_ok-begin.ensures.whole;
+  taken = search rules;
+  within = search rules;
+  front = search rules;
+  found = search rules;
+  calls = rw c.new-bytes.ensures (takes_first _ _ c.args.name.now c.args.limit c.in_ok-begin.ensures.calls);
+  later = c.in_ok-begin.ensures.later;
+}
 
 pub returns-clause-too_long : goal.returns-clause-too_long
 returns-clause-too_long g c = search rules
 
 pub returns-clause-failed : goal.returns-clause-failed
 returns-clause-failed g c = search rules
+
+pub returns-in_err-count-clause-calls : goal.returns-in_err-count-clause-calls
+returns-in_err-count-clause-calls g c =
+    let p = err_from_is_err_and c.from_residual-in_err-count.result c.from_residual-in_err-count.ensures.1 in
+    rw (p.1, p.2) (take_failed _ _ _ c.args.name.now c.args.limit (length c.takes.bytes) (omega (arith, c.takes-test.true)) c.takes.invariant.calls c.in_err-count.ensures.calls)
+
+pub returns-then-count-eq0-clause-calls : goal.returns-then-count-eq0-clause-calls
+returns-then-count-eq0-clause-calls g c =
+    takes_none _ _ _ c.args.name.now c.args.limit (length c.takes.bytes) c.in_ok-count.count (omega (arith, c.takes-test.true)) c.if-count-eq0.true c.takes.invariant.calls c.in_ok-count.ensures.calls
+
+pub returns-in_err-extend-clause-calls : goal.returns-in_err-extend-clause-calls
+returns-in_err-extend-clause-calls g c =
+    let p = err_from_is_err_and c.from_residual-in_err-extend.result c.from_residual-in_err-extend.ensures.1 in
+    let more = takes_more _ _ _ c.args.name.now c.args.limit (length c.takes.bytes) c.in_ok-count.count (omega (arith, c.takes-test.true)) c.if-count-eq0.false c.takes.invariant.calls c.in_ok-count.ensures.calls in
+    rw (p.1, p.2) (takes_end _ _ c.args.name.now c.args.limit _ more)
+
+pub returns-clause-calls : goal.returns-clause-calls
+returns-clause-calls g c = takes_end _ _ c.args.name.now c.args.limit (length c.takes.bytes) c.takes.invariant.calls

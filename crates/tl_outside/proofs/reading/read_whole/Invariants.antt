@@ -1,5 +1,6 @@
 use Rattle.std.proofs.Common.{length, ◌+◌, ◌-◌, ◌≡◌, ◌≤◌, true}
 use Rattle.tl_outside.specs.Told.{told_file, Lacks}
+use Rattle.tl_outside.proofs.Calls.{TakesSo}
 use Rattle.tl_outside.proofs.Front.{IsFront}
 use Rattle.tl_outside.proofs.reading.read_whole.Given as goal
 
@@ -13,7 +14,7 @@ invariant-takes g l = record {
   within : length l.bytes ≤ l.limit + 1;
   front : IsFront (g.S.Store.whole l.store) l.bytes;
   found : Lacks (g.S.Store.files l.fn.store) l.name → ⊥;
-  begun : g.S.Store.begun l.store ≤ g.S.Store.begun l.fn.store + 1;
+  calls : TakesSo (g.S.Store.calls l.fn.store) (g.S.Store.calls l.store) l.name l.limit (length l.bytes);
   later : g.S.Store.faults l.fn.store ≤ g.S.Store.faults l.store;
 }
 

@@ -1,5 +1,4 @@
-use Rattle.std.proofs.Common.{◌-◌}
-use Rattle.tl_run.specs.Turns.{Begun}
+use Rattle.tl_run.specs.Turns.{CallsTold}
 use Rattle.tl_run.specs.Words.{command_meant}
 use Rattle.tl_run.proofs.Fitting.{fits}
 use Rattle.tl_run.proofs.Replied.{reply_answers, refusal_answers}
@@ -12,12 +11,12 @@ reply_over-requires g c =
 
 pub returns-in_ok-reply_over-in-Ok-clause-answer : goal.returns-in_ok-reply_over-in-Ok-clause-answer
 returns-in_ok-reply_over-in-Ok-clause-answer g c =
-    let begun : Begun = record { whole = g.S.Store.whole c.read_input.new.store; count = g.S.Store.begun c.read_input.new.store - g.S.Store.begun c.args.store.now } in
+    let told : CallsTold = record { before = g.S.Store.calls c.args.store.now; after = g.S.Store.calls c.read_input.new.store } in
     let h = c.in-Ok.ensures.held in
-    reply_answers (g.S.Store.files c.args.store.now) (command_meant c.args.command) begun h.0 _ h.1 (c.in_ok-reply_over-in-Ok.ensures h.0 h.2)
+    reply_answers (g.S.Store.files c.args.store.now) (command_meant c.args.command) told h.0 _ h.1 (c.in_ok-reply_over-in-Ok.ensures h.0 h.2)
 
 pub returns-in_ok-refusal-in-Err-Refused-clause-answer : goal.returns-in_ok-refusal-in-Err-Refused-clause-answer
 returns-in_ok-refusal-in-Err-Refused-clause-answer g c =
-    let begun : Begun = record { whole = g.S.Store.whole c.read_input.new.store; count = g.S.Store.begun c.read_input.new.store - g.S.Store.begun c.args.store.now } in
+    let told : CallsTold = record { before = g.S.Store.calls c.args.store.now; after = g.S.Store.calls c.read_input.new.store } in
     let reply = c.in_ok-refusal-in-Err-Refused.ensures in
-    refusal_answers (g.S.Store.files c.args.store.now) (command_meant c.args.command) begun c.in-Err-Refused.number c.in-Err-Refused.broken _ _ (rw c.in-Err-Refused.field-0-is at c.in-Err-Refused.ensures.stop) reply.status reply.text
+    refusal_answers (g.S.Store.files c.args.store.now) (command_meant c.args.command) told c.in-Err-Refused.number c.in-Err-Refused.broken _ _ (rw c.in-Err-Refused.field-0-is at c.in-Err-Refused.ensures.stop) reply.status reply.text

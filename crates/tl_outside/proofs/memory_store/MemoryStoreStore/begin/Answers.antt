@@ -3,6 +3,3 @@ use Rattle.tl_outside.proofs.memory_store.MemoryStoreStore.begin.Goals as goal
 
 pub returns-clause-exact : goal.returns-clause-exact
 returns-clause-exact c = search rules
-
-pub returns-clause-counts_begun : goal.returns-clause-counts_begun
-returns-clause-counts_begun c = search rules
