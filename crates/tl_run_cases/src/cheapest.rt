@@ -1,7 +1,7 @@
 // Searches for cheapest plans: the most search nodes, the files, and what the table says; then the status, and the output.
 
 use crate::run::are_run;
-use std::test::Fail;
+use crate::stop::Stop;
 
 /// Rows of the most search nodes, further items of the domain, the initial world, the goal list, and the costs file; then the status, and the output.
 const TRAVELS: &str = "
@@ -21,9 +21,12 @@ cheapest {0} w p k | w = {travel} {1}) & p = (problem p (init {2}) (goal {3})) &
 # the way to t becomes cheaper twice, and then it becomes shorter at the same cost
 100 | {rowing} | (at s) | (at t) | (fly 9) (walk 1) (ride 5) (row 2) (swim 1) | 0 | ; cheapest plan of 2 actions costs 3 / (row) / (swim)
 100 | {rowing} {turning} | (at s) | (at t) | (fly 9) (walk 0) (ride 9) (turn 0) (go 2) (row 1) (swim 1) | 0 | ; cheapest plan of 2 actions costs 2 / (row) / (swim)
+100 | {turning} | (at s) | (at t) | (fly 9) (walk 1) (turn 0) (go 1) (ride 1) | 0 | ; cheapest plan of 2 actions costs 2 / (walk) / (ride)
 # the goal is met at once; it is never met
 1 | - | (at t) | (at t) | (fly 9) | 0 | ; cheapest plan of 0 actions costs 0
+1 | - | (at t) | (at t) | - | 0 | ; cheapest plan of 0 actions costs 0
 100 | - | (at s) | (at u) | (fly 0) | 1 | ; none
+100 | - | (at s) | (at u) | - | 1 | ; none
 # what a control formula forbids, and a negated goal
 100 | (control (always (not (at m)))) | (at s) | (at t) | (fly 9) (walk 2) (ride 3) | 0 | ; cheapest plan of 1 actions costs 9 / (fly)
 100 | (control (within 1 (at t))) | (at s) | (at t) | (fly 9) (walk 2) (ride 3) | 0 | ; cheapest plan of 1 actions costs 9 / (fly)
@@ -37,11 +40,6 @@ cheapest {0} w p k | w = {travel} {1}) & p = (problem p (init {2}) (goal {3})) &
 2 | - | (at s) | (at u) | - | 2 | ; spent 2
 3 | - | (at s) | (at u) | - | 1 | ; none
 ";
-
-#[test]
-fn cheapest_plans_are_printed(rt: HostRuntime) -> Result<(), Fail> {
-    are_run(&rt, rt.alloc(), TRAVELS)
-}
 
 /// Rows of the most search nodes, the control item, and the costs file, for two lamps; then the status, and the output.
 const LAMPS: &str = "
@@ -61,11 +59,6 @@ cheapest {0} l ab k | l = {lamps} {1}) & ab = {ab} & k = {2} | {3} | {4}
 100 | (control (always (not (on b)))) | (jump 3) | 3 | ; refused file 3 rule 30 at 0
 ";
 
-#[test]
-fn lamps_are_pressed_at_the_least_cost(rt: HostRuntime) -> Result<(), Fail> {
-    are_run(&rt, rt.alloc(), LAMPS)
-}
-
 /// Rows of the most search nodes, the costs file, and the cost of the plan of 4,296 actions, the sum of which may be past 32 bits.
 const SUMS: &str = "
 cheapest {0} c p k | c = (domain c (function n 0) (operator (tick) (effects (set (n) (+ (n) 1))))) & p = (problem p (init (= (n) 0)) (goal (= (n) 4296))) & k = {1} | 0 | ; cheapest plan of 4296 actions costs {2}{4296  / (tick)}
@@ -75,11 +68,6 @@ cheapest {0} c p k | c = (domain c (function n 0) (operator (tick) (effects (set
 4297 | - | 4296
 4297 | (tick 0) | 0
 ";
-
-#[test]
-fn sums_of_costs_are_exact(rt: HostRuntime) -> Result<(), Fail> {
-    are_run(&rt, rt.alloc(), SUMS)
-}
 
 /// Rows of the value of a counter, the goal list, and the costs file; then the status, and the output.
 const RANGES: &str = "
@@ -92,11 +80,6 @@ cheapest 10 c p k | c = (domain c (function n 0) (predicate done 0) (operator (t
 # the plan is found before the operation is looked at
 9223372036854775806 | {max} | (tick 7) | 0 | ; cheapest plan of 1 actions costs 7 / (tick)
 ";
-
-#[test]
-fn operations_past_range_end_a_search_by_costs(rt: HostRuntime) -> Result<(), Fail> {
-    are_run(&rt, rt.alloc(), RANGES)
-}
 
 /// Rows of a costs file, and the output.
 const REFUSALS: &str = "
@@ -113,16 +96,20 @@ fly | 10 at 0
 (fly (9)) | 10 at 0
 (fly 9) (fly 9) | 12 at 8
 (fly 9) (walk 2) (fly 3) | 12 at 17
+(fly 9) (walk 2) (fly 9) | 12 at 17
 (fly -1) | 19 at 0
 (fly 1000001) | 19 at 0
 (fly 1000000) (walk 1000001) | 19 at 14
 (jump 3) | 30 at 0
 (w 3) | 30 at 0
 (at 3) | 30 at 0
+(s 3) | 30 at 0
+(fly 9) (jump 3) (jump 3) | 30 at 8
 # the least offset, and there the least rule
 (jump 3) fly | 30 at 0
 (fly 9) (fly -1) | 12 at 8
 (jump -1) | 19 at 0
+(jump 1000001) | 19 at 0
 # no forms
 (fly 9 | 3 at 0
 (fly 9)) | 2 at 7
@@ -131,11 +118,6 @@ fly | 10 at 0
 {101 (} | 4 at 100
 {4194305  } | 6 at 4194304
 ";
-
-#[test]
-fn costs_files_are_refused(rt: HostRuntime) -> Result<(), Fail> {
-    are_run(&rt, rt.alloc(), REFUSALS)
-}
 
 /// Rows of the words after the first, and of what fails; the files are a domain, a problem, two costs files and an empty file. Then the status, and the output.
 const WORDS: &str = "
@@ -171,7 +153,36 @@ breadth 5 100 w p | 8 | -
 100 w p k | 6 | ; ch.. | sink 4 fails 1
 ";
 
+/// Such rows, where a further action counts.
+const COSTS: &str = "
+cheapest {0} w p k | w = {travel} (function n 0) (operator (tick) (pre (>= (n) 0)) (effects (set (n) (+ (n) 1)))) {1}) & p = (problem p (init {2}) (goal {3})) & k = {4} | {5} | {6}
+# the cost of each action alone
+100 | (control (always (not (at m)))) | (at s) | (at t) | - | 0 | ; cheapest plan of 1 actions costs 1 / (fly)
+100 | - | (at s) | (at m) | - | 0 | ; cheapest plan of 1 actions costs 1 / (walk)
+100 | - | (at m) | (at t) | - | 0 | ; cheapest plan of 1 actions costs 1 / (ride)
+100 | - | (= (n) 0) | (= (n) 1) | - | 0 | ; cheapest plan of 1 actions costs 1 / (tick)
+100 | (control (always (not (at m)))) | (at s) | (at t) | (fly 9) (walk 2) (ride 3) | 0 | ; cheapest plan of 1 actions costs 9 / (fly)
+100 | - | (at s) | (at m) | (fly 9) (walk 2) (ride 3) | 0 | ; cheapest plan of 1 actions costs 2 / (walk)
+100 | - | (at m) | (at t) | (fly 9) (walk 2) (ride 3) | 0 | ; cheapest plan of 1 actions costs 3 / (ride)
+100 | - | (= (n) 0) | (= (n) 1) | (fly 9) (walk 2) (ride 3) | 0 | ; cheapest plan of 1 actions costs 1 / (tick)
+100 | (control (always (not (at m)))) | (at s) | (at t) | (ride 0) (fly 1000000) | 0 | ; cheapest plan of 1 actions costs 1000000 / (fly)
+100 | - | (at s) | (at m) | (ride 0) (fly 1000000) | 0 | ; cheapest plan of 1 actions costs 1 / (walk)
+100 | - | (at m) | (at t) | (ride 0) (fly 1000000) | 0 | ; cheapest plan of 1 actions costs 0 / (ride)
+100 | - | (= (n) 0) | (= (n) 1) | (ride 0) (fly 1000000) | 0 | ; cheapest plan of 1 actions costs 1 / (tick)
+# a search that is spent
+12 | - | (= (n) 0) | (= (n) 100) | - | 2 | ; spent 12
+# an operation past range, in the first action and after one
+100 | - | {max} | (at t) | - | 4 | ; range at 298: 9223372036854775807 + 1 / ; after 0 actions
+100 | (operator (up) (pre (at s)) (effects (set (n) 9223372036854775807))) | (at s) | (at t) | (fly 9) (walk 9) | 4 | ; range at 298: 9223372036854775807 + 1 / ; after 1 actions / (up)
+";
+
 #[test]
-fn words_of_a_search_by_costs_are_read(rt: HostRuntime) -> Result<(), Fail> {
+fn searches_by_costs_have_their_answers(rt: HostRuntime) -> Result<(), Stop> {
+    are_run(&rt, rt.alloc(), TRAVELS)?;
+    are_run(&rt, rt.alloc(), LAMPS)?;
+    are_run(&rt, rt.alloc(), SUMS)?;
+    are_run(&rt, rt.alloc(), RANGES)?;
+    are_run(&rt, rt.alloc(), REFUSALS)?;
+    are_run(&rt, rt.alloc(), COSTS)?;
     are_run(&rt, rt.alloc(), WORDS)
 }

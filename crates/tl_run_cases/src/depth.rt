@@ -1,7 +1,7 @@
 // Depth-first searches for plans of lamps, of ways through a graph and of a robot: the most actions, the most search nodes, and what the table says; then the status, and the output.
 
 use crate::run::are_run;
-use std::test::Fail;
+use crate::stop::Stop;
 
 /// Rows of the most actions, the most search nodes, the control item, the initial world and the goal list; then the status, and the output.
 const LAMPS: &str = "
@@ -32,11 +32,6 @@ plan depth {0} {1} l p | l = {lamps} {2}) & p = (problem p (init {3}) (goal {4})
 5 | 100 | (control (eventually (on c))) | (lamp a) (lamp c) (on a) | (on a) | 0 | ; plan of 1 actions / (press c)
 ";
 
-#[test]
-fn first_plans_are_found(rt: HostRuntime) -> Result<(), Fail> {
-    are_run(&rt, rt.alloc(), LAMPS)
-}
-
 /// Rows of the most actions and of the edges of a graph in which a node is met again with more actions left; then the status, and the output.
 const WAYS: &str = "
 plan depth {0} 100 g p | g = (domain g (predicate here 1) (predicate edge 2) (operator (go ?x ?y) (bounds (here ?x) (edge ?x ?y)) (effects (del (here ?x)) (add (here ?y))))) & p = (problem p (init (here s) {1}) (goal (here t))) | {2} | {3}
@@ -50,11 +45,6 @@ plan depth {0} 100 g p | g = (domain g (predicate here 1) (predicate edge 2) (op
 7 | {late cut} | 0 | ; plan of 7 actions / (go s d) / (go d e) / (go e f) / (go f m) / (go m n) / (go n o) / (go o t)
 ";
 
-#[test]
-fn nodes_are_entered_again(rt: HostRuntime) -> Result<(), Fail> {
-    are_run(&rt, rt.alloc(), WAYS)
-}
-
 /// Rows of the most actions, for the same graph with an operation past range at k; then the status, and the output.
 const RANGES: &str = "
 plan depth {0} 100 g p | g = (domain g (predicate here 1) (predicate edge 2) (function n 0) (operator (go ?x ?y) (bounds (here ?x) (edge ?x ?y)) (effects (del (here ?x)) (add (here ?y)))) (operator (tick) (pre (here k)) (effects (set (n) (+ (n) 1))))) & p = (problem p (init (here s) (edge s a) (edge a b) (edge b m) (edge s m) (edge m k) (edge k t) {max}) (goal (here t))) | {1} | {2}
@@ -63,11 +53,6 @@ plan depth {0} 100 g p | g = (domain g (predicate here 1) (predicate edge 2) (fu
 3 | 4 | ; range at 209: 9223372036854775807 + 1 / ; after 2 actions / (go s m) / (go m k)
 5 | 4 | ; range at 209: 9223372036854775807 + 1 / ; after 4 actions / (go s a) / (go a b) / (go b m) / (go m k)
 ";
-
-#[test]
-fn operations_past_range_end_a_search(rt: HostRuntime) -> Result<(), Fail> {
-    are_run(&rt, rt.alloc(), RANGES)
-}
 
 /// Rows of the numbers; then the status, and the output.
 const WORDS: &str = "
@@ -80,11 +65,6 @@ plan depth {0} l p | l = {lamps}) & p = {ab} | {1} | {2}
 5 | 8 | -
 ";
 
-#[test]
-fn words_of_a_search_are_read(rt: HostRuntime) -> Result<(), Fail> {
-    are_run(&rt, rt.alloc(), WORDS)
-}
-
 /// Rows of the most actions and the most search nodes, for six balls; then the status, and the output.
 const BALLS: &str = "
 plan depth {0} {1} g p | g = {gripper} (control {useful})) & p = (problem sample (init {six balls}) (goal {six there})) | {2} | {3}
@@ -94,6 +74,10 @@ plan depth {0} {1} g p | g = {gripper} (control {useful})) & p = (problem sample
 ";
 
 #[test]
-fn six_balls_are_carried(rt: HostRuntime) -> Result<(), Fail> {
+fn depth_first_searches_have_their_answers(rt: HostRuntime) -> Result<(), Stop> {
+    are_run(&rt, rt.alloc(), LAMPS)?;
+    are_run(&rt, rt.alloc(), WAYS)?;
+    are_run(&rt, rt.alloc(), RANGES)?;
+    are_run(&rt, rt.alloc(), WORDS)?;
     are_run(&rt, rt.alloc(), BALLS)
 }

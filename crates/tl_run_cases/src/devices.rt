@@ -1,9 +1,9 @@
 // Devices that fail.
 
 use crate::run::{are_run, is_answered, store_of};
+use crate::stop::Stop;
 use std::alloc::Global;
 use std::process::Abort;
-use std::test::Fail;
 use tl_outside::MemoryStore;
 use tl_tables::column;
 
@@ -23,7 +23,7 @@ check d p q | - | 2 | 0 | ; valid
 ";
 
 #[test]
-fn the_outside_fails(rt: HostRuntime) -> Result<(), Fail> {
+fn the_outside_fails(rt: HostRuntime) -> Result<(), Stop> {
     are_run(&rt, rt.alloc(), FAILS)
 }
 
@@ -31,7 +31,7 @@ fn the_outside_fails(rt: HostRuntime) -> Result<(), Fail> {
 const READ: &str = "check d p q | d = {one domain} & p = {one problem} & q = (lit)";
 
 /// The store of the files of a line, whose call `k` fails.
-fn failing_store(alloc: Global, line: &str, k: u32) -> Result<MemoryStore, Fail> {
+fn failing_store(alloc: Global, line: &str, k: u32) -> Result<MemoryStore, Stop> {
     let outside = format!(in alloc; "store 64 fails {k}")?;
     store_of(alloc, column(line, 1), outside.as_str())
 }
@@ -43,13 +43,13 @@ fn is_told<R: Abort>(
     line: &str,
     store: &mut MemoryStore,
     answer: &str,
-) -> Result<(), Fail> {
+) -> Result<(), Stop> {
     let line = format!(in alloc; "{line} | {answer}")?;
     is_answered(rt, alloc, line.as_str(), store, line.as_str())
 }
 
 /// Runs over a store whose call `k` fails, and, where this is one of the ten that a run makes, again over the same store.
-fn fails_once<R: Abort>(rt: &R, alloc: Global, line: &str, k: u32) -> Result<(), Fail> {
+fn fails_once<R: Abort>(rt: &R, alloc: Global, line: &str, k: u32) -> Result<(), Stop> {
     let mut store = failing_store(alloc, line, k)?;
     if k < 10 {
         is_told(rt, alloc, line, &mut store, "5 | -")?;
@@ -59,7 +59,7 @@ fn fails_once<R: Abort>(rt: &R, alloc: Global, line: &str, k: u32) -> Result<(),
 
 /// Each call of the store fails once, and the answer comes from the same store when it is read again.
 #[test]
-fn a_store_fails_at_each_call(rt: HostRuntime) -> Result<(), Fail> {
+fn a_store_fails_at_each_call(rt: HostRuntime) -> Result<(), Stop> {
     for k in 0..11 {
         fails_once(&rt, rt.alloc(), READ, k)?;
     }

@@ -2,8 +2,8 @@
 
 use crate::checks::{are_bytes, is_true};
 use crate::run::{answer_to, are_run, store_of};
-use std::alloc::Global;
-use std::test::Fail;
+use crate::stop::Stop;
+use std::alloc::{AllocError, Global};
 use tl_outside::{MemorySink, Numbers};
 use tl_tables::filled;
 
@@ -26,11 +26,6 @@ true | {two} | (on a) (on b) | (press a) (press a) | 0 | ; state 0: true / (pres
 true | {two} | - | (jump) | 3 | ; refused file 3 rule 30 at 0
 ";
 
-#[test]
-fn plans_are_explained(rt: HostRuntime) -> Result<(), Fail> {
-    are_run(&rt, rt.alloc(), LAMPS)
-}
-
 /// Rows of the three files, the status, and the output.
 const RANGES: &str = "
 explain d p q | d = {0} & p = {1} & q = {2} | {3} | {4}
@@ -44,11 +39,6 @@ explain d p q | d = {0} & p = {1} & q = {2} | {3} | {4}
 (domain c (function n 0) (operator (tick) (effects (set (n) (+ (n) 1)))) (operator (stop) (pre false))) | (problem p (init (= (n) 9223372036854775806)) (goal)) | (tick) (stop) (tick) | 0 | ; state 0: true / (tick) / ; state 1: true / ; not executable 2
 ";
 
-#[test]
-fn operations_past_range_end_explanations(rt: HostRuntime) -> Result<(), Fail> {
-    are_run(&rt, rt.alloc(), RANGES)
-}
-
 /// Files of a plan of 300 actions, along which the residual grows by a level in each state.
 const GROWING: &str =
     "l = {lamps} (control (until (eventually (on b)) (eventually (on c))))) & p = (problem p (init (lamp a)) (goal (on a))) & q = {150 (press a) (off a) }";
@@ -57,9 +47,9 @@ const GROWING: &str =
 const ROOM: usize = 2_097_152;
 
 /// The label of the state after so many actions: a level for each state so far, of 51 bytes, around 47 bytes.
-fn label_of(alloc: Global, before: u32) -> Result<String, Fail> {
+fn label_of(alloc: Global, before: u32) -> Result<String, AllocError> {
     if before > 194 {
-        return Ok(String::from_str(alloc, "long")?);
+        return String::from_str(alloc, "long");
     }
     let levels = before + 1;
     let form = format!(in alloc;
@@ -80,7 +70,7 @@ fn line_before(before: u32) -> &'static str {
 }
 
 /// The lines along the plan.
-fn growing_lines(alloc: Global) -> Result<String, Fail> {
+fn growing_lines(alloc: Global) -> Result<String, Stop> {
     let mut out = String::new(alloc);
     for before in 0..301 {
         out.push_str(line_before(before))?;
@@ -93,7 +83,7 @@ fn growing_lines(alloc: Global) -> Result<String, Fail> {
 
 /// Labels are written whole up to 10,000 bytes.
 #[test]
-fn labels_grow_until_they_are_long(rt: HostRuntime) -> Result<(), Fail> {
+fn labels_grow_until_they_are_long(rt: HostRuntime) -> Result<(), Stop> {
     let alloc = rt.alloc();
     let wanted = growing_lines(alloc)?;
     let mut store = store_of(alloc, GROWING, "")?;
@@ -102,4 +92,10 @@ fn labels_grow_until_they_are_long(rt: HostRuntime) -> Result<(), Fail> {
     is_true(&rt, status.number() == 0, "the status");
     are_bytes(&rt, out.held(), wanted.as_bytes(), "the lines");
     Ok(())
+}
+
+#[test]
+fn plans_are_explained(rt: HostRuntime) -> Result<(), Stop> {
+    are_run(&rt, rt.alloc(), LAMPS)?;
+    are_run(&rt, rt.alloc(), RANGES)
 }

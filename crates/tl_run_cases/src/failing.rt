@@ -3,9 +3,9 @@ ghost use Rattle.std.specs.Prelude.{◌≤◌};
 
 use crate::checks::{are_bytes, is_true};
 use crate::run::{answer_to, output_of, store_of};
+use crate::stop::Stop;
 use std::alloc::Global;
 use std::process::Abort;
-use std::test::Fail;
 use tl_outside::{MemorySink, MemoryStore, Numbers};
 use tl_tables::{column, is_row};
 
@@ -28,7 +28,7 @@ const ROOM: usize = 4_096;
 const CALLS: u32 = 1_000;
 
 /// A sink that takes over so many bytes at once, whose call `k` fails.
-fn sink_of(alloc: Global, most: usize, k: u32) -> Result<MemorySink, Fail>
+fn sink_of(alloc: Global, most: usize, k: u32) -> Result<MemorySink, Stop>
     requires { 1 ≤ most }
 {
     let mut fails = Numbers::new(alloc);
@@ -43,7 +43,7 @@ fn status_over<R: Abort>(
     row: &str,
     text: &str,
     store: &mut MemoryStore,
-) -> Result<u8, Fail> {
+) -> Result<u8, Stop> {
     let mut out = sink_of(alloc, ROOM, CALLS)?;
     let status = answer_to(alloc, column(row, 0), store, &mut out)?.number();
     let wanted = if status == 5 { "" } else { text };
@@ -58,7 +58,7 @@ fn store_fails<R: Abort>(
     row: &str,
     text: &str,
     k: u32,
-) -> Result<bool, Fail> {
+) -> Result<bool, Stop> {
     let outside = format!(in alloc; "store 64 fails {k}")?;
     let mut store = store_of(alloc, column(row, 1), outside.as_str())?;
     let wanted = column(row, 2).parse::<u8>()?;
@@ -89,7 +89,7 @@ fn sink_fails<R: Abort>(
     row: &str,
     text: &str,
     k: u16,
-) -> Result<bool, Fail> {
+) -> Result<bool, Stop> {
     let mut store = store_of(alloc, column(row, 1), "")?;
     let mut out = sink_of(alloc, 4, u32::from(k))?;
     let status = answer_to(alloc, column(row, 0), &mut store, &mut out)?.number();
@@ -98,29 +98,29 @@ fn sink_fails<R: Abort>(
 }
 
 /// Each call of the store fails once, until a run makes no such call.
-fn store_fails_at_each_call<R: Abort>(rt: &R, alloc: Global, row: &str) -> Result<(), Fail> {
+fn store_fails_at_each_call<R: Abort>(rt: &R, alloc: Global, row: &str) -> Result<(), Stop> {
     let text = output_of(alloc, column(row, 3))?;
     for k in 0..CALLS {
         if !store_fails(rt, alloc, row, text.as_str(), k)? {
             return Ok(());
         }
     }
-    Err(Fail::new("every call of the store was made"))
+    Err(Stop::Row("every call of the store was made"))
 }
 
 /// Each call of the sink fails once, until a run makes no such call.
-fn sink_fails_at_each_call<R: Abort>(rt: &R, alloc: Global, row: &str) -> Result<(), Fail> {
+fn sink_fails_at_each_call<R: Abort>(rt: &R, alloc: Global, row: &str) -> Result<(), Stop> {
     let text = output_of(alloc, column(row, 3))?;
     for k in 0..1_000u16 {
         if !sink_fails(rt, alloc, row, text.as_str(), k)? {
             return Ok(());
         }
     }
-    Err(Fail::new("every call of the sink was made"))
+    Err(Stop::Row("every call of the sink was made"))
 }
 
 #[test]
-fn each_call_of_a_store_fails_once(rt: HostRuntime) -> Result<(), Fail> {
+fn each_call_of_a_store_fails_once(rt: HostRuntime) -> Result<(), Stop> {
     for row in ROWS.lines() {
         if is_row(row) {
             store_fails_at_each_call(&rt, rt.alloc(), row)?;
@@ -130,7 +130,7 @@ fn each_call_of_a_store_fails_once(rt: HostRuntime) -> Result<(), Fail> {
 }
 
 #[test]
-fn each_call_of_a_sink_fails_once(rt: HostRuntime) -> Result<(), Fail> {
+fn each_call_of_a_sink_fails_once(rt: HostRuntime) -> Result<(), Stop> {
     for row in ROWS.lines() {
         if is_row(row) {
             sink_fails_at_each_call(&rt, rt.alloc(), row)?;

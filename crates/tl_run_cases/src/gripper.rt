@@ -1,7 +1,7 @@
 // Plans for a robot with two grippers that carries balls from room to room: the control formula, the goal list, the plan, the status, and the verdict.
 
 use crate::run::are_run;
-use std::test::Fail;
+use crate::stop::Stop;
 
 const CARRIED: &str = "
 check g p q | g = {gripper} (control {0})) & p = (problem p (init {balls}) (goal {1})) & q = {2} | {3} | {4}
@@ -33,6 +33,6 @@ true | {both} | {one by one} | 0 | ; valid
 ";
 
 #[test]
-fn balls_are_carried(rt: HostRuntime) -> Result<(), Fail> {
+fn balls_are_carried(rt: HostRuntime) -> Result<(), Stop> {
     are_run(&rt, rt.alloc(), CARRIED)
 }

@@ -1,7 +1,7 @@
 // Plans for lamps that are pressed and put off: the control formula, the initial world, the goal list, the plan, the status, and the verdict.
 
 use crate::run::are_run;
-use std::test::Fail;
+use crate::stop::Stop;
 
 const BELOW: &str = "
 check l p q | l = {lamps} (control {0})) & p = (problem p (init {1}) (goal {2})) & q = {3} | {4} | {5}
@@ -39,11 +39,6 @@ check l p q | l = {lamps} (control {0})) & p = (problem p (init {1}) (goal {2}))
 {first} | {three} | - | (press a) | 1 | ; disobeys
 ";
 
-#[test]
-fn temporal_words_stand_below_quantifiers(rt: HostRuntime) -> Result<(), Fail> {
-    are_run(&rt, rt.alloc(), BELOW)
-}
-
 const BOUNDS: &str = "
 check l p q | l = {lamps} (control {0})) & p = (problem p (init {1}) (goal {2})) & q = {3} | {4} | {5}
 {next bound} | (lamp a) (lamp b) (on b) | (on a) | (off b) (press a) | 0 | ; valid
@@ -62,11 +57,6 @@ check l p q | l = {lamps} (control {0})) & p = (problem p (init {1}) (goal {2}))
 {avoids} | {two} | (on a) (not (on b)) | (press b) (press a) | 1 | ; goal unmet
 ";
 
-#[test]
-fn bounds_are_read_where_they_stand(rt: HostRuntime) -> Result<(), Fail> {
-    are_run(&rt, rt.alloc(), BOUNDS)
-}
-
 const ORDER: &str = "
 check l p q | l = {lamps} (control {0})) & p = (problem p (init {1}) (goal {2})) & q = {3} | {4} | {5}
 {never} | {two} | - | - | 1 | ; disobeys
@@ -79,9 +69,14 @@ true | {two} | (on a) | (off a) (press a) | 1 | ; not executable 1
 (and) | {two} | (on a) | (press a) | 0 | ; valid
 (next (and)) | {two} | (on a) | (press a) | 0 | ; valid
 (next (or)) | {two} | (on a) | (press a) | 1 | ; disobeys
+true | {two} | (on a) (on b) | (press a) | 1 | ; goal unmet
+true | {two} | - |  (press -7) | 1 | ; not executable 1
+true | {two} | - | {5 (press a) (off a) }(press a) (press a) | 1 | ; not executable 12
 ";
 
 #[test]
-fn verdicts_come_in_their_order(rt: HostRuntime) -> Result<(), Fail> {
+fn plans_for_lamps_have_their_verdicts(rt: HostRuntime) -> Result<(), Stop> {
+    are_run(&rt, rt.alloc(), BELOW)?;
+    are_run(&rt, rt.alloc(), BOUNDS)?;
     are_run(&rt, rt.alloc(), ORDER)
 }

@@ -1,7 +1,7 @@
 // Plans of a domain with a definition that names itself down to a number of levels: the levels, the control formula, the initial world, the goal list, the plan, the status, and the verdict.
 
 use crate::run::are_run;
-use std::test::Fail;
+use crate::stop::Stop;
 
 const LEVELS: &str = "
 check r p q | r = (domain r (predicate edge 2) (predicate won 0) (defined {0} {reach}) {walks} (control {1})) & p = (problem p (init {2}) (goal {3})) & q = {4} | {5} | {6}
@@ -23,6 +23,6 @@ check r p q | r = (domain r (predicate edge 2) (predicate won 0) (defined {0} {r
 ";
 
 #[test]
-fn definitions_are_read_at_their_levels(rt: HostRuntime) -> Result<(), Fail> {
+fn definitions_are_read_at_their_levels(rt: HostRuntime) -> Result<(), Stop> {
     are_run(&rt, rt.alloc(), LEVELS)
 }

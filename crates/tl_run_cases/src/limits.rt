@@ -2,9 +2,9 @@
 
 use crate::checks::{are_bytes, is_true};
 use crate::run::{answer_to, are_run, is_run};
+use crate::stop::Stop;
 use std::alloc::Global;
 use std::process::Abort;
-use std::test::Fail;
 use tl_gen::sample;
 use tl_outside::{FileList, MemorySink, MemoryStore, Numbers};
 
@@ -12,15 +12,11 @@ use tl_outside::{FileList, MemorySink, MemoryStore, Numbers};
 const LENGTHS: &str = "
 check d p q | d = {0} & p = {1} & q = {2} | {3} | {4}
 {4194304  } | {one problem} | (lit) | 3 | ; refused file 1 rule 10 at 0
+{99 (}{1048526 abc }{2  }{99 )} | {one problem} | (lit) | 3 | ; refused file 1 rule 10 at 0
 {4194305  } | {one problem} | (lit) | 3 | ; refused file 1 rule 6 at 4194304
 {one domain} | {4194305  } | (lit) | 3 | ; refused file 2 rule 6 at 4194304
 {one domain} | {one problem} | {4194305  } | 3 | ; refused file 3 rule 6 at 4194304
 ";
-
-#[test]
-fn files_are_long_to_their_limit(rt: HostRuntime) -> Result<(), Fail> {
-    are_run(&rt, rt.alloc(), LENGTHS)
-}
 
 /// Rows of the three files, the status, and the output.
 const LIMITS: &str = "
@@ -37,13 +33,8 @@ check d p q | d = {0} & p = {1} & q = {2} | {3} | {4}
 (domain d (predicate p 1)) | (problem q (init {4097 (p a)}) (goal)) | - | 3 | ; refused file 2 rule 19 at 11
 ";
 
-#[test]
-fn lists_and_facts_have_their_limits(rt: HostRuntime) -> Result<(), Fail> {
-    are_run(&rt, rt.alloc(), LIMITS)
-}
-
 /// Puts at the end so many quantifiers, one below the other.
-fn put_quantifiers(times: u32, out: &mut String) -> Result<(), Fail> {
+fn put_quantifiers(times: u32, out: &mut String) -> Result<(), Stop> {
     for k in 0..times {
         write!(out, "(exists (?v{k}) (p ?v{k}) ")?;
     }
@@ -51,7 +42,7 @@ fn put_quantifiers(times: u32, out: &mut String) -> Result<(), Fail> {
 }
 
 /// Puts at the end so many closing parentheses.
-fn put_closing(times: u32, out: &mut String) -> Result<(), Fail> {
+fn put_closing(times: u32, out: &mut String) -> Result<(), Stop> {
     for _ in 0..times {
         out.push_str(")")?;
     }
@@ -59,7 +50,7 @@ fn put_closing(times: u32, out: &mut String) -> Result<(), Fail> {
 }
 
 /// Puts at the end a definition of 23 formulas round the one before, or round `true`.
-fn put_definition(k: u32, out: &mut String) -> Result<(), Fail> {
+fn put_definition(k: u32, out: &mut String) -> Result<(), Stop> {
     write!(out, " (define (d{k}) ")?;
     put_quantifiers(23, out)?;
     match k.checked_sub(1) {
@@ -70,7 +61,7 @@ fn put_definition(k: u32, out: &mut String) -> Result<(), Fail> {
 }
 
 /// Puts at the end a definition of 64 levels, of 22 formulas round itself and the last of the others, and the control formula.
-fn put_levels(out: &mut String) -> Result<(), Fail> {
+fn put_levels(out: &mut String) -> Result<(), Stop> {
     out.push_str(" (defined 64 (e) ")?;
     put_quantifiers(22, out)?;
     out.push_str("(or (e) (d62))")?;
@@ -80,7 +71,7 @@ fn put_levels(out: &mut String) -> Result<(), Fail> {
 }
 
 /// A domain whose control formula is evaluated as deep as any: 63 definitions, each round the one before, and one of 64 levels.
-fn deep_domain(alloc: Global) -> Result<String, Fail> {
+fn deep_domain(alloc: Global) -> Result<String, Stop> {
     let mut text = String::from_str(alloc, "(domain deep (predicate p 1)")?;
     for k in 0..63 {
         put_definition(k, &mut text)?;
@@ -94,13 +85,13 @@ const DEEP: &str =
     "check d p q | d = {0} & p = (problem deep (init (p a)) (goal (p a))) & q = - | 0 | ; valid";
 
 #[test]
-fn the_deepest_evaluation_has_its_stack(rt: HostRuntime) -> Result<(), Fail> {
+fn the_deepest_evaluation_has_its_stack(rt: HostRuntime) -> Result<(), Stop> {
     let domain = deep_domain(rt.alloc())?;
     is_run(&rt, rt.alloc(), DEEP, domain.as_str())
 }
 
 /// A domain with an operator of so many bounds, each the same.
-fn domain_of_bounds(alloc: Global, bounds: usize) -> Result<String, Fail> {
+fn domain_of_bounds(alloc: Global, bounds: usize) -> Result<String, Stop> {
     let mut text = String::from_str(
         alloc,
         "(domain d (predicate p 0) (predicate q 0) (operator (go) (bounds",
@@ -117,13 +108,13 @@ const MANY_BOUNDS: &str =
     "plan depth 1 10 d p | d = {0} & p = (problem d (init (p)) (goal (q))) | 0 | ; plan of 1 actions / (go)";
 
 #[test]
-fn two_hundred_thousand_bounds_need_no_stack(rt: HostRuntime) -> Result<(), Fail> {
+fn two_hundred_thousand_bounds_need_no_stack(rt: HostRuntime) -> Result<(), Stop> {
     let domain = domain_of_bounds(rt.alloc(), 200_000)?;
     is_run(&rt, rt.alloc(), MANY_BOUNDS, domain.as_str())
 }
 
 /// A store of a domain file of these bytes, a problem file, and an empty plan.
-fn store_with(alloc: Global, domain: &[u8], problem: &[u8]) -> Result<MemoryStore, Fail> {
+fn store_with(alloc: Global, domain: &[u8], problem: &[u8]) -> Result<MemoryStore, Stop> {
     let mut files = FileList::new(alloc);
     files.add("d", domain)?;
     files.add("p", problem)?;
@@ -138,7 +129,7 @@ fn is_judged<R: Abort>(
     domain: &[u8],
     problem: &[u8],
     (status, text): (u8, &str),
-) -> Result<(), Fail> {
+) -> Result<(), Stop> {
     let mut store = store_with(alloc, domain, problem)?;
     let mut out = MemorySink::new(alloc, 100, 100, Numbers::new(alloc))?;
     let found = answer_to(alloc, "check d p q", &mut store, &mut out)?;
@@ -159,7 +150,7 @@ fn answer_for(k: usize, whole: usize) -> (u8, &'static str) {
 }
 
 #[test]
-fn each_prefix_of_a_domain_is_judged(rt: HostRuntime) -> Result<(), Fail> {
+fn each_prefix_of_a_domain_is_judged(rt: HostRuntime) -> Result<(), Stop> {
     let alloc = rt.alloc();
     let texts = sample(alloc, 2)?;
     let whole = texts.domain.as_slice();
@@ -173,4 +164,10 @@ fn each_prefix_of_a_domain_is_judged(rt: HostRuntime) -> Result<(), Fail> {
         )?;
     }
     Ok(())
+}
+
+#[test]
+fn files_have_their_limits(rt: HostRuntime) -> Result<(), Stop> {
+    are_run(&rt, rt.alloc(), LENGTHS)?;
+    are_run(&rt, rt.alloc(), LIMITS)
 }

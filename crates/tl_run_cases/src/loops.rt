@@ -1,7 +1,7 @@
 // Plans with a repeated part: the verdicts on them, operations past range, and their files.
 
 use crate::run::are_run;
-use std::test::Fail;
+use crate::stop::Stop;
 
 /// Rows of the items of the domain after those of the lamps, the initial world, the goal list and the plan file; then the status, and the output.
 const VERDICTS: &str = "
@@ -21,6 +21,7 @@ check-loop l p q | l = {lamps} {0}) & p = (problem p (init {1}) (goal {2})) & q 
 # actions are counted through both parts
 - | (lamp a) | - | (off a) (repeat (press a) (off a)) | 1 | ; not executable 1
 - | {two} | - | (press a) (repeat (press b) (press a)) | 1 | ; not executable 3
+- | (lamp a) | - | {5 (press a) (off a) }(press a) (repeat (press a)) | 1 | ; not executable 12
 # the first verdict in the order is told
 (control false) | (lamp a) | (on b) | (repeat (press a) (press a)) | 1 | ; not executable 2
 (control false) | (lamp a) | (on b) | (repeat (press a)) | 1 | ; not closed
@@ -54,11 +55,6 @@ check-loop l p q | l = {lamps} {0}) & p = (problem p (init {1}) (goal {2})) & q 
 - | (lamp a) | - | ; first{lf}(press a); on{lf}(off a){lf}(repeat ; for ever{lf}(press a){lf}(off a)){lf} | 0 | ; valid for ever
 ";
 
-#[test]
-fn plans_with_a_repeated_part_get_their_verdicts(rt: HostRuntime) -> Result<(), Fail> {
-    are_run(&rt, rt.alloc(), VERDICTS)
-}
-
 /// Rows of the items of a domain with a counter, its value, the goal list and the plan file; then the status, and the output.
 const RANGES: &str = "
 check-loop c p q | c = (domain c (function n 0) {0}) & p = (problem p (init (= (n) {1})) (goal {2})) & q = {3} | {4} | {5}
@@ -78,11 +74,6 @@ check-loop c p q | c = (domain c (function n 0) {0}) & p = (problem p (init (= (
 (operator (tick) (effects (set (n) (+ (n) 1)))) (control (always (< (+ (n) 1) 5))) | 9223372036854775806 | - | (repeat (tick)) | 1 | ; not closed
 (operator (wait) (effects)) (control (always (< (+ (n) 1) 5))) | 9223372036854775807 | (= (n) 0) | (repeat (wait)) | 1 | ; goal unmet
 ";
-
-#[test]
-fn operations_past_range_end_checks_of_repeated_parts(rt: HostRuntime) -> Result<(), Fail> {
-    are_run(&rt, rt.alloc(), RANGES)
-}
 
 /// Rows of words, over two lamps, their problem and a plan with a repeated part; then the status, and the output.
 const WORDS: &str = "
@@ -106,11 +97,6 @@ check-loop l q other | 3 | ; refused file 2 rule 10 at 0
 check-loop p p other | 3 | ; refused file 1 rule 10 at 0
 ";
 
-#[test]
-fn words_of_repeated_parts_are_read(rt: HostRuntime) -> Result<(), Fail> {
-    are_run(&rt, rt.alloc(), WORDS)
-}
-
 /// Rows of a plan file, over a domain whose one action is called `repeat` and changes nothing; then the status, and the output.
 const NAMED_REPEAT: &str = "
 check-loop r p q | r = (domain r (operator (repeat) (effects))) & p = (problem p (init) (goal)) & q = {0} | {1} | {2}
@@ -120,11 +106,6 @@ check-loop r p q | r = (domain r (operator (repeat) (effects))) & p = (problem p
 (repeat) | 3 | ; refused file 3 rule 10 at 0
 (repeat) (repeat) | 3 | ; refused file 3 rule 10 at 9
 ";
-
-#[test]
-fn an_action_may_be_called_repeat(rt: HostRuntime) -> Result<(), Fail> {
-    are_run(&rt, rt.alloc(), NAMED_REPEAT)
-}
 
 /// Rows of a plan file for two lamps, and the output.
 const REFUSALS: &str = "
@@ -167,6 +148,10 @@ press (repeat (off a)) | ; refused file 3 rule 10 at 0
 ";
 
 #[test]
-fn plans_with_a_repeated_part_are_refused(rt: HostRuntime) -> Result<(), Fail> {
+fn plans_with_a_repeated_part_have_their_answers(rt: HostRuntime) -> Result<(), Stop> {
+    are_run(&rt, rt.alloc(), VERDICTS)?;
+    are_run(&rt, rt.alloc(), RANGES)?;
+    are_run(&rt, rt.alloc(), WORDS)?;
+    are_run(&rt, rt.alloc(), NAMED_REPEAT)?;
     are_run(&rt, rt.alloc(), REFUSALS)
 }

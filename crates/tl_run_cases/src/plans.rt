@@ -1,7 +1,7 @@
 // Breadth-first searches for plans of lamps, of counters and of a robot: the most actions, the most search nodes, and what the table says; then the status, and the output.
 
 use crate::run::are_run;
-use std::test::Fail;
+use crate::stop::Stop;
 
 /// Rows of the most actions, the most search nodes, the control item, the initial world and the goal list; then the status, and the output.
 const LAMPS: &str = "
@@ -30,11 +30,6 @@ plan breadth {0} {1} l p | l = {lamps} {2}) & p = (problem p (init {3}) (goal {4
 5 | 100 | (control (within 1 (on b))) | {two} | (on a) | 0 | ; plan of 2 actions / (press b) / (press a)
 5 | 100 | - | {two} (on b) | (on a) (not (on b)) | 0 | ; plan of 2 actions / (press a) / (off b)
 ";
-
-#[test]
-fn shortest_plans_are_found(rt: HostRuntime) -> Result<(), Fail> {
-    are_run(&rt, rt.alloc(), LAMPS)
-}
 
 /// Rows of the most actions, the most search nodes, the control item and the goal list, for two lamps; then the status, and the output.
 const BOUNDS: &str = "
@@ -65,11 +60,6 @@ plan breadth {0} {1} l p | l = {lamps} {2}) & p = (problem p (init {two}) (goal 
 3 | 4 | - | (on c) | 1 | ; none
 ";
 
-#[test]
-fn bounds_are_exact(rt: HostRuntime) -> Result<(), Fail> {
-    are_run(&rt, rt.alloc(), BOUNDS)
-}
-
 /// Rows of the most actions, the items of a domain with a counter, its value and the goal list; then the status, and the output.
 const RANGES: &str = "
 plan breadth {0} 10 c p | c = (domain c (function n 0) {1}) & p = (problem p (init (= (n) {2})) (goal {3})) | {4} | {5}
@@ -83,11 +73,6 @@ plan breadth {0} 10 c p | c = (domain c (function n 0) {1}) & p = (problem p (in
 5 | (operator (tick) (effects (set (n) (+ (n) 1)))) (control (always (not (= (+ (n) 1) 0)))) | 9223372036854775806 | (= (n) 0) | 4 | ; range at 98: 9223372036854775807 + 1 / ; after 1 actions / (tick)
 5 | (control (next (not (= (+ (n) 1) 0)))) | 9223372036854775807 | - | 4 | ; range at 48: 9223372036854775807 + 1 / ; after 0 actions
 ";
-
-#[test]
-fn operations_past_range_end_a_search(rt: HostRuntime) -> Result<(), Fail> {
-    are_run(&rt, rt.alloc(), RANGES)
-}
 
 /// Rows of the mode and the two numbers; then the status, and the output.
 const WORDS: &str = "
@@ -111,11 +96,6 @@ wide 5 10 | 8 | -
 Breadth 5 10 | 8 | -
 ";
 
-#[test]
-fn words_of_a_search_are_read(rt: HostRuntime) -> Result<(), Fail> {
-    are_run(&rt, rt.alloc(), WORDS)
-}
-
 /// Rows of the words and the files, of which some are refused or missing, or fail; then the status, and the output, and what fails.
 const OUTSIDE: &str = "
 plan breadth 5 100 {0} | l = {lamps}) & p = {ab} & e = - | {1} | {2} | {3}
@@ -128,11 +108,6 @@ l e | 3 | ; refused file 2 rule 10 at 0 | -
 e q | 3 | ; refused file 1 rule 10 at 0 | -
 ";
 
-#[test]
-fn files_of_a_search_are_read_in_turn(rt: HostRuntime) -> Result<(), Fail> {
-    are_run(&rt, rt.alloc(), OUTSIDE)
-}
-
 /// Rows of the most actions and the problem, for a robot that carries balls; then the status, and the output.
 const BALLS: &str = "
 plan breadth {0} 20000 g p | g = {gripper} (control {useful})) & p = {1} | {2} | {3}
@@ -143,6 +118,11 @@ plan breadth {0} 20000 g p | g = {gripper} (control {useful})) & p = {1} | {2} |
 ";
 
 #[test]
-fn balls_are_carried_by_shortest_plans(rt: HostRuntime) -> Result<(), Fail> {
+fn breadth_first_searches_have_their_answers(rt: HostRuntime) -> Result<(), Stop> {
+    are_run(&rt, rt.alloc(), LAMPS)?;
+    are_run(&rt, rt.alloc(), BOUNDS)?;
+    are_run(&rt, rt.alloc(), RANGES)?;
+    are_run(&rt, rt.alloc(), WORDS)?;
+    are_run(&rt, rt.alloc(), OUTSIDE)?;
     are_run(&rt, rt.alloc(), BALLS)
 }

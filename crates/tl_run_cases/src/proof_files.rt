@@ -1,7 +1,7 @@
 // Proofs that there is no plan: what a search leaves, and the verdicts on proof files.
 
 use crate::run::are_run;
-use std::test::Fail;
+use crate::stop::Stop;
 
 /// Rows of the most actions, the most search nodes, the control item, the initial world and the goal list; then the status, and the output.
 const PROVED: &str = "
@@ -29,11 +29,6 @@ prove-none {0} {1} l p | l = {lamps} {2}) & p = (problem p (init {3}) (goal {4})
 5 | 3 | - | {two} | (on a) (on b) | 2 | ; spent 3
 ";
 
-#[test]
-fn searches_leave_proofs(rt: HostRuntime) -> Result<(), Fail> {
-    are_run(&rt, rt.alloc(), PROVED)
-}
-
 /// Rows of the most actions, the items of a domain with a counter, its value and the goal list; then the status, and the output.
 const RANGES: &str = "
 prove-none {0} 10 c p | c = (domain c (function n 0) {1}) & p = (problem p (init (= (n) {2})) (goal {3})) | {4} | {5}
@@ -42,11 +37,6 @@ prove-none {0} 10 c p | c = (domain c (function n 0) {1}) & p = (problem p (init
 # the operation is not looked at within the bound
 1 | (operator (tick) (effects (set (n) (+ (n) 1)))) | 9223372036854775806 | (= (n) 0) | 0 | (none-within 1) / (pair 0 (tick))
 ";
-
-#[test]
-fn operations_past_range_leave_no_proof(rt: HostRuntime) -> Result<(), Fail> {
-    are_run(&rt, rt.alloc(), RANGES)
-}
 
 /// Rows of words, over two lamps, their problem and a proof that is open; then the status, and the output.
 const WORDS: &str = "
@@ -80,16 +70,12 @@ check-none l q other | 3 | ; refused file 2 rule 10 at 0
 check-none p p other | 3 | ; refused file 1 rule 10 at 0
 ";
 
-#[test]
-fn words_of_proofs_are_read(rt: HostRuntime) -> Result<(), Fail> {
-    are_run(&rt, rt.alloc(), WORDS)
-}
-
 /// Rows of the control item, the initial world, the goal list and the proof file; then the status, and the output.
 const VERDICTS: &str = "
 check-none l p q | l = {lamps} {0}) & p = (problem p (init {1}) (goal {2})) & q = {3} | {4} | {5}
 # what the searches left
 (control (always (not (on b)))) | {two} | (on a) (on b) | (none){lf}(pair 0 (press a)){lf} | 0 | ; proved none
+(control (always (not (on b)))) | {two} | (on a) (on b) | (none-within 100000) (pair 0 (press a)) | 0 | ; proved none within 100000
 - | {two} | (on a) (on b) | (none-within 1){lf}(pair 0 (press a)){lf}(pair 0 (press b)){lf} | 0 | ; proved none within 1
 - | {two} | (on a) (on b) | (none-within 0){lf} | 0 | ; proved none within 0
 - | {two} | (on c) | (none-within 2) (pair 0 (press a)) (pair 0 (press b)) (pair 1 (press b)) | 0 | ; proved none within 2
@@ -106,14 +92,20 @@ check-none l p q | l = {lamps} {0}) & p = (problem p (init {1}) (goal {2})) & q 
 (control (always (not (on b)))) | {two} | (on a) (on b) | (none) (pair 0 (press a)) (pair 1 (press b)) | 1 | ; bad link 2
 - | {two} | (on a) (on b) | (none) (pair 0 (press a)) (pair 0 (press a)) | 1 | ; bad link 2
 - | {two} | (on a) (on b) | (none) (pair 0 (press a)) (pair 1 (off a)) | 1 | ; bad link 2
+(control (always (not (on b)))) | {two} | (on a) (on b) | (none) (pair 0 (press b)) | 1 | ; bad link 1
+- | {three} | (on d) | (none) (pair 0 (press a)) (pair 0 (press b)) (pair 0 (press c)) (pair 1 (press b)) (pair 1 (press c)) (pair 2 (press c)) (pair 3 (press a)) | 1 | ; bad link 7
 # accepted: a pair at the bound, the root, and a pair before one that is open
 - | {two} | (on a) | (none-within 1) (pair 0 (press b)) (pair 0 (press a)) | 1 | ; accepts 2
 - | {two} | - | (none-within 0) | 1 | ; accepts 0
 - | {two} | (on b) | (none) (pair 0 (press a)) (pair 0 (press b)) | 1 | ; open 1 (press b)
 - | {two} | (on a) | (none) (pair 0 (press a)) (pair 0 (press b)) | 1 | ; accepts 1
+- | {two} | (on a) (on b) | (none-within 2) (pair 0 (press a)) (pair 1 (press b)) (pair 0 (press b)) | 1 | ; accepts 2
+- | {two} | (on a) | (none-within 1) (pair 0 (press a)) (pair 0 (press b)) | 1 | ; accepts 1
+- | {two} | - | (none) | 1 | ; accepts 0
 # the root is pruned
 (control (always false)) | {two} | (on a) | (none) | 0 | ; proved none
 (control (always false)) | {two} | - | (none-within 100000) | 0 | ; proved none within 100000
+(control (always false)) | {two} | - | (none-within 3) | 0 | ; proved none within 3
 (control (always false)) | {two} | (on a) | (none) (pair 0 (press a)) | 1 | ; bad link 1
 # links out of the order of a search: with a bound a successor has to be listed by a path that is short enough
 (control (always (not (on b)))) | {three} | (on b) | (none) (pair 0 (press a)) (pair 1 (press c)) (pair 2 (off a)) | 0 | ; proved none
@@ -124,11 +116,6 @@ check-none l p q | l = {lamps} {0}) & p = (problem p (init {1}) (goal {2})) & q 
 # as many bytes as there may be
 (control (always false)) | {two} | - | (none){4194298  } | 0 | ; proved none
 ";
-
-#[test]
-fn proof_files_have_their_verdicts(rt: HostRuntime) -> Result<(), Fail> {
-    are_run(&rt, rt.alloc(), VERDICTS)
-}
 
 /// Rows of the items of a domain with a counter, its value, the goal list and the proof file; then the status, and the output.
 const FAULTS: &str = "
@@ -141,16 +128,14 @@ check-none c p q | c = (domain c (function n 0) {0}) & p = (problem p (init (= (
 (operator (tick) (effects (set (n) (+ (n) 1)))) | 9223372036854775806 | (= (n) 0) | (none-within 1) (pair 0 (tick)) | 0 | ; proved none within 1
 # when the root is listed, after an action, and in the idling check
 (control (always (< (+ (n) 1) 5))) | 9223372036854775807 | - | (none) | 4 | ; range at 45: 9223372036854775807 + 1 / ; after 0 actions
+(control (< (+ (n) 1) 9)) | 9223372036854775807 | - | (none) | 4 | ; range at 37: 9223372036854775807 + 1 / ; after 0 actions
 (operator (tick) (effects (set (n) (+ (n) 1)))) (control (always (not (= (+ (n) 1) 0)))) | 9223372036854775806 | (= (n) 0) | (none) | 4 | ; range at 98: 9223372036854775807 + 1 / ; after 1 actions / (tick)
 (control (next (not (= (+ (n) 1) 0)))) | 9223372036854775807 | - | (none) | 4 | ; range at 48: 9223372036854775807 + 1 / ; after 0 actions
 # an accepted pair is told before a later one at which an operation is past range
 (operator (tick) (effects (set (n) (+ (n) 1)))) | 9223372036854775806 | - | (none) (pair 0 (tick)) | 1 | ; accepts 0
+# numbers of two digits
+(operator (tick ?x) (bounds (= (n) ?x)) (effects (set (n) (+ ?x 1)))) | 0 | (= (n) -1) | (none) (pair 0 (tick 0)) (pair 1 (tick 1)) (pair 2 (tick 2)) (pair 3 (tick 3)) (pair 4 (tick 4)) (pair 5 (tick 5)) (pair 6 (tick 6)) (pair 7 (tick 7)) (pair 8 (tick 8)) (pair 9 (tick 9)) (pair 10 (tick 10)) (pair 11 (tick 11)) | 1 | ; open 12 (tick 12)
 ";
-
-#[test]
-fn operations_past_range_end_checks_of_proofs(rt: HostRuntime) -> Result<(), Fail> {
-    are_run(&rt, rt.alloc(), FAULTS)
-}
 
 /// Rows of a proof file for two lamps, and the output.
 const REFUSALS: &str = "
@@ -172,6 +157,9 @@ none | ; refused file 3 rule 10 at 0
 (none) (pair a (press a)) | ; refused file 3 rule 10 at 7
 (none) (pair 0 ()) | ; refused file 3 rule 10 at 7
 (none) (pair 0 (1 a)) | ; refused file 3 rule 10 at 7
+(none) (pair 0 press) | ; refused file 3 rule 10 at 7
+(none) (pair 0 (press a) (press b)) | ; refused file 3 rule 10 at 7
+(none) (pair 0 (press ?x)) | ; refused file 3 rule 32 at 22
 (none) (none) | ; refused file 3 rule 10 at 7
 (none) (pair 1 (press a)) | ; refused file 3 rule 33 at 13
 (none) (pair -1 (press a)) | ; refused file 3 rule 33 at 13
@@ -181,6 +169,8 @@ none | ; refused file 3 rule 10 at 0
 (none) (pair 0 (press zz)) | ; refused file 3 rule 32 at 22
 # the least offset is told
 (none) (pair 1 (jump)) | ; refused file 3 rule 33 at 13
+(none) (pair 5 (jump)) | ; refused file 3 rule 33 at 13
+(none-within x) (pair 5 (jump)) | ; refused file 3 rule 10 at 0
 (none) (pair 0 (jump)) (pair 5 (jump)) | ; refused file 3 rule 30 at 15
 # too many links, and too many bytes
 (none){100001 (pair 0 (press a))} | ; refused file 3 rule 19 at 1800006
@@ -188,6 +178,11 @@ none | ; refused file 3 rule 10 at 0
 ";
 
 #[test]
-fn proof_files_are_refused(rt: HostRuntime) -> Result<(), Fail> {
+fn proofs_that_there_is_no_plan_have_their_answers(rt: HostRuntime) -> Result<(), Stop> {
+    are_run(&rt, rt.alloc(), PROVED)?;
+    are_run(&rt, rt.alloc(), RANGES)?;
+    are_run(&rt, rt.alloc(), WORDS)?;
+    are_run(&rt, rt.alloc(), VERDICTS)?;
+    are_run(&rt, rt.alloc(), FAULTS)?;
     are_run(&rt, rt.alloc(), REFUSALS)
 }

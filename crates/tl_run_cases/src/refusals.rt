@@ -1,7 +1,7 @@
 // A file for each rule.
 
 use crate::run::are_run;
-use std::test::Fail;
+use crate::stop::Stop;
 
 /// Rows of a domain file, and the output.
 const DOMAINS: &str = "
@@ -11,6 +11,15 @@ check d p q | d = {0} & p = {one problem} & q = (lit) | 3 | {1}
 ) | ; refused file 1 rule 2 at 0
 ( | ; refused file 1 rule 3 at 0
 9223372036854775808 | ; refused file 1 rule 5 at 0
+a \0 | ; refused file 1 rule 1 at 2
+é | ; refused file 1 rule 1 at 0
+[ | ; refused file 1 rule 1 at 0
+( \" 9223372036854775808 | ; refused file 1 rule 1 at 2
+(a)) \" | ; refused file 1 rule 2 at 3
+(a) (b (c) | ; refused file 1 rule 3 at 4
+(a ; ) | ; refused file 1 rule 3 at 0
+(a -9223372036854775809 | ; refused file 1 rule 5 at 3
+00000000000000000000099999999999999999999 \" | ; refused file 1 rule 5 at 0
 -9223372036854775808 | ; refused file 1 rule 10 at 0
 - | ; refused file 1 rule 10 at 0
 (domain d (control)) | ; refused file 1 rule 10 at 10
@@ -28,11 +37,6 @@ check d p q | d = {0} & p = {one problem} & q = (lit) | 3 | {1}
 (domain r (defined 40 (q) true) (defined 25 (s) true)) | ; refused file 1 rule 19 at 41
 ";
 
-#[test]
-fn domain_files_are_refused(rt: HostRuntime) -> Result<(), Fail> {
-    are_run(&rt, rt.alloc(), DOMAINS)
-}
-
 /// Rows of the three files, and the output.
 const LATER: &str = "
 check d p q | d = {0} & p = {1} & q = {2} | 3 | {3}
@@ -48,11 +52,6 @@ check d p q | d = {0} & p = {1} & q = {2} | 3 | {3}
 {one domain} | {one problem} | (lit a) | ; refused file 3 rule 31 at 0
 ";
 
-#[test]
-fn later_files_are_refused(rt: HostRuntime) -> Result<(), Fail> {
-    are_run(&rt, rt.alloc(), LATER)
-}
-
 /// Rows of a plan file for lamps, and the output.
 const PLANS: &str = "
 check l ab q | l = {lamps}) & ab = {ab} & q = {0} | 3 | {1}
@@ -62,6 +61,11 @@ check l ab q | l = {lamps}) & ab = {ab} & q = {0} | 3 | {1}
 (press zz) | ; refused file 3 rule 32 at 7
 (press a b) | ; refused file 3 rule 31 at 0
 (press (a)) | ; refused file 3 rule 32 at 7
+press | ; refused file 3 rule 10 at 0
+7 | ; refused file 3 rule 10 at 0
+() | ; refused file 3 rule 10 at 0
+((press) a) | ; refused file 3 rule 10 at 0
+(press a zz) | ; refused file 3 rule 31 at 0
 (press a) press | ; refused file 3 rule 10 at 10
 (press a) () | ; refused file 3 rule 10 at 10
 (press a) (7) | ; refused file 3 rule 10 at 10
@@ -70,6 +74,8 @@ check l ab q | l = {lamps}) & ab = {ab} & q = {0} | 3 | {1}
 ";
 
 #[test]
-fn plan_files_are_refused(rt: HostRuntime) -> Result<(), Fail> {
+fn files_are_refused_by_their_rules(rt: HostRuntime) -> Result<(), Stop> {
+    are_run(&rt, rt.alloc(), DOMAINS)?;
+    are_run(&rt, rt.alloc(), LATER)?;
     are_run(&rt, rt.alloc(), PLANS)
 }

@@ -6,9 +6,9 @@
 // - `store 64 fails 2 5` gives 64 bytes at once, and its calls 2 and 5 fail; `sink 4 fails 1` takes over four bytes at once, and its call 1 fails.
 
 use crate::checks::{are_bytes, is_true};
+use crate::stop::Stop;
 use std::alloc::Global;
 use std::process::Abort;
-use std::test::Fail;
 use tl_outside::{FileList, MemorySink, MemoryStore, Numbers};
 use tl_run::{Status, run};
 use tl_tables::{column, filled, is_row};
@@ -30,7 +30,7 @@ fn run_once(
 }
 
 /// The words of a text.
-fn words_of(alloc: Global, text: &str) -> Result<Vec<String>, Fail> {
+fn words_of(alloc: Global, text: &str) -> Result<Vec<String>, Stop> {
     let mut words = Vec::new(alloc);
     if !text.is_empty() {
         for word in text.split(' ') {
@@ -41,7 +41,7 @@ fn words_of(alloc: Global, text: &str) -> Result<Vec<String>, Fail> {
 }
 
 /// The files of a text. What braces stand for is put into their contents; `-` is an empty file.
-fn files_of(alloc: Global, text: &str) -> Result<FileList, Fail> {
+fn files_of(alloc: Global, text: &str) -> Result<FileList, Stop> {
     let mut files = FileList::new(alloc);
     for file in text.split(" & ") {
         if let Some((name, content)) = file.split_once(" = ") {
@@ -60,7 +60,7 @@ struct Script {
 }
 
 /// Puts the numbers of some words into a script: the first is `most`, and the others are numbers of calls.
-fn put_numbers(words: &str, script: &mut Script) -> Result<(), Fail> {
+fn put_numbers(words: &str, script: &mut Script) -> Result<(), Stop> {
     for (k, word) in words.split(' ').enumerate() {
         if let Ok(number) = word.parse::<u32>() {
             if k == 0 {
@@ -74,7 +74,7 @@ fn put_numbers(words: &str, script: &mut Script) -> Result<(), Fail> {
 }
 
 /// The script of the store or of the sink. Where none is given, no call fails.
-fn script_of(alloc: Global, who: &str, text: &str) -> Result<Script, Fail> {
+fn script_of(alloc: Global, who: &str, text: &str) -> Result<Script, Stop> {
     let mut script = Script {
         most: MOST,
         fails: Numbers::new(alloc),
@@ -89,20 +89,20 @@ fn script_of(alloc: Global, who: &str, text: &str) -> Result<Script, Fail> {
 }
 
 /// The store of the files of a text.
-pub(crate) fn store_of(alloc: Global, files: &str, outside: &str) -> Result<MemoryStore, Fail> {
+pub(crate) fn store_of(alloc: Global, files: &str, outside: &str) -> Result<MemoryStore, Stop> {
     let script = script_of(alloc, "store", outside)?;
     let files = files_of(alloc, files)?;
     Ok(MemoryStore::new(files, script.most.max(1), script.fails))
 }
 
 /// A sink with room for every answer.
-fn sink_of(alloc: Global, outside: &str) -> Result<MemorySink, Fail> {
+fn sink_of(alloc: Global, outside: &str) -> Result<MemorySink, Stop> {
     let script = script_of(alloc, "sink", outside)?;
     Ok(MemorySink::new(alloc, ROOM, script.most.max(1), script.fails)?)
 }
 
 /// The bytes of an output, by its lines.
-pub(crate) fn output_of(alloc: Global, lines: &str) -> Result<String, Fail> {
+pub(crate) fn output_of(alloc: Global, lines: &str) -> Result<String, Stop> {
     let mut out = String::new(alloc);
     if !lines.is_empty() {
         for line in lines.split(" / ") {
@@ -121,13 +121,13 @@ pub(crate) fn answer_to(
     words: &str,
     store: &mut MemoryStore,
     out: &mut MemorySink,
-) -> Result<Status, Fail> {
+) -> Result<Status, Stop> {
     let words = words_of(alloc, words)?;
     Ok(run_once(alloc, words.as_slice(), store, out))
 }
 
 /// Compares a status with the number of a text.
-fn has_number<R: Abort>(rt: &R, status: Status, number: &str, row: &str) -> Result<(), Fail> {
+fn has_number<R: Abort>(rt: &R, status: Status, number: &str, row: &str) -> Result<(), Stop> {
     is_true(rt, status.number() == number.parse::<u8>()?, row);
     Ok(())
 }
@@ -139,7 +139,7 @@ fn has_lines<R: Abort>(
     out: &MemorySink,
     lines: &str,
     row: &str,
-) -> Result<(), Fail> {
+) -> Result<(), Stop> {
     let wanted = output_of(alloc, lines)?;
     are_bytes(rt, out.held(), wanted.as_bytes(), row);
     Ok(())
@@ -152,7 +152,7 @@ pub(crate) fn is_answered<R: Abort>(
     line: &str,
     store: &mut MemoryStore,
     row: &str,
-) -> Result<(), Fail> {
+) -> Result<(), Stop> {
     let mut out = sink_of(alloc, column(line, 4))?;
     let status = answer_to(alloc, column(line, 0), store, &mut out)?;
     has_lines(rt, alloc, &out, column(line, 3), row)?;
@@ -160,7 +160,7 @@ pub(crate) fn is_answered<R: Abort>(
 }
 
 /// Compares the answer for a row of a table.
-pub(crate) fn is_run<R: Abort>(rt: &R, alloc: Global, form: &str, row: &str) -> Result<(), Fail> {
+pub(crate) fn is_run<R: Abort>(rt: &R, alloc: Global, form: &str, row: &str) -> Result<(), Stop> {
     let line = filled(alloc, form, row)?;
     let line = line.as_str();
     let mut store = store_of(alloc, column(line, 1), column(line, 4))?;
@@ -178,7 +178,7 @@ fn first_row(table: &str) -> &str {
 }
 
 /// Goes over the rows of a table that come after its first.
-pub(crate) fn are_run<R: Abort>(rt: &R, alloc: Global, table: &str) -> Result<(), Fail> {
+pub(crate) fn are_run<R: Abort>(rt: &R, alloc: Global, table: &str) -> Result<(), Stop> {
     let form = first_row(table);
     for row in table.lines() {
         if is_row(row) && row != form {

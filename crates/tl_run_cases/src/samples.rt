@@ -3,9 +3,9 @@ ghost use Rattle.std.specs.Prelude.{◌≤◌};
 
 use crate::checks::is_true;
 use crate::run::{are_run, is_answered};
+use crate::stop::Stop;
 use std::alloc::Global;
 use std::process::Abort;
-use std::test::Fail;
 use tl_gen::{Texts, sample};
 use tl_outside::{FileList, MemoryStore, Numbers};
 use tl_tables::is_row;
@@ -29,12 +29,12 @@ x | 8 | - | -
 ";
 
 #[test]
-fn samples_are_searched_and_checked(rt: HostRuntime) -> Result<(), Fail> {
+fn samples_are_searched_and_checked(rt: HostRuntime) -> Result<(), Stop> {
     are_run(&rt, rt.alloc(), SAMPLES)
 }
 
 /// A store of two texts, under the names d and p, and of an empty plan, under q.
-fn store_of(alloc: Global, texts: &Texts) -> Result<MemoryStore, Fail> {
+fn store_of(alloc: Global, texts: &Texts) -> Result<MemoryStore, Stop> {
     let mut files = FileList::new(alloc);
     files.add("d", texts.domain.as_slice())?;
     files.add("p", texts.problem.as_slice())?;
@@ -49,7 +49,7 @@ plan depth 18 20000 d p | - | 0 | ; plan of 17 actions / (pick b0001 rooma left)
 ";
 
 #[test]
-fn texts_of_a_sample_are_files(rt: HostRuntime) -> Result<(), Fail> {
+fn texts_of_a_sample_are_files(rt: HostRuntime) -> Result<(), Stop> {
     let texts = sample(rt.alloc(), 6)?;
     for row in SIX.lines() {
         if is_row(row) {
@@ -79,7 +79,7 @@ fn has_no_operation<R: Abort>(rt: &R, text: &[u8]) {
 const EMPTY_PLAN: &str = "check d p q | - | 1 | ; goal unmet";
 
 /// Fails where a text of the sample breaks a rule or has an arithmetic term.
-fn is_lawful<R: Abort>(rt: &R, alloc: Global, balls: u32) -> Result<(), Fail>
+fn is_lawful<R: Abort>(rt: &R, alloc: Global, balls: u32) -> Result<(), Stop>
     requires some { 1 ≤ balls }
     requires few { balls ≤ 100 }
 {
@@ -91,7 +91,7 @@ fn is_lawful<R: Abort>(rt: &R, alloc: Global, balls: u32) -> Result<(), Fail>
 }
 
 #[test]
-fn texts_of_every_sample_are_lawful(rt: HostRuntime) -> Result<(), Fail> {
+fn texts_of_every_sample_are_lawful(rt: HostRuntime) -> Result<(), Stop> {
     for balls in 1..101u32 {
         is_lawful(&rt, rt.alloc(), balls)?;
     }

@@ -1,7 +1,7 @@
 // Plans for lamps under `within` and `for`: the control formula, the initial world, the goal list, the plan, the status, and the verdict.
 
 use crate::run::are_run;
-use std::test::Fail;
+use crate::stop::Stop;
 
 const SPANS: &str = "
 check l p q | l = {lamps} (control {0})) & p = (problem p (init {1}) (goal {2})) & q = {3} | {4} | {5}
@@ -34,6 +34,6 @@ check l p q | l = {lamps} (control {0})) & p = (problem p (init {1}) (goal {2}))
 ";
 
 #[test]
-fn spans_of_states_are_counted(rt: HostRuntime) -> Result<(), Fail> {
+fn spans_of_states_are_counted(rt: HostRuntime) -> Result<(), Stop> {
     are_run(&rt, rt.alloc(), SPANS)
 }

@@ -1,7 +1,7 @@
 // Searches with their events: which search nodes are kept, seen again or pruned, with what is left of the control formula, and after them the lines of the outcome; then the status, and the output.
 
 use crate::run::are_run;
-use std::test::Fail;
+use crate::stop::Stop;
 
 /// Rows of the most actions, the most search nodes, the control item, the initial world and the goal list; then the status, and the output.
 const BREADTH: &str = "
@@ -13,6 +13,7 @@ trace breadth {0} {1} l p | l = {lamps} {2}) & p = (problem p (init {3}) (goal {
 5 | 100 | (control (within 1 (on b))) | {two} | (on a) (on b) | 0 | ; kept 0 / ; label (within 0 (on b)) / ; pruned 0 (press a) / ; kept 1 0 (press b) / ; label true / ; kept 2 1 (press a) / ; label true / ; plan of 2 actions / (press b) / (press a)
 # the root is pruned
 0 | 100 | (control (always false)) | {two} | (on a) (on b) | 1 | ; pruned / ; none
+5 | 100 | (control (always false)) | (lamp a) | - | 1 | ; pruned / ; none
 5 | 1 | (control (next false)) | {two} | (on a) | 1 | ; pruned / ; none
 5 | 100 | (control (next (next false))) | (lamp a) | (on a) | 1 | ; kept 0 / ; label (next false) / ; pruned 0 (press a) / ; none
 # the root is the plan, or waits for what is still to come
@@ -28,12 +29,23 @@ trace breadth {0} {1} l p | l = {lamps} {2}) & p = (problem p (init {3}) (goal {
 5 | 1 | - | {two} | (on a) (on b) | 2 | ; kept 0 / ; label true / ; kept 1 0 (press a) / ; label true / ; spent 1
 5 | 3 | - | {two} | (on c) | 2 | ; kept 0 / ; label true / ; kept 1 0 (press a) / ; label true / ; kept 2 0 (press b) / ; label true / ; kept 3 1 (press b) / ; label true / ; spent 3
 5 | 1 | (control (always (not (on a)))) | {two} | (on c) | 2 | ; kept 0 / ; label (always (not (on a))) / ; pruned 0 (press a) / ; kept 1 0 (press b) / ; label (always (not (on a))) / ; spent 1
+# what arrives from a search node on, where no goal ends the search
+5 | 100 | (control (always (forall (?x) (on ?x) (goal (on ?x))))) | {two} | (on b) (on c) | 1 | ; kept 0 / ; label (always (forall (?x) (on ?x) (goal (on ?x)))) / ; pruned 0 (press a) / ; kept 1 0 (press b) / ; label (always (forall (?x) (on ?x) (goal (on ?x)))) / ; pruned 1 (press a) / ; seen 0 1 (off b) / ; none
+# one world with two residuals, and which of them are accepted
+5 | 100 | (control (eventually (on a))) | (lamp a) | (on c) | 1 | ; kept 0 / ; label (eventually (on a)) / ; kept 1 0 (press a) / ; label true / ; kept 2 1 (off a) / ; label true / ; seen 1 2 (press a) / ; none
+5 | 100 | (control (eventually (on a))) | (lamp a) | - | 0 | ; kept 0 / ; label (eventually (on a)) / ; kept 1 0 (press a) / ; label true / ; plan of 1 actions / (press a)
+5 | 100 | (control (eventually (on a))) | (lamp a) | (not (on a)) | 0 | ; kept 0 / ; label (eventually (on a)) / ; kept 1 0 (press a) / ; label true / ; kept 2 1 (off a) / ; label true / ; plan of 2 actions / (press a) / (off a)
+# one residual with two worlds
+5 | 100 | (control true) | (lamp a) | (on c) | 1 | ; kept 0 / ; label true / ; kept 1 0 (press a) / ; label true / ; seen 0 1 (off a) / ; none
+5 | 100 | (control true) | (lamp a) | (on a) | 0 | ; kept 0 / ; label true / ; kept 1 0 (press a) / ; label true / ; plan of 1 actions / (press a)
+# the path by which a search node was met first
+5 | 100 | - | {two} | (on a) (on b) | 0 | ; kept 0 / ; label true / ; kept 1 0 (press a) / ; label true / ; kept 2 0 (press b) / ; label true / ; kept 3 1 (press b) / ; label true / ; plan of 2 actions / (press a) / (press b)
+# not pruned, though the formula is false if the plan stopped there
+5 | 100 | (control (always (forall (?x) (on ?x) (eventually (not (on ?x)))))) | (lamp a) | (on a) | 1 | ; kept 0 / ; label (always (forall (?x) (on ?x) (eventually (not (on ?x))))) / ; kept 1 0 (press a) / ; label (and (eventually (not (on a))) (always (forall (?x) (on ?x) (eventually (not (on ?x)))))) / ; seen 0 1 (off a) / ; none
+5 | 100 | (control (always (forall (?x) (on ?x) (eventually (not (on ?x)))))) | (lamp a) | - | 0 | ; kept 0 / ; label (always (forall (?x) (on ?x) (eventually (not (on ?x))))) / ; plan of 0 actions
+# the goal is met, and the residual does not hold for ever
+5 | 100 | (control (eventually (on b))) | (lamp a) | (on a) | 1 | ; kept 0 / ; label (eventually (on b)) / ; kept 1 0 (press a) / ; label (eventually (on b)) / ; seen 0 1 (off a) / ; none
 ";
-
-#[test]
-fn events_are_shown_breadth_first(rt: HostRuntime) -> Result<(), Fail> {
-    are_run(&rt, rt.alloc(), BREADTH)
-}
 
 /// Rows of the most actions, the most search nodes, the control item, the initial world and the goal list; then the status, and the output.
 const DEPTH: &str = "
@@ -50,11 +62,6 @@ trace depth {0} {1} l p | l = {lamps} {2}) & p = (problem p (init {3}) (goal {4}
 3 | 2 | - | {two} | (on c) | 2 | ; kept 0 / ; label true / ; kept 1 0 (press a) / ; label true / ; kept 2 1 (press b) / ; label true / ; spent 2
 ";
 
-#[test]
-fn events_are_shown_depth_first(rt: HostRuntime) -> Result<(), Fail> {
-    are_run(&rt, rt.alloc(), DEPTH)
-}
-
 /// Rows of the most actions, for a graph in which a search node is met again with more actions left; then the status, and the output.
 const WAYS: &str = "
 trace depth {0} 100 g p | g = (domain g (predicate here 1) (predicate edge 2) (operator (go ?x ?y) (bounds (here ?x) (edge ?x ?y)) (effects (del (here ?x)) (add (here ?y))))) & p = (problem p (init (here s) (edge s a) (edge a b) (edge b m) (edge s m) (edge m k) (edge k t)) (goal (here t))) | {1} | {2}
@@ -64,11 +71,6 @@ trace depth {0} 100 g p | g = (domain g (predicate here 1) (predicate edge 2) (o
 4 | 0 | ; kept 0 / ; label true / ; kept 1 0 (go s a) / ; label true / ; kept 2 1 (go a b) / ; label true / ; kept 3 2 (go b m) / ; label true / ; kept 4 3 (go m k) / ; label true / ; seen 3 0 (go s m) / ; seen 4 3 (go m k) / ; kept 5 4 (go k t) / ; label true / ; plan of 3 actions / (go s m) / (go m k) / (go k t)
 ";
 
-#[test]
-fn search_nodes_that_are_entered_again_are_seen(rt: HostRuntime) -> Result<(), Fail> {
-    are_run(&rt, rt.alloc(), WAYS)
-}
-
 /// Rows of the mode and the value of a counter; then the status, and the output. Where an operation is past range no event is shown.
 const RANGES: &str = "
 trace {0} 5 10 c p | c = (domain c (function n 0) (operator (tick) (effects (set (n) (+ (n) 1))))) & p = (problem p (init (= (n) {1})) (goal (= (n) 0))) | {2} | {3}
@@ -77,11 +79,6 @@ breadth | 9223372036854775806 | 4 | ; range at 60: 9223372036854775807 + 1 / ; a
 depth | 9223372036854775806 | 4 | ; range at 60: 9223372036854775807 + 1 / ; after 1 actions / (tick)
 depth | -2 | 0 | ; kept 0 / ; label true / ; kept 1 0 (tick) / ; label true / ; kept 2 1 (tick) / ; label true / ; plan of 2 actions / (tick) / (tick)
 ";
-
-#[test]
-fn operations_past_range_hide_the_events(rt: HostRuntime) -> Result<(), Fail> {
-    are_run(&rt, rt.alloc(), RANGES)
-}
 
 /// Rows of the words and the files, of which some are refused or missing, or fail; then the status, and the output, and what fails.
 const OUTSIDE: &str = "
@@ -102,7 +99,21 @@ breadth 5 100 e p | 3 | ; refused file 1 rule 10 at 0 | -
 depth 5 100 l e | 3 | ; refused file 2 rule 10 at 0 | -
 ";
 
+/// Rows of the items of a domain with a counter, its value and the goal list; then where an operation is past range: in the control formula, in an action, in the control formula after an action, and where the last state is repeated.
+const COUNTERS: &str = "
+trace breadth 5 10 c p | c = (domain c (function n 0) {0}) & p = (problem p (init (= (n) {1})) (goal {2})) | 4 | ; range at {3}
+(control (< (+ (n) 1) 9)) | 9223372036854775807 | - | 37: 9223372036854775807 + 1 / ; after 0 actions
+(operator (tick) (effects (set (n) (+ (n) 1)))) | 9223372036854775807 | (= (n) 0) | 60: 9223372036854775807 + 1 / ; after 0 actions
+(operator (tick) (effects (set (n) (+ (n) 1)))) (control (always (not (= (+ (n) 1) 0)))) | 9223372036854775806 | (= (n) 0) | 98: 9223372036854775807 + 1 / ; after 1 actions / (tick)
+(control (next (not (= (+ (n) 1) 0)))) | 9223372036854775807 | - | 48: 9223372036854775807 + 1 / ; after 0 actions
+";
+
 #[test]
-fn words_and_files_of_a_trace_are_read(rt: HostRuntime) -> Result<(), Fail> {
+fn searches_show_their_events(rt: HostRuntime) -> Result<(), Stop> {
+    are_run(&rt, rt.alloc(), BREADTH)?;
+    are_run(&rt, rt.alloc(), DEPTH)?;
+    are_run(&rt, rt.alloc(), WAYS)?;
+    are_run(&rt, rt.alloc(), RANGES)?;
+    are_run(&rt, rt.alloc(), COUNTERS)?;
     are_run(&rt, rt.alloc(), OUTSIDE)
 }

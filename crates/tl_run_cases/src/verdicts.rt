@@ -1,7 +1,7 @@
 // Verdicts, and operations past range: the domain, the problem, the plan, the status, and the output.
 
 use crate::run::are_run;
-use std::test::Fail;
+use crate::stop::Stop;
 
 const VERDICTS: &str = "
 check d p q | d = {0} & p = {1} & q = {2} | {3} | {4}
@@ -20,11 +20,6 @@ check d p q | d = {0} & p = {1} & q = {2} | {3} | {4}
 (domain w (function n 0) (operator (go) (effects (set (n) 3)))) | (problem p (init (= (n) 2) (= (n) 2)) (goal (= (n) 2) (= (n) 2))) | - | 0 | ; valid
 ";
 
-#[test]
-fn plans_get_their_verdicts(rt: HostRuntime) -> Result<(), Fail> {
-    are_run(&rt, rt.alloc(), VERDICTS)
-}
-
 const RANGES: &str = "
 check d p q | d = {0} & p = {1} & q = {2} | {3} | {4}
 (domain c (function n 0) (operator (tick) (effects (set (n) (+ (n) 1))))) | (problem p (init (= (n) 9223372036854775807)) (goal (= (n) 0))) | (tick) | 4 | ; range at 60: 9223372036854775807 + 1 / ; after 0 actions
@@ -42,6 +37,7 @@ check d p q | d = {0} & p = {1} & q = {2} | {3} | {4}
 ";
 
 #[test]
-fn operations_past_range_are_told(rt: HostRuntime) -> Result<(), Fail> {
+fn plans_have_their_verdicts(rt: HostRuntime) -> Result<(), Stop> {
+    are_run(&rt, rt.alloc(), VERDICTS)?;
     are_run(&rt, rt.alloc(), RANGES)
 }

@@ -1,7 +1,7 @@
 // Words, and the numbers of statuses.
 
 use crate::run::are_run;
-use std::test::Fail;
+use crate::stop::Stop;
 use tl_run::Status;
 
 /// Rows of words, the files, the status, and the output.
@@ -25,7 +25,7 @@ check d d q | d = (domain one) & q = - | 3 | ; refused file 2 rule 10 at 0
 ";
 
 #[test]
-fn words_are_a_command_or_none(rt: HostRuntime) -> Result<(), Fail> {
+fn words_are_a_command_or_none(rt: HostRuntime) -> Result<(), Stop> {
     are_run(&rt, rt.alloc(), WORDS)
 }
 

@@ -1,4 +1,4 @@
-//! Tables of worked cases: what the columns and the braces of a row stand for, and the tasks and texts that rows are compared by.
+//! Tables of worked cases: what the columns and the braces of a row stand for.
 //!
 //! A table is one text with a row on each line. A helper goes over the lines, and a failed assertion prints the row.
 //!
@@ -10,20 +10,10 @@
 //!
 //! The tables stand in crates of tests whose names end in `_cases`, by what they are about, so that a change proves no more of them than it concerns. What a row means stands above its table.
 //!
-//! - `rows`: columns, and what braces stand for. `named_texts`: the texts that have names. `forms`: the forms of a text. `tasks`: the domain, the problem and the task of texts. `answers`: values, worlds, notes, actions and faults as texts.
+//! - `rows`: columns, and what braces stand for. `named_texts`: the texts that have names.
 #![tactic(auto)]
 
-mod answers;
-mod forms;
 mod named_texts;
 mod rows;
-mod tasks;
 
-pub use answers::{
-    actions_text, fault_text, note_text, put_action, put_facts, put_name, put_places, put_tuple,
-    put_value, put_values, world_text,
-};
-pub use forms::forms_of;
-pub use named_texts::shared;
 pub use rows::{column, filled, is_row};
-pub use tasks::{domain_in, filled_domain, problem_answer, task_of};

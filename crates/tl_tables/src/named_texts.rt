@@ -1,22 +1,20 @@
 // The texts that rows name in braces.
 
-use std::test::Fail;
-
-/// The text of this name.
-pub fn shared(name: &str) -> Result<&'static str, Fail> {
+/// The text of this name. Where there is none it says so in braces, which no file may have.
+pub(crate) fn named(name: &str) -> &str {
     if name == "lf" {
-        return Ok("\n");
+        return "\n";
     }
     for block in texts().split("\n\n") {
         if let Some((head, text)) = block.split_once('\n') {
             if let Some((known, _)) = head.split_once(": ") {
                 if known == name {
-                    return Ok(text);
+                    return text;
                 }
             }
         }
     }
-    Err(Fail::new(format_args!("there is no text {name}")))
+    "{ there is no such text }"
 }
 
 /// Texts by name, each below a line of its name, a colon, and what it says; an empty line comes between two of them.
@@ -36,6 +34,12 @@ mixed facts: facts of one predicate, and places of one function, with other numb
 some lamps: lamps, of which one is on
 (lamp 10) (lamp a) (lamp -1) (lamp 2) (on a)
 
+all of it: each fact and each place of a world, as it is asked for in the next one
+(and (forall (?x) (p ?x) (next (p ?x))) (forall (?x ?y) (edge ?x ?y) (next (edge ?x ?y))) (forall (?x) (= (n) ?x) (next (= (n) ?x))) (forall (?x) (= (m) ?x) (next (= (m) ?x))))
+
+chain: 64 definitions, of which the first is true and each other one is the one before it
+(define (q0) true) (define (q1) (q0)) (define (q2) (q1)) (define (q3) (q2)) (define (q4) (q3)) (define (q5) (q4)) (define (q6) (q5)) (define (q7) (q6)) (define (q8) (q7)) (define (q9) (q8)) (define (q10) (q9)) (define (q11) (q10)) (define (q12) (q11)) (define (q13) (q12)) (define (q14) (q13)) (define (q15) (q14)) (define (q16) (q15)) (define (q17) (q16)) (define (q18) (q17)) (define (q19) (q18)) (define (q20) (q19)) (define (q21) (q20)) (define (q22) (q21)) (define (q23) (q22)) (define (q24) (q23)) (define (q25) (q24)) (define (q26) (q25)) (define (q27) (q26)) (define (q28) (q27)) (define (q29) (q28)) (define (q30) (q29)) (define (q31) (q30)) (define (q32) (q31)) (define (q33) (q32)) (define (q34) (q33)) (define (q35) (q34)) (define (q36) (q35)) (define (q37) (q36)) (define (q38) (q37)) (define (q39) (q38)) (define (q40) (q39)) (define (q41) (q40)) (define (q42) (q41)) (define (q43) (q42)) (define (q44) (q43)) (define (q45) (q44)) (define (q46) (q45)) (define (q47) (q46)) (define (q48) (q47)) (define (q49) (q48)) (define (q50) (q49)) (define (q51) (q50)) (define (q52) (q51)) (define (q53) (q52)) (define (q54) (q53)) (define (q55) (q54)) (define (q56) (q55)) (define (q57) (q56)) (define (q58) (q57)) (define (q59) (q58)) (define (q60) (q59)) (define (q61) (q60)) (define (q62) (q61)) (define (q63) (q62))
+
 one domain: a domain with one action that has no parameter
 (domain one (predicate on 1) (operator (lit) (effects (add (on a)))))
 
@@ -49,6 +53,12 @@ walks: what ends nowhere, an action that needs a way from a to d, and one that c
  (define (ends ?x) (not (exists (?y) (edge ?x ?y) true)))
  (operator (win) (pre (reach a d)) (effects (add (won))))
  (operator (cut ?x ?y) (bounds (edge ?x ?y)) (effects (del (edge ?x ?y))))
+
+places: lamps that are pressed and put off, what goes from place to place, and a count; without the last parenthesis
+(domain w (predicate lamp 1) (predicate on 1) (predicate at 1) (predicate step 2) (function n 0) (operator (press ?x) (bounds (lamp ?x)) (effects (add (on ?x)))) (operator (off ?x) (bounds (lamp ?x)) (effects (del (on ?x)))) (operator (go ?x ?y) (bounds (step ?x ?y)) (pre (at ?x)) (effects (del (at ?x)) (add (at ?y)))) (operator (wait) (effects)) (operator (tick) (effects (set (n) (+ (n) 1)))) (operator (back) (effects (set (n) 0)))
+
+steps: the steps from place to place
+(step s t) (step t a) (step a a) (step a b) (step b a) (step b c) (step c a) (step c d) (step d a) (step d e) (step e a)
 
 way: a way from a to d
 (edge a b) (edge b c) (edge c d)
