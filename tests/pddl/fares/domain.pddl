@@ -1,0 +1,11 @@
+; Costs: a constant for each action, also as a sum of two, and none for a walk.
+(define (domain fares)
+ (:requirements :typing :action-costs)
+ (:types place)
+ (:predicates (at ?p - place) (near ?p ?q - place) (bus ?p ?q - place) (train ?p ?q - place))
+ (:functions (total-cost) - number)
+ (:action walk :parameters (?p ?q - place) :precondition (and (at ?p) (near ?p ?q)) :effect (and (not (at ?p)) (at ?q)))
+ (:action ride :parameters (?p ?q - place) :precondition (and (at ?p) (bus ?p ?q))
+  :effect (and (increase (total-cost) 2) (not (at ?p)) (at ?q) (increase (total-cost) 1.0)))
+ (:action go-by-train :parameters (?p ?q - place) :precondition (and (at ?p) (train ?p ?q))
+  :effect (and (not (at ?p)) (at ?q) (increase (total-cost) 20))))

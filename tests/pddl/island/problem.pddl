@@ -1,0 +1,5 @@
+(define (problem far)
+ (:domain island)
+ (:objects a b c - port)
+ (:init (at a) (ferry a b) (ferry b a) (ferry c b))
+ (:goal (at c)))

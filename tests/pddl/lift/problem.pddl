@@ -1,0 +1,5 @@
+(define (problem three)
+ (:domain lift)
+ (:objects ann - guest bob - staff f1 f2 f3 - floor)
+ (:init (lift-at f1) (waits ann f1) (waits bob f2) (wants ann f3) (wants bob f3) (locked f3) (guide bob))
+ (:goal (and (served ann) (served bob))))

@@ -1,0 +1,6 @@
+(define (problem in-time)
+ (:domain rover)
+ (:objects a b c - place)
+ (:init (at a) (way a b) (way b c))
+ (:goal (at c))
+ (:constraints (within 5 (at c))))

@@ -1,0 +1,6 @@
+(define (problem after-then)
+ (:domain shifts)
+ (:objects g - guard a b - room)
+ (:init (in g a))
+ (:goal (alarm a))
+ (:constraints (and (sometime-after (alarm a) (lit b)) (sometime-before (lit b) (alarm b)))))

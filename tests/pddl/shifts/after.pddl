@@ -1,0 +1,6 @@
+(define (problem after)
+ (:domain shifts)
+ (:objects g - guard a b - room)
+ (:init (in g a))
+ (:goal (lit b))
+ (:constraints (hold-after 3 (in g a))))

@@ -1,0 +1,6 @@
+(define (problem always-within-short)
+ (:domain shifts)
+ (:objects g - guard a b - room)
+ (:init (in g a))
+ (:goal (alarm b))
+ (:constraints (forall (?r - room) (always-within 0 (alarm ?r) (exists (?x - guard) (in ?x ?r))))))

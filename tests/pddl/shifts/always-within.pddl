@@ -1,0 +1,6 @@
+(define (problem always-within)
+ (:domain shifts)
+ (:objects g - guard a b - room)
+ (:init (in g a))
+ (:goal (and (alarm b) (lit a)))
+ (:constraints (and (always-within 2 (alarm b) (in g b)) (at end (in g a)))))

@@ -1,0 +1,6 @@
+(define (problem at-start)
+ (:domain shifts)
+ (:objects g - guard a b - room)
+ (:init (in g a))
+ (:goal (and))
+ (:constraints (within 0 (lit a))))

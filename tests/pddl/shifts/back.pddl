@@ -1,0 +1,6 @@
+(define (problem back)
+ (:domain shifts)
+ (:objects g - guard a b - room)
+ (:init (in g a))
+ (:goal (lit b))
+ (:constraints (and (at-most-once (in g a)) (at end (in g a)) (sometime (in g b)))))

@@ -1,0 +1,6 @@
+(define (problem before-same)
+ (:domain shifts)
+ (:objects g - guard a b - room)
+ (:init (in g a))
+ (:goal (lit b))
+ (:constraints (sometime-before (lit b) (and (in g a) (lit a)))))

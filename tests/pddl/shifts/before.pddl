@@ -1,0 +1,6 @@
+(define (problem before)
+ (:domain shifts)
+ (:objects g - guard a b - room)
+ (:init (in g a))
+ (:goal (lit b))
+ (:constraints (sometime-before (in g b) (in g b))))

@@ -1,0 +1,6 @@
+(define (problem during-empty)
+ (:domain shifts)
+ (:objects g - guard a b - room)
+ (:init (in g a))
+ (:goal (lit b))
+ (:constraints (hold-during 3 3 (in g b))))

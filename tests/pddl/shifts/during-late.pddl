@@ -1,0 +1,6 @@
+(define (problem during-late)
+ (:domain shifts)
+ (:objects g - guard a b - room)
+ (:init (in g a))
+ (:goal (lit b))
+ (:constraints (hold-during 5 6 (in g a))))

@@ -1,0 +1,6 @@
+(define (problem during-short)
+ (:domain shifts)
+ (:objects g - guard a b - room)
+ (:init (in g a))
+ (:goal ())
+ (:constraints (hold-during 0 1 (lit a))))

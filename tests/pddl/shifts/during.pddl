@@ -1,0 +1,6 @@
+(define (problem during)
+ (:domain shifts)
+ (:objects g - guard a b - room)
+ (:init (in g a))
+ (:goal (lit b))
+ (:constraints (hold-during 1 3 (in g a))))

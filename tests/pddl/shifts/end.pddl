@@ -1,0 +1,6 @@
+(define (problem end)
+ (:domain shifts)
+ (:objects g - guard a b - room)
+ (:init (in g a))
+ (:goal (and))
+ (:constraints (and (at end (and (lit a) (lit b))) (forall (?r - room) (sometime (alarm ?r))))))

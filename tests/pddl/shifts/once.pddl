@@ -1,0 +1,6 @@
+(define (problem once)
+ (:domain shifts)
+ (:objects g - guard a b - room)
+ (:init (in g a))
+ (:goal (lit b))
+ (:constraints (and (forall (?g - guard ?r - room) (at-most-once (in ?g ?r))) (sometime (in g b)) (at end (in g a)))))

@@ -1,0 +1,5 @@
+(define (problem deep)
+ (:domain wishes)
+ (:objects a b c)
+ (:init (= (count) 0) (not (on a)))
+ (:goal (and (and (on a) (and (not (red b)) (and))) (on b))))

@@ -1,0 +1,5 @@
+(define (problem either)
+ (:domain wishes)
+ (:objects a b c)
+ (:init (= (count) 0) (not (on a)))
+ (:goal (or (and (on a) (on b) (on c)) (and (on a) (red a)))))

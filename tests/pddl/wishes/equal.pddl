@@ -1,0 +1,5 @@
+(define (problem equal)
+ (:domain wishes)
+ (:objects a b c)
+ (:init (= (count) 0) (not (on a)))
+ (:goal (and (= a a) (not (= a b)) (on a))))

@@ -1,0 +1,5 @@
+(define (problem one-fact)
+ (:domain wishes)
+ (:objects a b c)
+ (:init (= (count) 0) (not (on a)))
+ (:goal (on c)))

@@ -1,0 +1,5 @@
+(define (problem two-numbers)
+ (:domain wishes)
+ (:objects a b c)
+ (:init (= (count) 0) (not (on a)))
+ (:goal (and (= (count) 2) (= (count) 1))))

@@ -1,0 +1,1 @@
+"""From PDDL to the language of tlplan, and back with its plans."""

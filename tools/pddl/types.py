@@ -1,0 +1,103 @@
+"""Types of PDDL. A union is the sorted tuple of the names of some types; `either` writes one of several types."""
+from .reader import Form, Word, refuse, shown
+
+NUMBER_START = '+-.0123456789'
+ANY = ('object',)
+
+
+def is_number(node):
+    """Whether a word is written as a number."""
+    return isinstance(node, Word) and node[0] in NUMBER_START and any(map(str.isdigit, node)) and \
+        node.lstrip('+-').replace('.', '', 1).isdecimal()
+
+
+def name_in(node, what):
+    """The node itself, where it can be a name."""
+    if not isinstance(node, Word) or node[0] in '?:' or node == '-' or is_number(node):
+        refuse(node, f'`{shown(node)}` is no name of {what}')
+    return node
+
+
+def variable_in(node, what):
+    if not isinstance(node, Word) or node[0] != '?' or len(node) == 1:
+        refuse(node, f'`{shown(node)}` is no variable of {what}')
+    return node
+
+
+def union_in(node):
+    """The union that stands after `-` in a typed list."""
+    if isinstance(node, Word):
+        return (name_in(node, 'a type'),)
+    if node[:1] != ['either'] or len(node) < 2:
+        refuse(node, f'`{shown(node)}` is no type')
+    return tuple(sorted({name_in(part, 'a type') for part in node[1:]}))
+
+
+def typed(nodes, read=name_in, what='a type'):
+    """The names of a typed list, each with its union; a name without a type has none."""
+    result, waiting, rest = [], [], iter(nodes)
+    for node in rest:
+        if node == '-' and isinstance(node, Word):
+            kind = next(rest, None)
+            if kind is None or not waiting:
+                refuse(node, 'before and after `-` in a typed list stand names and a type')
+            union = union_in(kind)
+            result += [(name, union) for name in waiting]
+            waiting = []
+        else:
+            waiting.append(read(node, what))
+    return result + [(name, None) for name in waiting]
+
+
+class Types:
+    """Which types are below which."""
+
+    def __init__(self):
+        self.above = {'object': []}
+        self.words = {}
+        self.known = {}
+
+    def declare(self, section):
+        for name, union in typed(section[1:]):
+            self.words.setdefault(name, name)
+            self.above.setdefault(name, [])
+            if union and name not in union and name != 'object':
+                self.above[name].append(union)
+            for upper in union or ():
+                self.words.setdefault(upper, upper)
+                self.above.setdefault(upper, [])
+
+    def refuse_cycles(self):
+        for name, word in self.words.items():
+            if name in self.all_above(name):
+                refuse(word, f'the type {shown(word)} is above itself')
+
+    def all_above(self, name):
+        """The types that are reached upwards in one step at least."""
+        reached, open_ = set(), [name]
+        while open_:
+            for union in self.above[open_.pop()]:
+                open_ += [upper for upper in union if upper not in reached]
+                reached.update(union)
+        return reached
+
+    def union(self, union):
+        """The same union without what is below another of its types, or `object` where no type is given."""
+        for name in union or ():
+            if name not in self.above:
+                refuse(name, f'{shown(name)} is no type')
+        if not union:
+            return ANY
+        kept = [str(name) for name in union
+                if not any(name != upper and self.is_below((name,), (upper,)) for upper in union)]
+        return tuple(kept)
+
+    def is_below(self, lower, upper):
+        """Whether each thing of the one union is of the other."""
+        key = (lower, upper)
+        if key not in self.known:
+            self.known[key] = upper == ANY or all(self.type_is_below(name, upper) for name in lower)
+        return self.known[key]
+
+    def type_is_below(self, name, upper):
+        return name in upper or 'object' in upper or any(self.is_below(union, upper) for union in self.above[name])
