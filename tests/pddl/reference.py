@@ -9,11 +9,14 @@ ADDITIVE = {'increase': 1, 'decrease': -1}
 
 
 def read(path):
-    """The form of a file, in lower case."""
     with open(path, encoding='utf-8') as source:
-        text = re.sub(r';[^\n]*', '', source.read()).lower()
+        return form_of(source.read())
+
+
+def form_of(text):
+    """The first form of a text, in lower case."""
     stack = [[]]
-    for token in re.findall(r'[()]|[^\s()]+', text):
+    for token in re.findall(r'[()]|[^\s()]+', re.sub(r';[^\n]*', '', text).lower()):
         if token == '(':
             stack.append([])
         elif token == ')':
@@ -48,8 +51,7 @@ class State:
 
 
 class Problem:
-    def __init__(self, domain_path, problem_path):
-        domain, problem = read(domain_path), read(problem_path)
+    def __init__(self, domain, problem):
         sections = domain[2:] + problem[2:]
         self.parents = {}
         for name, kinds in typed(self.all_of(sections, ':types')):
@@ -279,32 +281,34 @@ class Problem:
         else:
             yield from ((part, env) for part in constraint[1:] if isinstance(part, list))
 
-    def shortest(self, most):
-        """A shortest accepted plan of at most so many actions, or nothing.
-        Plans that end in one state are followed once, where the conditions of all constraints were as true along the one
-        as along the other."""
+    def shortest(self, most, widest=None):
+        """A shortest accepted plan of at most so many actions, or nothing, and how many actions were tried: fewer than asked
+        for where more paths than `widest` would have to be followed. Of plans that end in one state, and along which the
+        conditions of all constraints were true at the same times, one is followed."""
         conditions = [pair for each in self.constraints for pair in self.conditions(each, {})]
-
-        def truths(state):
-            return tuple(self.holds(formula, state, env) for formula, env in conditions)
-
-        layer = [((), (self.first,), (truths(self.first),))]
+        layer = {(): ((), (self.first,), (self.truths(conditions, self.first),))}
         met = {self.first.key}
         for length in range(most + 1):
-            for plan, states, _ in layer:
+            for plan, states, _ in layer.values():
                 if self.is_accepted(states):
-                    return plan
-            if length == most:
-                break
-            following = {}
-            for plan, states, history in layer:
-                for action, after in self.successors(states[-1]):
-                    told = history + (truths(after),) if conditions else ()
-                    if conditions or after.key not in met:
-                        following.setdefault((after.key, told), (plan + (action,), states + (after,), told))
-                        met.add(after.key)
-            layer = list(following.values())
-        return None
+                    return plan, length
+            if length == most or widest is not None and len(layer) > widest:
+                return None, length
+            layer = self.next_layer(layer, conditions, met)
+
+    def truths(self, conditions, state):
+        return tuple(self.holds(formula, state, env) for formula, env in conditions)
+
+    def next_layer(self, layer, conditions, met):
+        """The plans of one action more. Without constraints a state that was met before is left out."""
+        following = {}
+        for plan, states, history in layer.values():
+            for action, after in self.successors(states[-1]):
+                told = history + (self.truths(conditions, after),)
+                if conditions or after.key not in met:
+                    following.setdefault((after.key, told), (plan + (action,), states + (after,), told))
+                    met.add(after.key)
+        return following
 
     def execute(self, plan):
         """The states of a plan, or nothing where an action cannot be executed."""

@@ -57,6 +57,7 @@ def to_val(words):
 def run(command):
     """Runs a command with the words of the command line, and gives the status."""
     sys.setrecursionlimit(20_000)
+    sys.stdout.reconfigure(encoding='utf-8', errors='surrogateescape')
     try:
         command(sys.argv[1:])
         sys.stdout.flush()

@@ -1,6 +1,6 @@
 """From trajectory constraints of PDDL 3 to control formulas of tlplan. A step is one unit of time: the state after the first
 k actions stands at time k, and the last state for ever after."""
-from .formulas import demands, joined
+from .formulas import conjunction, conjuncts, demands, joined
 from .reader import Form, Word, refuse, shown
 from .task import not_translated, whole
 from .types import is_number
@@ -63,7 +63,8 @@ def at_most_once(formula):
 
 def sometime_before(later, earlier):
     """The first formula is never true, or not before and not when the second one is true for the first time."""
-    return ['or', ['always', ['not', later]], ['until', ['not', later], ['and', earlier, ['not', later]]]]
+    first = conjunction(conjuncts(earlier) + [['not', later]])
+    return ['or', ['always', ['not', later]], ['until', ['not', later], first]]
 
 
 def hold_during(start, end, formula):
@@ -96,14 +97,15 @@ SHAPES = {
 
 
 def goal(formulas, node, scope):
-    """The elements of the goal list, and the formulas of what is no element of it."""
-    elements, rest = [], []
+    """The elements of the goal list, and the formulas of what is no element of it, or is against an element before it."""
+    told, elements, rest = {}, [], []
     for part in goal_parts(node):
         formula = formulas.condition(part, scope)
-        if is_element(formulas, formula) and not is_against(formula, elements):
-            elements += [formula] if formula not in elements else []
-        else:
+        place, value = element(formulas, formula)
+        if place is None or told.setdefault(place, value) != value:
             rest.append(formula)
+        else:
+            elements.append(formula)
     return elements, [at_end(joined('and', rest))] if rest else []
 
 
@@ -113,16 +115,14 @@ def goal_parts(node):
     return [node] if node else []
 
 
-def is_element(formulas, formula):
-    """Whether a formula without variables is a fact, a negated fact or a place with its value."""
-    fact = formula[1] if formula[0] == 'not' else formula
-    if formula[0] == '=':
-        return isinstance(formula[1], list) and formula[1][0] not in '+-*' and isinstance(formula[2], str)
-    return formulas.is_fact(fact)
-
-
-def is_against(formula, elements):
-    """Whether an element contradicts another one, so that the goal list cannot have both."""
-    if formula[0] == '=':
-        return any(other[0] == '=' and other[1] == formula[1] and other[2] != formula[2] for other in elements)
-    return ['not', formula] in elements or formula[0] == 'not' and formula[1] in elements
+def element(formulas, formula):
+    """What an element of the goal list is about, and what it says of it; or nothing twice. An element is a fact, a negated
+    fact, or a place with its value."""
+    if formula[0] == '=' and isinstance(formula[1], list) and formula[1][0] not in ('+', '-', '*') and \
+            isinstance(formula[2], str):
+        return tuple(formula[1]), formula[2]
+    if formulas.is_fact(formula):
+        return tuple(formula), True
+    if formula[0] == 'not' and formulas.is_fact(formula[1]):
+        return tuple(formula[1]), False
+    return None, None

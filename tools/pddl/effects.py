@@ -6,7 +6,7 @@ written for each way in which they can meet."""
 from collections import namedtuple
 from itertools import product
 
-from .formulas import Scope, conjunction, conjuncts, demands
+from .formulas import Scope, Variable, conjunction, conjuncts, demands
 from .reader import Form, Word, refuse, shown
 
 ADDITIVE = {'increase': '+', 'decrease': '-'}
@@ -41,18 +41,20 @@ class Effects:
         self.formulas = formulas
         self.task, self.vocabulary = formulas.task, formulas.vocabulary
         self.left_out = left_out
+        self.everywhere = None
 
     def translated(self, node, scope, precondition):
         """The effects, and what else has to hold for the action to be executable."""
         if node is None:
             return [], []
         # Values of variables of one update are put into the conditions of another, which needs names of their own.
-        everywhere = set(scope.names) if sum(word in UPDATES for word in words_of(node)) > 1 else None
-        tree = self.read(node, Scope(scope.variables, everywhere))
+        if sum(word in UPDATES for word in words_of(node)) > 1:
+            self.everywhere = set(scope.names)
+        tree = self.read(node, Scope(scope.variables, self.everywhere))
         updates = list(updates_in(tree, [], []))
         self.refuse_sums(updates)
         distinct = {frozenset(part[1][1:]) for part in conjuncts(precondition)
-                    if part[0] == 'not' and part[1][0] == '='}
+                    if part[0] == 'not' and part[1][0] == '=' and all(isinstance(side, str) for side in part[1])}
         meetings = {}
         for here, there in product(updates, updates):
             if here is not there and here.function == there.function and here.sign:
@@ -145,13 +147,22 @@ class Effects:
                 tests += [] if self.task.types.is_below(own, other) else [[self.vocabulary.union(other), first]]
             elif not self.is_same(first, value_of.get(second, second), tests, distinct):
                 return None
-        left = [variable for name, variable in variables.items() if name not in value_of]
+        left = [Variable(self.name_apart(name), variable.union)
+                for name, variable in variables.items() if name not in value_of]
+        value_of.update(zip([name for name in variables if name not in value_of], [variable.name for variable in left]))
         conditions = [substituted(part, value_of) for part in there.conditions]
         if left:
             return tests + [self.formulas.quantified('exists', left, conjunction(conditions))]
         if contradict(here.conditions + tests + conditions):
             return None
         return tests + [part for part in conditions if part not in here.conditions]
+
+    def name_apart(self, name):
+        """A name of no other variable of the action, for one that two updates may have in common."""
+        while name.lower() in self.everywhere:
+            name += '-other'
+        self.everywhere.add(name.lower())
+        return name
 
     def is_same(self, first, second, tests, distinct):
         """Adds the test that two arguments are the same, and says whether they can be."""
@@ -165,9 +176,7 @@ class Effects:
     def never(self, update, meeting):
         """That an increase does not meet an assignment."""
         tests = update.conditions + meeting
-        if not update.variables:
-            return ['not', conjunction(tests)]
-        return ['not', self.formulas.quantified('exists', update.variables, conjunction(tests))]
+        return negated(self.formulas.quantified('exists', update.variables, conjunction(tests)))
 
     def added_up(self, updates, meetings):
         """The effects of those increases and decreases that may meet others."""
@@ -193,8 +202,9 @@ class Effects:
                     value = [other.sign, value, substituted(other.value, self.values_at(other, update))]
                     conditions += meeting
                 else:
-                    conditions.append(['not', conjunction(meeting)])
-            effects += self.each(update.variables, conditions, [['set', update.place(), value]])
+                    conditions.append(negated(conjunction(meeting)))
+            if not contradict(conditions):
+                effects += self.each(update.variables, conditions, [['set', update.place(), value]])
         return effects
 
     @staticmethod
@@ -207,7 +217,9 @@ class Effects:
 
     def each(self, variables, conditions, effects):
         """Effects for all values of some variables with which some conditions hold."""
-        layers, tests = self.formulas.bounds(variables, [part for each in conditions for part in conjuncts(each)])
+        parts = [part for each in conditions for part in conjuncts(each)]
+        parts = [part for place, part in enumerate(parts) if part not in parts[:place]]
+        layers, tests = self.formulas.bounds(variables, parts)
         if tests:
             effects = [['when', conjunction(tests)] + effects]
         for names, bound in reversed(layers):
@@ -255,6 +267,10 @@ def substituted(form, value_of):
     if isinstance(form, str):
         return value_of.get(form, form)
     return [substituted(part, value_of) for part in form]
+
+
+def negated(formula):
+    return formula[1] if formula[0] == 'not' else ['not', formula]
 
 
 def contradict(formulas):

@@ -1,6 +1,8 @@
 """Names of tlplan for names of PDDL."""
 import re
 
+from .types import ANY
+
 RESERVED = frozenset('true false not and or implies next always eventually until within for forall exists goal = < <= > >= '
                      '+ - *'.split())
 NO_TOKEN_BYTE = re.compile(r'[^A-Za-z0-9!#$%&*+\-./:<=>?@^_~]')
@@ -14,16 +16,21 @@ class Names:
         self.taken = set(reserved)
         self.renamed = []
 
-    def give(self, word, kind, ending='_'):
+    def give(self, word, kind):
         """A name for a word of PDDL. Where it is spelled differently, that is noted with its kind."""
-        name = NO_TOKEN_BYTE.sub('_', word.spelled)
+        name = self.free(word.spelled, '_')
+        if name != word.spelled:
+            self.renamed.append((kind, name, word.spelled))
+        return name
+
+    def free(self, text, ending):
+        """A name that is not taken, and is from now on: the text, with an ending where that is needed."""
+        name = NO_TOKEN_BYTE.sub('_', text)
         if INTEGER.fullmatch(name):
             name = '_' + name
         while name.lower() in self.taken:
             name += ending
         self.taken.add(name.lower())
-        if name != word.spelled:
-            self.renamed.append((kind, name, word.spelled))
         return name
 
 
@@ -45,18 +52,14 @@ class Vocabulary:
         for action in task.actions.values():
             action.name = self.operators.give(action.word, 'operator')
         self.objects = {name: self.values.give(word, 'value') for name, (word, _) in task.objects.items()}
-        words = task.types.words
-        self.unions = {(name,): self.symbols.give(words[name], 'type', '-type') for name in words}
+        self.unions = {(name,): self.symbols.free(word.spelled, '-type') for name, word in task.types.words.items()}
+        self.unions.setdefault(ANY, self.symbols.free('object', '-type'))
         self.used = {}
 
     def union(self, union):
         """The predicate of a union, which is used from now on."""
         if union not in self.unions:
-            name = '-or-'.join(self.unions.get((part,), part) for part in union)
-            while name.lower() in self.symbols.taken:
-                name += '-type'
-            self.symbols.taken.add(name.lower())
-            self.unions[union] = name
+            self.unions[union] = self.symbols.free('-or-'.join(self.unions[part,] for part in union), '-type')
         self.used.setdefault(union, self.unions[union])
         return self.unions[union]
 

@@ -61,7 +61,7 @@ class Task:
             ':init': self.initial_state, ':goal': self.goal_section, ':metric': self.metric_section,
             ':constraints': self.constraint_section})
         self.read_in_order(of_domain, (':requirements', ':types'))
-        self.types.refuse_cycles()
+        self.types.put_in_order()
         self.read_in_order(of_domain, (':constants', ':predicates', ':functions', ':derived', ':action', ':constraints'))
         self.read_in_order(of_problem, (':domain', ':requirements', ':objects', ':init', ':goal', ':metric', ':constraints'))
         if self.goal is None:
@@ -100,7 +100,7 @@ class Task:
     @staticmethod
     def requirements(section):
         for need in section[1:]:
-            if need not in UNDERSTOOD and need not in REFUSED_WHERE_USED:
+            if not isinstance(need, Word) or need not in UNDERSTOOD | REFUSED_WHERE_USED:
                 refuse(need, f'the requirement {shown(need)} is not translated')
 
     def things(self, section):
@@ -234,7 +234,7 @@ class Task:
     def ground(self, node, table, kind, whole_form=None):
         """The name and the objects of a fact or of a place."""
         word, at = node[0], whole_form or node
-        if word in self.derived and kind == 'predicate':
+        if isinstance(word, Word) and word in self.derived and kind == 'predicate':
             refuse(at, f'{shown(word)} is derived, so no fact of it can be given')
         if not isinstance(word, Word) or word not in table:
             refuse(at, f'{shown(word)} is no {kind}')

@@ -50,15 +50,16 @@ class Translation:
         self.task = Task(domain_path, problem_path)
         self.control_file = ControlFile(control_path)
         self.vocabulary = Vocabulary(self.task)
-        self.vocabulary.use_names_in(self.control_file.words)
         self.formulas = Formulas(self.task, self.vocabulary)
         self.costs = Costs(self.task, self.control_file.words)
         self.left_out = self.costs.function if self.costs.is_left_out else None
         self.definitions = self.defined(levels) + self.control_file.definitions
         self.operators = [self.operator(action) for action in self.task.actions.values()]
         self.goal, self.control = self.goal_and_control()
+        self.vocabulary.use_names_in(self.control_file.words)
         self.types = [[name, self.vocabulary.objects[thing]]
                       for union, name in self.vocabulary.used.items() for thing in self.task.members(union)]
+        self.facts = self.types + self.initial_facts()
         self.refuse_counts()
 
     # What the files say.
@@ -118,16 +119,16 @@ class Translation:
             refuse(word, f'{shown(word)} becomes a form of more than {most} lists within one another')
 
     def refuse_counts(self):
-        levels = sum(int(item[1]) for item in self.definitions if item[0] == 'defined' and str(item[1]).isdecimal())
+        levels = sum(int(item[1]) for item in self.definitions
+                     if item[0] == 'defined' and len(item) > 1 and item[1] in map(str, range(MOST_LEVELS + 1)))
         predicates = len(self.vocabulary.used) + len(self.task.predicates)
-        facts = len(self.types) + len(self.initial_facts())
         for path, count, most, what in (
                 (self.paths[0], predicates, MOST_SYMBOLS, 'predicates, of which some are types'),
                 (self.paths[0], len(self.functions()), MOST_SYMBOLS, 'functions'),
                 (self.paths[0], len(self.operators), MOST_SYMBOLS, 'actions'),
                 (self.paths[0], len(self.definitions), MOST_DEFINITIONS, 'definitions'),
                 (self.paths[0], levels, MOST_LEVELS, 'levels of definitions'),
-                (self.paths[1], facts, MOST_ELEMENTS, f'initial facts, of which {len(self.types)} are types of objects'),
+                (self.paths[1], len(self.facts), MOST_ELEMENTS, f'initial facts, of which {len(self.types)} are types of objects'),
                 (self.paths[1], len(self.goal), MOST_ELEMENTS, 'elements of the goal')):
             if count > most:
                 raise Refusal(f'{path}: there are {count} {what}, and may be {most}')
@@ -165,7 +166,7 @@ class Translation:
     def problem_text(self):
         lines = [f'; The problem {shown(self.task.problem_name)} of PDDL.'] + name_lines(self.vocabulary.values)
         lines += [f'(problem {file_name(self.task.problem_name)}', ' (init']
-        lines += ['  ' + flat(fact) for fact in self.types + self.initial_facts()]
+        lines += ['  ' + flat(fact) for fact in self.facts]
         return '\n'.join(lines) + ')\n (goal' + ''.join('\n  ' + flat(element) for element in self.goal) + '))\n'
 
     def costs_text(self):
@@ -178,4 +179,4 @@ def name_lines(names):
 
 
 def file_name(word):
-    return Names().give(word, 'file')
+    return Names().free(word.spelled, '_')

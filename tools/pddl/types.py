@@ -55,7 +55,7 @@ class Types:
     def __init__(self):
         self.above = {'object': []}
         self.words = {}
-        self.known = {}
+        self.order, self.known = [], {}
 
     def declare(self, section):
         for name, union in typed(section[1:]):
@@ -67,19 +67,31 @@ class Types:
                 self.words.setdefault(upper, upper)
                 self.above.setdefault(upper, [])
 
-    def refuse_cycles(self):
-        for name, word in self.words.items():
-            if name in self.all_above(name):
-                refuse(word, f'the type {shown(word)} is above itself')
+    def put_in_order(self):
+        """Finds an order in which each type comes after those above it."""
+        waiting = {name: {upper for union in unions for upper in union} for name, unions in self.above.items()}
+        below = {name: [] for name in waiting}
+        for name, uppers in waiting.items():
+            for upper in uppers:
+                below[upper].append(name)
+        ready = [name for name, uppers in waiting.items() if not uppers]
+        while ready:
+            upper = ready.pop()
+            self.order.append(upper)
+            for name in below[upper]:
+                waiting[name].discard(upper)
+                if not waiting[name]:
+                    ready.append(name)
+        if len(self.order) < len(waiting):
+            self.refuse_cycle(waiting)
 
-    def all_above(self, name):
-        """The types that are reached upwards in one step at least."""
-        reached, open_ = set(), [name]
-        while open_:
-            for union in self.above[open_.pop()]:
-                open_ += [upper for upper in union if upper not in reached]
-                reached.update(union)
-        return reached
+    def refuse_cycle(self, waiting):
+        """Refuses a type that is met twice on the way upwards through those that wait for others."""
+        met, name = set(), next(name for name, uppers in waiting.items() if uppers)
+        while name not in met:
+            met.add(name)
+            name = next(iter(waiting[name]))
+        refuse(self.words[name], f'the type {shown(self.words[name])} is above itself')
 
     def union(self, union):
         """The same union without what is below another of its types, or `object` where no type is given."""
@@ -94,10 +106,14 @@ class Types:
 
     def is_below(self, lower, upper):
         """Whether each thing of the one union is of the other."""
-        key = (lower, upper)
-        if key not in self.known:
-            self.known[key] = upper == ANY or all(self.type_is_below(name, upper) for name in lower)
-        return self.known[key]
+        return upper == ANY or self.all_below(upper).issuperset(lower)
 
-    def type_is_below(self, name, upper):
-        return name in upper or 'object' in upper or any(self.is_below(union, upper) for union in self.above[name])
+    def all_below(self, upper):
+        """The types of which each thing is of a union: those of the union, and those that have only such above them."""
+        if upper not in self.known:
+            below = set()
+            for name in self.order:
+                if name in upper or any(below.issuperset(union) for union in self.above[name]):
+                    below.add(name)
+            self.known[upper] = below
+        return self.known[upper]

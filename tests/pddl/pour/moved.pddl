@@ -1,6 +1,6 @@
-; 6 in x comes only by both x x, twice. Then move x y leaves x without anything: three steps, since move x x is no step.
+; move x y.
 (define (problem moved)
  (:domain pour)
  (:objects x y - cup)
- (:init (= (level x) 0) (= (level y) 0) (= (sum) 0))
+ (:init (= (level x) 3) (= (level y) 3) (= (sum) 0))
  (:goal (and (= (level x) 0) (= (level y) 6))))

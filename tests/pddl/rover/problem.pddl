@@ -1,11 +1,11 @@
-; Two drives with a rest between them, which needs plug, rest and unplug, three looks and a message after that of b.
-(define (problem two-drives)
+; look a, drive a b, look b, send, plug.
+(define (problem first-message)
  (:domain rover)
- (:objects a b c d - place)
- (:init (at a) (way a b) (way b c) (way a d) (way d c) (crater d))
- (:goal (and (at c) (sent)))
+ (:objects a b d - place)
+ (:init (at a) (way a b) (way a d) (way d b) (crater d))
+ (:goal (and (at b) (sent)))
  (:constraints (and
   (sometime-before (sent) (seen b))
-  (sometime-after (sent) (seen c))
-  (forall (?p - place) (sometime-before (at c) (and (seen a) (not (crater b)))))
-  (sometime (and (charging) (seen a))))))
+  (sometime-after (sent) (charging))
+  (forall (?p - place) (sometime-before (at b) (and (seen a) (not (crater b)))))
+  (sometime (and (charging) (seen b))))))
