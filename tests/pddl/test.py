@@ -20,7 +20,7 @@ from pddl.reader import Refusal
 from pddl.translate import Translation
 from reference import Problem, form_of, read
 
-ONE_LINE = re.compile(r'[^\n]+:[0-9]+: [^\n]+|[^\n:]+: (there are \d+|the goal and the constraints|the control file) [^\n]+')
+ONE_LINE = re.compile(r'[^\n]+:[0-9]+: [^\n]+|[^\n:]+: there are \d+ [^\n]+')
 SEEDS = range(160)
 MUTATIONS = 500
 
@@ -61,6 +61,11 @@ class Tests:
 
     def search(self, most):
         return self.tlplan('plan', 'breadth', str(most), '90000', self.path('x.domain'), self.path('x.problem'))
+
+    def kept_nodes(self, most):
+        """How many search nodes a search keeps."""
+        trace = self.tlplan('trace', 'breadth', str(most), '90000', self.path('x.domain'), self.path('x.problem')).stdout
+        return len(re.findall('^; kept', trace, re.M))
 
     def pddl_plan(self, answer):
         """The actions of an answer, put back into the names of PDDL."""
@@ -196,6 +201,18 @@ def costs(tests):
     answer = tests.tlplan('cheapest', '1000', tests.path('x.domain'), tests.path('x.problem'), tests.path('x.costs')).stdout
     tests.check('least cost', answer.startswith(f'; cheapest plan of 3 actions costs {least}\n') and least == 20, answer)
     os.remove(tests.path('x.costs'))
+    for effect, message in (
+            ('(increase (c) (d ?x))', '`(increase (c) (d ?x))` is no constant cost; other metrics of :action-costs or '
+             ':numeric-fluents are not translated'),
+            ('(when (p) (increase (c) 1))', '`(when (p) (increase (c) 1))` is no constant cost; other metrics of :action-costs '
+             'or :numeric-fluents are not translated'),
+            ('(and (increase (c) 2) (increase (c) -3))', 'the cost of a is -1, and not 0 to 1000000'),
+            ('(increase (c) 1000001)', 'the cost of a is 1000001, and not 0 to 1000000')):
+        pair = (tests.write('d.pddl', f'(define (domain d) (:predicates (p)) (:functions (c) (d ?x))\n'
+                                      f'(:action a :parameters (?x) :effect {effect}))'),
+                tests.write('p.pddl', '(define (problem q) (:domain d) (:init (= (c) 0)) (:goal (p)) (:metric minimize (c)))'))
+        came = refusal_of(*pair)
+        tests.check(f'cost {effect}', came == f'{pair[0]}:2: {message}', came)
     tests.translated(paths[0], os.path.join(HERE, 'fares', 'unasked.pddl'))
     tests.check('no costs without a metric', not os.path.exists(tests.path('x.costs')))
 
@@ -225,7 +242,7 @@ def limits(tests):
     tests.check('too many facts', came == f'{paths[1]}: there are 4100 initial facts, of which 4100 are types of objects, and '
                 'may be 4096', came)
     nested = '(not ' * 24 + '(p ?x)' + ')' * 24
-    for body, message in ((nested, f'{paths[0]}:1: q becomes a form of more than 24 lists within one another'),
+    for body, message in ((nested, f'{paths[0]}:1: `q` becomes a form of more than 24 lists within one another'),
                           (nested[5:-1], '')):
         tests.write('d.pddl', f'(define (domain d) (:predicates (p ?x)) (:derived (q ?x) {body}))')
         tests.write('p.pddl', '(define (problem q) (:domain d) (:objects a) (:goal (q a)))')
@@ -283,6 +300,34 @@ def plans(tests):
     tests.check('empty plan', (came.returncode, came.stdout, came.stderr) == (0, '', ''), came)
 
 
+def blocks_in(document):
+    """The blocks of code of a document."""
+    with open(os.path.join(HERE, '..', '..', 'docs', document), encoding='utf-8') as source:
+        return re.findall(r'^```\w*\n(.*?)^```$', source.read(), re.M | re.S)
+
+
+def documents(tests):
+    """What the documents show is what comes."""
+    paths = [os.path.join(HERE, 'lift', f'{name}.pddl') for name in ('domain', 'problem')]
+    tests.translated(*paths)
+    blocks = {block.split()[0]: ' '.join(block.split()) for block in blocks_in('PDDL.md')}
+    with open(tests.path('x.domain'), encoding='utf-8') as source:
+        tests.check('operator of PDDL.md', blocks['(operator'] in ' '.join(source.read().split()))
+    with open(paths[0], encoding='utf-8') as source:
+        tests.check('action of PDDL.md', blocks['(:action'] in ' '.join(source.read().split()))
+    plan = ' '.join('(' + ' '.join(action) + ')' for action in tests.pddl_plan(tests.search(20).stdout))
+    tests.check('plan of PDDL.md', plan == blocks['(go'], plan)
+    kept = tests.kept_nodes(20)
+    tests.translated(*paths, '--control', tests.write('x.control', blocks['(define']))
+    tests.check('control of PDDL.md', tests.search(20).stdout.startswith('; plan of 7 ') and tests.kept_nodes(20) < kept)
+    domain, problem = blocks_in('TLPLAN_DOMAINS.md')
+    tests.write('x.domain', domain)
+    tests.write('x.problem', problem)
+    tests.check('TLPLAN_DOMAINS.md', tests.search(100).stdout.startswith('; plan of 10 ') and tests.kept_nodes(100) == 24)
+    tests.write('x.domain', domain[:domain.index('(control')] + ')')
+    tests.check('TLPLAN_DOMAINS.md without control', tests.kept_nodes(100) == 549, tests.kept_nodes(100))
+
+
 def large(tests):
     """A problem of 4,000 facts is translated in less than a second of processor time."""
     packages = ' '.join(f'p{n}' for n in range(900))
@@ -307,7 +352,7 @@ def large(tests):
 def main():
     with tempfile.TemporaryDirectory() as folder:
         tests = Tests(sys.argv[1], folder)
-        for part in (cases, refusals, limits, costs, control, commands, plans, large, by_chance, mutations):
+        for part in (cases, refusals, limits, costs, control, commands, plans, documents, large, by_chance, mutations):
             part(tests)
     print(f'{tests.passed} passed, {tests.failed} failed')
     return 1 if tests.failed else 0

@@ -133,7 +133,7 @@ class Task:
         if word in table:
             refuse(word, f'{shown(word)} is declared twice')
         table[word] = Symbol(word, self.parameters(node[1:], shown(word)))
-        if len(node) > 9 and len(table[word].parameters) > 8:
+        if len(table[word].parameters) > 8:
             refuse(node, f'{shown(word)} has more than 8 arguments')
 
     def predicate_section(self, section):
@@ -259,7 +259,8 @@ def whole(node):
     digits, _, fraction = node.lstrip('+-').partition('.')
     if fraction.strip('0'):
         refuse(node, f'{shown(node)} is no whole number; fractions of :numeric-fluents are not translated')
-    value = sign * int(digits or '0') if len(digits.lstrip('0')) < 20 else 1 << 64
+    digits = digits.lstrip('0') or '0'
+    value = sign * int(digits) if len(digits) < 20 else 2 ** 64
     if not -2 ** 63 <= value < 2 ** 63:
         refuse(node, f'{shown(node)} is past 64 bits')
     return value

@@ -3,12 +3,12 @@ from .control import constraint, goal
 from .costs import Costs
 from .derived import Definitions
 from .effects import Effects, words_of
-from .formulas import Formulas, Scope, conjunction, conjuncts, joined
+from .formulas import MOST_VARIABLES, Formulas, Scope, conjunction, conjuncts, joined
 from .names import Names, Vocabulary
 from .reader import Form, Refusal, forms_of, refuse, shown
 from .task import Task
 from .types import ANY
-from .writer import depth, flat, pretty
+from .writer import depth, flat, most_in_scope, pretty
 
 MOST_BYTES = 4_194_304
 MOST_ELEMENTS = 4_096
@@ -82,6 +82,8 @@ class Translation:
         item += [['pre', joined('and', tests)]] if tests else []
         item += [['effects', *effects]] if effects else []
         self.refuse_depth(item, MOST_LISTS - 1, action.word)
+        if len(variables) + most_in_scope(item) > MOST_VARIABLES:
+            refuse(action.word, f'{shown(action.word)} becomes an operator with more than {MOST_VARIABLES} variables in scope')
         return item
 
     def has_values(self, variable, bounds):
@@ -93,12 +95,12 @@ class Translation:
     def goal_and_control(self):
         """The goal list, and the control formula, where there is one."""
         elements, parts = goal(self.formulas, self.task.goal, Scope())
+        self.refuse_depth(parts, MOST_LISTS - 2, self.task.goal)
         for node in self.task.constraints:
-            parts += [part for part in constraint(self.formulas, node, Scope()) if part != 'true']
+            more = [part for part in constraint(self.formulas, node, Scope()) if part != 'true']
+            self.refuse_depth(more, MOST_LISTS - 2, node)
+            parts += more
         parts += self.control_file.formulas
-        if parts and depth(parts) > MOST_LISTS - 2:
-            raise Refusal(f'{self.paths[1]}: the goal and the constraints become a form of more than {MOST_LISTS} lists '
-                          'within one another')
         return elements, joined('and', parts) if parts else None
 
     def functions(self):
@@ -114,9 +116,9 @@ class Translation:
     # What is limited.
 
     @staticmethod
-    def refuse_depth(form, most, word):
+    def refuse_depth(form, most, node):
         if depth(form) > most:
-            refuse(word, f'{shown(word)} becomes a form of more than {most} lists within one another')
+            refuse(node, f'`{shown(node)}` becomes a form of more than {most} lists within one another')
 
     def refuse_counts(self):
         levels = sum(int(item[1]) for item in self.definitions

@@ -22,3 +22,11 @@ def pretty(form, indent=0):
 def depth(form):
     """How many lists stand within one another."""
     return 0 if isinstance(form, str) else 1 + max(map(depth, form), default=0)
+
+
+def most_in_scope(form):
+    """How many variables of quantifiers are in scope at once."""
+    if isinstance(form, str):
+        return 0
+    own = len(form[1]) if form[:1] in (['forall'], ['exists'], ['each']) else 0
+    return own + max(map(most_in_scope, form), default=0)
