@@ -114,16 +114,25 @@ class Maker:
             f'(always-within {start} {first} {second})', f'(hold-during {start} {start + self.random.randint(0, 2)} {first})',
             f'(hold-after {start} {first})', f'(at end {first})'))
 
-    def constraints(self):
-        parts = [self.constraint() for _ in range(self.pick((1, 2)))]
-        if self.chance(0.3):
-            text, scope = self.variables([])
-            parts.append(f'(forall ({text}) {self.constraint(scope)})')
+    def constraints(self, walked, states):
+        """A section of constraints, most of which the states of a walk obey."""
+        parts = []
+        for _ in range(self.pick((1, 2, 2))):
+            for _ in range(20):
+                text, scope = self.variables([])
+                part = f'(forall ({text}) {self.constraint(scope)})' if self.chance(0.3) else self.constraint()
+                if self.chance(0.1) or walked.obeys(form_of(part), states, {}):
+                    break
+            parts.append(part)
         return f'\n (:constraints (and {" ".join(parts)}))'
 
     def rules(self):
-        """Derived predicates: one, and one more over it."""
+        """Derived predicates, each perhaps over those before it, and the first one recursive."""
         lines = ''
+        if self.chance(0.4):
+            base, step = self.condition([('?x', 'object')], 1), self.condition([('?x', 'object'), ('?y', 'object')], 1)
+            lines = f' (:derived (w ?x) (or {base} (exists (?y - object) (and {step} (w ?y)))))\n'
+            self.derived['w'] = ('object',)
         for name in self.random.sample(('d', 'e'), self.pick((0, 1, 2))):
             text, scope = self.variables([])
             lines += f' (:derived ({name} {text}) {self.condition(scope, 2)})\n'
@@ -138,10 +147,9 @@ class Maker:
         rules = self.rules()
         actions = '\n'.join(self.action(number) for number in range(self.pick((2, 3))))
         return (f'(define (domain chance)\n (:types a c - object b - a)\n (:constants o1 - a)\n (:predicates {declared})\n'
-                f' (:functions {functions})\n{rules}{actions}' + (self.constraints() if self.chance(0.25) else '') + ')\n')
+                f' (:functions {functions})\n{rules}{actions})\n')
 
-    def problem(self, goal):
-        constraints = self.constraints() if self.chance(0.35) else ''
+    def problem(self, goal, constraints=''):
         return f'(define (problem by-chance)\n (:domain chance)\n {self.start}\n (:goal {goal}){constraints})\n'
 
     def initial_state(self):
@@ -151,19 +159,26 @@ class Maker:
         values = [f'(= {place} {self.random.randint(0, 3)})' for place in places if self.chance(0.9)]
         return f'(:objects o2 - b o3 - c)\n (:init {" ".join(sorted(facts) + values)})'
 
-    def goal(self, domain):
-        """A condition that is true after some actions and, where such a one is found, not before."""
-        walked = Problem(form_of(domain), form_of(self.problem('()')))
-        state = walked.first
-        for _ in range(self.random.randint(2, 5)):
-            state = self.pick(walked.successors(state) or [(None, state)])[1]
-        if self.chance(0.5):
-            return f'(and {" ".join(self.differences(walked.first, state))} {self.condition([], 1)})'
+    def goal(self, walked, state):
+        """A condition that is true in a state and, where such a one is found, not in the first one."""
+        if self.chance(0.6):
+            parts = list(self.differences(walked.first, state))
+            count = len(parts) if self.chance(0.7) else self.random.randint(0, len(parts))
+            return f'(and {" ".join(self.random.sample(parts, count))})'
         for _ in range(60):
             goal = f'(and {self.condition([], 2)} {self.condition([], 1)})'
             if walked.holds(form_of(goal), state, {}) and not walked.holds(form_of(goal), walked.first, {}):
-                break
-        return goal
+                return goal
+        return '()'
+
+    def walk(self, walked):
+        """The states of some actions by chance, most of which change something."""
+        states = [walked.first]
+        for _ in range(self.random.randint(2, 5)):
+            following = [state for _, state in walked.successors(states[-1])]
+            new = [state for state in following if state.key not in [met.key for met in states]]
+            states.append(self.pick(new or following or states[-1:]))
+        return states
 
     @staticmethod
     def differences(first, state):
@@ -179,4 +194,9 @@ def domain_and_problem(seed):
     maker = Maker(seed)
     domain = maker.domain()
     maker.start = maker.initial_state()
-    return domain, maker.problem(maker.goal(domain))
+    walked = Problem(form_of(domain), form_of(maker.problem('()')))
+    states = maker.walk(walked)
+    problem = maker.problem(maker.goal(walked, states[-1]), maker.constraints(walked, states) if maker.chance(0.5) else '')
+    if maker.chance(0.2):
+        domain = domain[:-2] + maker.constraints(walked, states) + ')\n'
+    return domain, problem

@@ -109,7 +109,7 @@ def by_chance(tests):
     for seed in SEEDS:
         domain, problem = domain_and_problem(seed)
         try:
-            tests.translated(tests.write('d.pddl', domain), tests.write('p.pddl', problem))
+            tests.translated(tests.write('d.pddl', domain), tests.write('p.pddl', problem), '--levels', '4')
         except Refusal as refusal:
             tests.check(f'chance {seed}', 'adds up over all' in str(refusal), refusal)
             continue

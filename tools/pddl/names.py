@@ -53,7 +53,8 @@ class Vocabulary:
             action.name = self.operators.give(action.word, 'operator')
         self.objects = {name: self.values.give(word, 'value') for name, (word, _) in task.objects.items()}
         self.unions = {(name,): self.symbols.free(word.spelled, '-type') for name, word in task.types.words.items()}
-        self.unions.setdefault(ANY, self.symbols.free('object', '-type'))
+        if ANY not in self.unions:
+            self.unions[ANY] = self.symbols.free('object', '-type')
         self.used = {}
 
     def union(self, union):
