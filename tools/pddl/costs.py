@@ -1,6 +1,5 @@
 """The metric, where it is a constant cost of each operator."""
-from .effects import words_of
-from .reader import Form, Word, refuse, shown
+from .reader import Form, Word, refuse, shown, words_of
 from .task import not_translated, whole
 from .types import is_number
 
@@ -23,8 +22,8 @@ class Costs:
         elif 'total-cost' in task.functions and not task.functions['total-cost'].parameters:
             self.function = 'total-cost'
         if self.function is not None:
-            self.is_left_out = (self.function,) in task.values and not self.is_read(control_words) and \
-                all(self.cost(action, lambda node: None) is not None for action in task.actions.values())
+            costs = [self.cost(action, lambda node: None) for action in task.actions.values()]
+            self.is_left_out = (self.function,) in task.values and None not in costs and not self.is_read(control_words)
 
     def of_metric(self, metric):
         """The function of `(:metric minimize (NAME))`."""
@@ -60,13 +59,14 @@ class Costs:
         return total
 
     def is_constant_increase(self, node):
-        return isinstance(node, Form) and len(node) == 3 and node[0] == 'increase' and node[1] in ([self.function], self.function) and \
-            is_number(node[2])
+        return isinstance(node, Form) and len(node) == 3 and node[0] == 'increase' and \
+            node[1] in ([self.function], self.function) and is_number(node[2])
 
     def is_read(self, control_words):
         """Whether the function stands anywhere but in those increases."""
-        nodes = [action.precondition or [] for action in self.task.actions.values()] + self.task.constraints + \
-            [self.task.goal] + [body for symbol in self.task.derived.values() for _, body in symbol.rules]
+        nodes = [action.precondition or [] for action in self.task.actions.values()]
+        nodes += [body for symbol in self.task.derived.values() for _, body in symbol.rules]
+        nodes += self.task.constraints + [self.task.goal]
         return self.function in control_words or any(self.function in words_of(node) for node in nodes)
 
 

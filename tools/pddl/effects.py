@@ -7,7 +7,7 @@ from collections import namedtuple
 from itertools import product
 
 from .formulas import Scope, Variable, conjunction, conjuncts, demands
-from .reader import Form, Word, refuse, shown
+from .reader import Form, Word, refuse, shown, words_of
 
 ADDITIVE = {'increase': '+', 'decrease': '-'}
 UPDATES = ('assign', 'increase', 'decrease', 'scale-up', 'scale-down')
@@ -276,12 +276,3 @@ def negated(formula):
 def contradict(formulas):
     """Whether one of the formulas is the negation of another."""
     return any(['not', part] in formulas for part in formulas)
-
-
-def words_of(node):
-    """All words of a form of PDDL."""
-    if isinstance(node, Word):
-        yield node
-    else:
-        for part in node:
-            yield from words_of(part)

@@ -4,7 +4,7 @@ from collections import namedtuple
 from .names import NO_TOKEN_BYTE
 from .reader import Form, Word, refuse, shown
 from .task import not_translated, whole
-from .types import ANY, is_number, typed, variable_in
+from .types import ANY, is_number
 
 COMPARISONS = ('=', '<', '<=', '>', '>=')
 TEMPORAL = ('always', 'sometime', 'within', 'at-most-once', 'sometime-after', 'sometime-before', 'always-within',
@@ -102,8 +102,7 @@ class Formulas:
         demands(node, 2)
         if not isinstance(node[1], Form):
             refuse(node, f'`{shown(node)}` has no list of variables')
-        parameters = [(word, self.task.types.union(union)) for word, union in typed(node[1], variable_in, shown(node[0]))]
-        return scope.with_new(parameters)
+        return scope.with_new(self.task.parameters(node[1], shown(node[0])))
 
     def comparison(self, node, scope):
         demands(node, 2)

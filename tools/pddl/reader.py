@@ -36,6 +36,15 @@ def spelled(node):
     return '(' + ' '.join(map(spelled, node)) + ')'
 
 
+def words_of(node):
+    """All words of a form."""
+    if isinstance(node, Word):
+        yield node
+    else:
+        for part in node:
+            yield from words_of(part)
+
+
 def text_of(path):
     try:
         with open(path, 'rb') as source:

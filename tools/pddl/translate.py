@@ -2,10 +2,10 @@
 from .control import constraint, goal
 from .costs import Costs
 from .derived import Definitions
-from .effects import Effects, words_of
+from .effects import Effects
 from .formulas import MOST_VARIABLES, Formulas, Scope, conjunction, conjuncts, joined
 from .names import Names, Vocabulary
-from .reader import Form, Refusal, forms_of, refuse, shown
+from .reader import Form, Refusal, forms_of, refuse, shown, words_of
 from .task import Task
 from .types import ANY
 from .writer import depth, flat, most_in_scope, pretty
@@ -83,7 +83,7 @@ class Translation:
         item += [['effects', *effects]] if effects else []
         self.refuse_depth(item, MOST_LISTS - 1, action.word)
         if len(variables) + most_in_scope(item) > MOST_VARIABLES:
-            refuse(action.word, f'{shown(action.word)} becomes an operator with more than {MOST_VARIABLES} variables in scope')
+            refuse(action.word, f'{shown(action.word)} becomes an operator of more than {MOST_VARIABLES} variables in scope')
         return item
 
     def has_values(self, variable, bounds):
@@ -130,7 +130,8 @@ class Translation:
                 (self.paths[0], len(self.operators), MOST_SYMBOLS, 'actions'),
                 (self.paths[0], len(self.definitions), MOST_DEFINITIONS, 'definitions'),
                 (self.paths[0], levels, MOST_LEVELS, 'levels of definitions'),
-                (self.paths[1], len(self.facts), MOST_ELEMENTS, f'initial facts, of which {len(self.types)} are types of objects'),
+                (self.paths[1], len(self.facts), MOST_ELEMENTS,
+                 f'initial facts, of which {len(self.types)} are types of objects'),
                 (self.paths[1], len(self.goal), MOST_ELEMENTS, 'elements of the goal')):
             if count > most:
                 raise Refusal(f'{path}: there are {count} {what}, and may be {most}')

@@ -1,5 +1,5 @@
 """Types of PDDL. A union is the sorted tuple of the names of some types; `either` writes one of several types."""
-from .reader import Form, Word, refuse, shown
+from .reader import Word, refuse, shown
 
 NUMBER_START = '+-.0123456789'
 ANY = ('object',)
