@@ -1,10 +1,10 @@
 ; Updates of one function that may meet in one place.
 (define (domain pour)
  (:requirements :adl :fluents)
- (:types cup)
+ (:types cup - object mug - cup)
  (:constants rim - cup)
  (:predicates (hot ?c - cup) (wet ?c - cup) (done))
- (:functions (level ?c - cup) (sum))
+ (:functions (level ?c - cup) (size ?m - mug) (sum))
  ; With one cup twice: 1 and 2 are added to one place.
  (:action both
   :parameters (?c ?d - cup)
@@ -23,4 +23,12 @@
   :parameters (?c - cup)
   :effect (and (when (hot ?c) (increase (sum) 10)) (when (not (hot ?c)) (increase (sum) 20))
    (when (wet ?c) (increase (sum) (level ?c)))))
+ ; A hot mug that is given gains 1 and its size; a cup that is no mug has none.
+ (:action top-up
+  :parameters (?c - cup)
+  :effect (and (increase (level ?c) 1) (forall (?m - mug) (when (hot ?m) (increase (level ?m) (size ?m))))))
+ ; With one cup twice it cannot be executed, even where both would give 1.
+ (:action rinse
+  :parameters (?c ?d - cup)
+  :effect (and (assign (level ?c) 1) (increase (level ?d) 1) (wet ?c)))
  (:action finish :precondition (not (done)) :effect (done)))

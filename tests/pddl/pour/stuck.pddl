@@ -1,4 +1,4 @@
-; move x x is no step, move x y and move x rim need a value of the other cup, and no other action takes anything from x.
+; move x x is no step, and move x rim needs a value of rim: rinse rim x, move x rim.
 (define (problem stuck)
  (:domain pour)
  (:objects x y - cup)
