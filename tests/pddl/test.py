@@ -251,6 +251,21 @@ def limits(tests):
         if not message:
             tests.translated(*paths)
             tests.check('depth that is read', tests.search(0).returncode in (0, 1))
+    rules = ''.join(f'(:derived (q{n}) (p a))\n' for n in range(65))
+    came = refusal_of(tests.write('d.pddl', f'(define (domain d) (:predicates (p ?x))\n{rules})'), paths[1])
+    tests.check('number of definitions', came == f'{paths[0]}:66: there are more than 64 derived predicates', came)
+    tests.write('d.pddl', '(define (domain d) (:predicates (p ?x)))')
+    tests.write('p.pddl', f'(define (problem q) (:domain d) (:objects {"a" * 4_200_000}) (:goal (p {"a" * 4_200_000})))')
+    came = refusal_of(*paths)
+    tests.check('bytes', came == f'{paths[1]}: the file .problem has more than 4194304 bytes', came)
+    variables = [f'?v{n}' for n in range(35)]
+    tests.write('d.pddl', f'(define (domain d) (:functions (f ?a ?b ?c ?d ?e ?f ?g ?h)) (:action a :parameters '
+                f'({" ".join(variables[:16])}) :effect (and (forall ({" ".join(variables[16:24])}) (increase (f '
+                f'{" ".join(variables[16:24])}) 1)) (forall ({" ".join(variables[24:])}) (assign (f '
+                f'{" ".join(variables[:8])}) 1)))))')
+    tests.write('p.pddl', '(define (problem q) (:domain d) (:objects a) (:goal ()))')
+    came = refusal_of(*paths)
+    tests.check('variables', came == f'{paths[0]}:1: a becomes an operator of more than 32 variables in scope', came)
     came = refusal_of(tests.write('d.pddl', '(' * 101), paths[1])
     tests.check('depth of a file', came == f'{paths[0]}:1: more than 100 lists stand within one another', came)
     levels = refusal_of(os.path.join(HERE, 'towers', 'domain.pddl'), os.path.join(HERE, 'towers', 'problem.pddl'))

@@ -56,7 +56,6 @@ def to_val(words):
 
 def run(command):
     """Runs a command with the words of the command line, and gives the status."""
-    sys.setrecursionlimit(20_000)
     sys.stdout.reconfigure(encoding='utf-8', errors='surrogateescape')
     try:
         command(sys.argv[1:])
@@ -64,8 +63,6 @@ def run(command):
         return 0
     except Refusal as refusal:
         print(refusal, file=sys.stderr)
-    except RecursionError:
-        print('the files have too many levels of types or lists', file=sys.stderr)
     except OSError as error:
         print(f'standard output: {error.strerror}', file=sys.stderr)
         sys.stdout = None

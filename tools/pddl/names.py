@@ -6,7 +6,6 @@ from .types import ANY
 RESERVED = frozenset('true false not and or implies next always eventually until within for forall exists goal = < <= > >= '
                      '+ - *'.split())
 NO_TOKEN_BYTE = re.compile(r'[^A-Za-z0-9!#$%&*+\-./:<=>?@^_~]')
-INTEGER = re.compile(r'-?[0-9]+')
 
 
 class Names:
@@ -26,8 +25,6 @@ class Names:
     def free(self, text, ending):
         """A name that is not taken, and is from now on: the text, with an ending where that is needed."""
         name = NO_TOKEN_BYTE.sub('_', text)
-        if INTEGER.fullmatch(name):
-            name = '_' + name
         while name.lower() in self.taken:
             name += ending
         self.taken.add(name.lower())

@@ -165,6 +165,8 @@ class Task:
             refuse(section[1], f'{shown(word)} has more than 8 arguments')
         if word not in self.derived:
             self.derived[word] = Derived(word, parameters)
+        if len(self.derived) > 64:
+            refuse(section, 'there are more than 64 derived predicates')
         self.derived[word].rules.append((parameters, section[2]))
 
     def action(self, section):

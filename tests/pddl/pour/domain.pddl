@@ -31,4 +31,8 @@
  (:action rinse
   :parameters (?c ?d - cup)
   :effect (and (assign (level ?c) 1) (increase (level ?d) 1) (wet ?c)))
+ ; With anything wet it cannot be executed.
+ (:action dry
+  :parameters (?c - cup)
+  :effect (and (increase (level ?c) 2) (forall (?d - cup) (when (wet ?d) (assign (level ?c) 0)))))
  (:action finish :precondition (not (done)) :effect (done)))

@@ -16,4 +16,6 @@
   :parameters (?x)
   :precondition (and (person ?x) (sits king throne) (not (= ?x king)) (not (exists (?s) (sits ?x ?s))))
   :effect (bowed ?x))
+ (:action stay :parameters (?x) :precondition (person ?x))
+ (:action wait :effect ())
  (:action play :parameters () :precondition () :effect (music)))

@@ -1,0 +1,5 @@
+(define (problem all-or)
+ (:domain wishes)
+ (:objects a b c)
+ (:init (= (count) 0) (not (on a)))
+ (:goal (and (forall (?x) (or (not (on ?x)) (red ?x))) (exists (?x ?y) (and (on ?x) (on ?y) (not (= ?x ?y)))))))
