@@ -3,4 +3,4 @@
  (:domain tanks)
  (:objects shut - tank)
  (:init (= (level shut) 1) (= (room shut) 5))
- (:goal (and (= (level shut) 4) (>= 3 (best)) (< (- 7) (- (best) 2)))))
+ (:goal (and (= (level shut) 4) (>= 3 (best)) (= (- 7) (- (best) 10)))))
