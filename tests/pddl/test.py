@@ -300,6 +300,9 @@ def plans(tests):
     tests.translated(*[os.path.join(HERE, 'names', f'{name}.pddl') for name in ('domain', 'problem')])
     tests.write('x.plan', tests.search(6).stdout)
     names = [tests.path('x.domain'), tests.path('x.problem')]
+    with open(names[0], encoding='utf-8') as source:
+        text = source.read()
+    tests.check('names that differ in case', '(predicate STEPS-type 1)' in text and '(function Steps 0)' in text, text)
     came = tests.tool('to-val', tests.path('x.plan'), *names)
     tests.check('names given back', (came.returncode, came.stdout) == (0, "(Go Start it's)\n(Go it's über)\n(GOAL über END)\n"),
                 came)

@@ -3,11 +3,15 @@
 (define (domain circuit)
  (:requirements :adl :typing :derived-predicates)
  (:types node - object lamp plug - node)
- (:predicates (wire ?a ?b - node) (power ?p - plug) (broken ?l - lamp) (warm ?l - lamp) (lit ?l - lamp) (live ?n - node))
+ (:predicates (wire ?a ?b - node) (power ?p - plug) (broken ?l - lamp) (warm ?l - lamp) (lit ?l - lamp) (live ?n - node)
+  (safe ?n - node))
  (:derived (dark) (forall (?l - lamp) (not (lit ?l))))
  (:derived (lit ?l - lamp) (and (live ?l) (not (broken ?l))))
  (:derived (live ?n - node) (exists (?p - plug) (and (power ?p) (wire ?p ?n))))
  (:derived (live ?m - plug) (power ?m))
+ ; Whether a lamp is safe is not said by the second rule.
+ (:derived (safe ?n - node) (not (live ?n)))
+ (:derived (safe ?m - plug) (dark))
  (:action join
   :parameters (?a ?b - node)
   :precondition (and (not (wire ?a ?b)) (dark))

@@ -1,5 +1,5 @@
 (define (problem Names-2)
  (:domain NAMES-1)
- (:objects Start it's über until - Next END - until)
+ (:objects Start it's über until - Next END - until one-step - Steps)
  (:init (goal start) (next start IT'S) (next it's Über) (= (within über) 7) (= (within start) 6) (until end) (= steps 0))
  (:goal (and (for) (and-then ÜBER))))

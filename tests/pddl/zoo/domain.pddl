@@ -20,9 +20,16 @@
   :precondition (and (forall (?u - unicorn) (tame ?u)) (in donald main)
    (forall (?a - animal) (imply (exists (?c - cage) (in ?a ?c)) (not (fed ?a)))))
   :effect (closed))
+ (:action count-one
+  :parameters (?a - animal)
+  :precondition (in ?a main)
+  :effect (counted ?a))
  (:action tame-one
   :parameters (?u - unicorn)
   :effect (greeted main))
+ (:action fly
+  :parameters (?b - bird)
+  :effect (counted ?b))
  (:action greet
   :parameters (?x)
   :precondition (closed)
