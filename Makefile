@@ -3,7 +3,7 @@
 # make test       runs the examples, the rows of whole runs and the other tests with bin/tlplan, in two minutes and with no toolchain
 # make prove      proves and builds bin/tlplan with the Rattle toolchain, with all processors and a line for each crate, and
 #                 compares it byte for byte with the kept one where that is of the same sources
-# make keep       keeps the program that was proved of the sources as they stand, in program/; proves and builds it where it has to
+# make keep       keeps the gate's program of the sources as they stand, in program/; what the gate has not proved it proves
 # make gate       the gate: every proof, every test, every must-fail edit, every stored run
 # make install    puts the program, its tools, its manual page and its documents below PREFIX (/usr/local)
 # make clean      removes what was built
@@ -34,7 +34,7 @@ prove:
 	@build/prove
 
 keep:
-	@build/up-to-date || build/prove
+	@build/gated
 	@build/keep
 
 gate:
