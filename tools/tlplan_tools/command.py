@@ -1,10 +1,15 @@
 """What the tools do alike as commands: their help, their errors, and how they find and run the program."""
 
 import os
+import re
 import shutil
 import signal
 import subprocess
 import sys
+
+
+# How an answer to `check` or `explain` begins.
+ANSWER = re.compile('; (valid|disobeys|goal unmet|not executable [0-9]+|state 0: .*|range at [0-9]+: .*|refused file .*)$')
 
 
 class Trouble(Exception):
@@ -21,6 +26,8 @@ def run_tool(main, description):
     `--help` prints the description. Trouble, and whatever the system answers, is one line on standard error.
     """
     signal.signal(signal.SIGTERM, lambda number, frame: sys.exit(128 + number))
+    if not sys.stdout:
+        sys.exit(complain('standard output is closed'))
     for stream in (sys.stdout, sys.stderr):
         if stream:
             stream.reconfigure(encoding='utf-8', errors='surrogateescape')
@@ -33,7 +40,7 @@ def run_tool(main, description):
     except BrokenPipeError:
         status = 141
     except OSError as error:
-        status = complain(f'{error.filename or "cannot go on"}: {error.strerror}')
+        status = complain(f'{error.filename}: {error.strerror}' if error.filename else error.strerror)
     except RecursionError:
         status = complain('a form is nested too deep')
     sys.exit(status_after_writing(status))
@@ -48,13 +55,12 @@ def complain(message, status=2):
 def status_after_writing(status):
     """The status, or another one where the output cannot be written; then nothing more is written."""
     try:
-        if sys.stdout:
-            sys.stdout.flush()
+        sys.stdout.flush()
         return status
     except BrokenPipeError:
         status = 141
     except OSError as error:
-        status = complain(f'cannot write: {error.strerror}')
+        status = complain(error.strerror)
     os.dup2(os.open(os.devnull, os.O_WRONLY), sys.stdout.fileno())
     return status
 
@@ -110,10 +116,12 @@ class Run:
 
 
 def answer(words):
-    """The status and the lines of a run; where the program has no answer, that is the trouble."""
+    """The status and the lines that `check` or `explain` prints; where there is no such answer, that is the trouble."""
     run = Run(words)
     lines = list(run.lines())
     status = run.end()
-    if status not in range(5) or not lines:
-        raise Trouble(run.complaint or f'{program()} gives no answer, and ends with status {status}')
+    if run.complaint:
+        raise Trouble(run.complaint.split('\n')[0])
+    if status not in range(5) or not lines or not ANSWER.match(lines[0]):
+        raise Trouble(f'{program()} gives no answer of tlplan to {words[0]}')
     return status, lines

@@ -88,7 +88,8 @@ def place_lines(name, offset, message):
     before = shown(text[max(start, offset - BEFORE):offset])
     after = shown(text[offset:].split(b'\n', 1)[0].rstrip(b'\r'))[:AFTER]
     gap = '\t'.join(' ' * len(part) for part in before.split('\t'))
-    return [f'{name}:{number}:{offset - start + 1}: {message}', f'{number:5} | {before}{after}', f'      | {gap}^']
+    margin = f'{number:5}'
+    return [f'{name}:{number}:{offset - start + 1}: {message}', f'{margin} | {before}{after}', f'{" " * len(margin)} | {gap}^']
 
 
 def shown(text):

@@ -1,0 +1,2 @@
+" The files of tlplan.
+autocmd BufNewFile,BufRead *.domain,*.problem,*.plan,*.proof,*.costs setfiletype tlplan
