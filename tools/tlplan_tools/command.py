@@ -99,8 +99,7 @@ class Run:
     """A run of the program, whose lines are read one after another."""
 
     def __init__(self, words):
-        self.process = subprocess.Popen([program(), *words], stdin=subprocess.DEVNULL, stdout=subprocess.PIPE,
-                                        stderr=subprocess.PIPE)
+        self.process = subprocess.Popen([program(), *words], stdout=subprocess.PIPE, stderr=subprocess.PIPE)
 
     def lines(self):
         """The lines that are printed, without their ends."""

@@ -123,6 +123,17 @@ def rules_of(formula):
     return [(formula, formula)]
 
 
+def effects_within(effects, around=()):
+    """The effects that are no `when` and no `each`, each with the beginnings of those around it."""
+    for effect in effects:
+        if effect[0] == 'when':
+            yield from effects_within(effect[2:], [*around, effect[:2]])
+        elif effect[0] == 'each':
+            yield from effects_within(effect[3:], [*around, effect[:3]])
+        else:
+            yield effect, [*around]
+
+
 class File:
     """The text of a file, its forms, and the lines in which they begin."""
 

@@ -8,9 +8,9 @@ import os
 import tempfile
 
 from .command import Run, Trouble, answer
-from .forms import (Domain, Plan, Problem, State, conjuncts, fact_of, forms_of, is_integer, is_variable, lists_within,
+from .forms import (Domain, Plan, Problem, State, effects_within, fact_of, forms_of, is_integer, is_variable, lists_within,
                     parts_within, text_of, with_values)
-from .refusals import explanation
+from .refusals import checked
 
 LEAST_INTEGER, GREATEST_INTEGER = -2 ** 63, 2 ** 63 - 1
 
@@ -19,14 +19,9 @@ class Files:
     """A domain, a problem and a plan that the program accepts as files, and its verdict on the plan."""
 
     def __init__(self, words):
-        command = ['check', *words]
-        self.status, lines = answer(command)
-        self.verdict, *self.after = lines
-        if self.status == 3:
-            raise Trouble('\n'.join([*lines, *explanation(command, self.verdict)]), self.status)
+        self.status, (self.verdict, *self.after), self.place_lines = checked(words)
         self.domain, self.problem, self.plan = Domain(words[0]), Problem(words[1]), Plan(words[2])
         self.words = words
-        self.place_lines = explanation(command, self.verdict)
         self.ending = self.ending_without_control()
 
     def ending_without_control(self):
@@ -235,8 +230,8 @@ class Changes:
         domain = self.files.domain
         used = {action[0] for action in self.actions}
         effects = [effect for name in domain.operators if name in used
-                   for effect in lists_within(domain.operators[name].effects)]
-        kinds = dict.fromkeys((effect[0], effect[1][0]) for effect in effects if effect[0] in ('add', 'del', 'set'))
+                   for effect, _ in effects_within(domain.operators[name].effects)]
+        kinds = dict.fromkeys((effect[0], effect[1][0]) for effect in effects)
         return [Watch(kind, name, domain.functions[name] if kind == 'set' else domain.predicates[name])
                 for kind, name in kinds]
 

@@ -1,6 +1,10 @@
 """Where a file is refused, and why: the answers of the program in words, with the line and a caret, as compilers print them."""
 
+import os
 import re
+import stat
+
+from .command import Trouble, answer
 
 REFUSED = re.compile(r'; refused file ([0-9]+) rule ([0-9]+) at ([0-9]+)$')
 PAST_RANGE = re.compile(r'; range at ([0-9]+): (.*)$')
@@ -70,17 +74,42 @@ def explanation(words, line):
     return lines + (slip_lines(files[number - 1], number) if rule in (2, 3) else [])
 
 
+def checked(words):
+    """The status and the lines of `check` with these files, and what the first line means; a refused file is the trouble."""
+    for name in words:
+        if is_pipe(name):
+            raise Trouble(f'{name} is a pipe, and is read more than once; it has to be a file')
+    status, lines = answer(['check', *words])
+    placed = explanation(['check', *words], lines[0])
+    if status == 3:
+        raise Trouble('\n'.join([*lines, *placed]), status)
+    return status, lines, placed
+
+
+def is_pipe(name):
+    """Whether a file gives its text but once."""
+    try:
+        return stat.S_ISFIFO(os.stat(name).st_mode)
+    except OSError:
+        return False
+
+
+def front_of(name, size=-1):
+    """The first bytes of a file, or all; none where it cannot be read again."""
+    try:
+        with open(os.devnull if is_pipe(name) else name, 'rb') as source:
+            return source.read(size)
+    except OSError:
+        return b''
+
+
 def place_lines(name, offset, message):
     """The place in a file, as `FILE:LINE:COLUMN: MESSAGE`, its line, and a caret below it.
 
     The column counts bytes, from 1. Before the place, its line has ASCII alone, but where a comment makes a file too long:
     elsewhere the column in letters is the same.
     """
-    try:
-        with open(name, 'rb') as source:
-            text = source.read(offset + 4 * AFTER)
-    except OSError:
-        text = b''
+    text = front_of(name, offset + 4 * AFTER)
     if len(text) < offset:
         return [f'{name}: {message}, at byte {offset}']
     start = text.rfind(b'\n', 0, offset) + 1
@@ -99,11 +128,7 @@ def shown(text):
 
 def slip_lines(name, number):
     """Where a parenthesis too few or too many likely is, in the file of this number among the files of a command."""
-    try:
-        with open(name, 'rb') as source:
-            lines = source.read().decode('latin-1').split('\n')
-    except OSError:
-        return []
+    lines = front_of(name).decode('latin-1').split('\n')
     found = first_slip(lines, number)
     if not found:
         return []

@@ -29,6 +29,8 @@ def events(words):
     """The events of the trace in the file that is given, or on standard input."""
     if len(words) > 1:
         raise Trouble('the words are [TRACE]; --help says more')
+    if not words and not sys.stdin:
+        raise Trouble('standard input is closed')
     if not words:
         yield from events_in(sys.stdin.buffer)
         return
