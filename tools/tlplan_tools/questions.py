@@ -9,7 +9,7 @@ import tempfile
 
 from .command import Run, Trouble, answer
 from .forms import (Domain, Plan, Problem, State, effects_within, fact_of, forms_of, is_integer, is_variable, lists_within,
-                    parts_within, text_of, with_values)
+                    parts_within, text_of)
 from .refusals import checked
 
 LEAST_INTEGER, GREATEST_INTEGER = -2 ** 63, 2 ** 63 - 1
@@ -29,10 +29,16 @@ class Files:
         executable, or the operation past 64 bits."""
         if self.status != 4:
             return self.verdict if self.verdict.startswith('; not executable ') else '; end'
+        # The values of the plan have to stand in the copy, whatever is left out.
+        values = {value for action in self.plan.actions for value in action[1:]}
+        spare = ['operator', [Names(self.domain).new('spare')], ['pre', ['and', *(['=', value, value] for value in values)]]]
+        items = without_control(self.domain, self.plan.actions)
         with tempfile.TemporaryDirectory() as folder:
-            domain = written(folder, 'domain', text_of_domain(without_control(self.domain, self.plan.actions)))
+            domain = written(folder, 'domain', text_of_domain([*items, spare]))
             _, lines = answer(['explain', domain, self.words[1], self.words[2]])
-        return self.verdict if lines[0].startswith('; range ') else lines[-1]
+        if lines[0].startswith('; range '):
+            return self.verdict
+        return lines[-1] if lines[0].startswith('; state ') else complain_of_copy(lines[0])
 
     def executable(self):
         """The actions of the plan that can be executed one after another."""
@@ -101,7 +107,7 @@ class EndOfPlan:
         self.wanted = {name: self.names.new('want-' + name) for name in goal_names(domain, problem)}
         self.here = self.names.new('here')
         finish = self.names.new('finish')
-        goal = [with_values(element, self.wanted) for element in problem.goal]
+        goal = [self.wanted_element(element) for element in problem.goal]
         self.items = [['predicate', self.here, '0']]
         self.items += [['predicate', self.wanted[name], str(arity)] for name, arity in domain.predicates.items()
                        if name in self.wanted]
@@ -116,9 +122,15 @@ class EndOfPlan:
         """The form, in which `goal` speaks of the names of the copy's goal."""
         if isinstance(form, str):
             return form
-        if len(form) == 2 and form[0] == 'goal':
-            return [form[0], with_values(form[1], self.wanted)]
+        if len(form) == 2 and form[0] == 'goal' and isinstance(form[1], list):
+            return [form[0], self.wanted_element(form[1])]
         return [self.renamed(part) for part in form]
+
+    def wanted_element(self, element):
+        """An element of a goal, by the name that it has in the copy."""
+        if element[0] in ('=', 'not'):
+            return [element[0], self.wanted_element(element[1]), *element[2:]]
+        return [self.wanted[element[0]], *element[1:]]
 
     def verdict_on(self, control):
         """What `check` answers with this control formula."""
