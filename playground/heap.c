@@ -1,5 +1,5 @@
-// What the planner's module takes from C in a page: a heap over the memory of a wasm64 module, and a product of 128 bits
-// that its compiler calls. For one thread.
+// What the planner's module takes from C in a page: a heap over the memory of a wasm64 module, a product of 128 bits
+// that its compiler calls, and a second name of a call. For one thread.
 typedef unsigned char byte;
 typedef unsigned long word; // 64 bits
 
@@ -90,4 +90,10 @@ unsigned __int128 __multi3(unsigned __int128 a, unsigned __int128 b) {
     word high = a1 * b1 + (first >> 32) + (second >> 32);
     high += (word)(a >> 64) * low_b + low_a * (word)(b >> 64);
     return (unsigned __int128)high << 64 | (second << 32 | (unsigned)low);
+}
+
+// The C library has its write by two names.
+extern long write(int descriptor, const void *from, word length);
+long __write(int descriptor, const void *from, word length) {
+    return write(descriptor, from, length);
 }
