@@ -1,5 +1,5 @@
 // What the planner's module takes from C in a page: a heap over the memory of a wasm64 module, a product of 128 bits
-// that its compiler calls, and a second name of a call. For one thread.
+// that its compiler calls, and what it asks first. For one thread.
 typedef unsigned char byte;
 typedef unsigned long word; // 64 bits
 
@@ -92,7 +92,16 @@ unsigned __int128 __multi3(unsigned __int128 a, unsigned __int128 b) {
     return (unsigned __int128)high << 64 | (second << 32 | (unsigned)low);
 }
 
-// The C library has its write by two names.
+// Before anything else the program asks its processor for what it was compiled for, and ends where that lacks it. Here it is
+// compiled for another one, so it is told that all is there.
+const byte *__x86_get_cpuid_feature_leaf(unsigned leaf);
+const byte *__x86_get_cpuid_feature_leaf(unsigned leaf) {
+    static const word features[4] = {-1UL, -1UL, -1UL, -1UL};
+    (void)leaf;
+    return (const byte *)features;
+}
+
+// By this name of the write it would say so.
 extern long write(int descriptor, const void *from, word length);
 long __write(int descriptor, const void *from, word length) {
     return write(descriptor, from, length);
