@@ -3,8 +3,8 @@
 # make test       runs the examples, the rows of whole runs and the other tests with bin/tlplan, in two minutes and with no toolchain
 # make prove      proves and builds bin/tlplan with the Rattle toolchain, with all processors and a line for each crate, and
 #                 compares it byte for byte with the kept one where that is of the same sources
-# make keep       keeps the gate's program of the sources as they stand, in program/; what the gate has not proved it proves
-# make gate       the gate: every proof, every test, every must-fail edit, every stored run
+# make keep       keeps the proved program of the sources as they stand, in program/; where it is not there, it is proved first
+# make gate       the gate: every proof, every test, every must-fail edit, every stored run; its program is bin/tlplan then
 # make page       makes playground/tlplan.html anew: proves the program, and compiles it for WebAssembly
 # make install    puts the program, its tools, its manual page and its documents below PREFIX (/usr/local)
 # make clean      removes what was built
@@ -38,11 +38,11 @@ prove:
 	@build/prove
 
 keep:
-	@build/gated
+	@build/up-to-date || build/prove
 	@build/keep
 
 gate:
-	rt ci
+	@build/gate
 
 page:
 	playground/make
