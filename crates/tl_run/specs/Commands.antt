@@ -73,6 +73,10 @@ command_in (word ∷ (mode ∷ (within ∷ (nodes ∷ (domain ∷ (problem ∷ [
     option_and_then (search_command word domain problem) (search_in mode within nodes)
 command_in words = None
 
+-- P holds of the command that these words write, if they write one
+abbrev pub ForCommand : List (List ℕ) → (Command → Type 0) → Type 0
+ForCommand words P = (c : Command) → command_in words ≡ Some c → P c
+
 -- the numbers of a command are within their limits
 abbrev pub KeepsLimits : Command → Type 0
 KeepsLimits (check domain problem plan) = ⊤

@@ -9,6 +9,9 @@ pub record SinkTold : Type 0 where
   pub bytes : Option (List ℕ)
   pub puts : Option (List Put)
 
+abbrev pub sink_told : Option (List ℕ) → Option (List Put) → SinkTold
+sink_told bytes puts = record { bytes = bytes; puts = puts }
+
 -- all of a text was sent: each call was given all that was left, and none failed
 abbrev pub SendsAll : SinkTold → SinkTold → List ℕ → Type 0
 SendsAll old new text = (new.bytes ≡ append_known old.bytes text) × WritesBy old.puts new.puts text true

@@ -44,6 +44,9 @@ pub record CallsTold : Type 0 where
   pub before : Option (List Call)
   pub after : Option (List Call)
 
+abbrev pub calls_told : Option (List Call) → Option (List Call) → CallsTold
+calls_told before after = record { before = before; after = after }
+
 -- no file was begun, or at most as many as the number of a file that has its turn
 abbrev pub BegunInTurn : Option Files → Command → ℕ → Type 0
 BegunInTurn files c count = (count ≡ 0) ⊎ ReachesFile (λ k r name before. count ≤ k) files c

@@ -4,12 +4,13 @@ ghost use Rattle.std.specs.String.{string_bytes};
 ghost use Rattle.tl_outside.specs.Causes.{Rose};
 ghost use Rattle.tl_outside.specs.Told.{Files};
 ghost use Rattle.tl_run.specs.Answers.{Answer};
-ghost use Rattle.tl_run.specs.Commands.{Command, command_in};
+ghost use Rattle.tl_run.specs.Commands.{ForCommand, command_in};
 ghost use Rattle.tl_run.specs.Inputs.{Input};
 ghost use Rattle.tl_run.specs.Promises.{Allows, AnswersRightly, Gives, IsCalm, IsCalmStatus, Writes};
 ghost use Rattle.tl_run.specs.Replies.{HasLines, Sends};
+ghost use Rattle.tl_run.specs.Sent.{sink_told};
 ghost use Rattle.tl_run.specs.Stops.{is_read_fault};
-ghost use Rattle.tl_run.specs.Turns.{BeginsInTurn, LacksFile};
+ghost use Rattle.tl_run.specs.Turns.{BeginsInTurn, LacksFile, calls_told};
 
 use crate::laws::laws;
 use crate::reply::{Reply, reply_to};
@@ -21,8 +22,8 @@ use tl_outside::{Sink, Store, write_whole};
 /// Sends the lines of a reply, and answers how the run ends.
 fn send<K: Sink>(out: &mut K, reply: &Reply) -> Status
     requires { HasLines reply.now.status }
-    ensures sent { Sends (record { bytes = K.bytes out.old; puts = K.puts out.old }) (record { bytes = K.bytes out.new; puts = K.puts out.new })
-        reply.now.status reply.now.text result }
+    ensures sent { Sends (sink_told (K.bytes out.old) (K.puts out.old))
+        (sink_told (K.bytes out.new) (K.puts out.new)) reply.now.status reply.now.text result }
     ensures fault { result ≡ Status.WriteFault → Rose (K.faults out.old) (K.faults out.new) }
 {
     match write_whole(out, reply.text.as_slice()) {
@@ -40,26 +41,27 @@ pub fn run<S: Store, K: Sink>(alloc: Global, words: &[String], store: &mut S, ou
 
     // A file is begun only in its turn, by its name, after those before it have passed; and a call of the store that
     // fails is its last, and the answer a read fault.
-    ensures calls { (c : Command) → command_in (map string_bytes words.now) ≡ Some c
-        → BeginsInTurn (S.files store.old) c (record { before = S.calls store.old; after = S.calls store.new }) (is_read_fault result) }
-    ensures read_fault { (c : Command) → command_in (map string_bytes words.now) ≡ Some c → result ≡ Status.ReadFault
-        → LacksFile (S.files store.old) c ⊎ Rose (S.faults store.old) (S.faults store.new) }
+    ensures calls { ForCommand (map string_bytes words.now) (λ c.
+        BeginsInTurn (S.files store.old) c (calls_told (S.calls store.old) (S.calls store.new)) (is_read_fault result)) }
+    ensures read_fault { ForCommand (map string_bytes words.now) (λ c. result ≡ Status.ReadFault
+        → LacksFile (S.files store.old) c ⊎ Rose (S.faults store.old) (S.faults store.new)) }
     ensures write_fault { result ≡ Status.WriteFault → Rose (K.faults out.old) (K.faults out.new) }
 
     // What is written is an answer that the files allow, and the headline holds of it: all of its text, or, where a
     // call of the sink fails, a front part, and then nothing more.
-    ensures answers { (c : Command) → command_in (map string_bytes words.now) ≡ Some c
-        → Writes (AnswersRightly (S.files store.old) c (record { before = S.calls store.old; after = S.calls store.new }))
-        (record { bytes = K.bytes out.old; puts = K.puts out.old }) (record { bytes = K.bytes out.new; puts = K.puts out.new }) result }
+    ensures answers { ForCommand (map string_bytes words.now) (λ c.
+        Writes (AnswersRightly (S.files store.old) c (calls_told (S.calls store.old) (S.calls store.new)))
+        (sink_told (K.bytes out.old) (K.puts out.old)) (sink_told (K.bytes out.new) (K.puts out.new)) result) }
 
     // An answer that the files allow is the one that is written, but for those that come in its place by a cause of their own.
-    ensures exact { (c : Command) (told : Files) (input : Input) (answer : Answer)
-        → command_in (map string_bytes words.now) ≡ Some c → S.files store.old ≡ Some told
-        → Allows (Some told) c input answer → Gives (K.bytes out.old) (K.bytes out.new) input answer result }
+    ensures exact { ForCommand (map string_bytes words.now) (λ c. (told : Files) (input : Input) (answer : Answer)
+        → S.files store.old ≡ Some told → Allows (Some told) c input answer
+        → Gives (K.bytes out.old) (K.bytes out.new) input answer result) }
 
-    // Where nothing past range is looked at, no operation past range is the answer; and where a search may keep all search nodes of at most N actions, it ends with a plan or without one.
-    ensures calm { (c : Command) (told : Files) → command_in (map string_bytes words.now) ≡ Some c → S.files store.old ≡ Some told
-        → IsCalm (Some told) c → IsCalmStatus result }
+    // Where nothing past range is looked at, no operation past range is the answer; and where a search may keep
+    // all search nodes of at most N actions, it ends with a plan or without one.
+    ensures calm { ForCommand (map string_bytes words.now) (λ c. (told : Files) → S.files store.old ≡ Some told
+        → IsCalm (Some told) c → IsCalmStatus result) }
 {
     laws();
     let Some(command) = command_of(words) else {

@@ -4,7 +4,7 @@ ghost use Rattle.tl_run.specs.Commands.{KeepsLimits};
 ghost use Rattle.tl_run.specs.Held.{IsHeld, KeepsBounds};
 ghost use Rattle.tl_run.specs.Inputs as inputs;
 ghost use Rattle.tl_run.specs.Stops.{IsStop, ReadsFiles, has_read_fault};
-ghost use Rattle.tl_run.specs.Turns.{BeginsInTurn, HoldInput};
+ghost use Rattle.tl_run.specs.Turns.{BeginsInTurn, HoldInput, calls_told};
 ghost use Rattle.tl_run.specs.Words.{command_meant};
 
 use crate::stop::Stop;
@@ -21,9 +21,9 @@ fn read_files<S: Store>(alloc: Global, store: &mut S, command: Command<'_>) -> R
         × HoldInput (S.files store.old) (command_meant command.entry) x × IsHeld held x) }
     ensures keeps { IfOk result KeepsBounds }
     ensures stop { IfErr result (IsStop (S.files store.old) (command_meant command.entry)
-        (record { before = S.calls store.old; after = S.calls store.new }) (S.faults store.old) (S.faults store.new)) }
+        (calls_told (S.calls store.old) (S.calls store.new)) (S.faults store.old) (S.faults store.new)) }
     ensures calls { BeginsInTurn (S.files store.old) (command_meant command.entry)
-        (record { before = S.calls store.old; after = S.calls store.new }) (has_read_fault result) }
+        (calls_told (S.calls store.old) (S.calls store.new)) (has_read_fault result) }
 {
     let files = command.files(alloc)?;
     let mut input = Input::Nothing;
@@ -46,9 +46,9 @@ pub(crate) fn read_input<S: Store>(
         × HoldInput (S.files store.old) (command_meant command.entry) x × IsHeld held x) }
     ensures keeps { IfOk result KeepsBounds }
     ensures stop { IfErr result (IsStop (S.files store.old) (command_meant command.entry)
-        (record { before = S.calls store.old; after = S.calls store.new }) (S.faults store.old) (S.faults store.new)) }
+        (calls_told (S.calls store.old) (S.calls store.new)) (S.faults store.old) (S.faults store.new)) }
     ensures calls { BeginsInTurn (S.files store.old) (command_meant command.entry)
-        (record { before = S.calls store.old; after = S.calls store.new }) (has_read_fault result) }
+        (calls_told (S.calls store.old) (S.calls store.new)) (has_read_fault result) }
 {
     match command {
         Command::Sample { balls } => read_sample(alloc, balls),

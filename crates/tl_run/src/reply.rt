@@ -8,7 +8,7 @@ ghost use Rattle.tl_run.specs.Promises.{IsAnswer};
 ghost use Rattle.tl_run.specs.Refusals.{refusal_text};
 ghost use Rattle.tl_run.specs.Replies.{FitsCommand, Replies};
 ghost use Rattle.tl_run.specs.Stops.{IsBareStatus, ends_by_read_fault};
-ghost use Rattle.tl_run.specs.Turns.{BeginsInTurn};
+ghost use Rattle.tl_run.specs.Turns.{BeginsInTurn, calls_told};
 ghost use Rattle.tl_run.specs.Words.{command_meant};
 
 use crate::commands::{
@@ -96,10 +96,10 @@ pub(crate) fn reply_to<S: Store>(
 ) -> Result<Reply, Status>
     requires { KeepsLimits (command_meant command) }
     ensures answer { IfOk result (λ reply. IsAnswer (S.files store.old) (command_meant command.entry)
-        (record { before = S.calls store.old; after = S.calls store.new }) reply.status reply.text) }
+        (calls_told (S.calls store.old) (S.calls store.new)) reply.status reply.text) }
     ensures bare { IfErr result (IsBareStatus (S.files store.old) (command_meant command.entry) (S.faults store.old) (S.faults store.new)) }
     ensures calls { BeginsInTurn (S.files store.old) (command_meant command.entry)
-        (record { before = S.calls store.old; after = S.calls store.new }) (ends_by_read_fault result) }
+        (calls_told (S.calls store.old) (S.calls store.new)) (ends_by_read_fault result) }
 {
     match read_input(alloc, store, command) {
         Ok(input) => Ok(reply_over(alloc, command, input)?),

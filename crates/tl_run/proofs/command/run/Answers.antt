@@ -43,7 +43,7 @@ returns-in-Ok-clause-answers g c = λ cmd e.
     (sent_writes (AnswersRightly files a calls) old new reply.status c.send.result reply.text (has_lines files a calls reply.status reply.text answer) right c.send.ensures.sent)
 
 pub returns-in-Ok-clause-exact : goal.returns-in-Ok-clause-exact
-returns-in-Ok-clause-exact g c = λ cmd told input answer e is allowed.
+returns-in-Ok-clause-exact g c = λ cmd e told input answer is allowed.
     let calls : CallsTold = record { before = g.S.Store.calls c.args.store.now; after = g.S.Store.calls c.reply_to.new.store } in
     let a = command_meant c.in-Some.command in
     let reply = c.in-Ok.reply in
@@ -52,7 +52,7 @@ returns-in-Ok-clause-exact g c = λ cmd told input answer e is allowed.
     (answer_agrees c.laws.ensures told cmd calls input answer reply.status reply.text allowed given) c.send.ensures.sent
 
 pub returns-in-Ok-clause-calm : goal.returns-in-Ok-clause-calm
-returns-in-Ok-clause-calm g c = λ cmd told e is calm.
+returns-in-Ok-clause-calm g c = λ cmd e told is calm.
     let calls : CallsTold = record { before = g.S.Store.calls c.args.store.now; after = g.S.Store.calls c.reply_to.new.store } in
     let a = command_meant c.in-Some.command in
     let reply = c.in-Ok.reply in
@@ -116,8 +116,8 @@ returns-in-Err-clause-answers g c = λ cmd e.
     bare_writes (AnswersRightly files cmd calls) files (command_meant c.in-Some.command) (g.S.Store.faults c.args.store.now) (g.S.Store.faults c.reply_to.new.store) old old c.in-Err.status c.in-Err.ensures.bare refl
 
 pub returns-in-Err-clause-exact : goal.returns-in-Err-clause-exact
-returns-in-Err-clause-exact g c = λ cmd told input answer e is allowed.
+returns-in-Err-clause-exact g c = λ cmd e told input answer is allowed.
     bare_gives (g.S.Store.files c.args.store.now) (command_meant c.in-Some.command) (g.S.Store.faults c.args.store.now) (g.S.Store.faults c.reply_to.new.store) (g.K.Sink.bytes c.args.out.now) (g.K.Sink.bytes c.args.out.now) input answer c.in-Err.status c.in-Err.ensures.bare
 
 pub returns-in-Err-clause-calm : goal.returns-in-Err-clause-calm
-returns-in-Err-clause-calm g c = λ cmd told e is calm. bare_calm (g.S.Store.files c.args.store.now) (command_meant c.in-Some.command) (g.S.Store.faults c.args.store.now) (g.S.Store.faults c.reply_to.new.store) c.in-Err.status c.in-Err.ensures.bare
+returns-in-Err-clause-calm g c = λ cmd e told is calm. bare_calm (g.S.Store.files c.args.store.now) (command_meant c.in-Some.command) (g.S.Store.faults c.args.store.now) (g.S.Store.faults c.reply_to.new.store) c.in-Err.status c.in-Err.ensures.bare
