@@ -28,7 +28,7 @@ use Rattle.tl_search.specs.declared.outcome.Outcome.TheVariants as outcome
 use Rattle.tl_search.specs.Arrivals.{Arrives}
 use Rattle.tl_breadth.specs.Outcomes.{GrowsBy, HasLevels, EndsEarly}
 use Rattle.tl_search.specs.Events.{event_of, events_after}
-use Rattle.tl_breadth.specs.Events.{Arrived, IsEarlier, AreInTurn, IsArrival, AreFirstArrivals, AreAllArrivals, arrived_in, arrivals_of, IsReported, IsReportedSomewhere, HasReported, IsTicked, TicksArrival, EndsAtLast, EndsWithPathIfAny}
+use Rattle.tl_breadth.specs.Events.{Arrived, IsEarlier, AreInTurn, IsArrival, AreFirstArrivals, AreAllArrivals, arrived_in, arrivals_of, TellsRootOnce, IsReported, IsReportedSomewhere, HasReported, IsTicked, TicksArrival, EndsAtLast, EndsWithPathIfAny}
 use Rattle.tl_search.specs.Ends.{EndsByKeeping}
 use Rattle.tl_search.proofs.HistoryLaws.{history-kept, history-pruned, history-more}
 use Rattle.tl_breadth.proofs.Growing.{grows-same, grows-one}
@@ -140,7 +140,8 @@ report-step p n watch from old new at pair listed k a r events later steps is_pa
   all = more-all p n old new at pair is_pair short listed l k a turn g s.arrived s.first s.upto s.all;
   ticks = let q : length (s.arrived ++ (at, a) ∷ []) ≡ suc (length s.arrived) = length-snoc s.arrived (at, a) in omega (arith, s.ticks);
   history = history-more p watch old new at pair a r events later s.history is_pair h kept e;
-  shown = λ w. ap arrivals_of (watched w) ∙ (arrivals-snoc events (event_of at a r) ∙ (ap (λ us. us ++ arrived_in (event_of at a r)) (s.shown w) ∙ ap (λ us. s.arrived ++ us) (one-arrival at a r)));
+  shown = λ w. shown_more w ∙ ap (λ us. us ++ (at, a) ∷ []) (s.shown w);
+  root_once = λ w. ap length (watched w) ∙ (length-snoc events (event_of at a r) ∙ ap suc (s.root_once w ∙ sym (ap length (shown_more w) ∙ length-snoc (arrivals_of events) (at, a))));
 }
   where
     g : GrowsBy (length pair.path + 1) old new
@@ -148,6 +149,9 @@ report-step p n watch from old new at pair listed k a r events later steps is_pa
 
     watched : watch ≡ true → later ≡ events ++ event_of at a r ∷ []
     watched w = e ∙ ap (λ b. events_after b events (event_of at a r)) w
+
+    shown_more : watch ≡ true → arrivals_of later ≡ arrivals_of events ++ (at, a) ∷ []
+    shown_more w = ap arrivals_of (watched w) ∙ (arrivals-snoc events (event_of at a r) ∙ ap (λ us. arrivals_of events ++ us) (one-arrival at a r))
 
 -- the next pair has its turn: all that are executable were tried
 pub report-next : (p : PlainProblem) (n : ℕ) (watch : Bool) (from : ℕ) (kept : List KeptPair) (at : ℕ) (pair : KeptPair) (listed : List Action) (events : List Event) (steps : ℕ) → slice_get kept at ≡ Some pair → ListsActions p pair.node.world listed → IsReported p n watch from kept at listed events steps → IsReported p n watch from kept (at + 1) [] events steps
@@ -159,6 +163,7 @@ report-next p n watch from kept at pair listed events steps is_pair l s = record
   ticks = s.ticks;
   history = s.history;
   shown = s.shown;
+  root_once = s.root_once;
 }
   where
     is : (r : Arrived) → IsTried at listed r.0 r.1 → IsTried (at + 1) [] r.0 r.1
@@ -204,6 +209,7 @@ report-root p n watch from old new k later e h l = record {
   ticks = omega arith;
   history = history-kept p watch old new k later e h l;
   shown = λ w. ap arrivals_of (l ∙ ap (λ b. events_after b [] event.RootKept) w);
+  root_once = λ w. subst TellsRootOnce (sym (l ∙ ap (λ b. events_after b [] event.RootKept) w)) refl;
 }
   where
     nothing : (r : Arrived) → IsTried 0 [] r.0 r.1 → ⊥
@@ -222,6 +228,7 @@ report-no-root p n watch from old new later e h l = (
     ticks = omega arith;
     history = history-pruned p watch old new later e h l;
     shown = λ w. ap arrivals_of (l ∙ ap (λ b. events_after b [] event.RootPruned) w);
+    root_once = λ w. subst TellsRootOnce (sym (l ∙ ap (λ b. events_after b [] event.RootPruned) w)) refl;
   },
   λ r q. absurd (none r q),
 )

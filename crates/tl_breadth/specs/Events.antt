@@ -1,5 +1,5 @@
 -- The order in which a breadth-first search has its arrivals, and what it reports of them.
-use Rattle.std.specs.Prelude.{◌≡◌, ◌<◌, ◌+◌, ◌⊎◌, ℕ, List, [], ◌∷◌, ◌++◌, length, take, slice_get, Bool, true, Option, Some, None, IsTrue, is_some}
+use Rattle.std.specs.Prelude.{◌≡◌, ◌<◌, ◌+◌, ◌⊎◌, ℕ, suc, List, [], ◌∷◌, ◌++◌, length, take, slice_get, Bool, true, Option, Some, None, IsTrue, is_some}
 use Rattle.std.specs.declared.cmp.Ordering.TheVariants.{Less}
 use Rattle.tl_syntax.specs.declared.action.Action.{Action}
 use Rattle.tl_syntax.specs.Lists.{Each, Among}
@@ -57,7 +57,11 @@ abbrev pub arrivals_of : List Event → List Arrived
 arrivals_of [] = []
 arrivals_of (e ∷ es) = arrived_in e ++ arrivals_of es
 
--- as many steps as arrivals; the arrivals are the first ones and those of what was tried; where they are watched, the events are true and report just these
+-- one event more than the arrivals that the events report: the root's, which is told once
+abbrev pub TellsRootOnce : List Event → Type 0
+TellsRootOnce events = length events ≡ suc (length (arrivals_of events))
+
+-- as many steps as arrivals; the arrivals are the first ones and those of what was tried; where they are watched, the events are true and report just these after the root's
 pub record IsReported (p : PlainProblem) (n : ℕ) (watch : Bool) (from : ℕ) (kept : List KeptPair) (done : ℕ) (tried : List Action) (events : List Event) (steps : ℕ) : Type 0 where
   pub arrived : List Arrived
   pub first : AreFirstArrivals p n kept arrived
@@ -65,6 +69,7 @@ pub record IsReported (p : PlainProblem) (n : ℕ) (watch : Bool) (from : ℕ) (
   pub all : (r : Arrived) → IsArrival p n kept r → IsTried done tried r.0 r.1 → Among r arrived
   pub ticks : steps ≡ from + length arrived
   pub shown : watch ≡ true → arrivals_of events ≡ arrived
+  pub root_once : watch ≡ true → TellsRootOnce events
   pub history : IsHistory p watch kept events
 
 -- it is so after some part of the search
