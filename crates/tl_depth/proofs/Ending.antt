@@ -28,7 +28,11 @@ use Rattle.tl_depth.proofs.OrderFacts.{none-before}
 use Rattle.tl_depth.proofs.Running as run
 use Rattle.tl_depth.proofs.PairAnswers.{differ-places, kept-near, nothing-left, calls-few}
 use Rattle.tl_depth.proofs.PairWalks.{by_falsum, none-open, none-accepted, leading-walks, pairs-lawful, pairs-actions}
-use Rattle.tl_depth.specs.Outcomes.{Reported, AreFewCalls, IsDepthFirstOutcome, IsDepthFirstFault, IsToldOutcome}
+use Rattle.tl_search.specs.Events.{events_after}
+use Rattle.tl_search.specs.declared.event.Event.TheVariants as event
+use Rattle.tl_depth.specs.Entering.{AreInDepth}
+use Rattle.tl_depth.specs.Following.{IsFollowed}
+use Rattle.tl_depth.specs.Outcomes.{Reported, AreFewCalls, IsDepthFirstOutcome, IsDepthFirstFault, IsToldOutcome, AllAreReported, TellsInDepth}
 use Rattle.tl_depth.specs.Ongoing.{IsOngoing, IsEntered, IsEntryFault, HasDoneNothing, HasRootAlone, BeginsSearch, TurnedTo, to_do}
 use Rattle.tl_search.specs.declared.event.Event.{Event}
 use Rattle.tl_depth.specs.Search.{Reports}
@@ -39,6 +43,7 @@ use Rattle.tl_search.specs.declared.fault.SearchFault.{SearchFault}
 use Rattle.tl_search.specs.declared.fault.SearchFault.TheVariants as fault
 use Rattle.tl_depth.specs.declared.stack.DepthFirst.{DepthFirst}
 use Rattle.tl_search.specs.declared.outcome.Outcome.TheVariants as outcome
+use Rattle.tl_depth.proofs.Following.{follow-ended, follow-root-last, follow-root-entered, pruned-in-depth}
 use Rattle.tl_depth.proofs.GoingOn.{ongoing, uncut-pushed}
 
 -- ---- the end
@@ -53,8 +58,8 @@ module _ (p : PlainProblem) (b : ℕ) (kept : List Pair) (w : DepthFirst) (calls
   pub exhausted : w.stack.items ≡ [] → IsExhausted p w.within (Reported w.watch kept w.events) kept w.most.items
   exhausted e = nothing-left p w.within s.unpruned (Reported w.watch kept w.events) kept w.most.items calls (subst (λ us. IsRunning pair_discrete (graph_of p) w.within (Reported w.watch kept w.events) kept w.most.items us calls) e s.running)
 
-  pub ends-told : w.stack.items ≡ [] → (x : Pair) (d : ℕ) → IsDistance p x d → d < w.within → (a : Action) → IsTrue (is_some (step p x.world a)) → Reported w.watch kept w.events x a
-  ends-told e = (exhausted e).told
+  pub ends-told : w.stack.items ≡ [] → AllAreReported p w.within w.watch kept w.events × TellsInDepth p w.within w.watch kept false w.events
+  ends-told e = ((exhausted e).told, λ h. follow-ended p w.within kept w.most.items w.events (subst (λ us. IsFollowed p w.within kept w.most.items us w.events) e (s.followed h)))
 
   pub ends-cut : w.stack.items ≡ [] → ((k : ℕ) × (slice_get w.most.items k ≡ Some 0)) → IsDepthFirstOutcome p w.within b kept outcome.NoneWithin
   ends-cut e k = let x = exhausted e in (x.none, x.cut.0 k, s.few, near-kept)
@@ -91,10 +96,10 @@ one-near p n x h = record { differ = λ i j y e f. differ-places (x ∷ []) (tt,
     at zero y e = let same : x ≡ y = cc in subst (IsNear p n) same h
     at (suc i) y e = absurd (let z : ⊥ = cc in z)
 
-pub begins-pruned : (watch : Bool) (events : List Event) (p : PlainProblem) (n b : ℕ) (kept : List Pair) → kept ≡ [] → unless_pruned (Some (first_pair p)) ≡ None → IsDepthFirstOutcome p n b kept outcome.NoPlan × AreFewCalls p n kept 0 × ((x : Pair) (d : ℕ) → IsDistance p x d → d < n → (a : Action) → IsTrue (is_some (step p x.world a)) → Reported watch kept events x a)
-begins-pruned watch events p n b kept e u =
+pub begins-pruned : (watch : Bool) (events : List Event) (p : PlainProblem) (n b : ℕ) (kept : List Pair) → kept ≡ [] → unless_pruned (Some (first_pair p)) ≡ None → events ≡ events_after watch [] event.RootPruned → IsDepthFirstOutcome p n b kept outcome.NoPlan × AreFewCalls p n kept 0 × (AllAreReported p n watch kept events × TellsInDepth p n watch kept false events)
+begins-pruned watch events p n b kept e u told =
     let f = pruned-false p u in
-    ((none-accepted p f, λ x m d. absurd (none-open p f d.path d.open_path), omega (arith, ap length e), subst (AreNear p n) (sym e) (none-near p n)), none-calls p n kept, λ x d h. absurd (none-open p f h.path h.open_path))
+    ((none-accepted p f, λ x m d. absurd (none-open p f d.path d.open_path), omega (arith, ap length e), subst (AreNear p n) (sym e) (none-near p n)), none-calls p n kept, (λ x d h. absurd (none-open p f h.path h.open_path), λ w. subst (AreInDepth p n kept false) (sym (told ∙ ap (λ c. events_after c [] event.RootPruned) w)) (pruned-in-depth p n kept)))
 
 none-before-empty : (p : PlainProblem) (n : ℕ) → HasNoSimplePlanBefore p n []
 none-before-empty p n other l t v = none-before other
@@ -150,25 +155,28 @@ module _ (p : PlainProblem) (b : ℕ) (kept : List Pair) (x : Pair) (some : 1 �
   refused-first : (IsPairAccepted p x → ⊥) → IsPairAccepted p (first_pair p) → ⊥
   refused-first r a = r (subst (IsPairAccepted p) (unpruned-first p x first).1 a)
 
-  pub begun-last : (w after : DepthFirst) → HasDoneNothing w → (IsPairAccepted p x → ⊥) → w.within ≡ 0 → after.within ≡ w.within → after.watch ≡ w.watch → after.events ≡ w.events → after.reenters ≡ true → after.stack.items ≡ w.stack.items → after.most.items ≡ w.most.items ++ w.within ∷ []
+  pub begun-last : (w after : DepthFirst) → HasDoneNothing w → (IsPairAccepted p x → ⊥) → w.within ≡ 0 → after.within ≡ w.within → after.watch ≡ w.watch → after.events ≡ w.events → after.reenters ≡ true → after.stack.items ≡ w.stack.items → after.most.items ≡ w.most.items ++ w.within ∷ [] → w.events ≡ events_after w.watch [] event.RootKept
       → BeginsSearch p b kept w after None
   unfolding graph_of
-  begun-last w after new refused z wn ww we wr ws wm = (
+  begun-last w after new refused z wn ww we wr ws wm told = (
     ongoing p b w.within w.watch kept w.events (w.within ∷ []) [] 0 after (unpruned-first p x first).0
         (subst (λ k. IsRunning pair_discrete (graph_of p) w.within (Reported w.watch kept w.events) k (w.within ∷ []) [] 0) (sym only) (run.begins-last pair_discrete (graph_of p) w.within (pairs-lawful p) (Reported w.watch kept w.events) z (refused-first refused)))
-        (omega (arith, ap length is)) tt (λ f. absurd (let u : false ≡ true = sym f ∙ wr in cc)) wn ww we (wm ∙ ap (λ us. us ++ w.within ∷ []) new.most) (ws ∙ new.stack),
+        (omega (arith, ap length is)) tt (λ f. absurd (let u : false ≡ true = sym f ∙ wr in cc)) (λ h. wr)
+        (λ h. subst (IsFollowed p w.within kept (w.within ∷ []) []) (sym (told ∙ ap (λ c. events_after c [] event.RootKept) h)) (follow-root-last p w.within kept z)) wn ww we (wm ∙ ap (λ us. us ++ w.within ∷ []) new.most) (ws ∙ new.stack),
     wn,
     ww,
   )
 
-  pub begun-entered : (w after : DepthFirst) → HasDoneNothing w → (IsPairAccepted p x → ⊥) → 0 < w.within → after.within ≡ w.within → after.watch ≡ w.watch → after.events ≡ w.events → IsEntered p kept 0 w.within w.stack.items after.stack.items → after.most.items ≡ w.most.items ++ w.within ∷ []
+  pub begun-entered : (w after : DepthFirst) → HasDoneNothing w → (IsPairAccepted p x → ⊥) → 0 < w.within → after.within ≡ w.within → after.watch ≡ w.watch → after.events ≡ w.events → after.reenters ≡ w.reenters → IsEntered p kept 0 w.within w.stack.items after.stack.items → after.most.items ≡ w.most.items ++ w.within ∷ [] → w.events ≡ events_after w.watch [] event.RootKept
       → BeginsSearch p b kept w after None
   unfolding graph_of
-  begun-entered w after new refused z wn ww we t wm = (
+  begun-entered w after new refused z wn ww we wr t wm told = (
     ongoing p b w.within w.watch kept w.events (w.within ∷ []) (t.level ∷ []) 0 after (unpruned-first p x first).0
         (subst (λ k. IsRunning pair_discrete (graph_of p) w.within (Reported w.watch kept w.events) k (w.within ∷ []) (t.level ∷ []) 0) (sym only)
         (run.begins pair_discrete (graph_of p) w.within (pairs-lawful p) (Reported w.watch kept w.events) t.level z (refused-first refused) t.its_pair t.its_left t.its_tried (pairs-actions p (first_pair p) t.level.actions (t.its_actions (first_pair p) (ap (λ k. slice_get k 0) only)))))
-        (omega (arith, ap length is)) (t.sized, tt) (λ f. uncut-pushed [] w.within z (λ k e. absurd (let u : ⊥ = cc in u))) wn ww we (wm ∙ ap (λ us. us ++ w.within ∷ []) new.most) (t.is ∙ ap (λ us. us ++ t.level ∷ []) new.stack),
+        (omega (arith, ap length is)) (t.sized, tt) (λ f. uncut-pushed [] w.within z (λ k e. absurd (let u : ⊥ = cc in u))) (λ h. wr ∙ new.enters h)
+        (λ h. subst (IsFollowed p w.within kept (w.within ∷ []) (t.level ∷ [])) (sym (told ∙ ap (λ c. events_after c [] event.RootKept) h))
+        (follow-root-entered p w.within kept t.level x z (ap (λ k. slice_get k 0) is) (t.its_actions x (ap (λ k. slice_get k 0) is)) t.its_pair t.its_left t.its_tried)) wn ww we (wm ∙ ap (λ us. us ++ w.within ∷ []) new.most) (t.is ∙ ap (λ us. us ++ t.level ∷ []) new.stack),
     wn,
     ww,
   )
@@ -181,8 +189,8 @@ pub first-plan : (p q : PlainProblem) (b n : ℕ) (kept more : List Pair) (x : P
     → (reported : Reports Pair) → IsDepthFirstOutcome p n b more (outcome.Plan path) × AreFewCalls p n more 0 × IsToldAlong p reported path
 first-plan p q b n kept more x l u k e f a path h reported = begins-plan p b more x l u (f ∙ k) n (subst (λ r. IsPairAccepted r x) e a) path h reported
 
-pub first-kept : (p q r : PlainProblem) (b : ℕ) (kept more : List Pair) (w : DepthFirst) (x : Pair) → 1 ≤ b → unless_pruned (Some (first_pair p)) ≡ Some x → kept ≡ [] ++ x ∷ [] → q ≡ p → r ≡ q → more ≡ kept → (IsPairAccepted q x → ⊥) → HasDoneNothing w → HasRootAlone r b more w
-first-kept p q r b kept more w x l u k e h f a n = (x, ap (λ z. unless_pruned (Some (first_pair z))) (h ∙ e) ∙ u, f ∙ k, l, (λ t. a (subst (λ z. IsPairAccepted z x) h t)), n)
+pub first-kept : (p q r : PlainProblem) (b : ℕ) (kept more : List Pair) (w : DepthFirst) (x : Pair) → 1 ≤ b → unless_pruned (Some (first_pair p)) ≡ Some x → kept ≡ [] ++ x ∷ [] → q ≡ p → r ≡ q → more ≡ kept → (IsPairAccepted q x → ⊥) → HasDoneNothing w → w.events ≡ events_after w.watch [] event.RootKept → HasRootAlone r b more w
+first-kept p q r b kept more w x l u k e h f a n told = (x, ap (λ z. unless_pruned (Some (first_pair z))) (h ∙ e) ∙ u, f ∙ k, l, (λ t. a (subst (λ z. IsPairAccepted z x) h t)), n, told)
 
 -- ---- between
 

@@ -75,7 +75,7 @@ pub some-length : {A : Type 0} (xs front : List A) (x : A) → xs ≡ front ++ x
 some-length xs front x e = omega (arith, ap length e, length-append front (x ∷ []))
 
 -- the event of an arrival is of its action
-event-is : (at : ℕ) (a : Action) (r : Arrival) → IsEventOf at a (event_of at a r)
+pub event-is : (at : ℕ) (a : Action) (r : Arrival) → IsEventOf at a (event_of at a r)
 event-is at a arrival.Pruned = (refl, refl)
 event-is at a (arrival.Seen k) = (refl, refl)
 event-is at a (arrival.Fresh k) = (refl, refl)

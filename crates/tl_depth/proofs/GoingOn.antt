@@ -15,6 +15,7 @@ use Rattle.tl_depth.specs.declared.level.Level.{Level}
 use Rattle.tl_depth.proofs.LevelFacts.{get-rest, frames-height, frames-sized}
 use Rattle.tl_depth.proofs.Tables.{height-bounded}
 use Rattle.tl_depth.specs.Tables.{met_in, height}
+use Rattle.tl_depth.specs.Following.{IsFollowed}
 use Rattle.tl_depth.specs.Stacks.{IsEventOf, IsToldOf}
 use Rattle.tl_depth.specs.Outcomes.{Reported}
 use Rattle.tl_depth.specs.Ongoing.{AreSized, IsOngoing, to_do}
@@ -88,8 +89,8 @@ uncut-pushed (m ∷ most) r p u (suc j) e = uncut-pushed most r p (λ i f. u (su
 
 pub ongoing : (p : PlainProblem) (b n : ℕ) (watch : Bool) (kept : List Pair) (events : List Event) (most : List ℕ) (levels : List Level) (calls : ℕ) (w : DepthFirst) → (first_pair p).formula ≢ falsum
     → IsRunning pair_discrete (graph_of p) n (Reported watch kept events) kept most levels calls → length kept ≤ b → AreSized levels
-    → (w.reenters ≡ false → IsUncut most) → w.within ≡ n → w.watch ≡ watch → w.events ≡ events → w.most.items ≡ most → w.stack.items ≡ levels → IsOngoing p b kept w calls
-ongoing p b n watch kept events most levels calls w u r f z c wn ww we wm ws = record {
+    → (w.reenters ≡ false → IsUncut most) → (watch ≡ true → w.reenters ≡ true) → (watch ≡ true → IsFollowed p n kept most levels events) → w.within ≡ n → w.watch ≡ watch → w.events ≡ events → w.most.items ≡ most → w.stack.items ≡ levels → IsOngoing p b kept w calls
+ongoing p b n watch kept events most levels calls w u r f z c enters followed wn ww we wm ws = record {
   unpruned = u;
   running =
       subst (λ x. IsRunning pair_discrete (graph_of p) x (Reported w.watch kept w.events) kept w.most.items w.stack.items calls) (sym wn)
@@ -100,6 +101,12 @@ ongoing p b n watch kept events most levels calls w u r f z c wn ww we wm ws = r
   few = f;
   sized = subst AreSized (sym ws) z;
   uncut = λ e. subst IsUncut (sym wm) (c e);
+  enters = λ e. enters (sym ww ∙ e);
+  followed = λ e.
+      subst (λ x. IsFollowed p x kept w.most.items w.stack.items w.events) (sym wn)
+      (subst (λ x. IsFollowed p n kept w.most.items w.stack.items x) (sym we)
+      (subst (λ x. IsFollowed p n kept x w.stack.items events) (sym wm)
+      (subst (λ x. IsFollowed p n kept most x events) (sym ws) (followed (sym ww ∙ e)))));
 }
 
 pub sized-front : (front : List Level) (c : Level) → AreSized (front ++ c ∷ []) → AreSized front

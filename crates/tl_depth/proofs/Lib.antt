@@ -15,6 +15,7 @@ mod LevelFacts
 mod Running
 mod PairWalks
 mod PairAnswers
+mod Following
 mod Ends
 mod GoingOn
 mod Arriving

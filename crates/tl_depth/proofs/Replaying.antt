@@ -85,9 +85,12 @@ as-learnt p b kept w v r left calls rest s = subst (λ u. IsArrived p b kept u r
   remaining = s.remaining;
   unpruned = s.unpruned;
   running = s.running;
+  event = s.event;
   told = s.told;
   arrives = s.arrives;
   few = s.few;
   sized = s.sized;
   uncut = s.uncut;
+  enters = s.enters;
+  followed = s.followed;
 })

@@ -26,14 +26,16 @@ use Rattle.tl_depth.proofs.Running as run
 use Rattle.tl_depth.proofs.PairAnswers as answers
 use Rattle.tl_depth.proofs.PairWalks.{pairs-lawful}
 use Rattle.tl_depth.specs.Arrivals.{ArrivesAs}
-use Rattle.tl_depth.specs.Stacks.{IsToldOf}
+use Rattle.tl_search.specs.Events.{event_of, events_after}
+use Rattle.tl_depth.specs.Following.{IsFollowed}
 use Rattle.tl_depth.specs.Outcomes.{Reported, AreFewCalls, IsDepthFirstFault}
 use Rattle.tl_depth.specs.Ongoing.{AreSized, IsOngoing, IsArrived, to_do, Turned, TurnedTo}
 use Rattle.tl_search.specs.declared.arrival.Arrival.{Arrival}
 use Rattle.tl_depth.specs.declared.stack.DepthFirst.{DepthFirst}
 use Rattle.tl_search.specs.declared.fault.SearchFault.TheVariants as fault
 use Rattle.tl_search.specs.declared.outcome.Outcome.{Outcome}
-use Rattle.tl_depth.proofs.Ends.{last-of}
+use Rattle.tl_depth.proofs.Ends.{last-of, told-of}
+use Rattle.tl_depth.proofs.Following.{follow-left, follow-root-left}
 use Rattle.tl_depth.proofs.Arriving.{as-turned}
 use Rattle.tl_depth.proofs.GoingOn.{height-append, to-do-is, less-pass, ongoing, sized-front, sized-stepped}
 
@@ -96,9 +98,9 @@ module _ (p : PlainProblem) (b : ℕ) (kept : List Pair) (w : DepthFirst) (calls
     top-left = answers.left-some p w.within s.unpruned (Reported w.watch kept w.events) kept w.most.items front c calls a top-pair.0 top-running at-action top-pair.1
 
     -- what arrives is as it is wanted
-    pub arrives-top : (after : DepthFirst) (more : List Pair) (arrival : Arrival) (left : ℕ) → after ≡ record w { events = after.events } → IsToldOf w.watch w.events after.events c → suc left ≡ c.left
+    pub arrives-top : (after : DepthFirst) (more : List Pair) (arrival : Arrival) (left : ℕ) → after ≡ record w { events = after.events } → after.events ≡ events_after w.watch w.events (event_of c.at a arrival) → suc left ≡ c.left
         → ((x : Pair) → slice_get kept c.at ≡ Some x → ArrivesAs kept more (next_pair p x a) arrival) → IsArrived p b more after arrival left calls
-    arrives-top after more arrival left rest told r arrives = record {
+    arrives-top after more arrival left rest event r arrives = record {
       old = kept;
       before = w.events;
       front = front;
@@ -114,12 +116,20 @@ module _ (p : PlainProblem) (b : ℕ) (kept : List Pair) (w : DepthFirst) (calls
           subst (λ x. IsRunning pair_discrete (graph_of p) x (Reported after.watch kept w.events) kept after.most.items (front ++ c ∷ []) calls) (sym (ap (λ (v : DepthFirst). v.within) rest))
           (subst (λ x. IsRunning pair_discrete (graph_of p) w.within (Reported x kept w.events) kept after.most.items (front ++ c ∷ []) calls) (sym (ap (λ (v : DepthFirst). v.watch) rest))
           (subst (λ x. IsRunning pair_discrete (graph_of p) w.within (Reported w.watch kept w.events) kept x (front ++ c ∷ []) calls) (sym (ap (λ (v : DepthFirst). v.most.items) rest)) top-running));
-      told = subst (λ x. IsToldOf x w.events after.events c) (sym (ap (λ (v : DepthFirst). v.watch) rest)) told;
+      event = event-now;
+      told = told-of after.watch w.events after.events c a arrival at-action event-now;
       arrives = arrives top-pair.0 top-pair.1;
       few = s.few;
       sized = subst AreSized (sym (ap (λ (v : DepthFirst). v.stack.items) rest)) s.sized;
       uncut = λ e. subst IsUncut (sym (ap (λ (v : DepthFirst). v.most.items) rest)) (s.uncut (sym (ap (λ (v : DepthFirst). v.reenters) rest) ∙ e));
+      enters = λ e. ap (λ (v : DepthFirst). v.reenters) rest ∙ s.enters (sym (ap (λ (v : DepthFirst). v.watch) rest) ∙ e);
+      followed = λ e.
+          subst (λ (v : DepthFirst). IsFollowed p v.within kept v.most.items (front ++ c ∷ []) w.events) (sym rest)
+          (subst (λ us. IsFollowed p w.within kept w.most.items us w.events) is (s.followed (sym (ap (λ (v : DepthFirst). v.watch) rest) ∙ e)));
     }
+      where
+        event-now : after.events ≡ events_after after.watch w.events (event_of c.at a arrival)
+        event-now = event ∙ ap (λ x. events_after x w.events (event_of c.at a arrival)) (sym (ap (λ (v : DepthFirst). v.watch) rest))
 
 -- ---- the same elsewhere
 
@@ -156,7 +166,8 @@ pub turned-left : (p : PlainProblem) (b : ℕ) (kept : List Pair) (w : DepthFirs
 turned-left p b kept w calls s [] c is over after root st rest = (
   ongoing p b w.within w.watch kept w.events w.most.items [] calls after s.unpruned
       (run.leaves-root pair_discrete (graph_of p) w.within (pairs-lawful p) (Reported w.watch kept w.events) kept w.most.items c calls over (subst (λ us. IsRunning pair_discrete (graph_of p) w.within (Reported w.watch kept w.events) kept w.most.items us calls) is s.running))
-      s.few tt (λ e. s.uncut (sym (ap (λ (v : DepthFirst). v.reenters) rest) ∙ e)) (ap (λ (v : DepthFirst). v.within) rest) (ap (λ (v : DepthFirst). v.watch) rest) (ap (λ (v : DepthFirst). v.events) rest) (ap (λ (v : DepthFirst). v.most.items) rest) (root c is),
+      s.few tt (λ e. s.uncut (sym (ap (λ (v : DepthFirst). v.reenters) rest) ∙ e)) (λ e. ap (λ (v : DepthFirst). v.reenters) rest ∙ s.enters e)
+      (λ e. follow-root-left p w.within kept w.most.items c w.events over (subst (λ us. IsFollowed p w.within kept w.most.items us w.events) is (s.followed e))) (ap (λ (v : DepthFirst). v.within) rest) (ap (λ (v : DepthFirst). v.watch) rest) (ap (λ (v : DepthFirst). v.events) rest) (ap (λ (v : DepthFirst). v.most.items) rest) (root c is),
   subst (λ x. x < to_do b w) (sym (to-do-is b after w.within w.most.items [] (ap (λ (v : DepthFirst). v.within) rest) (ap (λ (v : DepthFirst). v.most.items) rest) (root c is)))
       (less-pass (entries_left b w.within w.most.items) (entries_left b w.within w.most.items) (suc w.within * 2 ^ 64) (level_height w.stack.items) 0 (omega arith) (omega (arith, ap level_height is))),
   ap (λ (v : DepthFirst). v.within) rest,
@@ -168,7 +179,8 @@ turned-left p b kept w calls s (x ∷ xs) c is over after root st rest = go (las
     go v = (
       ongoing p b w.within w.watch kept w.events w.most.items (v.0 ++ stepped v.1 ∷ []) calls after s.unpruned
           (run.leaves pair_discrete (graph_of p) w.within (pairs-lawful p) (Reported w.watch kept w.events) kept w.most.items c calls over v.0 v.1 (subst (λ us. IsRunning pair_discrete (graph_of p) w.within (Reported w.watch kept w.events) kept w.most.items us calls) whole s.running))
-          s.few (sized-stepped v.0 v.1 (sized-front (v.0 ++ v.1 ∷ []) c (subst AreSized whole s.sized))) (λ e. s.uncut (sym (ap (λ (u : DepthFirst). u.reenters) rest) ∙ e)) (ap (λ (u : DepthFirst). u.within) rest) (ap (λ (u : DepthFirst). u.watch) rest) (ap (λ (u : DepthFirst). u.events) rest) (ap (λ (u : DepthFirst). u.most.items) rest) (st v.0 v.1 c whole),
+          s.few (sized-stepped v.0 v.1 (sized-front (v.0 ++ v.1 ∷ []) c (subst AreSized whole s.sized))) (λ e. s.uncut (sym (ap (λ (u : DepthFirst). u.reenters) rest) ∙ e)) (λ e. ap (λ (u : DepthFirst). u.reenters) rest ∙ s.enters e)
+          (λ e. follow-left p w.within kept w.most.items v.0 v.1 c w.events over (subst (λ us. IsFollowed p w.within kept w.most.items us w.events) whole (s.followed e))) (ap (λ (u : DepthFirst). u.within) rest) (ap (λ (u : DepthFirst). u.watch) rest) (ap (λ (u : DepthFirst). u.events) rest) (ap (λ (u : DepthFirst). u.most.items) rest) (st v.0 v.1 c whole),
       subst (λ y. y < to_do b w) (sym (to-do-is b after w.within w.most.items (v.0 ++ stepped v.1 ∷ []) (ap (λ (u : DepthFirst). u.within) rest) (ap (λ (u : DepthFirst). u.most.items) rest) (st v.0 v.1 c whole)))
           (less-pass (entries_left b w.within w.most.items) (entries_left b w.within w.most.items) (suc w.within * 2 ^ 64) (level_height w.stack.items) (level_height (v.0 ++ stepped v.1 ∷ [])) (omega arith)
           (omega (arith, ap level_height whole, height-append (v.0 ++ v.1 ∷ []) c, height-append v.0 v.1, height-append v.0 (stepped v.1), short-drops v.1.actions v.1.tried))),

@@ -11,6 +11,8 @@ pub mod Reports
 pub mod Ongoing
 pub mod Turns
 pub mod Endings
+pub mod Entering
+pub mod Following
 pub mod NamedStacks
 pub mod Laws
 pub mod Expansions

@@ -1,5 +1,5 @@
 -- What is true of a search between its steps.
-use Rattle.std.specs.Prelude.{◌≡◌, ◌≢◌, ◌≤◌, ◌<◌, ◌+◌, ◌*◌, ◌^◌, ℕ, suc, List, [], ◌∷◌, ◌++◌, length, slice_get, false, Option, Some, None}
+use Rattle.std.specs.Prelude.{◌≡◌, ◌≢◌, ◌≤◌, ◌<◌, ◌+◌, ◌*◌, ◌^◌, ℕ, suc, List, [], ◌∷◌, ◌++◌, length, slice_get, true, false, Option, Some, None}
 use Rattle.tl_syntax.specs.declared.action.Action.{Action}
 use Rattle.tl_syntax.specs.Lists.{Each}
 use Rattle.tl_syntax.specs.Trees.{falsum}
@@ -16,10 +16,13 @@ use Rattle.tl_search.specs.ListedActions.{ListsActions}
 use Rattle.tl_depth.specs.declared.level.Level.{Level}
 use Rattle.tl_depth.specs.Arrivals.{ArrivesAs}
 use Rattle.tl_depth.specs.Expansions.{KnowsNothing}
+use Rattle.tl_depth.specs.Following.{IsFollowed}
 use Rattle.tl_depth.specs.Stacks.{IsToldOf}
 use Rattle.tl_search.specs.declared.arrival.Arrival.{Arrival}
 use Rattle.tl_search.specs.declared.arrival.Arrival.TheVariants as arrival
+use Rattle.tl_search.specs.Events.{event_of, events_after}
 use Rattle.tl_search.specs.declared.event.Event.{Event}
+use Rattle.tl_search.specs.declared.event.Event.TheVariants as event
 use Rattle.tl_depth.specs.declared.stack.DepthFirst.{DepthFirst}
 use Rattle.tl_search.specs.declared.outcome.Outcome.{Outcome}
 use Rattle.tl_search.specs.declared.fault.SearchFault.{SearchFault}
@@ -30,13 +33,15 @@ use Rattle.tl_depth.specs.Outcomes.{Reported, AreFewCalls, IsDepthFirstOutcome, 
 abbrev pub AreSized : List Level → Type 0
 AreSized levels = Each (λ (c : Level). length c.actions < 2 ^ 64) levels
 
--- the search goes on: at most b pairs are kept, so many calls were made, and no pair was met with no remaining action, unless pairs are entered again
+-- the search goes on: at most b pairs are kept, so many calls were made, and no pair was met with no remaining action, unless pairs are entered again; where events are wanted they are, and the events go on to be those of a depth-first search
 pub record IsOngoing (p : PlainProblem) (b : ℕ) (kept : List Pair) (w : DepthFirst) (calls : ℕ) : Type 0 where
   pub unpruned : (first_pair p).formula ≢ falsum
   pub running : IsRunning pair_discrete (graph_of p) w.within (Reported w.watch kept w.events) kept w.most.items w.stack.items calls
   pub few : length kept ≤ b
   pub sized : AreSized w.stack.items
   pub uncut : w.reenters ≡ false → IsUncut w.most.items
+  pub enters : w.watch ≡ true → w.reenters ≡ true
+  pub followed : w.watch ≡ true → IsFollowed p w.within kept w.most.items w.stack.items w.events
 
 -- the top level's next action was tried, and reported: this arrived
 pub record IsArrived (p : PlainProblem) (b : ℕ) (kept : List Pair) (w : DepthFirst) (arrival : Arrival) (left calls : ℕ) : Type 0 where
@@ -52,11 +57,14 @@ pub record IsArrived (p : PlainProblem) (b : ℕ) (kept : List Pair) (w : DepthF
   pub remaining : suc left ≡ top.left
   pub unpruned : (first_pair p).formula ≢ falsum
   pub running : IsRunning pair_discrete (graph_of p) w.within (Reported w.watch old before) old w.most.items (front ++ top ∷ []) calls
+  pub event : w.events ≡ events_after w.watch before (event_of top.at action arrival)
   pub told : IsToldOf w.watch before w.events top
   pub arrives : ArrivesAs old kept (next_pair p from action) arrival
   pub few : length old ≤ b
   pub sized : AreSized w.stack.items
   pub uncut : w.reenters ≡ false → IsUncut w.most.items
+  pub enters : w.watch ≡ true → w.reenters ≡ true
+  pub followed : w.watch ≡ true → IsFollowed p w.within old w.most.items (front ++ top ∷ []) before
 
 -- a pair was entered: one more level is there
 pub record IsEntered (p : PlainProblem) (kept : List Pair) (at left : ℕ) (before after : List Level) : Type 0 where
@@ -98,8 +106,9 @@ abbrev pub TurnedTo : PlainProblem → ℕ → List Pair → DepthFirst → Dept
 TurnedTo p b kept old new calls before after None = (made : ℕ) × (made + before ≡ calls + after) × Turned p b kept old new made None
 TurnedTo p b kept old new calls before after (Some o) = (made : ℕ) × (made + before ≡ calls + after) × Turned p b kept old new made (Some o)
 
--- nothing was done yet
+-- nothing was done yet, and pairs are entered again where events are wanted
 pub record HasDoneNothing (w : DepthFirst) : Type 0 where
+  pub enters : w.watch ≡ true → w.reenters ≡ true
   pub most : w.most.items ≡ []
   pub stack : w.stack.items ≡ []
   pub expansions : KnowsNothing w.expansions
@@ -109,6 +118,6 @@ abbrev pub BeginsSearch : PlainProblem → ℕ → List Pair → DepthFirst → 
 BeginsSearch p b kept old new None = IsOngoing p b kept new 0 × (new.within ≡ old.within) × (new.watch ≡ old.watch)
 BeginsSearch p b kept old new (Some o) = IsDepthFirstOutcome p old.within b kept o × AreFewCalls p old.within kept 0 × IsToldOutcome p old.within old.watch kept new.events o
 
--- the first pair alone is kept, and it is not accepted
+-- the first pair alone is kept and told of, and it is not accepted
 abbrev pub HasRootAlone : PlainProblem → ℕ → List Pair → DepthFirst → Type 0
-HasRootAlone p b kept w = (x : Pair) × (unless_pruned (Some (first_pair p)) ≡ Some x) × (kept ≡ [] ++ x ∷ []) × (1 ≤ b) × (IsPairAccepted p x → ⊥) × HasDoneNothing w
+HasRootAlone p b kept w = (x : Pair) × (unless_pruned (Some (first_pair p)) ≡ Some x) × (kept ≡ [] ++ x ∷ []) × (1 ≤ b) × (IsPairAccepted p x → ⊥) × HasDoneNothing w × (w.events ≡ events_after w.watch [] event.RootKept)

@@ -1,5 +1,5 @@
 -- What a depth-first search answers, and why it gives no answer.
-use Rattle.std.specs.Prelude.{◌≡◌, ◌≤◌, ◌<◌, ◌+◌, ◌*◌, ℕ, List, length, slice_get, Bool, Some, IsTrue, is_some}
+use Rattle.std.specs.Prelude.{◌≡◌, ◌≤◌, ◌<◌, ◌+◌, ◌*◌, ℕ, List, length, slice_get, Bool, true, false, Some, IsTrue, is_some}
 use Rattle.tl_syntax.specs.declared.action.Action.{Action}
 use Rattle.tl_syntax.specs.Lists.{One}
 use Rattle.tl_terms.specs.Problem.{PlainProblem}
@@ -11,6 +11,7 @@ use Rattle.tl_search.specs.Plans.{HasNoPlan, HasNoPlanWithin, HasPairAt, HasNoPa
 use Rattle.tl_search.specs.RangeCauses.{IsRangeCause, HasNoSimplePlanBefore}
 use Rattle.tl_eval.specs.Notes.{operation_of}
 use Rattle.tl_depth.specs.Answers.{IsToldAlong, IsActionSum}
+use Rattle.tl_depth.specs.Entering.{AreInDepth}
 use Rattle.tl_depth.specs.Stacks.{IsEventOf}
 use Rattle.tl_search.specs.declared.event.Event.{Event}
 use Rattle.tl_search.specs.declared.outcome.Outcome.{Outcome}
@@ -47,9 +48,13 @@ abbrev pub AllAreReported : PlainProblem → ℕ → Bool → List Pair → List
 AllAreReported p n watch kept events =
     (x : Pair) (d : ℕ) → IsDistance p x d → d < n → (a : Action) → IsTrue (is_some (step p x.world a)) → Reported watch kept events x a
 
--- what was reported, by the answer: with a plan, of the pair of each of its proper prefixes each executable action up to the plan's next one; where all is done, of each pair of a distance below n each executable action
+-- where events are wanted, they are those of a depth-first search
+abbrev pub TellsInDepth : PlainProblem → ℕ → Bool → List Pair → Bool → List Event → Type 0
+TellsInDepth p n watch kept cut events = watch ≡ true → AreInDepth p n kept cut events
+
+-- what was reported, by the answer: with a plan, of the pair of each of its proper prefixes each executable action up to the plan's next one; where all is done, of each pair of a distance below n each executable action; and all in the order of a depth-first search, which a plan or too many pairs cut short
 abbrev pub IsToldOutcome : PlainProblem → ℕ → Bool → List Pair → List Event → Outcome → Type 0
-IsToldOutcome p n watch kept events (outcome.Plan plan) = IsToldAlong p (Reported watch kept events) plan
-IsToldOutcome p n watch kept events outcome.NoPlan = AllAreReported p n watch kept events
-IsToldOutcome p n watch kept events outcome.NoneWithin = AllAreReported p n watch kept events
-IsToldOutcome p n watch kept events outcome.Spent = Unit {0}
+IsToldOutcome p n watch kept events (outcome.Plan plan) = IsToldAlong p (Reported watch kept events) plan × TellsInDepth p n watch kept true events
+IsToldOutcome p n watch kept events outcome.NoPlan = AllAreReported p n watch kept events × TellsInDepth p n watch kept false events
+IsToldOutcome p n watch kept events outcome.NoneWithin = AllAreReported p n watch kept events × TellsInDepth p n watch kept false events
+IsToldOutcome p n watch kept events outcome.Spent = TellsInDepth p n watch kept true events

@@ -8,7 +8,6 @@ use Rattle.tl_search.proofs.NamedLaws.{event-named, events-named}
 use Rattle.tl_depth.specs.Expansions.{AreExpansions}
 use Rattle.tl_depth.specs.NamedStacks.{StackIsNamed}
 use Rattle.tl_depth.specs.declared.stack.DepthFirst.{DepthFirst}
-use Rattle.tl_depth.proofs.Ends.{told-of}
 use Rattle.tl_depth.proofs.Histories.{keeps-last}
 use Rattle.tl_depth.proofs.NamedStacks.{stack-split}
 use Rattle.tl_depth.proofs.Reading.{reads-some, now-pair}
@@ -35,7 +34,7 @@ returns-in-Some-clause-arrived g c calls s =
     let r = reads-some _ _ _ c.args.left _ c.requires.top c.as_slice.ensures.value c.as_slice-2.ensures.value c.index-as_slice-top.is in
     let came = c.in-Some.ensures (g.S.Pairs.problem c.args.space.now) (g.S.Pairs.task c.args.space.now) (g.S.Pairs.kept c.args.space.now) c.requires.remembered.expansions in
     arrives-top _ _ _ _ calls s r.1.level.front c.index-as_slice-top.result r.1.level.is r.0 r.1.at_action c.report.new.self _ c.in-Some.known _ c.report.ensures.rest
-    (told-of _ _ _ c.index-as_slice-top.result r.0 c.in-Some.known r.1.at_action (c.in_ok-report.ensures.told r.1.level.front c.index-as_slice-top.result r.0 r.1.level.is r.1.at_action)) r.1.remaining
+    (c.in_ok-report.ensures.told r.1.level.front c.index-as_slice-top.result r.0 r.1.level.is r.1.at_action) r.1.remaining
     (child-as-pairs _ _ _ _ _ _ c.in-Some.known c.requires.remembered.kept_rightly (replayed (g.S.Pairs.problem c.args.space.now) c.args.nodes (g.S.Pairs.kept c.args.space.now) c.args.self.now calls s r.1.level.front c.index-as_slice-top.result r.1.level.is r.0 r.1.at_action c.in-Some.known came))
 
 pub returns-in-Some-clause-history : goal.returns-in-Some-clause-history

@@ -10,11 +10,13 @@ use Rattle.tl_search.specs.declared.outcome.Outcome.TheVariants as outcome
 use Rattle.tl_search.proofs.HistoryLaws.{history-pruned}
 use Rattle.tl_search.proofs.NamedLaws.{events-named}
 use Rattle.tl_depth.specs.Answers.{IsToldAlong}
+use Rattle.tl_depth.specs.Entering.{AreInDepth}
 use Rattle.tl_depth.specs.NamedStacks.{StackIsNamed, SearchIsNamed}
 use Rattle.tl_depth.specs.Ongoing.{BeginsSearch}
-use Rattle.tl_depth.specs.Outcomes.{AreFewCalls, IsDepthFirstOutcome, Reported}
+use Rattle.tl_depth.specs.Outcomes.{AreFewCalls, IsDepthFirstOutcome, Reported, TellsInDepth}
 use Rattle.tl_depth.proofs.Beginning.{RootIsKept, root-kept}
 use Rattle.tl_depth.proofs.Ending.{begins-pruned, fault-root, fault-first-idling, first-plan, first-kept}
+use Rattle.tl_depth.proofs.Following.{root-in-depth}
 use Rattle.tl_depth.proofs.Histories.{root-not-seen, as-history}
 use Rattle.tl_depth.proofs.Remembering.{nothing-remembered, as-remembered}
 use Rattle.tl_search.specs.Kept.{AreKept}
@@ -28,7 +30,7 @@ returns-in-Err-RangeHere-clause-fault g c = fault-root _ _ c.new.result c.new.en
 pub returns-in-Ok-Pruned-clause-begun : goal.returns-in-Ok-Pruned-clause-begun
 returns-in-Ok-Pruned-clause-begun g c =
     let a = root-as-pairs _ _ _ _ arrival.Pruned c.root.ensures.kept (rw c.in-Ok-Pruned.field-0-is at c.in-Ok-Pruned.ensures.arrival) in
-    begins-pruned _ _ _ _ _ _ (a.0 ∙ ap pairs_of c.requires.empty) a.1
+    begins-pruned _ _ _ _ _ _ (a.0 ∙ ap pairs_of c.requires.empty) a.1 (c.in_ok-report_root-in-Ok-Pruned.ensures ∙ ap (λ es. events_after c.args.self.now.watch es event.RootPruned) c.requires.events)
 
 pub returns-in-Ok-true : goal.returns-in-Ok-true
 returns-in-Ok-true g c = record {
@@ -47,8 +49,9 @@ returns-in-Ok-true g c = record {
     r : RootIsKept (g.S.Pairs.problem c.args.space.now) c.args.self.now.watch (g.S.Pairs.kept c.root.new.self) c.report_root-2.new.events
     r = root-kept _ _ c.args.self.now.watch (g.S.Pairs.kept c.args.space.now) (g.S.Pairs.kept c.root.new.self) c.in-Ok-Fresh.field-0-0 _ c.report_root-2.new.events c.requires.empty c.requires.events c.root.ensures.kept (rw c.in-Ok-Fresh.field-0-is at c.in-Ok-Fresh.ensures.arrival) c.in_ok-report_root.ensures
 
-    begun : IsDepthFirstOutcome (g.S.Pairs.problem c.args.space.now) c.args.self.now.within c.args.nodes (pairs_of (g.S.Pairs.kept c.accepted.new.self)) (outcome.Plan c.new-in-Ok-true.result) × AreFewCalls (g.S.Pairs.problem c.args.space.now) c.args.self.now.within (pairs_of (g.S.Pairs.kept c.accepted.new.self)) 0 × IsToldAlong (g.S.Pairs.problem c.args.space.now) (Reported c.args.self.now.watch (pairs_of (g.S.Pairs.kept c.accepted.new.self)) c.report_root-2.new.events) c.new-in-Ok-true.result
-    begun = first-plan _ _ _ _ _ _ r.pair c.requires.nodes r.unpruned r.alone c.root.ensures.problem (ap pairs_of c.accepted.ensures.kept) ((accepted-pair _ _ 0 _ c.in-Ok-true.ensures.accepted r.pair r.numbered).0 c.in-Ok-true.field-0-test) c.new-in-Ok-true.result c.new-in-Ok-true.ensures (Reported c.args.self.now.watch (pairs_of (g.S.Pairs.kept c.accepted.new.self)) c.report_root-2.new.events)
+    begun : IsDepthFirstOutcome (g.S.Pairs.problem c.args.space.now) c.args.self.now.within c.args.nodes (pairs_of (g.S.Pairs.kept c.accepted.new.self)) (outcome.Plan c.new-in-Ok-true.result) × AreFewCalls (g.S.Pairs.problem c.args.space.now) c.args.self.now.within (pairs_of (g.S.Pairs.kept c.accepted.new.self)) 0 × (IsToldAlong (g.S.Pairs.problem c.args.space.now) (Reported c.args.self.now.watch (pairs_of (g.S.Pairs.kept c.accepted.new.self)) c.report_root-2.new.events) c.new-in-Ok-true.result × TellsInDepth (g.S.Pairs.problem c.args.space.now) c.args.self.now.within c.args.self.now.watch (pairs_of (g.S.Pairs.kept c.accepted.new.self)) true c.report_root-2.new.events)
+    begun = let t = first-plan _ _ _ _ _ _ r.pair c.requires.nodes r.unpruned r.alone c.root.ensures.problem (ap pairs_of c.accepted.ensures.kept) ((accepted-pair _ _ 0 _ c.in-Ok-true.ensures.accepted r.pair r.numbered).0 c.in-Ok-true.field-0-test) c.new-in-Ok-true.result c.new-in-Ok-true.ensures (Reported c.args.self.now.watch (pairs_of (g.S.Pairs.kept c.accepted.new.self)) c.report_root-2.new.events) in
+        (t.0, t.1, (t.2, λ w. subst (AreInDepth (g.S.Pairs.problem c.args.space.now) c.args.self.now.within (pairs_of (g.S.Pairs.kept c.accepted.new.self)) true) (sym (c.in_ok-report_root.ensures ∙ (ap (λ es. events_after c.args.self.now.watch es event.RootKept) c.requires.events ∙ ap (λ x. events_after x [] event.RootKept) w))) (root-in-depth (g.S.Pairs.problem c.args.space.now) c.args.self.now.within (pairs_of (g.S.Pairs.kept c.accepted.new.self)))))
 
 pub returns-in-Err-RangeHere-accepted : goal.returns-in-Err-RangeHere-accepted
 returns-in-Err-RangeHere-accepted g c =
@@ -70,7 +73,7 @@ pub begun-requires-clause-first : goal.begun-requires-clause-first
 begun-requires-clause-first g c =
     let r = root-kept _ _ c.args.self.now.watch (g.S.Pairs.kept c.args.space.now) (g.S.Pairs.kept c.root.new.self) c.in-Ok-Fresh.field-0-0 _ c.report_root-2.new.events c.requires.empty c.requires.events c.root.ensures.kept (rw c.in-Ok-Fresh.field-0-is at c.in-Ok-Fresh.ensures.arrival) c.in_ok-report_root.ensures in
     first-kept _ _ _ _ _ _ _ r.pair c.requires.nodes r.unpruned r.alone c.root.ensures.problem c.accepted.ensures.problem (ap pairs_of c.accepted.ensures.kept)
-    (λ a. let t = (accepted-pair _ _ 0 _ c.in-Ok-false.ensures.accepted r.pair r.numbered).1 a in absurd (let z : c.in-Ok-false.field-0 ≡ true = t in let y = c.in-Ok-false.field-0-test in cc)) (record { most = c.requires.new.most; stack = c.requires.new.stack; expansions = c.requires.new.expansions })
+    (λ a. let t = (accepted-pair _ _ 0 _ c.in-Ok-false.ensures.accepted r.pair r.numbered).1 a in absurd (let z : c.in-Ok-false.field-0 ≡ true = t in let y = c.in-Ok-false.field-0-test in cc)) (record { enters = c.requires.new.enters; most = c.requires.new.most; stack = c.requires.new.stack; expansions = c.requires.new.expansions }) (c.in_ok-report_root.ensures ∙ ap (λ es. events_after c.args.self.now.watch es event.RootKept) c.requires.events)
 
 pub returns-in-Ok-Pruned-clause-history : goal.returns-in-Ok-Pruned-clause-history
 returns-in-Ok-Pruned-clause-history g c = history-pruned (g.S.Pairs.problem c.args.space.now) c.args.self.now.watch (g.S.Pairs.kept c.args.space.now) (g.S.Pairs.kept c.root.new.self) c.report_root.new.events c.requires.empty

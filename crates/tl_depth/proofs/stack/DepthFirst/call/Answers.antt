@@ -8,7 +8,7 @@ use Rattle.tl_depth.proofs.NamedStacks.{path-of-named, stack-split}
 use Rattle.tl_search.proofs.NamedLaws.{event-named, events-named}
 use Rattle.std.proofs.Common.{◌≡◌, sym, ap, ◌∙◌, subst}
 use Rattle.tl_depth.specs.Levels.{path_of}
-use Rattle.tl_depth.proofs.Ends.{before-top, told-of, range-holds, last-same}
+use Rattle.tl_depth.proofs.Ends.{before-top, range-holds, last-same}
 use Rattle.tl_depth.proofs.Remembering.{grows-by-arrival}
 use Rattle.tl_depth.proofs.Replaying.{came-of}
 use Rattle.tl_depth.specs.Expansions.{CameOf, as_seen}
@@ -49,7 +49,7 @@ returns-in-Err-RangeAfter-clause-fault g c =
 pub returns-clause-arrived : goal.returns-clause-arrived
 returns-clause-arrived g c calls s =
     let r = reads-top _ _ _ c.args.left _ _ _ c.requires.top c.as_slice.ensures.value c.as_slice-2.ensures.value c.index-as_slice-top.is c.as_slice-3.ensures c.index-as_slice-level.is in
-    arrives-top _ _ _ _ calls s r.level.front c.index-as_slice-top.result r.level.is c.index-as_slice-level.result r.at_action c.report.new.self _ c.in-Ok.arrival _ c.report.ensures.rest (told-of _ _ _ c.index-as_slice-top.result c.index-as_slice-level.result c.in-Ok.arrival r.at_action (c.in_ok-report.ensures.told r.level.front c.index-as_slice-top.result c.index-as_slice-level.result r.level.is r.at_action)) r.remaining
+    arrives-top _ _ _ _ calls s r.level.front c.index-as_slice-top.result r.level.is c.index-as_slice-level.result r.at_action c.report.new.self _ c.in-Ok.arrival _ c.report.ensures.rest (c.in_ok-report.ensures.told r.level.front c.index-as_slice-top.result c.index-as_slice-level.result r.level.is r.at_action) r.remaining
     (child-as-pairs _ _ _ _ _ _ c.in-Ok.arrival c.child.ensures.kept c.in-Ok.ensures.arrival)
 
 pub returns-clause-history : goal.returns-clause-history

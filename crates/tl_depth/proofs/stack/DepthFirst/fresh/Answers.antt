@@ -1,5 +1,5 @@
 use Rattle.tl_depth.proofs.NamedStacks.{stack-stepped, search-with}
-use Rattle.std.proofs.Common.{◌≡◌, ◌≢◌, [], ◌∷◌, ◌++◌, ap, ◌∙◌, arith}
+use Rattle.std.proofs.Common.{◌≡◌, ◌≢◌, [], ◌∷◌, ◌++◌, refl, ap, ◌∙◌, arith}
 use Rattle.tl_search.specs.declared.arrival.Arrival.TheVariants as arrival
 use Rattle.tl_depth.specs.declared.stack.DepthFirst.{DepthFirst}
 use Rattle.tl_depth.proofs.Ends.{pushed, on-ok, if-err}
@@ -13,7 +13,7 @@ returns-then-left-eq0-clause-turned g c calls s =
     let more : c.push.new.self.items ≡ c.args.self.now.most.items ++ c.args.left ∷ [] = pushed _ _ c.args.self.now.most.items _ c.args.left c.push.ensures.items c.is_err.ensures.negation c.if-is_err.false in
     turned-last _ _ _ _ (arrival.Fresh c.args.k) _ calls s c.args.k a.0 a.1.0 a.1.1 a.1.2 a.1.3 c.pass.new.self c.pass.ensures.stack
     (ap (λ (w : DepthFirst). w.within) c.pass.ensures.rest) (ap (λ (w : DepthFirst). w.watch) c.pass.ensures.rest) (ap (λ (w : DepthFirst). w.events) c.pass.ensures.rest)
-    (ap (λ (w : DepthFirst). w.reenters) c.pass.ensures.rest) (ap (λ (w : DepthFirst). w.most.items) c.pass.ensures.rest ∙ more) c.if-left-eq0.true c.requires.refused.0 (c.requires.refused.1 a.1.0 at)
+    (ap (λ (w : DepthFirst). w.reenters) c.pass.ensures.rest) (ap (λ (w : DepthFirst). w.most.items) c.pass.ensures.rest ∙ more) c.if-left-eq0.true c.requires.refused.0 (c.requires.refused.1 a.1.0 at) refl
 
 pub returns-clause-turned : goal.returns-clause-turned
 returns-clause-turned g c = on-ok c.enter.result _ _ c.enter.ensures.entered (λ t calls s.
@@ -23,7 +23,7 @@ returns-clause-turned g c = on-ok c.enter.result _ _ c.enter.ensures.entered (λ
     let n : c.args.left ≢ 0 = c.if-left-eq0.false in
     turned-entered _ _ _ _ (arrival.Fresh c.args.k) _ calls s c.args.k a.0 a.1.0 a.1.1 a.1.2 a.1.3 c.enter.new.self t
     (ap (λ (w : DepthFirst). w.within) c.enter.ensures.rest) (ap (λ (w : DepthFirst). w.watch) c.enter.ensures.rest) (ap (λ (w : DepthFirst). w.events) c.enter.ensures.rest)
-    (ap (λ (w : DepthFirst). w.reenters) c.enter.ensures.rest) (ap (λ (w : DepthFirst). w.most.items) c.enter.ensures.rest ∙ more) (omega arith) c.requires.refused.0 (c.requires.refused.1 a.1.0 at))
+    (ap (λ (w : DepthFirst). w.reenters) c.enter.ensures.rest) (ap (λ (w : DepthFirst). w.most.items) c.enter.ensures.rest ∙ more) (omega arith) c.requires.refused.0 (c.requires.refused.1 a.1.0 at) refl)
 
 pub returns-clause-fault : goal.returns-clause-fault
 returns-clause-fault g c = if-err c.enter.result _ _ c.enter.ensures.fault (λ f e.

@@ -1,6 +1,6 @@
 use Rattle.tl_search.specs.Calls.{AreNamedIn}
 use Rattle.tl_depth.proofs.NamedStacks.{path-of-named}
-use Rattle.std.proofs.Common.{◌≡◌, true, sym, ap, ◌∙◌, subst, arith}
+use Rattle.std.proofs.Common.{◌≡◌, true, refl, sym, ap, ◌∙◌, subst, arith}
 use Rattle.tl_depth.specs.Levels.{path_of}
 use Rattle.tl_search.specs.declared.arrival.Arrival.TheVariants as arrival
 use Rattle.tl_depth.proofs.Arriving.{judged-spent, judged-plan, its-pair, fault-idling}
@@ -13,14 +13,14 @@ use Rattle.tl_depth.proofs.stack.DepthFirst.judged.Goals as goal
 pub returns-then-k-nodes-clause-judged : goal.returns-then-k-nodes-clause-judged
 returns-then-k-nodes-clause-judged g c calls s =
     let a = s.arrives in
-    judged-spent _ _ _ _ (arrival.Fresh c.args.k) _ calls s c.args.k a.0 a.1.0 a.1.1 a.1.2 a.1.3 c.if-k-nodes.true
+    judged-spent _ _ _ _ (arrival.Fresh c.args.k) _ calls s c.args.k a.0 a.1.0 a.1.1 a.1.2 a.1.3 c.if-k-nodes.true refl
 
 pub returns-in_ok-plan-in-Ok-true-clause-judged : goal.returns-in_ok-plan-in-Ok-true-clause-judged
 returns-in_ok-plan-in-Ok-true-clause-judged g c calls s =
     let a = s.arrives in
     let at = its-pair _ _ _ _ (arrival.Fresh c.args.k) _ calls s c.args.k a.0 a.1.0 a.1.1 a.1.2 a.1.3 in
     judged-plan _ _ _ _ (arrival.Fresh c.args.k) _ calls s c.args.k a.0 a.1.0 a.1.1 a.1.2 a.1.3 c.if-k-nodes.false
-    ((accepted-pair _ _ c.args.k _ c.in-Ok-true.ensures.accepted a.1.0 at).0 c.in-Ok-true.field-0-test) c.in_ok-plan-in-Ok-true.plan (c.in_ok-plan-in-Ok-true.ensures {u = tt} ∙ ap path_of c.as_slice.ensures.value)
+    ((accepted-pair _ _ c.args.k _ c.in-Ok-true.ensures.accepted a.1.0 at).0 c.in-Ok-true.field-0-test) c.in_ok-plan-in-Ok-true.plan (c.in_ok-plan-in-Ok-true.ensures {u = tt} ∙ ap path_of c.as_slice.ensures.value) refl
 
 pub returns-in-Err-RangeHere-clause-fault :
     goal.returns-in-Err-RangeHere-clause-fault

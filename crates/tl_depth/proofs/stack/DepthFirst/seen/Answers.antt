@@ -1,5 +1,5 @@
 use Rattle.tl_depth.proofs.NamedStacks.{stack-stepped, search-with}
-use Rattle.std.proofs.Common.{◌≡◌, length, slice_index_or, Some, sym, ap, subst, arith}
+use Rattle.std.proofs.Common.{◌≡◌, length, slice_index_or, Some, refl, sym, ap, subst, arith}
 use Rattle.std.specs.List.{slice_get}
 use Rattle.tl_depth.proofs.LevelFacts.{get-within}
 use Rattle.tl_search.specs.declared.arrival.Arrival.TheVariants as arrival
@@ -14,7 +14,7 @@ returns-then-left-as_slice-clause-turned g c calls s =
     let a = s.arrives in
     let l = seen-within _ _ _ _ (arrival.Seen c.args.k) _ calls s c.args.k a.0 a.1.0 a.1.1 a.1.2 in
     let v : slice_index_or c.as_slice.result.now c.args.k 0 ≡ slice_index_or c.args.self.now.most.items c.args.k 0 = ap (λ us. slice_index_or us c.args.k 0) c.as_slice.ensures.value in
-    turned-passes _ _ _ _ (arrival.Seen c.args.k) _ calls s c.args.k a.0 a.1.0 a.1.1 a.1.2 c.pass.new.self c.pass.ensures.stack c.pass.ensures.rest _ (get-at _ c.args.k 0 l) (omega (arith, v, c.if-left-as_slice.true))
+    turned-passes _ _ _ _ (arrival.Seen c.args.k) _ calls s c.args.k a.0 a.1.0 a.1.1 a.1.2 c.pass.new.self c.pass.ensures.stack c.pass.ensures.rest _ (get-at _ c.args.k 0 l) (omega (arith, v, c.if-left-as_slice.true)) refl
 
 pub returns-then-not-self-clause-turned : goal.returns-then-not-self-clause-turned
 returns-then-not-self-clause-turned g c calls s =
@@ -49,7 +49,7 @@ returns-clause-turned g c = on-ok c.enter.result _ _ c.enter.ensures.entered (λ
     let l = seen-within _ _ _ _ (arrival.Seen c.args.k) _ calls s c.args.k a.0 a.1.0 a.1.1 a.1.2 in
     let v : slice_index_or c.as_slice.result.now c.args.k 0 ≡ slice_index_or c.args.self.now.most.items c.args.k 0 = ap (λ us. slice_index_or us c.args.k 0) c.as_slice.ensures.value in
     turned-again _ _ _ _ (arrival.Seen c.args.k) _ calls s c.args.k a.0 a.1.0 a.1.1 a.1.2 c.enter.new.self t (ap (λ (w : DepthFirst). w.within) c.enter.ensures.rest) (ap (λ (w : DepthFirst). w.watch) c.enter.ensures.rest) (ap (λ (w : DepthFirst). w.events) c.enter.ensures.rest) (ap (λ (w : DepthFirst). w.reenters) c.enter.ensures.rest)
-    (ap (λ (w : DepthFirst). w.most.items) c.enter.ensures.rest) _ (get-at _ c.args.k 0 l) (omega (arith, v, c.if-left-as_slice.false)))
+    (ap (λ (w : DepthFirst). w.most.items) c.enter.ensures.rest) _ (get-at _ c.args.k 0 l) (omega (arith, v, c.if-left-as_slice.false)) refl)
 
 pub returns-clause-fault : goal.returns-clause-fault
 returns-clause-fault g c = if-err c.enter.result _ _ c.enter.ensures.fault (λ f e.
