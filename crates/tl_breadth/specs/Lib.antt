@@ -5,3 +5,4 @@ pub mod Outcomes
 pub mod Events
 pub mod Reports
 pub mod Laws
+pub mod Traces
