@@ -1,5 +1,4 @@
 -- How a search begins and ends.
-use Rattle.std.specs.Prelude.{IsTrue, is_some}
 use Rattle.std.proofs.Common.{◌≡◌, ◌≢◌, ◌≤◌, ◌<◌, ◌+◌, ℕ, zero, suc, List, [], ◌∷◌, ◌++◌, length, Bool, true, false, cond, Option, Some, None, refl, sym, ap, ◌∙◌, subst, inl, arith}
 use Rattle.std.specs.List.{slice_get}
 use Rattle.tl_syntax.specs.declared.action.Action.{Action}
@@ -36,8 +35,6 @@ use Rattle.tl_depth.specs.Outcomes.{Reported, AreFewCalls, IsDepthFirstOutcome, 
 use Rattle.tl_depth.specs.Ongoing.{IsOngoing, IsEntered, IsEntryFault, HasDoneNothing, HasRootAlone, BeginsSearch, TurnedTo, to_do}
 use Rattle.tl_search.specs.declared.event.Event.{Event}
 use Rattle.tl_depth.specs.Search.{Reports}
-use Rattle.tl_terms.specs.Paths.{IsDistance}
-use Rattle.tl_terms.specs.Step.{step}
 use Rattle.tl_search.specs.declared.outcome.Outcome.{Outcome}
 use Rattle.tl_search.specs.declared.fault.SearchFault.{SearchFault}
 use Rattle.tl_search.specs.declared.fault.SearchFault.TheVariants as fault

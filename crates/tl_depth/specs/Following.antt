@@ -1,5 +1,5 @@
 -- What a depth-first search has still to tell between its steps.
-use Rattle.std.specs.Prelude.{◌≡◌, ◌≤◌, ◌<◌, ◌+◌, ◌-◌, ℕ, List, [], ◌∷◌, ◌++◌, length, drop, reverse, slice_get, Bool, Some}
+use Rattle.std.specs.Prelude.{◌≡◌, ◌≤◌, ◌<◌, ◌-◌, ℕ, List, [], ◌∷◌, ◌++◌, length, drop, reverse, slice_get, Bool, Some}
 use Rattle.tl_syntax.specs.Lists.{Among}
 use Rattle.tl_terms.specs.Problem.{PlainProblem}
 use Rattle.tl_terms.specs.Pairs.{Pair}
