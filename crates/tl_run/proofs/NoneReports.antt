@@ -87,7 +87,7 @@ module _ (s : Search) (p : PlainProblem) (kept : List KeptPair) (report : Report
   said = outcome_says p s.within s.nodes kept report.outcome none (subst (λ (m : Mode). IsSearchIn m s.within s.nodes p kept report.outcome) breadth right.ended)
 
   told : AreFirstArrivals p s.within kept (arrivals_of report.events) × AreAllArrivals p s.within kept (arrivals_of report.events)
-  told = all_told p s.within kept report.events report.outcome none (subst (λ (m : Mode). TellsActionsIn m s.within p kept report.events report.outcome) breadth right.actions)
+  told = let actions = subst (λ (m : Mode). TellsActionsIn m s.within p kept report.events report.outcome) breadth right.actions in all_told p s.within kept report.events report.outcome none actions.1
 
   -- it says that there is no plan, in such a way that a proof can be made of it
   pub none_report : IsNoneReport p s.within kept report

@@ -78,7 +78,7 @@ module _ (goes_on : PairGoesOn) (opens : PrefixesAreOpen) (order : ActionOrderIs
 keeps_prefixes : PairGoesOn → PrefixesAreOpen → ActionOrderIsTotal → (p : PlainProblem) (n b : ℕ) (kept : List Pair) (events : List Event) (o : Outcome) → IsDepthFirstOutcome p n b kept o → IsToldOutcome p n true kept events o → HasPrefixes p kept o
 keeps_prefixes goes_on opens order p n b kept events (outcome.Plan plan) h told =
     let simple : IsFirstSimplePlan p n plan = h.0 in
-    prefixes_kept goes_on opens order p kept events plan simple.accepted h.1 told
+    prefixes_kept goes_on opens order p kept events plan simple.accepted h.1 told.0
 keeps_prefixes goes_on opens order p n b kept events outcome.NoPlan h told = tt
 keeps_prefixes goes_on opens order p n b kept events outcome.NoneWithin h told = tt
 keeps_prefixes goes_on opens order p n b kept events outcome.Spent h told = tt

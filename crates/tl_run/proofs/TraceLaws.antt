@@ -1,7 +1,10 @@
 -- Laws of the right answers of `trace`.
-use Rattle.std.proofs.Common.{◌≡◌, inl, inr, ℕ, List, ◌++◌, refl, sym, ap, ◌∙◌, subst}
+use Rattle.std.proofs.Common.{◌≡◌, inl, inr, ℕ, zero, suc, List, [], ◌∷◌, ◌++◌, slice_get, Some, refl, sym, ap, ◌∙◌, subst}
+use Rattle.std.proofs.lemmas.List.{length-map}
 use Rattle.std.specs.Prelude.{Option}
+use Rattle.tl_breadth.specs.Events.{AreFirstArrivals, arrivals_of}
 use Rattle.tl_breadth.specs.Outcomes.{IsBreadthFirstOutcome}
+use Rattle.tl_breadth.specs.Traces.{AreInBreadth, StopsAt}
 use Rattle.tl_depth.specs.Outcomes.{IsDepthFirstOutcome}
 use Rattle.tl_eval.specs.Notes.{operation_of}
 use Rattle.tl_eval.specs.declared.range.RangeNote.{RangeNote}
@@ -15,6 +18,7 @@ use Rattle.tl_search.specs.declared.outcome.Outcome.TheVariants as outcome
 use Rattle.tl_syntax.specs.declared.action.Action.{Action}
 use Rattle.tl_syntax.specs.declared.problem.Problem.{Problem}
 use Rattle.tl_terms.specs.Calm as calm
+use Rattle.tl_terms.specs.Pairs.{Pair}
 use Rattle.tl_terms.specs.Problem.{PlainProblem}
 use Rattle.tl_terms.specs.ProblemMeaning.{plain_problem}
 use Rattle.tl_text.specs.Outcomes.{outcome_text}
@@ -27,8 +31,8 @@ use Rattle.tl_run.specs.Commands.{trace}
 use Rattle.tl_run.specs.Inputs.{Input, a_problem}
 use Rattle.tl_run.specs.Laws.{Laws}
 use Rattle.tl_run.specs.Plan.{IsOutcome, IsOutcomeIn}
-use Rattle.tl_run.specs.Promises.{Headline, IsCalmStatus, OutcomeYields, Yields}
-use Rattle.tl_run.specs.Trace.{IsSearchIn, IsTrace, TellsEvents}
+use Rattle.tl_run.specs.Promises.{Headline, IsCalmStatus, IsTraceText, OutcomeYields, Yields}
+use Rattle.tl_run.specs.Trace.{EndsWithLast, IsSearchIn, IsTrace, TellsActionsIn, TellsEvents, TellsInTurn}
 use Rattle.tl_run.specs.Turns.{HoldInput}
 use Rattle.tl_run.proofs.Agreement.{Agrees}
 use Rattle.tl_run.proofs.OneOutcome.{IsOneOrYields, one_outcome, calm_outcome}
@@ -72,22 +76,58 @@ yields_to_outcome s kept events o outcome.NoPlan y = y
 yields_to_outcome s kept events o outcome.NoneWithin y = y
 yields_to_outcome s kept events o outcome.Spent y = y
 
-traced_agrees : (m n : Problem) (s t r : Search) (kept others : List KeptPair) (events told : List Event) (o u : Outcome) → SameProblem m n → t ≡ s → r ≡ s → IsTrace s (plain_problem n) others told u → IsOneOrYields o u → Agrees (a_problem m) (traced t kept events o) (outcome_status u) (text_of (a_problem n) (traced r others told u))
-traced_agrees m n s t r kept others events told o u same e f right (inl is) = inl (
+-- a pair that is kept at a number, with its path
+kept_at : (kept : List KeptPair) (k : ℕ) (x : Pair) → slice_get (pairs_of kept) k ≡ Some x → (y : KeptPair) × (slice_get kept k ≡ Some y) × (x ≡ y.node)
+kept_at [] k x e = absurd (let z : ⊥ = cc in z)
+kept_at (y ∷ kept) zero x e = (y, refl, let z : x ≡ y.node = cc in z)
+kept_at (y ∷ kept) (suc k) x e = kept_at kept k x e
+
+first_told : (p : PlainProblem) (n : ℕ) (kept : List KeptPair) (events : List Event) (o : Outcome) → TellsInTurn p n kept events o → AreFirstArrivals p n kept (arrivals_of events)
+first_told p n kept events (outcome.Plan plan) h = h
+first_told p n kept events outcome.NoPlan h = h.0
+first_told p n kept events outcome.NoneWithin h = h.0
+first_told p n kept events outcome.Spent h = h
+
+stops_at : (p : PlainProblem) (n b : ℕ) (kept : List KeptPair) (events : List Event) (o : Outcome) → IsBreadthFirstOutcome p n b kept o → EndsWithLast p kept events o → TellsInTurn p n kept events o → StopsAt p n b kept events o
+stops_at p n b kept events (outcome.Plan plan) h ends turn =
+    let last = ends.1 in
+    let y = kept_at kept last.0 last.1 last.3 in
+    (ends.0, (last.0, y.0, sym (length-map kept (λ (z : KeptPair). z.node)) ∙ last.2, y.1, last.4 ∙ ap (λ (z : Pair). Some z) y.2))
+stops_at p n b kept events outcome.NoPlan h ends turn = turn.1
+stops_at p n b kept events outcome.NoneWithin h ends turn = turn.1
+stops_at p n b kept events outcome.Spent h ends turn = let spent = h.0 in (ends, sym (length-map kept (λ (z : KeptPair). z.node)) ∙ spent.many)
+
+in_breadth : (s : Search) (p : PlainProblem) (kept : List KeptPair) (events : List Event) (o : Outcome) → s.mode ≡ Breadth → IsTrace s p kept events o → AreInBreadth p s.within s.nodes kept events o
+in_breadth s p kept events o mode h =
+    let ended = subst (λ (m : Mode). IsSearchIn m s.within s.nodes p kept o) mode h.ended in
+    let actions = subst (λ (m : Mode). TellsActionsIn m s.within p kept events o) mode h.actions in
+    record {
+      told = h.told;
+      root_once = actions.0;
+      first = first_told p s.within kept events o actions.1;
+      stops = stops_at p s.within s.nodes kept events o ended h.ends actions.1;
+    }
+
+-- the lines of a right trace are those of every other breadth-first
+lines_in : Laws → (mode : Mode) (m : Problem) (s : Search) (kept others : List KeptPair) (events told : List Event) (o : Outcome) (text : List ℕ) → s.mode ≡ mode → IsTrace s (plain_problem m) kept events o → IsTrace s (plain_problem m) others told o → text ≡ text_of (a_problem m) (traced s others told o) → IsTraceText mode (a_problem m) s kept events o text
+lines_in laws Breadth m s kept others events told o text mode h k line =
+    let one = laws.traces (plain_problem m) s.within s.nodes kept others events told o (in_breadth s (plain_problem m) kept events o mode h) (in_breadth s (plain_problem m) others told o mode k) in
+    line ∙ (λ i. text_of (a_problem m) (traced s (sym one.1 i) (sym one.0 i) o))
+lines_in laws Depth m s kept others events told o text mode h k line = (others, told, k, line)
+
+traced_agrees : Laws → (m n : Problem) (s t r : Search) (kept others : List KeptPair) (events told : List Event) (o u : Outcome) → SameProblem m n → t ≡ s → r ≡ s → IsTrace s (plain_problem m) kept events o → IsTrace s (plain_problem n) others told u → IsOneOrYields o u → Agrees (a_problem m) (traced t kept events o) (outcome_status u) (text_of (a_problem n) (traced r others told u))
+traced_agrees laws m n s t r kept others events told o u same e f first right (inl is) = inl (
   ap outcome_status is,
-  (
-    others,
-    told,
-    subst (λ (x : Search). IsTrace x (plain_problem m) others told o) (sym e) (subst (λ (x : Outcome). IsTrace s (plain_problem m) others told x) is (subst (λ (x : PlainProblem). IsTrace s x others told u) (sym same.meaning) right)),
-    (λ i. text_of (a_problem n) (traced ((f ∙ sym e) i) others told (is i))) ∙ same_lines m n t others told o same,
-  ),
+  lines_in laws t.mode m t kept others events told o (text_of (a_problem n) (traced r others told u)) refl (subst (λ (x : Search). IsTrace x (plain_problem m) kept events o) (sym e) first)
+      (subst (λ (x : Search). IsTrace x (plain_problem m) others told o) (sym e) (subst (λ (x : Outcome). IsTrace s (plain_problem m) others told x) is (subst (λ (x : PlainProblem). IsTrace s x others told u) (sym same.meaning) right)))
+      ((λ i. text_of (a_problem n) (traced ((f ∙ sym e) i) others told (is i))) ∙ same_lines m n t others told o same),
 )
-traced_agrees m n s t r kept others events told o u same e f right (inr y) = inr (yields_to_outcome t kept events o u y)
+traced_agrees laws m n s t r kept others events told o u same e f first right (inr y) = inr (yields_to_outcome t kept events o u y)
 
 right_agrees : Laws → (s : Search) (d p : List ℕ) (m : Problem) (t : Search) (kept : List KeptPair) (events : List Event) (o : Outcome) (y : Input) (b : Answer) → SameInput (a_problem m) y → t ≡ s → IsTrace s (plain_problem m) kept events o → IsRightAnswer (trace s d p) y b → Agrees (a_problem m) (traced t kept events o) (status_of b) (text_of y b)
 right_agrees laws s d p m t kept events o (a_problem n) (traced r others told u) same e h k =
     let one = one_outcome laws s.mode s.within s.nodes (plain_problem m) o u (trace_outcome s (plain_problem m) kept events o h) (subst (λ (x : PlainProblem). IsOutcome s x u) (sym same.meaning) (trace_outcome s (plain_problem n) others told u k.1)) in
-    traced_agrees m n s t r kept others events told o u same e k.0 k.1 one
+    traced_agrees laws m n s t r kept others events told o u same e k.0 h k.1 one
 right_agrees laws s d p m t kept events o (a_problem n) (past_range after note path) same e h k = inr tt
 right_agrees laws s d p m t kept events o y b same e h k = absurd k
 

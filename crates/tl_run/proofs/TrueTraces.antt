@@ -1,7 +1,7 @@
 -- What true events say of kept search nodes, of the branches that they tell to be pruned, and of the last search node.
 use Rattle.std.proofs.Common.{◌≡◌, ℕ, List, [], ◌∷◌, ◌++◌, Some, true, refl, sym, ap, ◌∙◌, subst, inl, inr}
 use Rattle.std.specs.Prelude.{Bool, false, slice_get, Option, option_and_then, Result, Ok, Err, IfOk}
-use Rattle.tl_breadth.specs.Events.{AreFirstArrivals, AreAllArrivals, Arrived, HasReported, IsLastPath, IsReported, arrivals_of}
+use Rattle.tl_breadth.specs.Events.{AreFirstArrivals, AreAllArrivals, Arrived, HasReported, IsLastPath, IsReported, arrivals_of, TellsRootOnce}
 use Rattle.tl_breadth.specs.Reports.{EndsRightly, IsBreadthFirstReport, ReportsArrivals}
 use Rattle.tl_depth.specs.Outcomes.{HasLastPair, IsDepthFirstOutcome}
 use Rattle.tl_depth.specs.Reports as depth
@@ -114,6 +114,12 @@ tells_in_turn p n from steps kept events outcome.NoPlan h = all_arrivals p n fro
 tells_in_turn p n from steps kept events outcome.NoneWithin h = all_arrivals p n from steps h.0 [] kept events h.1 h.2
 tells_in_turn p n from steps kept events outcome.Spent h = first_arrivals p n from steps h.0 h.1 kept events h.2
 
+tells_root_once : (p : PlainProblem) (n from steps : ℕ) (kept : List KeptPair) (events : List Event) (o : Outcome) → HasReported p n true from kept events steps o → TellsRootOnce events
+tells_root_once p n from steps kept events (outcome.Plan plan) h = let r = h.2 in r.root_once refl
+tells_root_once p n from steps kept events outcome.NoPlan h = let r = h.1 in r.root_once refl
+tells_root_once p n from steps kept events outcome.NoneWithin h = let r = h.1 in r.root_once refl
+tells_root_once p n from steps kept events outcome.Spent h = let r = h.2 in r.root_once refl
+
 reported_history : (p : PlainProblem) (n from steps : ℕ) (kept : List KeptPair) (events : List Event) (o : Outcome) → HasReported p n true from kept events steps o → IsHistory p true kept events
 reported_history p n from steps kept events (outcome.Plan plan) h = let r = h.2 in r.history
 reported_history p n from steps kept events outcome.NoPlan h = let r = h.1 in r.history
@@ -143,7 +149,7 @@ breadth_trace keeps paths runs s p from steps kept report is right arrivals begi
       told = told;
       begins = begins refl;
       ends = breadth_ends paths p kept report.events report.outcome told ends;
-      actions = subst (λ (m : Mode). TellsActionsIn m s.within p kept report.events report.outcome) (sym is) (tells_in_turn p s.within from steps kept report.events report.outcome arrivals);
+      actions = subst (λ (m : Mode). TellsActionsIn m s.within p kept report.events report.outcome) (sym is) (tells_root_once p s.within from steps kept report.events report.outcome arrivals, tells_in_turn p s.within from steps kept report.events report.outcome arrivals);
       unseen = λ k here. keeps p report.events kept k here told;
       pruned = prunes_soundly runs p kept report.events told (pruned refl);
     }

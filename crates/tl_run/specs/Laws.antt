@@ -1,4 +1,5 @@
 -- What is proved below of the definitions in the promises.
+use Rattle.tl_breadth.specs.Traces.{BreadthFirstEventsAreOne}
 use Rattle.tl_cert.specs.Laws.{CoveredHasNone, OneNoneVerdict}
 use Rattle.tl_check.specs.LawsVerdict.{OneVerdict}
 use Rattle.tl_domain.specs.LawsFiles.{FilesStandForOneProblem}
@@ -7,7 +8,7 @@ use Rattle.tl_search.specs.LawsOutcomes.{AnswersExcludeEachOther, FewPairsAreNot
 use Rattle.tl_search.specs.LawsRange.{CalmHasNoCause}
 use Rattle.tl_terms.specs.LawsOrders.{PlanOrderIsTotal}
 
--- one verdict is right of a plan, of one with a repeated part, and of a proof, which leaves no plan where it covers the search space; two files stand for one problem, plans are totally ordered, and what a search answers excludes what else it could answer
+-- one verdict is right of a plan, of one with a repeated part, and of a proof, which leaves no plan where it covers the search space; two files stand for one problem, plans are totally ordered, what a search answers excludes what else it could answer, and the events of a breadth-first search are one list
 pub record Laws : Type 0 where
   pub verdicts : OneVerdict
   pub problems : FilesStandForOneProblem
@@ -15,6 +16,7 @@ pub record Laws : Type 0 where
   pub exclusions : AnswersExcludeEachOther
   pub few_pairs : FewPairsAreNotSpent
   pub calm : CalmHasNoCause
+  pub traces : BreadthFirstEventsAreOne
   pub covered : CoveredHasNone
   pub none_verdicts : OneNoneVerdict
   pub loop_verdicts : OneLoopVerdict

@@ -15,7 +15,7 @@ use Rattle.tl_search.specs.declared.event.Event.{Event}
 use Rattle.tl_search.specs.declared.event.Event.TheVariants as event
 use Rattle.tl_search.specs.declared.outcome.Outcome.{Outcome}
 use Rattle.tl_search.specs.declared.outcome.Outcome.TheVariants as outcome
-use Rattle.tl_breadth.specs.Events.{AreFirstArrivals, AreAllArrivals, arrivals_of}
+use Rattle.tl_breadth.specs.Events.{AreFirstArrivals, AreAllArrivals, arrivals_of, TellsRootOnce}
 use Rattle.tl_breadth.specs.Outcomes.{IsBreadthFirstOutcome}
 use Rattle.tl_depth.specs.Outcomes.{IsDepthFirstOutcome, IsToldOutcome, HasLastPair}
 use Rattle.tl_text.specs.Traces.{trace_text}
@@ -37,9 +37,9 @@ TellsInTurn p n kept events outcome.NoPlan = AreFirstArrivals p n kept (arrivals
 TellsInTurn p n kept events outcome.NoneWithin = AreFirstArrivals p n kept (arrivals_of events) × AreAllArrivals p n kept (arrivals_of events)
 TellsInTurn p n kept events o = AreFirstArrivals p n kept (arrivals_of events)
 
--- of which executable actions the events tell in a mode, one line for each
+-- of which executable actions the events tell after the root's in a mode, and in which order, one line for each
 abbrev pub TellsActionsIn : Mode → ℕ → PlainProblem → List KeptPair → List Event → Outcome → Type 0
-TellsActionsIn Breadth n p kept events o = TellsInTurn p n kept events o
+TellsActionsIn Breadth n p kept events o = TellsRootOnce events × TellsInTurn p n kept events o
 TellsActionsIn Depth n p kept events o = IsToldOutcome p n true (pairs_of kept) events o
 
 -- with a plan or spent, the last event is the one that kept the last search node, and with a plan this is the plan's

@@ -62,13 +62,15 @@ trace depth {0} {1} l p | l = {lamps} {2}) & p = (problem p (init {3}) (goal {4}
 3 | 2 | - | {two} | (on c) | 2 | ; kept 0 / ; label true / ; kept 1 0 (press a) / ; label true / ; kept 2 1 (press b) / ; label true / ; spent 2
 ";
 
-/// Rows of the most actions, for a graph in which a search node is met again with more actions left; then the status, and the output.
+/// Rows of the most actions and of the edges of a graph in which a search node is met again with more actions left; then the status, and the output.
 const WAYS: &str = "
-trace depth {0} 100 g p | g = (domain g (predicate here 1) (predicate edge 2) (operator (go ?x ?y) (bounds (here ?x) (edge ?x ?y)) (effects (del (here ?x)) (add (here ?y))))) & p = (problem p (init (here s) (edge s a) (edge a b) (edge b m) (edge s m) (edge m k) (edge k t)) (goal (here t))) | {1} | {2}
+trace depth {0} 100 g p | g = (domain g (predicate here 1) (predicate edge 2) (operator (go ?x ?y) (bounds (here ?x) (edge ?x ?y)) (effects (del (here ?x)) (add (here ?y))))) & p = (problem p (init (here s) {1}) (goal (here t))) | {2} | {3}
 # m is kept with no action left, and entered when it is seen with more
-3 | 0 | ; kept 0 / ; label true / ; kept 1 0 (go s a) / ; label true / ; kept 2 1 (go a b) / ; label true / ; kept 3 2 (go b m) / ; label true / ; seen 3 0 (go s m) / ; kept 4 3 (go m k) / ; label true / ; kept 5 4 (go k t) / ; label true / ; plan of 3 actions / (go s m) / (go m k) / (go k t)
+3 | {two ways} | 0 | ; kept 0 / ; label true / ; kept 1 0 (go s a) / ; label true / ; kept 2 1 (go a b) / ; label true / ; kept 3 2 (go b m) / ; label true / ; seen 3 0 (go s m) / ; kept 4 3 (go m k) / ; label true / ; kept 5 4 (go k t) / ; label true / ; plan of 3 actions / (go s m) / (go m k) / (go k t)
 # it is entered twice, and its arrival is shown twice
-4 | 0 | ; kept 0 / ; label true / ; kept 1 0 (go s a) / ; label true / ; kept 2 1 (go a b) / ; label true / ; kept 3 2 (go b m) / ; label true / ; kept 4 3 (go m k) / ; label true / ; seen 3 0 (go s m) / ; seen 4 3 (go m k) / ; kept 5 4 (go k t) / ; label true / ; plan of 3 actions / (go s m) / (go m k) / (go k t)
+4 | {two ways} | 0 | ; kept 0 / ; label true / ; kept 1 0 (go s a) / ; label true / ; kept 2 1 (go a b) / ; label true / ; kept 3 2 (go b m) / ; label true / ; kept 4 3 (go m k) / ; label true / ; seen 3 0 (go s m) / ; seen 4 3 (go m k) / ; kept 5 4 (go k t) / ; label true / ; plan of 3 actions / (go s m) / (go m k) / (go k t)
+# the bound cuts nothing: m and k are entered again all the same, and each arrival on the way is shown again
+10 | (edge s a) (edge a b) (edge b m) (edge s m) (edge m k) (edge k f) | 1 | ; kept 0 / ; label true / ; kept 1 0 (go s a) / ; label true / ; kept 2 1 (go a b) / ; label true / ; kept 3 2 (go b m) / ; label true / ; kept 4 3 (go m k) / ; label true / ; kept 5 4 (go k f) / ; label true / ; seen 3 0 (go s m) / ; seen 4 3 (go m k) / ; seen 5 4 (go k f) / ; none
 ";
 
 /// Rows of the mode and the value of a counter; then the status, and the output. Where an operation is past range no event is shown.
