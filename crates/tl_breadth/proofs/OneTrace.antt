@@ -1,5 +1,5 @@
 -- The events of a breadth-first search are one list.
-use Rattle.std.proofs.Common.{◌≡◌, ◌≢◌, ◌≤◌, ◌<◌, ◌+◌, ◌⊎◌, ℕ, suc, List, [], ◌∷◌, ◌++◌, length, slice_get, Option, Some, None, IsTrue, is_some, Ordering, Less, Equal, Greater, refl, sym, ap, ◌∙◌, subst, inl, inr, arith, append_assoc, length-append}
+use Rattle.std.proofs.Common.{◌≡◌, ◌≢◌, ◌≤◌, ◌<◌, ◌+◌, ◌⊎◌, ℕ, List, [], ◌∷◌, ◌++◌, length, slice_get, Option, Some, None, IsTrue, is_some, Ordering, Less, Equal, Greater, refl, sym, ap, ◌∙◌, subst, inl, inr, arith, append_assoc}
 use Rattle.std.specs.Cmp.{tied_itself}
 use Rattle.std.specs.Option.{option_map}
 use Rattle.std.specs.Ordering.{ordering_reverse}
@@ -13,126 +13,36 @@ use Rattle.tl_terms.specs.Pairs.{Pair, pair_of}
 use Rattle.tl_terms.specs.Problem.{PlainProblem}
 use Rattle.tl_terms.specs.Step.{step}
 use Rattle.tl_terms.proofs.OrderLaws.{actions-total}
-use Rattle.tl_search.specs.Ends.{kept_number, EndsByKeeping}
+use Rattle.tl_search.specs.Ends.{EndsByKeeping}
 use Rattle.tl_search.specs.KeptPairs.{KeptPair}
-use Rattle.tl_search.specs.PairGraph.{next_pair, pair_in}
+use Rattle.tl_search.specs.PairGraph.{pair_in}
 use Rattle.tl_search.specs.TrueEvents.{IsTrueEvent, AreTrueEvents}
 use Rattle.tl_search.specs.declared.event.Event.{Event}
 use Rattle.tl_search.specs.declared.event.Event.TheVariants as event
 use Rattle.tl_search.specs.declared.outcome.Outcome.{Outcome}
 use Rattle.tl_search.specs.declared.outcome.Outcome.TheVariants as outcome
-use Rattle.tl_search.proofs.ListLaws.{get-one, get-old, get-either}
-use Rattle.tl_search.proofs.WalkLaws.{length-snoc}
+use Rattle.tl_search.proofs.ListLaws.{get-one}
+use Rattle.tl_search.proofs.SameEvents.{IsOf, AreSound, sound-none, sound-event, sound-events, events-grow, same-event, longer}
 use Rattle.tl_breadth.specs.Events.{Arrived, IsEarlier, AreInTurn, IsArrival, AreFirstArrivals, AreAllArrivals, arrived_in, arrivals_of, TellsRootOnce}
 use Rattle.tl_breadth.specs.Traces.{KeepsLast, AreInBreadth}
 
--- ---- what true events keep: pairs that differ, and are not pruned
+-- ---- arrivals
 
-record AreSound (kept : List KeptPair) : Type 0 where
-  differ : (i j : ℕ) (x y : KeptPair) → slice_get kept i ≡ Some x → slice_get kept j ≡ Some y → x.node ≡ y.node → i ≡ j
-  unpruned : (i : ℕ) (x : KeptPair) → slice_get kept i ≡ Some x → x.node.formula ≢ falsum
+told-first : (r s : Arrived) → r ∷ [] ≡ s ∷ [] → r ≡ s
+told-first r s e = cc
 
-sound-none : AreSound []
-sound-none = record { differ = λ i j x y e f q. absurd (let b : ⊥ = cc in b); unpruned = λ i x e. absurd (let b : ⊥ = cc in b) }
-
-sound-more : (kept : List KeptPair) (y : KeptPair) → AreSound kept → y.node.formula ≢ falsum → ((i : ℕ) (z : KeptPair) → slice_get kept i ≡ Some z → z.node ≢ y.node) → AreSound (kept ++ y ∷ [])
-sound-more kept y s u fresh = record {
-  differ = λ i j x z e f q. elim (get-either kept y i x e) [
-    | inl a ↦ elim (get-either kept y j z f) [ inl b ↦ s.differ i j x z a b q | inr b ↦ absurd (fresh i x a (q ∙ ap (λ (v : KeptPair). v.node) (sym b.1))) ]
-    | inr a ↦ elim (get-either kept y j z f) [ inl b ↦ absurd (fresh j z b (sym q ∙ ap (λ (v : KeptPair). v.node) (sym a.1))) | inr b ↦ a.0 ∙ sym b.0 ]
-  ];
-  unpruned = λ i x e. elim (get-either kept y i x e) [ inl a ↦ s.unpruned i x a | inr a ↦ (λ q. u (ap (λ (v : KeptPair). v.node.formula) a.1 ∙ q)) ];
-}
+of-arrived : (e : Event) (r : Arrived) → arrived_in e ≡ r ∷ [] → IsOf r.0 r.1 e
+of-arrived event.RootKept r q = let b : ⊥ = cc in b
+of-arrived event.RootPruned r q = let b : ⊥ = cc in b
+of-arrived (event.Kept j a k) r q = let v = told-first (j, a) r q in (ap (λ (c : Arrived). c.0) v, ap (λ (c : Arrived). c.1) v)
+of-arrived (event.Seen j a k) r q = let v = told-first (j, a) r q in (ap (λ (c : Arrived). c.0) v, ap (λ (c : Arrived). c.1) v)
+of-arrived (event.Pruned j a) r q = let v = told-first (j, a) r q in (ap (λ (c : Arrived). c.0) v, ap (λ (c : Arrived). c.1) v)
 
 module _ (p : PlainProblem) where
-  sound-event : (old : List KeptPair) (e : Event) (new : List KeptPair) → IsTrueEvent p old e new → AreSound old → AreSound new
-  sound-event old event.RootKept new t s = subst AreSound (sym t.4) (sound-more [] (record { node = t.0; path = [] }) sound-none t.2 (λ i z e. absurd (let b : ⊥ = cc in b)))
-  sound-event old event.RootPruned new t s = subst AreSound (sym t.4) sound-none
-  sound-event old (event.Kept j a k) new t s = subst AreSound (sym t.7) (sound-more old (record { node = t.1; path = t.0.path ++ a ∷ [] }) s t.4 t.5)
-  sound-event old (event.Seen j a k) new t s = subst AreSound (sym t.5) s
-  sound-event old (event.Pruned j a) new t s = subst AreSound (sym t.5) s
-
-  sound-events : (old : List KeptPair) (es : List Event) (new : List KeptPair) → AreTrueEvents p old es new → AreSound old → AreSound new
-  sound-events old [] new t s = subst AreSound t s
-  sound-events old (e ∷ es) new t s = sound-events t.0 es new t.2 (sound-event old e t.0 t.1 s)
-
-  event-grows : (old : List KeptPair) (e : Event) (new : List KeptPair) → IsTrueEvent p old e new → (i : ℕ) (x : KeptPair) → slice_get old i ≡ Some x → slice_get new i ≡ Some x
-  event-grows old event.RootKept new t i x e = let f : slice_get [] i ≡ Some x = subst (λ xs. slice_get xs i ≡ Some x) t.3 e in let b : ⊥ = cc in absurd b
-  event-grows old event.RootPruned new t i x e = let f : slice_get [] i ≡ Some x = subst (λ xs. slice_get xs i ≡ Some x) t.3 e in let b : ⊥ = cc in absurd b
-  event-grows old (event.Kept j a k) new t i x e = subst (λ xs. slice_get xs i ≡ Some x) (sym t.7) (get-old old (record { node = t.1; path = t.0.path ++ a ∷ [] } ∷ []) i x e)
-  event-grows old (event.Seen j a k) new t i x e = subst (λ xs. slice_get xs i ≡ Some x) (sym t.5) e
-  event-grows old (event.Pruned j a) new t i x e = subst (λ xs. slice_get xs i ≡ Some x) (sym t.5) e
-
-  events-grow : (old : List KeptPair) (es : List Event) (new : List KeptPair) → AreTrueEvents p old es new → (i : ℕ) (x : KeptPair) → slice_get old i ≡ Some x → slice_get new i ≡ Some x
-  events-grow old [] new t i x e = subst (λ xs. slice_get xs i ≡ Some x) t e
-  events-grow old (f ∷ es) new t i x e = events-grow t.0 es new t.2 i x (event-grows old f t.0 t.1 i x e)
-
-  event-longer : (old : List KeptPair) (e : Event) (new : List KeptPair) → IsTrueEvent p old e new → length old ≤ length new
-  event-longer old event.RootKept new t = let n : length old ≡ 0 = ap length t.3 in omega (arith, n)
-  event-longer old event.RootPruned new t = let n : length old ≡ 0 = ap length t.3 in omega (arith, n)
-  event-longer old (event.Kept j a k) new t = let n : length new ≡ suc (length old) = ap length t.7 ∙ length-snoc old (record { node = t.1; path = t.0.path ++ a ∷ [] }) in omega (arith, n)
-  event-longer old (event.Seen j a k) new t = let n : length new ≡ length old = ap length t.5 in omega (arith, n)
-  event-longer old (event.Pruned j a) new t = let n : length new ≡ length old = ap length t.5 in omega (arith, n)
-
-  events-longer : (old : List KeptPair) (es : List Event) (new : List KeptPair) → AreTrueEvents p old es new → length old ≤ length new
-  events-longer old [] new t = let n : length old ≡ length new = ap length t in omega (arith, n)
-  events-longer old (e ∷ es) new t = let m : length old ≤ length t.0 = event-longer old e t.0 t.1 in let k : length t.0 ≤ length new = events-longer t.0 es new t.2 in omega (arith, m, k)
-
-  -- ---- two true events of one arrival are the same
-
-  next-same : (old : List KeptPair) (j : ℕ) (a : Action) (x u : KeptPair) (y v : Pair) → slice_get old j ≡ Some x → slice_get old j ≡ Some u → next_pair p x.node a ≡ Some y → next_pair p u.node a ≡ Some v → y ≡ v
-  next-same old j a x u y v e f g h = let q : Some y ≡ Some v = sym g ∙ (ap (λ (z : KeptPair). next_pair p z.node a) (get-one old j x u e f) ∙ h) in cc
-
-  told-same : (r s t : Arrived) → r ∷ [] ≡ t ∷ [] → s ∷ [] ≡ t ∷ [] → r ≡ s
-  told-same r s t e f = let q : r ∷ [] ≡ s ∷ [] = e ∙ sym f in cc
-
-  same-at : (old : List KeptPair) → AreSound old → (e f : Event) (mid nid : List KeptPair) (r : Arrived) → arrived_in e ≡ r ∷ [] → arrived_in f ≡ r ∷ [] → IsTrueEvent p old e mid → IsTrueEvent p old f nid → (e ≡ f) × (mid ≡ nid)
-  same-at old s event.RootKept f mid nid r q o t u = absurd (let b : ⊥ = cc in b)
-  same-at old s event.RootPruned f mid nid r q o t u = absurd (let b : ⊥ = cc in b)
-  same-at old s e event.RootKept mid nid r q o t u = absurd (let b : ⊥ = cc in b)
-  same-at old s e event.RootPruned mid nid r q o t u = absurd (let b : ⊥ = cc in b)
-  same-at old s (event.Kept i a k) (event.Kept j b l) mid nid r q o t u =
-      let v = told-same (i, a) (j, b) r q o in
-      let w = subst (λ (c : Arrived). IsTrueEvent p old (event.Kept c.0 c.1 k) mid) v t in
-      let x = get-one old j w.0 u.0 w.2 u.2 in
-      let y = next-same old j b w.0 u.0 w.1 u.1 w.2 u.2 w.3 u.3 in
-      let n : k ≡ l = w.6 ∙ sym u.6 in
-      (λ c. event.Kept (v c).0 (v c).1 (n c), w.7 ∙ ((λ c. old ++ record { node = y c; path = (x c).path ++ b ∷ [] } ∷ []) ∙ sym u.7))
-  same-at old s (event.Kept i a k) (event.Seen j b l) mid nid r q o t u =
-      let w = subst (λ (c : Arrived). IsTrueEvent p old (event.Kept c.0 c.1 k) mid) (told-same (i, a) (j, b) r q o) t in
-      absurd (w.5 l u.1 u.4 (sym (next-same old j b w.0 u.0 w.1 u.1.node w.2 u.2 w.3 u.3)))
-  same-at old s (event.Kept i a k) (event.Pruned j b) mid nid r q o t u =
-      let w = subst (λ (c : Arrived). IsTrueEvent p old (event.Kept c.0 c.1 k) mid) (told-same (i, a) (j, b) r q o) t in
-      absurd (w.4 (ap (λ (z : Pair). z.formula) (next-same old j b w.0 u.0 w.1 u.1 w.2 u.2 w.3 u.3) ∙ u.4))
-  same-at old s (event.Seen i a k) (event.Kept j b l) mid nid r q o t u =
-      let w = subst (λ (c : Arrived). IsTrueEvent p old (event.Seen c.0 c.1 k) mid) (told-same (i, a) (j, b) r q o) t in
-      absurd (u.5 k w.1 w.4 (next-same old j b w.0 u.0 w.1.node u.1 w.2 u.2 w.3 u.3))
-  same-at old s (event.Seen i a k) (event.Seen j b l) mid nid r q o t u =
-      let v = told-same (i, a) (j, b) r q o in
-      let w = subst (λ (c : Arrived). IsTrueEvent p old (event.Seen c.0 c.1 k) mid) v t in
-      let n : k ≡ l = s.differ k l w.1 u.1 w.4 u.4 (next-same old j b w.0 u.0 w.1.node u.1.node w.2 u.2 w.3 u.3) in
-      (λ c. event.Seen (v c).0 (v c).1 (n c), w.5 ∙ sym u.5)
-  same-at old s (event.Seen i a k) (event.Pruned j b) mid nid r q o t u =
-      let w = subst (λ (c : Arrived). IsTrueEvent p old (event.Seen c.0 c.1 k) mid) (told-same (i, a) (j, b) r q o) t in
-      absurd (s.unpruned k w.1 w.4 (ap (λ (z : Pair). z.formula) (next-same old j b w.0 u.0 w.1.node u.1 w.2 u.2 w.3 u.3) ∙ u.4))
-  same-at old s (event.Pruned i a) (event.Kept j b l) mid nid r q o t u =
-      let w = subst (λ (c : Arrived). IsTrueEvent p old (event.Pruned c.0 c.1) mid) (told-same (i, a) (j, b) r q o) t in
-      absurd (u.4 (sym (ap (λ (z : Pair). z.formula) (next-same old j b w.0 u.0 w.1 u.1 w.2 u.2 w.3 u.3)) ∙ w.4))
-  same-at old s (event.Pruned i a) (event.Seen j b l) mid nid r q o t u =
-      let w = subst (λ (c : Arrived). IsTrueEvent p old (event.Pruned c.0 c.1) mid) (told-same (i, a) (j, b) r q o) t in
-      absurd (s.unpruned l u.1 u.4 (sym (ap (λ (z : Pair). z.formula) (next-same old j b w.0 u.0 w.1 u.1.node w.2 u.2 w.3 u.3)) ∙ w.4))
-  same-at old s (event.Pruned i a) (event.Pruned j b) mid nid r q o t u =
-      let v = told-same (i, a) (j, b) r q o in
-      let w = subst (λ (c : Arrived). IsTrueEvent p old (event.Pruned c.0 c.1) mid) v t in
-      (λ c. event.Pruned (v c).0 (v c).1, w.5 ∙ sym u.5)
-
   -- an arrival is of a pair that was kept before
   mapped : {A B : Type 0} (f : A → B) (o : Option A) (y : B) → option_map f o ≡ Some y → IsTrue (is_some o)
   mapped f None y e = absurd (let b : ⊥ = cc in b)
   mapped f (Some x) y e = refl
-
-  told-first : (r s : Arrived) → r ∷ [] ≡ s ∷ [] → r ≡ s
-  told-first r s e = cc
 
   arrival-there : (old : List KeptPair) (e : Event) (mid : List KeptPair) (r : Arrived) → arrived_in e ≡ r ∷ [] → IsTrueEvent p old e mid → (x : KeptPair) × (slice_get old r.0 ≡ Some x) × IsTrue (is_some (step p x.node.world r.1))
   arrival-there old event.RootKept mid r q t = absurd (let b : ⊥ = cc in b)
@@ -239,7 +149,7 @@ compares p n kept others past old (e ∷ es) (h ∷ hs) s t u k l f g =
     let into = carried p n kept others a.0 x.0 (events-grow p old (e ∷ es) kept t a.0.0 x.0 x.1) (events-grow p old (h ∷ hs) others u a.0.0 x.0 x.1) (f1.right a.0 (among-here past a.0 (arrivals_of es))) in
     let back = carried p n others kept b.0 y.0 (events-grow p old (h ∷ hs) others u b.0.0 y.0 y.1) (events-grow p old (e ∷ es) kept t b.0.0 y.0 y.1) (g1.right b.0 (among-here past b.0 (arrivals_of hs))) in
     let same = first-same p n kept others past a.0 (arrivals_of es) b.0 (arrivals_of hs) f1 g1 into back in
-    let w = same-at p old s e h t.0 u.0 a.0 a.1 (b.1 ∙ ap (λ z. z ∷ []) (sym same)) t.1 u.1 in
+    let w = same-event p old s e h a.0.0 a.0.1 t.0 u.0 (of-arrived e a.0 a.1) (of-arrived h a.0 (b.1 ∙ ap (λ z. z ∷ []) (sym same))) t.1 u.1 in
     let f2 = subst (AreFirstArrivals p n kept) (sym (append_assoc past (a.0 ∷ []) (arrivals_of es))) f1 in
     let g2 = subst (AreFirstArrivals p n others) (sym (append_assoc past (a.0 ∷ []) (arrivals_of hs))) (subst (λ z. AreFirstArrivals p n others (past ++ z ∷ arrivals_of hs)) (sym same) g1) in
     compares-more p kept e es others h hs w.0
@@ -303,34 +213,10 @@ unfinished p n kept others events told all g (e, rest, r, is, one, t) =
     let b = turn-before (arrivals_of events) r (arrivals_of rest) g1.in_turn r (all r h) in
     not-both r r b b
 
-tail-ends : (events : List Event) (e : Event) (rest front : List Event) (last : Event) → events ++ e ∷ rest ≡ front ++ last ∷ [] → (mine : List Event) × (e ∷ rest ≡ mine ++ last ∷ [])
-tail-ends [] e rest front last q = (front, q)
-tail-ends (x ∷ events) e rest [] last q = absurd (let n : length (x ∷ (events ++ e ∷ rest)) ≡ 1 = ap length q in let b : ⊥ = omega (arith, n, length-append events (e ∷ rest)) in b)
-tail-ends (x ∷ events) e rest (y ∷ front) last q = tail-ends events e rest front last (let m : events ++ e ∷ rest ≡ front ++ last ∷ [] = cc in m)
-
-events-split : (p : PlainProblem) (old : List KeptPair) (es : List Event) (e : Event) (new : List KeptPair) → AreTrueEvents p old (es ++ e ∷ []) new → (mid : List KeptPair) × AreTrueEvents p old es mid × IsTrueEvent p mid e new
-events-split p old [] e new t = (old, refl, subst (IsTrueEvent p old e) t.2 t.1)
-events-split p old (f ∷ es) e new t = let h = events-split p t.0 es e new t.2 in (h.0, (t.0, t.1, h.1), h.2)
-
-last-number : (p : PlainProblem) (mid : List KeptPair) (e : Event) (new : List KeptPair) (k : ℕ) → IsTrueEvent p mid e new → kept_number e ≡ Some k → k ≡ length mid
-last-number p mid event.RootKept new k t e = let q : 0 ≡ k = cc in let n : length mid ≡ 0 = ap length t.3 in omega (arith, q, n)
-last-number p mid event.RootPruned new k t e = absurd (let b : ⊥ = cc in b)
-last-number p mid (event.Kept j a i) new k t e = let q : i ≡ k = cc in sym q ∙ t.6
-last-number p mid (event.Seen j a i) new k t e = absurd (let b : ⊥ = cc in b)
-last-number p mid (event.Pruned j a) new k t e = absurd (let b : ⊥ = cc in b)
-
-longer : (p : PlainProblem) (kept others : List KeptPair) (events told : List Event) → EndsByKeeping others told → GoesOn p kept events others told → length kept < length others
-longer p kept others events told ends (e, rest, r, is, one, t) =
-    let m = tail-ends events e rest ends.front ends.last (sym is ∙ ends.ends) in
-    let h = events-split p kept m.0 ends.last others (subst (λ es. AreTrueEvents p kept es others) m.1 t) in
-    let n : ends.number ≡ length h.0 = last-number p h.0 ends.last others ends.number h.2 ends.keeps in
-    let l : length kept ≤ length h.0 = events-longer p kept m.0 h.0 h.1 in
-    omega (arith, n, l, ends.is_last)
-
 -- the plan's pair is kept last in both
 plan-twice : (p : PlainProblem) (kept others : List KeptPair) (events told : List Event) (plan : List Action) → AreTrueEvents p [] told others → EndsByKeeping others told → KeepsLast p kept plan → KeepsLast p others plan → GoesOn p kept events others told → ⊥
 plan-twice p kept others events told plan u ends (i, x, n, at, is) (j, y, m, there, also) g =
-    let l : length kept < length others = longer p kept others events told ends g in
+    let l : length kept < length others = longer p kept others events told g.0 g.1 ends g.3 g.5 in
     let s = sound-events p [] told others u sound-none in
     let same : x.node ≡ y.node = (let q : Some x.node ≡ Some y.node = sym is ∙ also in cc) in
     let one : i ≡ j = s.differ i j x y (events-grow p kept (g.0 ∷ g.1) others g.5 i x at) there same in
@@ -340,7 +226,7 @@ goes-not : (p : PlainProblem) (n b : ℕ) (kept others : List KeptPair) (events 
 goes-not p n b kept others events told (outcome.Plan plan) h k g = plan-twice p kept others events told plan k.told k.stops.0 h.stops.1 k.stops.1 g
 goes-not p n b kept others events told outcome.NoPlan h k g = unfinished p n kept others events told h.stops k.first g
 goes-not p n b kept others events told outcome.NoneWithin h k g = unfinished p n kept others events told h.stops k.first g
-goes-not p n b kept others events told outcome.Spent h k g = let l : length kept < length others = longer p kept others events told k.stops.0 g in let i : length kept ≡ b + 1 = h.stops.1 in let j : length others ≡ b + 1 = k.stops.1 in omega (arith, l, i, j)
+goes-not p n b kept others events told outcome.Spent h k g = let l : length kept < length others = longer p kept others events told g.0 g.1 k.stops.0 g.3 g.5 in let i : length kept ≡ b + 1 = h.stops.1 in let j : length others ≡ b + 1 = k.stops.1 in omega (arith, l, i, j)
 
 pub one-trace : (p : PlainProblem) (n b : ℕ) (kept others : List KeptPair) (events told : List Event) (o : Outcome) → AreInBreadth p n b kept events o → AreInBreadth p n b others told o → (events ≡ told) × (kept ≡ others)
 one-trace p n b kept others events told o h k = elim (whole p n kept others events told h.told k.told h.root_once k.root_once h.first k.first) [

@@ -28,3 +28,4 @@ mod Reading
 mod NamedStacks
 mod Remembering
 mod Replaying
+mod OneTrace

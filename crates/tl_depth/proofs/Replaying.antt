@@ -31,7 +31,7 @@ use Rattle.tl_depth.proofs.Trying.{top-placed}
 use Rattle.tl_depth.proofs.Work.{actions-same}
 
 -- a pair's list of executable actions is determined
-lists-same : (p : PlainProblem) (x : Pair) (us vs : List Action) → ListsActions p x.world us → ListsActions p x.world vs → us ≡ vs
+pub lists-same : (p : PlainProblem) (x : Pair) (us vs : List Action) → ListsActions p x.world us → ListsActions p x.world vs → us ≡ vs
 lists-same p x us vs h k = actions-same (graph_of p) x us vs (pairs-actions p x us h) (pairs-actions p x vs k)
 
 -- the actions of the pair of the number, said of pairs alone

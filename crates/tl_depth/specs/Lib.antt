@@ -13,6 +13,7 @@ pub mod Turns
 pub mod Endings
 pub mod Entering
 pub mod Following
+pub mod Traces
 pub mod NamedStacks
 pub mod Laws
 pub mod Expansions

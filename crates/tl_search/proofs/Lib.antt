@@ -7,3 +7,4 @@ pub mod EventLaws
 pub mod HistoryLaws
 pub mod OutcomeLaws
 pub mod NamedLaws
+pub mod SameEvents
