@@ -1,11 +1,12 @@
 -- Laws of the right answers of `trace`.
-use Rattle.std.proofs.Common.{◌≡◌, inl, inr, ℕ, zero, suc, List, [], ◌∷◌, ◌++◌, slice_get, Some, refl, sym, ap, ◌∙◌, subst}
+use Rattle.std.proofs.Common.{◌≡◌, inl, inr, ℕ, zero, suc, List, [], ◌∷◌, ◌++◌, slice_get, Some, true, refl, sym, ap, ◌∙◌, subst}
 use Rattle.std.proofs.lemmas.List.{length-map}
 use Rattle.std.specs.Prelude.{Option}
 use Rattle.tl_breadth.specs.Events.{AreFirstArrivals, arrivals_of}
 use Rattle.tl_breadth.specs.Outcomes.{IsBreadthFirstOutcome}
 use Rattle.tl_breadth.specs.Traces.{AreInBreadth, StopsAt}
-use Rattle.tl_depth.specs.Outcomes.{IsDepthFirstOutcome}
+use Rattle.tl_depth.specs.Outcomes.{IsDepthFirstOutcome, IsToldOutcome}
+use Rattle.tl_depth.specs.Traces as depth
 use Rattle.tl_eval.specs.Notes.{operation_of}
 use Rattle.tl_eval.specs.declared.range.RangeNote.{RangeNote}
 use Rattle.tl_outside.specs.Told.{Files}
@@ -31,7 +32,7 @@ use Rattle.tl_run.specs.Commands.{trace}
 use Rattle.tl_run.specs.Inputs.{Input, a_problem}
 use Rattle.tl_run.specs.Laws.{Laws}
 use Rattle.tl_run.specs.Plan.{IsOutcome, IsOutcomeIn}
-use Rattle.tl_run.specs.Promises.{Headline, IsCalmStatus, IsTraceText, OutcomeYields, Yields}
+use Rattle.tl_run.specs.Promises.{Headline, IsCalmStatus, OutcomeYields, Yields}
 use Rattle.tl_run.specs.Trace.{EndsWithLast, IsSearchIn, IsTrace, TellsActionsIn, TellsEvents, TellsInTurn}
 use Rattle.tl_run.specs.Turns.{HoldInput}
 use Rattle.tl_run.proofs.Agreement.{Agrees}
@@ -108,17 +109,33 @@ in_breadth s p kept events o mode h =
       stops = stops_at p s.within s.nodes kept events o ended h.ends actions.1;
     }
 
--- the lines of a right trace are those of every other breadth-first
-lines_in : Laws → (mode : Mode) (m : Problem) (s : Search) (kept others : List KeptPair) (events told : List Event) (o : Outcome) (text : List ℕ) → s.mode ≡ mode → IsTrace s (plain_problem m) kept events o → IsTrace s (plain_problem m) others told o → text ≡ text_of (a_problem m) (traced s others told o) → IsTraceText mode (a_problem m) s kept events o text
-lines_in laws Breadth m s kept others events told o text mode h k line =
-    let one = laws.traces (plain_problem m) s.within s.nodes kept others events told o (in_breadth s (plain_problem m) kept events o mode h) (in_breadth s (plain_problem m) others told o mode k) in
+goes_deep : (p : PlainProblem) (n b : ℕ) (kept : List KeptPair) (events : List Event) (o : Outcome) → IsDepthFirstOutcome p n b (pairs_of kept) o → EndsWithLast p kept events o → IsToldOutcome p n true (pairs_of kept) events o → depth.StopsAt p n b kept events o
+goes_deep p n b kept events (outcome.Plan plan) h ends told = (told.1 refl, ends.0, ends.1)
+goes_deep p n b kept events outcome.NoPlan h ends told = told.1 refl
+goes_deep p n b kept events outcome.NoneWithin h ends told = told.1 refl
+goes_deep p n b kept events outcome.Spent h ends told = let spent = h.0 in (told refl, ends, sym (length-map kept (λ (z : KeptPair). z.node)) ∙ spent.many)
+
+in_depth : (s : Search) (p : PlainProblem) (kept : List KeptPair) (events : List Event) (o : Outcome) → s.mode ≡ Depth → IsTrace s p kept events o → depth.AreDepthFirst p s.within s.nodes kept events o
+in_depth s p kept events o mode h =
+    let ended = subst (λ (m : Mode). IsSearchIn m s.within s.nodes p kept o) mode h.ended in
+    let actions = subst (λ (m : Mode). TellsActionsIn m s.within p kept events o) mode h.actions in
+    record { told = h.told; stops = goes_deep p s.within s.nodes kept events o ended h.ends actions }
+
+-- a search has one trace with an outcome: one line for each mode
+one_trace : Laws → (mode : Mode) (p : PlainProblem) (s : Search) (kept others : List KeptPair) (events told : List Event) (o : Outcome) → s.mode ≡ mode → IsTrace s p kept events o → IsTrace s p others told o → (events ≡ told) × (kept ≡ others)
+one_trace laws Breadth p s kept others events told o mode h k = laws.traces p s.within s.nodes kept others events told o (in_breadth s p kept events o mode h) (in_breadth s p others told o mode k)
+one_trace laws Depth p s kept others events told o mode h k = laws.deep_traces p s.within s.nodes kept others events told o (in_depth s p kept events o mode h) (in_depth s p others told o mode k)
+
+-- the lines of a right trace are those of every other
+lines_are : Laws → (m : Problem) (s : Search) (kept others : List KeptPair) (events told : List Event) (o : Outcome) (text : List ℕ) → IsTrace s (plain_problem m) kept events o → IsTrace s (plain_problem m) others told o → text ≡ text_of (a_problem m) (traced s others told o) → text ≡ text_of (a_problem m) (traced s kept events o)
+lines_are laws m s kept others events told o text h k line =
+    let one = one_trace laws s.mode (plain_problem m) s kept others events told o refl h k in
     line ∙ (λ i. text_of (a_problem m) (traced s (sym one.1 i) (sym one.0 i) o))
-lines_in laws Depth m s kept others events told o text mode h k line = (others, told, k, line)
 
 traced_agrees : Laws → (m n : Problem) (s t r : Search) (kept others : List KeptPair) (events told : List Event) (o u : Outcome) → SameProblem m n → t ≡ s → r ≡ s → IsTrace s (plain_problem m) kept events o → IsTrace s (plain_problem n) others told u → IsOneOrYields o u → Agrees (a_problem m) (traced t kept events o) (outcome_status u) (text_of (a_problem n) (traced r others told u))
 traced_agrees laws m n s t r kept others events told o u same e f first right (inl is) = inl (
   ap outcome_status is,
-  lines_in laws t.mode m t kept others events told o (text_of (a_problem n) (traced r others told u)) refl (subst (λ (x : Search). IsTrace x (plain_problem m) kept events o) (sym e) first)
+  lines_are laws m t kept others events told o (text_of (a_problem n) (traced r others told u)) (subst (λ (x : Search). IsTrace x (plain_problem m) kept events o) (sym e) first)
       (subst (λ (x : Search). IsTrace x (plain_problem m) others told o) (sym e) (subst (λ (x : Outcome). IsTrace s (plain_problem m) others told x) is (subst (λ (x : PlainProblem). IsTrace s x others told u) (sym same.meaning) right)))
       ((λ i. text_of (a_problem n) (traced ((f ∙ sym e) i) others told (is i))) ∙ same_lines m n t others told o same),
 )

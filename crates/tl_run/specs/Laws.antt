@@ -2,13 +2,14 @@
 use Rattle.tl_breadth.specs.Traces.{BreadthFirstEventsAreOne}
 use Rattle.tl_cert.specs.Laws.{CoveredHasNone, OneNoneVerdict}
 use Rattle.tl_check.specs.LawsVerdict.{OneVerdict}
+use Rattle.tl_depth.specs.Traces.{DepthFirstEventsAreOne}
 use Rattle.tl_domain.specs.LawsFiles.{FilesStandForOneProblem}
 use Rattle.tl_lasso.specs.Laws.{OneLoopVerdict}
 use Rattle.tl_search.specs.LawsOutcomes.{AnswersExcludeEachOther, FewPairsAreNotSpent}
 use Rattle.tl_search.specs.LawsRange.{CalmHasNoCause}
 use Rattle.tl_terms.specs.LawsOrders.{PlanOrderIsTotal}
 
--- one verdict is right of a plan, of one with a repeated part, and of a proof, which leaves no plan where it covers the search space; two files stand for one problem, plans are totally ordered, what a search answers excludes what else it could answer, and the events of a breadth-first search are one list
+-- one verdict is right of a plan, of one with a repeated part, and of a proof, which leaves no plan where it covers the search space; two files stand for one problem, plans are totally ordered, what a search answers excludes what else it could answer, and the events of a search are one list, in either mode
 pub record Laws : Type 0 where
   pub verdicts : OneVerdict
   pub problems : FilesStandForOneProblem
@@ -17,6 +18,7 @@ pub record Laws : Type 0 where
   pub few_pairs : FewPairsAreNotSpent
   pub calm : CalmHasNoCause
   pub traces : BreadthFirstEventsAreOne
+  pub deep_traces : DepthFirstEventsAreOne
   pub covered : CoveredHasNone
   pub none_verdicts : OneNoneVerdict
   pub loop_verdicts : OneLoopVerdict

@@ -6,13 +6,8 @@ use Rattle.tl_check.specs.declared.verdict.Verdict.{Verdict}
 use Rattle.tl_cost.specs.declared.outcome.CostOutcome.{CostOutcome}
 use Rattle.tl_cost.specs.declared.outcome.CostOutcome.TheVariants as costs
 use Rattle.tl_outside.specs.Told.{Files}
-use Rattle.tl_search.specs.KeptPairs.{KeptPair}
-use Rattle.tl_search.specs.declared.event.Event.{Event}
 use Rattle.tl_search.specs.declared.outcome.Outcome.{Outcome}
 use Rattle.tl_search.specs.declared.outcome.Outcome.TheVariants as outcome
-use Rattle.tl_run.specs.declared.search.Mode.{Mode}
-use Rattle.tl_run.specs.declared.search.Mode.TheVariants.{Breadth, Depth}
-use Rattle.tl_run.specs.declared.search.Search.{Search}
 use Rattle.tl_run.specs.declared.status.Status.{Status}
 use Rattle.tl_run.specs.declared.status.Status.TheVariants.{Yes, No, Spent, Range, ReadFault, WriteFault, NoMemory, Usage}
 use Rattle.tl_text.specs.Outcomes.{spent_text}
@@ -26,7 +21,7 @@ use Rattle.tl_run.specs.Explain.{ExplainsPlan, HasCalmStates}
 use Rattle.tl_run.specs.Inputs.{Input}
 use Rattle.tl_run.specs.Plan.{PrintsPlan, SaysNoPlan, HasCalmSearch}
 use Rattle.tl_run.specs.ProveNone.{IsCertificateOver, PrintsProof}
-use Rattle.tl_run.specs.Trace.{IsTraceOver, TellsEvents}
+use Rattle.tl_run.specs.Trace.{TellsEvents}
 use Rattle.tl_run.specs.Turns.{BeginsFirst, CallsTold, HoldInput, IsRefused}
 use Rattle.tl_run.specs.Sent.{SendsAll, SendsPart, SinkTold}
 use Rattle.tl_run.specs.Sample.{IsSummaryOver, SaysSummary, HasCalmSample, sample_text}
@@ -106,17 +101,9 @@ pub record SummarizesAlike (input : Input) (balls : ℕ) (o : Outcome) (text : L
   pub alike : (ended ≡ o) ⊎ OutcomeYields o (outcome_status ended)
   pub lines : text ≡ sample_text balls kept ended verdict
 
--- the lines of a trace, one line for each mode: breadth-first those of the answer; depth-first the
--- events may be others, if they are right of the same input
-abbrev pub IsTraceText : Mode → Input → Search → List KeptPair → List Event → Outcome → List ℕ → Type 0
-IsTraceText Breadth input s kept events o text = text ≡ text_of input (traced s kept events o)
-IsTraceText Depth input s kept events o text =
-    (others : List KeptPair) × (told : List Event) × IsTraceOver input s others told o × (text ≡ text_of input (traced s others told o))
-
--- the lines are those of the answer; the events of a depth-first trace, the proof, the number of a
--- sample's kept search nodes and the cheapest plan may be others, if they are right of the same input
+-- the lines are those of the answer; the proof, the number of a sample's kept search nodes and the
+-- cheapest plan may be others, if they are right of the same input
 abbrev pub IsTextOf : Input → Answer → List ℕ → Type 0
-IsTextOf input (traced s kept events o) text = IsTraceText s.mode input s kept events o text
 IsTextOf input (certified s proof) text =
     (other : Proof) × IsCertificateOver input s other × (other.bound ≡ proof.bound) × (text ≡ text_of input (certified s other))
 IsTextOf input (sampled n kept o v) text = SummarizesAlike input n o text

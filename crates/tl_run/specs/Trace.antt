@@ -23,7 +23,7 @@ use Rattle.tl_run.specs.declared.search.Mode.{Mode}
 use Rattle.tl_run.specs.declared.search.Mode.TheVariants.{Breadth, Depth}
 use Rattle.tl_run.specs.declared.search.Search.{Search}
 use Rattle.tl_run.specs.Commands.{Command}
-use Rattle.tl_run.specs.Inputs.{Input, a_problem}
+use Rattle.tl_run.specs.Inputs.{a_problem}
 use Rattle.tl_run.specs.Turns.{HoldInput}
 
 -- the outcome and the kept search nodes that are right in a mode, one line for each: the outcomes of `plan`, with at most b kept search nodes, or, where it is spent, with those b + 1; and breadth-first the path of each is a shortest one
@@ -62,11 +62,6 @@ pub record IsTrace (s : Search) (p : PlainProblem) (kept : List KeptPair) (event
   pub actions : TellsActionsIn s.mode s.within p kept events o
   pub unseen : (k : ℕ) → k < length kept → IsKeptByEvent events k
   pub pruned : PrunesSoundly p kept events
-
--- they are right of the search over the problem that the files stand for
-abbrev pub IsTraceOver : Input → Search → List KeptPair → List Event → Outcome → Type 0
-IsTraceOver (a_problem problem) s kept events o = IsTrace s (plain_problem problem) kept events o
-IsTraceOver input s kept events o = ⊥
 
 -- the lines are those of true events, of which each that tells of a pruned branch tells of one that begins no run that satisfies the control formula; and P holds of the lines after them
 pub record TellsEvents (files : Option Files) (c : Command) (P : List ℕ → Type 0) (text : List ℕ) : Type 0 where

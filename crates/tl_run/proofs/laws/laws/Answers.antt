@@ -9,6 +9,7 @@ returns c = record {
   few_pairs = c.few_pairs_are_not_spent.ensures;
   calm = c.calm_has_no_cause.ensures;
   traces = c.breadth_first_events_are_one.ensures;
+  deep_traces = c.depth_first_events_are_one.ensures;
   covered = c.covered_has_none.ensures;
   none_verdicts = c.one_none_verdict.ensures;
   loop_verdicts = c.one_loop_verdict.ensures;
