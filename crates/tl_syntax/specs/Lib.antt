@@ -23,4 +23,5 @@ pub mod Junctions
 pub mod SubstitutedParts
 pub mod Kept
 pub mod KeptOnce
+pub mod ValueTests
 pub mod SubstitutionKeeps

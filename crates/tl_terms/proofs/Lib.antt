@@ -17,6 +17,8 @@ pub mod PlanLaws
 pub mod PathLaws
 pub mod IdleLaws
 pub mod StepLaws
+pub mod PassingWorlds
+pub mod PassingSteps
 pub mod NamedWorlds
 pub mod NamedSteps
 pub mod OrderLaws

@@ -28,5 +28,6 @@ pub mod LawsTuples
 pub mod LawsProgression
 pub mod LawsIdle
 pub mod LawsStep
+pub mod LawsValues
 pub mod LawsOrders
 pub mod Examples

@@ -9,6 +9,7 @@ mod runs;
 mod steps;
 mod substitution;
 mod tuples;
+mod values;
 
 pub use definitions::{defined_atom_is_its_body, plainly_defined_atom_is_its_body};
 pub use goal::goal_test_is_by_membership;
@@ -33,3 +34,4 @@ pub use substitution::{
     substitution_of_nothing_is_nothing, substitution_twice_is_once,
 };
 pub use tuples::{tuples_are_those_of_the_bound, tuples_rise};
+pub use values::arguments_of_executed_plans_pass;
