@@ -19,3 +19,7 @@ pub mod SettledItems
 pub mod SettledFiles
 pub mod NamesInOrder
 pub mod FilesStand
+pub mod ConstantEffects
+pub mod ConstantFacts
+pub mod OperatorsDiffer
+pub mod WritableNames

@@ -1,6 +1,6 @@
 -- Items of a domain: the rules that a form breaks in the role of an item, and what an item declares.
 use Rattle.std.specs.Prelude.{ℕ, ◌+◌, List, [], ◌∷◌, ◌++◌, Bool, true, false, ◌&&◌, ◌||◌, ◌==◌, not, nat_lt, length, Option, Some, None}
-use Rattle.tl_sexpr.specs.Tree.{FormTree, FormTrees, symbol, integer, list, no_form, more_forms}
+use Rattle.tl_sexpr.specs.Tree.{FormTree, FormTrees, symbol, integer, no_form, more_forms}
 use Rattle.tl_domain.specs.Words as item
 use Rattle.tl_formulas.specs.declared.roles.FormulaRole.TheVariants as role
 use Rattle.tl_rules.specs.declared.rule.Rule.TheVariants.{Shape, Twice, Limit}

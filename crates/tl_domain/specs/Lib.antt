@@ -15,3 +15,4 @@ pub mod LawsOrder
 pub mod LawsKeeps
 pub mod LawsSettled
 pub mod LawsFiles
+pub mod LawsNames

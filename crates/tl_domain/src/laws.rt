@@ -1,6 +1,7 @@
 // Laws of domain files, each the contract of a function that does nothing.
 ghost use Rattle.tl_domain.specs.LawsFiles.{FilesStandForOneProblem};
 ghost use Rattle.tl_domain.specs.LawsKeeps.{DomainIsKept, NamesAreThere};
+ghost use Rattle.tl_domain.specs.LawsNames.{LawfulNamesAreWritable};
 ghost use Rattle.tl_domain.specs.LawsOrder.{FirstBreakIsLeast};
 ghost use Rattle.tl_domain.specs.LawsSettled.{SettledFileMeans};
 
@@ -29,4 +30,9 @@ pub fn settled_file_means()
 /// Two problems that the same two files stand for have the same names and the same domain, and say the same.
 pub fn files_stand_for_one_problem()
     ensures { FilesStandForOneProblem }
+{}
+
+/// Where the symbols of two files are tokens, as those of forms are that bytes spell, each name of the problem that the files stand for is one too, no value that is written down there is a variable, and operators have different names.
+pub fn lawful_names_are_writable()
+    ensures { LawfulNamesAreWritable }
 {}

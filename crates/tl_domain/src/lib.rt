@@ -31,8 +31,8 @@ mod problem;
 mod read;
 
 pub use laws::{
-    domain_is_kept, files_stand_for_one_problem, first_break_is_least, names_are_there,
-    settled_file_means,
+    domain_is_kept, files_stand_for_one_problem, first_break_is_least, lawful_names_are_writable,
+    names_are_there, settled_file_means,
 };
 pub use problem::problem_of;
 pub use read::domain_of;

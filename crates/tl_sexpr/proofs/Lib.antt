@@ -6,6 +6,7 @@ pub mod Starts
 pub mod Spelled
 pub mod Nesting
 pub mod Symbols
+pub mod SymbolTexts
 pub mod Rising
 pub mod Steps
 pub mod Depths
