@@ -6,6 +6,7 @@ use Rattle.tl_syntax.specs.declared.operator.Operator.{Operator}
 use Rattle.tl_syntax.specs.Lists.{Each}
 use Rattle.tl_line.specs.ActionTexts.{action_text}
 use Rattle.tl_line.specs.NamedActions.{ActionIsNamed}
+use Rattle.tl_line.specs.WritableActions.{ArgumentsFit}
 use Rattle.tl_cert.specs.declared.proof.Link.{Link}
 use Rattle.tl_cert.specs.declared.proof.Proof.{Proof}
 use Rattle.tl_cert.specs.declared.verdict.NoneVerdict.{NoneVerdict}
@@ -54,3 +55,7 @@ HasNamedAction names operators Proved = Unit {0}
 HasNamedAction names operators (BadLink k) = Unit {0}
 HasNamedAction names operators (Accepts k) = Unit {0}
 HasNamedAction names operators (Open k a) = ActionIsNamed names operators a
+
+-- the actions of links have integers of 64 bits
+abbrev pub LinksFit : List Link → Type 0
+LinksFit links = Each (λ link. ArgumentsFit link.action) links

@@ -1,10 +1,11 @@
 // The text of a proof, and the line of a verdict.
-ghost use Rattle.std.specs.Prelude.{◌≡◌, ◌++◌, codes, IfOk};
+ghost use Rattle.std.specs.Prelude.{◌≡◌, ◌++◌, codes, IfOk, OnOk};
 ghost use Rattle.std.specs.Fmt.{decimal};
 ghost use Rattle.std.specs.String.{string_bytes};
 ghost use Rattle.tl_line.specs.NamedActions.{ActionIsNamed};
 ghost use Rattle.tl_line.specs.Puts.{Puts};
-ghost use Rattle.tl_cert.specs.ProofTexts.{HasNamedAction, LinksAreNamed, head_line, link_line, none_text, open_line, proof_text, proved_line};
+ghost use Rattle.tl_line.specs.WritableActions.{ArgumentsFit};
+ghost use Rattle.tl_cert.specs.ProofTexts.{HasNamedAction, LinksAreNamed, LinksFit, head_line, link_line, none_text, open_line, proof_text, proved_line};
 
 use crate::proof::{Link, Proof};
 use crate::verdict::NoneVerdict;
@@ -34,8 +35,9 @@ fn link_front(alloc: Global, from: u32) -> Result<String, AllocError>
 #[tactic(auto, using(crate::proofs::Rulesets::growth))]
 fn put_link(alloc: Global, problem: &Problem, link: &Link, out: &mut Bytes) -> Result<(), NoMemory>
     requires { ActionIsNamed problem.now.names problem.now.domain.operators link.now.action }
-    ensures { Puts result out.old out.new
+    ensures text { Puts result out.old out.new
         (link_line problem.now.names problem.now.domain.operators link.now) }
+    ensures fits { OnOk result (ArgumentsFit link.now.action) }
 {
     let front = link_front(alloc, link.from)?;
     out.extend(front.as_bytes())?;
@@ -48,8 +50,9 @@ fn put_link(alloc: Global, problem: &Problem, link: &Link, out: &mut Bytes) -> R
 /// The actions of the links have to be those of the problem, with its names.
 pub fn proof_text(alloc: Global, problem: &Problem, proof: &Proof) -> Result<Bytes, NoMemory>
     requires { LinksAreNamed problem.now.names problem.now.domain.operators proof.now.links }
-    ensures { IfOk result
+    ensures text { IfOk result
         (λ text. text ≡ proof_text problem.now.names problem.now.domain.operators proof.now) }
+    ensures fits { OnOk result (LinksFit proof.now.links) }
 {
     let head = head_line(alloc, proof.bound)?;
     let mut text = Bytes::new(alloc);

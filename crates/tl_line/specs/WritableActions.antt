@@ -1,8 +1,7 @@
 -- Which actions are read back from their text.
-use Rattle.std.specs.Prelude.{◌≡◌, ℕ, ◌<◌, List, length, Some, false, IsTrue, FitsSigned, slice_get, slice_index}
+use Rattle.std.specs.Prelude.{◌≡◌, ℕ, ◌<◌, List, length, Some, false, FitsSigned, slice_get}
 use Rattle.std.specs.Int.{w64}
-use Rattle.tl_sexpr.specs.Bytes.{is_token_byte}
-use Rattle.tl_sexpr.specs.Spelling.{spells_integer}
+pub use Rattle.tl_sexpr.specs.Symbols.{IsSymbolText}
 use Rattle.tl_syntax.specs.declared.action.Action.{Action}
 use Rattle.tl_syntax.specs.declared.operator.Operator.{Operator}
 use Rattle.tl_syntax.specs.declared.value.Value.{Value}
@@ -10,12 +9,6 @@ use Rattle.tl_syntax.specs.declared.value.Value.TheVariants.{Int, Sym}
 use Rattle.tl_syntax.specs.Lists.{Each}
 use Rattle.tl_rules.specs.Parts.{is_variable}
 use Rattle.tl_line.specs.ActionTexts.{name_text}
-
--- the text of a symbol: one or more bytes of tokens, and no integer
-pub record IsSymbolText (text : List ℕ) : Type 0 where
-  pub some : 0 < length text
-  pub each : (k : ℕ) → k < length text → IsTrue (is_token_byte (slice_index text k))
-  pub no_integer : spells_integer text ≡ false
 
 -- the number of a name, whose text is that of a symbol
 pub record IsWritableName (names : List (List ℕ)) (n : ℕ) : Type 0 where
@@ -34,3 +27,12 @@ pub record IsWritable (names : List (List ℕ)) (operators : List Operator) (a :
   pub name : IsWritableName names operator.name
   pub counted : length a.args ≡ length operator.params
   pub args : Each (IsWritableValue names) a.args
+
+-- an integer of 64 bits, as the program has them, or a symbol
+abbrev pub ValueFits : Value → Type 0
+ValueFits (Int z) = FitsSigned w64 z
+ValueFits (Sym n) = Unit {0}
+
+-- the arguments of the action are such values
+abbrev pub ArgumentsFit : Action → Type 0
+ArgumentsFit a = Each ValueFits a.args

@@ -1,9 +1,10 @@
 // Lines that several answers have, as bytes.
-ghost use Rattle.std.specs.Prelude.{◌≡◌, IfOk};
+ghost use Rattle.std.specs.Prelude.{◌≡◌, IfOk, OnOk};
 ghost use Rattle.tl_syntax.specs.Lists.{Each};
 ghost use Rattle.tl_line.specs.AnswerLines.{action_lines, not_executable_text, spent_text};
 ghost use Rattle.tl_line.specs.NamedActions.{ActionIsNamed};
 ghost use Rattle.tl_line.specs.Puts.{Puts};
+ghost use Rattle.tl_line.specs.WritableActions.{ArgumentsFit};
 
 use crate::write::put_action;
 use std::alloc::Global;
@@ -23,8 +24,9 @@ pub fn bytes_of(alloc: Global, text: &str) -> Result<Bytes, NoMemory>
 #[tactic(auto, using(crate::proofs::Growth::lines))]
 pub fn put_lines(problem: &Problem, actions: &[Action], out: &mut Bytes) -> Result<(), NoMemory>
     requires { Each (ActionIsNamed problem.now.names problem.now.domain.operators) actions.now }
-    ensures { Puts result out.old out.new (action_lines problem.now.names
+    ensures text { Puts result out.old out.new (action_lines problem.now.names
         problem.now.domain.operators actions.now) }
+    ensures fits { OnOk result (Each ArgumentsFit actions.now) }
 {
     for action in actions {
         put_action(problem, action, out)?;

@@ -1,9 +1,10 @@
 // The text of an action.
-ghost use Rattle.std.specs.Prelude.{◌≡◌, ◌<◌, length};
+ghost use Rattle.std.specs.Prelude.{◌≡◌, ◌<◌, length, OnOk};
 ghost use Rattle.tl_syntax.specs.Lists.{Each};
 ghost use Rattle.tl_syntax.specs.Named.{ValueIsNamed};
 ghost use Rattle.tl_line.specs.ActionTexts.{value_text, values_text, operator_text, action_text};
 ghost use Rattle.tl_line.specs.Puts.{Puts};
+ghost use Rattle.tl_line.specs.WritableActions.{ArgumentsFit, ValueFits};
 
 use itoa::Buffer;
 use tl_syntax::{Action, Bytes, Names, NoMemory, Problem, Value};
@@ -11,7 +12,8 @@ use tl_syntax::{Action, Bytes, Names, NoMemory, Problem, Value};
 /// Puts the text of a value at the end.
 fn put_value(names: &Names, value: Value, out: &mut Bytes) -> Result<(), NoMemory>
     requires { ValueIsNamed (length names.now) value }
-    ensures { Puts result out.old out.new (value_text names.now value) }
+    ensures text { Puts result out.old out.new (value_text names.now value) }
+    ensures fits { OnOk result (ValueFits value) }
 {
     match value {
         Value::Int(number) => {
@@ -27,7 +29,8 @@ fn put_value(names: &Names, value: Value, out: &mut Bytes) -> Result<(), NoMemor
 #[tactic(auto, using(crate::proofs::Growth::growth))]
 fn put_values(names: &Names, values: &[Value], out: &mut Bytes) -> Result<(), NoMemory>
     requires { Each (ValueIsNamed (length names.now)) values.now }
-    ensures { Puts result out.old out.new (values_text names.now values.now) }
+    ensures text { Puts result out.old out.new (values_text names.now values.now) }
+    ensures fits { OnOk result (Each ValueFits values.now) }
 {
     for value in values {
         out.extend(b" ")?;
@@ -51,8 +54,9 @@ fn operator_name(problem: &Problem, op: u32) -> &str
 pub fn put_action(problem: &Problem, a: &Action, out: &mut Bytes) -> Result<(), NoMemory>
     requires operator { a.now.op < length problem.now.domain.operators }
     requires named { Each (ValueIsNamed (length problem.now.names)) a.now.args }
-    ensures { Puts result out.old out.new (action_text problem.now.names
+    ensures text { Puts result out.old out.new (action_text problem.now.names
         problem.now.domain.operators a.now) }
+    ensures fits { OnOk result (ArgumentsFit a.now) }
 {
     out.extend(b"(")?;
     out.extend(operator_name(problem, a.op).as_bytes())?;

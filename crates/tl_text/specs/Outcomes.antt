@@ -5,6 +5,7 @@ use Rattle.tl_syntax.specs.declared.action.Action.{Action}
 use Rattle.tl_syntax.specs.declared.operator.Operator.{Operator}
 use Rattle.tl_syntax.specs.Lists.{Each}
 use Rattle.tl_line.specs.NamedActions.{ActionIsNamed}
+use Rattle.tl_line.specs.WritableActions.{ArgumentsFit}
 use Rattle.tl_search.specs.declared.outcome.Outcome.{Outcome}
 use Rattle.tl_search.specs.declared.outcome.Outcome.TheVariants.{Plan, NoPlan, NoneWithin, Spent}
 use Rattle.tl_line.specs.AnswerLines.{action_lines}
@@ -35,3 +36,10 @@ HasNamedPlan names operators (Plan plan) = Each (ActionIsNamed names operators) 
 HasNamedPlan names operators NoPlan = Unit {0}
 HasNamedPlan names operators NoneWithin = Unit {0}
 HasNamedPlan names operators Spent = Unit {0}
+
+-- the actions of the plan, where there is one, have integers of 64 bits
+abbrev pub PlanFits : Outcome → Type 0
+PlanFits (Plan plan) = Each ArgumentsFit plan
+PlanFits NoPlan = Unit {0}
+PlanFits NoneWithin = Unit {0}
+PlanFits Spent = Unit {0}

@@ -1,9 +1,10 @@
 // The text of what a search answers.
-ghost use Rattle.std.specs.Prelude.{◌≡◌, IfOk};
+ghost use Rattle.std.specs.Prelude.{◌≡◌, IfOk, OnOk};
 ghost use Rattle.std.specs.String.{string_bytes};
 ghost use Rattle.tl_syntax.specs.Lists.{Each};
 ghost use Rattle.tl_line.specs.NamedActions.{ActionIsNamed};
-ghost use Rattle.tl_text.specs.Outcomes.{HasNamedPlan, plan_line, plan_text, none_within_text, outcome_text};
+ghost use Rattle.tl_line.specs.WritableActions.{ArgumentsFit};
+ghost use Rattle.tl_text.specs.Outcomes.{HasNamedPlan, PlanFits, plan_line, plan_text, none_within_text, outcome_text};
 
 use std::alloc::{AllocError, Global};
 use tl_line::{bytes_of, put_lines, spent_text};
@@ -20,8 +21,9 @@ fn plan_line(alloc: Global, actions: usize) -> Result<String, AllocError>
 /// The lines of a plan.
 fn plan_text(alloc: Global, problem: &Problem, plan: &[Action]) -> Result<Bytes, NoMemory>
     requires { Each (ActionIsNamed problem.now.names problem.now.domain.operators) plan.now }
-    ensures { IfOk result
+    ensures text { IfOk result
         (λ text. text ≡ plan_text problem.now.names problem.now.domain.operators plan.now) }
+    ensures fits { OnOk result (Each ArgumentsFit plan.now) }
 {
     let first = plan_line(alloc, plan.len())?;
     let mut text = bytes_of(alloc, first.as_str())?;
@@ -47,9 +49,10 @@ pub fn outcome_text(
     nodes: u32,
 ) -> Result<Bytes, NoMemory>
     requires { HasNamedPlan problem.now.names problem.now.domain.operators outcome.now }
-    ensures { IfOk result
+    ensures text { IfOk result
         (λ text. text ≡ outcome_text problem.now.names problem.now.domain.operators
         within nodes outcome.now) }
+    ensures fits { OnOk result (PlanFits outcome.now) }
 {
     match outcome {
         Outcome::Plan(plan) => plan_text(alloc, problem, plan.as_slice()),

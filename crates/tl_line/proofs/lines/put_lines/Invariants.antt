@@ -2,6 +2,7 @@ use Rattle.std.proofs.Common.{◌≡◌, ◌++◌, drop}
 use Rattle.tl_syntax.specs.Lists.{Each}
 use Rattle.tl_line.specs.NamedActions.{ActionIsNamed}
 use Rattle.tl_line.specs.Puts.{ContinuesTo}
+use Rattle.tl_line.specs.WritableActions.{ArgumentsFit}
 use Rattle.tl_line.specs.AnswerLines.{action_lines}
 use Rattle.tl_line.proofs.lines.put_lines.Given as goal
 
@@ -11,4 +12,5 @@ invariant-loop-action l = record {
   text : l.initial.out ++ action_lines l.problem.names l.problem.domain.operators l.actions ≡ l.out ++ action_lines l.problem.names l.problem.domain.operators (drop l.action-index l.actions);
   named : Each (ActionIsNamed l.problem.names l.problem.domain.operators) (drop l.action-index l.actions);
   begins : ContinuesTo l.initial.out l.out;
+  fits : Each ArgumentsFit (drop l.action-index l.actions) → Each ArgumentsFit l.actions;
 }

@@ -1,4 +1,4 @@
 use Rattle.tl_text.proofs.outcomes.outcome_text.Goals as goal
 
-pub returns-in-Spent : goal.returns-in-Spent
-returns-in-Spent c = rw c.in-Spent.is c.spent_text.ensures
+pub returns-in-Spent-clause-text : goal.returns-in-Spent-clause-text
+returns-in-Spent-clause-text c = rw c.in-Spent.is c.spent_text.ensures
