@@ -33,6 +33,7 @@ pub mod Replied
 pub mod NamedPlans
 pub mod NamedEvents
 pub mod NamedProofs
+pub mod ReadBack
 pub mod NamedCosts
 pub mod TrueTraces
 pub mod Numbers

@@ -4,7 +4,7 @@ use Rattle.tl_breadth.specs.Events.{Arrived, AreAllArrivals, AreFirstArrivals, a
 use Rattle.tl_breadth.specs.Outcomes.{IsBreadthFirstOutcome, PathsAreShortest}
 use Rattle.tl_cert.specs.Covers.{Covers}
 use Rattle.tl_cert.specs.LawsReadBack.{StartBefore}
-use Rattle.tl_cert.specs.ProofTexts.{LinksAreNamed, proof_text}
+use Rattle.tl_cert.specs.ProofTexts.{LinksAreNamed, LinksFit, proof_text}
 use Rattle.tl_cert.specs.Reports.{IsNoneReport, IsOf, IsRightNone, bound_of, links_of}
 use Rattle.tl_cert.specs.declared.proof.Proof.{Proof}
 use Rattle.tl_search.specs.KeptPairs.{KeptPair}
@@ -128,9 +128,10 @@ bound_is n outcome.NoneWithin none = refl
 bound_is n outcome.Spent none = absurd none
 
 -- the reply with the proof
-pub certificate_replied : (s : Search) (d p : List ℕ) (problem : Problem) (kept : List KeptPair) (report : Report) (proof : Proof) (text : List ℕ) → IsTraceReport s (plain_problem problem) kept report → FindsNone report.outcome → Covers (plain_problem problem) proof → proof.bound ≡ bound_of s.within report.outcome → StartBefore 0 proof.links → length proof.links ≤ 100000 → text ≡ proof_text problem.names problem.domain.operators proof → Replies (prove_none s d p) (a_problem problem) (record { status = Yes; text = text })
-certificate_replied s d p problem kept report proof text right none covers bound order few line = record {
+pub certificate_replied : (s : Search) (d p : List ℕ) (problem : Problem) (kept : List KeptPair) (report : Report) (proof : Proof) (text : List ℕ) → IsTraceReport s (plain_problem problem) kept report → FindsNone report.outcome → Covers (plain_problem problem) proof → proof.bound ≡ bound_of s.within report.outcome → StartBefore 0 proof.links → length proof.links ≤ 100000 → LinksFit proof.links → text ≡ proof_text problem.names problem.domain.operators proof → Replies (prove_none s d p) (a_problem problem) (record { status = Yes; text = text })
+certificate_replied s d p problem kept report proof text right none covers bound order few fit line = record {
   answer = certified s proof;
+  fits = fit;
   right = (
     refl,
     record {

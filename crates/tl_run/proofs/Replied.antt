@@ -58,40 +58,40 @@ of_operators p (a ∷ plan) h =
 
 -- the reply with a verdict
 pub verdict_replied : {E : Type 0} (d p q : List ℕ) (problem : Problem) (plan : List Action) (v : Verdict) (r : Result Reply E) → IsVerdict (plain_problem problem) plan v → IfOk r (λ reply. reply.status ≡ verdict_status v) → IfOk r (λ reply. reply.text ≡ verdict_text v) → IfOk r (Replies (check d p q) (a_plan problem plan))
-verdict_replied d p q problem plan v (Ok reply) right s t = record { answer = judged v; right = right; status_is = s; text_is = t }
+verdict_replied d p q problem plan v (Ok reply) right s t = record { answer = judged v; right = right; fits = tt; status_is = s; text_is = t }
 verdict_replied d p q problem plan v (Err e) right s t = tt
 
 -- the reply with an operation past range
 pub range_replied : (d p q : List ℕ) (problem : Problem) (plan : List Action) (after : ℕ) (note : RangeNote) (text : List ℕ) → IsCause (plain_problem problem) plan (fault.Range after note) → text ≡ range_text problem.names problem.domain.operators note after [] → Replies (check d p q) (a_plan problem plan) (record { status = Range; text = text })
-range_replied d p q problem plan after note text cause t = record { answer = past_range after note []; right = (cause, refl); status_is = refl; text_is = t }
+range_replied d p q problem plan after note text cause t = record { answer = past_range after note []; right = (cause, refl); fits = tt; status_is = refl; text_is = t }
 
 -- the reply where a search ends at an operation past range
 pub search_range_replied : (s : Search) (d p : List ℕ) (problem : Problem) (note : RangeNote) (path : List Action) (text : List ℕ) → EndsPastRange s (plain_problem problem) path note → text ≡ range_text problem.names problem.domain.operators note (length path) path → Replies (search s d p) (a_problem problem) (record { status = Range; text = text })
-search_range_replied s d p problem note path text cause t = record { answer = past_range (length path) note path; right = (cause, refl); status_is = refl; text_is = t }
+search_range_replied s d p problem note path text cause t = record { answer = past_range (length path) note path; right = (cause, refl); fits = tt; status_is = refl; text_is = t }
 
 -- and so does a trace
 pub trace_range_replied : (s : Search) (d p : List ℕ) (problem : Problem) (note : RangeNote) (path : List Action) (text : List ℕ) → EndsPastRange s (plain_problem problem) path note → text ≡ range_text problem.names problem.domain.operators note (length path) path → Replies (trace s d p) (a_problem problem) (record { status = Range; text = text })
-trace_range_replied s d p problem note path text cause t = record { answer = past_range (length path) note path; right = (cause, refl); status_is = refl; text_is = t }
+trace_range_replied s d p problem note path text cause t = record { answer = past_range (length path) note path; right = (cause, refl); fits = tt; status_is = refl; text_is = t }
 
 -- the reply with the lines that explain a plan
 pub explained_replied : (d p q : List ℕ) (problem : Problem) (plan : List Action) (text : List ℕ) → text ≡ explain_text problem plan → Replies (explain d p q) (a_plan problem plan) (record { status = Yes; text = text })
-explained_replied d p q problem plan text t = record { answer = explained; right = tt; status_is = refl; text_is = t }
+explained_replied d p q problem plan text t = record { answer = explained; right = tt; fits = tt; status_is = refl; text_is = t }
 
 -- the reply with an operation past range that is looked at along a plan
 pub explain_range_replied : (d p q : List ℕ) (problem : Problem) (plan : List Action) (after : ℕ) (note : RangeNote) (text : List ℕ) → IsPastInExplanation (plain_problem problem) plan after note → text ≡ range_text problem.names problem.domain.operators note after [] → Replies (explain d p q) (a_plan problem plan) (record { status = Range; text = text })
-explain_range_replied d p q problem plan after note text cause t = record { answer = past_range after note []; right = (cause, refl); status_is = refl; text_is = t }
+explain_range_replied d p q problem plan after note text cause t = record { answer = past_range after note []; right = (cause, refl); fits = tt; status_is = refl; text_is = t }
 
 -- and so does the search of `prove-none`
 pub prove_none_range_replied : (s : Search) (d p : List ℕ) (problem : Problem) (note : RangeNote) (path : List Action) (text : List ℕ) → EndsPastRange s (plain_problem problem) path note → text ≡ range_text problem.names problem.domain.operators note (length path) path → Replies (prove_none s d p) (a_problem problem) (record { status = Range; text = text })
-prove_none_range_replied s d p problem note path text cause t = record { answer = past_range (length path) note path; right = (cause, refl); status_is = refl; text_is = t }
+prove_none_range_replied s d p problem note path text cause t = record { answer = past_range (length path) note path; right = (cause, refl); fits = tt; status_is = refl; text_is = t }
 
 -- the reply where the check of a proof does
 pub proof_range_replied : (d p q : List ℕ) (problem : Problem) (proof : Proof) (note : RangeNote) (path : List Action) (text : List ℕ) → IsNoneCause (plain_problem problem) proof.bound proof.links path (operation_of note) → text ≡ range_text problem.names problem.domain.operators note (length path) path → Replies (check_none d p q) (a_proof problem proof) (record { status = Range; text = text })
-proof_range_replied d p q problem proof note path text cause t = record { answer = past_range (length path) note path; right = (cause, refl); status_is = refl; text_is = t }
+proof_range_replied d p q problem proof note path text cause t = record { answer = past_range (length path) note path; right = (cause, refl); fits = tt; status_is = refl; text_is = t }
 
 -- the reply with the lines of a sample
 pub summary_replied : {E : Type 0} (m : ℕ) (problem : Problem) (kept : ℕ) (o : Outcome) (v : Option Verdict) (r : Result Reply E) → IsSummary m (plain_problem problem) kept o v → IfOk r (λ reply. reply.status ≡ Yes) → IfOk r (λ reply. reply.text ≡ sample_text m kept o v) → IfOk r (Replies (sample m) (a_problem problem))
-summary_replied m problem kept o v (Ok reply) right s t = record { answer = sampled m kept o v; right = (refl, right); status_is = s; text_is = t }
+summary_replied m problem kept o v (Ok reply) right s t = record { answer = sampled m kept o v; right = (refl, right); fits = tt; status_is = s; text_is = t }
 summary_replied m problem kept o v (Err e) right s t = tt
 
 -- the reply where the search of a sample ends at an operation past range
@@ -99,6 +99,7 @@ pub sample_range_replied : (m : ℕ) (s : Search) (problem : Problem) (note : Ra
 sample_range_replied m s problem note path text e cause t = record {
   answer = past_range (length path) note path;
   right = inl (subst (λ (u : Search). EndsPastRange u (plain_problem problem) path note) e cause, refl);
+  fits = tt;
   status_is = refl;
   text_is = t;
 }
@@ -108,22 +109,23 @@ pub check_range_replied : (m : ℕ) (problem : Problem) (plan : List Action) (af
 check_range_replied m problem plan after note text found cause t = record {
   answer = past_range after note [];
   right = inr (record { plan = plan; found = found; cause = cause }, refl);
+  fits = tt;
   status_is = refl;
   text_is = t;
 }
 
 -- the reply where the search for a cheapest plan ends at an operation past range
 pub cheapest_range_replied : (b : ℕ) (d p k : List ℕ) (problem : Problem) (costs : List ℕ) (note : RangeNote) (path : List Action) (text : List ℕ) → CheapestEndsPastRange b (plain_problem problem) costs path note → text ≡ range_text problem.names problem.domain.operators note (length path) path → Replies (cheapest b d p k) (some_costs problem costs) (record { status = Range; text = text })
-cheapest_range_replied b d p k problem costs note path text cause t = record { answer = past_range (length path) note path; right = (cause, refl); status_is = refl; text_is = t }
+cheapest_range_replied b d p k problem costs note path text cause t = record { answer = past_range (length path) note path; right = (cause, refl); fits = tt; status_is = refl; text_is = t }
 
 -- the reply with a verdict on a plan with a repeated part
 pub loop_verdict_replied : {E : Type 0} (d p q : List ℕ) (problem : Problem) (plan : LoopPlan) (v : LoopVerdict) (r : Result Reply E) → IsLoopVerdict (plain_problem problem) plan.stem plan.cycle v → IfOk r (λ reply. reply.status ≡ loop_status v) → IfOk r (λ reply. reply.text ≡ loop_text v) → IfOk r (Replies (check_loop d p q) (a_loop problem plan))
-loop_verdict_replied d p q problem plan v (Ok reply) right s t = record { answer = judged_loop v; right = right; status_is = s; text_is = t }
+loop_verdict_replied d p q problem plan v (Ok reply) right s t = record { answer = judged_loop v; right = right; fits = tt; status_is = s; text_is = t }
 loop_verdict_replied d p q problem plan v (Err e) right s t = tt
 
 -- the reply with an operation past range that the check of one looks at
 pub loop_range_replied : (d p q : List ℕ) (problem : Problem) (plan : LoopPlan) (after : ℕ) (note : RangeNote) (text : List ℕ) → IsLoopCause (plain_problem problem) plan.stem plan.cycle (fault.Range after note) → text ≡ range_text problem.names problem.domain.operators note after [] → Replies (check_loop d p q) (a_loop problem plan) (record { status = Range; text = text })
-loop_range_replied d p q problem plan after note text cause t = record { answer = past_range after note []; right = (cause, refl); status_is = refl; text_is = t }
+loop_range_replied d p q problem plan after note text cause t = record { answer = past_range after note []; right = (cause, refl); fits = tt; status_is = refl; text_is = t }
 
 -- a refusal is not right of what files stand for: one line for each command
 never_right : (c : Command) (x : Input) (number : ℕ) (m : Broken) → IsRightAnswer c x (refusal number m) → ⊥
@@ -181,6 +183,7 @@ reply_answers files c told x reply stand r = record {
   answer = r.answer;
   allowed = right_allowed files c x r.answer stand r.right;
   leaves = right_leaves files c told x r.answer r.right;
+  fits = r.fits;
   status_is = r.status_is;
   text_is = r.text_is;
 }
@@ -192,6 +195,7 @@ refusal_answers files c told number m status text h s t = record {
   answer = refusal number m;
   allowed = h.0;
   leaves = h.1;
+  fits = tt;
   status_is = s;
   text_is = t;
 }

@@ -6,7 +6,7 @@ use Rattle.tl_terms.specs.ProblemMeaning.{plain_problem}
 use Rattle.tl_eval.specs.Notes.{operation_of}
 use Rattle.tl_eval.specs.declared.range.RangeNote.{RangeNote}
 use Rattle.tl_cert.specs.Causes.{IsNoneCause}
-use Rattle.tl_cert.specs.ProofTexts.{none_text, proof_text}
+use Rattle.tl_cert.specs.ProofTexts.{LinksFit, none_text, proof_text}
 use Rattle.tl_cert.specs.Verdicts.{IsNoneVerdict}
 use Rattle.tl_cert.specs.declared.proof.Proof.{Proof}
 use Rattle.tl_cert.specs.declared.verdict.NoneVerdict.{NoneVerdict}
@@ -25,7 +25,7 @@ use Rattle.tl_search.specs.declared.outcome.Outcome.{Outcome}
 use Rattle.tl_search.specs.declared.outcome.Outcome.TheVariants as outcome
 use Rattle.tl_explain.specs.Causes.{IsPastInExplanation}
 use Rattle.tl_explain.specs.Explain.{explain_text}
-use Rattle.tl_text.specs.Outcomes.{outcome_text}
+use Rattle.tl_text.specs.Outcomes.{PlanFits, outcome_text}
 use Rattle.tl_text.specs.Ranges.{range_text}
 use Rattle.tl_text.specs.Traces.{trace_text}
 use Rattle.tl_text.specs.Verdicts.{verdict_text}
@@ -81,6 +81,21 @@ IsRightAnswer (cheapest b d p k) (some_costs problem costs) (past_range after no
 IsRightAnswer (check_loop d p q) (a_loop problem plan) (judged_loop v) = IsLoopVerdict (plain_problem problem) plan.stem plan.cycle v
 IsRightAnswer (check_loop d p q) (a_loop problem plan) (past_range after note path) = IsLoopCause (plain_problem problem) plan.stem plan.cycle (fault.Range after note) × (path ≡ [])
 IsRightAnswer command input answer = ⊥
+
+-- the actions of the plan that the answer shows, or of the links of its proof, have integers of 64 bits
+abbrev pub AnswerFits : Answer → Type 0
+AnswerFits (refusal number broken) = ⊤
+AnswerFits (past_range after note path) = ⊤
+AnswerFits (judged v) = ⊤
+AnswerFits (searched s o) = PlanFits o
+AnswerFits (traced s kept events o) = PlanFits o
+AnswerFits explained = ⊤
+AnswerFits (certified s proof) = LinksFit proof.links
+AnswerFits (unproved s o) = PlanFits o
+AnswerFits (judged_proof v) = ⊤
+AnswerFits (sampled n kept o v) = ⊤
+AnswerFits (costed b o) = ⊤
+AnswerFits (judged_loop v) = ⊤
 
 -- the status with a verdict
 abbrev pub verdict_status : Verdict → Status

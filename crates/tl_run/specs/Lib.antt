@@ -20,6 +20,7 @@ pub mod CheckLoop
 pub mod Searched
 pub mod Sent
 pub mod Promises
+pub mod ReadBack
 pub mod Held
 pub mod Stops
 pub mod Replies

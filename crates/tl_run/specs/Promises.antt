@@ -11,7 +11,7 @@ use Rattle.tl_search.specs.declared.outcome.Outcome.TheVariants as outcome
 use Rattle.tl_run.specs.declared.status.Status.{Status}
 use Rattle.tl_run.specs.declared.status.Status.TheVariants.{Yes, No, Spent, Range, ReadFault, WriteFault, NoMemory, Usage}
 use Rattle.tl_text.specs.Outcomes.{spent_text}
-use Rattle.tl_run.specs.Answers.{Answer, refusal, past_range, judged, searched, traced, IsRightAnswer, status_of, text_of, explained, certified, unproved, judged_proof, sampled, outcome_status, costed, judged_loop}
+use Rattle.tl_run.specs.Answers.{Answer, refusal, past_range, judged, searched, traced, AnswerFits, IsRightAnswer, status_of, text_of, explained, certified, unproved, judged_proof, sampled, outcome_status, costed, judged_loop}
 use Rattle.tl_run.specs.Check.{SaysAccepted, HasCalmPlan}
 use Rattle.tl_run.specs.CheckLoop.{SaysAcceptedForEver, HasCalmLoop}
 use Rattle.tl_run.specs.CheckNone.{SaysProved, HasCalmProof}
@@ -42,6 +42,7 @@ pub record IsAnswer (files : Option Files) (c : Command) (told : CallsTold) (sta
   pub answer : Answer
   pub allowed : Allows files c input answer
   pub leaves : LeavesOff c told answer
+  pub fits : AnswerFits answer
   pub status_is : status ≡ status_of answer
   pub text_is : text ≡ text_of input answer
 

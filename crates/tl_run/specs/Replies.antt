@@ -6,7 +6,7 @@ use Rattle.tl_run.specs.declared.status.Status.TheVariants.{Yes, No, Spent, Refu
 use Rattle.tl_run.specs.declared.turn.Input.{Input as Held}
 use Rattle.tl_run.specs.declared.words.Role.TheVariants as role
 use Rattle.tl_run.specs.Held.{last_role}
-use Rattle.tl_run.specs.Answers.{Answer, IsRightAnswer, status_of, text_of}
+use Rattle.tl_run.specs.Answers.{Answer, AnswerFits, IsRightAnswer, status_of, text_of}
 use Rattle.tl_run.specs.Commands.{Command, check, search, trace, explain, prove_none, check_none, sample, cheapest, check_loop}
 use Rattle.tl_run.specs.Inputs.{Input}
 use Rattle.tl_run.specs.Sent.{SendsAll, SendsPart, SinkTold}
@@ -15,6 +15,7 @@ use Rattle.tl_run.specs.Sent.{SendsAll, SendsPart, SinkTold}
 pub record Replies (c : Command) (input : Input) (reply : Reply) : Type 0 where
   pub answer : Answer
   pub right : IsRightAnswer c input answer
+  pub fits : AnswerFits answer
   pub status_is : reply.status ≡ status_of answer
   pub text_is : reply.text ≡ text_of input answer
 

@@ -5,13 +5,14 @@
 //! - `input`: what a command is over; `turn`: the bytes of one file, and what they add to what was read before; `texts`: the two texts of a sample, read in turn.
 //! - `reply`: the reply to a command; `commands`: a module for each command.
 //! - `stop`: why a file is not read on; `status`: how a run ends.
-//! - `laws`: what is proved below of the definitions in the promises.
+//! - `laws`: what is proved below of the definitions in the promises; `read_back`: what is printed and then read again.
 #![tactic(auto)]
 
 mod command;
 mod commands;
 mod input;
 mod laws;
+mod read_back;
 mod reply;
 mod search;
 mod status;
@@ -21,4 +22,7 @@ mod turn;
 mod words;
 
 pub use command::run;
+pub use read_back::{
+    executed_plans_are_read_back, printed_plans_are_valid, printed_proofs_are_proved,
+};
 pub use status::Status;

@@ -1,6 +1,7 @@
 // The command `trace`: a search for a plan, with its events.
-ghost use Rattle.std.specs.Prelude.{◌≡◌, ℕ, List, [], IfOk};
+ghost use Rattle.std.specs.Prelude.{◌≡◌, ℕ, List, [], IfOk, OnOk};
 ghost use Rattle.tl_space.specs.Spaces.{task_of, problem_of, kept_of};
+ghost use Rattle.tl_text.specs.Outcomes.{PlanFits};
 ghost use Rattle.tl_run.specs.Commands as commands;
 ghost use Rattle.tl_run.specs.Inputs.{a_problem};
 ghost use Rattle.tl_run.specs.Replies.{Replies};
@@ -27,7 +28,8 @@ fn report_text(
     report: &Report,
 ) -> Result<Bytes, NoMemory>
     requires { HasNamedLines (task_of space.now).problem (kept_of space.now) report.now }
-    ensures { IfOk result (λ text. text ≡ report_text (task_of space.now).problem search (kept_of space.now) report.now) }
+    ensures text { IfOk result (λ text. text ≡ report_text (task_of space.now).problem search (kept_of space.now) report.now) }
+    ensures fits { OnOk result (PlanFits report.now.outcome) }
 {
     let mut text = trace_text(alloc, space, report.events.as_slice())?;
     let problem = &space.task().problem;

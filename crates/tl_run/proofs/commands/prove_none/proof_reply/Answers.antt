@@ -28,6 +28,6 @@ returns c = λ d p.
     let proof = c.in_ok-proof.proof in
     let text = c.in_ok-text.text in
     let line : text ≡ proof_text (task_of c.args.space.now).problem.names (task_of c.args.space.now).problem.domain.operators proof =
-    subst (λ (t : Task). text ≡ proof_text t.problem.names t.problem.domain.operators proof) c.task.ensures c.in_ok-text.ensures in
+    subst (λ (t : Task). text ≡ proof_text t.problem.names t.problem.domain.operators proof) c.task.ensures c.in_ok-text.ensures.text in
     let few = few_links c.args.search (problem_of c.args.space.now) kept c.args.report.now c.requires.breadth c.requires.right c.requires.none c.requires.limits (length proof.links) made.many in
-    certificate_replied c.args.search d p (task_of c.args.space.now).problem kept c.args.report.now proof text c.requires.right c.requires.none made.covers made.bound made.order few line
+    certificate_replied c.args.search d p (task_of c.args.space.now).problem kept c.args.report.now proof text c.requires.right c.requires.none made.covers made.bound made.order few c.in_ok-text.ensures.fits line

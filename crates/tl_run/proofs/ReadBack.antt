@@ -1,0 +1,329 @@
+-- Plans and proofs that are printed can be written, and so are read back from their lines.
+use Rattle.std.proofs.Common.{◌≡◌, ◌⊎◌, inl, inr, ℕ, ℤ, zero, suc, ◌<◌, ◌≤◌, List, [], ◌∷◌, ◌++◌, length, map, slice_get, true, false, true≢false, not, Option, Some, None, IsTrue, Less, Equal, refl, sym, ap, ◌∙◌, subst, arith}
+use Rattle.std.specs.Prelude.{◌≢◌, get_or, unwrap_or}
+use Rattle.std.specs.Option.{option_map, option_map_or}
+use Rattle.std.specs.Ordering.{nat_cmp}
+use Rattle.std.specs.Cmp.{nat_cmp_total, tied_itself}
+use Rattle.std.specs.Cmp.Lexicographic.{slice_cmp, lists_total}
+use Rattle.std.proofs.lemmas.Bool.{not-true}
+use Rattle.std.proofs.lemmas.Option.{slice_get-get_or, slice_get_within, same_Some, none-some}
+use Rattle.tl_cert.specs.Covers.{Covers}
+use Rattle.tl_cert.specs.LawsReadBack as proof
+use Rattle.tl_cert.specs.Links.{AreGood, IsGood}
+use Rattle.tl_cert.specs.ProofTexts.{LinksFit, proof_text}
+use Rattle.tl_cert.specs.declared.proof.Link.{Link}
+use Rattle.tl_cert.specs.declared.proof.Proof.{Proof}
+use Rattle.tl_cert.proofs.ProofReadBack.{proof-read-back}
+use Rattle.tl_domain.specs.LawsNames.{HasWritableNames, is_constant}
+use Rattle.tl_domain.proofs.WritableNames.{lawful-names-writable}
+use Rattle.tl_line.specs.WritableActions.{ArgumentsFit, IsSymbolText, IsWritable, IsWritableName, IsWritableValue, ValueFits}
+use Rattle.tl_outside.specs.Told.{Files, IsContent}
+use Rattle.tl_search.specs.KeptPairs.{KeptPair}
+use Rattle.tl_search.specs.PairGraph.{pair_in}
+use Rattle.tl_search.specs.declared.outcome.Outcome.{Outcome}
+use Rattle.tl_search.specs.declared.outcome.Outcome.TheVariants as outcome
+use Rattle.tl_rules.specs.Parts.{is_variable}
+use Rattle.tl_sexpr.specs.Spelling.{Spells}
+use Rattle.tl_sexpr.proofs.SymbolTexts.{spelled_texts}
+use Rattle.tl_syntax.specs.declared.action.Action.{Action}
+use Rattle.tl_syntax.specs.declared.operator.Operator.{Operator}
+use Rattle.tl_syntax.specs.declared.problem.Problem.{Problem}
+use Rattle.tl_syntax.specs.declared.value.Value.{Value}
+use Rattle.tl_syntax.specs.declared.value.Value.TheVariants.{Int, Sym}
+use Rattle.tl_syntax.specs.Kept.{OperatorKeeps}
+use Rattle.tl_syntax.specs.Lists.{Each}
+use Rattle.tl_syntax.specs.Settled.{IsInOrder}
+use Rattle.tl_syntax.specs.Signature.{Takes, signature_of}
+use Rattle.tl_syntax.specs.Texts.{AreDistinct}
+use Rattle.tl_syntax.specs.Trees.{falsum}
+use Rattle.tl_syntax.specs.ValueTests.{ValuesPass}
+use Rattle.tl_terms.specs.Acceptance.{states, states_from}
+use Rattle.tl_terms.specs.Pairs.{Pair, pair_of}
+use Rattle.tl_terms.specs.ProblemMeaning.{plain_problem}
+use Rattle.tl_terms.specs.Step.{step}
+use Rattle.tl_terms.specs.World.{World}
+use Rattle.tl_terms.proofs.PassingSteps.{arguments-of-executed-pass, step-arguments, step-passes}
+use Rattle.tl_terms.proofs.PassingWorlds.{WorldPasses, first-passes}
+use Rattle.tl_terms.proofs.StepLaws.{step-exactly}
+use Rattle.tl_text.specs.Outcomes.{PlanFits, plan_text}
+use Rattle.tl_text.proofs.PlanReadBack.{plan-read-back}
+use Rattle.tl_run.specs.declared.search.Search.{Search}
+use Rattle.tl_run.specs.declared.status.Status.TheVariants.{Yes, No, Refused}
+use Rattle.tl_run.specs.declared.words.Role.{Role}
+use Rattle.tl_run.specs.declared.words.Role.TheVariants as role
+use Rattle.tl_run.specs.Answers.{Answer, AnswerFits, IsRightAnswer, refusal, past_range, judged, searched, traced, explained, certified, unproved, judged_proof, sampled, costed, judged_loop, outcome_status, status_of, text_of}
+use Rattle.tl_run.specs.Commands.{Command, prove_none, search}
+use Rattle.tl_run.specs.Inputs.{Input, nothing, a_domain, a_problem, a_plan, a_proof, StandsFor}
+use Rattle.tl_run.specs.Plan.{IsOutcome}
+use Rattle.tl_run.specs.Promises.{Allows}
+use Rattle.tl_run.specs.ProveNone.{IsBoundOf, IsCertificate, LeavesNoProof, unproved_status}
+use Rattle.tl_run.specs.ReadBack.{AreBytesOf, ExecutedPlansAreReadBack, IsProofFile, IsValidFile, PrintedPlansAreValid, PrintedProofsAreProved}
+use Rattle.tl_run.specs.Turns.{HoldInput, StandTogether}
+use Rattle.tl_run.proofs.NamedPlans.{IsOfOperator, states_take, step_takes}
+use Rattle.tl_run.proofs.OneOutcome.{plan_within}
+use Rattle.tl_run.proofs.Replied.{counts_seen}
+
+-- ---- names in order differ
+
+names-differ : (names : List (List ℕ)) → IsInOrder names → AreDistinct names
+names-differ names order = λ i j x at_i at_j. elim (cases i j) [
+  | inl before ↦ absurd (not-before i j x before at_i at_j)
+  | inr other ↦ elim other [ inl same ↦ same | inr after ↦ absurd (not-before j i x after at_j at_i) ]
+]
+  where
+    cases : (i j : ℕ) → (i < j) ⊎ ((i ≡ j) ⊎ (j < i))
+    cases i j = grind arith
+
+    not-before : (i j : ℕ) (x : List ℕ) → i < j → slice_get names i ≡ Some x → slice_get names j ≡ Some x → ⊥
+    not-before i j x before at_i at_j =
+        let less : slice_cmp nat_cmp x x ≡ Less = order i j x x before at_i at_j in
+        let tie : slice_cmp nat_cmp x x ≡ Equal = tied_itself (lists_total nat_cmp_total) x in
+        cc
+
+each-at : {A : Type 0} (P : A → Type 0) (xs : List A) (i : ℕ) (x : A) → Each P xs → slice_get xs i ≡ Some x → P x
+each-at P [] i x h q = absurd (none-some x q)
+each-at P (y ∷ xs) zero x h q = subst P (same_Some y x q) h.0
+each-at P (y ∷ xs) (suc i) x h q = each-at P xs i x h.1 q
+
+-- ---- names, values and actions that can be written
+
+text-writable : (names : List (List ℕ)) (n : ℕ) (text : List ℕ) → Each IsSymbolText names → slice_get names n ≡ Some text → IsWritableName names n
+text-writable names n text texts at = record {
+  within = slice_get_within names n text at;
+  symbol = subst IsSymbolText (ap (λ (o : Option (List ℕ)). unwrap_or o []) (sym at)) (each-at IsSymbolText names n text texts at);
+}
+
+value-writable : (names : List (List ℕ)) (v : Value) → Each IsSymbolText names → is_constant names v ≡ true → ValueFits v → IsWritableValue names v
+value-writable names (Int z) texts constant fits = fits
+value-writable names (Sym n) texts constant fits = by-text (slice_get names n) refl constant
+  where
+    by-text : (found : Option (List ℕ)) → slice_get names n ≡ found → option_map_or (λ text. not (is_variable text)) found false ≡ true → IsWritableValue names (Sym n)
+    by-text None at test = absurd (true≢false (sym test))
+    by-text (Some text) at test = (text-writable names n text texts at, ap (λ (o : Option (List ℕ)). is_variable (unwrap_or o [])) at ∙ not-true (is_variable text) test)
+
+values-writable : (names : List (List ℕ)) (vs : List Value) → Each IsSymbolText names → ValuesPass (is_constant names) vs → Each ValueFits vs → Each (IsWritableValue names) vs
+values-writable names [] texts constants fit = tt
+values-writable names (v ∷ vs) texts constants fit = (value-writable names v texts constants.0 fit.0, values-writable names vs texts constants.1 fit.1)
+
+module _ (p : Problem) (can : HasWritableNames p) where
+  abbrev Keeps : Operator → Type 0
+  Keeps o = OperatorKeeps (signature_of p.domain) (length p.names) o
+
+  taken : (os : List Operator) (i n : ℕ) → Each Keeps os → Takes (map (λ o. length o.params) os) i n → (o : Operator) × (slice_get os i ≡ Some o) × Keeps o × (length o.params ≡ n)
+  taken [] i n k q = absurd (none-some n q)
+  taken (o ∷ os) zero n k q = (o, refl, k.0, same_Some (length o.params) n q)
+  taken (o ∷ os) (suc i) n k q = taken os i n k.1 q
+
+  action-writable : (a : Action) → IsOfOperator (plain_problem p) a → ValuesPass (is_constant p.names) a.args → ArgumentsFit a → IsWritable p.names p.domain.operators a
+  action-writable a takes constants fit =
+      let at = taken p.domain.operators a.op (length a.args) p.domain_keeps.operators (subst (λ (counts : List ℕ). Takes counts a.op (length a.args)) (counts_seen p) takes) in
+      let keeps = at.2 in
+      record {
+        operator = at.0;
+        is = at.1;
+        name = text-writable p.names at.0.name (get_or p.names at.0.name []) can.names (slice_get-get_or p.names at.0.name [] keeps.name);
+        counted = sym at.3;
+        args = values-writable p.names a.args can.names constants fit;
+      }
+
+  actions-writable : (plan : List Action) → Each (IsOfOperator (plain_problem p)) plan → Each (λ a. ValuesPass (is_constant p.names) a.args) plan → Each ArgumentsFit plan → Each (IsWritable p.names p.domain.operators) plan
+  actions-writable [] takes constants fit = tt
+  actions-writable (a ∷ plan) takes constants fit = (action-writable a takes.0 constants.0 fit.0, actions-writable plan takes.1 constants.1 fit.1)
+
+  plan-writable : (plan : List Action) (ws : List World) → states (plain_problem p) plan ≡ Some ws → Each ArgumentsFit plan → Each (IsWritable p.names p.domain.operators) plan
+  plan-writable plan ws e fit = actions-writable plan (states_take step-exactly (plain_problem p) (plain_problem p).first plan ws e) (arguments-of-executed-pass p (is_constant p.names) plan ws (λ z. refl) can.values e) fit
+
+  -- ---- the links of a proof: each action has a step in the world of a listed node
+
+  abbrev NodePasses : KeptPair → Type 0
+  NodePasses x = WorldPasses (is_constant p.names) x.node.world
+
+  stepped : (f : World → Pair) (o : Option World) (y : Pair) → option_map f o ≡ Some y → (v : World) × (o ≡ Some v) × (f v ≡ y)
+  stepped f None y q = absurd (none-some y q)
+  stepped f (Some v) y q = (v, refl, same_Some (f v) y q)
+
+  world-in : (x : Pair) (v : World) (y : Pair) → pair_in (plain_problem p) x.formula v ≡ y → v ≡ y.world
+  unfolding pair_in
+  world-in x v y q = ap (λ (z : Pair). z.world) q
+
+  -- the action of a good link can be written, and the world that it leads to passes
+  link-writable : (bound : Option ℕ) (listed : List KeptPair) (link : Link) (next : KeptPair) → Each NodePasses listed → IsGood (plain_problem p) bound listed link next → ArgumentsFit link.action → IsWritable p.names p.domain.operators link.action × NodePasses next
+  link-writable bound listed link next pass good fit =
+      let test = is_constant p.names in
+      let whole : (z : ℤ) → IsTrue (is_constant p.names (Int z)) = λ z. refl in
+      let from = each-at NodePasses listed link.from good.from pass good.is_from in
+      let led = stepped (pair_in (plain_problem p) good.from.node.formula) (step (plain_problem p) good.from.node.world link.action) next.node good.leads in
+      let world = world-in good.from.node led.0 next.node led.2 in (
+        action-writable link.action (step_takes step-exactly (plain_problem p) good.from.node.world led.0 link.action led.1) (step-arguments test whole p can.values good.from.node.world led.0 link.action from led.1) fit,
+        subst (WorldPasses test) world (step-passes test whole p can.values good.from.node.world led.0 link.action from led.1),
+      )
+
+  each-last : {A : Type 0} (P : A → Type 0) (xs : List A) (y : A) → Each P xs → P y → Each P (xs ++ y ∷ [])
+  each-last P [] y h q = (q, tt)
+  each-last P (x ∷ xs) y h q = (h.0, each-last P xs y h.1 q)
+
+  links-writable : (bound : Option ℕ) (old : List KeptPair) (links : List Link) (new : List KeptPair) → Each NodePasses old → AreGood (plain_problem p) bound old links new → Each (λ link. ArgumentsFit link.action) links → proof.AreWritable p.names p.domain.operators links
+  links-writable bound old [] new pass good fit = tt
+  links-writable bound old (link ∷ links) new pass good fit =
+      let here = link-writable bound old link good.0 pass good.1 fit.0 in
+      (here.0, links-writable bound (old ++ good.0 ∷ []) links new (each-last NodePasses old good.0 pass here.1) good.2 fit.1)
+
+  root-world : (x : Pair) → pair_of (plain_problem p) [] ≡ Some x → (plain_problem p).first ≡ x.world
+  unfolding states_from
+  root-world x q = ap (λ (y : Pair). y.world) (same_Some _ x q)
+
+  root-passes : (first : List KeptPair) (x : Pair) → pair_of (plain_problem p) [] ≡ Some x → ((x.formula ≡ falsum) × (first ≡ [])) ⊎ ((x.formula ≢ falsum) × (first ≡ record { node = x; path = [] } ∷ [])) → Each NodePasses first
+  root-passes first x q (inl h) = subst (Each NodePasses) (sym h.1) tt
+  root-passes first x q (inr h) = subst (Each NodePasses) (sym h.1) (subst (WorldPasses (is_constant p.names)) (root-world x q) (first-passes (is_constant p.names) p can.values), tt)
+
+  proof-writable : (certificate : Proof) → Covers (plain_problem p) certificate → Each (λ link. ArgumentsFit link.action) certificate.links → proof.AreWritable p.names p.domain.operators certificate.links
+  proof-writable certificate covers fit =
+      let lists = covers.lists in
+      links-writable certificate.bound lists.0 certificate.links covers.listed (root-passes lists.0 lists.1.0 lists.1.1 lists.1.2) lists.2 fit
+
+-- ---- the files
+
+writable-names : (domain problem : List ℕ) (p : Problem) → AreBytesOf domain problem p → HasWritableNames p
+writable-names domain problem p are = lawful-names-writable are.first are.second p (spelled_texts domain are.first are.first_spelled) (spelled_texts problem are.second are.second_spelled) are.files
+
+pub executed-plans-read-back : ExecutedPlansAreReadBack
+executed-plans-read-back domain problem p actions ws are e fit few =
+    let can = writable-names domain problem p are in
+    plan-read-back p.names p.domain.operators actions (names-differ p.names p.settled) can.operators (plan-writable p can actions ws e fit) few
+
+-- the two files of a command
+abbrev two : List ℕ → List ℕ → List (Role × List ℕ)
+two d p = (role.Domain, d) ∷ ((role.Problem, p) ∷ [])
+
+-- the files that were read, with one more after them
+abbrev three : List ℕ → List ℕ → Role → List ℕ → List (Role × List ℕ)
+three d p r q = (role.Domain, d) ∷ ((role.Problem, p) ∷ ((r, q) ∷ []))
+
+-- what two files hold that stand for a problem
+record AreRead (m : Problem) : Type 0 where
+  pub domain : List ℕ
+  pub problem : List ℕ
+  pub are : AreBytesOf domain problem m
+
+two-read : (files : Option Files) (d p : List ℕ) (m : Problem) → StandTogether files (two d p) nothing (a_problem m) → AreRead m
+two-read files d p m h = by-domain h.1 h.3 (subst (λ (x : Input). StandsFor role.Problem h.1 h.4.0 x) h.4.4 h.4.3)
+  where
+    by-domain : (after : Input) → StandsFor role.Domain nothing h.0 after → StandsFor role.Problem after h.4.0 (a_problem m) → AreRead m
+    by-domain (a_domain first) a b = record {
+      domain = h.0;
+      problem = h.4.0;
+      are = record { first = first; second = b.forms; first_spelled = subst (Spells h.0) (sym a.meant) a.spelled.spelled; second_spelled = b.spelled.spelled; files = b.meant };
+    }
+    by-domain x a b = absurd a.meant
+
+-- a third file after them
+one-more : (files : Option Files) (d p q text : List ℕ) (r : Role) (m : Problem) (x : Input) → StandTogether files (two d p) nothing (a_problem m) → IsContent files q text → StandsFor r (a_problem m) text x → StandTogether files (three d p r q) nothing x
+one-more files d p q text r m x h content stands =
+    (h.0, h.1, h.2, h.3, (h.4.0, h.4.1, h.4.2, h.4.3, (text, x, content, subst (λ (before : Input). StandsFor r before text x) (sym h.4.4) stands, refl)))
+
+-- the files allow a plan of them that is accepted, from its lines
+plan-valid : (files : Option Files) (d p q text : List ℕ) (s : Search) (m : Problem) (actions : List Action) → StandTogether files (two d p) nothing (a_problem m) → IsOutcome s (plain_problem m) (outcome.Plan actions) → Each ArgumentsFit actions → text ≡ plan_text m.names m.domain.operators actions → s.within ≤ 100000 → length text ≤ 4194304 → IsContent files q text → IsValidFile files d p q text
+plan-valid files d p q text s m actions stand right fit lines limit short content =
+    let within = plan_within s.mode s.within s.nodes (plain_problem m) actions right in
+    let few : length actions ≤ s.within = within.short in
+    let accepted = within.accepted in
+    let read = two-read files d p m stand in
+    let back = executed-plans-read-back read.domain read.problem m actions (accepted.from ∷ accepted.after) read.are accepted.executes fit (omega (arith, few, limit)) in
+    let spelled = subst (λ (bytes : List ℕ). Spells bytes back.forms) (sym lines) back.spelled in
+    let stands : StandsFor role.Plan (a_problem m) text (a_plan m actions) = record {
+      forms = back.forms;
+      spelled = record { short = short; spelled = spelled };
+      lawful = back.unbroken;
+      meant = (refl, sym back.meant);
+    } in
+    record { problem = m; actions = actions; lines = lines; valid = (one-more files d p q text role.Plan m (a_plan m actions) stand content stands, accepted) }
+
+-- an answer with another status is no refusal
+not-refused : (files : Option Files) (c : Command) (x : Input) (a : Answer) → (Refused ≡ status_of a → ⊥) → Allows files c x a → HoldInput files c x × IsRightAnswer c x a
+not-refused files c x (refusal number m) other allowed = absurd (other refl)
+not-refused files c x (past_range after note path) other allowed = allowed
+not-refused files c x (judged v) other allowed = allowed
+not-refused files c x (searched s o) other allowed = allowed
+not-refused files c x (traced s kept events o) other allowed = allowed
+not-refused files c x explained other allowed = allowed
+not-refused files c x (certified s proof) other allowed = allowed
+not-refused files c x (unproved s o) other allowed = allowed
+not-refused files c x (judged_proof v) other allowed = allowed
+not-refused files c x (sampled n kept o v) other allowed = allowed
+not-refused files c x (costed b o) other allowed = allowed
+not-refused files c x (judged_loop v) other allowed = allowed
+
+yes-is-other : (a : Answer) → Yes ≡ status_of a → Refused ≡ status_of a → ⊥
+yes-is-other a done e = let q : Refused ≡ Yes = e ∙ sym done in let k : ⊥ = cc in k
+
+no-is-other : (a : Answer) → No ≡ status_of a → Refused ≡ status_of a → ⊥
+no-is-other a done e = let q : Refused ≡ No = e ∙ sym done in let k : ⊥ = cc in k
+
+module _ (files : Option Files) (s : Search) (d p q text : List ℕ) (limit : s.within ≤ 100000) (short : length text ≤ 4194304) (content : IsContent files q text) where
+  outcome-valid : (m : Problem) (t : Search) (o : Outcome) → Yes ≡ outcome_status o → HoldInput files (search s d p) (a_problem m) → IsOutcome s (plain_problem m) o → PlanFits o → text ≡ text_of (a_problem m) (searched t o) → IsValidFile files d p q text
+  outcome-valid m t (outcome.Plan actions) done stand right fit lines = plan-valid files d p q text s m actions stand right fit lines limit short content
+  outcome-valid m t outcome.NoPlan done stand right fit lines = absurd (let k : ⊥ = cc in k)
+  outcome-valid m t outcome.NoneWithin done stand right fit lines = absurd (let k : ⊥ = cc in k)
+  outcome-valid m t outcome.Spent done stand right fit lines = absurd (let k : ⊥ = cc in k)
+
+  answer-valid : (x : Input) (a : Answer) → Yes ≡ status_of a → HoldInput files (search s d p) x → IsRightAnswer (search s d p) x a → AnswerFits a → text ≡ text_of x a → IsValidFile files d p q text
+  answer-valid (a_problem m) (searched t o) done stand right fit lines = outcome-valid m t o done stand right.1 fit lines
+  answer-valid (a_problem m) (past_range after note path) done stand right fit lines = absurd (let k : ⊥ = cc in k)
+  answer-valid x a done stand right fit lines = absurd right
+
+  unproved-valid : (m : Problem) (t : Search) (o : Outcome) → No ≡ unproved_status o → HoldInput files (prove_none s d p) (a_problem m) → IsOutcome s (plain_problem m) o → LeavesNoProof o → PlanFits o → text ≡ text_of (a_problem m) (unproved t o) → IsValidFile files d p q text
+  unproved-valid m t (outcome.Plan actions) done stand right leaves fit lines = plan-valid files d p q text s m actions stand right fit lines limit short content
+  unproved-valid m t outcome.NoPlan done stand right leaves fit lines = absurd leaves
+  unproved-valid m t outcome.NoneWithin done stand right leaves fit lines = absurd leaves
+  unproved-valid m t outcome.Spent done stand right leaves fit lines = absurd (let k : ⊥ = cc in k)
+
+  in-place-valid : (x : Input) (a : Answer) → No ≡ status_of a → HoldInput files (prove_none s d p) x → IsRightAnswer (prove_none s d p) x a → AnswerFits a → text ≡ text_of x a → IsValidFile files d p q text
+  in-place-valid (a_problem m) (certified t certificate) done stand right fit lines = absurd (let k : ⊥ = cc in k)
+  in-place-valid (a_problem m) (unproved t o) done stand right fit lines = unproved-valid m t o done stand right.1 right.2 fit lines
+  in-place-valid (a_problem m) (past_range after note path) done stand right fit lines = absurd (let k : ⊥ = cc in k)
+  in-place-valid x a done stand right fit lines = absurd right
+
+  bound-writable : (o : Outcome) (bound : Option ℕ) → IsBoundOf s.within o bound → proof.IsBoundWritable bound
+  bound-writable (outcome.Plan actions) bound h = absurd h
+  bound-writable outcome.NoPlan bound h = subst proof.IsBoundWritable (sym h) tt
+  bound-writable outcome.NoneWithin bound h = subst proof.IsBoundWritable (sym h) limit
+  bound-writable outcome.Spent bound h = absurd h
+
+  certificate-proved : (m : Problem) (certificate : Proof) → HoldInput files (prove_none s d p) (a_problem m) → IsCertificate s (plain_problem m) certificate → LinksFit certificate.links → text ≡ proof_text m.names m.domain.operators certificate → IsProofFile files d p q text
+  certificate-proved m certificate stand right fit lines =
+      let read = two-read files d p m stand in
+      let can = writable-names read.domain read.problem m read.are in
+      let back = proof-read-back m.names m.domain.operators certificate (names-differ m.names m.settled) can.operators (proof-writable m can certificate right.covers fit) right.order right.few (bound-writable right.ended certificate.bound right.bound) in
+      let spelled = subst (λ (bytes : List ℕ). Spells bytes back.forms) (sym lines) back.spelled in
+      let stands : StandsFor role.Proof (a_problem m) text (a_proof m certificate) = record {
+        forms = back.forms;
+        spelled = record { short = short; spelled = spelled };
+        lawful = back.unbroken;
+        meant = (refl, sym back.meant);
+      } in
+      record { problem = m; proof = certificate; lines = lines; proved = (one-more files d p q text role.Proof m (a_proof m certificate) stand content stands, right.covers) }
+
+  no-proof : (o : Outcome) → Yes ≡ unproved_status o → ⊥
+  no-proof (outcome.Plan actions) done = let k : ⊥ = cc in k
+  no-proof outcome.NoPlan done = let k : ⊥ = cc in k
+  no-proof outcome.NoneWithin done = let k : ⊥ = cc in k
+  no-proof outcome.Spent done = let k : ⊥ = cc in k
+
+  answer-proved : (x : Input) (a : Answer) → Yes ≡ status_of a → HoldInput files (prove_none s d p) x → IsRightAnswer (prove_none s d p) x a → AnswerFits a → text ≡ text_of x a → IsProofFile files d p q text
+  answer-proved (a_problem m) (certified t certificate) done stand right fit lines = certificate-proved m certificate stand right.1 fit lines
+  answer-proved (a_problem m) (unproved t o) done stand right fit lines = absurd (no-proof o done)
+  answer-proved (a_problem m) (past_range after note path) done stand right fit lines = absurd (let k : ⊥ = cc in k)
+  answer-proved x a done stand right fit lines = absurd right
+
+pub printed-plans-valid : PrintedPlansAreValid
+printed-plans-valid files s d p q text told (inl h) limit short content =
+    let right = not-refused files (search s d p) h.input h.answer (yes-is-other h.answer h.status_is) h.allowed in
+    answer-valid files s d p q text limit short content h.input h.answer h.status_is right.0 right.1 h.fits h.text_is
+printed-plans-valid files s d p q text told (inr h) limit short content =
+    let right = not-refused files (prove_none s d p) h.input h.answer (no-is-other h.answer h.status_is) h.allowed in
+    in-place-valid files s d p q text limit short content h.input h.answer h.status_is right.0 right.1 h.fits h.text_is
+
+pub printed-proofs-proved : PrintedProofsAreProved
+printed-proofs-proved files s d p q text told h limit short content =
+    let right = not-refused files (prove_none s d p) h.input h.answer (yes-is-other h.answer h.status_is) h.allowed in
+    answer-proved files s d p q text limit short content h.input h.answer h.status_is right.0 right.1 h.fits h.text_is
