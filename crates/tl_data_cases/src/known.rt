@@ -11,7 +11,7 @@ use tl_world::{World, Worlds};
 
 /// Rows of a world, facts that are deleted, facts that are added and places that are set, another world, whether that is the world after the changes, the number of that world, 1, or of the first one, 0, where it is found by the changes, and the number that it has then, 2 or 1 for one that had none. It has that number again once the last world was let go, but where this was the only one.
 ///
-/// None is found where a deleted fact is not there or an added one is: such a world is made, and then has its number.
+/// Some deleted facts are not there, and some added ones are: the world is found then too.
 const AFTER: &str = "
 (p a) (edge a b) | (p a) | (p b) | (p b) (edge a b) | true | 1 | 1
 (p a) (edge a b) | (p a) | (p b) | (p b) (edge a b) (edge b a) | false | none | 2
@@ -24,9 +24,11 @@ const AFTER: &str = "
 (p a) | (p a) | (q a) | (q a) | true | 1 | 1
 (p a) (r c) | (p a) | (q b) | (q b) (r c) | true | 1 | 1
 (p a) | - | (q b) | (p a) (q b) (r c) | false | none | 2
-(p a) | (p a) | (p a) | (p a) | true | none | 0
-(p a) | - | (p a) | (p a) | true | none | 0
-(p a) | (p b) | - | (p a) | true | none | 0
+(p a) | (p a) | (p a) | (p a) | true | 0 | 0
+(p a) | - | (p a) | (p a) | true | 0 | 0
+(p a) | (p b) | - | (p a) | true | 0 | 0
+(p a) (q b) | (p b) | (p a) (q c) | (p a) (q b) (q c) | true | 1 | 1
+(p a) (q b) | (q b) (q c) | (p a) (p b) | (p a) (p b) | true | 1 | 1
 (p a) | - | - | (p a) | true | 0 | 0
 (p a) (= (n) 10) | - | (= (n) -1) | (p a) (= (n) -1) | true | 1 | 1
 (p a) (= (n) 10) | - | (= (n) -1) | (p a) (= (n) 10) | false | none | 1

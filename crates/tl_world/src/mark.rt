@@ -43,7 +43,7 @@ pub(crate) fn mark_of_places(tables: &[Named<PlaceRows>]) -> u64 {
 }
 
 /// The mark of a fact.
-fn mark_of_fact(fact: &Fact) -> u64 {
+pub(crate) fn mark_of_fact(fact: &Fact) -> u64 {
     part(code_of_row(fact.args.as_slice()), fact.pred, FACTORS[0])
 }
 

@@ -23,9 +23,11 @@ ghost use Rattle.tl_world.specs.Moves.{AreSameBeside, changed_facts};
 use crate::facts::change_facts;
 use crate::is_after::Numbered;
 use crate::mark::{
-    changed_mark, mark_of_facts, mark_of_place_rows, mark_of_places, mark_of_rows, set_mark,
+    changed_mark, mark_of_fact, mark_of_facts, mark_of_place_rows, mark_of_places, mark_of_rows,
+    set_mark,
 };
 use crate::named::{Named, find_table, share};
+use crate::named_facts::is_one_of;
 use crate::places::{change_places, find_place};
 use crate::places_beside::{NumberedPlaces, are_place_tables_beside};
 use crate::runs::find_row;
@@ -382,6 +384,24 @@ impl World {
             mark = set_mark(mark, before, p);
         }
         mark
+    }
+
+    /// That mark, where a deleted fact may not be in this world and an added one may be. It takes no memory.
+    #[inline(never)]
+    pub(crate) fn corrected_mark(&self, mark: u64, dels: &[Fact], adds: &[Fact]) -> u64 {
+        let mut exact = mark;
+        for d in dels {
+            let args = d.args.as_slice();
+            if !self.holds(d.pred, args) && !is_one_of(adds, d.pred, args) {
+                exact = exact.wrapping_add(mark_of_fact(d));
+            }
+        }
+        for a in adds {
+            if self.holds(a.pred, a.args.as_slice()) {
+                exact = exact.wrapping_sub(mark_of_fact(a));
+            }
+        }
+        exact
     }
 
     /// Whether all facts of the other world are in this one.

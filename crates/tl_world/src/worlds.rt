@@ -110,9 +110,28 @@ impl Worlds {
         }
     }
 
+    /// The number of the world that comes from the source, where it is the one that was noted last with the mark. It takes no memory.
+    fn find_by_mark(&self, mark: u64, source: &Source<'_>) -> Option<usize>
+        requires { source.now.from < length (worlds_in self.now) }
+        ensures { IfSome result (IsNumberAfter (worlds_in self.now) source.now.from
+            source.now.dels.now source.now.adds.now source.now.sets.now) }
+    {
+        let before = self.numbered(source.from);
+        let number = self.by_mark.get(mark)?;
+        if number < self.table.len()
+            && self
+                .numbered(number)
+                .is_after(&before, source.dels, source.adds, source.sets)
+        {
+            Some(number)
+        } else {
+            None
+        }
+    }
+
     /// The number of the world that the changes make of the world of the number `from`, where it is found without making that world. It may have a number where none is found. It takes no memory.
     ///
-    /// It is found where each deleted fact is in the world of `from` or among those that are added, no added fact is in it, none of the changes is given twice, and no later world has the same mark.
+    /// It is found where none of the changes is given twice, and no later world has the same mark. At first each deleted fact is taken to be in the world of `from`, and no added one; where nothing is found so, those are looked up of which that is not true.
     pub fn find_after(
         &self,
         from: usize,
@@ -124,13 +143,22 @@ impl Worlds {
         ensures { IfSome result
             (IsNumberAfter (worlds_in self.now) from dels.now adds.now sets.now) }
     {
-        let before = self.numbered(from);
-        let number = self.by_mark.get(before.world.mark_after(dels, adds, sets))?;
-        if number < self.table.len() && self.numbered(number).is_after(&before, dels, adds, sets) {
-            Some(number)
-        } else {
-            None
+        let source = Source {
+            from,
+            dels,
+            adds,
+            sets,
+        };
+        let before = self.get(from);
+        let mark = before.mark_after(dels, adds, sets);
+        if let Some(number) = self.find_by_mark(mark, &source) {
+            return Some(number);
         }
+        let exact = before.corrected_mark(mark, dels, adds);
+        if exact == mark {
+            return None;
+        }
+        self.find_by_mark(exact, &source)
     }
 
     /// The number of the world that the changes make of the world of the number `from`: the one that it has, or else the next one. It fails for want of memory alone.

@@ -1,7 +1,7 @@
 use Rattle.tl_world.specs.WorldNumbers.{worlds_in}
 use Rattle.tl_world.proofs.TableNumbers.{numbers-tell}
 use Rattle.tl_world.proofs.Unchanged.{number-after}
-use Rattle.tl_world.proofs.worlds.Worlds.find_after.Goals as goal
+use Rattle.tl_world.proofs.worlds.Worlds.find_by_mark.Goals as goal
 
 pub is_after-requires : goal.is_after-requires
 is_after-requires c =
@@ -9,5 +9,5 @@ is_after-requires c =
 
 pub returns-then-is_after : goal.returns-then-is_after
 returns-then-is_after c =
-    number-after (worlds_in c.args.self.now) c.args.from c.in_ok-number.number c.numbered-before.result.world.now c.numbered.result.world.now c.args.dels.now c.args.adds.now c.args.sets.now
+    number-after (worlds_in c.args.self.now) c.args.source.now.from c.in_ok-number.number c.numbered-before.result.world.now c.numbered.result.world.now c.args.source.now.dels.now c.args.source.now.adds.now c.args.source.now.sets.now
     c.numbered-before.ensures.world c.numbered.ensures.world (c.is_after.ensures.facts c.if-is_after.true) (c.is_after.ensures.places c.if-is_after.true)
