@@ -9,10 +9,17 @@ ghost use Rattle.tl_world.specs.Tables.{row_cmp};
 use crate::next::put_next;
 use crate::{Match, Part, Rows};
 
-/// Whether the first part is free and the second fixed.
+/// Whether the first part is free and the second fixed, or the first is for a later variable and the second for the first one.
 #[inline]
 fn is_by_second(parts: &[Part]) -> bool {
-    parts.len() > 1 && matches!(parts[0], Part::Free(_)) && matches!(parts[1], Part::Fixed(_))
+    if parts.len() < 2 {
+        return false;
+    }
+    match (parts[0], parts[1]) {
+        (Part::Free(_), Part::Fixed(_)) => true,
+        (Part::Free(n), Part::Free(m)) => m == 0 && n > 0,
+        _ => false,
+    }
 }
 
 /// Whether the rows that the parts fit are looked for in the second order of the table.
@@ -37,7 +44,7 @@ fn exchanged_parts(parts: &[Part]) -> [Part; 9]
 
 /// Puts the least tuple after that in place that makes the parts one of the rows in place. False where there is none.
 ///
-/// Where the first part is free and the second fixed, and the table keeps its second order, the rows with that second value stand together there.
+/// Where the first part is free and the second fixed, and the table keeps its second order, the rows with that second value stand together there. Where the variables of the first two parts stand in the other order, so do the tuples.
 pub(crate) fn put_next_in_table(
     rows: &Rows,
     parts: &[Part],

@@ -38,7 +38,7 @@ impl World {
     ///
     /// It looks at one table. Where the variables first stand in the order of their numbers, the rows are looked at from the guess on, or, where this is wrong, from a place that is guessed from the values of the first and the last row, or else found by halves, up to the first that the pattern fits.
     /// Where they do not, all rows with the same fixed leading values are looked at, up to the first whose leading values exceed those of the best tuple so far.
-    /// Where the first part is free and the second fixed, and the table has more than 128 rows, the rows with that second value are found in the same way among those by their second value.
+    /// Where the table has more than 128 rows, and the first part is free and the second fixed, or the variables of the first two stand in the other order, the rows are found in the same way among those by their second value.
     #[inline(never)]
     pub fn put_next_match(
         &self,
