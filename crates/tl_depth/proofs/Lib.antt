@@ -29,3 +29,4 @@ mod NamedStacks
 mod Remembering
 mod Replaying
 mod OneTrace
+mod Packing

@@ -17,3 +17,4 @@ pub mod Traces
 pub mod NamedStacks
 pub mod Laws
 pub mod Expansions
+pub mod Packed

@@ -2,9 +2,10 @@
 ghost use Rattle.std.specs.Prelude.{◌≡◌, ◌<◌, ◌⊎◌, length, Some, None, IfOk, IfSome, OnOk};
 ghost use Rattle.tl_depth.specs.Expansions.{StayExpansions, as_seen, AddsAt, KnowsNothing, KnowsActions, KnowsArrival, GainsActions, GainsArrival};
 
+use crate::packed::PackedActions;
 use std::alloc::Global;
 use tl_search::Arrival;
-use tl_terms::{Actions, NoMemory};
+use tl_terms::NoMemory;
 
 /// What is remembered of a pair.
 #[derive(Drop)]
@@ -12,7 +13,7 @@ pub struct Expansion {
     /// Whether some action of it was tried before it was entered last.
     pub again: bool,
     /// Its executable actions, where it was entered again and no level of the stack has them.
-    pub actions: Option<Actions>,
+    pub actions: Option<PackedActions>,
     /// What came of the first of its actions.
     pub arrivals: Vec<Arrival>,
 }
@@ -29,7 +30,7 @@ fn seen_again(arrival: Arrival) -> Arrival
 
 impl Expansion {
     /// The pair is entered. Its actions are given out, where they are known, so that they are known no longer.
-    fn enter(&mut self) -> Option<Actions>
+    fn enter(&mut self) -> Option<PackedActions>
         ensures result { result ≡ self.old.actions }
         ensures actions { self.new.actions ≡ None }
         ensures arrivals { self.new.arrivals.items ≡ self.old.arrivals.items }
@@ -39,7 +40,7 @@ impl Expansion {
     }
 
     /// The pair is left. Its actions are known from now on, where it was entered again; a pair that is entered once takes no memory for them.
-    fn leave(&mut self, actions: Actions)
+    fn leave(&mut self, actions: PackedActions)
         ensures actions { (self.new.actions ≡ self.old.actions) ⊎ (self.new.actions ≡ Some actions) }
         ensures arrivals { self.new.arrivals.items ≡ self.old.arrivals.items }
     {
@@ -96,7 +97,11 @@ impl Expansions {
     }
 
     /// The pair of the number is entered. Its actions are given out, where they are known, so that they are known no longer.
-    pub fn take_actions(&mut self, alloc: Global, at: usize) -> Result<Option<Actions>, NoMemory>
+    pub fn take_actions(
+        &mut self,
+        alloc: Global,
+        at: usize,
+    ) -> Result<Option<PackedActions>, NoMemory>
         ensures stay { OnOk result (StayExpansions self.old self.new) }
         ensures actions { IfOk result (λ found. IfSome found (KnowsActions self.old at)) }
     {
@@ -105,7 +110,7 @@ impl Expansions {
     }
 
     /// The pair of the number is left. Its actions are known from now on, where it was entered again.
-    pub fn give_back(&mut self, at: usize, actions: Actions)
+    pub fn give_back(&mut self, at: usize, actions: PackedActions)
         ensures { GainsActions self.old self.new at actions }
     {
         if at < self.entries.as_slice().len() {

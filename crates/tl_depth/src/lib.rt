@@ -3,6 +3,7 @@
 //! - `depth`: the search as its callers see it.
 //! - `stack`: the stack, and with how many remaining actions each pair was met; in `stack/`, the search from its first pair on (`whole`), its steps (`turns`), and what comes of an arrival (`arrivals`).
 //! - `level`: a pair that is being expanded.
+//! - `packed`: lists of actions that take little memory.
 //! - `expansions`: what is remembered of the pairs' actions and of what came of these, so that a pair that is entered again asks the space for nothing that is known.
 //! - `laws`: what is proved of the definitions.
 //!
@@ -13,6 +14,7 @@ mod depth;
 mod expansions;
 pub mod laws;
 mod level;
+mod packed;
 mod stack;
 
 pub use depth::search;

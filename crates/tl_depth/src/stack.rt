@@ -41,7 +41,7 @@ pub fn path(alloc: Global, levels: &[Level]) -> Result<Actions, NoMemory>
     let mut found = Actions::new(alloc);
     for level in levels {
         if level.tried < level.actions.len() {
-            let action = level.actions.as_slice()[level.tried].copy(alloc)?;
+            let action = level.actions.get(alloc, level.tried)?;
             found.push(action)?;
         }
     }
@@ -106,20 +106,36 @@ impl DepthFirst {
         self.expansions.learn(level.at, level.tried, arrival)
     }
 
-    /// Reports what came of the top level's next action.
+    /// Reports what came of the top level's next action, where events are wanted.
+    #[inline(always)]
     pub fn report(&mut self, alloc: Global, arrival: Arrival) -> Result<(), NoMemory>
+        requires { IsStepped self.old.stack.items }
+        ensures told { OnOk result (TellsTop self.old self.new arrival) }
+        ensures rest { self.new ≡ record self.old { events = self.new.events } }
+    {
+        if self.watch {
+            self.tell(alloc, arrival)
+        } else {
+            Ok(())
+        }
+    }
+
+    /// The same, where events are wanted.
+    #[inline(never)]
+    fn tell(&mut self, alloc: Global, arrival: Arrival) -> Result<(), NoMemory>
         requires { IsStepped self.old.stack.items }
         ensures told { OnOk result (TellsTop self.old self.new arrival) }
         ensures rest { self.new ≡ record self.old { events = self.new.events } }
     {
         let top = self.stack.as_slice().len() - 1;
         let level = &self.stack[top];
+        let action = level.actions.get(alloc, level.tried)?;
         report_arrival(
             alloc,
             &mut self.events,
             self.watch,
             level.at,
-            &level.actions.as_slice()[level.tried],
+            &action,
             arrival,
         )
     }

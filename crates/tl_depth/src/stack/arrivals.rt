@@ -12,10 +12,11 @@ ghost use Rattle.tl_depth.specs.Turns.{HasArrived, TurnsBy};
 ghost use Rattle.tl_search.specs.declared.arrival.Arrival.TheVariants as arrival;
 
 use crate::level::Level;
+use crate::packed::PackedActions;
 use crate::stack::{DepthFirst, past_range, path};
 use std::alloc::Global;
 use tl_search::{Arrival, Outcome, Pairs, SearchFault, SpaceFault};
-use tl_terms::{Actions, NoMemory};
+use tl_terms::NoMemory;
 
 impl DepthFirst {
     /// What comes of an arrival.
@@ -228,7 +229,7 @@ impl DepthFirst {
         alloc: Global,
         space: &mut S,
         at: usize,
-    ) -> Result<Actions, SearchFault>
+    ) -> Result<PackedActions, SearchFault>
         requires at { at < length (S.kept space.old) }
         requires named { SearchIsNamed (S.task space.old) self.old }
         requires remembered { Remembers (S.problem space.old) (S.task space.old) (S.kept space.old) self.old.expansions }
@@ -247,7 +248,7 @@ impl DepthFirst {
             return Ok(actions);
         }
         match space.actions(at) {
-            Ok(actions) => Ok(actions),
+            Ok(actions) => Ok(PackedActions::of(alloc, actions)?),
             Err(SpaceFault::RangeHere(note)) => {
                 Err(past_range(alloc, self.stack.as_slice(), note))
             }
@@ -257,7 +258,11 @@ impl DepthFirst {
     }
 
     /// The executable actions of a pair, where they are remembered. While no pair is entered again nothing is, and no memory is taken for it.
-    fn remembered_actions(&mut self, alloc: Global, at: usize) -> Result<Option<Actions>, NoMemory>
+    fn remembered_actions(
+        &mut self,
+        alloc: Global,
+        at: usize,
+    ) -> Result<Option<PackedActions>, NoMemory>
         ensures stay { OnOk result (StayExpansions self.old.expansions self.new.expansions) }
         ensures actions { IfOk result (λ o. IfSome o (KnowsActions self.old.expansions at)) }
         ensures rest { self.new ≡ record self.old { expansions = self.new.expansions } }

@@ -129,7 +129,11 @@ impl DepthFirst {
     {
         let top = self.stack.as_slice().len() - 1;
         let level = &self.stack.as_slice()[top];
-        let arrival = match space.child(level.at, &level.actions.as_slice()[level.tried], steps) {
+        let Ok(action) = level.actions.get(alloc, level.tried) else {
+            steps.tick();
+            return Err(SearchFault::NoMemory);
+        };
+        let arrival = match space.child(level.at, &action, steps) {
             Ok(arrival) => arrival,
             Err(SpaceFault::RangeHere(note)) => {
                 return Err(past_range(alloc, &self.stack.as_slice()[..top], note));

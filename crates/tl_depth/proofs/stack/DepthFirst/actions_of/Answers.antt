@@ -4,6 +4,7 @@ use Rattle.tl_search.specs.Calls.{AreNamedIn}
 use Rattle.tl_search.specs.KeptPairs.{pairs_of}
 use Rattle.tl_search.specs.NamedAnswers.{FaultIsNamed}
 use Rattle.tl_search.proofs.ListLaws.{get-inside}
+use Rattle.tl_depth.specs.Expansions.{IsListed}
 use Rattle.tl_depth.specs.Ongoing.{IsEntryFault}
 use Rattle.tl_depth.specs.declared.stack.DepthFirst.{DepthFirst}
 use Rattle.tl_depth.proofs.Ends.{range-holds}
@@ -17,13 +18,13 @@ returns-in-Some-clause-listed g c = (rw c.in-Some.is at c.in_ok-actions.ensures.
 pub returns-in-Some-clause-remembered : goal.returns-in-Some-clause-remembered
 returns-in-Some-clause-remembered g c = record { kept_rightly = c.requires.remembered.kept_rightly; expansions = c.in_ok-actions.ensures.stay _ _ _ c.requires.remembered.expansions }
 
-pub returns-in-Ok-clause-listed : goal.returns-in-Ok-clause-listed
-returns-in-Ok-clause-listed g c =
+pub returns-in_ok-of-in-Ok-clause-listed : goal.returns-in_ok-of-in-Ok-clause-listed
+returns-in_ok-of-in-Ok-clause-listed g c =
     let x = get-inside (g.S.Pairs.kept c.args.space.now) c.args.at c.requires.at in
-    (x.0, x.1, c.in-Ok.ensures.actions x.0 x.1, c.in-Ok.ensures.named)
+    subst (IsListed (g.S.Pairs.problem c.args.space.now) (g.S.Pairs.task c.args.space.now) (g.S.Pairs.kept c.args.space.now) c.args.at) (sym c.in_ok-of-in-Ok.ensures) (x.0, x.1, c.in-Ok.ensures.actions x.0 x.1, c.in-Ok.ensures.named)
 
-pub returns-in-Ok-clause-remembered : goal.returns-in-Ok-clause-remembered
-returns-in-Ok-clause-remembered g c = record { kept_rightly = c.requires.remembered.kept_rightly; expansions = c.in_ok-actions.ensures.stay _ _ _ c.requires.remembered.expansions }
+pub returns-in_ok-of-in-Ok-clause-remembered : goal.returns-in_ok-of-in-Ok-clause-remembered
+returns-in_ok-of-in-Ok-clause-remembered g c = record { kept_rightly = c.requires.remembered.kept_rightly; expansions = c.in_ok-actions.ensures.stay _ _ _ c.requires.remembered.expansions }
 
 pub returns-in-Err-RangeHere-clause-fault : goal.returns-in-Err-RangeHere-clause-fault
 returns-in-Err-RangeHere-clause-fault g c =
