@@ -32,7 +32,7 @@ use Rattle.tl_domain.specs.DomainFiles.{has_domain_shape, domain_items_breaks, d
 use Rattle.tl_rules.specs.OneForm.{second_form_breaks}
 use Rattle.tl_domain.specs.DomainTrees.{DefinitionTree, DomainTree, definition_tree, operator_tree, domain_tree}
 use Rattle.tl_domain.specs.Items.{item_breaks, signature_after, declared_with, declared_after, items_breaks}
-use Rattle.tl_domain.specs.LawsKeeps.{DomainIsKept, NamesAreThere}
+use Rattle.tl_domain.specs.LawsKeeps.{DomainIsKept}
 use Rattle.tl_domain.specs.MeaningOfItems.{predicates_of_item, functions_of_item, definitions_of_item, operators_of_item, with_item, with_item_form, with_items, empty_domain, domain_meant, domain_file_meant}
 use Rattle.tl_domain.specs.Words.{ItemWord, item_word}
 use Rattle.tl_domain.proofs.KeepsDeclarations.{IsLawful, is-lawful, HasNoVariables, names-only, predicates-keep, functions-keep, predicates-plain, functions-plain}
@@ -264,6 +264,3 @@ pub domain-is-kept : DomainIsKept
 domain-is-kept names forms d none has is =
     let after = file-stands names forms has none in
     tree-keeps names after.known d (subst (λ (t : DomainTree). Stands names after.known t) (sym is) after.stands)
-
-pub names-are-there : NamesAreThere
-names-are-there names forms more = (forms-have names forms, forms-keep _ _ forms (forms-grow (names_with_all names forms) more) (forms-have names forms))

@@ -15,8 +15,6 @@ pub mod KeepsDeclarations
 pub mod KeepsItems
 pub mod KeepsFiles
 pub mod DomainKept
-pub mod SettledItems
-pub mod SettledFiles
 pub mod NamesInOrder
 pub mod FilesStand
 pub mod ConstantEffects

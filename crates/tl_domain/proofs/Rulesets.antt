@@ -3,7 +3,6 @@ use Rattle.tl_sexpr.proofs.TreeOf.{tree-Sym, tree-Int, tree-List, trees-Forms}
 use Rattle.tl_syntax.proofs.FormulaTrees.{tree-True}
 use Rattle.tl_rules.proofs.Composed.{first-front, first-back, none-both, count-trees}
 use Rattle.tl_domain.proofs.DomainKept.{domain-kept}
-use Rattle.tl_domain.proofs.FilesStand.{domain-of-file}
 use Rattle.tl_domain.proofs.HeadParts.{head-name, head-variables, parameters-next, parameters-skip}
 use Rattle.tl_domain.proofs.LeastFault.{least-fault}
 
@@ -22,4 +21,4 @@ pub ruleset parameters = (parameters-next, parameters-skip, first-front, first-b
 pub ruleset items = (first-front, first-back, none-both, count-trees)
 
 -- files
-pub ruleset files = (tree-Sym, tree-Int, tree-List, trees-Forms, least-fault, domain-kept, domain-of-file)
+pub ruleset files = (tree-Sym, tree-Int, tree-List, trees-Forms, least-fault, domain-kept)

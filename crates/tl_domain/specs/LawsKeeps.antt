@@ -4,7 +4,6 @@ use Rattle.tl_sexpr.specs.Tree.{FormTrees}
 use Rattle.tl_syntax.specs.declared.domain.Domain.{Domain}
 use Rattle.tl_syntax.specs.Kept.{DomainKeeps}
 use Rattle.tl_rules.specs.Named.{HaveNames}
-use Rattle.tl_rules.specs.Symbols.{names_with_all}
 use Rattle.tl_domain.specs.DomainFiles.{domain_file_breaks}
 use Rattle.tl_domain.specs.DomainTrees.{domain_tree}
 use Rattle.tl_domain.specs.MeaningOfItems.{domain_file_meant}
@@ -15,10 +14,3 @@ DomainIsKept =
     (names : List (List ℕ)) (forms : FormTrees) (d : Domain)
     → domain_file_breaks forms ≡ [] → HaveNames names forms → domain_tree d ≡ domain_file_meant names forms
     → DomainKeeps (length names) d
-
--- the names with each symbol of forms have all their symbols, and still have them when the symbols of more forms are added
-abbrev pub NamesAreThere : Type 0
-NamesAreThere =
-    (names : List (List ℕ)) (forms more : FormTrees)
-    → HaveNames (names_with_all names forms) forms
-    × HaveNames (names_with_all (names_with_all names forms) more) forms

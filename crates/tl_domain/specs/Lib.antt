@@ -13,6 +13,5 @@ pub mod Files
 pub mod Examples
 pub mod LawsOrder
 pub mod LawsKeeps
-pub mod LawsSettled
 pub mod LawsFiles
 pub mod LawsNames

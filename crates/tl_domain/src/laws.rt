@@ -1,9 +1,8 @@
 // Laws of domain files, each the contract of a function that does nothing.
-ghost use Rattle.tl_domain.specs.LawsFiles.{FilesStandForOneProblem};
-ghost use Rattle.tl_domain.specs.LawsKeeps.{DomainIsKept, NamesAreThere};
+ghost use Rattle.tl_domain.specs.LawsFiles.{FilesStandForOneProblem, NamesAreTexts};
+ghost use Rattle.tl_domain.specs.LawsKeeps.{DomainIsKept};
 ghost use Rattle.tl_domain.specs.LawsNames.{LawfulNamesAreWritable};
 ghost use Rattle.tl_domain.specs.LawsOrder.{FirstBreakIsLeast};
-ghost use Rattle.tl_domain.specs.LawsSettled.{SettledFileMeans};
 
 /// Of the rules that the forms of a domain file break, the first in reading order is at the least offset, and no lesser
 /// rule is broken there.
@@ -17,14 +16,9 @@ pub fn domain_is_kept()
     ensures { DomainIsKept }
 {}
 
-/// With their symbols added to some names, forms have names for all their symbols, and keep them when the symbols of other forms are added.
-pub fn names_are_there()
-    ensures { NamesAreThere }
-{}
-
-/// Under settled names, the forms of a file that break no rule stand for the renumbered domain that they stood for before.
-pub fn settled_file_means()
-    ensures { SettledFileMeans }
+/// The names of two files are the texts of their symbols, each once, in the order of their bytes.
+pub fn names_are_texts()
+    ensures { NamesAreTexts }
 {}
 
 /// Two problems that the same two files stand for have the same names and the same domain, and say the same.

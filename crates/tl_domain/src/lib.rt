@@ -10,7 +10,7 @@
 //! - `draft`: a domain that is being read, item by item.
 //! - `item_shapes`, `item_parts`, `items`: items.
 //! - `domain_file`: the domain form, which is the one form of a file.
-//! - `read`: the domain of a file, whose symbols join the names.
+//! - `read`: the domain of a file, and whether it breaks a rule.
 //! - `problem`: the problem of both files.
 //! - `laws`: what is proved of the breaks of a file, and of the domain and the problem that files stand for.
 #![tactic(auto)]
@@ -32,8 +32,8 @@ mod read;
 
 pub use laws::{
     domain_is_kept, files_stand_for_one_problem, first_break_is_least, lawful_names_are_writable,
-    names_are_there, settled_file_means,
+    names_are_texts,
 };
 pub use problem::problem_of;
-pub use read::domain_of;
+pub use read::{check_domain, domain_of};
 pub use tl_rules::{FormFault, Rule};

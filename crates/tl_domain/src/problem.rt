@@ -1,32 +1,67 @@
 // The problem that a domain file and a problem file stand for.
-ghost use Rattle.std.specs.Prelude.{IfOk, IfErr};
+ghost use Rattle.std.specs.Prelude.{◌≡◌, ◌+◌, ◌<◌, ◌^◌, [], IfOk, IfErr};
 ghost use Rattle.tl_sexpr.specs.Offsets.{AreAsRead};
 ghost use Rattle.tl_sexpr.specs.Tree.{trees_of};
-ghost use Rattle.tl_problem.specs.Problems.{CanFollow};
-ghost use Rattle.tl_domain.specs.Files.{CompleteToProblem, IsFirstAfterDomain, IsLeastAfterDomain};
+ghost use Rattle.tl_rules.specs.Reads.{IsFirst, IsLeastFault};
+ghost use Rattle.tl_domain.specs.DomainFiles.{domain_file_breaks};
+ghost use Rattle.tl_domain.specs.Files.{AreFilesOf, HaveRoomTogether, IsRead, names_of, problem_breaks};
 
+use crate::read::domain_of;
 use std::alloc::Global;
-use tl_rules::FormFault;
+use tl_rules::{FormFault, add_forms};
 use tl_sexpr::Forms;
-use tl_syntax::{Domain, Names, Problem};
+use tl_syntax::{Domain, Names, NoMemory, Problem};
 
-/// The problem that a domain file and the forms of a problem file stand for, given what `domain_of` answered for the
-/// first, from no names on.
-///
-/// All symbols of the second file join the names, and then every name gets the number of its place in the order of their
-/// bytes. Where a form breaks a rule, the fault is the one with the least offset and there the least rule. A refused call
-/// drops the domain and the names.
-pub fn problem_of(
-    alloc: Global,
-    forms: &Forms,
-    domain: Domain,
-    names: Names,
-) -> Result<Problem, FormFault>
-    requires { CanFollow names domain (trees_of forms.now) }
-    ensures problem { IfOk result (CompleteToProblem names domain (trees_of forms.now)) }
-    ensures fault { IfErr result (IsFirstAfterDomain names domain (trees_of forms.now)) }
-    ensures least { AreAsRead (trees_of forms.now)
-        → IfErr result (IsLeastAfterDomain names domain (trees_of forms.now)) }
+/// The names of all symbols of both files, in the order of their bytes.
+fn names_in(alloc: Global, first: &Forms, second: &Forms) -> Result<Names, NoMemory>
+    requires room { HaveRoomTogether (trees_of first.now) (trees_of second.now) }
+    ensures names { IfOk result
+        (λ names. names ≡ names_of (trees_of first.now) (trees_of second.now)) }
 {
-    tl_problem::problem_of(alloc, forms, domain, names)
+    let mut names = Names::new(alloc);
+    add_forms(first.as_slice(), &mut names)?;
+    add_forms(second.as_slice(), &mut names)?;
+    let (names, numbers) = names.settled(alloc)?;
+    drop(numbers);
+    Ok(names)
+}
+
+/// The names of both files, and the domain of the first, which breaks no rule. It fails for want of memory alone.
+fn names_and_domain(
+    alloc: Global,
+    first: &Forms,
+    second: &Forms,
+) -> Result<(Names, Domain), NoMemory>
+    requires lawful { domain_file_breaks (trees_of first.now) ≡ [] }
+    requires room { HaveRoomTogether (trees_of first.now) (trees_of second.now) }
+    ensures read { IfOk result (IsRead (trees_of first.now) (trees_of second.now)) }
+{
+    let names = names_in(alloc, first, second)?;
+    match domain_of(alloc, &names, first) {
+        Ok(domain) => Ok((names, domain)),
+        Err(_) => {
+            drop(names);
+            Err(NoMemory)
+        }
+    }
+}
+
+/// The problem that the forms of a domain file and those of a problem file stand for, where the first break no rule.
+///
+/// The names are the texts of all symbols of both files, numbered by the order of their bytes, and all trees are made with
+/// these numbers. Where a form of the second file breaks a rule, the fault is the one with the least offset and there the
+/// least rule. The forms of the domain file are dropped as soon as they are read.
+pub fn problem_of(alloc: Global, first: Forms, second: &Forms) -> Result<Problem, FormFault>
+    requires lawful { domain_file_breaks (trees_of first) ≡ [] }
+    requires room { HaveRoomTogether (trees_of first) (trees_of second.now) }
+    ensures problem { IfOk result (AreFilesOf (trees_of first) (trees_of second.now)) }
+    ensures fault { IfErr result (IsFirst
+        (problem_breaks (trees_of first) (trees_of second.now))) }
+    ensures least { AreAsRead (trees_of second.now)
+        → IfErr result (IsLeastFault (problem_breaks (trees_of first) (trees_of second.now))) }
+{
+    let read = names_and_domain(alloc, &first, second);
+    drop(first);
+    let (names, domain) = read?;
+    tl_problem::problem_of(alloc, names, domain, second)
 }

@@ -6,9 +6,5 @@ pub mod PlaceLookups
 pub mod FileOrder
 pub mod Consistent
 pub mod Kept
-pub mod MoreNames
-pub mod SettledProblems
 pub mod ReadProblems
-pub mod SettledFacts
-pub mod SettledMeaning
 pub mod GoByDeclarations

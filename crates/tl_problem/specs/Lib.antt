@@ -10,11 +10,8 @@ pub mod Readers
 pub mod LawsOrder
 pub mod Keeps
 pub mod LawsKeeps
-pub mod LawsNames
 pub mod Examples
 pub mod Problems
-pub mod SettledLists
 pub mod Sections
-pub mod SettledSections
-pub mod LawsSettled
+pub mod SectionLists
 pub mod LawsDeclarations

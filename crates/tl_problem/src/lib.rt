@@ -5,7 +5,7 @@
 //! - `fact_set`, `place_map`, `literals`: what elements say together; facts and places are looked up by their hashes.
 //! - `elements`: the elements of `init` and of `goal`.
 //! - `sections`: the two of them, the problem form and the file.
-//! - `settled`: the problem with its names in the order of their bytes.
+//! - `section_lists`: what the two of them say, as lists.
 //! - `problem`: `problem_of`, the one call.
 //! - `laws`: what is proved of the definitions.
 #![tactic(auto)]
@@ -18,8 +18,8 @@ pub mod laws;
 mod literals;
 mod place_map;
 mod problem;
+mod section_lists;
 mod sections;
-mod settled;
 mod values;
 
 pub use elements::Section;

@@ -25,7 +25,7 @@ plan_last before after forms h = absurd h
 plan_fits : (d p q : List ℕ) (h : Held) (x : Input) → IsPlan x → IsHeld h x → FitsCommand (check d p q) h
 plan_fits d p q (held.Plan problem plan) x is h = refl
 plan_fits d p q held.Nothing (a_plan problem plan) is h = absurd h
-plan_fits d p q (held.Domain names domain) (a_plan problem plan) is h = absurd h
+plan_fits d p q (held.Domain forms) (a_plan problem plan) is h = absurd h
 plan_fits d p q (held.Problem other) (a_plan problem plan) is h = absurd h
 plan_fits d p q (held.Proof other proof) (a_plan problem plan) is h = absurd h
 plan_fits d p q (held.Costs other costs) (a_plan problem plan) is h = absurd h
@@ -43,7 +43,7 @@ proof_last before after forms h = absurd h
 proof_fits : (d p q : List ℕ) (h : Held) (x : Input) → IsProof x → IsHeld h x → FitsCommand (check_none d p q) h
 proof_fits d p q (held.Proof problem proof) x is h = refl
 proof_fits d p q held.Nothing (a_proof problem proof) is h = absurd h
-proof_fits d p q (held.Domain names domain) (a_proof problem proof) is h = absurd h
+proof_fits d p q (held.Domain forms) (a_proof problem proof) is h = absurd h
 proof_fits d p q (held.Problem other) (a_proof problem proof) is h = absurd h
 proof_fits d p q (held.Plan other plan) (a_proof problem proof) is h = absurd h
 proof_fits d p q (held.Costs other costs) (a_proof problem proof) is h = absurd h
@@ -64,7 +64,7 @@ problem_last before after forms h = absurd h
 problem_fits : (s : Search) (d p : List ℕ) (h : Held) (x : Input) → IsProblem x → IsHeld h x → FitsCommand (search s d p) h
 problem_fits s d p (held.Problem problem) x is h = refl
 problem_fits s d p held.Nothing (a_problem problem) is h = absurd h
-problem_fits s d p (held.Domain names domain) (a_problem problem) is h = absurd h
+problem_fits s d p (held.Domain forms) (a_problem problem) is h = absurd h
 problem_fits s d p (held.Plan other plan) (a_problem problem) is h = absurd h
 problem_fits s d p (held.Proof other proof) (a_problem problem) is h = absurd h
 problem_fits s d p (held.Costs other costs) (a_problem problem) is h = absurd h
@@ -89,7 +89,7 @@ costs_last before after forms h = absurd h
 costs_fit : (b : ℕ) (d p k : List ℕ) (h : Held) (x : Input) → AreCosts x → IsHeld h x → FitsCommand (cheapest b d p k) h
 costs_fit b d p k (held.Costs problem costs) x is h = refl
 costs_fit b d p k held.Nothing (some_costs problem costs) is h = absurd h
-costs_fit b d p k (held.Domain names domain) (some_costs problem costs) is h = absurd h
+costs_fit b d p k (held.Domain forms) (some_costs problem costs) is h = absurd h
 costs_fit b d p k (held.Problem other) (some_costs problem costs) is h = absurd h
 costs_fit b d p k (held.Plan other plan) (some_costs problem costs) is h = absurd h
 costs_fit b d p k (held.Proof other proof) (some_costs problem costs) is h = absurd h
@@ -115,7 +115,7 @@ loop_last before after forms h = absurd h
 loop_fits : (d p q : List ℕ) (h : Held) (x : Input) → IsLoop x → IsHeld h x → FitsCommand (check_loop d p q) h
 loop_fits d p q (held.Loop problem plan) x is h = refl
 loop_fits d p q held.Nothing (a_loop problem plan) is h = absurd h
-loop_fits d p q (held.Domain names domain) (a_loop problem plan) is h = absurd h
+loop_fits d p q (held.Domain forms) (a_loop problem plan) is h = absurd h
 loop_fits d p q (held.Problem other) (a_loop problem plan) is h = absurd h
 loop_fits d p q (held.Plan other actions) (a_loop problem plan) is h = absurd h
 loop_fits d p q (held.Proof other proof) (a_loop problem plan) is h = absurd h

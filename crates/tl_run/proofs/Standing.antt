@@ -3,18 +3,15 @@ use Rattle.std.proofs.Common.{◌≡◌, ◌⊎◌, inl, inr, ℕ, ◌≤◌, Li
 use Rattle.std.specs.Prelude.{Option, Result, Ok, Err, IfErr}
 use Rattle.std.specs.Result.{IsErrAnd, IsErrOf}
 use Rattle.tl_sexpr.specs.Faults.{IsFaultOf}
-use Rattle.tl_sexpr.specs.Spelling.{symbols_in_all}
-use Rattle.tl_sexpr.specs.Tree.{FormTrees}
+use Rattle.tl_sexpr.specs.Tree.{FormTrees, trees_of}
 use Rattle.tl_sexpr.specs.declared.fault.TextFault.{TextFault}
 use Rattle.tl_sexpr.specs.declared.fault.TextFault.TheVariants as text
-use Rattle.tl_syntax.specs.declared.domain.Domain.{Domain}
+use Rattle.tl_sexpr.specs.declared.form.Forms.{Forms}
 use Rattle.tl_syntax.specs.declared.problem.Problem.{Problem}
 use Rattle.tl_rules.specs.declared.rule.FormFault.{FormFault}
 use Rattle.tl_rules.specs.declared.rule.FormFault.TheVariants as form
 use Rattle.tl_rules.specs.Reads.{IsLeastFault}
 use Rattle.tl_rules.specs.Rules.{Break}
-use Rattle.tl_rules.proofs.NamesWith.{length-names_with_all}
-use Rattle.tl_domain.specs.Files.{IsDomainOf}
 use Rattle.tl_outside.specs.Calls.{has_failed}
 use Rattle.tl_outside.specs.Causes.{Rose}
 use Rattle.tl_outside.specs.Told.{Files, IsContent, IsLonger, Lacks}
@@ -65,22 +62,18 @@ pub nothing_held : (P : Input → Type 0) (x : Input) → IsHeld held.Nothing x 
 nothing_held P nothing h p = p
 nothing_held P x h p = absurd h
 
-pub domain_held : (P : Input → Type 0) (names : List (List ℕ)) (d : Domain) (x : Input) → IsHeld (held.Domain names d) x → ((first : FormTrees) → IsDomainOf first names d → P (a_domain first)) → P x
-domain_held P names d (a_domain first) h p = p first h
-domain_held P names d x h p = absurd h
+pub domain_held : (P : Input → Type 0) (forms : Forms) (x : Input) → IsHeld (held.Domain forms) x → P (a_domain (trees_of forms)) → P x
+domain_held P forms (a_domain first) h p = subst (λ (fs : FormTrees). P (a_domain fs)) (sym h) p
+domain_held P forms x h p = absurd h
 
 pub problem_held : (P : Input → Type 0) (q : Problem) (x : Input) → IsHeld (held.Problem q) x → P (a_problem q) → P x
 problem_held P q (a_problem p) h k = subst (λ (u : Problem). P (a_problem u)) (sym h) k
 problem_held P q x h k = absurd h
 
--- the names of a domain file are not too many
-pub few_names : (first : FormTrees) (names : List (List ℕ)) (d : Domain) → IsDomainOf first names d → symbols_in_all first ≤ 4194304 → length names ≤ 4194304
-few_names first names d is few = rw is.named (omega (arith, length-names_with_all [] first, few))
-
 -- before the first file nothing is held
 pub nothing_before : (P : Input → Type 0) (h : Held) (x : Input) → None ≡ last_role h → IsHeld h x → P nothing → P x
 nothing_before P held.Nothing x e is p = nothing_held P x is p
-nothing_before P (held.Domain names d) x e is p = absurd (let k : ⊥ = cc in k)
+nothing_before P (held.Domain forms) x e is p = absurd (let k : ⊥ = cc in k)
 nothing_before P (held.Problem q) x e is p = absurd (let k : ⊥ = cc in k)
 nothing_before P (held.Plan q plan) x e is p = absurd (let k : ⊥ = cc in k)
 nothing_before P (held.Proof q proof) x e is p = absurd (let k : ⊥ = cc in k)

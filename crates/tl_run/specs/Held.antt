@@ -1,7 +1,7 @@
 -- What the program holds of the files that it has read.
 use Rattle.std.specs.Prelude.{◌≡◌, ℕ, ◌+◌, ◌<◌, ◌≤◌, List, [], ◌∷◌, length, Option, Some, None, ⊤}
-use Rattle.tl_sexpr.specs.Tree.{FormTrees}
-use Rattle.tl_syntax.specs.Kept.{DomainKeeps}
+use Rattle.tl_sexpr.specs.Spelling.{symbols_in_all}
+use Rattle.tl_sexpr.specs.Tree.{FormTrees, trees_of}
 use Rattle.tl_syntax.specs.Lists.{Each}
 use Rattle.tl_syntax.specs.declared.operator.Operator.{Operator}
 use Rattle.tl_line.specs.NamedActions.{ActionIsNamed}
@@ -9,7 +9,7 @@ use Rattle.tl_run.specs.declared.turn.Input.{Input}
 use Rattle.tl_run.specs.declared.turn.Input.TheVariants.{Nothing, Domain, Problem, Plan, Proof, Costs, Loop}
 use Rattle.tl_run.specs.declared.words.Role.{Role}
 use Rattle.tl_run.specs.declared.words.Role.TheVariants as role
-use Rattle.tl_domain.specs.Files.{IsDomainOf}
+use Rattle.tl_domain.specs.DomainFiles.{domain_file_breaks}
 use Rattle.tl_outside.specs.Told.{Files, IsContent}
 use Rattle.tl_cert.specs.ProofTexts.{LinksAreNamed}
 use Rattle.tl_lasso.specs.declared.plan.LoopPlan.{LoopPlan}
@@ -19,7 +19,7 @@ use Rattle.tl_run.specs.Inputs as inputs
 -- what is held is this, as the definitions have it
 abbrev pub IsHeld : Input → inputs.Input → Type 0
 IsHeld Nothing nothing = ⊤
-IsHeld (Domain names domain) (a_domain forms) = IsDomainOf forms names domain
+IsHeld (Domain forms) (a_domain first) = first ≡ trees_of forms
 IsHeld (Problem p) (a_problem q) = q ≡ p
 IsHeld (Plan p plan) (a_plan q actions) = (q ≡ p) × (actions ≡ plan)
 IsHeld (Proof p proof) (a_proof q other) = (q ≡ p) × (other ≡ proof)
@@ -37,7 +37,7 @@ pub record KeepsParts (names : List (List ℕ)) (operators : List Operator) (pla
 -- what more is known of what is held
 abbrev pub KeepsBounds : Input → Type 0
 KeepsBounds Nothing = ⊤
-KeepsBounds (Domain names domain) = DomainKeeps (length names) domain × (length names ≤ 4194304)
+KeepsBounds (Domain forms) = (domain_file_breaks (trees_of forms) ≡ []) × (symbols_in_all (trees_of forms) ≤ 4194304)
 KeepsBounds (Problem p) = ⊤
 KeepsBounds (Plan p plan) = (length plan ≤ 100000) × Each (ActionIsNamed p.names p.domain.operators) plan
 KeepsBounds (Proof p proof) = (length proof.links ≤ 100000) × LinksAreNamed p.names p.domain.operators proof.links
@@ -56,7 +56,7 @@ role_before role.Loop = Some role.Problem
 -- the role of the file that was read last
 abbrev pub last_role : Input → Option Role
 last_role Nothing = None
-last_role (Domain names domain) = Some role.Domain
+last_role (Domain forms) = Some role.Domain
 last_role (Problem p) = Some role.Problem
 last_role (Plan p plan) = Some role.Plan
 last_role (Proof p proof) = Some role.Proof

@@ -3,8 +3,7 @@ ghost use Rattle.std.specs.Prelude.{◌≡◌, ◌+◌, ◌≤◌, [], length, S
 ghost use Rattle.tl_outside.specs.Calls.{ReadsBy};
 ghost use Rattle.tl_sexpr.specs.Offsets.{AreAsRead};
 ghost use Rattle.tl_sexpr.specs.Spelling.{Spells, symbols_in_all};
-ghost use Rattle.tl_sexpr.specs.Tree.{FormTrees, trees_of};
-ghost use Rattle.tl_syntax.specs.Kept.{DomainKeeps};
+ghost use Rattle.tl_sexpr.specs.Tree.{trees_of};
 ghost use Rattle.tl_syntax.specs.Lists.{Each};
 ghost use Rattle.tl_line.specs.NamedActions.{ActionIsNamed};
 ghost use Rattle.tl_cert.specs.MeaningOfProofs.{proof_meant};
@@ -13,7 +12,7 @@ ghost use Rattle.tl_cost.specs.CostFiles.{costs_meant};
 ghost use Rattle.tl_lasso.specs.MeaningOfLoops.{loop_meant};
 ghost use Rattle.tl_text.specs.MeaningOfPlans.{plan_meant};
 ghost use Rattle.tl_run.specs.declared.words.Role.TheVariants as role;
-ghost use Rattle.tl_domain.specs.Files.{IsDomainOf};
+ghost use Rattle.tl_domain.specs.DomainFiles.{domain_file_breaks};
 ghost use Rattle.tl_run.specs.Held.{HoldsFile, HoldsForms, IsHeld, KeepsBounds, KeepsParts, last_role, role_before};
 ghost use Rattle.tl_run.specs.Inputs.{nothing, a_domain, a_problem, breaks_of, IsBroken, StandsFor};
 ghost use Rattle.tl_run.specs.Inputs as inputs;
@@ -25,19 +24,19 @@ use std::alloc::Global;
 use std::mem;
 use tl_cert::{Proof, proof_of};
 use tl_cost::{Costs, costs_of};
-use tl_domain::{domain_of, problem_of};
+use tl_domain::{check_domain, problem_of};
 use tl_lasso::{LoopPlan, loop_of};
 use tl_outside::{Store, read_whole};
 use tl_sexpr::{Forms, offsets_rise, read_forms};
-use tl_syntax::{Actions, Domain, Names, Problem};
+use tl_syntax::{Actions, Problem};
 use tl_text::plan_of;
 
 /// What the files of a command that were read so far stand for.
 pub(crate) enum Input {
     /// No file was read.
     Nothing,
-    /// A domain, and the names in it.
-    Domain(Names, Domain),
+    /// The forms of a domain file, which break no rule.
+    Domain(Forms),
     /// A problem.
     Problem(Problem),
     /// A problem with a plan.
@@ -55,10 +54,7 @@ impl Drop for Input {
     fn drop(self) {
         match self {
             Input::Nothing => {}
-            Input::Domain(names, domain) => {
-                drop(domain);
-                drop(names);
-            }
+            Input::Domain(forms) => drop(forms),
             Input::Problem(problem) => drop(problem),
             Input::Plan(problem, actions) => {
                 drop(problem);
@@ -81,13 +77,13 @@ impl Drop for Input {
 }
 
 impl Input {
-    /// The domain that was read last, and the names in it.
-    fn into_domain(self) -> (Names, Domain)
+    /// The forms of the domain file that was read last.
+    fn into_domain(self) -> Forms
         requires { last_role self ≡ Some role.Domain }
-        ensures { self ≡ Input.Domain result.0 result.1 }
+        ensures { self ≡ Input.Domain result }
     {
         match self {
-            Input::Domain(names, domain) => (names, domain),
+            Input::Domain(forms) => forms,
             _ => unreachable!(),
         }
     }
@@ -166,42 +162,36 @@ fn forms_of(alloc: Global, number: u8, bytes: &[u8]) -> Result<Forms, Stop>
     }
 }
 
-/// The domain of the forms of a file, whose texts become names.
-fn domain_in(alloc: Global, number: u8, forms: &Forms) -> Result<Input, Stop>
-    requires as_read { AreAsRead (trees_of forms.now) }
-    requires few { symbols_in_all (trees_of forms.now) ≤ 4194304 }
-    ensures held { IfOk result (HoldsForms role.Domain nothing (trees_of forms.now)) }
+/// The forms of a domain file, which are read once those of a problem file are there.
+fn domain_in(alloc: Global, number: u8, forms: Forms) -> Result<Input, Stop>
+    requires as_read { AreAsRead (trees_of forms) }
+    requires few { symbols_in_all (trees_of forms) ≤ 4194304 }
+    ensures held { IfOk result (HoldsForms role.Domain nothing (trees_of forms)) }
     ensures keeps { IfOk result KeepsBounds }
     ensures last { IfOk result (λ held. last_role held ≡ Some role.Domain) }
-    ensures stop { IfErr result (IsFormsStop number (breaks_of role.Domain nothing (trees_of forms.now))) }
+    ensures stop { IfErr result (IsFormsStop number (breaks_of role.Domain nothing (trees_of forms))) }
 {
-    let mut names = Names::new(alloc);
-    match domain_of(alloc, forms, &mut names) {
-        Ok(domain) => Ok(Input::Domain(names, domain)),
-        Err(fault) => Err(Stop::of_forms(number, fault)),
+    match check_domain(alloc, &forms) {
+        Ok(()) => Ok(Input::Domain(forms)),
+        Err(fault) => {
+            drop(forms);
+            Err(Stop::of_forms(number, fault))
+        }
     }
 }
 
-/// The problem of the forms of a file, after a domain file of these names and this domain.
-fn problem_in(
-    alloc: Global,
-    number: u8,
-    forms: &Forms,
-    names: Names,
-    domain: Domain,
-) -> Result<Input, Stop>
+/// The problem of the forms of a file, after a domain file of these forms.
+fn problem_in(alloc: Global, number: u8, first: Forms, forms: &Forms) -> Result<Input, Stop>
     requires as_read { AreAsRead (trees_of forms.now) }
     requires few { symbols_in_all (trees_of forms.now) ≤ 4194304 }
-    requires names { length names ≤ 4194304 }
-    requires keeps { DomainKeeps (length names) domain }
-    ensures held { (first : FormTrees) → IsDomainOf first names domain
-        → IfOk result (HoldsForms role.Problem (a_domain first) (trees_of forms.now)) }
+    requires lawful { domain_file_breaks (trees_of first) ≡ [] }
+    requires few_first { symbols_in_all (trees_of first) ≤ 4194304 }
+    ensures held { IfOk result (HoldsForms role.Problem (a_domain (trees_of first)) (trees_of forms.now)) }
     ensures keeps { IfOk result KeepsBounds }
     ensures last { IfOk result (λ held. last_role held ≡ Some role.Problem) }
-    ensures stop { (first : FormTrees) → IsDomainOf first names domain
-        → IfErr result (IsFormsStop number (breaks_of role.Problem (a_domain first) (trees_of forms.now))) }
+    ensures stop { IfErr result (IsFormsStop number (breaks_of role.Problem (a_domain (trees_of first)) (trees_of forms.now))) }
 {
-    match problem_of(alloc, forms, domain, names) {
+    match problem_of(alloc, first, forms) {
         Ok(problem) => Ok(Input::Problem(problem)),
         Err(fault) => Err(Stop::of_forms(number, fault)),
     }
@@ -337,29 +327,26 @@ fn forms_in(
     alloc: Global,
     number: u8,
     role: Role,
-    forms: &Forms,
+    forms: Forms,
     before: Input,
 ) -> Result<Input, Stop>
-    requires as_read { AreAsRead (trees_of forms.now) }
-    requires few { symbols_in_all (trees_of forms.now) ≤ 4194304 }
+    requires as_read { AreAsRead (trees_of forms) }
+    requires few { symbols_in_all (trees_of forms) ≤ 4194304 }
     requires keeps { KeepsBounds before }
     requires in_order { role_before role ≡ last_role before }
-    ensures held { (x : inputs.Input) → IsHeld before x → IfOk result (HoldsForms role x (trees_of forms.now)) }
+    ensures held { (x : inputs.Input) → IsHeld before x → IfOk result (HoldsForms role x (trees_of forms)) }
     ensures keeps { IfOk result KeepsBounds }
     ensures last { IfOk result (λ held. last_role held ≡ Some role) }
     ensures stop { (x : inputs.Input) → IsHeld before x
-        → IfErr result (IsFormsStop number (breaks_of role x (trees_of forms.now))) }
+        → IfErr result (IsFormsStop number (breaks_of role x (trees_of forms))) }
 {
     match role {
         Role::Domain => domain_in(alloc, number, forms),
-        Role::Problem => {
-            let (names, domain) = before.into_domain();
-            problem_in(alloc, number, forms, names, domain)
-        }
-        Role::Plan => plan_in(alloc, number, forms, before.into_problem()),
-        Role::Proof => proof_in(alloc, number, forms, before.into_problem()),
-        Role::Costs => costs_in(alloc, number, forms, before.into_problem()),
-        Role::Loop => loop_in(alloc, number, forms, before.into_problem()),
+        Role::Problem => problem_in(alloc, number, before.into_domain(), &forms),
+        Role::Plan => plan_in(alloc, number, &forms, before.into_problem()),
+        Role::Proof => proof_in(alloc, number, &forms, before.into_problem()),
+        Role::Costs => costs_in(alloc, number, &forms, before.into_problem()),
+        Role::Loop => loop_in(alloc, number, &forms, before.into_problem()),
     }
 }
 
@@ -368,19 +355,19 @@ fn add_forms(
     alloc: Global,
     number: u8,
     role: Role,
-    forms: &Forms,
+    forms: Forms,
     input: &mut Input,
 ) -> Result<(), Stop>
-    requires as_read { AreAsRead (trees_of forms.now) }
-    requires few { symbols_in_all (trees_of forms.now) ≤ 4194304 }
+    requires as_read { AreAsRead (trees_of forms) }
+    requires few { symbols_in_all (trees_of forms) ≤ 4194304 }
     requires keeps { KeepsBounds input.old }
     requires in_order { role_before role ≡ last_role input.old }
     ensures held { (x : inputs.Input) → IsHeld input.old x
-        → OnOk result (HoldsForms role x (trees_of forms.now) input.new) }
+        → OnOk result (HoldsForms role x (trees_of forms) input.new) }
     ensures keeps { OnOk result (KeepsBounds input.new) }
     ensures last { OnOk result (last_role input.new ≡ Some role) }
     ensures stop { (x : inputs.Input) → IsHeld input.old x
-        → IfErr result (IsFormsStop number (breaks_of role x (trees_of forms.now))) }
+        → IfErr result (IsFormsStop number (breaks_of role x (trees_of forms))) }
 {
     let before = mem::replace(input, Input::Nothing);
     *input = forms_in(alloc, number, role, forms, before)?;
@@ -406,7 +393,7 @@ pub(crate) fn add_bytes(
         → IfErr result (IsFileStop number (IsBroken role x bytes.now)) }
 {
     let forms = forms_of(alloc, number, bytes)?;
-    add_forms(alloc, number, role, &forms, input)
+    add_forms(alloc, number, role, forms, input)
 }
 
 /// Adds what the command's file of this number stands for to what was read before. It is begun, and read to its end.
