@@ -1,1 +1,2 @@
 pub mod FirstOperator
+pub mod FormTrees

@@ -23,6 +23,7 @@ pub(crate) fn forms_of(alloc: Global, text: &str) -> Result<Forms, Stop>
 }
 
 /// The domain of a text, whose symbols join the names.
+#[tactic(auto, using(crate::proofs::FormTrees::form_trees))]
 fn domain_in(alloc: Global, names: &mut Names, text: &str) -> Result<Domain, Stop>
     requires few { length names.old ≤ 4194304 }
 {
