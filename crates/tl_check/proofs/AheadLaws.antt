@@ -14,7 +14,7 @@ use Rattle.tl_terms.specs.Acceptance.{all_but_last, run_of}
 use Rattle.tl_terms.specs.Bounds.{tuples}
 use Rattle.tl_terms.specs.Definitions.{situation_of}
 use Rattle.tl_terms.specs.Problem.{PlainProblem}
-use Rattle.tl_terms.specs.Run.{Situations, Holds, HoldAll, HoldsOne, Run, state_at, situations_of, Satisfies, Begins}
+use Rattle.tl_terms.specs.Run.{Situations, Holds, HoldAll, HoldsOne, Run, state_at, situations_of, Satisfies, SatisfiesAlong, Begins}
 use Rattle.tl_terms.specs.Situation.{Situation}
 use Rattle.tl_terms.specs.Truth.{state_true, all_true, one_true}
 use Rattle.tl_terms.specs.World.{World}
@@ -226,13 +226,14 @@ loop-stays q e i (suc d) h =
     ap (state_at q) (let l = ap length e in let m : i + suc d ≡ i + d + suc (length q.rest) = omega arith in m)
     ∙ (state-again q (i + d) (omega arith) ∙ loop-stays q e i d h)
 
-follow-run : (p : PlainProblem) (q : Run) (i : ℕ) (w : World) (ws : List World) → q.rest ≡ [] → length q.stem ≤ i + length ws → Begins q i (w ∷ ws) → Follow p (situations_of p q) i (w ∷ ws)
+follow-run : (p : PlainProblem) (q : Run) (i : ℕ) (w : World) (ws : List World) → q.rest ≡ [] → length q.stem ≤ i + length ws
+    → Begins (state_at q) i (w ∷ ws) → Follow p (situations_of p q) i (w ∷ ws)
 follow-run p q i w [] e h b = λ j l. ap (situation_of p) (ap (state_at q) (let m : j ≡ i + (j - i) = omega arith in m) ∙ (loop-stays q e i (j - i) (omega arith) ∙ b.0))
 follow-run p q i w (v ∷ ws) e h b = (ap (situation_of p) b.0, follow-run p q (suc i) v ws e (omega arith) b.1)
 
 -- a formula holds at the start of a plan's run exactly where it is true ahead
 pub satisfies-ahead : (p : PlainProblem) (w : World) (ws : List World) (f : FormulaTree) → Satisfies p (run_of w ws) 0 f ↔ (true_ahead p no_values f (w ∷ ws) ≡ true)
-unfolding Satisfies
+unfolding SatisfiesAlong
 satisfies-ahead p w ws f =
     holds-ahead p (situations_of p (run_of w ws)) no_values f 0 (w ∷ ws)
     (follow-run p (run_of w ws) 0 w ws refl (let n = length-stem w ws in omega arith) (begins-run_of w ws))

@@ -8,7 +8,7 @@ use Rattle.tl_terms.specs.Acceptance.{IsAccepted}
 use Rattle.tl_terms.specs.Pairs.{Pair, pair_of, IsOpen, IsPairAccepted}
 use Rattle.tl_terms.specs.Paths.{IsDistance, IsSimple, IsLeading}
 use Rattle.tl_terms.specs.Problem.{PlainProblem}
-use Rattle.tl_terms.specs.Run.{Holds, Satisfies, idle_run}
+use Rattle.tl_terms.specs.Run.{Holds, Satisfies, SatisfiesAlong, idle_run}
 use Rattle.tl_terms.specs.Simplification.{is_falsum}
 use Rattle.tl_terms.specs.Step.{step}
 use Rattle.tl_terms.specs.World.{World}
@@ -63,7 +63,7 @@ module _ (p : PlainProblem) where
     open-front front rest o = prefix-open p front rest o
 
     never : (x : Pair) → IsPairAccepted p x → x.formula ≢ falsum
-    unfolding Satisfies Holds
+    unfolding SatisfiesAlong Holds
     never x a e = subst (λ f. Satisfies p (idle_run x.world) 0 f) e a.idles
 
     -- an accepted plan is open
@@ -138,7 +138,7 @@ pub none-open : (p : PlainProblem) → (first_pair p).formula ≡ falsum → (pa
 none-open p f path o = o.unpruned [] path (first_pair p) refl (pair-first p) f
 
 pub accepted-not-false : (p : PlainProblem) (x : Pair) → IsPairAccepted p x → x.formula ≢ falsum
-unfolding Satisfies Holds
+unfolding SatisfiesAlong Holds
 accepted-not-false p x a e = subst (λ f. Satisfies p (idle_run x.world) 0 f) e a.idles
 
 pub none-accepted : (p : PlainProblem) → (first_pair p).formula ≡ falsum → (plan : List Action) → IsAccepted p plan → ⊥

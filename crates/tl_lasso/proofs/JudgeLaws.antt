@@ -22,14 +22,14 @@ use Rattle.tl_syntax.specs.Trees.{FormulaTree}
 use Rattle.tl_terms.specs.Acceptance.{states, meets_goal}
 use Rattle.tl_terms.specs.Looked.{looked_after}
 use Rattle.tl_terms.specs.Problem.{PlainProblem}
-use Rattle.tl_terms.specs.Run.{Holds, Satisfies}
+use Rattle.tl_terms.specs.Run.{Holds, Satisfies, SatisfiesAlong}
 use Rattle.tl_terms.specs.World.{World}
 
 -- ---- the label of the control formula
 
 -- the first label tells whether the control formula holds
 pub obeys-told : (p : PlainProblem) (n : ℕ) (ws : List World) (d : Assignment) (f : FormulaTree) (bs : List Bool) (b : Bool) → 0 < length ws → d ≡ no_values → f ≡ p.control → TellsHolding p n ws d f bs → b ≡ get_or bs 0 false → Obeys p n ws (Ok b)
-unfolding Satisfies
+unfolding SatisfiesAlong
 obeys-told p n ws d f bs b some nothing control t q =
     let at = t.tells 0 some in
     let whole : Holds (situations_round p n ws) d f 0 ≡ Holds (situations_round p n ws) no_values p.control 0 = ap₂ (λ (x : Assignment) (g : FormulaTree). Holds (situations_round p n ws) x g 0) nothing control in

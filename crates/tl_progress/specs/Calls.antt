@@ -28,7 +28,7 @@ use Rattle.tl_terms.specs.NamedWorlds.{WorldIsNamed}
 use Rattle.tl_terms.specs.Operations.{Operation}
 use Rattle.tl_terms.specs.ProblemMeaning.{plain_problem}
 use Rattle.tl_terms.specs.Progression.{constant, progressed}
-use Rattle.tl_terms.specs.Run.{Run, Satisfies, idle_run, state_at}
+use Rattle.tl_terms.specs.Run.{Run, Worlds, Satisfies, SatisfiesAlong, idle_run, state_at}
 use Rattle.tl_terms.specs.Truth.{state_true}
 use Rattle.tl_terms.specs.World.{World}
 use Rattle.tl_world.specs.declared.task.Task.{Task}
@@ -133,9 +133,13 @@ progressed_at task w nodes i = progressed (situation_of (plain_problem task.prob
 abbrev pub looked_by_progressing_at : Task → World → Nodes → ℕ → List Operation
 looked_by_progressing_at task w nodes i = looked_by_progressing (plain_problem task.problem) w (tree_at (trees nodes) i)
 
--- on each run the one number's tree holds at the world just where the other's holds at the position after it
-abbrev pub IsProgression : Task → World → Nodes → ℕ → Nodes → ℕ → Type 0
-IsProgression task w old i new n = (r : Run) (k : ℕ) → state_at r k ≡ w → Satisfies (plain_problem task.problem) r k (tree_at (trees old) i) ↔ Satisfies (plain_problem task.problem) r (suc k) (tree_at (trees new) n)
+-- on each run the one number's tree holds at the world just where the other's holds at the position after it, and on each infinite sequence of worlds it fails just where the other's does
+pub record IsProgression (task : Task) (w : World) (old : Nodes) (i : ℕ) (new : Nodes) (n : ℕ) : Type 0 where
+  pub holds : (r : Run) (k : ℕ) → state_at r k ≡ w
+      → Satisfies (plain_problem task.problem) r k (tree_at (trees old) i) ↔ Satisfies (plain_problem task.problem) r (suc k) (tree_at (trees new) n)
+  pub fails : (s : Worlds) (k : ℕ) → s k ≡ w
+      → (SatisfiesAlong (plain_problem task.problem) s k (tree_at (trees old) i) → ⊥)
+      ↔ (SatisfiesAlong (plain_problem task.problem) s (suc k) (tree_at (trees new) n) → ⊥)
 
 -- where the task names all that the world and the one number's tree have, it names all that the other's has
 abbrev pub StaysNamed : Task → World → Nodes → ℕ → Nodes → ℕ → Type 0

@@ -48,7 +48,7 @@ EndsWithLast p kept events (outcome.Plan plan) = EndsByKeeping kept events × Ha
 EndsWithLast p kept events outcome.Spent = EndsByKeeping kept events
 EndsWithLast p kept events o = ⊤
 
--- each branch that an event tells to be pruned executes, has the residual FALSE, and begins no run on which the control formula holds: the empty branch, or any path with the search node of that number, followed by the action
+-- each branch that an event tells to be pruned executes, has the residual FALSE, and begins no infinite sequence of worlds on which the control formula holds: the empty branch, or any path with the search node of that number, followed by the action
 pub record PrunesSoundly (p : PlainProblem) (kept : List KeptPair) (events : List Event) : Type 0 where
   pub root : Among event.RootPruned events → IsPrunedRightly p []
   pub branches : ArePrunedRightly p kept events
@@ -63,7 +63,7 @@ pub record IsTrace (s : Search) (p : PlainProblem) (kept : List KeptPair) (event
   pub unseen : (k : ℕ) → k < length kept → IsKeptByEvent events k
   pub pruned : PrunesSoundly p kept events
 
--- the lines are those of true events, of which each that tells of a pruned branch tells of one that begins no run that satisfies the control formula; and P holds of the lines after them
+-- the lines are those of true events, of which each that tells of a pruned branch tells of one that begins no infinite sequence of worlds that satisfies the control formula; and P holds of the lines after them
 pub record TellsEvents (files : Option Files) (c : Command) (P : List ℕ → Type 0) (text : List ℕ) : Type 0 where
   pub problem : Problem
   pub stand : HoldInput files c (a_problem problem)

@@ -63,7 +63,7 @@ pruned-branch : (p : PlainProblem) (path : List Action) (y : Pair) → pair_of p
 pruned-branch p path y e f =
     let t = has-states p path y e in
     let g : residual p (t.from ∷ t.after) p.control ≡ falsum = sym t.formula ∙ f in
-    record { worlds = t.from ∷ t.after; executes = t.executes; false_residual = g; begins_none = λ r b h. pruned-right p r (t.from ∷ t.after) p.control g b h }
+    record { worlds = t.from ∷ t.after; executes = t.executes; false_residual = g; begins_none = λ s b h. pruned-right p s (t.from ∷ t.after) p.control g b h }
 
 -- branches that true events tell to be pruned are so rightly
 pub events-prune-rightly : (p : PlainProblem) (old : List KeptPair) (es : List Event) (new : List KeptPair) → AreTrueEvents p old es new → ArePrunedRightly p new es

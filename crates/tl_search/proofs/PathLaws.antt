@@ -12,7 +12,7 @@ use Rattle.tl_terms.specs.Paths.{IsDistance, IsLeading}
 use Rattle.tl_terms.specs.Pairs.{residual, Pair, pair_after, pair_of, IsOpen, IsPairAccepted}
 use Rattle.tl_terms.specs.Problem.{PlainProblem}
 use Rattle.tl_terms.specs.Progression.{progressed}
-use Rattle.tl_terms.specs.Run.{Satisfies, Holds, idle_run}
+use Rattle.tl_terms.specs.Run.{Satisfies, SatisfiesAlong, Holds, idle_run}
 use Rattle.tl_terms.specs.Simplification.{is_falsum}
 use Rattle.tl_terms.specs.Step.{step}
 use Rattle.tl_terms.specs.World.{World}
@@ -151,7 +151,7 @@ walk-open p path = (
 )
 
 never : (p : PlainProblem) (x : Pair) → IsPairAccepted p x → x.formula ≢ falsum
-unfolding Satisfies Holds
+unfolding SatisfiesAlong Holds
 never p x h e = subst (λ f. Satisfies p (idle_run x.world) 0 f) e h.idles
 
 -- the accepted plans are the walks to accepted pairs

@@ -7,7 +7,7 @@ use Rattle.tl_terms.specs.Idle.{idle_true, idle_all, idle_one}
 use Rattle.tl_terms.specs.LawsIdle.{IdleWords}
 use Rattle.tl_syntax.specs.Lists.{Each, One}
 use Rattle.tl_terms.specs.Problem.{PlainProblem}
-use Rattle.tl_terms.specs.Run.{Situations, Holds, HoldAll, HoldsOne, situations_of, Satisfies, idle_run}
+use Rattle.tl_terms.specs.Run.{Situations, Holds, HoldAll, HoldsOne, situations_of, Satisfies, SatisfiesAlong, idle_run}
 use Rattle.tl_terms.specs.Situation.{Situation}
 use Rattle.tl_syntax.specs.Trees.{FormulaTree, verum, falsum, atom, defined, compare, goal_fact, goal_place, goal_not, negation, conjunction, disjunction, for_all, for_some, next, always, eventually, until, within, during, FormulaTrees, no_formula, more_formulas}
 use Rattle.tl_terms.specs.Truth.{state_true}
@@ -54,7 +54,7 @@ module _ (r : Situations) (s : Situation) (still : (j : ℕ) → r j ≡ s) wher
 
 -- the idling check is truth on the run that repeats the world for ever
 pub Satisfies-idle : (p : PlainProblem) (w : World) (i : ℕ) (f : FormulaTree) → Satisfies p (idle_run w) i f ↔ (idle_true (situation_of p w) no_values f ≡ true)
-unfolding Satisfies
+unfolding SatisfiesAlong
 Satisfies-idle p w i f = Holds-idle (situations_of p (idle_run w)) (situation_of p w) (λ j. ap (situation_of p) (state-idle w j)) no_values f i
 
 -- where a world is repeated for ever, each temporal word of one formula means the formula, and `until` means its second part

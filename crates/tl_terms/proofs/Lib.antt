@@ -9,6 +9,7 @@ pub mod SubstitutedHolds
 pub mod SubstitutionLaws
 pub mod Tuples
 pub mod TuplesRise
+pub mod FailTogether
 pub mod Simplification
 pub mod Lasso
 pub mod Progression

@@ -1,4 +1,4 @@
--- Acceptance depends on the last pair alone, and a FALSE residual begins no run that satisfies the formula.
+-- Acceptance depends on the last pair alone, and a FALSE residual begins no sequence of worlds that satisfies the formula.
 use Rattle.std.proofs.Common.{Option, None, ◌≡◌, ℕ, zero, suc, ◌+◌, ◌-◌, ◌%◌, ◌<◌, ◌↔◌, List, [], ◌∷◌, length, slice_index_or, true, cond, nat_lt, Some, refl, sym, ap, ◌∙◌, subst, inl, inr, arith}
 use borrow.Author.Tests.{le-ltb, lt-ltb}
 use native.Mathlib.Decide.{dec_lt}
@@ -10,12 +10,13 @@ use Rattle.tl_syntax.specs.Lists.{Each, One}
 use Rattle.tl_terms.specs.Pairs.{residual, Pair, pair_after, pair_of, IsPairAccepted}
 use Rattle.tl_terms.specs.Problem.{PlainProblem}
 use Rattle.tl_terms.specs.Progression.{progressed}
-use Rattle.tl_terms.specs.Run.{Situations, Holds, HoldAll, HoldsOne, Run, state_at, situations_of, Satisfies, idle_run, Begins}
+use Rattle.tl_terms.specs.Run.{Situations, Holds, HoldAll, HoldsOne, Run, Worlds, state_at, situations_of, Satisfies, SatisfiesAlong, idle_run, Begins}
 use Rattle.tl_syntax.specs.Trees.{FormulaTree, verum, falsum, atom, defined, compare, goal_fact, goal_place, goal_not, negation, conjunction, disjunction, for_all, for_some, next, always, eventually, until, within, during, FormulaTrees, no_formula, more_formulas}
 use Rattle.tl_terms.specs.Truth.{state_true}
 use Rattle.tl_terms.specs.World.{World}
 use Rattle.tl_syntax.proofs.ListLaws.{iff-trans, iff-path, Each-map, One-map}
-use Rattle.tl_terms.proofs.RunLaws.{progression-Satisfies}
+use Rattle.tl_terms.proofs.FailTogether.{FailTogether, hold-both}
+use Rattle.tl_terms.proofs.RunLaws.{Satisfies-decided, progression-along}
 use Rattle.tl_syntax.specs.declared.action.Action.{Action}
 
 -- ---- a formula sees only the states from its position on
@@ -101,24 +102,31 @@ module _ (r q : Situations) where
 
 -- ---- along a list of worlds
 
-pub residual-Satisfies : (p : PlainProblem) (r : Run) (i : ℕ) (ws : List World) (f : FormulaTree) → Begins r i ws
-    → Satisfies p r i f ↔ Satisfies p r (i + length ws) (residual p ws f)
+pub residual-along : (p : PlainProblem) (s : Worlds) (i : ℕ) (ws : List World) (f : FormulaTree) → Begins s i ws
+    → FailTogether (SatisfiesAlong p s i f) (SatisfiesAlong p s (i + length ws) (residual p ws f))
 unfolding residual
-residual-Satisfies p r i [] f b = iff-path (λ j. Satisfies p r j f) (let k : i ≡ i + 0 = omega arith in k)
-residual-Satisfies p r i (w ∷ ws) f b =
+residual-along p s i [] f b = iff-path (λ j. SatisfiesAlong p s j f → ⊥) (let k : i ≡ i + 0 = omega arith in k)
+residual-along p s i (w ∷ ws) f b =
     let g : FormulaTree = progressed (situation_of p w) no_values f in
-    iff-trans (progression-Satisfies p r i f)
-    (iff-trans (iff-path (λ v. Satisfies p r (suc i) (progressed (situation_of p v) no_values f)) b.0)
-    (iff-trans (residual-Satisfies p r (suc i) ws g b.1)
-    (iff-path (λ j. Satisfies p r j (residual p ws g)) (let k : suc i + length ws ≡ i + suc (length ws) = omega arith in k))))
+    iff-trans (progression-along p s i f)
+    (iff-trans (iff-path (λ v. SatisfiesAlong p s (suc i) (progressed (situation_of p v) no_values f) → ⊥) b.0)
+    (iff-trans (residual-along p s (suc i) ws g b.1)
+    (iff-path (λ j. SatisfiesAlong p s j (residual p ws g) → ⊥) (let k : suc i + length ws ≡ i + suc (length ws) = omega arith in k))))
 
-never : (p : PlainProblem) (r : Run) (i : ℕ) → Satisfies p r i falsum → ⊥
-unfolding Satisfies Holds
-never p r i h = h
+pub residual-Satisfies : (p : PlainProblem) (r : Run) (i : ℕ) (ws : List World) (f : FormulaTree) → Begins (state_at r) i ws
+    → Satisfies p r i f ↔ Satisfies p r (i + length ws) (residual p ws f)
+residual-Satisfies p r i ws f b =
+    hold-both (Satisfies-decided p r i f) (Satisfies-decided p r (i + length ws) (residual p ws f)) (residual-along p (state_at r) i ws f b)
 
--- a branch whose residual is FALSE begins no run that satisfies the formula
-pub pruned-right : (p : PlainProblem) (r : Run) (ws : List World) (f : FormulaTree) → residual p ws f ≡ falsum → Begins r 0 ws → Satisfies p r 0 f → ⊥
-pruned-right p r ws f e b h = never p r (0 + length ws) (subst (λ g. Satisfies p r (0 + length ws) g) e ((residual-Satisfies p r 0 ws f b).0 h))
+never : (p : PlainProblem) (s : Worlds) (i : ℕ) → SatisfiesAlong p s i falsum → ⊥
+unfolding SatisfiesAlong Holds
+never p s i h = h
+
+-- a branch whose residual is FALSE begins no infinite sequence of worlds that satisfies the formula
+pub pruned-right : (p : PlainProblem) (s : Worlds) (ws : List World) (f : FormulaTree) → residual p ws f ≡ falsum → Begins s 0 ws
+    → SatisfiesAlong p s 0 f → ⊥
+pruned-right p s ws f e b =
+    (residual-along p s 0 ws f b).1 (subst (λ g. SatisfiesAlong p s (0 + length ws) g → ⊥) (sym e) (never p s (0 + length ws)))
 
 -- ---- the run of a plan
 
@@ -145,18 +153,19 @@ past_end : (ws : List World) (d : World) (k : ℕ) → slice_index_or ws (length
 past_end [] d k = refl
 past_end (w ∷ ws) d k = ap (λ j. slice_index_or (w ∷ ws) j d) (let e : suc (length ws) + k ≡ suc (length ws + k) = omega arith in e) ∙ past_end ws d k
 
-begins_by : (r : Run) (ws : List World) (d : World) (i : ℕ) → ((k : ℕ) → k < length ws → state_at r (i + k) ≡ slice_index_or ws k d) → Begins r i ws
+begins_by : (r : Run) (ws : List World) (d : World) (i : ℕ) → ((k : ℕ) → k < length ws → state_at r (i + k) ≡ slice_index_or ws k d)
+    → Begins (state_at r) i ws
 begins_by r [] d i h = tt
 begins_by r (w ∷ ws) d i h = (
   ap (state_at r) (let e : i ≡ i + 0 = omega arith in e) ∙ h 0 (omega arith),
   begins_by r ws d (suc i) (λ k q. ap (state_at r) (let e : suc i + k ≡ i + suc k = omega arith in e) ∙ h (suc k) (omega arith)),
 )
 
-pub begins-run_of : (w : World) (ws : List World) → Begins (run_of w ws) 0 (w ∷ ws)
+pub begins-run_of : (w : World) (ws : List World) → Begins (state_at (run_of w ws)) 0 (w ∷ ws)
 begins-run_of w ws = begins_by (run_of w ws) (w ∷ ws) (last_of w ws) 0 (λ k q. ap (state_at (run_of w ws)) (let e : 0 + k ≡ k = omega arith in e) ∙ state-run_of w ws k)
 
 end : (p : PlainProblem) (w : World) (ws : List World) (g : FormulaTree) → Satisfies p (run_of w ws) (0 + length (w ∷ ws)) g ↔ Satisfies p (idle_run (last_of w ws)) 0 g
-unfolding Satisfies Same
+unfolding SatisfiesAlong Same
 end p w ws g = suffix (situations_of p (run_of w ws)) (situations_of p (idle_run (last_of w ws))) no_values g (0 + length (w ∷ ws)) 0
     (λ k. ap (λ v. situation_of p v)
     (ap (state_at (run_of w ws)) (let e : 0 + length (w ∷ ws) + k ≡ length (w ∷ ws) + k = omega arith in e) ∙ (state-run_of w ws (length (w ∷ ws) + k) ∙ (past_end (w ∷ ws) (last_of w ws) k ∙ sym (state-idle (last_of w ws) (0 + k))))))
@@ -187,7 +196,8 @@ accepted-exactly p plan = (
     by_states (Some (w ∷ ws)) e x q h = accepted-pair p plan w ws e (subst (IsPairAccepted p) (let d : x ≡ record { world = last_of w ws; formula = residual p (w ∷ ws) p.control } = cc in d) h)
 
 -- the same with the empty front left out
-pub residual-law : (p : PlainProblem) (r : Run) (ws : List World) (f : FormulaTree) → Begins r 0 ws → Satisfies p r 0 f ↔ Satisfies p r (length ws) (residual p ws f)
+pub residual-law : (p : PlainProblem) (r : Run) (ws : List World) (f : FormulaTree) → Begins (state_at r) 0 ws
+    → Satisfies p r 0 f ↔ Satisfies p r (length ws) (residual p ws f)
 residual-law p r ws f b = iff-trans (residual-Satisfies p r 0 ws f b) (iff-path (λ j. Satisfies p r j (residual p ws f)) (let k : 0 + length ws ≡ length ws = omega arith in k))
 
 -- of two plans with one pair both are accepted or none

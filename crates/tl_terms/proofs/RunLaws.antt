@@ -9,16 +9,17 @@ use Rattle.tl_terms.specs.Bounds.{tuples}
 use Rattle.tl_terms.specs.Definitions.{situation_of}
 use Rattle.tl_terms.specs.Problem.{PlainProblem}
 use Rattle.tl_terms.specs.Progression.{constant, progressed, progressed_all}
-use Rattle.tl_terms.specs.Run.{Situations, Holds, HoldAll, HoldsOne, Run, state_at, situations_of, Satisfies}
+use Rattle.tl_terms.specs.Run.{Situations, Holds, HoldAll, HoldsOne, Run, Worlds, state_at, situations_along, situations_of, Satisfies, SatisfiesAlong}
 use Rattle.tl_terms.specs.Simplification.{and_parts, or_parts, is_verum, is_falsum, without_repeats, conjunction_of, disjunction_of, simplified_and, simplified_or, simplified_not}
 use Rattle.tl_terms.specs.Situation.{Situation}
 use Rattle.tl_syntax.specs.Trees.{FormulaTree, verum, falsum, atom, defined, compare, goal_fact, goal_place, goal_not, negation, conjunction, disjunction, for_all, for_some, next, always, eventually, until, within, during, FormulaTrees, no_formula, more_formulas, formulas_of_list}
 use Rattle.tl_syntax.specs.StateFormulas.{IsState, AreState}
 use Rattle.tl_terms.specs.Truth.{state_true, all_true, one_true}
+use Rattle.tl_terms.proofs.FailTogether.{FailTogether, hold-both}
 use Rattle.tl_terms.proofs.Lasso.{decided}
 use Rattle.tl_terms.proofs.Progression.{progression}
 use Rattle.tl_syntax.proofs.ListLaws.{iff-trans, and-iff, or-iff, not-iff, all-iff, any-iff}
-use Rattle.tl_terms.proofs.Simplification.{formulas_of_list-All, formulas_of_list-One, simplified_and-holds, simplified_or-holds, simplified_not-holds}
+use Rattle.tl_terms.proofs.Simplification.{formulas_of_list-All, formulas_of_list-One, simplified_and-holds, simplified_or-holds, simplified_not-fails}
 use Rattle.tl_syntax.specs.declared.value.Value.{Value}
 
 past : (r : Run) (j : ℕ) → length r.stem ≤ j → state_at r j ≡ slice_index_or (r.first ∷ r.rest) ((j - length r.stem) % suc (length r.rest)) r.first
@@ -34,15 +35,21 @@ state-again r j h =
 
 -- satisfaction is decided on each run of a stem and a loop
 pub Satisfies-decided : (p : PlainProblem) (r : Run) (i : ℕ) (f : FormulaTree) → Dec (Satisfies p r i f)
-unfolding Satisfies
+unfolding SatisfiesAlong
 Satisfies-decided p r i f =
     decided (situations_of p r) (length r.stem) (suc (length r.rest)) (omega arith) (λ j h. ap (situation_of p) (state-again r j h)) no_values f i
 
--- THE PROGRESSION LEMMA
+-- THE PROGRESSION LEMMA, over every infinite sequence of worlds, and over a run of a stem and a loop
+pub progression-along : (p : PlainProblem) (s : Worlds) (i : ℕ) (f : FormulaTree)
+    → FailTogether (SatisfiesAlong p s i f) (SatisfiesAlong p s (suc i) (progressed (situation_of p (s i)) no_values f))
+unfolding SatisfiesAlong
+progression-along p s i f = progression (situations_along p s) i no_values f
+
 pub progression-Satisfies : (p : PlainProblem) (r : Run) (i : ℕ) (f : FormulaTree)
     → Satisfies p r i f ↔ Satisfies p r (suc i) (progressed (situation_of p (state_at r i)) no_values f)
-unfolding Satisfies
-progression-Satisfies p r i f = progression (situations_of p r) i (λ h. Satisfies-decided p r (suc i) h) no_values f
+progression-Satisfies p r i f =
+    hold-both (Satisfies-decided p r i f) (Satisfies-decided p r (suc i) (progressed (situation_of p (state_at r i)) no_values f))
+    (progression-along p (state_at r) i f)
 
 -- ---- formulas without temporal words
 
@@ -196,18 +203,20 @@ mutual
 -- ---- simplified words
 
 pub not-keeps : (p : PlainProblem) (r : Run) (i : ℕ) (f : FormulaTree) → Satisfies p r i (simplified_not f) ↔ Satisfies p r i (negation f)
-unfolding Satisfies Holds
-not-keeps p r i f = simplified_not-holds (situations_of p r) no_values i f (λ g. Satisfies-decided p r i g)
+unfolding SatisfiesAlong Holds
+not-keeps p r i f =
+    hold-both (Satisfies-decided p r i (simplified_not f)) (Satisfies-decided p r i (negation f))
+    (simplified_not-fails (situations_of p r) no_values i f)
 
 pub and-keeps : (p : PlainProblem) (r : Run) (i : ℕ) (fs : List FormulaTree) → Satisfies p r i (simplified_and fs) ↔ Satisfies p r i (conjunction (formulas_of_list fs))
-unfolding Satisfies Holds
+unfolding SatisfiesAlong Holds
 and-keeps p r i fs = iff-trans (simplified_and-holds (situations_of p r) no_values i fs) (let k = formulas_of_list-All (situations_of p r) no_values i fs in (k.1, k.0))
 
 pub or-keeps : (p : PlainProblem) (r : Run) (i : ℕ) (fs : List FormulaTree) → Satisfies p r i (simplified_or fs) ↔ Satisfies p r i (disjunction (formulas_of_list fs))
-unfolding Satisfies Holds
+unfolding SatisfiesAlong Holds
 or-keeps p r i fs = iff-trans (simplified_or-holds (situations_of p r) no_values i fs) (let k = formulas_of_list-One (situations_of p r) no_values i fs in (k.1, k.0))
 
 -- a formula without temporal words holds at a position of a run exactly where it is true in the world there
 pub Satisfies-state : (p : PlainProblem) (r : Run) (i : ℕ) (f : FormulaTree) → IsState f → Satisfies p r i f ↔ (state_true (situation_of p (state_at r i)) no_values f ≡ true)
-unfolding Satisfies
+unfolding SatisfiesAlong
 Satisfies-state p r i f h = Holds-state (situations_of p r) no_values f i h

@@ -7,6 +7,7 @@ use Rattle.tl_terms.specs.Run.{Situations, Holds, HoldAll, HoldsOne}
 use Rattle.tl_syntax.proofs.Same.{formula_discrete}
 use Rattle.tl_terms.specs.Simplification.{is_yes, same_formula, and_parts, and_parts_all, or_parts, or_parts_all, is_verum, is_falsum, without_repeats, conjunction_of, disjunction_of, simplified_and, simplified_or, simplified_not}
 use Rattle.tl_syntax.specs.Trees.{FormulaTree, verum, falsum, atom, defined, compare, goal_fact, goal_place, goal_not, negation, conjunction, disjunction, for_all, for_some, next, always, eventually, until, within, during, FormulaTrees, no_formula, more_formulas, formulas_of_list}
+use Rattle.tl_terms.proofs.FailTogether.{FailTogether}
 use Rattle.tl_syntax.proofs.ListLaws.{Each-append, One-append, Each-drop, One-drop, Each-refuted, One-certain, One-filter, One-split}
 
 -- a formula that is tested equal is the same_formula
@@ -172,25 +173,25 @@ module _ (r : Situations) (e : Assignment) (i : ℕ) where
         )
       ]) refl
 
-  -- where what is negated is decided
-  pub simplified_not-holds : (f : FormulaTree) → ((g : FormulaTree) → Dec (N g)) → N (simplified_not f) ↔ (N f → ⊥)
+  -- it fails exactly where the negation does
+  pub simplified_not-fails : (f : FormulaTree) → FailTogether (N (simplified_not f)) (N f → ⊥)
   unfolding simplified_not Holds
-  simplified_not-holds verum d = (λ h. absurd h, λ h. h tt)
-  simplified_not-holds falsum d = (λ _ h. h, λ _. tt)
-  simplified_not-holds (negation g) d = (λ h k. k h, λ h. elim (d g) [ yes k ↦ k | no k ↦ absurd (h k) ])
-  simplified_not-holds (atom p ts) d = (λ h. h, λ h. h)
-  simplified_not-holds (defined p ts) d = (λ h. h, λ h. h)
-  simplified_not-holds (compare c x y) d = (λ h. h, λ h. h)
-  simplified_not-holds (goal_fact p xs) d = (λ h. h, λ h. h)
-  simplified_not-holds (goal_place k xs x) d = (λ h. h, λ h. h)
-  simplified_not-holds (conjunction fs) d = (λ h. h, λ h. h)
-  simplified_not-holds (disjunction fs) d = (λ h. h, λ h. h)
-  simplified_not-holds (for_all ss b f) d = (λ h. h, λ h. h)
-  simplified_not-holds (for_some ss b f) d = (λ h. h, λ h. h)
-  simplified_not-holds (next f) d = (λ h. h, λ h. h)
-  simplified_not-holds (always f) d = (λ h. h, λ h. h)
-  simplified_not-holds (eventually f) d = (λ h. h, λ h. h)
-  simplified_not-holds (until f g) d = (λ h. h, λ h. h)
-  simplified_not-holds (goal_not p xs) d = (λ h. h, λ h. h)
-  simplified_not-holds (within n f) d = (λ h. h, λ h. h)
-  simplified_not-holds (during n f) d = (λ h. h, λ h. h)
+  simplified_not-fails verum = (λ n k. k tt, λ n h. h)
+  simplified_not-fails falsum = (λ n k. n tt, λ n h. n (λ b. b))
+  simplified_not-fails (negation g) = (λ n k. k n, λ n h. n (λ k. k h))
+  simplified_not-fails (atom p ts) = (λ n. n, λ n. n)
+  simplified_not-fails (defined p ts) = (λ n. n, λ n. n)
+  simplified_not-fails (compare c x y) = (λ n. n, λ n. n)
+  simplified_not-fails (goal_fact p xs) = (λ n. n, λ n. n)
+  simplified_not-fails (goal_place k xs x) = (λ n. n, λ n. n)
+  simplified_not-fails (goal_not p xs) = (λ n. n, λ n. n)
+  simplified_not-fails (conjunction fs) = (λ n. n, λ n. n)
+  simplified_not-fails (disjunction fs) = (λ n. n, λ n. n)
+  simplified_not-fails (for_all ss b f) = (λ n. n, λ n. n)
+  simplified_not-fails (for_some ss b f) = (λ n. n, λ n. n)
+  simplified_not-fails (next f) = (λ n. n, λ n. n)
+  simplified_not-fails (always f) = (λ n. n, λ n. n)
+  simplified_not-fails (eventually f) = (λ n. n, λ n. n)
+  simplified_not-fails (until f g) = (λ n. n, λ n. n)
+  simplified_not-fails (within n f) = (λ n. n, λ n. n)
+  simplified_not-fails (during n f) = (λ n. n, λ n. n)

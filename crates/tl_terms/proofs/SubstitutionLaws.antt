@@ -9,7 +9,7 @@ use Rattle.tl_terms.specs.LawsSubstitution.{QuantifiersAreTrueByInstances, Quant
 use Rattle.tl_syntax.specs.Lists.{Each, One}
 use Rattle.tl_terms.specs.Problem.{PlainProblem}
 use Rattle.tl_terms.specs.Progression.{constant, progressed, progressed_all}
-use Rattle.tl_terms.specs.Run.{Situations, Holds, Run, situations_of, Satisfies}
+use Rattle.tl_terms.specs.Run.{Situations, Holds, Run, situations_of, Satisfies, SatisfiesAlong}
 use Rattle.tl_terms.specs.Simplification.{simplified_and, simplified_or, simplified_not}
 use Rattle.tl_terms.specs.Situation.{Situation}
 use Rattle.tl_syntax.specs.Substitution.{or_else, over, without, value_or_arg, substituted_arg, substituted_args, substituted_bound, value_or_term, substituted_term, substituted_terms, substituted, substituted_all}
@@ -212,7 +212,7 @@ pub truth-by-instances : (s : Situation) (ss : List Var) (b : Bound) (f : Formul
 truth-by-instances s ss b f = record { of_forall = state-for_all s ss b f; of_exists = state-for_some s ss b f }
 
 pub satisfaction-by-instances : (p : PlainProblem) (r : Run) (i : ℕ) (ss : List Var) (b : Bound) (f : FormulaTree) → QuantifiersHoldByInstances p r i ss b f
-unfolding Satisfies
+unfolding SatisfiesAlong
 satisfaction-by-instances p r i ss b f = record { of_forall = Holds-for_all (situations_of p r) i ss b f; of_exists = Holds-for_some (situations_of p r) i ss b f }
 
 pub progression-by-instances : (s : Situation) (ss : List Var) (b : Bound) (f : FormulaTree) → QuantifiersProgressByInstances s ss b f

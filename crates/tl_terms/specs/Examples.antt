@@ -17,7 +17,7 @@ use Rattle.tl_terms.specs.Operations.{Operation, IsPastRange}
 use Rattle.tl_terms.specs.Orders.{plan_cmp}
 use Rattle.tl_terms.specs.Problem.{PlainProblem}
 use Rattle.tl_terms.specs.Progression.{progressed}
-use Rattle.tl_terms.specs.Run.{Holds, Run, state_at, Satisfies}
+use Rattle.tl_terms.specs.Run.{Holds, Run, state_at, Satisfies, SatisfiesAlong}
 use Rattle.tl_syntax.proofs.Same.{formula_discrete}
 use Rattle.tl_terms.specs.Simplification.{is_yes, same_formula, and_parts, or_parts, without_repeats, simplified_and, simplified_or, simplified_not}
 use Rattle.tl_terms.specs.Situation.{Situation}
@@ -269,12 +269,12 @@ blinking-on p i n e = ap (λ w. has_fact w (0, [])) (blinking-at i ∙ ap (λ k.
 
 -- there it is always so that it is eventually on
 always_eventually : (p : PlainProblem) → Satisfies p blinking 0 (always (eventually (fact 0)))
-unfolding Satisfies Holds
+unfolding SatisfiesAlong Holds
 always_eventually p = λ j _. (j + j, omega numbers, blinking-on p (j + j) 0 (omega numbers) ∙ has_fact-world ((0, []) ∷ []) [] (0, []))
 
 -- and it is not so that it is eventually always on
 not_eventually_always : (p : PlainProblem) → Satisfies p blinking 0 (eventually (always (fact 0))) → ⊥
-unfolding Satisfies Holds
+unfolding SatisfiesAlong Holds
 not_eventually_always p h = true≢false (sym (h.2 (suc (h.0 + h.0)) (omega numbers)) ∙ (blinking-on p (suc (h.0 + h.0)) 1 (omega numbers) ∙ has_fact-world [] [] (0, [])))
 
 -- ---- orders and ranges

@@ -9,7 +9,7 @@ use Rattle.tl_syntax.specs.Assignment.{Assignment, no_values}
 use Rattle.tl_syntax.specs.StateFormulas.{IsState}
 use Rattle.tl_terms.specs.Truth.{state_true}
 use Rattle.tl_terms.specs.Definitions.{situation_of}
-use Rattle.tl_terms.specs.Run.{Run, state_at, Begins, Satisfies}
+use Rattle.tl_terms.specs.Run.{Run, Worlds, state_at, Begins, Satisfies, SatisfiesAlong}
 use Rattle.tl_terms.specs.Acceptance.{IsAccepted}
 use Rattle.tl_terms.specs.Simplification.{simplified_not, simplified_and, simplified_or}
 use Rattle.tl_terms.specs.Progression.{constant, progressed}
@@ -18,6 +18,11 @@ use Rattle.tl_terms.specs.Pairs.{residual, Pair, pair_of, IsOpen, IsPairAccepted
 -- the progression lemma (Bacchus and Kabanza 2000): a formula holds at a position exactly where its progression through the world there holds at the next
 abbrev pub ProgressionLemma : Type 0
 ProgressionLemma = (p : PlainProblem) (r : Run) (i : ℕ) (f : FormulaTree) → Satisfies p r i f ↔ Satisfies p r (suc i) (progressed (situation_of p (state_at r i)) no_values f)
+
+-- the same over any infinite sequence of worlds: a formula fails at a position exactly where its progression through the world there fails at the next
+abbrev pub ProgressionLemmaAlong : Type 0
+ProgressionLemmaAlong = (p : PlainProblem) (s : Worlds) (i : ℕ) (f : FormulaTree)
+    → (SatisfiesAlong p s i f → ⊥) ↔ (SatisfiesAlong p s (suc i) (progressed (situation_of p (s i)) no_values f) → ⊥)
 
 -- the simplified negation holds exactly where the negation does
 abbrev pub NotKeepsTruth : Type 0
@@ -41,11 +46,13 @@ StateFormulaHoldsWhereTrue = (p : PlainProblem) (r : Run) (i : ℕ) (f : Formula
 
 -- a formula holds on a run that begins with the worlds exactly where its residual holds after them
 abbrev pub ResidualLaw : Type 0
-ResidualLaw = (p : PlainProblem) (r : Run) (ws : List World) (f : FormulaTree) → Begins r 0 ws → Satisfies p r 0 f ↔ Satisfies p r (length ws) (residual p ws f)
+ResidualLaw = (p : PlainProblem) (r : Run) (ws : List World) (f : FormulaTree)
+    → Begins (state_at r) 0 ws → Satisfies p r 0 f ↔ Satisfies p r (length ws) (residual p ws f)
 
--- worlds with the residual FALSE begin no run that satisfies the formula
+-- worlds with the residual FALSE begin no infinite sequence of worlds that satisfies the formula
 abbrev pub FalseResidualBeginsNoRun : Type 0
-FalseResidualBeginsNoRun = (p : PlainProblem) (r : Run) (ws : List World) (f : FormulaTree) → residual p ws f ≡ falsum → Begins r 0 ws → Satisfies p r 0 f → ⊥
+FalseResidualBeginsNoRun = (p : PlainProblem) (s : Worlds) (ws : List World) (f : FormulaTree)
+    → residual p ws f ≡ falsum → Begins s 0 ws → SatisfiesAlong p s 0 f → ⊥
 
 -- a plan is accepted exactly where it executes and its pair is accepted
 abbrev pub AcceptedWhereItsPairIs : Type 0

@@ -55,19 +55,31 @@ pub record Run : Type 0 where
 unfoldable pub state_at : Run → ℕ → World
 state_at r i = cond (nat_lt i (length r.stem)) (slice_index_or r.stem i r.first) (slice_index_or (r.first ∷ r.rest) ((i - length r.stem) % suc (length r.rest)) r.first)
 
+-- an infinite sequence of worlds, any worlds at all
+abbrev pub Worlds : Type 0
+Worlds = ℕ → World
+
+-- the situation at each position of the sequence
+abbrev pub situations_along : PlainProblem → Worlds → Situations
+situations_along p ws i = situation_of p (ws i)
+
+-- the formula holds at position i of the sequence, under the goal list and the definitions of the problem
+unfoldable pub SatisfiesAlong : PlainProblem → Worlds → ℕ → FormulaTree → Type 0
+SatisfiesAlong p ws i f = Holds (situations_along p ws) no_values f i
+
 -- the situation at each position of the run
 abbrev pub situations_of : PlainProblem → Run → Situations
-situations_of p r i = situation_of p (state_at r i)
+situations_of p r = situations_along p (state_at r)
 
--- the formula holds at position i of the run, under the goal list and the definitions of the problem
-unfoldable pub Satisfies : PlainProblem → Run → ℕ → FormulaTree → Type 0
-Satisfies p r i f = Holds (situations_of p r) no_values f i
+-- the formula holds at position i of the run, which is one such sequence
+abbrev pub Satisfies : PlainProblem → Run → ℕ → FormulaTree → Type 0
+Satisfies p r = SatisfiesAlong p (state_at r)
 
 -- the run that repeats one world for ever
 abbrev pub idle_run : World → Run
 idle_run w = record { stem = []; first = w; rest = [] }
 
--- the run has these worlds from position i on
-abbrev pub Begins : Run → ℕ → List World → Type 0
-Begins r i [] = Unit {0}
-Begins r i (w ∷ ws) = (state_at r i ≡ w) × Begins r (suc i) ws
+-- the sequence has these worlds from position i on
+abbrev pub Begins : Worlds → ℕ → List World → Type 0
+Begins s i [] = Unit {0}
+Begins s i (w ∷ ws) = (s i ≡ w) × Begins s (suc i) ws

@@ -21,10 +21,10 @@ pub use orders::{
 pub use progression::{
     acceptance_depends_on_the_pair, accepted_exactly_where_its_pair_is,
     false_residual_begins_no_satisfying_run, future_depends_on_the_pair, open_by_its_own_residual,
-    progression_goes_by_its_table, progression_lemma, residual_holds_after_the_worlds,
-    simplified_conjunction_keeps_truth, simplified_disjunction_keeps_truth,
-    simplified_negation_keeps_truth, state_formula_holds_where_true,
-    state_formula_progresses_to_its_truth,
+    progression_goes_by_its_table, progression_lemma, progression_lemma_along_a_sequence,
+    residual_holds_after_the_worlds, simplified_conjunction_keeps_truth,
+    simplified_disjunction_keeps_truth, simplified_negation_keeps_truth,
+    state_formula_holds_where_true, state_formula_progresses_to_its_truth,
 };
 pub use runs::satisfaction_is_decided;
 pub use steps::{order_of_instances_does_not_matter, step_is_by_its_conditions};

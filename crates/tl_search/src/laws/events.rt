@@ -6,7 +6,7 @@ pub fn events_begin_at_the_root()
     ensures { EventsBeginAtRoot }
 {}
 
-/// Each branch that true events tell to be pruned executes, has the residual FALSE, and begins no run on which the control formula holds.
+/// Each branch that true events tell to be pruned executes, has the residual FALSE, and begins no infinite sequence of worlds on which the control formula holds.
 pub fn pruned_events_are_right()
     ensures { EventsPruneRightly }
 {}

@@ -1,9 +1,15 @@
 // Progression, residuals and accepted plans.
-ghost use Rattle.tl_terms.specs.LawsProgression.{ProgressionLemma, ProgressionTable, NotKeepsTruth, AndKeepsTruth, OrKeepsTruth, StateFormulaProgressesToItsTruth, StateFormulaHoldsWhereTrue, ResidualLaw, FalseResidualBeginsNoRun, AcceptedWhereItsPairIs, AcceptanceDependsOnThePair, OpenByItsResidual, FutureDependsOnThePair};
+ghost use Rattle.tl_terms.specs.LawsProgression.{ProgressionLemma, ProgressionLemmaAlong, ProgressionTable, NotKeepsTruth, AndKeepsTruth, OrKeepsTruth, StateFormulaProgressesToItsTruth, StateFormulaHoldsWhereTrue, ResidualLaw, FalseResidualBeginsNoRun, AcceptedWhereItsPairIs, AcceptanceDependsOnThePair, OpenByItsResidual, FutureDependsOnThePair};
 
 /// A formula holds at a position of a run exactly where its progression through the world there holds at the next position (Bacchus and Kabanza 2000).
 pub fn progression_lemma()
     ensures { ProgressionLemma }
+{}
+
+/// Over any infinite sequence of worlds a formula fails at a position exactly where its progression through the world there fails at the next.
+/// On a run of a stem and a loop, where what holds is decided, this is the progression lemma.
+pub fn progression_lemma_along_a_sequence()
+    ensures { ProgressionLemmaAlong }
 {}
 
 /// Each temporal word progresses by its row of the table, where no value is still to be put in.
@@ -41,7 +47,7 @@ pub fn residual_holds_after_the_worlds()
     ensures { ResidualLaw }
 {}
 
-/// Worlds after which the residual is FALSE begin no run on which the formula holds, so pruning there loses nothing.
+/// Worlds after which the residual is FALSE begin no infinite sequence of worlds on which the formula holds, so pruning there loses nothing.
 pub fn false_residual_begins_no_satisfying_run()
     ensures { FalseResidualBeginsNoRun }
 {}

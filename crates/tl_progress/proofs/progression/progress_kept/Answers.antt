@@ -1,4 +1,5 @@
 use Rattle.std.proofs.Common.{◌≡◌, ◌↔◌, length, ℕ, suc, IfOk, Result, Ok, Err, slice_get, Some, List, sym, ap, ◌∙◌, subst}
+use Rattle.tl_nodes.specs.declared.nodes.Nodes.{Nodes}
 use Rattle.tl_nodes.specs.NodeTrees.{tree_at}
 use Rattle.tl_nodes.specs.Numbers.{trees}
 use Rattle.tl_nodes.proofs.TreesOfNodes.{at-is}
@@ -12,20 +13,36 @@ use Rattle.tl_terms.specs.Problem.{PlainProblem}
 use Rattle.tl_terms.specs.NamedWorlds.{WorldIsNamed}
 use Rattle.tl_terms.specs.ProblemMeaning.{plain_problem}
 use Rattle.tl_terms.specs.Progression.{progressed}
-use Rattle.tl_terms.specs.Run.{Run, Satisfies, state_at}
+use Rattle.tl_terms.specs.Run.{Satisfies, SatisfiesAlong, state_at}
 use Rattle.tl_terms.specs.World.{World}
-use Rattle.tl_terms.proofs.RunLaws.{progression-Satisfies}
+use Rattle.tl_terms.proofs.RunLaws.{progression-Satisfies, progression-along}
+use Rattle.tl_world.specs.declared.task.Task.{Task}
 use Rattle.tl_progress.specs.declared.fault.ProgressFault.{ProgressFault}
 use Rattle.tl_progress.specs.Answers.{residual}
+use Rattle.tl_progress.specs.Calls.{IsProgression}
 use Rattle.tl_progress.specs.Sentences.{IsSentence}
 use Rattle.tl_progress.proofs.NamedResiduals.{residual-named}
 use Rattle.tl_progress.proofs.Sentences.{sentence-next}
 use Rattle.tl_progress.proofs.progression.progress_kept.Goals as goal
 
-holds : (p : PlainProblem) (w : World) (f : FormulaTree) (us : List FormulaTree) (r : Result ℕ ProgressFault) → IfOk r (λ i. slice_get us i ≡ Some (residual p w no_values f))
-    → IfOk r (λ i. (n : Run) (k : ℕ) → state_at n k ≡ w → Satisfies p n k f ↔ Satisfies p n (suc k) (tree_at us i))
-holds p w f us (Ok i) h = λ n k e. subst (λ (t : FormulaTree). Satisfies p n k f ↔ Satisfies p n (suc k) t) (ap (λ (v : World). progressed (situation_of p v) no_values f) e ∙ sym (at-is us i _ h)) (progression-Satisfies p n k f)
-holds p w f us (Err x) h = tt
+-- where the world stands at a position, the tree of the number is what the lemma speaks of there
+next-is : (p : PlainProblem) (v w : World) (f : FormulaTree) (us : List FormulaTree) (i : ℕ) → v ≡ w
+    → slice_get us i ≡ Some (residual p w no_values f) → progressed (situation_of p v) no_values f ≡ tree_at us i
+next-is p v w f us i e h = ap (λ (v : World). progressed (situation_of p v) no_values f) e ∙ sym (at-is us i _ h)
+
+is-progression : (task : Task) (w : World) (old : Nodes) (j : ℕ) (new : Nodes) (r : Result ℕ ProgressFault)
+    → IfOk r (λ i. slice_get (trees new) i ≡ Some (residual (plain_problem task.problem) w no_values (tree_at (trees old) j)))
+    → IfOk r (λ i. IsProgression task w old j new i)
+is-progression task w old j new (Ok i) h =
+    let p : PlainProblem = plain_problem task.problem in
+    let f : FormulaTree = tree_at (trees old) j in
+    record {
+      holds =
+          λ n k e. subst (λ (t : FormulaTree). Satisfies p n k f ↔ Satisfies p n (suc k) t) (next-is p (state_at n k) w f (trees new) i e h) (progression-Satisfies p n k f);
+      fails =
+          λ s k e. subst (λ (t : FormulaTree). (SatisfiesAlong p s k f → ⊥) ↔ (SatisfiesAlong p s (suc k) t → ⊥)) (next-is p (s k) w f (trees new) i e h) (progression-along p s k f);
+    }
+is-progression task w old j new (Err x) h = tt
 
 stands-alone : (g : Signature) (p : PlainProblem) (w : World) (f : FormulaTree) (us : List FormulaTree) (r : Result ℕ ProgressFault) → IsSentence g f → IfOk r (λ i. slice_get us i ≡ Some (residual p w no_values f)) → IfOk r (λ i. IsSentence g (tree_at us i))
 stands-alone g p w f us (Ok i) s h = subst (IsSentence g) (sym (at-is us i _ h)) (sentence-next g (situation_of p w) no_values f s)
@@ -37,7 +54,8 @@ stays-named p w f us (Ok i) h = λ world formula. subst (IsNamed (length p.names
 stays-named p w f us (Err x) h = tt
 
 pub returns-clause-lemma : goal.returns-clause-lemma
-returns-clause-lemma c = holds (plain_problem c.args.task.now.problem) c.args.w.now (tree_at (trees c.args.nodes.now) c.args.incoming.formula) (trees c.lone_residual.new.nodes) c.lone_residual.result c.lone_residual.ensures.number
+returns-clause-lemma c =
+    is-progression c.args.task.now c.args.w.now c.args.nodes.now c.args.incoming.formula c.lone_residual.new.nodes c.lone_residual.result c.lone_residual.ensures.number
 
 pub returns-clause-sentence : goal.returns-clause-sentence
 returns-clause-sentence c =
