@@ -22,11 +22,11 @@ use Rattle.tl_terms.specs.Progression.{progressed, progressed_all}
 use Rattle.tl_terms.specs.Simplification.{simplified_and}
 use Rattle.tl_terms.specs.Situation.{Situation}
 use Rattle.tl_terms.specs.World.{World, values_in, values_of}
+use Rattle.tl_terms.proofs.ByParts.{EachOf, GoesByParts, of-and, of-or, of-not, of-constant, each-map}
 use Rattle.tl_terms.proofs.KeyLaws.{fact-among, place-among}
 use Rattle.tl_terms.proofs.NamedSteps.{AssignmentIsNamed, SituationIsNamed, nothing-named, bound-named}
 use Rattle.tl_terms.proofs.NamedWorlds.{goal-named, avoid-named}
 use Rattle.tl_terms.proofs.Tuples.{worlds_of, Among-tuples, Among-values_of}
-use Rattle.tl_progress.proofs.Sentences.{EachOf, GoesByParts, of-and, of-or, of-not, of-constant, each-map}
 
 -- ---- the tuples of a bound
 

@@ -1,6 +1,7 @@
 -- What follows from an answer that the files allow.
-use Rattle.std.proofs.Common.{◌≡◌, ◌⊎◌, inl, inr, ℕ, List, refl, sym, ap, ◌∙◌, subst}
-use Rattle.std.specs.Prelude.{Option, Some}
+use Rattle.std.proofs.Common.{◌≡◌, ◌⊎◌, inl, inr, ℕ, List, [], true≢false, refl, sym, ap, ◌∙◌, subst}
+use Rattle.std.specs.Prelude.{Option, Some, None}
+use Rattle.std.specs.FinMap as dict
 use Rattle.tl_cert.specs.declared.verdict.NoneVerdict.{NoneVerdict}
 use Rattle.tl_cert.specs.declared.verdict.NoneVerdict.TheVariants.{Proved, BadLink, Accepts, Open}
 use Rattle.tl_check.specs.declared.verdict.Verdict.{Verdict}
@@ -22,7 +23,7 @@ use Rattle.tl_run.specs.Commands.{Command, check, search, trace, explain, prove_
 use Rattle.tl_run.specs.Inputs.{Input, a_problem, a_plan, a_proof, some_costs, a_loop}
 use Rattle.tl_run.specs.Cheapest.{cost_status}
 use Rattle.tl_run.specs.Laws.{Laws}
-use Rattle.tl_run.specs.Promises.{Allows, Headline, IsAnswer, IsCalm, IsCalmStatus, IsTextOf}
+use Rattle.tl_run.specs.Promises.{Allows, AreTold, Headline, IsAnswer, IsCalm, IsCalmStatus, IsTextOf}
 use Rattle.tl_run.specs.ProveNone.{unproved_status}
 use Rattle.tl_run.specs.Refusals.{refusal_text}
 use Rattle.tl_run.specs.Replies.{HasLines}
@@ -148,18 +149,19 @@ right_agrees laws (sample m) x y a b same h k = sample_agrees laws m x y a b sam
 right_agrees laws (cheapest n d p q) x y a b same h k = cheapest_agrees n d p q x y a b same h k
 right_agrees laws (check_loop d p q) x y a b same h k = check_loop_agrees laws.loop_verdicts d p q x y a b same h k
 
--- over told files, an answer that is right of what they stand for is no refusal
-abbrev Stands : Files → Command → Input → Answer → Type 0
-Stands files c x a = HoldInput (Some files) c x × IsRightAnswer c x a
+-- an answer that is right of what files stand for is no refusal
+abbrev Stands : Option Files → Command → Input → Answer → Type 0
+Stands files c x a = HoldInput files c x × IsRightAnswer c x a
 
-stand_agree : Laws → (files : Files) (c : Command) (x y : Input) (a b : Answer) → Stands files c x a → Stands files c y b → Agrees x a (status_of b) (text_of y b)
+stand_agree : Laws → (files : Files) (c : Command) (x y : Input) (a b : Answer) → Stands (Some files) c x a → Stands (Some files) c y b
+    → Agrees x a (status_of b) (text_of y b)
 stand_agree laws files c x y a b h k = right_agrees laws c x y a b (one_input laws.problems files c x y h.0 k.0) h.1 k.1
 
 -- a refusal, or what is right of what files stand for
-abbrev Splits : Files → Command → Input → Answer → Type 0
-Splits files c x a = ((number : ℕ) × (m : Broken) × (a ≡ refusal number m) × IsRefused (Some files) c number m) ⊎ Stands files c x a
+abbrev Splits : Option Files → Command → Input → Answer → Type 0
+Splits files c x a = ((number : ℕ) × (m : Broken) × (a ≡ refusal number m) × IsRefused files c number m) ⊎ Stands files c x a
 
-splits : (files : Files) (c : Command) (x : Input) (a : Answer) → Allows (Some files) c x a → Splits files c x a
+splits : (files : Option Files) (c : Command) (x : Input) (a : Answer) → Allows files c x a → Splits files c x a
 splits files c x (refusal number m) h = inl (number, m, refl, h)
 splits files c x (past_range after note path) h = inr h
 splits files c x (judged v) h = inr h
@@ -173,7 +175,8 @@ splits files c x (sampled n kept o v) h = inr h
 splits files c x (costed b o) h = inr h
 splits files c x (judged_loop v) h = inr h
 
-split_agree : Laws → (files : Files) (c : Command) (x y : Input) (a b : Answer) → Splits files c x a → Splits files c y b → Agrees x a (status_of b) (text_of y b)
+split_agree : Laws → (files : Files) (c : Command) (x y : Input) (a b : Answer) → Splits (Some files) c x a → Splits (Some files) c y b
+    → Agrees x a (status_of b) (text_of y b)
 split_agree laws files c x y a b (inl h) (inl k) =
     let one = one_refusal laws.problems files c h.0 k.0 h.1 k.1 h.3 k.3 in
     inl (ap status_of k.2 ∙ sym (ap status_of h.2), subst (λ (u : Answer). IsTextOf x u (text_of y b)) (sym h.2) (ap (text_of y) k.2 ∙ (λ t. refusal_text (sym one.0 t) (sym one.1 t))))
@@ -181,14 +184,21 @@ split_agree laws files c x y a b (inl h) (inr k) = absurd (no_refusal laws.probl
 split_agree laws files c x y a b (inr h) (inl k) = absurd (no_refusal laws.problems files c x k.0 k.1 h.0 k.3)
 split_agree laws files c x y a b (inr h) (inr k) = stand_agree laws files c x y a b h k
 
--- over told files, an answer that is allowed agrees with every other one
-allowed_agrees : Laws → (files : Files) (c : Command) (x y : Input) (a b : Answer) → Allows (Some files) c x a → Allows (Some files) c y b → Agrees x a (status_of b) (text_of y b)
-allowed_agrees laws files c x y a b h k = split_agree laws files c x y a b (splits files c x a h) (splits files c y b k)
+-- an answer that is allowed agrees with every other one; a sample, which reads no file, may be taken to be over any files
+allowed_agrees : Laws → (files : Option Files) (c : Command) (x y : Input) (a b : Answer) → AreTold files c → Allows files c x a
+    → Allows files c y b → Agrees x a (status_of b) (text_of y b)
+allowed_agrees laws (Some files) c x y a b are h k =
+    split_agree laws files c x y a b (splits (Some files) c x a h) (splits (Some files) c y b k)
+allowed_agrees laws None (sample m) x y a b are h k =
+    split_agree laws (dict.from_entries []) (sample m) x y a b (splits None (sample m) x a h) (splits None (sample m) y b k)
+allowed_agrees laws None c x y a b are h k = absurd (true≢false (sym are))
 
--- over told files, an answer that is allowed is the one that is given, or it yields to it
-pub answer_agrees : Laws → (files : Files) (c : Command) (told : CallsTold) (x : Input) (a : Answer) (status : Status) (text : List ℕ) → Allows (Some files) c x a → IsAnswer (Some files) c told status text → Agrees x a status text
-answer_agrees laws files c told x a status text allowed h =
-    let agrees = allowed_agrees laws files c x h.input a h.answer allowed h.allowed in
+-- an answer that is allowed is the one that is given, or it yields to it
+pub answer_agrees : Laws
+    → (files : Option Files) (c : Command) (told : CallsTold) (x : Input) (a : Answer) (status : Status) (text : List ℕ) → AreTold files c
+    → Allows files c x a → IsAnswer files c told status text → Agrees x a status text
+answer_agrees laws files c told x a status text are allowed h =
+    let agrees = allowed_agrees laws files c x h.input a h.answer are allowed h.allowed in
     subst (λ (s : Status). Agrees x a s text) (sym h.status_is) (subst (λ (t : List ℕ). Agrees x a (status_of h.answer) t) (sym h.text_is) agrees)
 
 -- files whose command is calm all pass: one line for each command
@@ -204,7 +214,8 @@ calm_passes files (cheapest b d p k) calm = (some_costs calm.problem calm.costs,
 calm_passes files (check_loop d p q) calm = (a_loop calm.problem calm.plan, calm.stand)
 
 -- right answers where nothing past range is looked at: one line for each command
-right_calm : Laws → (files : Files) (c : Command) (x : Input) (a : Answer) → IsCalm (Some files) c → Stands files c x a → IsCalmStatus (status_of a)
+right_calm : Laws → (files : Files) (c : Command) (x : Input) (a : Answer) → IsCalm (Some files) c → Stands (Some files) c x a
+    → IsCalmStatus (status_of a)
 right_calm laws files (check d p q) x a calm h =
     check_calm d p q calm.problem calm.plan x a (one_input laws.problems files (check d p q) (a_plan calm.problem calm.plan) x calm.stand h.0) calm.calm h.1
 right_calm laws files (search s d p) x a calm h =
@@ -218,18 +229,25 @@ right_calm laws files (prove_none s d p) x a calm h =
 right_calm laws files (check_none d p q) x a calm h =
     check_none_calm d p q calm.problem calm.proof x a (one_input laws.problems files (check_none d p q) (a_proof calm.problem calm.proof) x calm.stand h.0) calm.calm h.1
 right_calm laws files (sample m) x a calm h =
-    sample_calm laws m calm.problem x a (one_input laws.problems files (sample m) (a_problem calm.problem) x calm.stand h.0) calm.calm calm.checked h.1
+    sample_calm laws m calm.problem x a (one_input laws.problems files (sample m) (a_problem calm.problem) x calm.stand h.0) calm.plain h.1
 right_calm laws files (cheapest b d p k) x a calm h =
     cheapest_calm b d p k calm.problem calm.costs x a (one_input laws.problems files (cheapest b d p k) (some_costs calm.problem calm.costs) x calm.stand h.0) calm.calm calm.few h.1
 right_calm laws files (check_loop d p q) x a calm h =
     check_loop_calm d p q calm.problem calm.plan x a (one_input laws.problems files (check_loop d p q) (a_loop calm.problem calm.plan) x calm.stand h.0) calm.calm h.1
 
-split_calm : Laws → (files : Files) (c : Command) (x : Input) (a : Answer) → IsCalm (Some files) c → Splits files c x a → IsCalmStatus (status_of a)
+split_calm : Laws → (files : Files) (c : Command) (x : Input) (a : Answer) → IsCalm (Some files) c → Splits (Some files) c x a
+    → IsCalmStatus (status_of a)
 split_calm laws files c x a calm (inl h) =
     let passes = calm_passes files c calm in
     absurd (no_refusal laws.problems files c passes.0 h.0 h.1 passes.1 h.3)
 split_calm laws files c x a calm (inr h) = right_calm laws files c x a calm h
 
--- over told files where nothing past range is looked at and there is room, no answer has the status Range or Spent
-pub answer_calm : Laws → (files : Files) (c : Command) (told : CallsTold) (status : Status) (text : List ℕ) → IsCalm (Some files) c → IsAnswer (Some files) c told status text → IsCalmStatus status
-answer_calm laws files c told status text calm h = subst IsCalmStatus (sym h.status_is) (split_calm laws files c h.input h.answer calm (splits files c h.input h.answer h.allowed))
+-- where nothing past range is looked at and there is room, no answer has the status Range or Spent
+pub answer_calm : Laws → (files : Option Files) (c : Command) (told : CallsTold) (status : Status) (text : List ℕ) → AreTold files c
+    → IsCalm files c → IsAnswer files c told status text → IsCalmStatus status
+answer_calm laws (Some files) c told status text are calm h =
+    subst IsCalmStatus (sym h.status_is) (split_calm laws files c h.input h.answer calm (splits (Some files) c h.input h.answer h.allowed))
+answer_calm laws None (sample m) told status text are calm h =
+    subst IsCalmStatus (sym h.status_is)
+    (split_calm laws (dict.from_entries []) (sample m) h.input h.answer calm (splits None (sample m) h.input h.answer h.allowed))
+answer_calm laws None c told status text are calm h = absurd (true≢false (sym are))

@@ -1,20 +1,23 @@
 -- Laws of the right answers of `sample`.
-use Rattle.std.proofs.Common.{◌≡◌, inl, inr, ℕ, ◌*◌, ◌≤◌, List, length, Some, None, refl, sym, ap, ◌∙◌, subst}
+use Rattle.std.proofs.Common.{◌≡◌, inl, inr, ℕ, ◌*◌, List, [], ◌∷◌, length, Some, None, refl, sym, ap, ◌∙◌, subst}
 use Rattle.std.specs.Prelude.{Option}
 use Rattle.tl_check.specs.LawsVerdict.{OneVerdict}
 use Rattle.tl_check.specs.Verdicts.{IsCause}
 use Rattle.tl_action.specs.declared.check_fault.CheckFault.TheVariants as fault
 use Rattle.tl_check.specs.declared.verdict.Verdict.{Verdict}
 use Rattle.tl_check.specs.declared.verdict.Verdict.TheVariants.{Valid}
-use Rattle.tl_eval.specs.Notes.{operation_of}
+use Rattle.tl_eval.specs.Notes.{operation_of, Tells}
 use Rattle.tl_eval.specs.declared.range.RangeNote.{RangeNote}
 use Rattle.tl_outside.specs.Told.{Files}
 use Rattle.tl_search.specs.declared.outcome.Outcome.{Outcome}
 use Rattle.tl_search.specs.declared.outcome.Outcome.TheVariants as outcome
 use Rattle.tl_syntax.specs.declared.action.Action.{Action}
 use Rattle.tl_syntax.specs.declared.problem.Problem.{Problem}
-use Rattle.tl_terms.specs.Acceptance.{IsAccepted}
-use Rattle.tl_terms.specs.Calm as calm
+use Rattle.tl_syntax.specs.Lists.{Among}
+use Rattle.tl_terms.specs.Acceptance.{IsAccepted, last_of}
+use Rattle.tl_terms.specs.Arithmetic.{ProblemHasNoArithmetic}
+use Rattle.tl_terms.specs.LawsCalm.{LooksAtNothing}
+use Rattle.tl_terms.specs.Operations.{Operation}
 use Rattle.tl_terms.specs.Problem.{PlainProblem}
 use Rattle.tl_terms.specs.ProblemMeaning.{plain_problem}
 use Rattle.tl_run.specs.declared.search.Mode.TheVariants.{Depth}
@@ -88,18 +91,27 @@ sample_says laws files m (a_problem p) (sampled n kept o v) text stand right lin
 sample_says laws files m (a_problem p) (past_range after note path) text stand right line = tt
 sample_says laws files m x a text stand right line = absurd right
 
-module _ (laws : Laws) (m : ℕ) (p : Problem) (search_is_calm : calm.IsCalm (plain_problem p) (3 * m))
-    (checks_are_calm : (plan : List Action) (after : ℕ) (note : RangeNote) → length plan ≤ 3 * m → ¬ IsCause (plain_problem p) plan (fault.Range after note)) where
-  no_range : (after : ℕ) (note : RangeNote) (path : List Action) → SampleEndsPastRange m (plain_problem p) after note path → ⊥
-  no_range after note path (inl h) = let ends = h.0 in laws.calm (plain_problem p) (3 * m) path (operation_of note) search_is_calm ends.0
-  no_range after note path (inr h) =
-      let c = h.0 in
-      let within = plan_within Depth (3 * m) 20000 (plain_problem p) c.plan c.found in
-      checks_are_calm c.plan after note within.short c.cause
+-- no note tells an operation of an empty list
+none_told : {os : List Operation} {note : RangeNote} → os ≡ [] → Tells os note → ⊥
+none_told {note = note} e h = subst (Among (operation_of note)) e h.0
 
--- where nothing past range is looked at, no right answer has the status Range
-pub sample_calm : Laws → (m : ℕ) (p : Problem) (x : Input) (a : Answer) → SameInput (a_problem p) x → calm.IsCalm (plain_problem p) (3 * m) → ((plan : List Action) (after : ℕ) (note : RangeNote) → length plan ≤ 3 * m → ¬ IsCause (plain_problem p) plan (fault.Range after note)) → IsRightAnswer (sample m) x a → IsCalmStatus (status_of a)
-sample_calm laws m p (a_problem q) (sampled n kept o v) same searched checked right = tt
-sample_calm laws m p (a_problem q) (past_range after note path) same searched checked right =
-    absurd (no_range laws m p searched checked after note path (subst (λ (u : PlainProblem). SampleEndsPastRange m u after note path) (sym same.meaning) right))
-sample_calm laws m p x a same searched checked right = absurd right
+-- where nothing is looked at, no check ends past range
+no_cause : (p : PlainProblem) → LooksAtNothing p → (plan : List Action) (after : ℕ) (note : RangeNote)
+    → IsCause p plan (fault.Range after note) → ⊥
+no_cause p quiet plan after note (inl h) = none_told (quiet.acting (last_of h.from h.after) h.action) h.told
+no_cause p quiet plan after note (inr h) = none_told (quiet.along (h.from ∷ h.after) after) h.told
+
+no_range : Laws → (m : ℕ) (p : PlainProblem) → LooksAtNothing p → (after : ℕ) (note : RangeNote) (path : List Action)
+    → SampleEndsPastRange m p after note path → ⊥
+no_range laws m p quiet after note path (inl h) =
+    let ends = h.0 in laws.calm p (3 * m) path (operation_of note) (quiet.searching (3 * m)) ends.0
+no_range laws m p quiet after note path (inr h) = let c = h.0 in no_cause p quiet c.plan after note c.cause
+
+-- where no arithmetic term stands in the texts, no right answer has the status Range
+pub sample_calm : Laws → (m : ℕ) (p : Problem) (x : Input) (a : Answer) → SameInput (a_problem p) x
+    → ProblemHasNoArithmetic (plain_problem p) → IsRightAnswer (sample m) x a → IsCalmStatus (status_of a)
+sample_calm laws m p (a_problem q) (sampled n kept o v) same plain right = tt
+sample_calm laws m p (a_problem q) (past_range after note path) same plain right =
+    absurd
+    (no_range laws m (plain_problem p) (laws.quiet (plain_problem p) plain) after note path (subst (λ (u : PlainProblem). SampleEndsPastRange m u after note path) (sym same.meaning) right))
+sample_calm laws m p x a same plain right = absurd right

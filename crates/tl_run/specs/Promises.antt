@@ -1,5 +1,5 @@
 -- What a run promises.
-use Rattle.std.specs.Prelude.{◌≡◌, ◌⊎◌, ℕ, false, List, Option, ⊤}
+use Rattle.std.specs.Prelude.{◌≡◌, ◌⊎◌, ℕ, false, List, Option, IsSome, ⊤}
 use Rattle.std.specs.Io.KnownBytes.{append_known}
 use Rattle.tl_cert.specs.declared.proof.Proof.{Proof}
 use Rattle.tl_check.specs.declared.verdict.Verdict.{Verdict}
@@ -138,6 +138,11 @@ Headline files c status text = ⊤
 -- an answer that the files allow, and what a reader of its lines may rely on
 abbrev pub AnswersRightly : Option Files → Command → CallsTold → Status → List ℕ → Type 0
 AnswersRightly files c told status text = IsAnswer files c told status text × Headline files c status text
+
+-- the store tells its files; a sample reads none
+abbrev pub AreTold : Option Files → Command → Type 0
+AreTold files (sample balls) = ⊤
+AreTold files c = IsSome files
 
 -- nothing past range is looked at, and a search has room for the search nodes that it meets
 abbrev pub IsCalm : Option Files → Command → Type 0

@@ -1,10 +1,10 @@
 -- What the command `sample` promises: what is right of the search of a sample and of the check of its plan, and what its lines say.
-use Rattle.std.specs.Prelude.{◌≡◌, ◌⊎◌, ℕ, ◌*◌, ◌≤◌, List, [], ◌++◌, length, Option, Some, None, codes, ⊤}
+use Rattle.std.specs.Prelude.{◌≡◌, ◌⊎◌, ℕ, ◌*◌, List, [], ◌++◌, length, Option, Some, None, codes, ⊤}
 use Rattle.std.specs.Fmt.{decimal}
 use Rattle.tl_syntax.specs.Lists.{Among}
 use Rattle.tl_syntax.specs.declared.action.Action.{Action}
 use Rattle.tl_syntax.specs.declared.problem.Problem.{Problem}
-use Rattle.tl_terms.specs.Calm as calm
+use Rattle.tl_terms.specs.Arithmetic.{ProblemHasNoArithmetic}
 use Rattle.tl_terms.specs.Pairs.{Pair, pair_of}
 use Rattle.tl_terms.specs.Problem.{PlainProblem}
 use Rattle.tl_terms.specs.ProblemMeaning.{plain_problem}
@@ -109,9 +109,8 @@ pub record SaysSummary (balls : ℕ) (text : List ℕ) : Type 0 where
   pub keeps : KeepsNodes (plain_problem problem) (3 * balls) ended kept
   pub says : Summarizes balls (plain_problem problem) kept ended text
 
--- the texts stand for a problem, and nothing past range is looked at by the search, or by the check of a plan that is short enough for it
+-- the texts break no rule, and no arithmetic term stands in them
 pub record HasCalmSample (balls : ℕ) : Type 0 where
   pub problem : Problem
   pub stand : SampleStandsFor balls (a_problem problem)
-  pub calm : calm.IsCalm (plain_problem problem) (3 * balls)
-  pub checked : (plan : List Action) (after : ℕ) (note : RangeNote) → length plan ≤ 3 * balls → ¬ IsCause (plain_problem problem) plan (fault.Range after note)
+  pub plain : ProblemHasNoArithmetic (plain_problem problem)

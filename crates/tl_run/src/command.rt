@@ -2,11 +2,10 @@
 ghost use Rattle.std.specs.Prelude.{◌≡◌, ◌↔◌, ◌⊎◌, Some, None, map};
 ghost use Rattle.std.specs.String.{string_bytes};
 ghost use Rattle.tl_outside.specs.Causes.{Rose};
-ghost use Rattle.tl_outside.specs.Told.{Files};
 ghost use Rattle.tl_run.specs.Answers.{Answer};
 ghost use Rattle.tl_run.specs.Commands.{ForCommand, command_in};
 ghost use Rattle.tl_run.specs.Inputs.{Input};
-ghost use Rattle.tl_run.specs.Promises.{Allows, AnswersRightly, Gives, IsCalm, IsCalmStatus, Writes};
+ghost use Rattle.tl_run.specs.Promises.{Allows, AnswersRightly, AreTold, Gives, IsCalm, IsCalmStatus, Writes};
 ghost use Rattle.tl_run.specs.Replies.{HasLines, Sends};
 ghost use Rattle.tl_run.specs.Sent.{sink_told};
 ghost use Rattle.tl_run.specs.Stops.{is_read_fault};
@@ -54,14 +53,15 @@ pub fn run<S: Store, K: Sink>(alloc: Global, words: &[String], store: &mut S, ou
         (sink_told (K.bytes out.old) (K.puts out.old)) (sink_told (K.bytes out.new) (K.puts out.new)) result) }
 
     // An answer that the files allow is the one that is written, but for those that come in its place by a cause of their own.
-    ensures exact { ForCommand (map string_bytes words.now) (λ c. (told : Files) (input : Input) (answer : Answer)
-        → S.files store.old ≡ Some told → Allows (Some told) c input answer
+    ensures exact { ForCommand (map string_bytes words.now) (λ c. (input : Input) (answer : Answer)
+        → AreTold (S.files store.old) c → Allows (S.files store.old) c input answer
         → Gives (K.bytes out.old) (K.bytes out.new) input answer result) }
 
     // Where nothing past range is looked at, no operation past range is the answer; and where a search may keep
-    // all search nodes of at most N actions, it ends with a plan or without one.
-    ensures calm { ForCommand (map string_bytes words.now) (λ c. (told : Files) → S.files store.old ≡ Some told
-        → IsCalm (Some told) c → IsCalmStatus result) }
+    // all search nodes of at most N actions, it ends with a plan or without one. Of a sample it is enough that
+    // its two texts break no rule and have no arithmetic term.
+    ensures calm { ForCommand (map string_bytes words.now) (λ c. AreTold (S.files store.old) c
+        → IsCalm (S.files store.old) c → IsCalmStatus result) }
 {
     laws();
     let Some(command) = command_of(words) else {

@@ -8,9 +8,9 @@ use tl_depth::laws::depth_first_events_are_one;
 use tl_domain::files_stand_for_one_problem;
 use tl_lasso::laws::one_loop_verdict;
 use tl_search::laws::{answers_exclude_each_other, calm_has_no_cause, few_pairs_are_not_spent};
-use tl_terms::laws::plan_order_is_total;
+use tl_terms::laws::{no_arithmetic_looks_at_nothing, plan_order_is_total};
 
-/// One verdict is right of a plan, of one with a repeated part, and of a proof, which leaves no plan where it covers the search space; two files stand for one problem, plans are totally ordered, what a search answers excludes what else it could answer, and the events of a search are one list, in either mode.
+/// One verdict is right of a plan, of one with a repeated part, and of a proof, which leaves no plan where it covers the search space; two files stand for one problem, plans are totally ordered, what a search answers excludes what else it could answer, the events of a search are one list, in either mode, and where no arithmetic term stands nothing is looked at.
 pub(crate) fn laws()
     ensures { Laws }
 {
@@ -22,6 +22,7 @@ pub(crate) fn laws()
     calm_has_no_cause();
     breadth_first_events_are_one();
     depth_first_events_are_one();
+    no_arithmetic_looks_at_nothing();
     covered_has_none();
     one_none_verdict();
     one_loop_verdict();

@@ -11,6 +11,7 @@ pub mod Tuples
 pub mod TuplesRise
 pub mod FailTogether
 pub mod Simplification
+pub mod ByParts
 pub mod Lasso
 pub mod Progression
 pub mod RunLaws
@@ -25,3 +26,4 @@ pub mod NamedSteps
 pub mod OrderLaws
 pub mod FitsAlone
 pub mod QuantifierExamples
+pub mod QuietLaws

@@ -9,7 +9,7 @@ use Rattle.tl_terms.specs.LawsSubstitution.{QuantifiersAreTrueByInstances, Quant
 use Rattle.tl_syntax.specs.Lists.{Each, One}
 use Rattle.tl_terms.specs.Problem.{PlainProblem}
 use Rattle.tl_terms.specs.Progression.{constant, progressed, progressed_all}
-use Rattle.tl_terms.specs.Run.{Situations, Holds, Run, situations_of, Satisfies, SatisfiesAlong}
+use Rattle.tl_terms.specs.Run.{Situations, Holds, Run, situations_of, SatisfiesAlong}
 use Rattle.tl_terms.specs.Simplification.{simplified_and, simplified_or, simplified_not}
 use Rattle.tl_terms.specs.Situation.{Situation}
 use Rattle.tl_syntax.specs.Substitution.{or_else, over, without, value_or_arg, substituted_arg, substituted_args, substituted_bound, value_or_term, substituted_term, substituted_terms, substituted, substituted_all}

@@ -19,6 +19,7 @@ pub mod Idle
 pub mod Operations
 pub mod Looked
 pub mod Calm
+pub mod Arithmetic
 pub mod NamedWorlds
 pub mod LawsGoal
 pub mod LawsDefinitions
@@ -27,6 +28,7 @@ pub mod LawsSubstitution
 pub mod LawsTuples
 pub mod LawsProgression
 pub mod LawsIdle
+pub mod LawsCalm
 pub mod LawsStep
 pub mod LawsValues
 pub mod LawsOrders

@@ -1,5 +1,6 @@
 // Laws of the definitions, each the contract of a function that does nothing.
 
+mod calm;
 mod definitions;
 mod goal;
 mod idling;
@@ -11,6 +12,7 @@ mod substitution;
 mod tuples;
 mod values;
 
+pub use calm::no_arithmetic_looks_at_nothing;
 pub use definitions::{defined_atom_is_its_body, plainly_defined_atom_is_its_body};
 pub use goal::goal_test_is_by_membership;
 pub use idling::{idle_words_mean_their_formula, idling_check_is_truth};

@@ -10,6 +10,7 @@ returns c = record {
   calm = c.calm_has_no_cause.ensures;
   traces = c.breadth_first_events_are_one.ensures;
   deep_traces = c.depth_first_events_are_one.ensures;
+  quiet = c.no_arithmetic_looks_at_nothing.ensures;
   covered = c.covered_has_none.ensures;
   none_verdicts = c.one_none_verdict.ensures;
   loop_verdicts = c.one_loop_verdict.ensures;
