@@ -1,239 +1,206 @@
--- What is true ahead is what holds along the run of some worlds.
-use Rattle.std.proofs.Common.{◌≡◌, ◌≤◌, ◌<◌, ◌+◌, ◌-◌, ◌↔◌, ◌||◌, ◌&&◌, not, ℕ, zero, suc, List, [], ◌∷◌, length, Bool, true, false, true≢false, refl, sym, ap, ap₂, ◌∙◌, subst, inl, inr, arith}
+-- What is true ahead is what holds along a run.
+use Rattle.std.proofs.Common.{◌≡◌, ◌≤◌, ◌<◌, ◌+◌, ◌-◌, ◌↔◌, ◌||◌, ◌&&◌, not, ℕ, zero, suc, List, [], ◌∷◌, ◌++◌, map, take, drop, length, get_or, Option, Some, Bool, true, false, true≢false, refl, sym, ap, ap₂, ◌∙◌, subst, arith, drop-cons, add-one, length-append, length-drop}
+use Rattle.std.specs.Prelude.{slice_get, slice_index_or}
 use Rattle.std.specs.List.{list_any, list_all}
-use mathlib.Core.Path.{fun_ext}
-use native.Mathlib.Decide.{dec_lt}
-use Rattle.tl_check.specs.Ahead.{Ahead, next_of, always_of, eventually_of, until_of, within_of, during_of, in_first, true_ahead, all_ahead, one_ahead}
+use Rattle.tl_check.proofs.AtomLaws.{opened-at}
+use Rattle.tl_check.proofs.HistoryLaws.{there-is}
+use Rattle.tl_check.proofs.LabelLaws.{marks-length, marks-at, marks-drop, marks-made, marks-until, word-looks, word-first}
+use Rattle.tl_check.proofs.LassoLaws.{period-is, situation-there, holds-again}
+use Rattle.tl_check.proofs.PassLabels.{IsMarked}
+use Rattle.tl_check.proofs.RoundLaws.{Marks, Repeats, next-round, always-round, eventually-round, within-round_of, during-round, until-round}
+use Rattle.tl_check.specs.Ahead.{Ahead, Course, marks, marks_on, first_of, in_first, true_ahead, all_ahead, one_ahead}
+use Rattle.tl_check.specs.Later.{later_tree, later_labels}
+use Rattle.tl_check.specs.Passes.{until_labels}
+use Rattle.tl_check.specs.Rounds.{course_from, course_of, worlds_of, lasso_run, situations_round}
+use Rattle.tl_check.specs.declared.later.Later.{Later}
+use Rattle.tl_check.specs.declared.later.Later.TheVariants as later
 use Rattle.tl_syntax.proofs.ListLaws.{iff-trans, iff-path, and-iff, or-iff, not-iff, all-iff, any-iff}
-use Rattle.tl_syntax.specs.declared.value.Value.{Value}
 use Rattle.tl_syntax.specs.Assignment.{Assignment, no_values, bind}
 use Rattle.tl_syntax.specs.Lists.{Each, One}
-use Rattle.tl_syntax.specs.StateFormulas.{IsState, AreState}
 use Rattle.tl_syntax.specs.Trees.{FormulaTree, FormulaTrees, verum, falsum, atom, defined, compare, goal_fact, goal_place, goal_not, negation, conjunction, disjunction, for_all, for_some, next, always, eventually, until, within, during, no_formula, more_formulas}
-use Rattle.tl_terms.specs.Acceptance.{all_but_last, run_of}
+use Rattle.tl_terms.specs.Acceptance.{all_but_last, last_of, run_of}
 use Rattle.tl_terms.specs.Bounds.{tuples}
 use Rattle.tl_terms.specs.Definitions.{situation_of}
 use Rattle.tl_terms.specs.Problem.{PlainProblem}
-use Rattle.tl_terms.specs.Run.{Situations, Holds, HoldAll, HoldsOne, Run, state_at, situations_of, Satisfies, SatisfiesAlong, Begins}
+use Rattle.tl_terms.specs.Run.{Holds, HoldAll, HoldsOne, Run, situations_of, Satisfies, SatisfiesAlong}
 use Rattle.tl_terms.specs.Situation.{Situation}
-use Rattle.tl_terms.specs.Truth.{state_true, all_true, one_true}
+use Rattle.tl_terms.specs.Truth.{state_true}
 use Rattle.tl_terms.specs.World.{World}
-use Rattle.tl_terms.proofs.PlanLaws.{begins-run_of}
-use Rattle.tl_terms.proofs.RunLaws.{state-again}
 
--- ---- a formula without temporal words
+truly : Unit {0} ↔ (true ≡ true)
+truly = (λ _. refl, λ _. tt)
 
-mutual
-  unfolding true_ahead state_true
+falsely : ⊥ ↔ (false ≡ true)
+falsely = (λ b. absurd b, λ e. true≢false (sym e))
 
-  -- it goes by the first world alone
-  pub ahead-state : (p : PlainProblem) (e : Assignment) (f : FormulaTree) (w : World) (ws : List World) → IsState f → true_ahead p e f (w ∷ ws) ≡ state_true (situation_of p w) e f
-  ahead-state p e verum w ws h = refl
-  ahead-state p e falsum w ws h = refl
-  ahead-state p e (atom q ts) w ws h = refl
-  ahead-state p e (defined q ts) w ws h = refl
-  ahead-state p e (compare c x y) w ws h = refl
-  ahead-state p e (goal_fact q xs) w ws h = refl
-  ahead-state p e (goal_place k xs x) w ws h = refl
-  ahead-state p e (goal_not q xs) w ws h = refl
-  ahead-state p e (negation f) w ws h = ap not (ahead-state p e f w ws h)
-  ahead-state p e (conjunction fs) w ws h = all-state p e fs w ws h
-  ahead-state p e (disjunction fs) w ws h = one-state p e fs w ws h
-  ahead-state p e (for_all ss b f) w ws h =
-      ap (λ (q : List Value → Bool). list_all q (tuples (situation_of p w) e ss b)) (fun_ext (λ t. ahead-state p (bind ss t e) f w ws h))
-  ahead-state p e (for_some ss b f) w ws h =
-      ap (λ (q : List Value → Bool). list_any q (tuples (situation_of p w) e ss b)) (fun_ext (λ t. ahead-state p (bind ss t e) f w ws h))
-  ahead-state p e (next f) w ws h = absurd h
-  ahead-state p e (always f) w ws h = absurd h
-  ahead-state p e (eventually f) w ws h = absurd h
-  ahead-state p e (until f g) w ws h = absurd h
-  ahead-state p e (within n f) w ws h = absurd h
-  ahead-state p e (during n f) w ws h = absurd h
+read-there : (ws : List World) (i : ℕ) (w : World) → slice_get ws i ≡ Some w → w ≡ get_or ws i w
+read-there [] i w h = absurd (let z : ⊥ = cc in z)
+read-there (v ∷ ws) zero w h = let q : v ≡ w = cc in sym q
+read-there (v ∷ ws) (suc i) w h = read-there ws i w h
 
-  all-state : (p : PlainProblem) (e : Assignment) (fs : FormulaTrees) (w : World) (ws : List World) → AreState fs → all_ahead p e fs (w ∷ ws) ≡ all_true (situation_of p w) e fs
-  all-state p e no_formula w ws h = refl
-  all-state p e (more_formulas f fs) w ws h = ap₂ ◌&&◌ (ahead-state p e f w ws h.0) (all-state p e fs w ws h.1)
+module _ (p : PlainProblem) (n : ℕ) (ws : List World) (loops : n < length ws) where
+  abbrev c : Course
+  c = course_from p n ws
 
-  one-state : (p : PlainProblem) (e : Assignment) (fs : FormulaTrees) (w : World) (ws : List World) → AreState fs → one_ahead p e fs (w ∷ ws) ≡ one_true (situation_of p w) e fs
-  one-state p e no_formula w ws h = refl
-  one-state p e (more_formulas f fs) w ws h = ap₂ ◌||◌ (ahead-state p e f w ws h.0) (one-state p e fs w ws h.1)
+  abbrev period : ℕ
+  period = suc (length (drop (n + 1) ws))
 
--- ---- situations that follow some worlds, the last of them for ever
-
-module _ (p : PlainProblem) (r : Situations) where
-  abbrev pub Follow : ℕ → List World → Type 0
-  Follow i [] = ⊥
-  Follow i (w ∷ []) = (j : ℕ) → i ≤ j → r j ≡ situation_of p w
-  Follow i (w ∷ v ∷ ws) = (r i ≡ situation_of p w) × Follow (suc i) (v ∷ ws)
-
-  first-is : (i : ℕ) (w : World) (ws : List World) → Follow i (w ∷ ws) → r i ≡ situation_of p w
-  first-is i w [] h = h i (omega arith)
-  first-is i w (v ∷ ws) h = h.0
-
-  stays : (i j : ℕ) (w : World) → i ≤ j → Follow i (w ∷ []) → Follow j (w ∷ [])
-  stays i j w q h k l = h k (omega arith)
+  rises : 0 < period
+  rises = omega arith
 
   -- the test says at which positions Q holds
   abbrev Tells : (ℕ → Type 0) → Ahead → Type 0
-  Tells Q t = (i : ℕ) (ws : List World) → Follow i ws → Q i ↔ (t ws ≡ true)
+  Tells Q t = (i : ℕ) → i < length ws → Q i ↔ (t (drop i ws) ≡ true)
 
-  back : {A B : Type 0} → A ↔ B → B ↔ A
-  back h = (h.1, h.0)
+  -- so do its labels
+  labels-tell : (Q : ℕ → Type 0) (t : Ahead) → Tells Q t → Marks Q (marks t ws)
+  labels-tell Q t h = record { at = λ i l. (let m : i < length ws = omega (arith, l, marks-length t ws) in iff-trans (h i m) (iff-path (λ (b : Bool). b ≡ true) (sym (marks-at t ws i false m)))) }
 
-  truly : Unit {0} ↔ (true ≡ true)
-  truly = (λ _. refl, λ _. tt)
+  test-tells : (Q : ℕ → Type 0) (t : Ahead) → Marks Q (marks t ws) → Tells Q t
+  test-tells Q t h i l = iff-trans (h.at i (omega (arith, marks-length t ws))) (iff-path (λ (b : Bool). b ≡ true) (marks-at t ws i false l))
 
-  falsely : ⊥ ↔ (false ≡ true)
-  falsely = (λ b. absurd b, λ e. true≢false (sym e))
+  size-is : (t : Ahead) → length (marks t ws) ≡ n + period
+  size-is t = marks-length t ws ∙ sym (period-is p n ws loops)
 
-  next-tells : (Q : ℕ → Type 0) (t : Ahead) → Tells Q t → Tells (λ i. Q (suc i)) (next_of t)
-  next-tells Q t h i [] f = absurd f
-  next-tells Q t h i (w ∷ []) f = h (suc i) (w ∷ []) (stays i (suc i) w (omega arith) f)
-  next-tells Q t h i (w ∷ v ∷ ws) f = h (suc i) (v ∷ ws) f.1
+  -- the labels of a round
+  round-is : (t : Ahead) → marks t ws ++ drop n (marks t ws) ≡ marks_on c t ws
+  round-is t = ap (λ (bs : List Bool). marks t ws ++ bs) (marks-drop t n ws)
 
-  -- on the last world Q holds everywhere or nowhere
-  same-last : (Q : ℕ → Type 0) (t : Ahead) → Tells Q t → (i j k : ℕ) (w : World) → i ≤ j → i ≤ k → Follow i (w ∷ []) → Q j → Q k
-  same-last Q t h i j k w l m f q = (h k (w ∷ []) (stays i k w m f)).1 ((h j (w ∷ []) (stays i j w l f)).0 q)
+  word-tells : (word : Later) (Q : ℕ → Type 0) (e : Assignment) (f : FormulaTree) → Marks Q (take (n + period) (later_labels word (marks (true_ahead c e f) ws ++ drop n (marks (true_ahead c e f) ws)))) → Tells Q (true_ahead c e (later_tree word f))
+  word-tells word Q e f h i l =
+      let t = true_ahead c e f in
+      iff-trans (test-tells Q (λ vs. first_of (later_labels word (marks_on c t vs)))
+      (subst (Marks Q) (ap₂ take (period-is p n ws loops) (ap (later_labels word) (round-is t)) ∙ sym (marks-made (later_labels word) (word-looks word) c t ws)) h) i l)
+      (iff-path (λ (b : Bool). b ≡ true) (sym (word-first word c e f (drop i ws))))
 
-  always-tells : (Q : ℕ → Type 0) (t : Ahead) → Tells Q t → Tells (λ i. (j : ℕ) → i ≤ j → Q j) (always_of t)
-  always-tells Q t h i [] f = absurd f
-  always-tells Q t h i (w ∷ []) f =
-      iff-trans (λ g. (g i (omega arith), tt), λ g j l. same-last Q t h i i j w (omega arith) l f g.0) (and-iff (h i (w ∷ []) f) truly)
-  always-tells Q t h i (w ∷ v ∷ ws) f =
-      iff-trans
-      (λ g. (g i (omega arith), λ j l. g j (omega arith)), λ g j l. elim (dec_lt i j) [ yes s ↦ g.1 j s | no s ↦ subst Q (let e : i ≡ j = omega arith in e) g.0 ])
-      (and-iff (h i (w ∷ v ∷ ws) f) (always-tells Q t h (suc i) (v ∷ ws) f.1))
+  -- at which positions a formula holds, and its labels
+  abbrev held : Assignment → FormulaTree → ℕ → Type 0
+  held e f = Holds (situations_round p n ws) e f
 
-  eventually-tells : (Q : ℕ → Type 0) (t : Ahead) → Tells Q t → Tells (λ i. (j : ℕ) × (i ≤ j) × Q j) (eventually_of t)
-  eventually-tells Q t h i [] f = absurd f
-  eventually-tells Q t h i (w ∷ []) f =
-      iff-trans (λ g. inl (same-last Q t h i g.0 i w g.1 (omega arith) f g.2), elim [ inl q ↦ (i, omega arith, q) | inr b ↦ absurd b ]) (or-iff (h i (w ∷ []) f) falsely)
-  eventually-tells Q t h i (w ∷ v ∷ ws) f =
-      iff-trans (
-        λ g. elim (dec_lt i g.0) [ yes s ↦ inr (g.0, s, g.2) | no s ↦ inl (subst Q (let e : g.0 ≡ i = omega (arith, g.1) in e) g.2) ],
-        elim [ inl q ↦ (i, omega arith, q) | inr q ↦ (q.0, omega (arith, q.1), q.2) ],
-      )
-      (or-iff (h i (w ∷ v ∷ ws) f) (eventually-tells Q t h (suc i) (v ∷ ws) f.1))
+  abbrev marked : Assignment → FormulaTree → List Bool
+  marked e f = marks (true_ahead c e f) ws
 
-  abbrev Until : (ℕ → Type 0) → (ℕ → Type 0) → ℕ → Type 0
-  Until P Q i = (j : ℕ) × (i ≤ j) × Q j × ((k : ℕ) → i ≤ k → k < j → P k)
+  sized : (e : Assignment) (f : FormulaTree) → length (marked e f) ≡ n + period
+  sized e f = size-is (true_ahead c e f)
 
-  until-tells : (P Q : ℕ → Type 0) (t u : Ahead) → Tells P t → Tells Q u → Tells (Until P Q) (until_of t u)
-  until-tells P Q t u g h i [] f = absurd f
-  until-tells P Q t u g h i (w ∷ []) f =
-      iff-trans (
-        λ x. inl (same-last Q u h i x.0 i w x.1 (omega arith) f x.2),
-        elim [ inl q ↦ (i, omega arith, q, λ k l m. absurd (omega arith)) | inr b ↦ absurd b.1 ],
-      )
-      (or-iff (h i (w ∷ []) f) (and-iff (g i (w ∷ []) f) falsely))
-  until-tells P Q t u g h i (w ∷ v ∷ ws) f =
-      iff-trans (
-        λ x. elim (dec_lt i x.0) [
-          | yes s ↦ inr (x.3 i (omega arith) s, (x.0, s, x.2, λ k l m. x.3 k (omega arith) m))
-          | no s ↦ inl (subst Q (let e : x.0 ≡ i = omega (arith, x.1) in e) x.2)
-        ],
-        elim [
-          | inl q ↦ (i, omega arith, q, λ k l m. absurd (omega arith))
-          | inr y ↦ (
-            y.1.0,
-            omega (arith, y.1.1),
-            y.1.2,
-            λ k l m. elim (dec_lt i k) [ yes s ↦ y.1.3 k s m | no s ↦ subst P (let e : i ≡ k = omega arith in e) y.0 ],
-          )
-        ],
-      )
-      (or-iff (h i (w ∷ v ∷ ws) f) (and-iff (g i (w ∷ v ∷ ws) f) (until-tells P Q t u g h (suc i) (v ∷ ws) f.1)))
+  repeated : (e : Assignment) (f : FormulaTree) → Repeats n period rises (held e f)
+  repeated e f = holds-again p n ws loops e f
 
-  within-tells : (Q : ℕ → Type 0) (t : Ahead) → Tells Q t → (n : ℕ) → Tells (λ i. (j : ℕ) × (i ≤ j) × (j ≤ i + n) × Q j) (λ ws. within_of t n ws)
-  within-tells Q t h n i [] f = absurd f
-  within-tells Q t h zero i (w ∷ ws) f =
-      iff-trans (λ g. subst Q (let e : g.0 ≡ i = omega (arith, g.1, g.2) in e) g.3, λ q. (i, omega arith, omega arith, q)) (h i (w ∷ ws) f)
-  within-tells Q t h (suc n) i (w ∷ []) f =
-      iff-trans (λ g. inl (same-last Q t h i g.0 i w g.1 (omega arith) f g.3), elim [ inl q ↦ (i, omega arith, omega arith, q) | inr b ↦ absurd b ]) (or-iff (h i (w ∷ []) f) falsely)
-  within-tells Q t h (suc n) i (w ∷ v ∷ ws) f =
-      iff-trans (
-        λ g. elim (dec_lt i g.0) [ yes s ↦ inr (g.0, s, omega (arith, g.2), g.3) | no s ↦ inl (subst Q (let e : g.0 ≡ i = omega (arith, g.1) in e) g.3) ],
-        elim [ inl q ↦ (i, omega arith, omega arith, q) | inr q ↦ (q.0, omega (arith, q.1), omega (arith, q.2), q.3) ],
-      )
-      (or-iff (h i (w ∷ v ∷ ws) f) (within-tells Q t h n (suc i) (v ∷ ws) f.1))
-
-  during-tells : (Q : ℕ → Type 0) (t : Ahead) → Tells Q t → (n : ℕ) → Tells (λ i. (j : ℕ) → i ≤ j → j ≤ i + n → Q j) (λ ws. during_of t n ws)
-  during-tells Q t h n i [] f = absurd f
-  during-tells Q t h zero i (w ∷ ws) f =
-      iff-trans (λ g. g i (omega arith) (omega arith), λ q j l m. subst Q (let e : i ≡ j = omega arith in e) q) (h i (w ∷ ws) f)
-  during-tells Q t h (suc n) i (w ∷ []) f =
-      iff-trans (λ g. (g i (omega arith) (omega arith), tt), λ g j l m. same-last Q t h i i j w (omega arith) l f g.0) (and-iff (h i (w ∷ []) f) truly)
-  during-tells Q t h (suc n) i (w ∷ v ∷ ws) f =
-      iff-trans (
-        λ g. (g i (omega arith) (omega arith), λ j l m. g j (omega arith) (omega arith)),
-        λ g j l m. elim (dec_lt i j) [ yes s ↦ g.1 j s (omega arith) | no s ↦ subst Q (let e : i ≡ j = omega arith in e) g.0 ],
-      )
-      (and-iff (h i (w ∷ v ∷ ws) f) (during-tells Q t h n (suc i) (v ∷ ws) f.1))
+  abbrev Until : Assignment → FormulaTree → FormulaTree → ℕ → Type 0
+  Until e f h j = (k : ℕ) × (j ≤ k) × held e h k × ((m : ℕ) → j ≤ m → m < k → held e f m)
 
   -- a basic formula is read in the first world
-  basic-tells : (test : Situation → Bool) → Tells (λ i. test (r i) ≡ true) (in_first p test)
-  basic-tells test i [] f = absurd f
-  basic-tells test i (w ∷ ws) f = iff-path (λ s. test s ≡ true) (first-is i w ws f)
+  basic-tells : (test : Situation → Bool) → Tells (λ i. test (situations_round p n ws i) ≡ true) (in_first p test)
+  basic-tells test i l =
+      let v = there-is ws i l in
+      iff-path (λ (b : Bool). b ≡ true) (ap test (situation-there p n ws loops i v.0 l (read-there ws i v.0 v.1)) ∙ sym (ap (in_first p test) (opened-at ws i v.0 v.1)))
+
+  situation-is : (i : ℕ) (w : World) → i < length ws → slice_get ws i ≡ Some w → situations_round p n ws i ≡ situation_of p w
+  situation-is i w l q = situation-there p n ws loops i w l (read-there ws i w q)
+
+  -- of until
+  until-tells : (e : Assignment) (f h : FormulaTree) → Marks (Until e f h) (take (n + period) (until_labels (marks (true_ahead c e f) ws ++ drop n (marks (true_ahead c e f) ws)) (marks (true_ahead c e h) ws ++ drop n (marks (true_ahead c e h) ws)))) → Tells (Until e f h) (true_ahead c e (until f h))
+  unfolding true_ahead
+  until-tells e f h k i l =
+      let t = true_ahead c e f in
+      let u = true_ahead c e h in
+      test-tells (Until e f h) (λ vs. first_of (until_labels (marks_on c t vs) (marks_on c u vs)))
+      (subst (Marks (Until e f h)) (ap₂ take (period-is p n ws loops) (ap₂ until_labels (round-is t) (round-is u)) ∙ sym (marks-until c t u ws)) k) i l
 
   mutual
     unfolding Holds true_ahead
 
-    pub holds-ahead : (e : Assignment) (f : FormulaTree) → Tells (Holds r e f) (true_ahead p e f)
-    holds-ahead e verum i ws g = truly
-    holds-ahead e falsum i ws g = falsely
-    holds-ahead e (atom q ts) i ws g = basic-tells (λ s. state_true s e (atom q ts)) i ws g
-    holds-ahead e (defined q ts) i ws g = basic-tells (λ s. state_true s e (defined q ts)) i ws g
-    holds-ahead e (compare c x y) i ws g = basic-tells (λ s. state_true s e (compare c x y)) i ws g
-    holds-ahead e (goal_fact q xs) i ws g = basic-tells (λ s. state_true s e (goal_fact q xs)) i ws g
-    holds-ahead e (goal_place k xs x) i ws g = basic-tells (λ s. state_true s e (goal_place k xs x)) i ws g
-    holds-ahead e (goal_not q xs) i ws g = basic-tells (λ s. state_true s e (goal_not q xs)) i ws g
-    holds-ahead e (negation f) i ws g = not-iff (holds-ahead e f i ws g)
-    holds-ahead e (conjunction fs) i ws g = all-ahead e fs i ws g
-    holds-ahead e (disjunction fs) i ws g = one-ahead e fs i ws g
-    holds-ahead e (for_all ss b f) i [] g = absurd g
-    holds-ahead e (for_all ss b f) i (w ∷ ws) g =
-        iff-trans (iff-path (λ s. Each (λ t. Holds r (bind ss t e) f i) (tuples s e ss b)) (first-is i w ws g))
-        (all-iff (λ t. Holds r (bind ss t e) f i) (λ t. true_ahead p (bind ss t e) f (w ∷ ws)) (λ t. holds-ahead (bind ss t e) f i (w ∷ ws) g) (tuples (situation_of p w) e ss b))
-    holds-ahead e (for_some ss b f) i [] g = absurd g
-    holds-ahead e (for_some ss b f) i (w ∷ ws) g =
-        iff-trans (iff-path (λ s. One (λ t. Holds r (bind ss t e) f i) (tuples s e ss b)) (first-is i w ws g))
-        (any-iff (λ t. Holds r (bind ss t e) f i) (λ t. true_ahead p (bind ss t e) f (w ∷ ws)) (λ t. holds-ahead (bind ss t e) f i (w ∷ ws) g) (tuples (situation_of p w) e ss b))
-    holds-ahead e (next f) i ws g = next-tells (Holds r e f) (true_ahead p e f) (holds-ahead e f) i ws g
-    holds-ahead e (always f) i ws g = always-tells (Holds r e f) (true_ahead p e f) (holds-ahead e f) i ws g
-    holds-ahead e (eventually f) i ws g = eventually-tells (Holds r e f) (true_ahead p e f) (holds-ahead e f) i ws g
-    holds-ahead e (until f h) i ws g = until-tells (Holds r e f) (Holds r e h) (true_ahead p e f) (true_ahead p e h) (holds-ahead e f) (holds-ahead e h) i ws g
-    holds-ahead e (within n f) i ws g = within-tells (Holds r e f) (true_ahead p e f) (holds-ahead e f) n i ws g
-    holds-ahead e (during n f) i ws g = during-tells (Holds r e f) (true_ahead p e f) (holds-ahead e f) n i ws g
+    pub holds-ahead : (e : Assignment) (f : FormulaTree) → Tells (Holds (situations_round p n ws) e f) (true_ahead c e f)
+    holds-ahead e verum i l = truly
+    holds-ahead e falsum i l = falsely
+    holds-ahead e (atom q ts) i l = basic-tells (λ s. state_true s e (atom q ts)) i l
+    holds-ahead e (defined q ts) i l = basic-tells (λ s. state_true s e (defined q ts)) i l
+    holds-ahead e (compare o x y) i l = basic-tells (λ s. state_true s e (compare o x y)) i l
+    holds-ahead e (goal_fact q xs) i l = basic-tells (λ s. state_true s e (goal_fact q xs)) i l
+    holds-ahead e (goal_place k xs x) i l = basic-tells (λ s. state_true s e (goal_place k xs x)) i l
+    holds-ahead e (goal_not q xs) i l = basic-tells (λ s. state_true s e (goal_not q xs)) i l
+    holds-ahead e (negation f) i l = not-iff (holds-ahead e f i l)
+    holds-ahead e (conjunction fs) i l = all-tell e fs i l
+    holds-ahead e (disjunction fs) i l = one-tells e fs i l
+    holds-ahead e (for_all ss b f) i l =
+        let v = there-is ws i l in
+        let all : Situation → Bool = λ s. list_all (λ t. true_ahead c (bind ss t e) f (drop i ws)) (tuples s e ss b) in
+        iff-trans (iff-path (λ s. Each (λ t. Holds (situations_round p n ws) (bind ss t e) f i) (tuples s e ss b)) (situation-is i v.0 l v.1))
+        (iff-trans (all-iff (λ t. Holds (situations_round p n ws) (bind ss t e) f i) (λ t. true_ahead c (bind ss t e) f (drop i ws)) (λ t. holds-ahead (bind ss t e) f i l) (tuples (situation_of p v.0) e ss b))
+        (iff-path (λ (x : Bool). x ≡ true) (sym (ap (in_first p all) (opened-at ws i v.0 v.1)))))
+    holds-ahead e (for_some ss b f) i l =
+        let v = there-is ws i l in
+        let any : Situation → Bool = λ s. list_any (λ t. true_ahead c (bind ss t e) f (drop i ws)) (tuples s e ss b) in
+        iff-trans (iff-path (λ s. One (λ t. Holds (situations_round p n ws) (bind ss t e) f i) (tuples s e ss b)) (situation-is i v.0 l v.1))
+        (iff-trans (any-iff (λ t. Holds (situations_round p n ws) (bind ss t e) f i) (λ t. true_ahead c (bind ss t e) f (drop i ws)) (λ t. holds-ahead (bind ss t e) f i l) (tuples (situation_of p v.0) e ss b))
+        (iff-path (λ (x : Bool). x ≡ true) (sym (ap (in_first p any) (opened-at ws i v.0 v.1)))))
+    holds-ahead e (next f) i l = word-tells later.Next (λ j. Holds (situations_round p n ws) e f (suc j)) e f (next-round n period rises (marked e f) (sized e f) (held e f) (repeated e f) (labels-tell (held e f) (true_ahead c e f) (holds-ahead e f))) i l
+    holds-ahead e (always f) i l = word-tells later.Always (λ j. (k : ℕ) → j ≤ k → Holds (situations_round p n ws) e f k) e f (always-round n period rises (marked e f) (sized e f) (held e f) (repeated e f) (labels-tell (held e f) (true_ahead c e f) (holds-ahead e f))) i l
+    holds-ahead e (eventually f) i l = word-tells later.Eventually (λ j. (k : ℕ) × (j ≤ k) × Holds (situations_round p n ws) e f k) e f (eventually-round n period rises (marked e f) (sized e f) (held e f) (repeated e f) (labels-tell (held e f) (true_ahead c e f) (holds-ahead e f))) i l
+    holds-ahead e (until f h) i l = until-tells e f h (until-round n period rises (marked e f) (marked e h) (sized e f) (sized e h) (held e f) (held e h) (repeated e f) (repeated e h) (labels-tell (held e f) (true_ahead c e f) (holds-ahead e f)) (labels-tell (held e h) (true_ahead c e h) (holds-ahead e h))) i l
+    holds-ahead e (within m f) i l = word-tells (later.Within m) (λ j. (k : ℕ) × (j ≤ k) × (k ≤ j + m) × Holds (situations_round p n ws) e f k) e f (within-round_of n period rises (marked e f) (sized e f) (held e f) (repeated e f) (labels-tell (held e f) (true_ahead c e f) (holds-ahead e f)) m) i l
+    holds-ahead e (during m f) i l = word-tells (later.During m) (λ j. (k : ℕ) → j ≤ k → k ≤ j + m → Holds (situations_round p n ws) e f k) e f (during-round n period rises (marked e f) (sized e f) (held e f) (repeated e f) (labels-tell (held e f) (true_ahead c e f) (holds-ahead e f)) m) i l
 
-    all-ahead : (e : Assignment) (fs : FormulaTrees) → Tells (HoldAll r e fs) (all_ahead p e fs)
-    all-ahead e no_formula i ws g = truly
-    all-ahead e (more_formulas f fs) i ws g = and-iff (holds-ahead e f i ws g) (all-ahead e fs i ws g)
+    all-tell : (e : Assignment) (fs : FormulaTrees) → Tells (HoldAll (situations_round p n ws) e fs) (all_ahead c e fs)
+    all-tell e no_formula i l = truly
+    all-tell e (more_formulas f fs) i l = and-iff (holds-ahead e f i l) (all-tell e fs i l)
 
-    one-ahead : (e : Assignment) (fs : FormulaTrees) → Tells (HoldsOne r e fs) (one_ahead p e fs)
-    one-ahead e no_formula i ws g = falsely
-    one-ahead e (more_formulas f fs) i ws g = or-iff (holds-ahead e f i ws g) (one-ahead e fs i ws g)
+    one-tells : (e : Assignment) (fs : FormulaTrees) → Tells (HoldsOne (situations_round p n ws) e fs) (one_ahead c e fs)
+    one-tells e no_formula i l = falsely
+    one-tells e (more_formulas f fs) i l = or-iff (holds-ahead e f i l) (one-tells e fs i l)
 
--- ---- the run of a plan
+  -- a formula holds at the start of the run exactly where it is true ahead
+  pub satisfies-round : (f : FormulaTree) → Satisfies p (lasso_run p n ws) 0 f ↔ (true_ahead c no_values f ws ≡ true)
+  unfolding SatisfiesAlong
+  satisfies-round f = holds-ahead no_values f 0 (omega arith)
 
-length-stem : (w : World) (ws : List World) → length (all_but_last w ws) ≡ length ws
-length-stem w [] = refl
-length-stem w (v ∷ ws) = ap suc (length-stem v ws)
+-- ---- a run by its worlds
 
--- past the stem the first state of the loop stays
-loop-stays : (q : Run) → q.rest ≡ [] → (i d : ℕ) → length q.stem ≤ i → state_at q (i + d) ≡ state_at q i
-loop-stays q e i zero h = ap (state_at q) (let m : i + 0 ≡ i = omega arith in m)
-loop-stays q e i (suc d) h =
-    ap (state_at q) (let l = ap length e in let m : i + suc d ≡ i + d + suc (length q.rest) = omega arith in m)
-    ∙ (state-again q (i + d) (omega arith) ∙ loop-stays q e i d h)
+take-front : (xs ys : List World) → take (length xs) (xs ++ ys) ≡ xs
+take-front [] ys = refl
+take-front (x ∷ xs) ys = ap (λ (zs : List World). x ∷ zs) (take-front xs ys)
 
-follow-run : (p : PlainProblem) (q : Run) (i : ℕ) (w : World) (ws : List World) → q.rest ≡ [] → length q.stem ≤ i + length ws
-    → Begins (state_at q) i (w ∷ ws) → Follow p (situations_of p q) i (w ∷ ws)
-follow-run p q i w [] e h b = λ j l. ap (situation_of p) (ap (state_at q) (let m : j ≡ i + (j - i) = omega arith in m) ∙ (loop-stays q e i (j - i) (omega arith) ∙ b.0))
-follow-run p q i w (v ∷ ws) e h b = (ap (situation_of p) b.0, follow-run p q (suc i) v ws e (omega arith) b.1)
+drop-past : (xs ys : List World) → drop (length xs) (xs ++ ys) ≡ ys
+drop-past [] ys = refl
+drop-past (x ∷ xs) ys = drop-past xs ys
 
--- a formula holds at the start of a plan's run exactly where it is true ahead
-pub satisfies-ahead : (p : PlainProblem) (w : World) (ws : List World) (f : FormulaTree) → Satisfies p (run_of w ws) 0 f ↔ (true_ahead p no_values f (w ∷ ws) ≡ true)
-unfolding SatisfiesAlong
-satisfies-ahead p w ws f =
-    holds-ahead p (situations_of p (run_of w ws)) no_values f 0 (w ∷ ws)
-    (follow-run p (run_of w ws) 0 w ws refl (let n = length-stem w ws in omega arith) (begins-run_of w ws))
+at-front : (xs ys : List World) (y d : World) → slice_index_or (xs ++ y ∷ ys) (length xs) d ≡ y
+at-front [] ys y d = refl
+at-front (x ∷ xs) ys y d = at-front xs ys y d
+
+past-front : (xs ys : List World) (y : World) → drop (suc (length xs)) (xs ++ y ∷ ys) ≡ ys
+past-front [] ys y = refl
+past-front (x ∷ xs) ys y = past-front xs ys y
+
+run-by : (s : List World) (w : World) (r : List World) (s2 : List World) (w2 : World) (r2 : List World) → s ≡ s2 → w ≡ w2 → r ≡ r2 → (let q : Run = record { stem = s; first = w; rest = r } in q) ≡ record { stem = s2; first = w2; rest = r2 }
+run-by s w r s2 w2 r2 a b d = ap (λ (x : List World). record { stem = x; first = w; rest = r }) a ∙ (ap (λ (x : World). record { stem = s2; first = x; rest = r }) b ∙ ap (λ (x : List World). record { stem = s2; first = w2; rest = x }) d)
+
+run-is : (p : PlainProblem) (r : Run) → lasso_run p (length r.stem) (worlds_of r) ≡ r
+run-is p r =
+    run-by (take (length r.stem) (worlds_of r)) (slice_index_or (worlds_of r) (length r.stem) p.first) (drop (length r.stem + 1) (worlds_of r)) r.stem r.first r.rest
+    (take-front r.stem (r.first ∷ r.rest)) (at-front r.stem r.rest r.first p.first) (ap (λ (k : ℕ). drop k (worlds_of r)) (add-one (length r.stem)) ∙ past-front r.stem r.rest r.first)
+
+-- a formula holds at the start of a run exactly where it is true ahead of its worlds
+pub satisfies-ahead : (p : PlainProblem) (r : Run) (f : FormulaTree) → Satisfies p r 0 f ↔ (true_ahead (course_of p r) no_values f (worlds_of r) ≡ true)
+satisfies-ahead p r f =
+    let loops : length r.stem < length (worlds_of r) = omega (arith, length-append r.stem (r.first ∷ r.rest)) in
+    iff-trans (iff-path (λ (q : Run). Satisfies p q 0 f) (sym (run-is p r)))
+    (iff-trans (satisfies-round p (length r.stem) (worlds_of r) loops f)
+    (iff-path (λ (vs : List World). true_ahead (record { problem = p; again = vs }) no_values f (worlds_of r) ≡ true) (drop-past r.stem (r.first ∷ r.rest))))
+
+-- ---- the run of a plan that ends
+
+last-apart : (w : World) (ws : List World) → all_but_last w ws ++ last_of w ws ∷ [] ≡ w ∷ ws
+last-apart w [] = refl
+last-apart w (v ∷ ws) = ap (λ (vs : List World). w ∷ vs) (last-apart v ws)
+
+last-again : (w : World) (ws : List World) → drop (length ws) (w ∷ ws) ≡ last_of w ws ∷ []
+last-again w [] = refl
+last-again w (v ∷ ws) = last-again v ws
+
+-- a formula holds at its start exactly where it is true ahead of its states, of which the last comes again
+pub satisfies-end : (p : PlainProblem) (w : World) (ws : List World) (f : FormulaTree) → Satisfies p (run_of w ws) 0 f ↔ (true_ahead (course_from p (length ws) (w ∷ ws)) no_values f (w ∷ ws) ≡ true)
+satisfies-end p w ws f =
+    iff-trans (satisfies-ahead p (run_of w ws) f)
+    (iff-path (λ (b : Bool). b ≡ true)
+    (ap (λ (vs : List World). true_ahead (record { problem = p; again = vs }) no_values f (all_but_last w ws ++ last_of w ws ∷ [])) (sym (last-again w ws)) ∙ ap (true_ahead (course_from p (length ws) (w ∷ ws)) no_values f) (last-apart w ws)))

@@ -6,7 +6,7 @@ use Rattle.std.proofs.lemmas.Option.{slice_get_read}
 use Rattle.tl_check.proofs.HistoryLaws.{there-is, each-among}
 use Rattle.tl_check.proofs.LabelLaws.{marks-agree_all}
 use Rattle.tl_check.proofs.SpanLaws.{marks_in-by, test_from-marks}
-use Rattle.tl_check.specs.Ahead.{Ahead, true_ahead}
+use Rattle.tl_check.specs.Ahead.{Ahead, Course, true_ahead}
 use Rattle.tl_check.specs.Facts.{IsAlong, IsOverGoal, Guides, fact_ahead, bound_ahead}
 use Rattle.tl_check.specs.Histories.{IsFactHistory}
 use Rattle.tl_check.specs.Lines.{truth_from, test_from}
@@ -141,7 +141,7 @@ history-known along h is m = each-among (IsFactHistory (states_along along)) alo
 pub marks_in-agree : (t u : Ahead) → ((s : List World) → t s ≡ u s) → (ws : List World) (span : Span) → marks_in t ws span ≡ marks_in u ws span
 marks_in-agree t u h ws span = ap (take (span.to - span.from)) (marks-agree_all t u h (drop span.from ws))
 
-module _ (p : PlainProblem) (e : Assignment) (ws : List World) (span : Span) where
+module _ (p : Course) (e : Assignment) (ws : List World) (span : Span) where
   pub atom-marks : (q : ℕ) (ts : TermTrees) (row : List Value) → ((w : World) → term_values w e ts ≡ Some row) → marks_in (fact_ahead (q, row)) ws span ≡ marks_in (true_ahead p e (atom q ts)) ws span
   unfolding true_ahead state_true situation_of
   atom-marks q ts row h = marks_in-agree (fact_ahead (q, row)) (true_ahead p e (atom q ts)) agree ws span
@@ -150,22 +150,22 @@ module _ (p : PlainProblem) (e : Assignment) (ws : List World) (span : Span) whe
       agree [] = refl
       agree (w ∷ vs) = ap (fact_in w q) (sym (h w))
 
-  pub fact_bound-marks : (q : ℕ) (xs : List Arg) (row : List Value) → Some row ≡ arg_values e xs → marks_in (fact_ahead (q, row)) ws span ≡ marks_in (bound_ahead p e (bound.Fact q xs)) ws span
+  pub fact_bound-marks : (q : ℕ) (xs : List Arg) (row : List Value) → Some row ≡ arg_values e xs → marks_in (fact_ahead (q, row)) ws span ≡ marks_in (bound_ahead p.problem e (bound.Fact q xs)) ws span
   unfolding bound_true situation_of
-  fact_bound-marks q xs row h = marks_in-agree (fact_ahead (q, row)) (bound_ahead p e (bound.Fact q xs)) agree ws span
+  fact_bound-marks q xs row h = marks_in-agree (fact_ahead (q, row)) (bound_ahead p.problem e (bound.Fact q xs)) agree ws span
     where
-      agree : (s : List World) → fact_ahead (q, row) s ≡ bound_ahead p e (bound.Fact q xs) s
+      agree : (s : List World) → fact_ahead (q, row) s ≡ bound_ahead p.problem e (bound.Fact q xs) s
       agree [] = refl
       agree (w ∷ vs) = ap (fact_in w q) h
 
-  -- the same label everywhere
-  pub same-marks : (t : Ahead) (b : Bool) → IsWithin span (length ws) → ((w : World) (vs : List World) → t (w ∷ vs) ≡ b) → replicate (span.to - span.from) b ≡ marks_in t ws span
-  same-marks t b within h = marks_in-by t ws span within (replicate (span.to - span.from) b) (length-replicate (span.to - span.from) b) (λ k l. (
-      let order = within.order in
-      let room = within.within in
-      let v = there-is ws (span.from + k) (omega arith) in
-      get_or-replicate (span.to - span.from) k b false l ∙ sym (ap t (opened-at ws (span.from + k) v.0 v.1) ∙ h v.0 (drop (suc (span.from + k)) ws))
-      ))
+-- the same label everywhere
+pub same-marks : (ws : List World) (span : Span) (t : Ahead) (b : Bool) → IsWithin span (length ws) → ((w : World) (vs : List World) → t (w ∷ vs) ≡ b) → replicate (span.to - span.from) b ≡ marks_in t ws span
+same-marks ws span t b within h = marks_in-by t ws span within (replicate (span.to - span.from) b) (length-replicate (span.to - span.from) b) (λ k l. (
+    let order = within.order in
+    let room = within.within in
+    let v = there-is ws (span.from + k) (omega arith) in
+    get_or-replicate (span.to - span.from) k b false l ∙ sym (ap t (opened-at ws (span.from + k) v.0 v.1) ∙ h v.0 (drop (suc (span.from + k)) ws))
+    ))
 
 -- what the goal list says is the same in every world
 goal-same : (p : PlainProblem) (e : Assignment) (b : Bound) (w v : World) → IsOverGoal b → bound_true (situation_of p w) e b ≡ bound_true (situation_of p v) e b
@@ -177,7 +177,7 @@ goal-same p e (bound.GoalPlace f xs x) w v g = refl
 goal-same p e (bound.GoalNot q xs) w v g = refl
 
 pub goal-marks : (p : PlainProblem) (e : Assignment) (b : Bound) (ws : List World) (span : Span) (w : World) (truth : Bool) → IsOverGoal b → IsWithin span (length ws) → truth ≡ bound_true (situation_of p w) e b → replicate (span.to - span.from) truth ≡ marks_in (bound_ahead p e b) ws span
-goal-marks p e b ws span w truth g within q = same-marks p e ws span (bound_ahead p e b) truth within (λ v vs. goal-same p e b v w g ∙ sym q)
+goal-marks p e b ws span w truth g within q = same-marks ws span (bound_ahead p e b) truth within (λ v vs. goal-same p e b v w g ∙ sym q)
 
 pub goal-guides : (p : PlainProblem) (ws : List World) (b : Bound) (w : World) → IsOverGoal b → Guides p ws b w
 goal-guides p ws b w g = λ e v m h. goal-same p e b w v g ∙ h

@@ -61,6 +61,26 @@ module _ (p : PlainProblem) where
   pub states-count : (plan : List Action) (ws : List World) → states p plan ≡ Some ws → length ws ≡ suc (length plan)
   states-count plan ws e = count (Some p.first) plan ws e
 
+  -- the first actions have the first states
+  front : (o : Option World) (plan : List Action) (k : ℕ) (ws : List World) → states_from p o plan ≡ Some ws → states_from p o (take k plan) ≡ Some (take (suc k) ws)
+  unfolding states_from
+  front None plan k ws e = absurd (let z : ⊥ = cc in z)
+  front (Some u) [] zero ws e = let one : u ∷ [] ≡ ws = cc in ap (λ (us : List World). Some (take 1 us)) one
+  front (Some u) [] (suc k) ws e = let one : u ∷ [] ≡ ws = cc in ap (λ (us : List World). Some (take (suc (suc k)) us)) one
+  front (Some u) (b ∷ plan) zero ws e = by (states_from p (step p u b) plan) e
+    where
+      by : (o : Option (List World)) → then_states u o ≡ Some ws → Some (u ∷ []) ≡ Some (take 1 ws)
+      by None h = absurd (let z : ⊥ = cc in z)
+      by (Some us) h = let all : u ∷ us ≡ ws = cc in ap (λ (vs : List World). Some (take 1 vs)) all
+  front (Some u) (b ∷ plan) (suc k) ws e = by (states_from p (step p u b) plan) refl (λ us q. front (step p u b) plan k us q) e
+    where
+      by : (o : Option (List World)) → states_from p (step p u b) plan ≡ o → ((us : List World) → states_from p (step p u b) plan ≡ Some us → states_from p (step p u b) (take k plan) ≡ Some (take (suc k) us)) → then_states u o ≡ Some ws → then_states u (states_from p (step p u b) (take k plan)) ≡ Some (take (suc (suc k)) ws)
+      by None q below h = absurd (let z : ⊥ = cc in z)
+      by (Some us) q below h = let all : u ∷ us ≡ ws = cc in ap (then_states u) (below us q) ∙ ap (λ (vs : List World). Some (take (suc (suc k)) vs)) all
+
+  pub states-front : (plan : List Action) (k : ℕ) (ws : List World) → states p plan ≡ Some ws → states p (take k plan) ≡ Some (take (suc k) ws)
+  states-front plan k ws e = front (Some p.first) plan k ws e
+
   pub states-begun : (plan : List Action) (ws : List World) → ws ≡ p.first ∷ [] → states p (take 0 plan) ≡ Some ws
   unfolding states_from
   states-begun plan ws q = ap (λ (us : List World). Some us) (sym q)

@@ -1,13 +1,14 @@
 -- The labels of a formula come from those of its parts.
-use Rattle.std.proofs.Common.{◌≡◌, ◌≤◌, ◌<◌, ◌+◌, ◌-◌, ℕ, zero, suc, List, [], ◌∷◌, map, take, drop, length, get_or, Bool, false, not, Ok, Err, Result, IsErrAnd, Box, Global, inl, inr, refl, sym, ap, ap₂, ◌∙◌, subst, arith}
-use Rattle.tl_check.proofs.LabelLaws.{marks-not, marks-next, marks-always, marks-eventually, marks-until, marks-within, marks-during}
-use Rattle.tl_check.proofs.LookedLaws.{not-looked, next-looked, always-looked, eventually-looked, within-looked, during-looked, until-first-looked, until-second-looked, part-looked}
+use Rattle.std.proofs.Common.{◌≡◌, ◌≤◌, ◌<◌, ◌+◌, ◌-◌, ◌⊎◌, ◌++◌, ℕ, zero, suc, List, [], ◌∷◌, map, take, drop, length, get_or, Bool, false, not, Ok, Err, Result, IsErrAnd, Box, Global, inl, inr, refl, sym, ap, ap₂, ◌∙◌, subst, arith, length-drop}
+use Rattle.tl_check.proofs.AtomLaws.{marks_in-agree}
+use Rattle.tl_check.proofs.LabelLaws.{marks-not, word-looks, word-first, round-on, made-here, until-here}
+use Rattle.tl_check.proofs.LookedLaws.{comes-later, not-looked, word-looked, until-first-looked, until-second-looked, part-looked}
 use Rattle.tl_check.proofs.SpanLaws.{marks_in-by, marks_in-at, marks_in-length, marks_in-rest}
 use Rattle.tl_check.proofs.Sizes.{size, sizes}
-use Rattle.tl_check.specs.Ahead.{Ahead, true_ahead, next_of, marks}
-use Rattle.tl_check.specs.Labelled.{looked_at, AreLabels}
+use Rattle.tl_check.specs.Ahead.{Ahead, Course, true_ahead, marks, marks_on, first_of}
+use Rattle.tl_check.specs.Labelled.{ComesAt, looked_at, AreLabels}
 use Rattle.tl_check.specs.Later.{later_tree, later_labels}
-use Rattle.tl_check.specs.Passes.{next_labels, until_labels}
+use Rattle.tl_check.specs.Passes.{until_labels}
 use Rattle.tl_check.specs.Spans.{IsWithin, marks_in}
 use Rattle.tl_action.specs.declared.check_fault.CheckFault.{CheckFault}
 use Rattle.tl_action.specs.declared.check_fault.CheckFault.TheVariants as fault
@@ -36,7 +37,6 @@ use Rattle.tl_syntax.specs.StateFormulas.{IsState}
 use Rattle.tl_syntax.specs.TreeOfFormula.{tree_of_formula, tree_of_formulas}
 use Rattle.tl_syntax.specs.Trees.{FormulaTree, FormulaTrees, negation, conjunction, disjunction, for_all, for_some, next, until, formulas_of_list}
 use Rattle.tl_terms.specs.Operations.{Operation}
-use Rattle.tl_terms.specs.Problem.{PlainProblem}
 use Rattle.tl_terms.specs.World.{World}
 
 -- ---- formulas that have none below them
@@ -67,23 +67,24 @@ state-GoalNot f p xs q = subst IsState (sym (ap tree_of_formula q ∙ tree-GoalN
 
 -- ---- a note of a part
 
--- a note of a part, in a span that begins no earlier, is one of the whole
-pub noted-by : (p : PlainProblem) (ws : List World) (span inner : Span) (e d : Assignment) (whole part : FormulaTree) → span.from ≤ inner.from → ((o : Operation) (k : ℕ) → Among o (looked_at p ws k d part) → Among o (looked_at p ws k e whole)) → (x : CheckFault) → AreLabels p ws inner d part (Err x) → AreLabels p ws span e whole (Err x)
-noted-by p ws span inner e d whole part from step (fault.Range k n) h = (let later = h.0 in omega arith, (step (operation_of n) k h.1.0, h.1.1))
-noted-by p ws span inner e d whole part from step fault.NoMemory h = tt
+-- a note of a part, in a span whose positions come at the first one here or after it, is one of the whole
+pub noted-by : (p : Course) (ws : List World) (span inner : Span) (e d : Assignment) (whole part : FormulaTree) → ((k : ℕ) → ComesAt p ws inner.from k → ComesAt p ws span.from k) → ((o : Operation) (k : ℕ) → Among o (looked_at p ws k d part) → Among o (looked_at p ws k e whole)) → (x : CheckFault) → AreLabels p ws inner d part (Err x) → AreLabels p ws span e whole (Err x)
+noted-by p ws span inner e d whole part comes step (fault.Range k n) h = (comes k h.0, (step (operation_of n) k h.1.0, h.1.1))
+noted-by p ws span inner e d whole part comes step fault.NoMemory h = tt
 
 take-map : {A B : Type 0} (f : A → B) (n : ℕ) (xs : List A) → take n (map f xs) ≡ map f (take n xs)
 take-map f zero xs = refl
 take-map f (suc n) [] = refl
 take-map f (suc n) (x ∷ xs) = ap (λ (ys : List _). f x ∷ ys) (take-map f n xs)
 
-next-at : (t : Ahead) (ws : List World) (i : ℕ) → suc i < length ws → next_of t (drop i ws) ≡ t (drop (suc i) ws)
-next-at t [] i h = absurd (omega arith)
-next-at t (w ∷ []) i h = absurd (omega arith)
-next-at t (w ∷ v ∷ ws) zero h = refl
-next-at t (w ∷ v ∷ ws) (suc i) h = next-at t (v ∷ ws) i (omega arith)
+next-at : (p : Course) (e : Assignment) (f : FormulaTree) (ws : List World) (i : ℕ) → suc i < length ws → true_ahead p e (next f) (drop i ws) ≡ true_ahead p e f (drop (suc i) ws)
+unfolding true_ahead
+next-at p e f [] i h = absurd (omega arith)
+next-at p e f (w ∷ []) i h = absurd (omega arith)
+next-at p e f (w ∷ v ∷ ws) zero h = refl
+next-at p e f (w ∷ v ∷ ws) (suc i) h = next-at p e f (v ∷ ws) i (omega arith)
 
-module _ (p : PlainProblem) (ws : List World) (span : Span) (within : IsWithin span (length ws)) (e : Assignment) (f : FormulaTree) where
+module _ (p : Course) (ws : List World) (span : Span) (within : IsWithin span (length ws)) (e : Assignment) (f : FormulaTree) where
   -- ---- negation
 
   pub not-made : (bs cs : List Bool) → bs ≡ marks_in (true_ahead p e f) ws span → cs ≡ map not bs → cs ≡ marks_in (true_ahead p e (negation f)) ws span
@@ -93,7 +94,7 @@ module _ (p : PlainProblem) (ws : List World) (span : Span) (within : IsWithin s
       q ∙ (ap (map not) h ∙ (sym (take-map not (span.to - span.from) (marks (true_ahead p e f) s)) ∙ ap (take (span.to - span.from)) (marks-not (true_ahead p e f) s)))
 
   pub not-noted : (x : CheckFault) → AreLabels p ws span e f (Err x) → AreLabels p ws span e (negation f) (Err x)
-  not-noted x h = noted-by p ws span span e e (negation f) f (omega arith) (λ o k m. not-looked p ws o e f k m) x h
+  not-noted x h = noted-by p ws span span e e (negation f) f (λ k c. c) (λ o k m. not-looked p ws o e f k m) x h
 
   -- ---- next
 
@@ -105,72 +106,70 @@ module _ (p : PlainProblem) (ws : List World) (span : Span) (within : IsWithin s
   shifted-within h = record { order = (let order = within.order in omega arith); within = omega arith }
 
   pub next-inside : span.to < length ws → (bs : List Bool) → bs ≡ marks_in (true_ahead p e f) ws shifted → bs ≡ marks_in (true_ahead p e (next f)) ws span
-  unfolding true_ahead
-  next-inside h bs q = marks_in-by (next_of (true_ahead p e f)) ws span within bs
+  next-inside h bs q = marks_in-by (true_ahead p e (next f)) ws span within bs
       (ap length q ∙ (marks_in-length (true_ahead p e f) ws shifted (shifted-within h) ∙ (let order = within.order in omega arith)))
       (λ k l. (
       let i : suc (span.from + k) < length ws = omega arith in
       let place : span.from + 1 + k ≡ suc (span.from + k) = omega arith in
       ap (λ (cs : List Bool). get_or cs k false) q
       ∙ (marks_in-at (true_ahead p e f) ws shifted (shifted-within h) k false (omega arith)
-      ∙ (ap (λ (m : ℕ). true_ahead p e f (drop m ws)) place ∙ sym (next-at (true_ahead p e f) ws (span.from + k) i)))
+      ∙ (ap (λ (m : ℕ). true_ahead p e f (drop m ws)) place ∙ sym (next-at p e f ws (span.from + k) i)))
       ))
 
-  pub next-last : span.to ≡ length ws → (bs cs : List Bool) → bs ≡ marks_in (true_ahead p e f) ws span → cs ≡ next_labels bs → cs ≡ marks_in (true_ahead p e (next f)) ws span
-  unfolding true_ahead
-  next-last h bs cs q r =
-      let s = drop span.from ws in
-      r ∙ (ap next_labels (q ∙ marks_in-rest (true_ahead p e f) ws span within h) ∙ (marks-next (true_ahead p e f) s ∙ sym (marks_in-rest (next_of (true_ahead p e f)) ws span within h)))
-
   pub next-noted : (inner : Span) → span.from ≤ inner.from → (x : CheckFault) → AreLabels p ws inner e f (Err x) → AreLabels p ws span e (next f) (Err x)
-  next-noted inner from x h = noted-by p ws span inner e e (next f) f from (λ o k m. next-looked p ws o e f k m) x h
+  next-noted inner from x h = noted-by p ws span inner e e (next f) f (λ k c. comes-later p ws span.from inner.from k from c) (λ o k m. word-looked p ws o later.Next e f k m) x h
 
   -- ---- words that ask for later positions
 
-  -- the positions up to the last one
-  abbrev pub rest : Span
-  rest = record { from = span.from; to = length ws }
+  -- the positions that come at the first one or after it, where those from n on come again
+  module _ (n : ℕ) (again : p.again ≡ drop n ws) (loops : n < length ws) (ahead : Span) (here : ahead.from ≤ span.from) (before : ahead.from ≤ n) (one : (ahead.from ≡ span.from) ⊎ (ahead.from ≡ n)) (to : ahead.to ≡ length ws) where
+    pub ahead-within : IsWithin ahead (length ws)
+    ahead-within = record { order = omega arith; within = omega arith }
 
-  pub rest-within : IsWithin rest (length ws)
-  rest-within = record { order = (let order = within.order in let room = within.within in omega arith); within = omega arith }
+    comes-on : (k : ℕ) → ComesAt p ws ahead.from k → ComesAt p ws span.from k
+    comes-on k c = elim one [
+      | inl q ↦ subst (λ (i : ℕ). ComesAt p ws i k) q c
+      | inr q ↦ elim c [ inl l ↦ inr (let size = ap length again ∙ length-drop n ws in omega arith) | inr l ↦ inr l ]
+    ]
 
-  pub later-made : (word : Later) (bs cs ds : List Bool) → bs ≡ marks_in (true_ahead p e f) ws rest → cs ≡ later_labels word bs → ds ≡ take (span.to - span.from) cs → ds ≡ marks_in (true_ahead p e (later_tree word f)) ws span
-  unfolding true_ahead
-  later-made word bs cs ds h q r =
-      let s = drop span.from ws in
-      r ∙ ap (take (span.to - span.from)) (q ∙ (ap (later_labels word) (h ∙ marks_in-rest (true_ahead p e f) ws rest rest-within refl) ∙ by word s))
-    where
-      by : (word : Later) (s : List World) → later_labels word (marks (true_ahead p e f) s) ≡ marks (true_ahead p e (later_tree word f)) s
-      by later.Always s = marks-always (true_ahead p e f) s
-      by later.Eventually s = marks-eventually (true_ahead p e f) s
-      by (later.Within n) s = marks-within (true_ahead p e f) n s
-      by (later.During n) s = marks-during (true_ahead p e f) n s
+    from-length : span.from ≤ length ws
+    from-length = let order = within.order in let room = within.within in omega arith
 
-  pub later-noted : (word : Later) (x : CheckFault) → AreLabels p ws rest e f (Err x) → AreLabels p ws span e (later_tree word f) (Err x)
-  later-noted word x h = noted-by p ws span rest e e (later_tree word f) f (omega arith) (λ o k m. by word o k m) x h
-    where
-      by : (word : Later) (o : Operation) (k : ℕ) → Among o (looked_at p ws k e f) → Among o (looked_at p ws k e (later_tree word f))
-      by later.Always o k m = always-looked p ws o e f k m
-      by later.Eventually o k m = eventually-looked p ws o e f k m
-      by (later.Within n) o k m = within-looked p ws o e f n k m
-      by (later.During n) o k m = during-looked p ws o e f n k m
+    count-few : span.to - span.from ≤ length ws - span.from
+    count-few = let room = within.within in omega arith
 
-  -- ---- until
+    -- the labels of these positions, and then of those that come again
+    pub round-labels : (d : Assignment) (g : FormulaTree) (bs cs : List Bool) → bs ≡ marks_in (true_ahead p d g) ws ahead → cs ≡ bs ++ drop (n - ahead.from) bs → cs ≡ marks_on p (true_ahead p d g) (drop ahead.from ws)
+    round-labels d g bs cs q r = r ∙ round-on p ws n again ahead.from span.from here before from-length (true_ahead p d g) bs (q ∙ marks_in-rest (true_ahead p d g) ws ahead ahead-within to)
 
-  module _ (d : Assignment) (h : FormulaTree) where
-    pub until-made : (bs cs new ds : List Bool) → d ≡ e → bs ≡ marks_in (true_ahead p e f) ws rest → cs ≡ marks_in (true_ahead p d h) ws rest → new ≡ until_labels bs cs → ds ≡ take (span.to - span.from) new → ds ≡ marks_in (true_ahead p e (until f h)) ws span
-    unfolding true_ahead
-    until-made bs cs new ds q r s t u =
-        let vs = drop span.from ws in
-        u ∙ ap (take (span.to - span.from))
-        (t ∙ (ap₂ until_labels (r ∙ marks_in-rest (true_ahead p e f) ws rest rest-within refl) (s ∙ (ap (λ (x : Assignment). marks_in (true_ahead p x h) ws rest) q ∙ marks_in-rest (true_ahead p e h) ws rest rest-within refl))
-        ∙ marks-until (true_ahead p e f) (true_ahead p e h) vs))
+    pub later-made : (word : Later) (bs cs ds new : List Bool) → bs ≡ marks_in (true_ahead p e f) ws ahead → cs ≡ bs ++ drop (n - ahead.from) bs → ds ≡ later_labels word cs → new ≡ take (span.to - span.from) (drop (span.from - ahead.from) ds) → new ≡ marks_in (true_ahead p e (later_tree word f)) ws span
+    later-made word bs cs ds new q r s u =
+        let t = true_ahead p e f in
+        u ∙ (ap (λ (us : List Bool). take (span.to - span.from) (drop (span.from - ahead.from) us)) (s ∙ ap (later_labels word) (round-labels e f bs cs q r))
+        ∙ (made-here p ws n again ahead.from span.from here before from-length (span.to - span.from) count-few (later_labels word) (word-looks word) t
+        ∙ sym (marks_in-agree (true_ahead p e (later_tree word f)) (λ vs. first_of (later_labels word (marks_on p t vs))) (word-first word p e f) ws span)))
 
-    pub until-first-noted : (x : CheckFault) → AreLabels p ws rest e f (Err x) → AreLabels p ws span e (until f h) (Err x)
-    until-first-noted x k = noted-by p ws span rest e e (until f h) f (omega arith) (λ o j m. until-first-looked p ws o e f h j m) x k
+    pub later-noted : (word : Later) (x : CheckFault) → AreLabels p ws ahead e f (Err x) → AreLabels p ws span e (later_tree word f) (Err x)
+    later-noted word x h = noted-by p ws span ahead e e (later_tree word f) f comes-on (λ o k m. word-looked p ws o word e f k m) x h
 
-    pub until-second-noted : (x : CheckFault) → d ≡ e → AreLabels p ws rest d h (Err x) → AreLabels p ws span e (until f h) (Err x)
-    until-second-noted x q k = noted-by p ws span rest e e (until f h) h (omega arith) (λ o j m. until-second-looked p ws o e f h j m) x (subst (λ (y : Assignment). AreLabels p ws rest y h (Err x)) q k)
+    -- ---- until
+
+    module _ (d : Assignment) (h : FormulaTree) where
+      pub until-made : (bs cs bs2 cs2 ds new : List Bool) → d ≡ e → bs ≡ marks_in (true_ahead p e f) ws ahead → cs ≡ marks_in (true_ahead p d h) ws ahead → bs2 ≡ bs ++ drop (n - ahead.from) bs → cs2 ≡ cs ++ drop (n - ahead.from) cs → ds ≡ until_labels bs2 cs2
+          → new ≡ take (span.to - span.from) (drop (span.from - ahead.from) ds) → new ≡ marks_in (true_ahead p e (until f h)) ws span
+      unfolding true_ahead
+      until-made bs cs bs2 cs2 ds new same q r b c s u =
+          let t = true_ahead p e f in
+          let v = true_ahead p e h in
+          let other : cs2 ≡ marks_on p v (drop ahead.from ws) = round-labels d h cs cs2 r c ∙ ap (λ (x : Assignment). marks_on p (true_ahead p x h) (drop ahead.from ws)) same in
+          u ∙ (ap (λ (us : List Bool). take (span.to - span.from) (drop (span.from - ahead.from) us)) (s ∙ ap₂ until_labels (round-labels e f bs bs2 q b) other)
+          ∙ until-here p ws n again ahead.from span.from here before from-length (span.to - span.from) count-few t v)
+
+      pub until-first-noted : (x : CheckFault) → AreLabels p ws ahead e f (Err x) → AreLabels p ws span e (until f h) (Err x)
+      until-first-noted x k = noted-by p ws span ahead e e (until f h) f comes-on (λ o j m. until-first-looked p ws o e f h j m) x k
+
+      pub until-second-noted : (x : CheckFault) → d ≡ e → AreLabels p ws ahead d h (Err x) → AreLabels p ws span e (until f h) (Err x)
+      until-second-noted x q k = noted-by p ws span ahead e e (until f h) h comes-on (λ o j m. until-second-looked p ws o e f h j m) x (subst (λ (y : Assignment). AreLabels p ws ahead y h (Err x)) q k)
 
 -- labels of one span are equally many
 pub same-length : (ws : List World) (span : Span) → IsWithin span (length ws) → (t u : Ahead) (bs cs : List Bool) → bs ≡ marks_in t ws span → cs ≡ marks_in u ws span → length bs ≡ length cs
@@ -185,6 +184,7 @@ pub record OnePart (f : Formula) (whole part : FormulaTree) : Type 0 where
 
 pub fits-word : (g : Signature) (f : FormulaTree) (word : Later) → Fits g [] (later_tree word f) → Fits g [] f
 unfolding Fits
+fits-word g f later.Next h = h
 fits-word g f later.Always h = h
 fits-word g f later.Eventually h = h
 fits-word g f (later.Within n) h = h
@@ -281,12 +281,12 @@ among-items [] i x h r = absurd (omega arith)
 among-items (y ∷ xs) zero x h r = inl (ap tree_of_formula (sym r))
 among-items (y ∷ xs) (suc i) x h r = inr (among-items xs i x (omega arith) r)
 
-pub item-noted : (p : PlainProblem) (ws : List World) (span : Span) (e d : Assignment) (junction : Junction) (fs : Formulas) (xs : List Formula) (i : ℕ) (x : Formula) → xs ≡ fs.items.items → i < length xs → x ≡ get_or xs i x → d ≡ e
+pub item-noted : (p : Course) (ws : List World) (span : Span) (e d : Assignment) (junction : Junction) (fs : Formulas) (xs : List Formula) (i : ℕ) (x : Formula) → xs ≡ fs.items.items → i < length xs → x ≡ get_or xs i x → d ≡ e
     → (y : CheckFault) → AreLabels p ws span d (tree_of_formula x) (Err y) → AreLabels p ws span e (joined junction (tree_of_formulas fs)) (Err y)
 item-noted p ws span e d junction fs xs i x q h r s y k =
     let whole : tree_of_formulas fs ≡ formulas_of_list (map tree_of_formula xs) = trees-Formulas fs ∙ ap (λ (ys : List Formula). formulas_of_list (map tree_of_formula ys)) (sym q) in
     subst (λ (ts : FormulaTrees). AreLabels p ws span e (joined junction ts) (Err y)) (sym whole)
-    (noted-by p ws span span e e (joined junction (formulas_of_list (map tree_of_formula xs))) (tree_of_formula x) (omega arith) (λ o j m. part-looked p ws o e junction (map tree_of_formula xs) (tree_of_formula x) j (among-items xs i x h r) m) y
+    (noted-by p ws span span e e (joined junction (formulas_of_list (map tree_of_formula xs))) (tree_of_formula x) (λ k c. c) (λ o j m. part-looked p ws o e junction (map tree_of_formula xs) (tree_of_formula x) j (among-items xs i x h r) m) y
     (subst (λ (z : Assignment). AreLabels p ws span z (tree_of_formula x) (Err y)) s k))
 
 -- ---- quantifiers
@@ -316,6 +316,6 @@ handed P (Ok a) x same h = absurd same
 handed P (Err y) x same h = subst (λ (z : CheckFault). P (Err z)) (sym same) h
 
 -- the labels of the next positions
-pub next-handed : (p : PlainProblem) (ws : List World) (span : Span) (within : IsWithin span (length ws)) (e : Assignment) (f : FormulaTree) → span.to < length ws → (r : Result (List Bool) CheckFault) → AreLabels p ws (shifted p ws span within e f) e f r → AreLabels p ws span e (next f) r
+pub next-handed : (p : Course) (ws : List World) (span : Span) (within : IsWithin span (length ws)) (e : Assignment) (f : FormulaTree) → span.to < length ws → (r : Result (List Bool) CheckFault) → AreLabels p ws (shifted p ws span within e f) e f r → AreLabels p ws span e (next f) r
 next-handed p ws span inside e f h (Ok bs) k = next-inside p ws span inside e f h bs k
 next-handed p ws span inside e f h (Err x) k = next-noted p ws span inside e f (shifted p ws span inside e f) (omega arith) x k

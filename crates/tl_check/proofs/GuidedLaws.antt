@@ -5,9 +5,9 @@ use Rattle.std.proofs.lemmas.List.{length-replicate, get_or-replicate}
 use Rattle.tl_check.proofs.AtomLaws.{opened-at}
 use Rattle.tl_check.proofs.JoinLaws.{joins-idle, joins-idle_right, joins-assoc, quantified-joined}
 use Rattle.tl_check.proofs.HistoryLaws.{there-is}
-use Rattle.tl_check.proofs.LookedLaws.{instance-looked}
+use Rattle.tl_check.proofs.LookedLaws.{comes-later, instance-looked}
 use Rattle.tl_check.proofs.SpanLaws.{marks_in-at, marks_in-by, marks_in-length, where-not, where-there}
-use Rattle.tl_check.specs.Ahead.{true_ahead}
+use Rattle.tl_check.specs.Ahead.{Course, true_ahead}
 use Rattle.tl_check.specs.Quantifiers.{Quantifier, joined_truths}
 use Rattle.tl_check.specs.Facts.{Guides, bound_ahead}
 use Rattle.tl_check.specs.Instances.{instance_ahead, JoinsInstance}
@@ -89,8 +89,8 @@ open-is_not All h = true≢false h
 
 -- ---- an instance at one position
 
-module _ (p : PlainProblem) (q : Quantifier) (e : Assignment) where
-  pub instance-in : (w : World) (vs : List World) (b : Bool) → bound_true (situation_of p w) e q.bound ≡ b → instance_ahead p q e (w ∷ vs) ≡ cond b (true_ahead p e q.part (w ∷ vs)) (not (deciding_truth q.junction))
+module _ (p : Course) (q : Quantifier) (e : Assignment) where
+  pub instance-in : (w : World) (vs : List World) (b : Bool) → bound_true (situation_of p.problem w) e q.bound ≡ b → instance_ahead p q e (w ∷ vs) ≡ cond b (true_ahead p e q.part (w ∷ vs)) (not (deciding_truth q.junction))
   instance-in w vs b h = ap (λ (x : Bool). cond x (true_ahead p e q.part (w ∷ vs)) (not (deciding_truth q.junction))) h
 
 -- the world in which a bound is true at a position
@@ -101,43 +101,43 @@ bound-world p e b (w ∷ ws) zero h = (w, refl, h)
 bound-world p e b (w ∷ ws) (suc j) h = bound-world p e b ws j h
 
 -- the labels so far and the instances that are left are together those of the formula
-module _ (p : PlainProblem) (ws : List World) (e : Assignment) (q : Quantifier) (guide : World) (span : Span) where
+module _ (p : Course) (ws : List World) (e : Assignment) (q : Quantifier) (guide : World) (span : Span) where
   pub record Guided (bs : List Bool) (after : Option (List Value)) : Type 0 where
     pub size : length bs ≡ span.to - span.from
     pub so_far : (k : ℕ) → k < span.to - span.from → true_ahead p e (quantified q.junction q.vars q.bound q.part) (drop (span.from + k) ws)
-        ≡ joins q.junction (get_or bs k false) (joined_truths q.junction (λ t. instance_ahead p q (bind q.vars t e) (drop (span.from + k) ws)) (rest_after after (tuples (situation_of p guide) e q.vars q.bound)))
+        ≡ joins q.junction (get_or bs k false) (joined_truths q.junction (λ t. instance_ahead p q (bind q.vars t e) (drop (span.from + k) ws)) (rest_after after (tuples (situation_of p.problem guide) e q.vars q.bound)))
 
 -- the instances in a world are among those of the guide
-module _ (p : PlainProblem) (ws : List World) (e : Assignment) (q : Quantifier) (d : DifferInSlot q.vars) (o : OccurIn q.vars q.bound) (guide : World) (guides : Guides p ws q.bound guide) where
+module _ (p : Course) (ws : List World) (e : Assignment) (q : Quantifier) (d : DifferInSlot q.vars) (o : OccurIn q.vars q.bound) (guide : World) (guides : Guides p.problem ws q.bound guide) where
   abbrev all : List (List Value)
-  all = tuples (situation_of p guide) e q.vars q.bound
+  all = tuples (situation_of p.problem guide) e q.vars q.bound
 
   abbrev truth : List World → List Value → Bool
   truth s t = instance_ahead p q (bind q.vars t e) s
 
   whole-guided : (w : World) (vs : List World) → Among w ws → true_ahead p e (quantified q.junction q.vars q.bound q.part) (w ∷ vs) ≡ joined_truths q.junction (truth (w ∷ vs)) all
   whole-guided w vs m =
-      let here = tuples (situation_of p w) e q.vars q.bound in
+      let here = tuples (situation_of p.problem w) e q.vars q.bound in
       let plain : List Value → Bool = λ t. true_ahead p (bind q.vars t e) q.part (w ∷ vs) in
       quantified-joined p e q.junction q.vars q.bound q.part w vs
       ∙ same-by (deciding_truth q.junction) (joined_truths q.junction plain here) (joined_truths q.junction (truth (w ∷ vs)) all)
       (λ h. (
       let found = one-out (λ t. plain t ≡ deciding_truth q.junction) here (some-decides q.junction plain here h) in
       let t = found.0 in
-      let known = (all-tuples (situation_of p w) e q.vars q.bound d o t).0 found.1 in
-      let there = (all-tuples (situation_of p guide) e q.vars q.bound d o t).1 (known.0, guides (bind q.vars t e) w m known.1) in
+      let known = (all-tuples (situation_of p.problem w) e q.vars q.bound d o t).0 found.1 in
+      let there = (all-tuples (situation_of p.problem guide) e q.vars q.bound d o t).1 (known.0, guides (bind q.vars t e) w m known.1) in
       decided-by_some q.junction (truth (w ∷ vs)) all (one_in (λ u. truth (w ∷ vs) u ≡ deciding_truth q.junction) t all there (instance-in p q (bind q.vars t e) w vs true known.1 ∙ found.2))
       ))
       (λ h. (
       let found = one-out (λ t. truth (w ∷ vs) t ≡ deciding_truth q.junction) all (some-decides q.junction (truth (w ∷ vs)) all h) in
       let t = found.0 in
-      let known = (all-tuples (situation_of p guide) e q.vars q.bound d o t).0 found.1 in
-      let is = by t (bound_true (situation_of p w) (bind q.vars t e) q.bound) refl found.2 in
-      let there = (all-tuples (situation_of p w) e q.vars q.bound d o t).1 (known.0, is.0) in
+      let known = (all-tuples (situation_of p.problem guide) e q.vars q.bound d o t).0 found.1 in
+      let is = by t (bound_true (situation_of p.problem w) (bind q.vars t e) q.bound) refl found.2 in
+      let there = (all-tuples (situation_of p.problem w) e q.vars q.bound d o t).1 (known.0, is.0) in
       decided-by_some q.junction plain here (one_in (λ u. plain u ≡ deciding_truth q.junction) t here there is.1)
       ))
     where
-      by : (t : List Value) (b : Bool) → bound_true (situation_of p w) (bind q.vars t e) q.bound ≡ b → truth (w ∷ vs) t ≡ deciding_truth q.junction → (bound_true (situation_of p w) (bind q.vars t e) q.bound ≡ true) × (true_ahead p (bind q.vars t e) q.part (w ∷ vs) ≡ deciding_truth q.junction)
+      by : (t : List Value) (b : Bool) → bound_true (situation_of p.problem w) (bind q.vars t e) q.bound ≡ b → truth (w ∷ vs) t ≡ deciding_truth q.junction → (bound_true (situation_of p.problem w) (bind q.vars t e) q.bound ≡ true) × (true_ahead p (bind q.vars t e) q.part (w ∷ vs) ≡ deciding_truth q.junction)
       by t true h k = (h, sym (instance-in p q (bind q.vars t e) w vs true h) ∙ k)
       by t false h k = absurd (open-is_not q.junction (sym (instance-in p q (bind q.vars t e) w vs false h) ∙ k))
 
@@ -174,9 +174,9 @@ module _ (p : PlainProblem) (ws : List World) (e : Assignment) (q : Quantifier) 
             by (u ∷ us) (suc j) h = inr (by us j h)
 
     -- the next tuple
-    module _ (bs : List Bool) (after : Option (List Value)) (so : So bs after) (t : List Value) (next : IsNext (length q.vars) (λ t. bound_true (situation_of p guide) (bind q.vars t e) q.bound) after (Some t)) where
+    module _ (bs : List Bool) (after : Option (List Value)) (so : So bs after) (t : List Value) (next : IsNext (length q.vars) (λ t. bound_true (situation_of p.problem guide) (bind q.vars t e) q.bound) after (Some t)) where
       rest-is : rest_after after all ≡ t ∷ rest_after (Some t) all
-      rest-is = rest-some (situation_of p guide) e q.vars q.bound d o after t next
+      rest-is = rest-some (situation_of p.problem guide) e q.vars q.bound d o after t next
 
       pub guided-fewer : length (rest_after (Some t) all) < length (rest_after after all)
       guided-fewer = let size : length (rest_after after all) ≡ suc (length (rest_after (Some t) all)) = ap length rest-is in omega arith
@@ -197,24 +197,22 @@ module _ (p : PlainProblem) (ws : List World) (e : Assignment) (q : Quantifier) 
       pub guided-noted : (new : List Bool) (x : CheckFault) → JoinsInstance p ws span (bind q.vars t e) q bs new (Err x) → AreLabels p ws span e (quantified q.junction q.vars q.bound q.part) (Err x)
       guided-noted new fault.NoMemory h = tt
       guided-noted new (fault.Range k n) h =
-          let low = h.1 in
-          let high = h.2 in
-          let there = bound-world p (bind q.vars t e) q.bound ws h.0 h.3 in
-          let among = (all-tuples (situation_of p there.0) e q.vars q.bound d o t).1 (next.0.0, there.2) in
-          (omega arith, (instance-looked p ws (operation_of n) e q.junction q.vars q.bound q.part t h.0 k there.0 there.1 h.2 among h.4.0, h.4.1))
+          let there = bound-world p.problem (bind q.vars t e) q.bound ws h.0 h.3 in
+          let among = (all-tuples (situation_of p.problem there.0) e q.vars q.bound d o t).1 (next.0.0, there.2) in
+          (comes-later p ws span.from h.0 k h.1 h.2, (instance-looked p ws (operation_of n) e q.junction q.vars q.bound q.part t h.0 k there.0 there.1 h.2 among h.4.0, h.4.1))
 
-    pub guided-end : (bs : List Bool) (after next : Option (List Value)) → IsNext (length q.vars) (λ t. bound_true (situation_of p guide) (bind q.vars t e) q.bound) after next → next ≡ None → So bs after → bs ≡ marks_in (true_ahead p e (quantified q.junction q.vars q.bound q.part)) ws span
+    pub guided-end : (bs : List Bool) (after next : Option (List Value)) → IsNext (length q.vars) (λ t. bound_true (situation_of p.problem guide) (bind q.vars t e) q.bound) after next → next ≡ None → So bs after → bs ≡ marks_in (true_ahead p e (quantified q.junction q.vars q.bound q.part)) ws span
     guided-end bs after next h none so = marks_in-by (true_ahead p e (quantified q.junction q.vars q.bound q.part)) ws span within bs so.size (λ k l. (
         let s = drop (span.from + k) ws in
-        let empty : rest_after after all ≡ [] = rest-none (situation_of p guide) e q.vars q.bound d o after (subst (IsNext (length q.vars) (λ t. bound_true (situation_of p guide) (bind q.vars t e) q.bound) after) none h) in
+        let empty : rest_after after all ≡ [] = rest-none (situation_of p.problem guide) e q.vars q.bound d o after (subst (IsNext (length q.vars) (λ t. bound_true (situation_of p.problem guide) (bind q.vars t e) q.bound) after) none h) in
         sym (so.so_far k l ∙ (ap (λ (ts : List (List Value)). joins q.junction (get_or bs k false) (joined_truths q.junction (truth s) ts)) empty ∙ joins-idle_right q.junction (get_or bs k false)))
         ))
 
 -- ---- the labels of one instance
 
-module _ (p : PlainProblem) (ws : List World) (span : Span) (e : Assignment) (q : Quantifier) (within : IsWithin span (length ws)) (there : List Bool) (told : there ≡ marks_in (bound_ahead p e q.bound) ws span) where
-  bound-at : (k : ℕ) → k < span.to - span.from → get_or there k false ≡ bound_ahead p e q.bound (drop (span.from + k) ws)
-  bound-at k h = ap (λ (bs : List Bool). get_or bs k false) told ∙ marks_in-at (bound_ahead p e q.bound) ws span within k false h
+module _ (p : Course) (ws : List World) (span : Span) (e : Assignment) (q : Quantifier) (within : IsWithin span (length ws)) (there : List Bool) (told : there ≡ marks_in (bound_ahead p.problem e q.bound) ws span) where
+  bound-at : (k : ℕ) → k < span.to - span.from → get_or there k false ≡ bound_ahead p.problem e q.bound (drop (span.from + k) ws)
+  bound-at k h = ap (λ (bs : List Bool). get_or bs k false) told ∙ marks_in-at (bound_ahead p.problem e q.bound) ws span within k false h
 
   no-instance : (k : ℕ) (b : Bool) → k < span.to - span.from → get_or there k false ≡ false → joins q.junction b (instance_ahead p q e (drop (span.from + k) ws)) ≡ b
   no-instance k b h f =
@@ -258,4 +256,4 @@ module _ (p : PlainProblem) (ws : List World) (span : Span) (e : Assignment) (q 
         let from = is.from in
         let to = is.to in
         let place : span.from + (hull.from - span.from) ≡ hull.from = omega arith in
-        (hull.from, is.from, h.0, ap (λ (i : ℕ). bound_ahead p e q.bound (drop i ws)) (sym place) ∙ (sym (bound-at (hull.from - span.from) (omega arith)) ∙ is.first), h.1)
+        (hull.from, is.from, h.0, ap (λ (i : ℕ). bound_ahead p.problem e q.bound (drop i ws)) (sym place) ∙ (sym (bound-at (hull.from - span.from) (omega arith)) ∙ is.first), h.1)

@@ -1,7 +1,7 @@
 -- The truths of instances together.
 use Rattle.std.proofs.Common.{◌≡◌, ◌&&◌, ◌||◌, List, [], ◌∷◌, Bool, true, false, not, refl, ap}
 use Rattle.std.specs.List.{list_any, list_all}
-use Rattle.tl_check.specs.Ahead.{true_ahead}
+use Rattle.tl_check.specs.Ahead.{Course, true_ahead}
 use Rattle.tl_check.specs.Passes.{joins}
 use Rattle.tl_check.specs.Quantifiers.{joined_truths}
 use Rattle.tl_syntax.specs.declared.junction.Junction.{Junction}
@@ -13,7 +13,6 @@ use Rattle.tl_syntax.specs.Assignment.{Assignment, bind}
 use Rattle.tl_syntax.specs.Trees.{FormulaTree}
 use Rattle.tl_terms.specs.Bounds.{tuples}
 use Rattle.tl_terms.specs.Definitions.{situation_of}
-use Rattle.tl_terms.specs.Problem.{PlainProblem}
 use Rattle.tl_terms.specs.World.{World}
 
 pub joins-idle : (junction : Junction) (b : Bool) → joins junction (not (deciding_truth junction)) b ≡ b
@@ -40,8 +39,8 @@ all-joined : {A : Type 0} (truth : A → Bool) (xs : List A) → list_all truth 
 all-joined truth [] = refl
 all-joined truth (x ∷ xs) = ap (λ (b : Bool). truth x && b) (all-joined truth xs)
 
-pub quantified-joined : (p : PlainProblem) (e : Assignment) (junction : Junction) (ss : List Var) (b : Bound) (f : FormulaTree) (w : World) (ws : List World)
-    → true_ahead p e (quantified junction ss b f) (w ∷ ws) ≡ joined_truths junction (λ t. true_ahead p (bind ss t e) f (w ∷ ws)) (tuples (situation_of p w) e ss b)
+pub quantified-joined : (p : Course) (e : Assignment) (junction : Junction) (ss : List Var) (b : Bound) (f : FormulaTree) (w : World) (ws : List World)
+    → true_ahead p e (quantified junction ss b f) (w ∷ ws) ≡ joined_truths junction (λ t. true_ahead p (bind ss t e) f (w ∷ ws)) (tuples (situation_of p.problem w) e ss b)
 unfolding true_ahead
-quantified-joined p e Any ss b f w ws = any-joined (λ t. true_ahead p (bind ss t e) f (w ∷ ws)) (tuples (situation_of p w) e ss b)
-quantified-joined p e All ss b f w ws = all-joined (λ t. true_ahead p (bind ss t e) f (w ∷ ws)) (tuples (situation_of p w) e ss b)
+quantified-joined p e Any ss b f w ws = any-joined (λ t. true_ahead p (bind ss t e) f (w ∷ ws)) (tuples (situation_of p.problem w) e ss b)
+quantified-joined p e All ss b f w ws = all-joined (λ t. true_ahead p (bind ss t e) f (w ∷ ws)) (tuples (situation_of p.problem w) e ss b)

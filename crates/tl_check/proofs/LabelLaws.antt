@@ -1,8 +1,13 @@
 -- Labels are what is true ahead at each position.
-use Rattle.std.proofs.Common.{◌≡◌, ◌≤◌, ◌<◌, ◌+◌, ◌-◌, ◌&&◌, ◌||◌, ℕ, zero, suc, List, [], ◌∷◌, ◌++◌, map, drop, length, replicate, get_or, Bool, true, false, not, refl, sym, ap, ap₂, ◌∙◌, arith, drop-cons, add-one, append_assoc, append-nil, length-drop}
-use Rattle.tl_check.specs.Ahead.{Ahead, next_of, always_of, eventually_of, until_of, within_of, during_of, marks}
-use Rattle.tl_check.specs.Passes.{first_or, next_labels, always_labels, eventually_labels, until_labels, one_within, within_labels, joins, joined_labels}
+use Rattle.std.proofs.Common.{◌≡◌, ◌≤◌, ◌<◌, ◌+◌, ◌-◌, ℕ, zero, suc, List, [], ◌∷◌, ◌++◌, map, take, drop, length, replicate, get_or, Bool, true, false, not, refl, sym, ap, ap₂, ◌∙◌, arith, drop-cons, add-one, append_assoc, append-nil, length-append, length-drop}
+use Rattle.tl_check.specs.Ahead.{Ahead, Course, marks, marks_on, first_of, true_ahead}
+use Rattle.tl_check.specs.Later.{later_tree, later_labels}
+use Rattle.tl_check.specs.Passes.{until_labels, joins, joined_labels}
+use Rattle.tl_check.specs.declared.later.Later.{Later}
+use Rattle.tl_check.specs.declared.later.Later.TheVariants as later
 use Rattle.tl_syntax.specs.declared.junction.Junction.{Junction}
+use Rattle.tl_syntax.specs.Assignment.{Assignment}
+use Rattle.tl_syntax.specs.Trees.{FormulaTree}
 use Rattle.tl_terms.specs.World.{World}
 
 pub marks-length : (t : Ahead) (ws : List World) → length (marks t ws) ≡ length ws
@@ -28,67 +33,69 @@ pub marks-not : (t : Ahead) (ws : List World) → map not (marks t ws) ≡ marks
 marks-not t [] = refl
 marks-not t (w ∷ ws) = ap (λ (bs : List Bool). not (t (w ∷ ws)) ∷ bs) (marks-not t ws)
 
-pub marks-next : (t : Ahead) (ws : List World) → next_labels (marks t ws) ≡ marks (next_of t) ws
-marks-next t [] = refl
-marks-next t (w ∷ []) = refl
-marks-next t (w ∷ v ∷ ws) = ap (λ (bs : List Bool). t (v ∷ ws) ∷ bs) (marks-next t (v ∷ ws))
-
-pub marks-always : (t : Ahead) (ws : List World) → always_labels (marks t ws) ≡ marks (always_of t) ws
-marks-always t [] = refl
-marks-always t (w ∷ ws) = ap₂ (λ (b : Bool) (bs : List Bool). b ∷ bs) (ap (λ (b : Bool). t (w ∷ ws) && b) (ap (first_or true) (marks-always t ws) ∙ first ws)) (marks-always t ws)
-  where
-    first : (vs : List World) → first_or true (marks (always_of t) vs) ≡ always_of t vs
-    first [] = refl
-    first (v ∷ vs) = refl
-
-pub marks-eventually : (t : Ahead) (ws : List World) → eventually_labels (marks t ws) ≡ marks (eventually_of t) ws
-marks-eventually t [] = refl
-marks-eventually t (w ∷ ws) = ap₂ (λ (b : Bool) (bs : List Bool). b ∷ bs) (ap (λ (b : Bool). t (w ∷ ws) || b) (ap (first_or false) (marks-eventually t ws) ∙ first ws)) (marks-eventually t ws)
-  where
-    first : (vs : List World) → first_or false (marks (eventually_of t) vs) ≡ eventually_of t vs
-    first [] = refl
-    first (v ∷ vs) = refl
-
-pub marks-until : (t u : Ahead) (ws : List World) → until_labels (marks t ws) (marks u ws) ≡ marks (until_of t u) ws
-marks-until t u [] = refl
-marks-until t u (w ∷ ws) = ap₂ (λ (b : Bool) (bs : List Bool). b ∷ bs) (ap (λ (b : Bool). u (w ∷ ws) || (t (w ∷ ws) && b)) (ap (first_or false) (marks-until t u ws) ∙ first ws)) (marks-until t u ws)
-  where
-    first : (vs : List World) → first_or false (marks (until_of t u) vs) ≡ until_of t u vs
-    first [] = refl
-    first (v ∷ vs) = refl
-
-one-within-marks : (t : Ahead) (n : ℕ) (ws : List World) → one_within n (marks t ws) ≡ within_of t n ws
-one-within-marks t n [] = refl
-one-within-marks t zero (w ∷ ws) = refl
-one-within-marks t (suc n) (w ∷ ws) = ap (λ (b : Bool). t (w ∷ ws) || b) (one-within-marks t n ws)
-
-pub marks-within : (t : Ahead) (n : ℕ) (ws : List World) → within_labels n (marks t ws) ≡ marks (λ s. within_of t n s) ws
-marks-within t n [] = refl
-marks-within t n (w ∷ ws) = ap₂ (λ (b : Bool) (bs : List Bool). b ∷ bs) (one-within-marks t n (w ∷ ws)) (marks-within t n ws)
-
-not-or : (a b c : Bool) → not b ≡ c → not (not a || b) ≡ (a && c)
-not-or true b c h = h
-not-or false b c h = refl
-
-not-not : (a : Bool) → not (not a) ≡ a
-not-not true = refl
-not-not false = refl
-
-during-is : (t : Ahead) (n : ℕ) (ws : List World) → not (within_of (λ s. not (t s)) n ws) ≡ during_of t n ws
-during-is t n [] = refl
-during-is t zero (w ∷ ws) = not-not (t (w ∷ ws))
-during-is t (suc n) (w ∷ ws) = not-or (t (w ∷ ws)) (within_of (λ s. not (t s)) n ws) (during_of t n ws) (during-is t n ws)
-
-pub marks-during : (t : Ahead) (n : ℕ) (ws : List World) → map not (within_labels n (map not (marks t ws))) ≡ marks (λ s. during_of t n s) ws
-marks-during t n ws =
-    ap (λ (bs : List Bool). map not (within_labels n bs)) (marks-not t ws)
-    ∙ (ap (map not) (marks-within (λ s. not (t s)) n ws)
-    ∙ (marks-not (λ s. within_of (λ s. not (t s)) n s) ws
-    ∙ marks-agree (λ s. not (within_of (λ s. not (t s)) n s)) (λ s. during_of t n s) (λ w vs. during-is t n (w ∷ vs)) ws))
-
 pub marks-joined : (junction : Junction) (t u : Ahead) (ws : List World) → joined_labels junction (marks t ws) (marks u ws) ≡ marks (λ s. joins junction (t s) (u s)) ws
 marks-joined junction t u [] = refl
 marks-joined junction t u (w ∷ ws) = ap (λ (bs : List Bool). joins junction (t (w ∷ ws)) (u (w ∷ ws)) ∷ bs) (marks-joined junction t u ws)
+
+-- ---- labels of the worlds and of those that come again
+
+pub marks-drop : (t : Ahead) (k : ℕ) (ws : List World) → drop k (marks t ws) ≡ marks t (drop k ws)
+marks-drop t zero ws = refl
+marks-drop t (suc k) [] = refl
+marks-drop t (suc k) (w ∷ ws) = marks-drop t k ws
+
+-- each label is made from those of its position and of later ones alone
+abbrev pub LooksOn : (List Bool → List Bool) → Type 0
+LooksOn make = (b : Bool) (bs : List Bool) → make (b ∷ bs) ≡ first_of (make (b ∷ bs)) ∷ make bs
+
+pub word-looks : (word : Later) → LooksOn (later_labels word)
+word-looks later.Next b bs = refl
+word-looks later.Always b bs = refl
+word-looks later.Eventually b bs = refl
+word-looks (later.Within n) b bs = refl
+word-looks (later.During n) b bs = refl
+
+pub word-first : (word : Later) (c : Course) (e : Assignment) (f : FormulaTree) (ws : List World) → true_ahead c e (later_tree word f) ws ≡ first_of (later_labels word (marks_on c (true_ahead c e f) ws))
+unfolding true_ahead
+word-first later.Next c e f ws = refl
+word-first later.Always c e f ws = refl
+word-first later.Eventually c e f ws = refl
+word-first (later.Within n) c e f ws = refl
+word-first (later.During n) c e f ws = refl
+
+module _ (make : List Bool → List Bool) (looks : LooksOn make) where
+  -- the first label that is made, at each world
+  pub marks-made : (c : Course) (t : Ahead) (ws : List World) → marks (λ s. first_of (make (marks_on c t s))) ws ≡ take (length ws) (make (marks_on c t ws))
+  marks-made c t [] = refl
+  marks-made c t (w ∷ ws) =
+      ap (λ (bs : List Bool). first_of (make (marks_on c t (w ∷ ws))) ∷ bs) (marks-made c t ws)
+      ∙ sym (ap (take (suc (length ws))) (looks (t (w ∷ ws)) (marks_on c t ws)))
+
+  pub made-drop : (k : ℕ) (bs : List Bool) → k ≤ length bs → drop k (make bs) ≡ make (drop k bs)
+  made-drop zero bs h = refl
+  made-drop (suc k) [] h = absurd (omega arith)
+  made-drop (suc k) (b ∷ bs) h = ap (drop (suc k)) (looks b bs) ∙ made-drop k bs (omega arith)
+
+pub marks-until : (c : Course) (t u : Ahead) (ws : List World) → marks (λ s. first_of (until_labels (marks_on c t s) (marks_on c u s))) ws ≡ take (length ws) (until_labels (marks_on c t ws) (marks_on c u ws))
+marks-until c t u [] = refl
+marks-until c t u (w ∷ ws) = ap (λ (bs : List Bool). first_of (until_labels (marks_on c t (w ∷ ws)) (marks_on c u (w ∷ ws))) ∷ bs) (marks-until c t u ws)
+
+pub until-drop : (k : ℕ) (bs cs : List Bool) → k ≤ length bs → k ≤ length cs → drop k (until_labels bs cs) ≡ until_labels (drop k bs) (drop k cs)
+until-drop zero bs cs h l = refl
+until-drop (suc k) [] cs h l = absurd (omega arith)
+until-drop (suc k) (b ∷ bs) [] h l = absurd (omega arith)
+until-drop (suc k) (b ∷ bs) (c ∷ cs) h l = until-drop k bs cs (omega arith) (omega arith)
+
+drop-front : {A : Type 0} (k : ℕ) (xs ys : List A) → k ≤ length xs → drop k (xs ++ ys) ≡ drop k xs ++ ys
+drop-front zero xs ys h = refl
+drop-front (suc k) [] ys h = absurd (omega arith)
+drop-front (suc k) (x ∷ xs) ys h = drop-front k xs ys (omega arith)
+
+take-less : {A : Type 0} (k n : ℕ) (xs : List A) → k ≤ n → take k (take n xs) ≡ take k xs
+take-less zero n xs h = refl
+take-less (suc k) zero xs h = absurd (omega arith)
+take-less (suc k) (suc n) [] h = refl
+take-less (suc k) (suc n) (x ∷ xs) h = ap (λ (ys : List _). x ∷ ys) (take-less k n xs (omega arith))
 
 -- ---- labels that are added one after another
 
@@ -129,3 +136,37 @@ label-there t ws at i w bs q h l s =
 
 pub marks-agree_all : (t u : Ahead) → ((s : List World) → t s ≡ u s) → (ws : List World) → marks t ws ≡ marks u ws
 marks-agree_all t u h ws = marks-agree t u (λ w vs. h (w ∷ vs)) ws
+
+-- ---- the labels of the positions from one on, and then of those that come again
+
+module _ (c : Course) (ws : List World) (n : ℕ) (again : c.again ≡ drop n ws) (low i : ℕ) (here : low ≤ i) (before : low ≤ n) (inside : i ≤ length ws) where
+  pub room : (t : Ahead) → i - low ≤ length (marks t (drop low ws))
+  room t = omega (arith, marks-length t (drop low ws), length-drop low ws)
+
+  on-drop : (t : Ahead) → drop (i - low) (marks_on c t (drop low ws)) ≡ marks_on c t (drop i ws)
+  on-drop t =
+      drop-front (i - low) (marks t (drop low ws)) (marks t c.again) (room t)
+      ∙ ap (λ (bs : List Bool). bs ++ marks t c.again) (marks-drop t (i - low) (drop low ws) ∙ ap (marks t) (drop-twice low i ws here))
+
+  -- labels of the span with those of the loop behind them
+  pub round-on : (t : Ahead) (bs : List Bool) → bs ≡ marks t (drop low ws) → bs ++ drop (n - low) bs ≡ marks_on c t (drop low ws)
+  round-on t bs q =
+      ap (λ (cs : List Bool). cs ++ drop (n - low) cs) q
+      ∙ ap (λ (cs : List Bool). marks t (drop low ws) ++ cs) (marks-drop t (n - low) (drop low ws) ∙ (ap (marks t) (drop-twice low n ws before) ∙ ap (marks t) (sym again)))
+
+  on-room : (t : Ahead) → i - low ≤ length (marks_on c t (drop low ws))
+  on-room t = omega (arith, room t, length-append (marks t (drop low ws)) (marks t c.again))
+
+  module _ (count : ℕ) (few : count ≤ length ws - i) where
+    few-here : count ≤ length (drop i ws)
+    few-here = omega (arith, length-drop i ws)
+
+    pub made-here : (make : List Bool → List Bool) → LooksOn make → (t : Ahead) → take count (drop (i - low) (make (marks_on c t (drop low ws)))) ≡ take count (marks (λ s. first_of (make (marks_on c t s))) (drop i ws))
+    made-here make looks t =
+        ap (take count) (made-drop make looks (i - low) (marks_on c t (drop low ws)) (on-room t) ∙ ap make (on-drop t))
+        ∙ sym (ap (take count) (marks-made make looks c t (drop i ws)) ∙ take-less count (length (drop i ws)) (make (marks_on c t (drop i ws))) few-here)
+
+    pub until-here : (t u : Ahead) → take count (drop (i - low) (until_labels (marks_on c t (drop low ws)) (marks_on c u (drop low ws)))) ≡ take count (marks (λ s. first_of (until_labels (marks_on c t s) (marks_on c u s))) (drop i ws))
+    until-here t u =
+        ap (take count) (until-drop (i - low) (marks_on c t (drop low ws)) (marks_on c u (drop low ws)) (on-room t) (on-room u) ∙ ap₂ until_labels (on-drop t) (on-drop u))
+        ∙ sym (ap (take count) (marks-until c t u (drop i ws)) ∙ take-less count (length (drop i ws)) (until_labels (marks_on c t (drop i ws)) (marks_on c u (drop i ws))) few-here)

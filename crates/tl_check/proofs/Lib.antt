@@ -1,4 +1,4 @@
-pub mod AheadLaws
+pub mod StateTruth
 pub mod LookedLaws
 pub mod TemporalLaws
 pub mod LabelLaws
@@ -9,6 +9,10 @@ pub mod Sizes
 pub mod PartLabels
 pub mod FitLaws
 pub mod FormulaLabels
+pub mod PassLabels
+pub mod RoundLaws
+pub mod LassoLaws
+pub mod AheadLaws
 pub mod VerdictLaws
 pub mod ExecutionLaws
 pub mod JudgeLaws

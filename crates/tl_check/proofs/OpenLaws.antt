@@ -6,7 +6,7 @@ use Rattle.tl_check.proofs.PickedLaws.{joined-length, joined-at, placed-length, 
 use Rattle.tl_check.proofs.SpanLaws.{marks_in-length, marks_in-at}
 use Rattle.tl_action.specs.declared.check_fault.CheckFault.{CheckFault}
 use Rattle.tl_action.specs.declared.check_fault.CheckFault.TheVariants as fault
-use Rattle.tl_check.specs.Ahead.{Ahead}
+use Rattle.tl_check.specs.Ahead.{Ahead, Course}
 use Rattle.tl_check.specs.Labelled.{AreLabels, JoinsPart}
 use Rattle.tl_check.specs.Passes.{joins, joined_labels}
 use Rattle.tl_check.specs.Picked.{placed_labels}
@@ -17,7 +17,6 @@ use Rattle.tl_syntax.specs.declared.junction.Junction.TheVariants.{All, Any}
 use Rattle.tl_syntax.specs.Junctions.{deciding_truth}
 use Rattle.tl_syntax.specs.Assignment.{Assignment}
 use Rattle.tl_syntax.specs.Trees.{FormulaTree}
-use Rattle.tl_terms.specs.Problem.{PlainProblem}
 use Rattle.tl_terms.specs.World.{World}
 
 joins-decided : (j : Junction) (b c : Bool) → b ≡ deciding_truth j → joins j b c ≡ b
@@ -25,7 +24,7 @@ joins-decided All b c q = ap (λ (x : Bool). joins All x c) q ∙ sym q
 joins-decided Any b c q = ap (λ (x : Bool). joins Any x c) q ∙ sym q
 
 -- what is noted of the part
-pub part-noted : (p : PlainProblem) (ws : List World) (span : Span) (e : Assignment) (j : Junction) (f : FormulaTree) (old new : List Bool) (y : CheckFault) → JoinsPart p ws span e j f old new (Err y) → AreLabels p ws span e f (Err y)
+pub part-noted : (p : Course) (ws : List World) (span : Span) (e : Assignment) (j : Junction) (f : FormulaTree) (old new : List Bool) (y : CheckFault) → JoinsPart p ws span e j f old new (Err y) → AreLabels p ws span e f (Err y)
 part-noted p ws span e j f old new (fault.Range k n) h = h
 part-noted p ws span e j f old new fault.NoMemory h = tt
 

@@ -11,7 +11,7 @@ use Rattle.tl_check.proofs.FitLaws.{fits-less}
 use Rattle.tl_check.proofs.GuidedLaws.{same-by, some-decides, decided-by_some, one-out}
 use Rattle.tl_check.proofs.JoinLaws.{quantified-joined}
 use Rattle.tl_check.proofs.LookedLaws.{one-within-each, within-there}
-use Rattle.tl_check.specs.Ahead.{true_ahead}
+use Rattle.tl_check.specs.Ahead.{Course, true_ahead}
 use Rattle.tl_check.specs.Labelled.{looked_at, AreLabels}
 use Rattle.tl_check.specs.Quantifiers.{joined_truths}
 use Rattle.tl_check.specs.declared.span.Span.{Span}
@@ -39,7 +39,6 @@ use Rattle.tl_terms.specs.Bounds.{bound_true, tuples}
 use Rattle.tl_terms.specs.Definitions.{situation_of}
 use Rattle.tl_terms.specs.Looked.{LookedTable, looked_in_basics}
 use Rattle.tl_terms.specs.Operations.{Operation}
-use Rattle.tl_terms.specs.Problem.{PlainProblem}
 use Rattle.tl_terms.specs.Situation.{Situation}
 use Rattle.tl_terms.specs.World.{World}
 
@@ -173,7 +172,7 @@ occur-too b ss (u ∷ us) o h = (slot-occurs b ss u o h.0, occur-too b ss us o h
 
 -- ---- the same truth
 
-module _ (p : PlainProblem) (e : Assignment) (j : Junction) (b : Bound) (f : FormulaTree) (ss us : List Var) (d : DifferInSlot ss) (o : OccurIn ss b) (is : AreOrdered ss us) where
+module _ (p : Course) (e : Assignment) (j : Junction) (b : Bound) (f : FormulaTree) (ss us : List Var) (d : DifferInSlot ss) (o : OccurIn ss b) (is : AreOrdered ss us) where
   ou : OccurIn us b
   ou = occur-too b ss us o is.some
 
@@ -186,9 +185,9 @@ module _ (p : PlainProblem) (e : Assignment) (j : Junction) (b : Bound) (f : For
       by All = refl
   ordered-truth (w ∷ ws) =
       quantified-joined p e j us b f w ws
-      ∙ (same-by (deciding_truth j) (joined_truths j (λ t. true_ahead p (bind us t e) f (w ∷ ws)) (tuples (situation_of p w) e us b)) (joined_truths j (λ t. true_ahead p (bind ss t e) f (w ∷ ws)) (tuples (situation_of p w) e ss b))
-      (λ h. decides-too (situation_of p w) e b us ss is.differ ou d o is.all is.some j (λ x. true_ahead p x f (w ∷ ws)) h)
-      (λ h. decides-too (situation_of p w) e b ss us d o is.differ ou is.some is.all j (λ x. true_ahead p x f (w ∷ ws)) h)
+      ∙ (same-by (deciding_truth j) (joined_truths j (λ t. true_ahead p (bind us t e) f (w ∷ ws)) (tuples (situation_of p.problem w) e us b)) (joined_truths j (λ t. true_ahead p (bind ss t e) f (w ∷ ws)) (tuples (situation_of p.problem w) e ss b))
+      (λ h. decides-too (situation_of p.problem w) e b us ss is.differ ou d o is.all is.some j (λ x. true_ahead p x f (w ∷ ws)) h)
+      (λ h. decides-too (situation_of p.problem w) e b ss us d o is.differ ou is.some is.all j (λ x. true_ahead p x f (w ∷ ws)) h)
       ∙ sym (quantified-joined p e j ss b f w ws))
 
   all-too : (looked : Assignment → List Operation) (x : Operation) (bs : List Situation) → Among x (flat_map (λ t. looked (bind us t e)) (flat_map (λ q. tuples q e us b) bs)) → Among x (flat_map (λ t. looked (bind ss t e)) (flat_map (λ q. tuples q e ss b) bs))

@@ -3,7 +3,7 @@ use Rattle.std.proofs.Common.{◌≡◌, ◌<◌, ◌≤◌, ◌+◌, ◌-◌, �
 use Rattle.tl_check.proofs.JoinLaws.{joins-assoc, joins-idle_right, joins-idle}
 use Rattle.tl_check.proofs.AtomLaws.{marks_in-agree, same-marks}
 use Rattle.tl_check.proofs.LabelLaws.{marks-joined}
-use Rattle.tl_check.specs.Ahead.{Ahead, true_ahead, marks}
+use Rattle.tl_check.specs.Ahead.{Ahead, Course, true_ahead, marks}
 use Rattle.tl_check.specs.Passes.{joins, joined_labels}
 use Rattle.tl_check.specs.Spans.{IsWithin, marks_in}
 use Rattle.tl_check.specs.declared.span.Span.{Span}
@@ -16,15 +16,14 @@ use Rattle.tl_syntax.specs.declared.formula.Formulas.{Formulas}
 use Rattle.tl_syntax.specs.Assignment.{Assignment}
 use Rattle.tl_syntax.specs.TreeOfFormula.{tree_of_formula, tree_of_formulas}
 use Rattle.tl_syntax.specs.Trees.{formulas_of_list}
-use Rattle.tl_terms.specs.Problem.{PlainProblem}
 use Rattle.tl_terms.specs.World.{World}
 
 -- the parts together
-abbrev pub joined_ahead : PlainProblem → Assignment → Junction → List Formula → Ahead
+abbrev pub joined_ahead : Course → Assignment → Junction → List Formula → Ahead
 joined_ahead p e junction items = true_ahead p e (joined junction (formulas_of_list (map tree_of_formula items)))
 
 -- the labels so far are those of a test which is, with the parts that are left, that of all parts
-pub record PartsSoFar (p : PlainProblem) (e : Assignment) (ws : List World) (span : Span) (junction : Junction) (items rest : List Formula) (bs : List Bool) : Type 0 where
+pub record PartsSoFar (p : Course) (e : Assignment) (ws : List World) (span : Span) (junction : Junction) (items rest : List Formula) (bs : List Bool) : Type 0 where
   pub so_far : Ahead
   pub labels : bs ≡ marks_in so_far ws span
   pub whole : (s : List World) → joined_ahead p e junction items s ≡ joins junction (so_far s) (joined_ahead p e junction rest s)
@@ -35,11 +34,11 @@ joined-take j (suc n) [] cs = refl
 joined-take j (suc n) (b ∷ bs) [] = refl
 joined-take j (suc n) (b ∷ bs) (c ∷ cs) = ap (λ (ds : List Bool). joins j b c ∷ ds) (joined-take j n bs cs)
 
-module _ (p : PlainProblem) (e : Assignment) (ws : List World) (span : Span) (within : IsWithin span (length ws)) (junction : Junction) (items : List Formula) where
+module _ (p : Course) (e : Assignment) (ws : List World) (span : Span) (within : IsWithin span (length ws)) (junction : Junction) (items : List Formula) where
   pub parts-begun : (bs : List Bool) → bs ≡ replicate (span.to - span.from) (not (deciding_truth junction)) → PartsSoFar p e ws span junction items items bs
   parts-begun bs q = record {
     so_far = λ s. not (deciding_truth junction);
-    labels = q ∙ same-marks p e ws span (λ s. not (deciding_truth junction)) (not (deciding_truth junction)) within (λ w vs. refl);
+    labels = q ∙ same-marks ws span (λ s. not (deciding_truth junction)) (not (deciding_truth junction)) within (λ w vs. refl);
     whole = λ s. sym (joins-idle junction (joined_ahead p e junction items s));
   }
 

@@ -8,7 +8,7 @@ use Rattle.tl_check.specs.Labelled.{AreLabels, JoinsPart}
 use Rattle.tl_check.specs.Later.{later_tree}
 use Rattle.tl_check.specs.PartTrees.{guided_tree, quantified_tree, quantifier_of, until_tree}
 use Rattle.tl_check.specs.Spans.{marks_in}
-use Rattle.tl_check.specs.StatesAlong.{states_along, UnlessFew}
+use Rattle.tl_check.specs.StatesAlong.{states_along, course_along, UnlessFew}
 use Rattle.tl_check.specs.declared.along.Along.{Along}
 use Rattle.tl_check.specs.declared.binder.Binder.{Binder}
 use Rattle.tl_check.specs.declared.instance.GuidedBinder.{GuidedBinder}
@@ -44,11 +44,11 @@ BoundFitsAlong along b = BoundFits (signature_of along.task.now.problem.domain) 
 
 -- the labels of the formula at the span's positions in these worlds, or a note of an operation that it looks at
 abbrev pub AreLabelsIn : Along → List World → Span → List (Option Value) → FormulaTree → Result (List Bool) CheckFault → Type 0
-AreLabelsIn along ws span frame f r = AreLabels (plain_problem along.task.now.problem) ws span (assignment_in frame) f r
+AreLabelsIn along ws span frame f r = AreLabels (course_along along) ws span (assignment_in frame) f r
 
 -- the labels of the formula at the span's positions, or a note of an operation that it looks at, or the states are not all kept
 abbrev pub AreLabelsAlong : Along → Span → List (Option Value) → FormulaTree → Result (List Bool) Unlabelled → Type 0
-AreLabelsAlong along span frame f r = UnlessFew along (AreLabels (plain_problem along.task.now.problem) (states_along along) span (assignment_in frame) f) r
+AreLabelsAlong along span frame f r = UnlessFew along (AreLabels (course_along along) (states_along along) span (assignment_in frame) f) r
 
 -- so it is of a negation
 abbrev pub AreNegatedLabels : Along → Span → List (Option Value) → Formula → Result (List Bool) Unlabelled → Type 0
@@ -80,11 +80,11 @@ AreGuidedLabels along span frame g f r = AreLabelsAlong along span frame (guided
 
 -- the instance under the frame's values is joined with the labels, or an operation that it looks at is noted, or the states are not all kept
 abbrev pub JoinsAlong : Along → Span → List (Option Value) → Instance → List Bool → List Bool → Result (Unit {0}) Unlabelled → Type 0
-JoinsAlong along span frame i old new r = UnlessFew along (JoinsInstance (plain_problem along.task.now.problem) (states_along along) span (assignment_in frame) (quantifier_of i) old new) r
+JoinsAlong along span frame i old new r = UnlessFew along (JoinsInstance (course_along along) (states_along along) span (assignment_in frame) (quantifier_of i) old new) r
 
 -- the labels of the part are joined with these, or an operation that it looks at is noted, or the states are not all kept
 abbrev pub JoinsPartAlong : Along → Span → List (Option Value) → Part → List Bool → List Bool → Result (Unit {0}) Unlabelled → Type 0
-JoinsPartAlong along span frame part old new r = UnlessFew along (JoinsPart (plain_problem along.task.now.problem) (states_along along) span (assignment_in frame) part.junction (tree_of_formula part.formula.now) old new) r
+JoinsPartAlong along span frame part old new r = UnlessFew along (JoinsPart (course_along along) (states_along along) span (assignment_in frame) part.junction (tree_of_formula part.formula.now) old new) r
 
 -- what makes the bound true in one of the states makes it true in this world
 abbrev pub GuidesAlong : Along → Bound → World → Type 0
@@ -96,7 +96,7 @@ fact_along along span k = marks_in (fact_ahead k) (states_along along) span
 
 -- the truth of the atom at each position of the span
 abbrev pub atom_along : Along → Span → List (Option Value) → ℕ → Terms → List Bool
-atom_along along span frame q ts = marks_in (true_ahead (plain_problem along.task.now.problem) (assignment_in frame) (atom q (tree_of_terms ts))) (states_along along) span
+atom_along along span frame q ts = marks_in (true_ahead (course_along along) (assignment_in frame) (atom q (tree_of_terms ts))) (states_along along) span
 
 -- the truth of the bound at each position of the span
 abbrev pub bound_along : Along → Span → List (Option Value) → Bound → List Bool

@@ -1,5 +1,6 @@
-pub mod Ahead
 pub mod Passes
+pub mod Ahead
+pub mod Rounds
 pub mod LawsAhead
 pub mod Lines
 pub mod Tracks

@@ -1,6 +1,7 @@
 -- The states of a plan along which formulas are labelled, and answers that may want them kept.
-use Rattle.std.specs.Prelude.{◌≡◌, List, [], length, Result, Ok, Err, unwrap_or}
+use Rattle.std.specs.Prelude.{◌≡◌, List, [], length, drop, Result, Ok, Err, unwrap_or}
 use Rattle.tl_action.specs.declared.check_fault.CheckFault.{CheckFault}
+use Rattle.tl_check.specs.Ahead.{Course}
 use Rattle.tl_check.specs.declared.along.Along.{Along}
 use Rattle.tl_check.specs.declared.unlabelled.Unlabelled.{Unlabelled}
 use Rattle.tl_check.specs.declared.unlabelled.Unlabelled.TheVariants as unlabelled
@@ -17,6 +18,10 @@ states_of p plan = unwrap_or (states p plan) []
 -- the states of the plan, whether they are kept or not
 abbrev pub states_along : Along → List World
 states_along along = states_of (plain_problem along.task.now.problem) along.plan.now
+
+-- how they go on after the last one: from a position of theirs on they come again
+abbrev pub course_along : Along → Course
+course_along along = record { problem = plain_problem along.task.now.problem; again = drop along.again (states_along along) }
 
 -- the states are not all kept
 abbrev pub KeepsFew : Along → Type 0

@@ -1,10 +1,11 @@
 // What formulas are labelled along.
 ghost use Rattle.std.specs.Prelude.{◌≡◌, IfSome, IfNone};
-ghost use Rattle.tl_check.specs.Facts.{IsAlong};
+ghost use Rattle.tl_check.specs.Facts.{IsAlong, IsAheadOf};
 ghost use Rattle.tl_check.specs.StatesAlong.{states_along, KeepsFew};
 ghost use Rattle.tl_syntax.specs.Lists.{Among};
 
 use crate::history::History;
+use crate::span::Span;
 use std::alloc::Global;
 use tl_syntax::Action;
 use tl_world::{Task, World};
@@ -18,8 +19,10 @@ pub(crate) struct Along<'a> {
     pub(crate) task: &'a Task,
     /// The plan.
     pub(crate) plan: &'a [Action],
-    /// How many states it has, the last of which is repeated for ever.
+    /// How many states it has.
     pub(crate) count: usize,
+    /// Which of them comes after the last one: from there on they are repeated for ever. A plan that ends repeats the last one.
+    pub(crate) again: usize,
     /// These states in their order, or none where they are not kept.
     pub(crate) kept: &'a [World],
     /// When the facts of some predicates hold in them.
@@ -37,6 +40,17 @@ impl Along<'_> {
             Some(self.kept)
         } else {
             None
+        }
+    }
+
+    /// The positions from this one on, and all of those that come again: no others come at it or after it. It takes no memory.
+    pub(crate) fn ahead(&self, from: usize) -> Span
+        ensures { IsAheadOf self.now from result }
+    {
+        let first = if self.again < from { self.again } else { from };
+        Span {
+            from: first,
+            to: self.count,
         }
     }
 

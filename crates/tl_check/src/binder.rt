@@ -4,11 +4,11 @@ use tl_syntax::{Bound, Junction, Vars};
 
 /// A quantifier, without the formula below it.
 #[derive(Clone, Copy)]
-pub struct Binder<'a> {
+pub(crate) struct Binder<'a> {
     /// All instances, or one.
-    pub junction: Junction,
+    pub(crate) junction: Junction,
     /// Its variables.
-    pub vars: &'a Vars,
+    pub(crate) vars: &'a Vars,
     /// The bound that gives them their values.
-    pub bound: &'a Bound,
+    pub(crate) bound: &'a Bound,
 }

@@ -1,15 +1,14 @@
 // The check of a plan.
 ghost use Rattle.std.specs.Prelude.{◌≡◌, ◌<◌, ◌^◌, length, true, IfOk, IfErr};
 ghost use Rattle.tl_action.specs.Actions.{HasOperator};
-ghost use Rattle.tl_check.specs.Executions.{IsExecution};
-ghost use Rattle.tl_check.specs.Judged.{IsTrailOf, IsCauseByTrail, IsCauseFollowing};
+ghost use Rattle.tl_check.specs.Facts.{IsAlong};
+ghost use Rattle.tl_check.specs.Judged.{IsTrailOf, IsCauseByTrail, IsCauseFollowing, ObeysAlong};
 ghost use Rattle.tl_check.specs.Trails.{HasStates, IsFollowedBy};
 ghost use Rattle.tl_check.specs.Verdicts.{IsVerdict, IsCause, AcceptsRightly};
 ghost use Rattle.tl_syntax.specs.Lists.{Each};
 ghost use Rattle.tl_terms.specs.ProblemMeaning.{plain_problem};
 
 use crate::along::Along;
-use crate::execution::{Execution, executed};
 use crate::following::{Follow, Followed, follow_plan};
 use crate::formula_labels::labels_of;
 use crate::history::histories_of;
@@ -27,23 +26,15 @@ use tl_syntax::Action;
 use tl_terms::Steps;
 use tl_world::Task;
 
-/// The execution of a plan, over a count of steps and a frame of its own.
-pub fn execution_of<L: Ledger>(
-    alloc: Global,
-    task: &Task,
-    plan: &[Action],
-    blank: Blank,
-) -> Result<Execution, CheckFault>
-    requires operators { Each (HasOperator (plain_problem task.now.problem)) plan.now }
-    requires short { length plan.now < 2 ^ 32 }
-    requires name { blank.name ≡ L.name }
-    requires parts { blank.parts ≡ L.parts }
-    requires some { 0 < blank.parts }
-    ensures { IsExecution (plain_problem task.now.problem) plan.now result }
+/// Whether the control formula holds at the first position of the run of these states.
+pub(crate) fn obeys(along: &Along) -> Result<bool, Unlabelled>
+    requires { IsAlong along.now }
+    ensures { ObeysAlong along.now result }
 {
-    let mut env = Env::for_task(alloc, task)?;
-    let mut steps: Steps<L> = Steps::new(blank);
-    executed(alloc, task, plan, &mut env, &mut steps)
+    let first = Span { from: 0, to: 1 };
+    let mut env = Env::for_task(along.alloc, along.task)?;
+    let labels = labels_of(&along.task.problem.domain.control, along, first, &mut env)?;
+    Ok(labels.at(0))
 }
 
 /// The verdict on a plan all of whose actions execute, by what is kept of its states.
@@ -64,13 +55,11 @@ fn judged(alloc: Global, task: &Task, plan: &[Action], trail: Trail) -> Result<V
         task,
         plan,
         count: plan.len() + 1,
+        again: plan.len(),
         kept: kept.as_slice(),
         histories: histories.as_slice(),
     };
-    let first = Span { from: 0, to: 1 };
-    let mut env = Env::for_task(alloc, task)?;
-    let labels = labels_of(&task.problem.domain.control, &along, first, &mut env)?;
-    if labels.at(0) {
+    if obeys(&along)? {
         Ok(Verdict::Valid)
     } else {
         Ok(Verdict::Disobeys)
@@ -78,7 +67,7 @@ fn judged(alloc: Global, task: &Task, plan: &[Action], trail: Trail) -> Result<V
 }
 
 /// What comes of following a plan, over a count of steps and a frame of its own.
-fn followed_by<L: Ledger>(
+pub(crate) fn followed_by<L: Ledger>(
     follow: &Follow,
     plan: &[Action],
     blank: Blank,

@@ -18,7 +18,7 @@ use tl_world::Task;
 
 /// What comes of following a plan.
 #[derive(Drop)]
-pub(crate) enum Followed {
+pub enum Followed {
     /// This action, counted from 1, is not executable in its turn.
     Stopped(u32),
     /// All actions execute, and this is kept of their states.

@@ -46,7 +46,7 @@ fn is_read_whole(f: &Formula, along: &Along) -> bool
     has_parts(f) && !is_plain(f, compared) && is_state(f)
 }
 
-/// The truth of a formula at each position of the span, under the frame's values, where the last state is repeated for ever.
+/// The truth of a formula at each position of the span, under the frame's values, where the states from one of them on are repeated for ever.
 ///
 /// Atoms and bounds are labelled by when their facts hold, and what else has no formula below it is read in each state. The labels of other formulas come from those of their parts, which are asked for where they count.
 #[cycle(labels_of)]
@@ -152,12 +152,10 @@ fn next_labels(
         };
         return labels_of(part, along, later, env);
     }
-    let mut found = labels_of(part, along, span, env)?;
-    found.shift()?;
-    Ok(found)
+    later_labels(part, Later::Next, along, span, env)
 }
 
-/// The labels of a word that asks for its part at later positions.
+/// The labels of a word that asks for its part at later positions. Behind those of the last position stand those of the positions that come again: each position sees all that comes after it, and what comes still later has a label that it has seen.
 #[cycle(labels_of)]
 fn later_labels(
     part: &Formula,
@@ -173,17 +171,15 @@ fn later_labels(
     ensures labels { AreLaterLabels along.now span env.old word part.now result }
     ensures frame { OnOk result (env.new ≡ env.old) }
 {
-    let rest = Span {
-        from: span.from,
-        to: along.count,
-    };
-    let mut found = labels_of(part, along, rest, env)?;
+    let ahead = along.ahead(span.from);
+    let mut found = labels_of(part, along, ahead, env)?;
+    found.repeat_from(along.again - ahead.from)?;
     found.later(word)?;
-    found.truncate(span.to - span.from);
+    found.narrow(span.from - ahead.from, span.to - span.from)?;
     Ok(found)
 }
 
-/// The labels of `until`.
+/// The labels of `until`, which go round in the same way.
 #[cycle(labels_of)]
 fn until_labels(
     first: &Formula,
@@ -199,14 +195,13 @@ fn until_labels(
     ensures labels { AreUntilLabels along.now span env.old first.now second.now result }
     ensures frame { OnOk result (env.new ≡ env.old) }
 {
-    let rest = Span {
-        from: span.from,
-        to: along.count,
-    };
-    let mut found = labels_of(first, along, rest, env)?;
-    let other = labels_of(second, along, rest, env)?;
+    let ahead = along.ahead(span.from);
+    let mut found = labels_of(first, along, ahead, env)?;
+    let mut other = labels_of(second, along, ahead, env)?;
+    found.repeat_from(along.again - ahead.from)?;
+    other.repeat_from(along.again - ahead.from)?;
     found.until(&other)?;
-    found.truncate(span.to - span.from);
+    found.narrow(span.from - ahead.from, span.to - span.from)?;
     Ok(found)
 }
 

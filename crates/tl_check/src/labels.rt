@@ -20,11 +20,11 @@ use std::alloc::Global;
 use std::marker::Model;
 use tl_syntax::{Junction, NoMemory};
 
-/// The truth of a formula at each position from some one on to the last. At the last position its world is repeated for ever.
+/// The truth of a formula at each of some positions in a row.
 ///
 /// They are kept as runs of equal labels: what goes over them takes the time of their changes, and not that of the positions.
 #[derive(Drop)]
-pub struct Labels {
+pub(crate) struct Labels {
     runs: Vec<Run>,
 }
 
@@ -39,7 +39,7 @@ impl Model for Labels {
 
 impl Labels {
     /// No label. It takes no memory.
-    pub fn new(alloc: Global) -> Labels
+    pub(crate) fn new(alloc: Global) -> Labels
         ensures { result ≡ [] }
     {
         Labels {
@@ -48,7 +48,7 @@ impl Labels {
     }
 
     /// Adds the label of one more position at the end. A refused call leaves the labels as they were.
-    pub fn push(&mut self, truth: bool) -> Result<(), NoMemory>
+    pub(crate) fn push(&mut self, truth: bool) -> Result<(), NoMemory>
         ensures added { OnOk result (self.new ≡ self.old ++ truth ∷ []) }
         ensures unchanged { OnErr result (self.new ≡ self.old) }
     {
@@ -56,7 +56,7 @@ impl Labels {
     }
 
     /// Adds the same label for so many more positions at the end. A refused call leaves the labels as they were.
-    pub fn add(&mut self, truth: bool, count: usize) -> Result<(), NoMemory>
+    pub(crate) fn add(&mut self, truth: bool, count: usize) -> Result<(), NoMemory>
         ensures added { OnOk result (self.new ≡ self.old ++ replicate count truth) }
         ensures unchanged { OnErr result (self.new ≡ self.old) }
     {
@@ -64,7 +64,7 @@ impl Labels {
     }
 
     /// The same label at so many positions. It fails for want of memory alone.
-    pub fn all(alloc: Global, count: usize, truth: bool) -> Result<Labels, NoMemory>
+    pub(crate) fn all(alloc: Global, count: usize, truth: bool) -> Result<Labels, NoMemory>
         ensures same { IfOk result (λ labels. labels ≡ replicate count truth) }
     {
         let mut labels = Labels::new(alloc);
@@ -73,7 +73,7 @@ impl Labels {
     }
 
     /// The label at a position, counted from the first one here. It takes no memory, and the time of the changes before that position.
-    pub fn at(&self, i: usize) -> bool
+    pub(crate) fn at(&self, i: usize) -> bool
         requires { i < length self.now }
         ensures { result ≡ slice_index_or self.now i false }
     {
@@ -81,7 +81,7 @@ impl Labels {
     }
 
     /// Adds the labels from a position on once more at the end. It fails for want of memory alone.
-    pub fn repeat_from(&mut self, at: usize) -> Result<(), NoMemory>
+    pub(crate) fn repeat_from(&mut self, at: usize) -> Result<(), NoMemory>
         ensures repeated { OnOk result (self.new ≡ self.old ++ drop at self.old) }
     {
         let alloc = *self.runs.allocator();
@@ -97,14 +97,14 @@ impl Labels {
     }
 
     /// The labels of the negation. It takes no memory.
-    pub fn negate(&mut self)
+    pub(crate) fn negate(&mut self)
         ensures { self.new ≡ map not self.old }
     {
         passes::negate(self.runs.as_mut_slice());
     }
 
     /// The labels in the next state. A refused call leaves the labels as they were.
-    pub fn shift(&mut self) -> Result<(), NoMemory>
+    pub(crate) fn shift(&mut self) -> Result<(), NoMemory>
         ensures shifted { OnOk result (self.new ≡ next_labels self.old) }
         ensures unchanged { OnErr result (self.new ≡ self.old) }
     {
@@ -115,7 +115,7 @@ impl Labels {
     }
 
     /// The labels of now or later for the second formula, where this one's hold until then. A refused call leaves the labels as they were; it is refused too where the number of positions does not fit a `usize`.
-    pub fn until(&mut self, second: &Labels) -> Result<(), NoMemory>
+    pub(crate) fn until(&mut self, second: &Labels) -> Result<(), NoMemory>
         requires { length self.old ≡ length second.now }
         ensures until { OnOk result (self.new ≡ until_labels self.old second.now) }
         ensures unchanged { OnErr result (self.new ≡ self.old) }
@@ -146,10 +146,11 @@ impl Labels {
     }
 
     /// The labels of the word before the formula. It fails for want of memory alone.
-    pub fn later(&mut self, word: Later) -> Result<(), NoMemory>
+    pub(crate) fn later(&mut self, word: Later) -> Result<(), NoMemory>
         ensures later { OnOk result (self.new ≡ later_labels word self.old) }
     {
         match word {
+            Later::Next => self.shift()?,
             Later::Always => passes::always(self.runs.as_mut_slice()),
             Later::Eventually => passes::eventually(self.runs.as_mut_slice()),
             Later::Within(steps) => self.within(steps)?,
@@ -159,7 +160,7 @@ impl Labels {
     }
 
     /// The labels of the conjunction or the disjunction of both. A refused call leaves the labels as they were.
-    pub fn join(&mut self, other: &Labels, junction: Junction) -> Result<(), NoMemory>
+    pub(crate) fn join(&mut self, other: &Labels, junction: Junction) -> Result<(), NoMemory>
         requires { length self.old ≡ length other.now }
         ensures joined { OnOk result (self.new ≡ joined_labels junction self.old other.now) }
         ensures unchanged { OnErr result (self.new ≡ self.old) }
@@ -170,11 +171,16 @@ impl Labels {
         Ok(())
     }
 
-    /// Leaves the labels of so many positions. It takes no memory.
-    pub fn truncate(&mut self, count: usize)
-        ensures { self.new ≡ take count self.old }
+    /// Leaves the labels of so many positions from this one on. It fails for want of memory alone.
+    pub(crate) fn narrow(&mut self, at: usize, count: usize) -> Result<(), NoMemory>
+        ensures { OnOk result (self.new ≡ take count (drop at self.old)) }
     {
+        if at > 0 {
+            let alloc = *self.runs.allocator();
+            self.runs = runs::runs_from(alloc, self.runs.as_slice(), at)?;
+        }
         runs::truncate(&mut self.runs, count);
+        Ok(())
     }
 
     /// The least span with all positions where the label is true, if there is one, where the labels are those of this span. It takes no memory.
@@ -234,7 +240,7 @@ impl Labels {
     }
 
     /// The labels together with those of the other list, which are for the positions from `at` on, at those of them where `there` is true. A refused call leaves the labels as they were; it is refused too where the number of positions does not fit a `usize`.
-    pub fn join_where(
+    pub(crate) fn join_where(
         &mut self,
         there: &Labels,
         other: &Labels,

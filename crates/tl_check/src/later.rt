@@ -1,8 +1,10 @@
 // Words that ask for a formula at later positions.
 
-/// A temporal word over one formula, which asks for it at the same and at later positions.
+/// A temporal word over one formula, which asks for it at later positions, and at the same one but for `Next`.
 #[derive(Clone, Copy)]
-pub enum Later {
+pub(crate) enum Later {
+    /// At the next one.
+    Next,
     /// At all of them.
     Always,
     /// At one of them.

@@ -1,8 +1,8 @@
-//! The separate checker of plans (Bacchus and Kabanza 2000). It stands on no progression.
+//! The separate checker of plans (Bacchus and Kabanza 2000), of those that end and of those whose last part is repeated for ever. It stands on no progression.
 //!
 //! - `checker`: the verdict on a plan.
 //! - `verdict`: what a verdict says.
-//! - `execution`: the states of a plan.
+//! - `rounds`: plans whose last part is repeated for ever.
 //! - `following`, `trail`, `predicate_tracks`: a plan is followed from state to state, and what is kept of them.
 //! - `predicates`: the predicates of which a formula speaks.
 //! - `history`: when the facts of a predicate hold along the states of a plan.
@@ -36,7 +36,6 @@ mod binder;
 mod checker;
 mod cuts;
 mod ends;
-mod execution;
 mod following;
 mod formula_labels;
 mod gathered;
@@ -53,6 +52,7 @@ mod plain;
 mod predicate_tracks;
 mod predicates;
 mod rest;
+mod rounds;
 mod run;
 mod runs;
 mod same_places;
@@ -67,11 +67,9 @@ mod unlabelled;
 mod verdict;
 mod waiting;
 
-pub use binder::Binder;
-pub use checker::{check, execution_of};
-pub use execution::Execution;
-pub use labels::Labels;
-pub use later::Later;
-pub use temporal::is_state;
+pub use checker::check;
+pub use following::Followed;
+pub use rounds::{Round, follow_with_states, obeys_round};
 pub use tl_action::CheckFault;
+pub use trail::Trail;
 pub use verdict::Verdict;

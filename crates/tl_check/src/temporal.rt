@@ -8,7 +8,7 @@ use tl_syntax::{Formula, Formulas};
 /// Whether the formula has no temporal word. It takes no memory.
 #[cycle(is_state)]
 #[tactic(auto, using(tl_syntax::proofs::FormulaTrees::formula_trees))]
-pub fn is_state(f: &Formula) -> bool
+pub(crate) fn is_state(f: &Formula) -> bool
     ensures { result ≡ true → IsState (tree_of_formula f.now) }
 {
     match f {

@@ -1,6 +1,7 @@
 // What is kept of the states of a plan, as it is followed.
-ghost use Rattle.std.specs.Prelude.{◌≡◌, ◌∷◌, [], IfOk, OnOk};
+ghost use Rattle.std.specs.Prelude.{◌≡◌, ◌∷◌, [], List, true, IfOk, OnOk};
 ghost use Rattle.tl_check.specs.Trails.{HaveAllSeen, KeepsOne, Follows, FollowsOn};
+ghost use Rattle.tl_terms.specs.World.{World as PlainWorld};
 
 use crate::predicate_tracks::{PredicateTracks, all_begun, all_go_on};
 use std::alloc::Global;
@@ -10,7 +11,7 @@ use tl_world::World;
 
 /// What is kept of the states of a plan so far.
 #[derive(Drop)]
-pub(crate) struct Trail {
+pub struct Trail {
     /// The last of them.
     pub(crate) world: World,
     /// All of them in their order, or none.
@@ -38,6 +39,13 @@ fn keep(alloc: Global, kept: &mut Vec<World>, w: &World, keeps: bool) -> Result<
 }
 
 impl Trail {
+    /// The states, where all of them are kept. It takes no memory.
+    pub fn worlds(&self) -> &[World]
+        ensures { (ws : List PlainWorld) → Follows true ws self.now → result.now ≡ ws }
+    {
+        self.kept.as_slice()
+    }
+
     /// What is kept of the first state, where the states are to be kept or not. It fails for want of memory alone.
     pub(crate) fn begun(
         alloc: Global,

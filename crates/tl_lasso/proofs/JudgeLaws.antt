@@ -6,47 +6,20 @@ use Rattle.std.proofs.lemmas.Option.{slice_get_within}
 use Rattle.tl_action.specs.declared.check_fault.CheckFault.{CheckFault}
 use Rattle.tl_action.specs.declared.check_fault.CheckFault.TheVariants as fault
 use Rattle.tl_check.proofs.ExecutionLaws.{states-count}
-use Rattle.tl_check.specs.Labelled.{looked_there}
 use Rattle.tl_eval.specs.Notes.{Tells, operation_of}
-use Rattle.tl_lasso.proofs.LookedLaws.{after-looked}
-use Rattle.tl_lasso.specs.Judged.{Obeys, IsJudgement}
-use Rattle.tl_lasso.specs.Labelled.{AreLabels, TellsHolding}
-use Rattle.tl_lasso.specs.Lassos.{lasso_run, situations_round}
+use Rattle.tl_check.specs.Judged.{ObeysOn}
+use Rattle.tl_lasso.specs.Judged.{IsJudgementOn}
+use Rattle.tl_check.specs.Rounds.{lasso_run}
 use Rattle.tl_lasso.specs.Verdicts.{LoopStates, IsAcceptedForEver, StaysOpen, MissesGoal, BreaksControl, IsLoopCause, looked_round}
 use Rattle.tl_lasso.specs.declared.verdict.LoopVerdict.{LoopVerdict}
 use Rattle.tl_lasso.specs.declared.verdict.LoopVerdict.TheVariants as verdict
 use Rattle.tl_syntax.specs.declared.action.Action.{Action}
-use Rattle.tl_syntax.specs.Assignment.{Assignment, no_values}
 use Rattle.tl_syntax.specs.Lists.{Among}
-use Rattle.tl_syntax.specs.Trees.{FormulaTree}
 use Rattle.tl_terms.specs.Acceptance.{states, meets_goal}
 use Rattle.tl_terms.specs.Looked.{looked_after}
 use Rattle.tl_terms.specs.Problem.{PlainProblem}
-use Rattle.tl_terms.specs.Run.{Holds, Satisfies, SatisfiesAlong}
+use Rattle.tl_terms.specs.Run.{Satisfies}
 use Rattle.tl_terms.specs.World.{World}
-
--- ---- the label of the control formula
-
--- the first label tells whether the control formula holds
-pub obeys-told : (p : PlainProblem) (n : ℕ) (ws : List World) (d : Assignment) (f : FormulaTree) (bs : List Bool) (b : Bool) → 0 < length ws → d ≡ no_values → f ≡ p.control → TellsHolding p n ws d f bs → b ≡ get_or bs 0 false → Obeys p n ws (Ok b)
-unfolding SatisfiesAlong
-obeys-told p n ws d f bs b some nothing control t q =
-    let at = t.tells 0 some in
-    let whole : Holds (situations_round p n ws) d f 0 ≡ Holds (situations_round p n ws) no_values p.control 0 = ap₂ (λ (x : Assignment) (g : FormulaTree). Holds (situations_round p n ws) x g 0) nothing control in
-    (λ h. q ∙ at.0 (subst (λ X. X) (sym whole) h), λ h. subst (λ X. X) whole (at.1 (sym q ∙ h)))
-
--- and a note is of an operation that it looks at
-pub obeys-noted : (p : PlainProblem) (n : ℕ) (ws : List World) (d : Assignment) (f : FormulaTree) → d ≡ no_values → f ≡ p.control → (r : Result Bool CheckFault) (x : CheckFault) → IsErrAnd r (λ y. y ≡ x) → AreLabels p n ws d f (Err x) → Obeys p n ws r
-obeys-noted p n ws d f nothing control (Ok b) x same h = absurd same
-obeys-noted p n ws d f nothing control (Err y) x same h = subst (λ (z : CheckFault). Obeys p n ws (Err z)) (sym same) (by x h)
-  where
-    by : (z : CheckFault) → AreLabels p n ws d f (Err z) → Obeys p n ws (Err z)
-    by fault.NoMemory k = tt
-    by (fault.Range m note) k = (
-      after-looked p ws (operation_of note) (slice_get ws m) p.control
-          (subst (λ (g : FormulaTree). Among (operation_of note) (looked_there p ws (slice_get ws m) no_values g)) control (subst (λ (a : Assignment). Among (operation_of note) (looked_there p ws (slice_get ws m) a f)) nothing k.0)),
-      k.1,
-    )
 
 -- ---- the states of a plan
 
@@ -127,7 +100,7 @@ module _ (p : PlainProblem) (ws : List World) (n : ℕ) (loops : n + 1 < length 
           breaks-control : (Satisfies p (lasso_run p n once) 0 p.control → ⊥) → BreaksControl p stem cycle
           breaks-control h = record { states = loop_states; closes = closes; reaches = reaches; breaks = h }
 
-          past-in-loop : (x : CheckFault) → Obeys p n once (Err x) → IsLoopCause p stem cycle x
+          past-in-loop : (x : CheckFault) → ObeysOn p n once (Err x) → IsLoopCause p stem cycle x
           past-in-loop fault.NoMemory h = tt
           past-in-loop (fault.Range k note) h = inr (record {
             states = loop_states;
@@ -144,26 +117,26 @@ module _ (p : PlainProblem) (ws : List World) (n : ℕ) (loops : n + 1 < length 
   -- ---- the verdicts
 
   module _ (u v : World) (first : u ≡ get_or ws n u) (last : v ≡ get_or ws (length ws - 1) v) where
-    pub judged-open : (v ≡ u → ⊥) → IsJudgement p ws n (Ok verdict.NotClosed)
+    pub judged-open : (v ≡ u → ⊥) → IsJudgementOn p ws n (Ok verdict.NotClosed)
     judged-open h = record { verdict = λ stem cycle c e. stays-open stem cycle c e u v first last h; cause = λ stem cycle c e. tt }
 
     module _ (closed : v ≡ u) where
-      pub judged-missing : meets_goal u p.goal p.avoid ≡ false → IsJudgement p ws n (Ok verdict.GoalUnmet)
+      pub judged-missing : meets_goal u p.goal p.avoid ≡ false → IsJudgementOn p ws n (Ok verdict.GoalUnmet)
       judged-missing h = record { verdict = λ stem cycle c e. misses-goal stem cycle c e u v first last closed h; cause = λ stem cycle c e. tt }
 
       module _ (met : meets_goal u p.goal p.avoid ≡ true) (us : List World) (all : us ≡ once) where
-        pub judged-valid : (b : Bool) → b ≡ true → Obeys p n us (Ok b) → IsJudgement p ws n (Ok verdict.Valid)
-        judged-valid b h o = record { verdict = λ stem cycle c e. accepts stem cycle c e u v first last closed met ((subst (λ (vs : List World). Obeys p n vs (Ok b)) all o).1 h); cause = λ stem cycle c e. tt }
+        pub judged-valid : (b : Bool) → b ≡ true → ObeysOn p n us (Ok b) → IsJudgementOn p ws n (Ok verdict.Valid)
+        judged-valid b h o = record { verdict = λ stem cycle c e. accepts stem cycle c e u v first last closed met ((subst (λ (vs : List World). ObeysOn p n vs (Ok b)) all o).1 h); cause = λ stem cycle c e. tt }
 
-        pub judged-breaking : (b : Bool) → b ≡ false → Obeys p n us (Ok b) → IsJudgement p ws n (Ok verdict.Disobeys)
+        pub judged-breaking : (b : Bool) → b ≡ false → ObeysOn p n us (Ok b) → IsJudgementOn p ws n (Ok verdict.Disobeys)
         judged-breaking b h o = record {
-          verdict = λ stem cycle c e. breaks-control stem cycle c e u v first last closed met (λ s. true≢false (sym ((subst (λ (vs : List World). Obeys p n vs (Ok b)) all o).0 s) ∙ h));
+          verdict = λ stem cycle c e. breaks-control stem cycle c e u v first last closed met (λ s. true≢false (sym ((subst (λ (vs : List World). ObeysOn p n vs (Ok b)) all o).0 s) ∙ h));
           cause = λ stem cycle c e. tt;
         }
 
-        pub judged-past : (r : Result LoopVerdict CheckFault) (x : CheckFault) → IsErrAnd r (λ y. y ≡ x) → Obeys p n us (Err x) → IsJudgement p ws n r
+        pub judged-past : (r : Result LoopVerdict CheckFault) (x : CheckFault) → IsErrAnd r (λ y. y ≡ x) → ObeysOn p n us (Err x) → IsJudgementOn p ws n r
         judged-past (Ok a) x same o = absurd same
-        judged-past (Err y) x same o = subst (λ (z : CheckFault). IsJudgement p ws n (Err z)) (sym same) (record {
+        judged-past (Err y) x same o = subst (λ (z : CheckFault). IsJudgementOn p ws n (Err z)) (sym same) (record {
           verdict = λ stem cycle c e. tt;
-          cause = λ stem cycle c e. past-in-loop stem cycle c e u v first last closed met x (subst (λ (vs : List World). Obeys p n vs (Err x)) all o);
+          cause = λ stem cycle c e. past-in-loop stem cycle c e u v first last closed met x (subst (λ (vs : List World). ObeysOn p n vs (Err x)) all o);
         })

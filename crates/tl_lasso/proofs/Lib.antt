@@ -1,13 +1,5 @@
-pub mod PassLabels
-pub mod RoundLaws
-pub mod LassoLaws
-pub mod LookedLaws
-pub mod QuantifierLaws
 pub mod Rulesets
 pub mod LoopForms
 pub mod LoopOrder
-pub mod StateLaws
-pub mod WordLaws
 pub mod VerdictLaws
-pub mod InstanceLaws
 pub mod JudgeLaws

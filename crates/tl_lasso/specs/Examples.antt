@@ -8,7 +8,7 @@ use Rattle.tl_check.specs.Passes.{next_labels, until_labels, within_labels}
 use Rattle.tl_terms.specs.Problem.{PlainProblem}
 use Rattle.tl_terms.specs.Run.{state_at}
 use Rattle.tl_terms.specs.World.{World}
-use Rattle.tl_lasso.specs.Lassos.{lasso_run}
+use Rattle.tl_check.specs.Rounds.{lasso_run}
 use Rattle.tl_lasso.specs.LoopFiles.{front_of, last_form, loop_breaks, repeated}
 
 -- ---- the positions of a run

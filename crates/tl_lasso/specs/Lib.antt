@@ -1,8 +1,3 @@
-pub mod Lassos
-pub mod Labelled
-pub mod Instances
-pub mod Gathered
-pub mod AlongLasso
 pub mod Verdicts
 pub mod Judged
 pub mod Laws

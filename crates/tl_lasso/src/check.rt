@@ -1,22 +1,17 @@
 // The check of a plan with a repeated part.
-ghost use Rattle.std.specs.Prelude.{◌≡◌, ◌↔◌, ◌<◌, ◌≤◌, ◌+◌, ◌++◌, ◌^◌, length, true, IfOk, IfErr, OnOk};
+ghost use Rattle.std.specs.Prelude.{◌≡◌, ◌↔◌, ◌<◌, ◌+◌, ◌++◌, ◌^◌, length, true, IfOk, IfErr, OnOk};
 ghost use Rattle.tl_action.specs.Actions.{HasOperator};
-ghost use Rattle.tl_lasso.specs.Judged.{IsJudgement, Obeys};
-ghost use Rattle.tl_lasso.specs.Lassos.{IsLasso};
+ghost use Rattle.tl_check.specs.Judged.{IsKept};
+ghost use Rattle.tl_lasso.specs.Judged.{IsJudgement};
 ghost use Rattle.tl_lasso.specs.Verdicts.{IsAcceptedForEver, IsLoopVerdict, IsLoopCause};
 ghost use Rattle.tl_lasso.specs.declared.verdict.LoopVerdict.TheVariants as verdict;
 ghost use Rattle.tl_syntax.specs.Lists.{Each};
 ghost use Rattle.tl_terms.specs.ProblemMeaning.{plain_problem};
 
-use crate::formula_labels::labels_of;
-use crate::lasso::Lasso;
 use crate::verdict::LoopVerdict;
 use std::alloc::Global;
-use std::marker::Brand;
-use std::sync::ledger::Blank;
 use tl_action::CheckFault;
-use tl_check::{Execution, execution_of};
-use tl_eval::Env;
+use tl_check::{Followed, Round, Trail, follow_with_states, obeys_round};
 use tl_syntax::{Action, Actions, NoMemory};
 use tl_world::{Task, World};
 
@@ -47,41 +42,30 @@ fn are_same(left: &World, right: &World) -> bool
     left == right
 }
 
-/// Whether the control formula holds at the first position of the run.
-fn obeys(lasso: &Lasso) -> Result<bool, CheckFault>
-    requires { IsLasso lasso.now }
-    ensures { Obeys (plain_problem lasso.now.task.now.problem) lasso.now.stem lasso.now.worlds.now result }
-{
-    let mut env = Env::for_task(lasso.alloc, lasso.task)?;
-    let labels = labels_of(&lasso.task.problem.domain.control, lasso, &mut env)?;
-    Ok(labels.at(0))
-}
-
-/// The verdict on a plan with these states, of which so many come before the repeated part begins.
+/// The verdict on a plan all of whose actions execute, by what is kept of its states.
 fn judged(
     alloc: Global,
     task: &Task,
-    worlds: &[World],
-    stem: usize,
+    round: &Round,
+    trail: Trail,
 ) -> Result<LoopVerdict, CheckFault>
-    requires loops { stem + 1 < length worlds.now }
-    requires few { length worlds.now ≤ 2 ^ 32 }
-    ensures { IsJudgement (plain_problem task.now.problem) worlds.now stem result }
+    requires short { length round.now.plan.now < 2 ^ 32 }
+    requires some { round.now.again < length round.now.plan.now }
+    requires kept { IsKept (plain_problem task.now.problem) round.now.plan.now trail }
+    ensures { IsJudgement (plain_problem task.now.problem) round.now result }
 {
-    let last = worlds.len() - 1;
-    if !are_same(&worlds[last], &worlds[stem]) {
+    let worlds = trail.worlds();
+    let begins = round.again;
+    let ends = round.plan.len();
+    let first = &worlds[begins];
+    let last = &worlds[ends];
+    if !are_same(last, first) {
         return Ok(LoopVerdict::NotClosed);
     }
-    if !task.met(&worlds[stem]) {
+    if !task.met(first) {
         return Ok(LoopVerdict::GoalUnmet);
     }
-    let lasso = Lasso {
-        alloc,
-        task,
-        worlds: &worlds[..last],
-        stem,
-    };
-    if obeys(&lasso)? {
+    if obeys_round(alloc, task, round, trail)? {
         Ok(LoopVerdict::Valid)
     } else {
         Ok(LoopVerdict::Disobeys)
@@ -90,10 +74,10 @@ fn judged(
 
 /// The verdict on a plan with a first part and a part that is repeated for ever: `Valid` exactly where it is accepted for ever, and each other verdict exactly where it is right.
 ///
-/// Both parts are executed once. Then each subformula of the control formula is labelled with its truth at each position, from those of its parts, and no formula is progressed. On the loop, `until`, `always` and `eventually` are settled by going round backwards twice, and `within` and `for` by the number of steps round it.
+/// Both parts are executed once. Then the control formula is labelled along their states as by `tl_check::check`, and no formula is progressed: behind the labels of the last state stand those of the repeated part once more.
 /// It fails for want of memory, or where an operation is past range that an action looks at in its turn, or the control formula along the states.
 ///
-/// Each instance of a quantifier takes the time of the states, and the labels of one instance are kept at a time. Worlds share the tables that stay as they were.
+/// The states are kept, and share the tables that stay as they were.
 pub fn check_loop(
     alloc: Global,
     task: &Task,
@@ -110,9 +94,14 @@ pub fn check_loop(
     ensures cause { IfErr result (IsLoopCause (plain_problem task.now.problem) stem.now cycle.now) }
 {
     let plan = both_parts(alloc, stem, cycle)?;
-    match execution_of::<Brand>(alloc, task, plan.as_slice(), Blank::new(1)) {
-        Ok(Execution::Stopped(k)) => Ok(LoopVerdict::NotExecutable(k)),
-        Ok(Execution::Executed(worlds)) => judged(alloc, task, worlds.as_slice(), stem.len()),
-        Err(fault) => Err(fault),
+    match follow_with_states(alloc, task, plan.as_slice())? {
+        Followed::Stopped(k) => Ok(LoopVerdict::NotExecutable(k)),
+        Followed::Ended(trail) => {
+            let round = Round {
+                plan: plan.as_slice(),
+                again: stem.len(),
+            };
+            judged(alloc, task, &round, trail)
+        }
     }
 }

@@ -2,20 +2,16 @@
 //!
 //! - `plan`: plans with a repeated part; `verdict`: what is said of one.
 //! - `read`: the plan of a file. `text`: the line of a verdict.
-//! - `check`: the check of a plan; below it `lasso` (its states, and where the loop begins), `formula_labels` (the labels of formulas, from those of their parts), `state_labels` (formulas and bounds that are read in each state) and `round` (labels that go round the loop once more).
+//! - `check`: the check of a plan, along whose states `tl_check` labels the control formula.
 //! - `laws`: what is proved of verdicts.
 //!
 //! The definitions stand in `specs/`: the states of such a plan and when it is accepted for ever, the verdict that is right of it, the operations past range that its check looks at, and the rules of its file.
 #![tactic(auto)]
 
 mod check;
-mod formula_labels;
-mod lasso;
 pub mod laws;
 mod plan;
 mod read;
-mod round;
-mod state_labels;
 mod text;
 mod verdict;
 

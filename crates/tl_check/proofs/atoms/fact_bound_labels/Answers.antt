@@ -3,13 +3,12 @@ use Rattle.tl_check.proofs.AtomLaws.{if-ok, if-some, fact_bound-marks}
 use Rattle.tl_eval.specs.Frames.{assignment_in}
 use Rattle.tl_syntax.specs.declared.variable.Arg.{Arg}
 use Rattle.tl_terms.specs.Bounds.{arg_values}
-use Rattle.tl_terms.specs.ProblemMeaning.{plain_problem}
-use Rattle.tl_check.specs.StatesAlong.{states_along}
+use Rattle.tl_check.specs.StatesAlong.{states_along, course_along}
 use Rattle.tl_check.proofs.atoms.fact_bound_labels.Goals as goal
 
 pub returns-in-Some : goal.returns-in-Some
 returns-in-Some c =
-    let p = plain_problem c.args.along.now.task.now.problem in
+    let p = course_along c.args.along.now in
     let e = assignment_in c.args.env.now in
     let ws = states_along c.args.along.now in
     let row = sym c.in-Some.is ∙ (c.in_ok-row.ensures ∙ ap (λ (xs : List Arg). arg_values e xs) c.as_slice.ensures) in

@@ -1,6 +1,6 @@
-use Rattle.std.proofs.Common.{◌≡◌, ◌<◌, ◌-◌, ℕ, [], List, length, replicate, Bool, false, not, Ok, Err, Option, Some, IfSome, refl, sym, ap, ◌∙◌, subst, arith}
+use Rattle.std.proofs.Common.{◌≡◌, ◌<◌, ◌-◌, ◌++◌, ℕ, [], List, drop, length, length-append, length-drop, replicate, Bool, false, not, Ok, Err, Option, Some, IfSome, refl, sym, ap, ◌∙◌, subst, arith}
 use Rattle.tl_check.proofs.FitLaws.{quantified-parts, item-fits}
-use Rattle.tl_check.proofs.FormulaLabels.{state-True, state-False, state-Atom, state-Defined, state-Compare, state-GoalFact, state-GoalPlace, state-GoalNot, one-Not, one-Next, one-Always, one-Eventually, one-Within, one-During, not-made, not-noted, shifted, shifted-within, next-handed, next-last, next-noted, rest, later-made, later-noted, until-parts, until-made, until-first-noted, until-second-noted, same-length, fits-not, fits-next, fits-word, two-Until, all-And, all-Or, item-noted, body-ForAll, body-Exists}
+use Rattle.tl_check.proofs.FormulaLabels.{state-True, state-False, state-Atom, state-Defined, state-Compare, state-GoalFact, state-GoalPlace, state-GoalNot, one-Not, one-Next, one-Always, one-Eventually, one-Within, one-During, not-made, not-noted, shifted, shifted-within, next-handed, later-made, later-noted, until-parts, until-made, until-first-noted, until-second-noted, same-length, fits-not, fits-next, fits-word, two-Until, all-And, all-Or, item-noted, body-ForAll, body-Exists}
 use Rattle.tl_check.proofs.GatheredLaws.{stepped-begun, stepped-on, stepped-noted, stepped-end, tuple-labels}
 use Rattle.tl_check.proofs.GuidedLaws.{Guided, guided-begun, guided-on, guided-fewer, guided-noted, guided-end, hull-within, instance-nowhere, instance-joined}
 use Rattle.tl_check.proofs.GuidedLaws as guided
@@ -14,7 +14,7 @@ use Rattle.tl_check.proofs.StatesLaws.{by-cases, passed-on}
 use Rattle.tl_check.specs.Ahead.{true_ahead}
 use Rattle.tl_check.specs.AlongStates.{AreLabelsAlong, bound_along}
 use Rattle.tl_check.specs.Quantifiers.{Quantifier, with_part}
-use Rattle.tl_check.specs.Facts.{bound_ahead}
+use Rattle.tl_check.specs.Facts.{IsAlong, IsAheadOf, bound_ahead}
 use Rattle.tl_check.specs.Gathered.{AreGathered, IsTuple}
 use Rattle.tl_check.specs.Instances.{JoinsInstance}
 use Rattle.tl_check.specs.Labelled.{AreLabels, JoinsPart}
@@ -24,7 +24,7 @@ use Rattle.tl_check.specs.Passes.{joined_labels}
 use Rattle.tl_check.specs.Picked.{placed_labels}
 use Rattle.tl_check.specs.Spans.{IsWithin, marks_in}
 use Rattle.tl_check.specs.TableOrder.{AreOrdered}
-use Rattle.tl_check.specs.StatesAlong.{states_along, UnlessFew}
+use Rattle.tl_check.specs.StatesAlong.{states_along, course_along, UnlessFew}
 use Rattle.tl_check.specs.declared.along.Along.{Along}
 use Rattle.tl_check.specs.declared.binder.Binder.{Binder}
 use Rattle.tl_check.specs.declared.line.Change.{Change}
@@ -50,12 +50,16 @@ use Rattle.tl_terms.specs.ProblemMeaning.{plain_problem}
 use Rattle.tl_world.specs.Next.{IsNext}
 use Rattle.tl_check.proofs.formula_labels.+labels_of.Goals as goal
 
--- a span up to the last position
-to-end : (a : Along) (P : Span → Type 0) (span : Span) → a.count ≡ length (states_along a) → P (record { from = span.from; to = a.count }) → P (record { from = span.from; to = length (states_along a) })
-to-end a P span q h = subst (λ (n : ℕ). P (record { from = span.from; to = n })) q h
+-- the positions that come again are some of them
+loops-in : (a : Along) → IsAlong a → a.again < length (states_along a)
+loops-in a is = omega (arith, is.again, is.count)
 
-to-end-within : (a : Along) (span : Span) → a.count ≡ length (states_along a) → IsWithin span (length (states_along a)) → IsWithin (record { from = span.from; to = a.count }) (length (states_along a))
-to-end-within a span q within = record { order = (let order = within.order in let room = within.within in omega (arith, q)); within = omega (arith, q) }
+ahead-in : (a : Along) (span : Span) → IsAlong a → IsWithin span (length (states_along a)) → (ahead : Span) → IsAheadOf a span.from ahead → IsWithin ahead (length (states_along a))
+ahead-in a span is within ahead k = record { order = omega (arith, is.again, k.again, k.to); within = omega (arith, is.count, k.to) }
+
+-- labels that go round stay equally many
+same-round : (k : ℕ) (bs cs bs2 cs2 : List Bool) → length bs ≡ length cs → bs2 ≡ bs ++ drop k bs → cs2 ≡ cs ++ drop k cs → length bs2 ≡ length cs2
+same-round k bs cs bs2 cs2 same q r = omega (arith, same, ap length q, ap length r, length-append bs (drop k bs), length-append cs (drop k cs), length-drop k bs, length-drop k cs)
 
 gathers-known : (a : Along) (frame : List (Option Value)) (b : Binder) (span : Span) (o : Option Tracks) (t : Tracks) → o ≡ Some t → IfSome o (AreGathered a frame b span) → AreGathered a frame b span t
 gathers-known a frame b span o t q h = subst (λ (x : Option Tracks). IfSome x (AreGathered a frame b span)) q h
@@ -97,8 +101,8 @@ labels_of-state_labels-requires-in-None-clause-state t c =
 
 pub labels_of-returns-in-Some-clause-labels : goal.labels_of-returns-in-Some-clause-labels
 labels_of-returns-in-Some-clause-labels t c =
-    let found = subst (λ (o : Option (List Bool)). IfSome o (λ labels. labels ≡ marks_in (true_ahead (plain_problem c.args.along.now.task.now.problem) (assignment_in c.args.env.now) (atom c.in-Atom.pred (tree_of_terms c.in-Atom.terms))) (states_along c.args.along.now) c.args.span)) c.in-Some.is c.in_ok-labels-in-Atom.ensures in
-    subst (λ (x : FormulaTree). c.in-Some.labels ≡ marks_in (true_ahead (plain_problem c.args.along.now.task.now.problem) (assignment_in c.args.env.now) x) (states_along c.args.along.now) c.args.span) (sym (ap tree_of_formula c.in-Atom.is ∙ tree-Atom c.in-Atom.pred c.in-Atom.terms)) found
+    let found = subst (λ (o : Option (List Bool)). IfSome o (λ labels. labels ≡ marks_in (true_ahead (course_along c.args.along.now) (assignment_in c.args.env.now) (atom c.in-Atom.pred (tree_of_terms c.in-Atom.terms))) (states_along c.args.along.now) c.args.span)) c.in-Some.is c.in_ok-labels-in-Atom.ensures in
+    subst (λ (x : FormulaTree). c.in-Some.labels ≡ marks_in (true_ahead (course_along c.args.along.now) (assignment_in c.args.env.now) x) (states_along c.args.along.now) c.args.span) (sym (ap tree_of_formula c.in-Atom.is ∙ tree-Atom c.in-Atom.pred c.in-Atom.terms)) found
 
 pub labels_of-negated_labels-requires : goal.labels_of-negated_labels-requires
 labels_of-negated_labels-requires t c =
@@ -216,12 +220,12 @@ negated_labels-labels_of-requires t c =
 
 pub negated_labels-returns-clause-labels : goal.negated_labels-returns-clause-labels
 negated_labels-returns-clause-labels t c =
-    not-made (plain_problem c.args.along.now.task.now.problem) (states_along c.args.along.now) c.args.span c.requires.span (assignment_in c.args.env.now) (tree_of_formula c.args.part.now) c.in_ok-found.found c.negate.new.self c.in_ok-found.ensures.labels c.negate.ensures
+    not-made (course_along c.args.along.now) (states_along c.args.along.now) c.args.span c.requires.span (assignment_in c.args.env.now) (tree_of_formula c.args.part.now) c.in_ok-found.found c.negate.new.self c.in_ok-found.ensures.labels c.negate.ensures
 
 pub negated_labels-returns-in_err-found-clause-labels : goal.negated_labels-returns-in_err-found-clause-labels
 negated_labels-returns-in_err-found-clause-labels t c =
     let a = c.args.along.now in
-    let p = plain_problem a.task.now.problem in
+    let p = course_along a in
     let ws = states_along a in
     let e = assignment_in c.args.env.now in
     let f = tree_of_formula c.args.part.now in
@@ -230,147 +234,119 @@ negated_labels-returns-in_err-found-clause-labels t c =
 pub next_labels-labels_of-requires : goal.next_labels-labels_of-requires
 next_labels-labels_of-requires t c =
     let a = c.args.along.now in
-    let p = plain_problem a.task.now.problem in
+    let p = course_along a in
     let ws = states_along a in
     let e = assignment_in c.args.env.now in
     let f = tree_of_formula c.args.part.now in
     (omega (arith, c.decreases), (c.requires.along, (shifted-within p ws c.args.span c.requires.span e f (omega (arith, c.requires.along.count, c.if-span-along.true)), (c.requires.frame, fits-next (signature_of a.task.now.problem.domain) f c.requires.fits))))
 
-pub next_labels-labels_of-requires-2 : goal.next_labels-labels_of-requires-2
-next_labels-labels_of-requires-2 t c =
-    (omega (arith, c.decreases), (c.requires.along, (c.requires.span, (c.requires.frame, fits-next (signature_of c.args.along.now.task.now.problem.domain) (tree_of_formula c.args.part.now) c.requires.fits))))
+pub next_labels-later_labels-requires : goal.next_labels-later_labels-requires
+next_labels-later_labels-requires t c =
+    (omega (arith, c.decreases), (c.requires.along, (c.requires.span, (c.requires.frame, c.requires.fits))))
 
 pub next_labels-returns-then-span-along-clause-labels : goal.next_labels-returns-then-span-along-clause-labels
 next_labels-returns-then-span-along-clause-labels t c =
     let a = c.args.along.now in
-    let p = plain_problem a.task.now.problem in
+    let p = course_along a in
     let ws = states_along a in
     let e = assignment_in c.args.env.now in
     let f = tree_of_formula c.args.part.now in
     let shift = shifted p ws c.args.span c.requires.span e f in
     by-cases a (AreLabels p ws shift e f) (AreLabels p ws c.args.span e (next f)) (λ r h. next-handed p ws c.args.span c.requires.span e f (omega (arith, c.requires.along.count, c.if-span-along.true)) r h) c.labels_of.result c.labels_of.ensures.labels
 
-pub next_labels-returns-clause-labels : goal.next_labels-returns-clause-labels
-next_labels-returns-clause-labels t c =
-    let a = c.args.along.now in
-    let p = plain_problem a.task.now.problem in
-    let ws = states_along a in
-    let e = assignment_in c.args.env.now in
-    let f = tree_of_formula c.args.part.now in
-    next-last p ws c.args.span c.requires.span e f (omega (arith, c.requires.along.count, c.if-span-along.false, c.requires.span.within)) c.in_ok-found.found c.shift.new.self c.in_ok-found.ensures.labels c.in_ok-shift.ensures.shifted
-
-pub next_labels-returns-in_err-found-clause-labels : goal.next_labels-returns-in_err-found-clause-labels
-next_labels-returns-in_err-found-clause-labels t c =
-    let a = c.args.along.now in
-    let p = plain_problem a.task.now.problem in
-    let ws = states_along a in
-    let e = assignment_in c.args.env.now in
-    let f = tree_of_formula c.args.part.now in
-    passed-on a (AreLabels p ws c.args.span e f) (AreLabels p ws c.args.span e (next f)) (λ y h. next-noted p ws c.args.span c.requires.span e f c.args.span (omega arith) y h) c.from_residual.result c.in_err-found.field-0.0 c.from_residual.ensures.1 c.in_err-found.ensures.labels
-
 pub later_labels-labels_of-requires : goal.later_labels-labels_of-requires
 later_labels-labels_of-requires t c =
     let a = c.args.along.now in
-    let p = plain_problem a.task.now.problem in
-    let ws = states_along a in
-    let e = assignment_in c.args.env.now in
     let f = tree_of_formula c.args.part.now in
-    (omega (arith, c.decreases), (c.requires.along, (to-end-within a c.args.span c.requires.along.count c.requires.span, (c.requires.frame, fits-word (signature_of a.task.now.problem.domain) f c.args.word c.requires.fits))))
+    (omega (arith, c.decreases), (c.requires.along, (ahead-in a c.args.span c.requires.along c.requires.span c.ahead-ahead.result c.ahead-ahead.ensures, (c.requires.frame, fits-word (signature_of a.task.now.problem.domain) f c.args.word c.requires.fits))))
 
 pub later_labels-returns-clause-labels : goal.later_labels-returns-clause-labels
 later_labels-returns-clause-labels t c =
     let a = c.args.along.now in
-    let p = plain_problem a.task.now.problem in
+    let p = course_along a in
     let ws = states_along a in
     let e = assignment_in c.args.env.now in
     let f = tree_of_formula c.args.part.now in
-    later-made p ws c.args.span c.requires.span e f c.args.word c.in_ok-found.found c.later.new.self c.truncate.new.self (to-end a (λ s. c.in_ok-found.found ≡ marks_in (true_ahead p e f) ws s) c.args.span c.requires.along.count c.in_ok-found.ensures.labels) c.in_ok-later.ensures.later c.truncate.ensures
+    let k = c.ahead-ahead.ensures in
+    later-made p ws c.args.span c.requires.span e f a.again refl (loops-in a c.requires.along) c.ahead-ahead.result k.here k.again k.one (k.to ∙ c.requires.along.count)
+    c.args.word c.in_ok-found.found c.repeat_from.new.self c.later.new.self c.narrow.new.self c.in_ok-found.ensures.labels c.in_ok-repeat_from.ensures.repeated c.in_ok-later.ensures.later c.in_ok-narrow.ensures
 
 pub later_labels-returns-in_err-found-clause-labels : goal.later_labels-returns-in_err-found-clause-labels
 later_labels-returns-in_err-found-clause-labels t c =
     let a = c.args.along.now in
-    let p = plain_problem a.task.now.problem in
+    let p = course_along a in
     let ws = states_along a in
     let e = assignment_in c.args.env.now in
     let f = tree_of_formula c.args.part.now in
-    passed-on a (AreLabels p ws (rest p ws c.args.span c.requires.span e f) e f) (AreLabels p ws c.args.span e (later_tree c.args.word f)) (λ y h. later-noted p ws c.args.span c.requires.span e f c.args.word y h) c.from_residual.result c.in_err-found.field-0.0 c.from_residual.ensures.1
-    (to-end a (λ s. AreLabelsAlong a s c.args.env.now f (Err c.in_err-found.field-0.0)) c.args.span c.requires.along.count c.in_err-found.ensures.labels)
+    let k = c.ahead-ahead.ensures in
+    passed-on a (AreLabels p ws c.ahead-ahead.result e f) (AreLabels p ws c.args.span e (later_tree c.args.word f)) (λ y h. later-noted p ws c.args.span c.requires.span e f a.again refl (loops-in a c.requires.along) c.ahead-ahead.result k.here k.again k.one (k.to ∙ c.requires.along.count) c.args.word y h) c.from_residual.result c.in_err-found.field-0.0 c.from_residual.ensures.1 c.in_err-found.ensures.labels
 
 pub until_labels-labels_of-requires : goal.until_labels-labels_of-requires
 until_labels-labels_of-requires t c =
     let a = c.args.along.now in
-    let p = plain_problem a.task.now.problem in
-    let ws = states_along a in
-    let e = assignment_in c.args.env.now in
-    let f = tree_of_formula c.args.first.now in
-    let g = tree_of_formula c.args.second.now in
-    let parts = until-parts (signature_of a.task.now.problem.domain) f g c.requires.fits in
-    (omega (arith, c.decreases), (c.requires.along, (to-end-within a c.args.span c.requires.along.count c.requires.span, (c.requires.frame, parts.0))))
+    let parts = until-parts (signature_of a.task.now.problem.domain) (tree_of_formula c.args.first.now) (tree_of_formula c.args.second.now) c.requires.fits in
+    (omega (arith, c.decreases), (c.requires.along, (ahead-in a c.args.span c.requires.along c.requires.span c.ahead-ahead.result c.ahead-ahead.ensures, (c.requires.frame, parts.0))))
 
 pub until_labels-labels_of-requires-2 : goal.until_labels-labels_of-requires-2
 until_labels-labels_of-requires-2 t c =
     let a = c.args.along.now in
-    let p = plain_problem a.task.now.problem in
-    let ws = states_along a in
-    let e = assignment_in c.args.env.now in
-    let f = tree_of_formula c.args.first.now in
-    let g = tree_of_formula c.args.second.now in
-    let parts = until-parts (signature_of a.task.now.problem.domain) f g c.requires.fits in
-    (omega (arith, c.decreases), (c.requires.along, (to-end-within a c.args.span c.requires.along.count c.requires.span, (ap length c.in_ok-found.ensures.frame ∙ c.requires.frame, parts.1))))
+    let parts = until-parts (signature_of a.task.now.problem.domain) (tree_of_formula c.args.first.now) (tree_of_formula c.args.second.now) c.requires.fits in
+    (omega (arith, c.decreases), (c.requires.along, (ahead-in a c.args.span c.requires.along c.requires.span c.ahead-ahead.result c.ahead-ahead.ensures, (ap length c.in_ok-found.ensures.frame ∙ c.requires.frame, parts.1))))
 
 pub until_labels-until-requires : goal.until_labels-until-requires
 until_labels-until-requires t c =
     let a = c.args.along.now in
-    let p = plain_problem a.task.now.problem in
+    let p = course_along a in
     let ws = states_along a in
     let e = assignment_in c.args.env.now in
     let f = tree_of_formula c.args.first.now in
     let g = tree_of_formula c.args.second.now in
     let d = assignment_in c.labels_of.new.env in
-    same-length ws (record { from = c.args.span.from; to = a.count }) (to-end-within a c.args.span c.requires.along.count c.requires.span) (true_ahead p e f) (true_ahead p d g) c.in_ok-found.found c.in_ok-other.other c.in_ok-found.ensures.labels c.in_ok-other.ensures.labels
+    let same = same-length ws c.ahead-ahead.result (ahead-in a c.args.span c.requires.along c.requires.span c.ahead-ahead.result c.ahead-ahead.ensures) (true_ahead p e f) (true_ahead p d g) c.in_ok-found.found c.in_ok-other.other c.in_ok-found.ensures.labels c.in_ok-other.ensures.labels in
+    same-round (a.again - c.ahead-ahead.result.from) c.in_ok-found.found c.in_ok-other.other c.repeat_from.new.self c.repeat_from-2.new.self same c.in_ok-repeat_from.ensures.repeated c.in_ok-repeat_from-2.ensures.repeated
 
 pub until_labels-returns-clause-labels : goal.until_labels-returns-clause-labels
 until_labels-returns-clause-labels t c =
     let a = c.args.along.now in
-    let p = plain_problem a.task.now.problem in
+    let p = course_along a in
     let ws = states_along a in
     let e = assignment_in c.args.env.now in
     let f = tree_of_formula c.args.first.now in
     let g = tree_of_formula c.args.second.now in
     let d = assignment_in c.labels_of.new.env in
-    until-made p ws c.args.span c.requires.span e f d g c.in_ok-found.found c.in_ok-other.other c.until.new.self c.truncate.new.self (ap assignment_in c.in_ok-found.ensures.frame)
-    (to-end a (λ s. c.in_ok-found.found ≡ marks_in (true_ahead p e f) ws s) c.args.span c.requires.along.count c.in_ok-found.ensures.labels)
-    (to-end a (λ s. c.in_ok-other.other ≡ marks_in (true_ahead p d g) ws s) c.args.span c.requires.along.count c.in_ok-other.ensures.labels)
-    c.in_ok-until.ensures.until c.truncate.ensures
+    let k = c.ahead-ahead.ensures in
+    until-made p ws c.args.span c.requires.span e f a.again refl (loops-in a c.requires.along) c.ahead-ahead.result k.here k.again k.one (k.to ∙ c.requires.along.count) d g
+    c.in_ok-found.found c.in_ok-other.other c.repeat_from.new.self c.repeat_from-2.new.self c.until.new.self c.narrow.new.self (ap assignment_in c.in_ok-found.ensures.frame)
+    c.in_ok-found.ensures.labels c.in_ok-other.ensures.labels c.in_ok-repeat_from.ensures.repeated c.in_ok-repeat_from-2.ensures.repeated c.in_ok-until.ensures.until c.in_ok-narrow.ensures
 
 pub until_labels-returns-in_err-found-clause-labels : goal.until_labels-returns-in_err-found-clause-labels
 until_labels-returns-in_err-found-clause-labels t c =
     let a = c.args.along.now in
-    let p = plain_problem a.task.now.problem in
+    let p = course_along a in
     let ws = states_along a in
     let e = assignment_in c.args.env.now in
     let f = tree_of_formula c.args.first.now in
     let g = tree_of_formula c.args.second.now in
-    passed-on a (AreLabels p ws (rest p ws c.args.span c.requires.span e f) e f) (AreLabels p ws c.args.span e (until f g)) (λ y h. until-first-noted p ws c.args.span c.requires.span e f e g y h) c.from_residual.result c.in_err-found.field-0.0 c.from_residual.ensures.1
-    (to-end a (λ s. AreLabelsAlong a s c.args.env.now f (Err c.in_err-found.field-0.0)) c.args.span c.requires.along.count c.in_err-found.ensures.labels)
+    let k = c.ahead-ahead.ensures in
+    passed-on a (AreLabels p ws c.ahead-ahead.result e f) (AreLabels p ws c.args.span e (until f g)) (λ y h. until-first-noted p ws c.args.span c.requires.span e f a.again refl (loops-in a c.requires.along) c.ahead-ahead.result k.here k.again k.one (k.to ∙ c.requires.along.count) e g y h) c.from_residual.result c.in_err-found.field-0.0 c.from_residual.ensures.1 c.in_err-found.ensures.labels
 
 pub until_labels-returns-in_err-other-clause-labels : goal.until_labels-returns-in_err-other-clause-labels
 until_labels-returns-in_err-other-clause-labels t c =
     let a = c.args.along.now in
-    let p = plain_problem a.task.now.problem in
+    let p = course_along a in
     let ws = states_along a in
     let e = assignment_in c.args.env.now in
     let f = tree_of_formula c.args.first.now in
     let g = tree_of_formula c.args.second.now in
     let d = assignment_in c.labels_of.new.env in
-    passed-on a (AreLabels p ws (rest p ws c.args.span c.requires.span e f) d g) (AreLabels p ws c.args.span e (until f g)) (λ y h. until-second-noted p ws c.args.span c.requires.span e f d g y (ap assignment_in c.in_ok-found.ensures.frame) h) c.from_residual-in_err-other.result c.in_err-other.field-0.0 c.from_residual-in_err-other.ensures.1
-    (to-end a (λ s. AreLabelsAlong a s c.labels_of.new.env g (Err c.in_err-other.field-0.0)) c.args.span c.requires.along.count c.in_err-other.ensures.labels)
+    let k = c.ahead-ahead.ensures in
+    passed-on a (AreLabels p ws c.ahead-ahead.result d g) (AreLabels p ws c.args.span e (until f g)) (λ y h. until-second-noted p ws c.args.span c.requires.span e f a.again refl (loops-in a c.requires.along) c.ahead-ahead.result k.here k.again k.one (k.to ∙ c.requires.along.count) d g y (ap assignment_in c.in_ok-found.ensures.frame) h) c.from_residual-in_err-other.result c.in_err-other.field-0.0 c.from_residual-in_err-other.ensures.1 c.in_err-other.ensures.labels
 
 pub parts_labels-loop-part-init : goal.parts_labels-loop-part-init
 parts_labels-loop-part-init t c =
     record {
       frame = refl;
-      so_far = parts-begun (plain_problem c.args.along.now.task.now.problem) (assignment_in c.args.env.now) (states_along c.args.along.now) c.args.span c.requires.span c.args.junction c.as_slice-part-items.result.now c.in_ok-all.all (c.in_ok-all.ensures.same ∙ ap (λ (b : Bool). replicate (c.args.span.to - c.args.span.from) (not b)) c.deciding_truth.ensures);
+      so_far = parts-begun (course_along c.args.along.now) (assignment_in c.args.env.now) (states_along c.args.along.now) c.args.span c.requires.span c.args.junction c.as_slice-part-items.result.now c.in_ok-all.all (c.in_ok-all.ensures.same ∙ ap (λ (b : Bool). replicate (c.args.span.to - c.args.span.from) (not b)) c.deciding_truth.ensures);
     }
 
 pub parts_labels-join_part-requires : goal.parts_labels-join_part-requires
@@ -382,7 +358,7 @@ parts_labels-join_part-requires t c =
 
 pub parts_labels-loop-part-preserved : goal.parts_labels-loop-part-preserved
 parts_labels-loop-part-preserved t c =
-    let p = plain_problem c.args.along.now.task.now.problem in
+    let p = course_along c.args.along.now in
     let ws = states_along c.args.along.now in
     let e = assignment_in c.args.env.now in
     let f = tree_of_formula c.part-item.result in
@@ -394,12 +370,12 @@ parts_labels-loop-part-preserved t c =
 
 pub parts_labels-returns-clause-labels : goal.parts_labels-returns-clause-labels
 parts_labels-returns-clause-labels t c =
-    parts-end (plain_problem c.args.along.now.task.now.problem) (assignment_in c.args.env.now) (states_along c.args.along.now) c.args.span c.requires.span c.args.junction c.as_slice-part-items.result.now c.args.parts.now c.loop-part.all c.loop-part.part-index c.as_slice-part-items.ensures c.loop-part-test.false c.loop-part.invariant.so_far
+    parts-end (course_along c.args.along.now) (assignment_in c.args.env.now) (states_along c.args.along.now) c.args.span c.requires.span c.args.junction c.as_slice-part-items.result.now c.args.parts.now c.loop-part.all c.loop-part.part-index c.as_slice-part-items.ensures c.loop-part-test.false c.loop-part.invariant.so_far
 
 pub parts_labels-returns-in_err-join_part-clause-labels : goal.parts_labels-returns-in_err-join_part-clause-labels
 parts_labels-returns-in_err-join_part-clause-labels t c =
     let a = c.args.along.now in
-    let p = plain_problem a.task.now.problem in
+    let p = course_along a in
     let ws = states_along a in
     let e = assignment_in c.args.env.now in
     let d = assignment_in c.loop-part.env in
@@ -408,18 +384,18 @@ parts_labels-returns-in_err-join_part-clause-labels t c =
 
 pub join_part-labels_of-requires : goal.join_part-labels_of-requires
 join_part-labels_of-requires t c =
-    let within = inner-within c.args.part.now.junction c.args.all.now (true_ahead (plain_problem c.args.along.now.task.now.problem) (assignment_in c.args.env.now) (tree_of_formula c.args.part.now.formula.now)) (states_along c.args.along.now) c.args.span c.in-Some.inner c.requires.span c.requires.size c.in-Some.ensures.inner in
+    let within = inner-within c.args.part.now.junction c.args.all.now (true_ahead (course_along c.args.along.now) (assignment_in c.args.env.now) (tree_of_formula c.args.part.now.formula.now)) (states_along c.args.along.now) c.args.span c.in-Some.inner c.requires.span c.requires.size c.in-Some.ensures.inner in
     (omega (arith, c.decreases), (c.requires.along, (within, (c.requires.frame, c.requires.fits))))
 
 pub join_part-join_at-requires : goal.join_part-join_at-requires
 join_part-join_at-requires t c =
-    let test = true_ahead (plain_problem c.args.along.now.task.now.problem) (assignment_in c.args.env.now) (tree_of_formula c.args.part.now.formula.now) in
+    let test = true_ahead (course_along c.args.along.now) (assignment_in c.args.env.now) (tree_of_formula c.args.part.now.formula.now) in
     let room = inner-room c.args.part.now.junction c.args.all.now test (states_along c.args.along.now) c.args.span c.in-Some.inner c.requires.span c.requires.size c.in-Some.ensures.inner in
     omega (arith, room, ap length c.in_ok-found-in-Some.ensures.labels, ap length c.in-Some.ensures.same)
 
 pub join_part-returns-in_ok-join_at-in-Some-clause-joined : goal.join_part-returns-in_ok-join_at-in-Some-clause-joined
 join_part-returns-in_ok-join_at-in-Some-clause-joined t c =
-    let test = true_ahead (plain_problem c.args.along.now.task.now.problem) (assignment_in c.args.env.now) (tree_of_formula c.args.part.now.formula.now) in
+    let test = true_ahead (course_along c.args.along.now) (assignment_in c.args.env.now) (tree_of_formula c.args.part.now.formula.now) in
     let j = c.args.part.now.junction in
     let at = c.in-Some.inner.from - c.args.span.from in
     let fill = not (deciding_truth j) in
@@ -430,7 +406,7 @@ join_part-returns-in_ok-join_at-in-Some-clause-joined t c =
 
 pub join_part-returns-in-None-clause-joined : goal.join_part-returns-in-None-clause-joined
 join_part-returns-in-None-clause-joined t c =
-    let test = true_ahead (plain_problem c.args.along.now.task.now.problem) (assignment_in c.args.env.now) (tree_of_formula c.args.part.now.formula.now) in
+    let test = true_ahead (course_along c.args.along.now) (assignment_in c.args.env.now) (tree_of_formula c.args.part.now.formula.now) in
     c.in-None.ensures.same ∙ decided-part c.args.part.now.junction c.args.all.now test (states_along c.args.along.now) c.args.span c.args.span c.requires.span c.requires.size c.in-None.ensures.none
 
 pub quantified_labels-ordered_labels-requires : goal.quantified_labels-ordered_labels-requires
@@ -448,7 +424,7 @@ pub quantified_labels-returns-in-Some-clause-labels : goal.quantified_labels-ret
 quantified_labels-returns-in-Some-clause-labels t c =
     let a = c.args.along.now in
     let b = c.args.binder.now in
-    let p = plain_problem a.task.now.problem in
+    let p = course_along a in
     let ws = states_along a in
     let e = assignment_in c.args.env.now in
     let f = tree_of_formula c.args.part.now in
@@ -504,7 +480,7 @@ guided_labels-instances-init t c =
       reads = c.open_in_place.ensures.reads;
       scope = λ u. refl;
       slots = c.requires.frame;
-      so_far = guided-begun (plain_problem c.args.along.now.task.now.problem) (states_along c.args.along.now) (assignment_in c.args.env.now) (with_part c.args.guided.now.binder (tree_of_formula c.args.part.now)) parts.differ parts.occur c.args.guided.now.guide.now c.requires.guide c.args.span c.requires.span c.in_ok-all.all c.open_in_place.new.self.tuple c.open_in_place.ensures.before (c.in_ok-all.ensures.same ∙ ap (λ (b : Bool). replicate (c.args.span.to - c.args.span.from) (not b)) c.deciding_truth.ensures);
+      so_far = guided-begun (course_along c.args.along.now) (states_along c.args.along.now) (assignment_in c.args.env.now) (with_part c.args.guided.now.binder (tree_of_formula c.args.part.now)) parts.differ parts.occur c.args.guided.now.guide.now c.requires.guide c.args.span c.requires.span c.in_ok-all.all c.open_in_place.new.self.tuple c.open_in_place.ensures.before (c.in_ok-all.ensures.same ∙ ap (λ (b : Bool). replicate (c.args.span.to - c.args.span.from) (not b)) c.deciding_truth.ensures);
     }
 
 pub guided_labels-values-requires : goal.guided_labels-values-requires
@@ -529,7 +505,7 @@ pub guided_labels-instances-smaller : goal.guided_labels-instances-smaller
 guided_labels-instances-smaller t c =
     let parts = quantified-parts c.args.along.now.task.now.problem c.args.guided.now.binder.junction c.args.guided.now.binder.vars.now c.args.guided.now.binder.bound.now (tree_of_formula c.args.part.now) c.requires.fits in
     let next = subst (IsNext (length c.args.guided.now.binder.vars.now) (λ t. bound_true (situation_of (plain_problem c.args.along.now.task.now.problem) c.args.guided.now.guide.now) (bind c.args.guided.now.binder.vars.now t (assignment_in c.args.env.now)) c.args.guided.now.binder.bound.now) c.instances.tuples.tuple) c.values.ensures.values (c.next.ensures.next c.args.guided.now.binder.vars.now (assignment_in c.args.env.now) c.instances.invariant.reads) in
-    subst (λ (o : Option (List Value)). length (rest_after o (tuples (situation_of (plain_problem c.args.along.now.task.now.problem) c.args.guided.now.guide.now) (assignment_in c.args.env.now) c.args.guided.now.binder.vars.now c.args.guided.now.binder.bound.now)) < length (rest_after c.instances.tuples.tuple (tuples (situation_of (plain_problem c.args.along.now.task.now.problem) c.args.guided.now.guide.now) (assignment_in c.args.env.now) c.args.guided.now.binder.vars.now c.args.guided.now.binder.bound.now))) (sym c.values.ensures.values) (guided-fewer (plain_problem c.args.along.now.task.now.problem) (states_along c.args.along.now) (assignment_in c.args.env.now) (with_part c.args.guided.now.binder (tree_of_formula c.args.part.now)) parts.differ parts.occur c.args.guided.now.guide.now c.requires.guide c.args.span c.requires.span c.instances.all c.instances.tuples.tuple c.instances.invariant.so_far c.values.result.now next)
+    subst (λ (o : Option (List Value)). length (rest_after o (tuples (situation_of (plain_problem c.args.along.now.task.now.problem) c.args.guided.now.guide.now) (assignment_in c.args.env.now) c.args.guided.now.binder.vars.now c.args.guided.now.binder.bound.now)) < length (rest_after c.instances.tuples.tuple (tuples (situation_of (plain_problem c.args.along.now.task.now.problem) c.args.guided.now.guide.now) (assignment_in c.args.env.now) c.args.guided.now.binder.vars.now c.args.guided.now.binder.bound.now))) (sym c.values.ensures.values) (guided-fewer (course_along c.args.along.now) (states_along c.args.along.now) (assignment_in c.args.env.now) (with_part c.args.guided.now.binder (tree_of_formula c.args.part.now)) parts.differ parts.occur c.args.guided.now.guide.now c.requires.guide c.args.span c.requires.span c.instances.all c.instances.tuples.tuple c.instances.invariant.so_far c.values.result.now next)
 
 pub guided_labels-instances-preserved : goal.guided_labels-instances-preserved
 guided_labels-instances-preserved t c =
@@ -540,9 +516,9 @@ guided_labels-instances-preserved t c =
       reads = c.next.ensures.reads c.args.guided.now.binder.vars.now (assignment_in c.args.env.now) c.instances.invariant.reads;
       scope = λ u. bind-through c.args.guided.now.binder.vars.now u c.values.result.now (assignment_in c.join_instance.new.env) (assignment_in c.args.env.now) (ap assignment_in c.in_ok-join_instance-in-Some.ensures.frame ∙ here);
       slots = ap length c.in_ok-join_instance-in-Some.ensures.frame ∙ (c.put_values.ensures.slots ∙ c.instances.invariant.slots);
-      so_far = subst (Guided (plain_problem c.args.along.now.task.now.problem) (states_along c.args.along.now) (assignment_in c.args.env.now) (with_part c.args.guided.now.binder (tree_of_formula c.args.part.now)) c.args.guided.now.guide.now c.args.span c.join_instance.new.all) (sym c.values.ensures.values)
-          (guided-on (plain_problem c.args.along.now.task.now.problem) (states_along c.args.along.now) (assignment_in c.args.env.now) (with_part c.args.guided.now.binder (tree_of_formula c.args.part.now)) parts.differ parts.occur c.args.guided.now.guide.now c.requires.guide c.args.span c.requires.span c.instances.all c.instances.tuples.tuple c.instances.invariant.so_far c.values.result.now next c.join_instance.new.all c.in_ok-join_instance-in-Some.field-0
-          (subst (λ (x : Assignment). JoinsInstance (plain_problem c.args.along.now.task.now.problem) (states_along c.args.along.now) c.args.span x (with_part c.args.guided.now.binder (tree_of_formula c.args.part.now)) c.instances.all c.join_instance.new.all (Ok c.in_ok-join_instance-in-Some.field-0)) here c.in_ok-join_instance-in-Some.ensures.joined));
+      so_far = subst (Guided (course_along c.args.along.now) (states_along c.args.along.now) (assignment_in c.args.env.now) (with_part c.args.guided.now.binder (tree_of_formula c.args.part.now)) c.args.guided.now.guide.now c.args.span c.join_instance.new.all) (sym c.values.ensures.values)
+          (guided-on (course_along c.args.along.now) (states_along c.args.along.now) (assignment_in c.args.env.now) (with_part c.args.guided.now.binder (tree_of_formula c.args.part.now)) parts.differ parts.occur c.args.guided.now.guide.now c.requires.guide c.args.span c.requires.span c.instances.all c.instances.tuples.tuple c.instances.invariant.so_far c.values.result.now next c.join_instance.new.all c.in_ok-join_instance-in-Some.field-0
+          (subst (λ (x : Assignment). JoinsInstance (course_along c.args.along.now) (states_along c.args.along.now) c.args.span x (with_part c.args.guided.now.binder (tree_of_formula c.args.part.now)) c.instances.all c.join_instance.new.all (Ok c.in_ok-join_instance-in-Some.field-0)) here c.in_ok-join_instance-in-Some.ensures.joined));
     }
 
 pub guided_labels-give_back-requires-clause-slots : goal.guided_labels-give_back-requires-clause-slots
@@ -553,18 +529,18 @@ guided_labels-give_back-requires-clause-slots t c =
 pub guided_labels-returns-clause-labels : goal.guided_labels-returns-clause-labels
 guided_labels-returns-clause-labels t c =
     let parts = quantified-parts c.args.along.now.task.now.problem c.args.guided.now.binder.junction c.args.guided.now.binder.vars.now c.args.guided.now.binder.bound.now (tree_of_formula c.args.part.now) c.requires.fits in
-    guided-end (plain_problem c.args.along.now.task.now.problem) (states_along c.args.along.now) (assignment_in c.args.env.now) (with_part c.args.guided.now.binder (tree_of_formula c.args.part.now)) parts.differ parts.occur c.args.guided.now.guide.now c.requires.guide c.args.span c.requires.span c.instances.all c.instances.tuples.tuple c.next.new.self.tuple (c.next.ensures.next c.args.guided.now.binder.vars.now (assignment_in c.args.env.now) c.instances.invariant.reads) (c.next.ensures.end c.instances-test.false) c.instances.invariant.so_far
+    guided-end (course_along c.args.along.now) (states_along c.args.along.now) (assignment_in c.args.env.now) (with_part c.args.guided.now.binder (tree_of_formula c.args.part.now)) parts.differ parts.occur c.args.guided.now.guide.now c.requires.guide c.args.span c.requires.span c.instances.all c.instances.tuples.tuple c.next.new.self.tuple (c.next.ensures.next c.args.guided.now.binder.vars.now (assignment_in c.args.env.now) c.instances.invariant.reads) (c.next.ensures.end c.instances-test.false) c.instances.invariant.so_far
 
 pub guided_labels-returns-in_err-join_instance-in-Some-clause-labels : goal.guided_labels-returns-in_err-join_instance-in-Some-clause-labels
 guided_labels-returns-in_err-join_instance-in-Some-clause-labels t c =
     let a = c.args.along.now in
-    let p = plain_problem a.task.now.problem in
+    let p = course_along a in
     let ws = states_along a in
     let e = assignment_in c.args.env.now in
     let f = tree_of_formula c.args.part.now in
     let q : Quantifier = with_part c.args.guided.now.binder f in
     let parts = quantified-parts a.task.now.problem q.junction q.vars q.bound f c.requires.fits in
-    let next = subst (IsNext (length q.vars) (λ t. bound_true (situation_of p c.args.guided.now.guide.now) (bind q.vars t e) q.bound) c.instances.tuples.tuple) c.values.ensures.values (c.next.ensures.next q.vars e c.instances.invariant.reads) in
+    let next = subst (IsNext (length q.vars) (λ t. bound_true (situation_of p.problem c.args.guided.now.guide.now) (bind q.vars t e) q.bound) c.instances.tuples.tuple) c.values.ensures.values (c.next.ensures.next q.vars e c.instances.invariant.reads) in
     let here = c.put_values.ensures.values ∙ (ap (λ (ss : List Var). bind ss c.values.result.now (assignment_in c.instances.env)) c.as_slice-in-instances.ensures ∙ c.instances.invariant.scope c.values.result.now) in
     let x = c.in_err-join_instance-in-Some.field-0.0 in
     let old = c.instances.all in
@@ -587,7 +563,7 @@ join_instance-hull-requires t c =
 pub join_instance-labels_of-requires : goal.join_instance-labels_of-requires
 join_instance-labels_of-requires t c =
     let parts = quantified-parts c.args.along.now.task.now.problem c.args.instance.now.binder.junction c.args.instance.now.binder.vars.now c.args.instance.now.binder.bound.now (tree_of_formula c.args.instance.now.part.now) c.requires.fits in
-    (omega (arith, c.decreases), (c.requires.along, (hull-within (plain_problem c.args.along.now.task.now.problem) (states_along c.args.along.now) c.args.span (assignment_in c.args.env.now) (with_part c.args.instance.now.binder (tree_of_formula c.args.instance.now.part.now)) c.requires.span c.args.instance.now.there c.requires.there c.in-Some.hull c.in-Some.ensures.hull, (c.requires.frame, parts.body))))
+    (omega (arith, c.decreases), (c.requires.along, (hull-within (course_along c.args.along.now) (states_along c.args.along.now) c.args.span (assignment_in c.args.env.now) (with_part c.args.instance.now.binder (tree_of_formula c.args.instance.now.part.now)) c.requires.span c.args.instance.now.there c.requires.there c.in-Some.hull c.in-Some.ensures.hull, (c.requires.frame, parts.body))))
 
 pub join_instance-overflow_sub-hull : goal.join_instance-overflow_sub-hull
 join_instance-overflow_sub-hull t c =
@@ -600,20 +576,20 @@ join_instance-join_where-requires-clause-size t c =
 pub join_instance-join_where-requires-clause-within : goal.join_instance-join_where-requires-clause-within
 join_instance-join_where-requires-clause-within t c =
     let hull = c.in-Some.ensures.hull in
-    omega (arith, ap length c.requires.there, marks_in-length (bound_ahead (plain_problem c.args.along.now.task.now.problem) (assignment_in c.args.env.now) c.args.instance.now.binder.bound.now) (states_along c.args.along.now) c.args.span c.requires.span, c.requires.span.order, ap length c.in_ok-found-in-Some.ensures.labels, marks_in-length (true_ahead (plain_problem c.args.along.now.task.now.problem) (assignment_in c.args.env.now) (tree_of_formula c.args.instance.now.part.now)) (states_along c.args.along.now) c.in-Some.hull (hull-within (plain_problem c.args.along.now.task.now.problem) (states_along c.args.along.now) c.args.span (assignment_in c.args.env.now) (with_part c.args.instance.now.binder (tree_of_formula c.args.instance.now.part.now)) c.requires.span c.args.instance.now.there c.requires.there c.in-Some.hull hull), hull.from, hull.order, hull.to)
+    omega (arith, ap length c.requires.there, marks_in-length (bound_ahead (plain_problem c.args.along.now.task.now.problem) (assignment_in c.args.env.now) c.args.instance.now.binder.bound.now) (states_along c.args.along.now) c.args.span c.requires.span, c.requires.span.order, ap length c.in_ok-found-in-Some.ensures.labels, marks_in-length (true_ahead (course_along c.args.along.now) (assignment_in c.args.env.now) (tree_of_formula c.args.instance.now.part.now)) (states_along c.args.along.now) c.in-Some.hull (hull-within (course_along c.args.along.now) (states_along c.args.along.now) c.args.span (assignment_in c.args.env.now) (with_part c.args.instance.now.binder (tree_of_formula c.args.instance.now.part.now)) c.requires.span c.args.instance.now.there c.requires.there c.in-Some.hull hull), hull.from, hull.order, hull.to)
 
 pub join_instance-returns-in-None-clause-joined : goal.join_instance-returns-in-None-clause-joined
 join_instance-returns-in-None-clause-joined t c =
-    instance-nowhere (plain_problem c.args.along.now.task.now.problem) (states_along c.args.along.now) c.args.span (assignment_in c.args.env.now) (with_part c.args.instance.now.binder (tree_of_formula c.args.instance.now.part.now)) c.requires.span c.args.instance.now.there c.requires.there c.args.all.now tt (omega (arith, c.requires.size)) c.in-None.ensures.none
+    instance-nowhere (course_along c.args.along.now) (states_along c.args.along.now) c.args.span (assignment_in c.args.env.now) (with_part c.args.instance.now.binder (tree_of_formula c.args.instance.now.part.now)) c.requires.span c.args.instance.now.there c.requires.there c.args.all.now tt (omega (arith, c.requires.size)) c.in-None.ensures.none
 
 pub join_instance-returns-in_ok-join_where-in-Some-clause-joined : goal.join_instance-returns-in_ok-join_where-in-Some-clause-joined
 join_instance-returns-in_ok-join_where-in-Some-clause-joined t c =
-    instance-joined (plain_problem c.args.along.now.task.now.problem) (states_along c.args.along.now) c.args.span (assignment_in c.args.env.now) (with_part c.args.instance.now.binder (tree_of_formula c.args.instance.now.part.now)) c.requires.span c.args.instance.now.there c.requires.there c.in-Some.hull c.in-Some.ensures.hull c.args.all.now c.join_where.new.self c.in_ok-found-in-Some.found tt (omega (arith, c.requires.size)) c.in_ok-found-in-Some.ensures.labels c.in_ok-join_where-in-Some.ensures.size c.in_ok-join_where-in-Some.ensures.joined
+    instance-joined (course_along c.args.along.now) (states_along c.args.along.now) c.args.span (assignment_in c.args.env.now) (with_part c.args.instance.now.binder (tree_of_formula c.args.instance.now.part.now)) c.requires.span c.args.instance.now.there c.requires.there c.in-Some.hull c.in-Some.ensures.hull c.args.all.now c.join_where.new.self c.in_ok-found-in-Some.found tt (omega (arith, c.requires.size)) c.in_ok-found-in-Some.ensures.labels c.in_ok-join_where-in-Some.ensures.size c.in_ok-join_where-in-Some.ensures.joined
 
 pub join_instance-returns-in_err-found-in-Some-clause-joined : goal.join_instance-returns-in_err-found-in-Some-clause-joined
 join_instance-returns-in_err-found-in-Some-clause-joined t c =
     let a = c.args.along.now in
-    let p = plain_problem a.task.now.problem in
+    let p = course_along a in
     let ws = states_along a in
     let e = assignment_in c.args.env.now in
     let f = tree_of_formula c.args.instance.now.part.now in
@@ -646,7 +622,7 @@ stepped_labels-kept-outer-requires t c =
 pub stepped_labels-loop-tuple-init : goal.stepped_labels-loop-tuple-init
 stepped_labels-loop-tuple-init t c =
     let parts = quantified-parts c.args.along.now.task.now.problem c.args.binder.now.junction c.args.binder.now.vars.now c.args.binder.now.bound.now (tree_of_formula c.args.part.now) c.requires.fits in
-    let p = plain_problem c.args.along.now.task.now.problem in
+    let p = course_along c.args.along.now in
     let e = assignment_in c.args.env.now in
     let ws = (states_along c.args.along.now) in
     let q : Quantifier = with_part c.args.binder.now (tree_of_formula c.args.part.now) in
@@ -666,7 +642,7 @@ stepped_labels-put_values-requires-clause-slots t c =
 pub stepped_labels-put_values-requires-clause-same : goal.stepped_labels-put_values-requires-clause-same
 stepped_labels-put_values-requires-clause-same t c =
     let parts = quantified-parts c.args.along.now.task.now.problem c.args.binder.now.junction c.args.binder.now.vars.now c.args.binder.now.bound.now (tree_of_formula c.args.part.now) c.requires.fits in
-    let p = plain_problem c.args.along.now.task.now.problem in
+    let p = course_along c.args.along.now in
     let e = assignment_in c.args.env.now in
     let ws = (states_along c.args.along.now) in
     let q : Quantifier = with_part c.args.binder.now (tree_of_formula c.args.part.now) in
@@ -680,7 +656,7 @@ stepped_labels-put_values-requires-clause-same t c =
 pub stepped_labels-join_instance-requires : goal.stepped_labels-join_instance-requires
 stepped_labels-join_instance-requires t c =
     let parts = quantified-parts c.args.along.now.task.now.problem c.args.binder.now.junction c.args.binder.now.vars.now c.args.binder.now.bound.now (tree_of_formula c.args.part.now) c.requires.fits in
-    let p = plain_problem c.args.along.now.task.now.problem in
+    let p = course_along c.args.along.now in
     let e = assignment_in c.args.env.now in
     let ws = (states_along c.args.along.now) in
     let q : Quantifier = with_part c.args.binder.now (tree_of_formula c.args.part.now) in
@@ -692,13 +668,13 @@ stepped_labels-join_instance-requires t c =
     let here = c.put_values.ensures.values ∙ (ap (λ (ss : List Var). bind ss c.as_slice-in-loop-tuple-2.result.now (assignment_in c.loop-tuple.env)) c.as_slice-in-loop-tuple.ensures ∙ (ap (λ (u : List Value). bind q.vars u (assignment_in c.loop-tuple.env)) c.as_slice-in-loop-tuple-2.ensures ∙ c.loop-tuple.invariant.scope f.args)) in
     let there = c.in_ok-there.ensures
     ∙ (ap (λ (cs : List Change). test_from (truth_from false cs) c.args.span.from (c.args.span.to - c.args.span.from)) c.line_of.ensures
-    ∙ (tuple-labels p ws e q parts.differ parts.occur c.args.span c.requires.span tracks gathers f known ∙ ap (λ (x : Assignment). marks_in (bound_ahead p x q.bound) ws c.args.span) (sym here))) in
+    ∙ (tuple-labels p ws e q parts.differ parts.occur c.args.span c.requires.span tracks gathers f known ∙ ap (λ (x : Assignment). marks_in (bound_ahead p.problem x q.bound) ws c.args.span) (sym here))) in
     (omega (arith, c.decreases), (c.requires.along, (c.requires.span, (c.put_values.ensures.slots ∙ c.loop-tuple.invariant.slots, (c.requires.fits, (there, omega (arith, c.loop-tuple.invariant.so_far.size, c.requires.span.order)))))))
 
 pub stepped_labels-loop-tuple-preserved : goal.stepped_labels-loop-tuple-preserved
 stepped_labels-loop-tuple-preserved t c =
     let parts = quantified-parts c.args.along.now.task.now.problem c.args.binder.now.junction c.args.binder.now.vars.now c.args.binder.now.bound.now (tree_of_formula c.args.part.now) c.requires.fits in
-    let p = plain_problem c.args.along.now.task.now.problem in
+    let p = course_along c.args.along.now in
     let e = assignment_in c.args.env.now in
     let ws = (states_along c.args.along.now) in
     let q : Quantifier = with_part c.args.binder.now (tree_of_formula c.args.part.now) in
@@ -723,7 +699,7 @@ stepped_labels-give_back-requires-clause-slots t c =
 pub stepped_labels-returns-clause-labels : goal.stepped_labels-returns-clause-labels
 stepped_labels-returns-clause-labels t c =
     let parts = quantified-parts c.args.along.now.task.now.problem c.args.binder.now.junction c.args.binder.now.vars.now c.args.binder.now.bound.now (tree_of_formula c.args.part.now) c.requires.fits in
-    let p = plain_problem c.args.along.now.task.now.problem in
+    let p = course_along c.args.along.now in
     let e = assignment_in c.args.env.now in
     let ws = (states_along c.args.along.now) in
     let q : Quantifier = with_part c.args.binder.now (tree_of_formula c.args.part.now) in
@@ -734,7 +710,7 @@ stepped_labels-returns-clause-labels t c =
 pub stepped_labels-returns-in_err-join_instance-clause-labels : goal.stepped_labels-returns-in_err-join_instance-clause-labels
 stepped_labels-returns-in_err-join_instance-clause-labels t c =
     let parts = quantified-parts c.args.along.now.task.now.problem c.args.binder.now.junction c.args.binder.now.vars.now c.args.binder.now.bound.now (tree_of_formula c.args.part.now) c.requires.fits in
-    let p = plain_problem c.args.along.now.task.now.problem in
+    let p = course_along c.args.along.now in
     let e = assignment_in c.args.env.now in
     let ws = (states_along c.args.along.now) in
     let q : Quantifier = with_part c.args.binder.now (tree_of_formula c.args.part.now) in

@@ -4,7 +4,7 @@ use Rattle.tl_check.proofs.GuidedLaws.{Guided}
 use Rattle.tl_check.proofs.PartLabels.{PartsSoFar}
 use Rattle.tl_check.proofs.Sizes.{size, sizes}
 use Rattle.tl_check.specs.Quantifiers.{with_part}
-use Rattle.tl_check.specs.StatesAlong.{states_along}
+use Rattle.tl_check.specs.StatesAlong.{states_along, course_along}
 use Rattle.tl_eval.proofs.TupleRest.{rest_after}
 use Rattle.tl_eval.specs.Frames.{assignment_in, AgreeElsewhere}
 use Rattle.tl_eval.specs.Reader.{ReadsTuples}
@@ -21,7 +21,7 @@ abbrev pub decreases-negated_labels : goal.decreases-negated_labels
 decreases-negated_labels l = 1 + 4 * size (tree_of_formula l.part.now)
 
 abbrev pub decreases-next_labels : goal.decreases-next_labels
-decreases-next_labels l = 1 + 4 * size (tree_of_formula l.part.now)
+decreases-next_labels l = 2 + 4 * size (tree_of_formula l.part.now)
 
 abbrev pub decreases-later_labels : goal.decreases-later_labels
 decreases-later_labels l = 1 + 4 * size (tree_of_formula l.part.now)
@@ -53,7 +53,7 @@ decreases-stepped_labels l = 2 + 4 * size (tree_of_formula l.part.now)
 abbrev pub invariant-parts_labels-loop-part : goal.invariant-parts_labels-loop-part
 invariant-parts_labels-loop-part l = record {
   frame : l.env ≡ l.fn.env;
-  so_far : PartsSoFar (plain_problem l.along.task.now.problem) (assignment_in l.fn.env) (states_along l.along) l.span l.junction l.part-items (drop l.part-index l.part-items) l.all;
+  so_far : PartsSoFar (course_along l.along) (assignment_in l.fn.env) (states_along l.along) l.span l.junction l.part-items (drop l.part-index l.part-items) l.all;
 }
 
 abbrev pub decreases-guided_labels-instances : goal.decreases-guided_labels-instances
@@ -64,12 +64,12 @@ invariant-guided_labels-instances l = record {
   reads : ReadsTuples l.guided.binder.vars.now (assignment_in l.fn.env) l.guided.binder.bound.now l.tuples;
   scope : AgreeElsewhere l.guided.binder.vars.now (assignment_in l.env) (assignment_in l.fn.env);
   slots : length l.env ≡ 32;
-  so_far : Guided (plain_problem l.along.task.now.problem) (states_along l.along) (assignment_in l.fn.env) (with_part l.guided.binder (tree_of_formula l.part)) l.guided.guide.now l.span l.all l.tuples.tuple;
+  so_far : Guided (course_along l.along) (states_along l.along) (assignment_in l.fn.env) (with_part l.guided.binder (tree_of_formula l.part)) l.guided.guide.now l.span l.all l.tuples.tuple;
 }
 
 abbrev pub invariant-stepped_labels-loop-tuple : goal.invariant-stepped_labels-loop-tuple
 invariant-stepped_labels-loop-tuple l = record {
   scope : AgreeElsewhere l.binder.vars.now (assignment_in l.env) (assignment_in l.fn.env);
   slots : length l.env ≡ 32;
-  so_far : Stepped (plain_problem l.along.task.now.problem) (states_along l.along) (assignment_in l.fn.env) (with_part l.binder (tree_of_formula l.part)) l.span l.all (drop l.tuple-index l.tuple-items);
+  so_far : Stepped (course_along l.along) (states_along l.along) (assignment_in l.fn.env) (with_part l.binder (tree_of_formula l.part)) l.span l.all (drop l.tuple-index l.tuple-items);
 }

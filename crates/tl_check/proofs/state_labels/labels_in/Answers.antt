@@ -5,19 +5,19 @@ use Rattle.tl_check.proofs.SpanLaws.{test_from-marks}
 use Rattle.tl_check.proofs.StateLabelLaws.{state-noted, state-told}
 use Rattle.tl_check.specs.Ahead.{true_ahead}
 use Rattle.tl_check.specs.Lines.{test_from}
+use Rattle.tl_check.specs.StatesAlong.{course_along}
 use Rattle.tl_eval.specs.Frames.{assignment_in}
 use Rattle.tl_syntax.specs.TreeOfFormula.{tree_of_formula}
-use Rattle.tl_terms.specs.ProblemMeaning.{plain_problem}
 use Rattle.tl_check.proofs.state_labels.labels_in.Goals as goal
 
 pub returns-in-Err-clause-labels : goal.returns-in-Err-clause-labels
 returns-in-Err-clause-labels c =
-    state-noted (plain_problem c.args.along.now.task.now.problem) c.args.worlds.now c.args.span.from c.loop-i.i (assignment_in c.args.env.now) (assignment_in c.loop-i.env) (tree_of_formula c.args.f.now) c.index-worlds-i.result c.in-Err.note
+    state-noted (course_along c.args.along.now) c.args.worlds.now c.args.span.from c.loop-i.i (assignment_in c.args.env.now) (assignment_in c.loop-i.env) (tree_of_formula c.args.f.now) c.index-worlds-i.result c.in-Err.note
     c.loop-i.auto.i (omega (arith, c.loop-i-test.true, c.requires.span.within)) c.index-worlds-i.is (ap assignment_in c.loop-i.invariant.frame) c.in-Err.ensures.note
 
 pub loop-i-preserved : goal.loop-i-preserved
 loop-i-preserved c =
-    let p = plain_problem c.args.along.now.task.now.problem in
+    let p = course_along c.args.along.now in
     let e = assignment_in c.args.env.now in
     let f = tree_of_formula c.args.f.now in
     let ws = c.args.worlds.now in
@@ -31,7 +31,7 @@ loop-i-preserved c =
 
 pub returns-clause-labels : goal.returns-clause-labels
 returns-clause-labels c =
-    let u = true_ahead (plain_problem c.args.along.now.task.now.problem) (assignment_in c.args.env.now) (tree_of_formula c.args.f.now) in
+    let u = true_ahead (course_along c.args.along.now) (assignment_in c.args.env.now) (tree_of_formula c.args.f.now) in
     let t = λ (i : ℕ). u (drop i c.args.worlds.now) in
     labels-end t (test_from t c.args.span.from (c.args.span.to - c.args.span.from)) c.loop-i.labels c.loop-i.i c.args.span.to c.loop-i-test.false c.loop-i.invariant.so_far
     ∙ test_from-marks t u c.args.worlds.now c.args.span c.requires.span (λ i h. refl)

@@ -5,8 +5,8 @@ use Rattle.std.proofs.Math.Nat.{mod-eq_of_lt}
 use Rattle.std.proofs.lemmas.List.{get_or-take, get_or-drop, get_or_default, length-take}
 use borrow.Author.Tests.{le-ltb, lt-ltb}
 use native.Mathlib.Decide.{dec_lt}
-use Rattle.tl_lasso.proofs.RoundLaws.{Repeats}
-use Rattle.tl_lasso.specs.Lassos.{lasso_run, situations_round}
+use Rattle.tl_check.proofs.RoundLaws.{Repeats}
+use Rattle.tl_check.specs.Rounds.{lasso_run, situations_round}
 use Rattle.tl_syntax.specs.Assignment.{Assignment}
 use Rattle.tl_syntax.specs.Trees.{FormulaTree}
 use Rattle.tl_terms.proofs.Lasso.{repeats}

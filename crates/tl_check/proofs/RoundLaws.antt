@@ -3,7 +3,7 @@ use Rattle.std.proofs.Common.{◌≡◌, ◌≤◌, ◌<◌, ◌+◌, ◌-◌, �
 use Rattle.std.proofs.lemmas.List.{get_or-take, get_or-drop, get_or_append_left, get_or-append_right, length-take}
 use native.Mathlib.Decide.{dec_lt}
 use Rattle.tl_check.specs.Passes.{next_labels, always_labels, eventually_labels, until_labels, within_labels}
-use Rattle.tl_lasso.proofs.PassLabels.{IsMarked, next-at, eventually-at, always-at, until-at, within-at, during-at, marked-within, not-length}
+use Rattle.tl_check.proofs.PassLabels.{IsMarked, next-at, eventually-at, always-at, until-at, within-at, during-at, marked-within, not-length}
 use Rattle.tl_syntax.proofs.ListLaws.{iff-trans, iff-path}
 
 -- the labels tell at which positions it holds, as far as they go
