@@ -1,12 +1,11 @@
 -- What is true ahead is what holds along a run.
-use Rattle.std.proofs.Common.{◌≡◌, ◌≤◌, ◌<◌, ◌+◌, ◌-◌, ◌↔◌, ◌||◌, ◌&&◌, not, ℕ, zero, suc, List, [], ◌∷◌, ◌++◌, map, take, drop, length, get_or, Option, Some, Bool, true, false, true≢false, refl, sym, ap, ap₂, ◌∙◌, subst, arith, drop-cons, add-one, length-append, length-drop}
+use Rattle.std.proofs.Common.{◌≡◌, ◌≤◌, ◌<◌, ◌+◌, ◌↔◌, ℕ, zero, suc, List, [], ◌∷◌, ◌++◌, take, drop, length, get_or, Some, Bool, true, false, true≢false, refl, sym, ap, ap₂, ◌∙◌, subst, arith, add-one, length-append}
 use Rattle.std.specs.Prelude.{slice_get, slice_index_or}
 use Rattle.std.specs.List.{list_any, list_all}
 use Rattle.tl_check.proofs.AtomLaws.{opened-at}
 use Rattle.tl_check.proofs.HistoryLaws.{there-is}
 use Rattle.tl_check.proofs.LabelLaws.{marks-length, marks-at, marks-drop, marks-made, marks-until, word-looks, word-first}
 use Rattle.tl_check.proofs.LassoLaws.{period-is, situation-there, holds-again}
-use Rattle.tl_check.proofs.PassLabels.{IsMarked}
 use Rattle.tl_check.proofs.RoundLaws.{Marks, Repeats, next-round, always-round, eventually-round, within-round_of, during-round, until-round}
 use Rattle.tl_check.specs.Ahead.{Ahead, Course, marks, marks_on, first_of, in_first, true_ahead, all_ahead, one_ahead}
 use Rattle.tl_check.specs.Later.{later_tree, later_labels}
@@ -22,7 +21,7 @@ use Rattle.tl_terms.specs.Acceptance.{all_but_last, last_of, run_of}
 use Rattle.tl_terms.specs.Bounds.{tuples}
 use Rattle.tl_terms.specs.Definitions.{situation_of}
 use Rattle.tl_terms.specs.Problem.{PlainProblem}
-use Rattle.tl_terms.specs.Run.{Holds, HoldAll, HoldsOne, Run, situations_of, Satisfies, SatisfiesAlong}
+use Rattle.tl_terms.specs.Run.{Holds, HoldAll, HoldsOne, Run, Satisfies, SatisfiesAlong}
 use Rattle.tl_terms.specs.Situation.{Situation}
 use Rattle.tl_terms.specs.Truth.{state_true}
 use Rattle.tl_terms.specs.World.{World}

@@ -1,5 +1,5 @@
 -- The verdict on a plan by what is kept of its states.
-use Rattle.std.proofs.Common.{◌≡◌, ◌<◌, ◌+◌, ◌-◌, ◌^◌, ℕ, zero, suc, List, [], ◌∷◌, take, length, length-take, get_or, Option, Some, unwrap_or, Bool, true, false, cond, Result, Ok, Err, IfErr, IsErrAnd, refl, sym, ap, ◌∙◌, subst, inl, inr, arith}
+use Rattle.std.proofs.Common.{◌≡◌, ◌<◌, ◌+◌, ◌-◌, ◌^◌, ℕ, zero, suc, List, [], ◌∷◌, take, length, length-take, get_or, Option, Some, unwrap_or, Bool, true, false, cond, Result, Ok, Err, IfErr, IsErrAnd, refl, sym, ap, ◌∙◌, subst, inl, arith}
 use Rattle.std.specs.Prelude.{slice_get}
 use Rattle.tl_action.specs.declared.check_fault.CheckFault.{CheckFault}
 use Rattle.tl_action.specs.declared.check_fault.CheckFault.TheVariants as fault
@@ -21,7 +21,7 @@ use Rattle.tl_check.specs.declared.unlabelled.Unlabelled.{Unlabelled}
 use Rattle.tl_check.specs.declared.unlabelled.Unlabelled.TheVariants as unlabelled
 use Rattle.tl_check.specs.declared.verdict.Verdict.{Verdict}
 use Rattle.tl_syntax.specs.declared.action.Action.{Action}
-use Rattle.tl_syntax.specs.Lists.{Among, Each}
+use Rattle.tl_syntax.specs.Lists.{Each}
 use Rattle.tl_terms.specs.Problem.{PlainProblem}
 use Rattle.tl_terms.specs.World.{World}
 

@@ -1,5 +1,5 @@
 -- Labels are what is true ahead at each position.
-use Rattle.std.proofs.Common.{◌≡◌, ◌≤◌, ◌<◌, ◌+◌, ◌-◌, ℕ, zero, suc, List, [], ◌∷◌, ◌++◌, map, take, drop, length, replicate, get_or, Bool, true, false, not, refl, sym, ap, ap₂, ◌∙◌, arith, drop-cons, add-one, append_assoc, append-nil, length-append, length-drop}
+use Rattle.std.proofs.Common.{◌≡◌, ◌≤◌, ◌<◌, ◌+◌, ◌-◌, ℕ, zero, suc, List, [], ◌∷◌, ◌++◌, map, take, drop, length, replicate, get_or, Bool, false, not, refl, sym, ap, ap₂, ◌∙◌, arith, drop-cons, add-one, append_assoc, append-nil, length-append, length-drop}
 use Rattle.tl_check.specs.Ahead.{Ahead, Course, marks, marks_on, first_of, true_ahead}
 use Rattle.tl_check.specs.Later.{later_tree, later_labels}
 use Rattle.tl_check.specs.Passes.{until_labels, joins, joined_labels}

@@ -1,4 +1,4 @@
-use Rattle.std.proofs.Common.{◌≡◌, ◌+◌, length, refl, sym, ap, ◌∙◌, subst}
+use Rattle.std.proofs.Common.{◌+◌, length, refl, sym, ◌∙◌, subst}
 use Rattle.tl_check.proofs.KeptLaws.{some-states, last-state, along-is, cause-passed}
 use Rattle.tl_check.proofs.JudgeLaws.{misses, accepts, breaks, past}
 use Rattle.tl_check.specs.Histories.{IsFactHistory}

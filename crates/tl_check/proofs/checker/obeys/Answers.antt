@@ -1,5 +1,5 @@
 use Rattle.std.proofs.Common.{◌<◌, length, ap, arith}
-use Rattle.tl_check.proofs.JudgeLaws.{first, first-within, nothing-given, control-is, obeys-told, obeys-noted}
+use Rattle.tl_check.proofs.JudgeLaws.{first, nothing-given, control-is, obeys-told, obeys-noted}
 use Rattle.tl_check.proofs.SpanLaws.{marks_in-length}
 use Rattle.tl_check.proofs.StatesLaws.{passed-on}
 use Rattle.tl_check.specs.Ahead.{true_ahead}

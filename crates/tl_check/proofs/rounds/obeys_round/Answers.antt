@@ -1,4 +1,4 @@
-use Rattle.std.proofs.Common.{◌≡◌, ◌<◌, ◌-◌, length, take, refl, sym, ap, ◌∙◌, subst, arith}
+use Rattle.std.proofs.Common.{◌-◌, length, take, refl, sym, ap, subst, arith}
 use Rattle.tl_check.proofs.KeptLaws.{round-along, round-answer, kept-length}
 use Rattle.tl_check.specs.Histories.{IsFactHistory}
 use Rattle.tl_check.specs.StatesAlong.{states_of}

@@ -1,4 +1,4 @@
-use Rattle.std.proofs.Common.{◌≡◌, ◌++◌, ◌<◌, List, true, Result, Ok, Err, Some, IfErr, IsErrAnd, length, refl, sym, ap, ◌∙◌, subst, inl, arith, length-append}
+use Rattle.std.proofs.Common.{◌≡◌, ◌++◌, List, true, Result, Ok, Err, Some, IfErr, IsErrAnd, length, refl, sym, ap, ◌∙◌, subst, inl, arith, length-append}
 use Rattle.tl_action.specs.declared.check_fault.CheckFault.{CheckFault}
 use Rattle.tl_action.specs.declared.check_fault.CheckFault.TheVariants as fault
 use Rattle.tl_check.specs.Judged.{IsKept}

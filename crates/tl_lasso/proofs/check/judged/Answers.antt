@@ -1,4 +1,4 @@
-use Rattle.std.proofs.Common.{◌≡◌, ◌<◌, ◌+◌, ◌-◌, ℕ, List, true, true≢false, length, get_or, refl, sym, ap, ◌∙◌, arith}
+use Rattle.std.proofs.Common.{◌≡◌, ◌<◌, ◌+◌, ◌-◌, ℕ, List, true≢false, length, get_or, refl, sym, ap, ◌∙◌, arith}
 use Rattle.tl_check.proofs.ExecutionLaws.{states-count}
 use Rattle.tl_check.specs.Judged.{IsKept, front_states}
 use Rattle.tl_check.specs.StatesAlong.{states_of}
