@@ -11,7 +11,7 @@ use Rattle.tl_syntax.specs.Settled.{Differ}
 use Rattle.tl_syntax.specs.ValueTests.{EffectsPass}
 use Rattle.tl_syntax.proofs.ListLaws.{Each-Among, Each-over}
 use Rattle.tl_rules.specs.Named.{HasNames, HaveNames, HasSymbol, HaveSymbol}
-use Rattle.tl_rules.specs.Symbols.{names_with_all, number_in}
+use Rattle.tl_rules.specs.Symbols.{number_in}
 use Rattle.tl_rules.proofs.SymbolsJoin.{among-any}
 use Rattle.tl_problem.specs.Sections.{Sections, sections_of}
 use Rattle.tl_domain.specs.DomainTrees.{OperatorTree, DomainTree, operator_tree, domain_tree}
@@ -63,7 +63,7 @@ lawful-names-writable first second p a b files =
     let after = file-stands p.names first have.0 files.domain_lawful in
     let same : (domain_tree p.domain).operators ≡ (domain_file_meant p.names first).operators = ap (λ (d : DomainTree). d.operators) files.domain in
     let effects : Each (λ o. EffectsPass (is_constant p.names) o.effects) (map operator_tree p.domain.operators) = subst (Each (λ (o : OperatorTree). EffectsPass (is_constant p.names) o.effects)) (sym same) after.stands.effects in
-    let said : SectionsPass p.names (sections_of p) = subst (λ (s : Sections). SectionsPass p.names s) (sym files.said) (problem-passes (names_with_all (names_of first) second) (declared_in (domain_file_meant (names_of first) first)) p.names p.domain second files.problem_lawful have.1) in
+    let said : SectionsPass p.names (sections_of p) = subst (λ (s : Sections). SectionsPass p.names s) (sym files.said) (problem-passes (names_of first second) (declared_in (domain_file_meant (names_of first second) first)) p.names p.domain second files.problem_lawful have.1) in
     let numbers : map (number_in p.names) after.known.operators ≡ map (λ (o : Operator). o.name) p.domain.operators =
     sym after.stands.numbered ∙ ap (map (λ (o : OperatorTree). o.name)) (sym same) ∙ map-map (λ (o : OperatorTree). o.name) operator_tree p.domain.operators in
     record {
