@@ -1,10 +1,6 @@
-pub mod Cuts
-pub mod Evenly
 pub mod PlaceLists
+pub mod Shifts
 pub mod EvenRows
-pub mod EvenCopies
-pub mod Pushing
-pub mod Inserting
 pub mod Parts
 pub mod Joined
 pub mod PartSearch
@@ -43,9 +39,7 @@ pub mod Lacking
 pub mod Finite
 pub mod Numbering
 pub mod Moving
-pub mod Strides
 pub mod RunEdits
-pub mod SameValues
 pub mod Exchanged
 pub mod Beside
 pub mod Falling

@@ -1,11 +1,27 @@
 -- Items of a list from a place on up to another one.
 use Rattle.std.proofs.Common.{◌≡◌, ℕ, zero, suc, ◌+◌, ◌-◌, ◌<◌, ◌≤◌, List, [], ◌∷◌, ◌++◌, length, length-append, get_or, take, drop, append_assoc, refl, sym, ap, ◌∙◌, subst, arith}
-use Rattle.std.proofs.lemmas.List.{take_all, drop_all, take-take, drop-drop, get_or-take, get_or-drop, length-drop, length-take-le}
+use Rattle.std.proofs.lemmas.List.{take_all, drop_all, take-take, drop-drop, drop-take, take-append-le, drop-append-le, get_or-take, get_or-drop, length-drop, length-take-le}
 use Rattle.std.proofs.Math.Seq.{drop-append_seam, drop-cons}
 use Rattle.std.specs.List.{insert, remove}
 use Rattle.tl_syntax.specs.declared.value.Value.{Value}
 use Rattle.tl_world.specs.Runs.{between, IsPart}
-use Rattle.tl_world.proofs.Cuts.{same-row, drop-past, drop-taken}
+
+module _ {X : Type 0} where
+  -- items within the first list stay where more follows
+  pub same-row : (from e : ℕ) (xs ys : List X) → from ≤ e → e ≤ length xs → take (e - from) (drop from (xs ++ ys)) ≡ take (e - from) (drop from xs)
+  same-row from e xs ys p q =
+      let low : from ≤ length xs = omega (arith, p, q) in
+      let l : length (drop from xs) ≡ length xs - from = length-drop from xs in
+      let long : e - from ≤ length (drop from xs) = omega (arith, l, p, q) in
+      ap (take (e - from)) (drop-append-le from xs ys low) ∙ take-append-le (e - from) (drop from xs) ys long
+
+  pub drop-past : (xs zs : List X) (n m : ℕ) → n ≡ length xs + m → drop n (xs ++ zs) ≡ drop m zs
+  drop-past [] zs n m e = ap (λ i. drop i zs) (let p : n ≡ m = omega (arith, e) in p)
+  drop-past (x ∷ xs) zs zero m e = absurd (omega (arith, e))
+  drop-past (x ∷ xs) zs (suc n) m e = drop-past xs zs n m (omega (arith, e))
+
+  pub drop-taken : (n m k : ℕ) (xs : List X) → m ≡ n + k → drop n (take m xs) ≡ take k (drop n xs)
+  drop-taken n m k xs e = ap (λ i. drop n (take i xs)) e ∙ drop-take n k xs
 
 module _ {X : Type 0} where
   -- some of the items of a part

@@ -1,64 +1,19 @@
--- A list cut into rows by the places at which they end.
-use Rattle.std.specs.Prelude.{◌≡◌, ◌<◌, ◌≤◌, ◌+◌, ◌-◌, ◌*◌, ◌^◌, ℕ, zero, suc, List, [], ◌∷◌, ◌++◌, length, map, take, drop}
+-- A list cut into rows of one length, and edits of the list.
+use Rattle.std.specs.Prelude.{◌≡◌, ◌+◌, ◌-◌, ℕ, zero, suc, List, [], ◌∷◌, ◌++◌, length, take, drop}
+use Rattle.tl_syntax.specs.Lists.{Each}
 
--- the rows that end at these places, of which the first begins at `from`
-abbrev pub rows_between : {X : Type 0} → ℕ → List ℕ → List X → List (List X)
-rows_between from [] xs = []
-rows_between from (e ∷ es) xs = take (e - from) (drop from xs) ∷ rows_between e es xs
-
--- the places rise from `from` on, and the last is n
-abbrev pub AreEnds : ℕ → List ℕ → ℕ → Type 0
-AreEnds from [] n = from ≡ n
-AreEnds from (e ∷ es) n = from ≤ e × AreEnds e es n
-
--- the place at which row k begins
-abbrev pub begin : ℕ → List ℕ → ℕ → ℕ
-begin from es zero = from
-begin from [] (suc k) = from
-begin from (e ∷ es) (suc k) = begin e es k
-
--- the ends of n rows of one length, of which the first begins at `from`
-abbrev pub even_ends : ℕ → ℕ → ℕ → List ℕ
-even_ends from w zero = []
-even_ends from w (suc n) = (from + w) ∷ even_ends (from + w) w n
-
--- the values cut into n rows of one length
+-- the items cut into n rows of one length
 abbrev pub even_rows : {X : Type 0} → ℕ → ℕ → List X → List (List X)
-even_rows w n xs = rows_between 0 (even_ends 0 w n) xs
+even_rows w zero xs = []
+even_rows w (suc n) xs = take w xs ∷ even_rows w n (drop w xs)
 
--- row k of rows of one length
-abbrev pub even_row : {X : Type 0} → ℕ → ℕ → List X → List X
-even_row w k xs = take w (drop (w * k) xs)
+-- each row has so many items
+abbrev pub HaveWidth : {X : Type 0} → ℕ → List (List X) → Type 0
+HaveWidth w rows = Each (λ r. length r ≡ w) rows
 
--- the ends of n rows: those that are listed, or where none is, those of rows of one length
-abbrev pub ends_of : ℕ → ℕ → List ℕ → List ℕ
-ends_of w n [] = even_ends 0 w n
-ends_of w n (e ∷ es) = e ∷ es
-
--- n rows have these ends, and all are counted
-abbrev pub AreKept : ℕ → ℕ → List ℕ → Type 0
-AreKept w n [] = (n < 2 ^ 63) × (w * n < 2 ^ 63)
-AreKept w n (e ∷ es) = (n < 2 ^ 63) × (n ≡ length (e ∷ es))
-
--- the last of the ends
-abbrev pub end_of : List ℕ → ℕ
-end_of es = begin 0 es (length es)
-
--- ends that are moved
-abbrev pub moved : ℕ → ℕ → List ℕ → List ℕ
-moved start place es = map (λ e. e - start + place) es
-
--- ends that grew
-abbrev pub grown : ℕ → List ℕ → List ℕ
-grown w es = map (λ e. e + w) es
-
--- the ends with one more row of so many values at place k
-abbrev pub ends_with : List ℕ → ℕ → ℕ → List ℕ
-ends_with es k w = take k es ++ grown w (begin 0 es k ∷ drop k es)
-
--- the ends with those of the rows from..to of others after them
-abbrev pub ends_joined : List ℕ → List ℕ → ℕ → ℕ → List ℕ
-ends_joined es others from to = es ++ moved (begin 0 others from) (end_of es) (take (to - from) (drop from others))
+-- the rows of both lists have one length
+abbrev pub HaveOneWidth : {X : Type 0} → List (List X) → List (List X) → Type 0
+HaveOneWidth rows others = (w : ℕ) × HaveWidth w rows × HaveWidth w others
 
 -- the items with others in place of as many from a place on
 abbrev pub items_over : {X : Type 0} → List X → ℕ → List X → List X

@@ -14,7 +14,6 @@ use Rattle.tl_syntax.specs.Lists.{Among}
 use Rattle.tl_terms.specs.Step.{with_all, without_all}
 use Rattle.tl_world.specs.declared.named.Named.{Named}
 use Rattle.tl_world.specs.declared.row_move.Move.{Move}
-use Rattle.tl_world.specs.Cuts.{even_rows}
 use Rattle.tl_world.specs.Plain.{row_cmp}
 
 -- the place of what stood at `cut`, after one more at `at`
@@ -65,10 +64,6 @@ IsTakenOut rows cut n facts after = (after ≡ remove rows cut) ⊎ IsMoved rows
 -- the same for the rows of a table
 abbrev pub IsTakenOutOf : Named (List (List Value)) → ℕ → List Fact → List (List Value) → Type 0
 IsTakenOutOf table cut facts after = IsTakenOut table.rows.value cut table.name facts after
-
--- where a row with these arguments stands or would stand among n rows with as many values
-abbrev pub IsEvenPlace : List Value → ℕ → List Value → Result ℕ ℕ → Type 0
-IsEvenPlace args n xs found = IsBinarySearchResult (λ (r : List Value). row_cmp r args) (even_rows (length args) n xs) found
 
 -- the same facts, but for those of a list
 abbrev pub AreSameBeside : List Fact → set.FinSet key_cmp → set.FinSet key_cmp → Type 0

@@ -1,12 +1,10 @@
 //! Worlds: a finite set of facts and a finite map of places to values.
 //!
-//! - `ends`: the places at which rows end that follow one another in one list.
-//! - `flat`: rows in one list.
+//! - `flat`: rows of one length in one list.
 //! - `shared`, `runs`, `moves`: rows in runs, which tables share, and edits of them; `row_move`: what puts one row in the place of another.
 //! - `second`, `second_made`: rows by their second value, and how they are made.
 //! - `rows`: the facts of one predicate, with a code that is kept.
 //! - `table`: the places of one function with their values, with a code that is kept.
-//! - `even`: rows of one length as the list of their values, with searches and copies.
 //! - `row_order`, `row_search`: how a row stands to another, and the place of a row in one list, found by halves.
 //! - `guess`: guesses for a place among rows, from the values of the first and the last of them.
 //! - `named`: a table with the number of its predicate or function, shared between worlds.
@@ -27,8 +25,6 @@
 
 mod after;
 mod by_second;
-mod ends;
-mod even;
 mod facts;
 mod first;
 mod first_place;

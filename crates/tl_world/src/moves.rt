@@ -75,7 +75,9 @@ impl Runs {
         requires at { step.now.at ≤ length self.now }
         ensures { IfOk result (λ r. r ≡ moved_by self.now step.now) }
     {
-        if let Some(rows) = self.uncut() {
+        if let Some(rows) = self.uncut()
+            && rows.takes(step.row.len())
+        {
             return Ok(Runs::of_list(alloc, rows.moved(alloc, step)?));
         }
         self.moved_in_runs(alloc, step)

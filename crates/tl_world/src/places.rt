@@ -10,7 +10,7 @@ ghost use Rattle.tl_world.specs.Tables.{InOrder, place_tables, row_cmp};
 
 use crate::PlaceRows;
 use crate::named::{Named, find_table};
-use crate::row_search::find_in;
+use crate::runs::find_row;
 use std::alloc::Global;
 use std::cmp::Ordering;
 use std::rc::Rc;
@@ -21,7 +21,7 @@ pub(crate) fn find_place(rows: &PlaceRows, args: &[Value]) -> Result<usize, usiz
     ensures range { IsSearchInRange result (length rows.now) }
     ensures place { IsBinarySearchResult (λ r. row_cmp r.args args.now) rows.now result }
 {
-    find_in(rows.all_args(), args)
+    find_row(rows.all_args(), args)
 }
 
 /// Puts another value at place `k` of the table. The values are copied where another world shares them.

@@ -1,10 +1,9 @@
 // The place of a row in rows that rise, found by halves.
 ghost use Rattle.std.specs.List.Sorted.{IsBinarySearchResult, IsSearchInRange};
 ghost use Rattle.std.specs.Ordering.{is_gt};
-ghost use Rattle.std.specs.Prelude.{◌≡◌, ◌<◌, [], length, slice_index_or};
+ghost use Rattle.std.specs.Prelude.{◌≡◌, ◌<◌, ◌≤◌, [], length, slice_index_or, Err, IfSome};
 ghost use Rattle.tl_world.specs.Tables.{row_cmp};
 
-use crate::even::{find_even, place_beside};
 use crate::flat::Flat;
 use crate::row_order::order_of;
 use std::cmp::Ordering;
@@ -18,9 +17,9 @@ pub(crate) fn begins_after(rows: &Flat, args: &[Value]) -> bool
     order_of(rows.row(0), args).is_gt()
 }
 
-/// The place of the row with these arguments, or the place at which it would stand, by a look at each row's ends.
-#[inline(never)]
-fn find_each(rows: &Flat, args: &[Value]) -> Result<usize, usize>
+/// The place of the row with these arguments, or the place at which it would stand, by halves.
+#[inline(always)]
+pub(crate) fn find_in(rows: &Flat, args: &[Value]) -> Result<usize, usize>
     ensures range { IsSearchInRange result (length rows.now) }
     ensures place { IsBinarySearchResult (λ r. row_cmp r args.now) rows.now result }
 {
@@ -37,31 +36,43 @@ fn find_each(rows: &Flat, args: &[Value]) -> Result<usize, usize>
     Err(low)
 }
 
-/// The place of the row with these arguments, or the place at which it would stand.
+/// The place at which a row with these arguments would stand, where it is not among the rows and would stand beside row `k`.
 #[inline(always)]
-pub(crate) fn find_in(rows: &Flat, args: &[Value]) -> Result<usize, usize>
-    ensures range { IsSearchInRange result (length rows.now) }
-    ensures place { IsBinarySearchResult (λ r. row_cmp r args.now) rows.now result }
+fn place_beside(rows: &Flat, k: usize, args: &[Value]) -> Option<usize>
+    requires { k < length rows.now }
+    ensures within { IfSome result (λ at. at ≤ length rows.now) }
+    ensures place { IfSome result
+        (λ at. IsBinarySearchResult (λ r. row_cmp r args.now) rows.now (Err at)) }
 {
-    match rows.even_values(args.len()) {
-        Some(values) => find_even(values, rows.len(), args),
-        None => find_each(rows, args),
+    let count = rows.len();
+    match order_of(rows.row(k), args) {
+        Ordering::Less => {
+            if k + 1 == count || order_of(rows.row(k + 1), args).is_gt() {
+                return Some(k + 1);
+            }
+            None
+        }
+        Ordering::Equal => None,
+        Ordering::Greater => {
+            if k == 0 || order_of(rows.row(k - 1), args).is_lt() {
+                return Some(k);
+            }
+            None
+        }
     }
 }
 
-/// The same. It looks beside row `k` first.
+/// The place of the row with these arguments, or the place at which it would stand. It looks beside row `k` first.
 #[inline(always)]
 pub(crate) fn find_near(rows: &Flat, k: usize, args: &[Value]) -> Result<usize, usize>
     requires { k < length rows.now }
     ensures range { IsSearchInRange result (length rows.now) }
     ensures place { IsBinarySearchResult (λ r. row_cmp r args.now) rows.now result }
 {
-    if let Some(values) = rows.even_values(args.len())
-        && let Some(at) = place_beside(values, rows.len(), k, args)
-    {
-        return Err(at);
+    match place_beside(rows, k, args) {
+        Some(at) => Err(at),
+        None => find_far(rows, args),
     }
-    find_far(rows, args)
 }
 
 /// The same, by halves.

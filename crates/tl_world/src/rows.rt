@@ -5,18 +5,15 @@ ghost use Rattle.std.specs.List.{insert, remove};
 ghost use Rattle.std.specs.Prelude.{◌≡◌, ◌<◌, ◌≤◌, ◌*◌, ◌^◌, ◌==◌, [], ◌∷◌, length, take, drop, slice_index_or, true, false, IfOk, IfSome, OnOk};
 ghost use Rattle.tl_syntax.proofs.Telling.{tells-partial, tells-equivalence};
 ghost use Rattle.tl_world.specs.Codes.{row_code, rows_code};
-ghost use Rattle.tl_world.specs.Cuts.{even_rows};
 ghost use Rattle.tl_world.specs.Moves.{place_left, moved_by, HasRowAt};
 ghost use Rattle.tl_world.specs.RowTests.{rows_eq, rows-tell};
 ghost use Rattle.tl_world.specs.Second.{IsSecond};
 
-use crate::even::{row_of, values_moved, values_with, values_without};
 use crate::flat::Flat;
 use crate::row_move::Move;
 use crate::runs::Runs;
 use crate::same_row::is_same_row;
 use crate::second::Second;
-use crate::shared::MOST;
 use std::alloc::Global;
 use std::hash::{FoldHasher, Hash, Hasher};
 use std::marker::Model;
@@ -73,29 +70,6 @@ pub(crate) fn share_rows(alloc: Global, rows: Rows) -> Result<Rc<Rows>, NoMemory
     ensures { IfOk result (λ shared. shared.value ≡ rows) }
 {
     Ok(Rc::new(alloc, rows)?)
-}
-
-/// A table of rows of so many values each, which stand one after another in the list, for worlds to share.
-#[inline(always)]
-fn share_even(
-    alloc: Global,
-    size: usize,
-    count: usize,
-    values: Vec<Value>,
-    code: u64,
-) -> Result<Rc<Rows>, NoMemory>
-    requires count { count < 2 ^ 63 }
-    requires size { size * count ≡ length values.items }
-    requires code { code ≡ rows_code (even_rows size count values.items) }
-    ensures { IfOk result (λ shared. shared.value ≡ even_rows size count values.items) }
-{
-    let list = Flat::of_even(alloc, size, count, values);
-    let rows = Rows {
-        runs: Runs::of_list(alloc, list),
-        second: Second::none(),
-        code,
-    };
-    share_rows(alloc, rows)
 }
 
 impl Rows {
@@ -241,16 +215,7 @@ impl Rows {
         }
     }
 
-    /// The rows with one more at place `k`, for worlds to share, by the general way.
-    #[inline(never)]
-    fn shared_with_any(&self, alloc: Global, k: usize, row: &[Value]) -> Result<Rc<Rows>, NoMemory>
-        requires { k ≤ length self.now }
-        ensures { IfOk result (λ rows. rows.value ≡ insert self.now k row.now) }
-    {
-        share_rows(alloc, self.with(alloc, k, row)?)
-    }
-
-    /// The rows with one more at place `k`, for worlds to share. Where the rows are few and of one length, the values alone are copied.
+    /// The rows with one more at place `k`, for worlds to share.
     pub(crate) fn shared_with(
         &self,
         alloc: Global,
@@ -260,72 +225,25 @@ impl Rows {
         requires { k ≤ length self.now }
         ensures { IfOk result (λ rows. rows.value ≡ insert self.now k row.now) }
     {
-        if let Some(list) = self.list()
-            && list.len() < MOST
-            && let Some(values) = list.even_values(row.len())
-        {
-            let code = self.code.wrapping_add(code_of_row(row));
-            let size = row.len();
-            let made = values_with(alloc, values, size * k, row)?;
-            return share_even(alloc, size, list.len() + 1, made, code);
-        }
-        self.shared_with_any(alloc, k, row)
+        share_rows(alloc, self.with(alloc, k, row)?)
     }
 
-    /// The rows without that at place `k`, for worlds to share, by the general way.
-    #[inline(never)]
-    fn shared_without_any(&self, alloc: Global, k: usize) -> Result<Rc<Rows>, NoMemory>
+    /// The rows without that at place `k`, for worlds to share.
+    pub(crate) fn shared_without(&self, alloc: Global, k: usize) -> Result<Rc<Rows>, NoMemory>
         requires { k < length self.now }
         ensures { IfOk result (λ rows. rows.value ≡ remove self.now k) }
     {
         share_rows(alloc, self.without(alloc, k)?)
     }
 
-    /// The rows without that at place `k`, for worlds to share. Where the rows are few and of one length, the values alone are copied.
-    pub(crate) fn shared_without(&self, alloc: Global, k: usize) -> Result<Rc<Rows>, NoMemory>
-        requires { k < length self.now }
-        ensures { IfOk result (λ rows. rows.value ≡ remove self.now k) }
-    {
-        let gone = self.runs.row(k);
-        let size = gone.len();
-        if let Some(list) = self.list()
-            && let Some(values) = list.even_values(size)
-        {
-            let code = self.code.wrapping_sub(code_of_row(gone));
-            let made = values_without(alloc, values, size * k, size)?;
-            return share_even(alloc, size, list.len() - 1, made, code);
-        }
-        self.shared_without_any(alloc, k)
-    }
-
-    /// The rows with one in the place of another, for worlds to share, by the general way.
-    #[inline(never)]
-    fn shared_moved_any(&self, alloc: Global, step: &Move<'_>) -> Result<Rc<Rows>, NoMemory>
-        requires cut { step.now.cut < length self.now }
-        requires at { step.now.at ≤ length self.now }
-        ensures { IfOk result (λ rows. rows.value ≡ moved_by self.now step.now) }
-    {
-        share_rows(alloc, self.moved(alloc, step)?)
-    }
-
-    /// The rows with one in the place of another, in one copy, for worlds to share. Where the rows are few and of one length, the values alone are copied.
+    /// The rows with one in the place of another, in one copy, for worlds to share.
     #[inline(always)]
     pub(crate) fn shared_moved(&self, alloc: Global, step: &Move<'_>) -> Result<Rc<Rows>, NoMemory>
         requires cut { step.now.cut < length self.now }
         requires at { step.now.at ≤ length self.now }
         ensures { IfOk result (λ rows. rows.value ≡ moved_by self.now step.now) }
     {
-        if let Some(list) = self.list()
-            && let Some(values) = list.even_values(step.row.len())
-        {
-            let size = step.row.len();
-            let gone = row_of(values, step.cut, size);
-            let more = self.code.wrapping_add(code_of_row(step.row));
-            let code = more.wrapping_sub(code_of_row(gone));
-            let made = values_moved(alloc, values, size * step.cut, size * step.at, step.row)?;
-            return share_even(alloc, size, list.len(), made, code);
-        }
-        self.shared_moved_any(alloc, step)
+        share_rows(alloc, self.moved(alloc, step)?)
     }
 }
 

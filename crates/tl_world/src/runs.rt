@@ -42,22 +42,20 @@ impl Runs {
     pub(crate) fn of_one(alloc: Global, row: &[Value]) -> Result<Runs, NoMemory>
         ensures { IfOk result (λ r. r ≡ row.now ∷ []) }
     {
-        let mut last = Flat::with_room(alloc, row.len())?;
-        last.push(alloc, row)?;
         Ok(Runs {
             shared: Shared::none(alloc),
-            last,
+            last: Flat::of_one(alloc, row)?,
         })
     }
 
-    /// No rows.
-    pub(crate) fn new(alloc: Global) -> Result<Runs, NoMemory>
-        ensures { IfOk result (λ r. r ≡ []) }
+    /// No rows. It takes no memory.
+    pub(crate) fn none(alloc: Global) -> Runs
+        ensures { result ≡ [] }
     {
-        Ok(Runs {
+        Runs {
             shared: Shared::none(alloc),
-            last: Flat::with_room(alloc, 0)?,
-        })
+            last: Flat::none(alloc),
+        }
     }
 
     /// The rows of one list, which are not cut into runs.
@@ -77,7 +75,7 @@ impl Runs {
     {
         let runs = self.shared.runs();
         let shared = Shared::with_room(alloc, if runs == 0 { 0 } else { runs.saturating_add(2) })?;
-        let last = Flat::with_room(alloc, 0)?;
+        let last = Flat::none(alloc);
         Ok(Runs { shared, last })
     }
 
@@ -155,12 +153,19 @@ impl Runs {
         rows.row(k - from)
     }
 
+    /// Makes the last rows a run, and others the last rows.
+    fn begin_last(&mut self, alloc: Global, rows: Flat) -> Result<(), NoMemory>
+        ensures { OnOk result (self.new ≡ self.old ++ rows) }
+    {
+        let before = mem::replace(&mut self.last, rows);
+        self.shared.push_rows(alloc, before)
+    }
+
     /// Makes the last rows a run, so that new last rows begin.
     pub(crate) fn close(&mut self, alloc: Global) -> Result<(), NoMemory>
         ensures { OnOk result (self.new ≡ self.old) }
     {
-        let none = Flat::with_room(alloc, 0)?;
-        let rows = mem::replace(&mut self.last, none);
+        let rows = mem::replace(&mut self.last, Flat::none(alloc));
         self.shared.push_rows(alloc, rows)
     }
 
@@ -171,8 +176,7 @@ impl Runs {
         if self.last.len() == 0 {
             return self.shared.push(rows.clone()?);
         }
-        let none = Flat::with_room(alloc, 0)?;
-        let before = mem::replace(&mut self.last, none);
+        let before = mem::replace(&mut self.last, Flat::none(alloc));
         self.shared.push_rows(alloc, before)?;
         self.shared.push(rows.clone()?)
     }
@@ -185,27 +189,33 @@ impl Runs {
         from: usize,
         to: usize,
     ) -> Result<(), NoMemory>
-        requires range { from ≤ to }
+        requires range { from < to }
         requires bound { to ≤ length rows.now }
         ensures { OnOk result (self.new ≡ self.old ++ between rows.now from to) }
     {
+        let room = rows.value_count().saturating_add(rows.width());
         let count = self.last.len();
-        if count > 0 && from == 0 && to > MOST.saturating_sub(count) {
-            self.close(alloc)?;
+        if self.last.takes(rows.width())
+            && (count == 0 || from > 0 || to <= MOST.saturating_sub(count))
+        {
+            self.last.reserve(room)?;
+            return self.last.push_rows(rows, from, to);
         }
-        self.last
-            .reserve(rows.values().saturating_add(rows.row_size()))?;
-        self.last.push_rows(alloc, rows, from, to)
+        let mut next = Flat::none(alloc);
+        next.reserve(room)?;
+        next.push_rows(rows, from, to)?;
+        self.begin_last(alloc, next)
     }
 
     /// One more row at the end.
     pub(crate) fn push(&mut self, alloc: Global, row: &[Value]) -> Result<(), NoMemory>
         ensures { OnOk result (self.new ≡ self.old ++ row.now ∷ []) }
     {
-        if self.last.len() >= MOST {
-            self.close(alloc)?;
+        if self.last.len() < MOST && self.last.takes(row.len()) {
+            return self.last.push(row);
         }
-        self.last.push(alloc, row)
+        let next = Flat::of_one(alloc, row)?;
+        self.begin_last(alloc, next)
     }
 
     /// Whether the run goes in by sharing: one with few rows is copied, and so is one that fits in with the last rows.
@@ -315,6 +325,7 @@ impl Runs {
     {
         if let Some(rows) = self.uncut()
             && rows.len() < MOST
+            && rows.takes(row.len())
         {
             return Ok(Runs::of_list(alloc, rows.with(alloc, k, row)?));
         }
@@ -332,8 +343,8 @@ impl Runs {
         ensures same { OnErr result (self.new ≡ self.old) }
     {
         let full = self.shared.len();
-        if k >= full && self.last.len() < MOST {
-            return self.last.put_row(alloc, k - full, row);
+        if k >= full && self.last.len() < MOST && self.last.takes(row.len()) {
+            return self.last.put_row(k - full, row);
         }
         if k < full && self.shared.put_row(alloc, k, row)? {
             return Ok(());
@@ -350,7 +361,8 @@ impl Runs {
     {
         let full = self.shared.len();
         if k >= full {
-            return self.last.cut_row(alloc, k - full);
+            self.last.cut_row(k - full);
+            return Ok(());
         }
         if self.shared.cut_row(alloc, k)? {
             return Ok(());
@@ -371,10 +383,10 @@ impl Runs {
         if step.cut < full && step.at <= full {
             return self.shared.move_row(alloc, step);
         }
-        if step.cut < full || step.at < full {
+        if step.cut < full || step.at < full || !self.last.takes(step.row.len()) {
             return Ok(false);
         }
-        self.last.move_row(alloc, &step.among(full))?;
+        self.last.move_row(&step.among(full));
         Ok(true)
     }
 

@@ -62,7 +62,7 @@ fn in_order(alloc: Global, rows: &[Values]) -> Result<Second, NoMemory>
     ensures order { IfOk result (λ s. IfSome s (Rises row_cmp)) }
     ensures rows { IfOk result (λ s. IfSome s (λ all. all ≡ rows.now)) }
 {
-    let mut out = Runs::new(alloc)?;
+    let mut out = Runs::none(alloc);
     let mut k = 0;
     while k < rows.len() {
         if !is_in_turn(rows, k) {

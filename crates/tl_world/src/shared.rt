@@ -2,6 +2,7 @@
 ghost use Rattle.std.specs.List.{insert, remove};
 ghost use Rattle.std.specs.Prelude.{◌≡◌, ◌≢◌, ◌<◌, ◌≤◌, ◌+◌, ◌^◌, [], ◌++◌, length, map, take, drop, true, false, IfOk, OnErr, OnOk};
 ghost use Rattle.std.specs.declared.cmp.Ordering.TheVariants.{Greater};
+ghost use Rattle.tl_world.specs.Cuts.{HaveWidth};
 ghost use Rattle.tl_world.specs.Moves.{moved_by};
 ghost use Rattle.tl_world.specs.Runs.{between, first_row, lowered, raised, rows_in, run_place, AreCounted, BeginsAfter, IsPart, IsPartFor};
 ghost use Rattle.tl_world.specs.Tables.{row_cmp};
@@ -178,7 +179,10 @@ fn cut_in_run(alloc: Global, run: &mut Run, k: usize) -> Result<(), NoMemory>
     ensures same { OnErr result (run.new.rows.value ≡ run.old.rows.value) }
 {
     match Rc::get_mut(&mut run.rows) {
-        Some(rows) => rows.cut_row(alloc, k),
+        Some(rows) => {
+            rows.cut_row(k);
+            Ok(())
+        }
         None => {
             let rows = run.rows.without(alloc, k)?;
             run.rows = Rc::new(alloc, rows)?;
@@ -189,13 +193,14 @@ fn cut_in_run(alloc: Global, run: &mut Run, k: usize) -> Result<(), NoMemory>
 
 /// Puts one more row at place `k` into the run, in place where no other table shares it. After a failure its rows are those of before.
 fn put_in_run(alloc: Global, run: &mut Run, k: usize, row: &[Value]) -> Result<(), NoMemory>
-    requires { k ≤ length run.old.rows.value }
+    requires place { k ≤ length run.old.rows.value }
+    requires fits { HaveWidth (length row.now) run.old.rows.value }
     ensures end { run.new.end ≡ run.old.end }
     ensures all { OnOk result (run.new.rows.value ≡ insert run.old.rows.value k row.now) }
     ensures same { OnErr result (run.new.rows.value ≡ run.old.rows.value) }
 {
     match Rc::get_mut(&mut run.rows) {
-        Some(rows) => rows.put_row(alloc, k, row),
+        Some(rows) => rows.put_row(k, row),
         None => {
             let rows = run.rows.with(alloc, k, row)?;
             run.rows = Rc::new(alloc, rows)?;
@@ -208,12 +213,16 @@ fn put_in_run(alloc: Global, run: &mut Run, k: usize, row: &[Value]) -> Result<(
 fn move_in_run(alloc: Global, run: &mut Run, step: &Move<'_>) -> Result<(), NoMemory>
     requires cut { step.now.cut < length run.old.rows.value }
     requires at { step.now.at ≤ length run.old.rows.value }
+    requires fits { HaveWidth (length step.now.row.now) run.old.rows.value }
     ensures end { run.new.end ≡ run.old.end }
     ensures all { OnOk result (run.new.rows.value ≡ moved_by run.old.rows.value step.now) }
     ensures same { OnErr result (run.new.rows.value ≡ run.old.rows.value) }
 {
     match Rc::get_mut(&mut run.rows) {
-        Some(rows) => rows.move_row(alloc, step),
+        Some(rows) => {
+            rows.move_row(step);
+            Ok(())
+        }
         None => {
             let rows = run.rows.moved(alloc, step)?;
             run.rows = Rc::new(alloc, rows)?;
@@ -281,6 +290,9 @@ impl Shared {
         if self.runs[i].rows.len() >= MOST || self.len() + 1 >= COUNTED {
             return Ok(false);
         }
+        if !self.runs[i].rows.takes(row.len()) {
+            return Ok(false);
+        }
         put_in_run(alloc, &mut self.runs[i], k - from, row)?;
         raise_ends(&mut self.runs, i);
         Ok(true)
@@ -296,6 +308,9 @@ impl Shared {
         let i = find_run(self.runs.as_slice(), step.cut, step.cut / MOST);
         let from = begin(self.runs.as_slice(), i);
         if step.at < from || step.at > self.runs[i].end {
+            return Ok(false);
+        }
+        if !self.runs[i].rows.takes(step.row.len()) {
             return Ok(false);
         }
         move_in_run(alloc, &mut self.runs[i], &step.among(from))?;

@@ -8,8 +8,8 @@ ghost use Rattle.tl_world.specs.Codes.{place_code, places_code};
 ghost use Rattle.tl_world.specs.Places.{place_put, place_set};
 ghost use Rattle.tl_world.specs.RowTests.{place_rows_eq, place_rows-tell};
 
-use crate::even::values_with;
-use crate::flat::Flat;
+use crate::flat::values_with;
+use crate::runs::Runs;
 use std::alloc::Global;
 use std::hash::{FoldHasher, Hash, Hasher};
 use std::marker::Model;
@@ -30,7 +30,7 @@ pub struct PlaceRow {
 /// The arguments of all places stand in one list, and their values in another. Tables that differ in values alone share the arguments.
 #[derive(Drop)]
 pub struct PlaceRows {
-    args: Rc<Flat>,
+    args: Rc<Runs>,
     values: Vec<Value>,
     code: u64,
 }
@@ -108,7 +108,7 @@ fn values_set(
 }
 
 /// Puts one more row at place `k`, in place where no other table shares the rows. After a failure they are those of before.
-fn put_args(alloc: Global, args: &mut Rc<Flat>, k: usize, row: &[Value]) -> Result<(), NoMemory>
+fn put_args(alloc: Global, args: &mut Rc<Runs>, k: usize, row: &[Value]) -> Result<(), NoMemory>
     requires { k ≤ length args.old.value }
     ensures all { OnOk result (args.new.value ≡ insert args.old.value k row.now) }
     ensures same { OnErr result (args.new.value ≡ args.old.value) }
@@ -172,7 +172,7 @@ impl PlaceRows {
     }
 
     /// The arguments of the places.
-    pub(crate) fn all_args(&self) -> &Flat
+    pub(crate) fn all_args(&self) -> &Runs
         ensures { result.now ≡ map (λ r. r.args) self.now }
     {
         self.args.as_ref()
@@ -182,8 +182,7 @@ impl PlaceRows {
     pub(crate) fn of_one(alloc: Global, args: &[Value], value: Value) -> Result<PlaceRows, NoMemory>
         ensures { IfOk result (λ t. t ≡ record { args = args.now; value = value } ∷ []) }
     {
-        let mut list = Flat::with_room(alloc, args.len())?;
-        list.push(alloc, args)?;
+        let list = Runs::of_one(alloc, args)?;
         let mut values = Vec::new(alloc);
         values.push(value)?;
         Ok(PlaceRows {

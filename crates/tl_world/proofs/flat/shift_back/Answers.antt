@@ -1,5 +1,5 @@
 use Rattle.std.proofs.Common.{length}
-use Rattle.tl_world.proofs.Strides.{shifted-back}
+use Rattle.tl_world.proofs.Shifts.{shifted-back}
 use Rattle.tl_world.proofs.flat.shift_back.Goals as goal
 
 pub returns : goal.returns

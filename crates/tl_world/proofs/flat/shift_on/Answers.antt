@@ -1,5 +1,5 @@
 use Rattle.std.proofs.Common.{length}
-use Rattle.tl_world.proofs.Strides.{shifted-on}
+use Rattle.tl_world.proofs.Shifts.{shifted-on}
 use Rattle.tl_world.proofs.flat.shift_on.Goals as goal
 
 pub returns : goal.returns

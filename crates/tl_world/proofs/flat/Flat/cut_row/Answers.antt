@@ -1,16 +1,30 @@
-use Rattle.std.proofs.Common.{length, arith}
-use Rattle.tl_world.proofs.Pushing.{within-ends}
-use Rattle.tl_world.proofs.Strides.{cut-bound, order-cut, rows-cut}
+use Rattle.std.proofs.Common.{◌≡◌, ◌-◌, ◌*◌, ◌<◌, length, sym, ap, ◌∙◌, arith}
+use Rattle.std.specs.List.{remove}
+use Rattle.tl_world.specs.Cuts.{even_rows}
+use Rattle.tl_world.proofs.EvenRows.{many, cut-rows, cut-size, row-within}
 use Rattle.tl_world.proofs.flat.Flat.cut_row.Goals as goal
 
-pub begin-start-requires : goal.begin-start-requires
-begin-start-requires c = within-ends c.self.inside.ends c.self.inside.values.items c.args.self.now c.args.k c.self.view_is (omega (arith, c.requires))
+pub overflow_mul-width : goal.overflow_mul-width
+overflow_mul-width c =
+    let b = row-within c.self.inside.width c.self.inside.count c.self.inside.values.items c.args.self.now c.self.invariant.0 c.self.view_is c.args.k c.requires in
+    omega (arith, b, c.self.inside.values.small)
 
 pub cut_values-requires : goal.cut_values-requires
-cut_values-requires c = cut-bound c.in-Some.size (length c.self.inside.ends) c.self.inside.ends c.self.inside.values.items c.args.self.now c.in-Some.ensures.even c.self.invariant c.self.view_is c.args.k c.begin-start.result c.begin-start.ensures c.requires
+cut_values-requires c = row-within c.self.inside.width c.self.inside.count c.self.inside.values.items c.args.self.now c.self.invariant.0 c.self.view_is c.args.k c.requires
 
 pub invariant_of-self : goal.invariant_of-self
-invariant_of-self c = order-cut c.in-Some.size (length c.self.inside.ends) c.self.inside.ends c.self.inside.values.items c.args.self.now c.in-Some.ensures.even c.self.invariant c.self.view_is c.args.k c.begin-start.result c.begin-start.ensures c.requires c.cut_even.new.self c.cut_values.new.values.items c.in-Some.ensures.less c.cut_values.ensures
+invariant_of-self c =
+    let w = c.self.inside.width in
+    let n = c.self.inside.count in
+    let xs = c.self.inside.values.items in
+    let all = many w n xs c.args.self.now c.self.invariant.0 c.self.view_is in
+    (cut-size w n xs c.self.invariant.0 c.args.k (omega (arith, all, c.requires)) ∙ sym (ap length c.cut_values.ensures), omega (arith, c.self.invariant.1))
 
-pub returns-in-Some-clause-all : goal.returns-in-Some-clause-all
-returns-in-Some-clause-all c = rows-cut c.in-Some.size (length c.self.inside.ends) c.self.inside.ends c.self.inside.values.items c.args.self.now c.in-Some.ensures.even c.self.invariant c.self.view_is c.args.k c.begin-start.result c.begin-start.ensures c.requires c.cut_even.new.self c.cut_values.new.values.items c.in-Some.ensures.less c.cut_values.ensures
+pub returns : goal.returns
+returns c =
+    let w = c.self.inside.width in
+    let n = c.self.inside.count in
+    let xs = c.self.inside.values.items in
+    let all = many w n xs c.args.self.now c.self.invariant.0 c.self.view_is in
+    ap (even_rows w (n - 1)) c.cut_values.ensures
+    ∙ (cut-rows w n xs c.self.invariant.0 c.args.k (omega (arith, all, c.requires)) ∙ ap (λ rs. remove rs c.args.k) c.self.view_is)

@@ -1,28 +1,48 @@
-use Rattle.std.proofs.Common.{arith}
-use Rattle.tl_world.proofs.Pushing.{within-ends, in-order, in-bound, size-is, pushed-ends, pushed-rows}
+use Rattle.std.proofs.Common.{◌≡◌, ◌<◌, ◌≤◌, ◌+◌, ◌-◌, ◌*◌, ◌++◌, ℕ, List, length, length-append, refl, sym, ap, ◌∙◌, subst, arith}
+use Rattle.std.proofs.Math.Nat.{mul-add}
+use Rattle.tl_syntax.specs.declared.value.Value.{Value}
+use Rattle.tl_world.specs.Cuts.{even_rows, HaveWidth}
+use Rattle.tl_world.proofs.EvenRows.{alike, have-width, joined, many, width-of}
 use Rattle.tl_world.proofs.flat.Flat.push_rows.Goals as goal
 
-pub begin-first-requires : goal.begin-first-requires
-begin-first-requires c = within-ends c.other.inside.ends c.other.inside.values.items c.args.other.now c.args.from c.other.view_is (omega (arith, c.requires.range, c.requires.bound))
+pub overflow_add-self-inside : goal.overflow_add-self-inside
+overflow_add-self-inside c =
+    let all = many c.other.inside.width c.other.inside.count c.other.inside.values.items c.args.other.now c.other.invariant.0 c.other.view_is in
+    omega (arith, all, c.requires.bound, c.requires.range, c.other.invariant.1, c.self.invariant.1)
 
-pub begin-last-requires : goal.begin-last-requires
-begin-last-requires c = within-ends c.other.inside.ends c.other.inside.values.items c.args.other.now c.args.to c.other.view_is c.requires.bound
+pub invariant_of-self-2 : goal.invariant_of-self-2
+invariant_of-self-2 c =
+    let u = c.other.inside.width in
+    let m = c.other.inside.count in
+    let ys = c.other.inside.values.items in
+    let n = c.self.inside.count in
+    let xs = c.self.inside.values.items in
+    let k = c.args.to - c.args.from in
+    let P : List (List Value) → Type 0 = HaveWidth u in
+    let all = many u m ys c.args.other.now c.other.invariant.0 c.other.view_is in
+    let is = width-of u m ys c.args.other.now c.other.invariant.0 c.other.view_is c.requires.fits.0 c.requires.fits.2 (omega (arith, all, c.requires.bound, c.requires.range)) in
+    let Q : ℕ → Type 0 = λ s. HaveWidth s c.args.self.now in
+    let a = alike c.self.inside.width n xs c.args.self.now c.self.invariant.0 c.self.view_is u (subst Q (sym is) c.requires.fits.1) in
+    let wide : HaveWidth u c.args.other.now = subst P c.other.view_is (have-width u m ys c.other.invariant.0) in
+    let size = c.values_of.ensures.size u wide in
+    let l = ap length c.in_ok-extend_from_slice.ensures.items ∙ length-append xs c.values_of.result.now in
+    let s = mul-add u n k in
+    let first : u * n ≡ length xs = a.1 in
+    ((let e : u * (n + k) ≡ length c.extend_from_slice.new.self.items = omega (arith, s, l, size, first) in e), omega arith)
 
-pub part-requires-clause-order : goal.part-requires-clause-order
-part-requires-clause-order c = in-order c.other.inside.ends c.other.inside.values.items c.as_slice.result.now c.args.from c.args.to c.begin-last.result c.begin-first.result c.args.other.now c.other.invariant c.other.view_is c.as_slice.ensures.value c.requires.range c.requires.bound c.begin-last.ensures c.begin-first.ensures
-
-pub part-requires-clause-bound : goal.part-requires-clause-bound
-part-requires-clause-bound c = in-bound c.other.inside.ends c.other.inside.values.items c.as_slice.result.now c.args.from c.args.to c.begin-last.result c.begin-first.result c.args.other.now c.other.invariant c.other.view_is c.as_slice.ensures.value c.requires.range c.requires.bound c.begin-last.ensures c.begin-first.ensures
-
-pub push_even-requires : goal.push_even-requires
-push_even-requires c = record {
-  range = c.requires.range;
-  bound = within-ends c.other.inside.ends c.other.inside.values.items c.args.other.now c.args.to c.other.view_is c.requires.bound;
-  fit = let s = size-is c.other.inside.ends c.other.inside.values.items c.as_slice.result.now c.args.from c.args.to c.begin-last.result c.begin-first.result c.args.other.now c.other.invariant c.other.view_is c.as_slice.ensures.value c.requires.range c.requires.bound c.begin-last.ensures c.begin-first.ensures c.self.inside.values.items c.part.result.now c.extend_from_slice.new.self.items c.part.ensures c.in_ok-extend_from_slice.ensures.items c.self.inside.ends c.args.self.now c.self.invariant c.self.view_is in omega (arith, s, c.extend_from_slice.new.self.ok.0, c.extend_from_slice.new.self.ok.1, c.extend_from_slice.new.self.small);
-}
-
-pub invariant_of-self-then-push_even : goal.invariant_of-self-then-push_even
-invariant_of-self-then-push_even c = pushed-ends c.other.inside.ends c.other.inside.values.items c.as_slice.result.now c.args.from c.args.to c.begin-last.result c.begin-first.result c.args.other.now c.other.invariant c.other.view_is c.as_slice.ensures.value c.requires.range c.requires.bound c.begin-last.ensures c.begin-first.ensures c.self.inside.values.items c.part.result.now c.extend_from_slice.new.self.items c.part.ensures c.in_ok-extend_from_slice.ensures.items c.self.inside.ends c.args.self.now c.self.invariant c.self.view_is c.push_even.new.self (c.push_even.ensures.all c.if-push_even.true)
-
-pub returns-then-push_even : goal.returns-then-push_even
-returns-then-push_even c = pushed-rows c.other.inside.ends c.other.inside.values.items c.as_slice.result.now c.args.from c.args.to c.begin-last.result c.begin-first.result c.args.other.now c.other.invariant c.other.view_is c.as_slice.ensures.value c.requires.range c.requires.bound c.begin-last.ensures c.begin-first.ensures c.self.inside.values.items c.part.result.now c.extend_from_slice.new.self.items c.part.ensures c.in_ok-extend_from_slice.ensures.items c.self.inside.ends c.args.self.now c.self.invariant c.self.view_is c.push_even.new.self (c.push_even.ensures.all c.if-push_even.true)
+pub returns : goal.returns
+returns c =
+    let u = c.other.inside.width in
+    let m = c.other.inside.count in
+    let ys = c.other.inside.values.items in
+    let n = c.self.inside.count in
+    let xs = c.self.inside.values.items in
+    let k = c.args.to - c.args.from in
+    let P : List (List Value) → Type 0 = HaveWidth u in
+    let all = many u m ys c.args.other.now c.other.invariant.0 c.other.view_is in
+    let is = width-of u m ys c.args.other.now c.other.invariant.0 c.other.view_is c.requires.fits.0 c.requires.fits.2 (omega (arith, all, c.requires.bound, c.requires.range)) in
+    let Q : ℕ → Type 0 = λ s. HaveWidth s c.args.self.now in
+    let a = alike c.self.inside.width n xs c.args.self.now c.self.invariant.0 c.self.view_is u (subst Q (sym is) c.requires.fits.1) in
+    let wide : HaveWidth u c.args.other.now = subst P c.other.view_is (have-width u m ys c.other.invariant.0) in
+    ap (even_rows u (n + k)) c.in_ok-extend_from_slice.ensures.items
+    ∙ (joined u n k xs c.values_of.result.now a.1 ∙ λ i. a.0 i ++ c.values_of.ensures.rows u wide i)

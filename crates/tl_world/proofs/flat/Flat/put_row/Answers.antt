@@ -1,39 +1,51 @@
-use Rattle.std.proofs.Common.{◌≡◌, ◌+◌, ◌-◌, ◌++◌, length, take, drop, ap, ◌∙◌, arith, rules}
-use Rattle.tl_world.proofs.Inserting.{low, put-order, put-rows}
-use Rattle.tl_world.proofs.Pushing.{within-ends}
-use Rattle.tl_world.proofs.Strides.{put-back}
+use Rattle.std.proofs.Common.{◌≡◌, ◌+◌, ◌*◌, ◌≤◌, length, refl, sym, ap, ◌∙◌, arith, rules}
+use Rattle.std.specs.List.{insert}
+use Rattle.tl_world.specs.Cuts.{even_rows, items_back, items_with}
+use Rattle.tl_world.proofs.EvenRows.{alike, many, place-within, with-rows, with-size}
+use Rattle.tl_world.proofs.Shifts.{put-back}
 use Rattle.tl_world.proofs.flat.Flat.put_row.Goals as goal
 
-pub begin-start-requires : goal.begin-start-requires
-begin-start-requires c = within-ends c.self.inside.ends c.self.inside.values.items c.args.self.now c.args.k c.self.view_is c.requires
-
-pub put_even-requires : goal.put_even-requires
-put_even-requires c = within-ends c.self.inside.ends c.self.inside.values.items c.args.self.now c.args.k c.self.view_is c.requires
+pub overflow_mul-row : goal.overflow_mul-row
+overflow_mul-row c =
+    let n = c.self.inside.count in
+    let xs = c.self.inside.values.items in
+    let all = many c.self.inside.width n xs c.args.self.now c.self.invariant.0 c.self.view_is in
+    let a = alike c.self.inside.width n xs c.args.self.now c.self.invariant.0 c.self.view_is (length c.args.row.now) c.requires.fits in
+    let b = place-within (length c.args.row.now) n c.args.k xs a.1 (omega (arith, all, c.requires.place)) in
+    omega (arith, b, c.self.inside.values.small)
 
 pub shift_back-requires-clause-order : goal.shift_back-requires-clause-order
 shift_back-requires-clause-order c =
-    let p = low c.self.inside.ends c.self.inside.values.items c.args.row.now c.args.k c.begin-start.result c.args.self.now c.self.invariant c.self.view_is c.requires c.begin-start.ensures in
-    let n : c.len-count.result ≡ length c.self.inside.values.items = search rules in
-    omega (arith, p, n)
-
-pub invariant_of-self-then-put_even : goal.invariant_of-self-then-put_even
-invariant_of-self-then-put_even c =
+    let n = c.self.inside.count in
     let xs = c.self.inside.values.items in
-    let row = c.args.row.now in
-    let start = c.begin-start.result in
-    let count = c.len-count.result in
-    let p = low c.self.inside.ends xs row c.args.k start c.args.self.now c.self.invariant c.self.view_is c.requires c.begin-start.ensures in
-    let n : count ≡ length xs = search rules in
-    let made = c.shift_back.ensures ∙ (ap (λ zs. take start zs ++ (row ++ (take (count - start) (drop start zs) ++ drop (count + length row) zs))) c.in_ok-extend_from_slice.ensures.items ∙ put-back xs row start count n p) in
-    put-order c.self.inside.ends xs row c.args.k start c.args.self.now c.self.invariant c.self.view_is c.requires c.begin-start.ensures c.shift_back.new.values.items c.put_even.new.self made (c.put_even.ensures.all c.if-put_even.true)
+    let all = many c.self.inside.width n xs c.args.self.now c.self.invariant.0 c.self.view_is in
+    let a = alike c.self.inside.width n xs c.args.self.now c.self.invariant.0 c.self.view_is (length c.args.row.now) c.requires.fits in
+    let b = place-within (length c.args.row.now) n c.args.k xs a.1 (omega (arith, all, c.requires.place)) in
+    let end : c.len-end.result ≡ length xs = search rules in
+    omega (arith, b, end)
 
-pub returns-then-put_even-clause-all : goal.returns-then-put_even-clause-all
-returns-then-put_even-clause-all c =
-    let xs = c.self.inside.values.items in
+pub invariant_of-self-2 : goal.invariant_of-self-2
+invariant_of-self-2 c =
     let row = c.args.row.now in
-    let start = c.begin-start.result in
-    let count = c.len-count.result in
-    let p = low c.self.inside.ends xs row c.args.k start c.args.self.now c.self.invariant c.self.view_is c.requires c.begin-start.ensures in
-    let n : count ≡ length xs = search rules in
-    let made = c.shift_back.ensures ∙ (ap (λ zs. take start zs ++ (row ++ (take (count - start) (drop start zs) ++ drop (count + length row) zs))) c.in_ok-extend_from_slice.ensures.items ∙ put-back xs row start count n p) in
-    put-rows c.self.inside.ends xs row c.args.k start c.args.self.now c.self.invariant c.self.view_is c.requires c.begin-start.ensures c.shift_back.new.values.items c.put_even.new.self made (c.put_even.ensures.all c.if-put_even.true)
+    let w = length row in
+    let n = c.self.inside.count in
+    let xs = c.self.inside.values.items in
+    let all = many c.self.inside.width n xs c.args.self.now c.self.invariant.0 c.self.view_is in
+    let a = alike c.self.inside.width n xs c.args.self.now c.self.invariant.0 c.self.view_is w c.requires.fits in
+    let low : c.args.k ≤ n = omega (arith, all, c.requires.place) in
+    let end : c.len-end.result ≡ length xs = search rules in
+    let made = c.shift_back.ensures ∙ (ap (λ ys. items_back ys (w * c.args.k) c.len-end.result row) c.in_ok-extend_from_slice.ensures.items ∙ put-back xs row (w * c.args.k) c.len-end.result end (place-within w n c.args.k xs a.1 low)) in
+    (with-size w n xs a.1 c.args.k row refl low ∙ sym (ap length made), omega arith)
+
+pub returns-clause-all : goal.returns-clause-all
+returns-clause-all c =
+    let row = c.args.row.now in
+    let w = length row in
+    let n = c.self.inside.count in
+    let xs = c.self.inside.values.items in
+    let all = many c.self.inside.width n xs c.args.self.now c.self.invariant.0 c.self.view_is in
+    let a = alike c.self.inside.width n xs c.args.self.now c.self.invariant.0 c.self.view_is w c.requires.fits in
+    let low : c.args.k ≤ n = omega (arith, all, c.requires.place) in
+    let end : c.len-end.result ≡ length xs = search rules in
+    let made = c.shift_back.ensures ∙ (ap (λ ys. items_back ys (w * c.args.k) c.len-end.result row) c.in_ok-extend_from_slice.ensures.items ∙ put-back xs row (w * c.args.k) c.len-end.result end (place-within w n c.args.k xs a.1 low)) in
+    ap (even_rows w (n + 1)) made ∙ (with-rows w n xs a.1 c.args.k row refl low ∙ ap (λ rs. insert rs c.args.k row) a.0)

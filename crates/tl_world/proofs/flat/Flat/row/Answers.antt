@@ -1,25 +1,21 @@
-use Rattle.std.proofs.Common.{◌≡◌, ◌<◌, ◌≤◌, length, get_or, take, drop, sym, ap, ◌∙◌, subst, arith}
-use Rattle.tl_world.specs.Cuts.{begin}
-use Rattle.tl_world.proofs.Cuts.{length-between, get-between, begins-before-end, end-within}
+use Rattle.std.proofs.Common.{◌*◌, length, take, drop, ap, ◌∙◌, arith}
+use Rattle.tl_world.proofs.EvenRows.{row-in, row-within}
 use Rattle.tl_world.proofs.flat.Flat.row.Goals as goal
+
+pub overflow_mul-self-inside : goal.overflow_mul-self-inside
+overflow_mul-self-inside c =
+    let b = row-within c.self.inside.width c.self.inside.count c.self.inside.values.items c.args.self.now c.self.invariant.0 c.self.view_is c.args.k c.requires in
+    omega (arith, b, c.self.inside.values.small)
 
 pub run-requires : goal.run-requires
 run-requires c =
-    let k = c.args.k in
-    let es = c.self.inside.ends in
-    let below : k < length es = subst (λ n. k < n) (sym (ap length c.self.view_is) ∙ length-between 0 es c.self.inside.values.items) c.requires in
-    let all : length c.as_slice.result.now ≡ length c.self.inside.values.items = ap length c.as_slice.ensures.value in
-    let order : begin 0 es k ≤ get_or es k 0 = begins-before-end 0 es (length c.self.inside.values.items) k 0 c.self.invariant below in
-    let bound : get_or es k 0 ≤ length c.self.inside.values.items = end-within 0 es (length c.self.inside.values.items) k 0 c.self.invariant below in
-    omega (arith, c.begin.ensures, c.size.ensures, all, order, bound)
+    let b = row-within c.self.inside.width c.self.inside.count c.self.inside.values.items c.args.self.now c.self.invariant.0 c.self.view_is c.args.k c.requires in
+    omega (arith, b, ap length c.as_slice.ensures.value)
 
 pub returns : goal.returns
 returns c =
+    let w = c.self.inside.width in
     let k = c.args.k in
-    let es = c.self.inside.ends in
-    let xs = c.self.inside.values.items in
-    let below : k < length es = subst (λ n. k < n) (sym (ap length c.self.view_is) ∙ length-between 0 es xs) c.requires in
     c.run.ensures
-    ∙ ((λ i. take (c.size.ensures i) (drop (c.begin.ensures i) (c.as_slice.ensures.value i)))
-    ∙ (sym (get-between 0 es xs k 0 c.run.result.now below)
-    ∙ ap (λ rs. get_or rs k c.run.result.now) c.self.view_is))
+    ∙ (ap (λ ys. take w (drop (w * k) ys)) c.as_slice.ensures.value
+    ∙ row-in w c.self.inside.count c.self.inside.values.items c.args.self.now c.self.invariant.0 c.self.view_is k c.run.result.now c.requires)

@@ -1,82 +1,101 @@
-use Rattle.std.proofs.Common.{◌≡◌, ◌-◌, ◌*◌, ◌≤◌, length, take, drop, sym, ap, ◌∙◌, arith}
+use Rattle.std.proofs.Common.{◌≡◌, ◌<◌, ◌≤◌, ◌+◌, ◌-◌, ◌*◌, length, take, drop, sym, ap, ◌∙◌, arith}
+use Rattle.std.specs.Prelude.{min}
 use Rattle.std.proofs.lemmas.List.{length-drop, take-take}
-use Rattle.tl_world.specs.Cuts.{even_ends}
-use Rattle.tl_world.proofs.Cuts.{begin-within, length-between}
-use Rattle.tl_world.proofs.Pushing.{within-ends}
-use Rattle.tl_world.proofs.SameValues.{fits, many, part-is, same-cut}
+use Rattle.tl_world.proofs.EvenRows.{many, part-size, place-in, rows-fit, same-part}
 use Rattle.tl_world.proofs.flat.Flat.same_rows.Goals as goal
 
-pub begin-start-requires : goal.begin-start-requires
-begin-start-requires c = within-ends c.self.inside.ends c.self.inside.values.items c.args.self.now c.args.k c.self.view_is c.requires.row
+pub overflow_sub-self-inside : goal.overflow_sub-self-inside
+overflow_sub-self-inside c =
+    let all = many c.self.inside.width c.self.inside.count c.self.inside.values.items c.args.self.now c.self.invariant.0 c.self.view_is in
+    omega (arith, all, c.requires.row)
 
-pub begin-place-requires : goal.begin-place-requires
-begin-place-requires c = within-ends c.other.inside.ends c.other.inside.values.items c.args.other.now c.args.l c.other.view_is c.requires.other
+pub overflow_sub-other-inside : goal.overflow_sub-other-inside
+overflow_sub-other-inside c =
+    let all = many c.other.inside.width c.other.inside.count c.other.inside.values.items c.args.other.now c.other.invariant.0 c.other.view_is in
+    omega (arith, all, c.requires.other)
+
+pub returns-then-width-eq0-clause-same : goal.returns-then-width-eq0-clause-same
+returns-then-width-eq0-clause-same c =
+    let w = c.self.inside.width in
+    let n = c.self.inside.count in
+    let xs = c.self.inside.values.items in
+    let m = c.other.inside.count in
+    let ys = c.other.inside.values.items in
+    let r = c.min.result in
+    let least : r ≡ min (n - c.args.k) (m - c.args.l) = c.min.ensures in
+    let all = many w n xs c.args.self.now c.self.invariant.0 c.self.view_is in
+    let each = many c.other.inside.width m ys c.args.other.now c.other.invariant.0 c.other.view_is in
+    let is : w ≡ c.other.inside.width = omega (arith, c.if-width-other.false) in
+    let none : w * r ≡ 0 = ap (λ u. u * r) c.if-width-eq0.true ∙ (let z : 0 * r ≡ 0 = omega arith in z) in
+    same-part w n c.other.inside.width m xs ys c.args.self.now c.args.other.now c.self.invariant.0 c.self.view_is c.other.invariant.0 c.other.view_is is c.args.k c.args.l r
+    (omega (arith, all, least, c.requires.row)) (omega (arith, each, least, c.requires.other))
+    ((λ i. take (none i) (drop (w * c.args.k) xs)) ∙ sym (λ i. take (none i) (drop (w * c.args.l) ys)))
+
+pub returns-then-width-eq0-clause-many : goal.returns-then-width-eq0-clause-many
+returns-then-width-eq0-clause-many c =
+    let least : c.min.result ≡ min (c.self.inside.count - c.args.k) (c.other.inside.count - c.args.l) = c.min.ensures in
+    let all = many c.self.inside.width c.self.inside.count c.self.inside.values.items c.args.self.now c.self.invariant.0 c.self.view_is in
+    part-size c.args.self.now c.args.k c.min.result (omega (arith, all, least, c.requires.row))
+
+pub overflow_mul-width : goal.overflow_mul-width
+overflow_mul-width c =
+    let b = place-in c.self.inside.width c.self.inside.count c.self.inside.values.items c.args.self.now c.self.invariant.0 c.self.view_is c.args.k c.requires.row in
+    omega (arith, b, c.self.inside.values.small)
 
 pub values_from-these-requires : goal.values_from-these-requires
 values_from-these-requires c =
-    let es = c.self.inside.ends in
-    let xs = c.self.inside.values.items in
-    let b = begin-within 0 (length xs) c.args.k es c.self.invariant (within-ends es xs c.args.self.now c.args.k c.self.view_is c.requires.row) in
-    let l : length c.as_slice.result.now ≡ length xs = ap length c.as_slice.ensures.value in
-    let is = c.begin-start.ensures in
-    omega (arith, b, l, is)
+    let b = place-in c.self.inside.width c.self.inside.count c.self.inside.values.items c.args.self.now c.self.invariant.0 c.self.view_is c.args.k c.requires.row in
+    omega (arith, b, ap length c.as_slice.ensures.value)
+
+pub overflow_mul-width-2 : goal.overflow_mul-width-2
+overflow_mul-width-2 c =
+    let is : c.self.inside.width ≡ c.other.inside.width = omega (arith, c.if-width-other.false) in
+    let b = place-in c.other.inside.width c.other.inside.count c.other.inside.values.items c.args.other.now c.other.invariant.0 c.other.view_is c.args.l c.requires.other in
+    omega (arith, b, ap (λ u. u * c.args.l) is, c.other.inside.values.small)
 
 pub values_from-those-requires : goal.values_from-those-requires
 values_from-those-requires c =
-    let es = c.other.inside.ends in
-    let xs = c.other.inside.values.items in
-    let b = begin-within 0 (length xs) c.args.l es c.other.invariant (within-ends es xs c.args.other.now c.args.l c.other.view_is c.requires.other) in
-    let l : length c.as_slice-in-Some.result.now ≡ length xs = ap length c.as_slice-in-Some.ensures.value in
-    let is = c.begin-place.ensures in
-    omega (arith, b, l, is)
+    let is : c.self.inside.width ≡ c.other.inside.width = omega (arith, c.if-width-other.false) in
+    let b = place-in c.other.inside.width c.other.inside.count c.other.inside.values.items c.args.other.now c.other.invariant.0 c.other.view_is c.args.l c.requires.other in
+    omega (arith, b, ap (λ u. u * c.args.l) is, ap length c.as_slice-2.ensures.value)
 
-pub returns-in-Some-clause-many : goal.returns-in-Some-clause-many
-returns-in-Some-clause-many c =
-    let es = c.self.inside.ends in
+pub returns-clause-same : goal.returns-clause-same
+returns-clause-same c =
+    let w = c.self.inside.width in
+    let n = c.self.inside.count in
     let xs = c.self.inside.values.items in
-    let v = c.args.self.now in
-    let w = c.in-Some.width in
-    let start = c.begin-start.result in
-    let b = begin-within 0 (length xs) c.args.k es c.self.invariant (within-ends es xs v c.args.k c.self.view_is c.requires.row) in
-    let is = c.begin-start.ensures in
-    let bound : start ≤ length xs = omega (arith, b, is) in
-    let rest : length c.values_from-these.result.now ≡ length xs - start = ap length (c.values_from-these.ensures ∙ ap (drop start) c.as_slice.ensures.value) ∙ length-drop start xs in
-    let high : c.same_values-same.result ≤ length xs - start = let q = c.same_values-same.ensures.within in omega (arith, rest, q) in
-    let count : length es ≡ length v = sym (length-between 0 es xs) ∙ ap length c.self.view_is in
-    let even : es ≡ even_ends 0 w (length es) = c.in-Some.ensures.these in
-    many w es xs v even c.self.invariant c.self.view_is c.args.k start c.requires.row is c.whole_rows.result
-    (fits w es xs v even c.self.invariant c.self.view_is c.args.k start c.requires.row is c.whole_rows.result c.same_values-same.result c.in-Some.ensures.some c.whole_rows.ensures high bound)
-
-pub returns-in-Some-clause-same : goal.returns-in-Some-clause-same
-returns-in-Some-clause-same c =
-    let es = c.self.inside.ends in
-    let xs = c.self.inside.values.items in
-    let v = c.args.self.now in
-    let fs = c.other.inside.ends in
+    let m = c.other.inside.count in
     let ys = c.other.inside.values.items in
-    let z = c.args.other.now in
-    let w = c.in-Some.width in
     let r = c.whole_rows.result in
-    let n = c.same_values-same.result in
-    let start = c.begin-start.result in
-    let at = c.begin-place.result in
-    let is = c.begin-start.ensures in
-    let at-is = c.begin-place.ensures in
-    let b = begin-within 0 (length xs) c.args.k es c.self.invariant (within-ends es xs v c.args.k c.self.view_is c.requires.row) in
-    let d = begin-within 0 (length ys) c.args.l fs c.other.invariant (within-ends fs ys z c.args.l c.other.view_is c.requires.other) in
-    let bound : start ≤ length xs = omega (arith, b, is) in
-    let bound2 : at ≤ length ys = omega (arith, d, at-is) in
-    let these : c.values_from-these.result.now ≡ drop start xs = c.values_from-these.ensures ∙ ap (drop start) c.as_slice.ensures.value in
-    let those : c.values_from-those.result.now ≡ drop at ys = c.values_from-those.ensures ∙ ap (drop at) c.as_slice-in-Some.ensures.value in
-    let left : n ≤ length xs - start = let q = c.same_values-same.ensures.within in let l = ap length these in let m = length-drop start xs in omega (arith, q, l, m) in
-    let right : n ≤ length ys - at = let q = c.same_values-same.ensures.other in let l = ap length those in let m = length-drop at ys in omega (arith, q, l, m) in
-    let even : es ≡ even_ends 0 w (length es) = c.in-Some.ensures.these in
-    let even2 : fs ≡ even_ends 0 w (length fs) = c.in-Some.ensures.those in
-    let fit = fits w es xs v even c.self.invariant c.self.view_is c.args.k start c.requires.row is r n c.in-Some.ensures.some c.whole_rows.ensures left bound in
-    let fit2 = fits w fs ys z even2 c.other.invariant c.other.view_is c.args.l at c.requires.other at-is r n c.in-Some.ensures.some c.whole_rows.ensures right bound2 in
-    let values : take n (drop start xs) ≡ take n (drop at ys) = sym (ap (take n) these) ∙ (c.same_values-same.ensures.same ∙ ap (take n) those) in
-    let some : take (w * r) (drop start xs) ≡ take (w * r) (drop at ys) =
-    sym (take-take (w * r) n (drop start xs) c.whole_rows.ensures) ∙ (ap (take (w * r)) values ∙ take-take (w * r) n (drop at ys) c.whole_rows.ensures) in
-    part-is w es xs v even c.self.invariant c.self.view_is c.args.k start c.requires.row is r fit
-    ∙ (same-cut w r start at xs ys some
-    ∙ sym (part-is w fs ys z even2 c.other.invariant c.other.view_is c.args.l at c.requires.other at-is r fit2))
+    let s = c.count_same.result in
+    let is : w ≡ c.other.inside.width = omega (arith, c.if-width-other.false) in
+    let some : 0 < w = omega (arith, c.if-width-eq0.false) in
+    let these : c.values_from-these.result.now ≡ drop (w * c.args.k) xs = c.values_from-these.ensures ∙ ap (drop (w * c.args.k)) c.as_slice.ensures.value in
+    let those : c.values_from-those.result.now ≡ drop (w * c.args.l) ys = c.values_from-those.ensures ∙ ap (drop (w * c.args.l)) c.as_slice-2.ensures.value in
+    let b = place-in w n xs c.args.self.now c.self.invariant.0 c.self.view_is c.args.k c.requires.row in
+    let d = place-in c.other.inside.width m ys c.args.other.now c.other.invariant.0 c.other.view_is c.args.l c.requires.other in
+    let at = ap (λ u. u * c.args.l) is in
+    let left : w * c.args.k + w * r ≤ length xs =
+    let p = ap length these in let q = length-drop (w * c.args.k) xs in omega (arith, p, q, b, c.count_same.ensures.within, c.whole_rows.ensures) in
+    let right : w * c.args.l + w * r ≤ length ys =
+    let p = ap length those in let q = length-drop (w * c.args.l) ys in omega (arith, p, q, d, at, c.count_same.ensures.other, c.whole_rows.ensures) in
+    let size : w * m ≡ length ys = ap (λ u. u * m) is ∙ c.other.invariant.0 in
+    let values : take s (drop (w * c.args.k) xs) ≡ take s (drop (w * c.args.l) ys) = sym (ap (take s) these) ∙ (c.count_same.ensures.same ∙ ap (take s) those) in
+    same-part w n c.other.inside.width m xs ys c.args.self.now c.args.other.now c.self.invariant.0 c.self.view_is c.other.invariant.0 c.other.view_is is c.args.k c.args.l r
+    (rows-fit w n c.args.k r xs some c.self.invariant.0 left) (rows-fit w m c.args.l r ys some size right)
+    (sym (take-take (w * r) s (drop (w * c.args.k) xs) c.whole_rows.ensures) ∙ (ap (take (w * r)) values ∙ take-take (w * r) s (drop (w * c.args.l) ys) c.whole_rows.ensures))
+
+pub returns-clause-many : goal.returns-clause-many
+returns-clause-many c =
+    let w = c.self.inside.width in
+    let n = c.self.inside.count in
+    let xs = c.self.inside.values.items in
+    let r = c.whole_rows.result in
+    let some : 0 < w = omega (arith, c.if-width-eq0.false) in
+    let all = many w n xs c.args.self.now c.self.invariant.0 c.self.view_is in
+    let these : c.values_from-these.result.now ≡ drop (w * c.args.k) xs = c.values_from-these.ensures ∙ ap (drop (w * c.args.k)) c.as_slice.ensures.value in
+    let b = place-in w n xs c.args.self.now c.self.invariant.0 c.self.view_is c.args.k c.requires.row in
+    let left : w * c.args.k + w * r ≤ length xs =
+    let p = ap length these in let q = length-drop (w * c.args.k) xs in omega (arith, p, q, b, c.count_same.ensures.within, c.whole_rows.ensures) in
+    let fit = rows-fit w n c.args.k r xs some c.self.invariant.0 left in
+    part-size c.args.self.now c.args.k r (omega (arith, all, fit))

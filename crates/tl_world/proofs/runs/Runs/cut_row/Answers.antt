@@ -1,6 +1,5 @@
 use Rattle.std.proofs.Common.{◌≡◌, ◌+◌, ◌-◌, ◌++◌, length, ap, ◌∙◌, arith}
 use Rattle.std.specs.List.{remove}
-use Rattle.tl_world.proofs.Going.{on-ok}
 use Rattle.tl_world.proofs.Parts.{remove-back}
 use Rattle.tl_world.proofs.runs.Runs.cut_row.Goals as goal
 
@@ -11,4 +10,4 @@ returns-then-k-full-clause-all c =
     let k = c.args.k in
     let n = k - c.len-full.result in
     let at : k ≡ length s + n = omega (arith, c.len-full.ensures.len, c.if-k-full.true) in
-    on-ok c.cut_row.result (λ e. ap (λ xs. s ++ xs) e ∙ (remove-back s t n k at ∙ ap (λ xs. remove xs k) c.self.view_is)) c.cut_row.ensures.all
+    ap (λ xs. s ++ xs) c.cut_row.ensures ∙ (remove-back s t n k at ∙ ap (λ xs. remove xs k) c.self.view_is)

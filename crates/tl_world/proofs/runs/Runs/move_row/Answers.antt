@@ -26,4 +26,4 @@ returns-clause-all c _ =
     let d = cut - c.len-full.result in
     let to : at ≡ length s + a = omega (arith, c.len-full.ensures.len, c.if-step-full-4.false) in
     let from : cut ≡ length s + d = omega (arith, c.len-full.ensures.len, c.if-step-full-3.false) in
-    ap (λ xs. s ++ xs) (c.in_ok-move_row.ensures.all ∙ ap (moved_by t) c.among.ensures) ∙ (move-back s t d a cut at row from to ∙ ap (λ xs. row_moved xs cut at row) c.self.view_is)
+    ap (λ xs. s ++ xs) (c.move_row-2.ensures ∙ ap (moved_by t) c.among.ensures) ∙ (move-back s t d a cut at row from to ∙ ap (λ xs. row_moved xs cut at row) c.self.view_is)

@@ -4,8 +4,8 @@ use Rattle.tl_world.proofs.Going.{on-ok}
 use Rattle.tl_world.proofs.Parts.{insert-back}
 use Rattle.tl_world.proofs.runs.Runs.put_row.Goals as goal
 
-pub returns-then-len-lt-MOST-clause-all : goal.returns-then-len-lt-MOST-clause-all
-returns-then-len-lt-MOST-clause-all c =
+pub returns-then-takes-clause-all : goal.returns-then-takes-clause-all
+returns-then-takes-clause-all c =
     let s = c.self.inside.shared in
     let t = c.self.inside.last in
     let row = c.args.row.now in

@@ -7,8 +7,8 @@ use Rattle.tl_world.proofs.Going.{on-err}
 use Rattle.tl_world.proofs.RunEdits.{put-counted, put-rows, raised-rows, run-found, same-counted, same-rows}
 use Rattle.tl_world.proofs.shared.Shared.put_row.Goals as goal
 
-pub put_in_run-requires : goal.put_in_run-requires
-put_in_run-requires c =
+pub put_in_run-requires-clause-place : goal.put_in_run-requires-clause-place
+put_in_run-requires-clause-place c =
     let rs = c.self.inside.runs.items in
     let i = c.find_run-i.result in
     let b = c.begin-from.result in
