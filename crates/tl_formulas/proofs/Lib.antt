@@ -23,6 +23,3 @@ pub mod KeepsFormulas
 pub mod KeepsState
 pub mod KeepsEffects
 pub mod KeepsMore
-pub mod RenamedTrees
-pub mod RenamedTerms
-pub mod RenamedFormulas

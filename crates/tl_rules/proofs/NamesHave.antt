@@ -1,5 +1,5 @@
 -- The names with each symbol of forms have the symbols of these forms, and names that grow keep those that they have.
-use Rattle.std.proofs.Common.{◌≡◌, ◌<◌, ℕ, List, [], ◌∷◌, ◌++◌, Bool, true, false, length, Some, None, refl, sym, ap, ◌∙◌, cond, inl, inr}
+use Rattle.std.proofs.Common.{◌≡◌, ◌<◌, ℕ, List, [], ◌∷◌, ◌++◌, Bool, true, false, length, Some, None, refl, sym, ◌∙◌, cond, inl, inr}
 use Rattle.std.specs.Prelude.{Option, unwrap_or}
 use Rattle.std.specs.List.{list_any}
 use Rattle.std.specs.Str.{bytes_eq}
@@ -8,8 +8,7 @@ use Rattle.std.proofs.lemmas.List.Quantifiers.{position-Some}
 use Rattle.std.proofs.lemmas.Slice.Eq.{bytes_eq-Decides}
 use Rattle.tl_sexpr.specs.Tree.{FormTree, FormTrees, symbol, integer, list, no_form, more_forms}
 use Rattle.tl_syntax.specs.Texts.{with_text, number_of}
-use Rattle.std.proofs.lemmas.Option.{none-some}
-use Rattle.tl_syntax.proofs.Texts.{list_any-from_number, list_any-from_no_number, number_of-push}
+use Rattle.tl_syntax.proofs.Texts.{list_any-from_no_number}
 use Rattle.tl_rules.specs.Symbols.{names_with, names_with_all, number_in}
 use Rattle.tl_rules.specs.Named.{HasNames, HaveNames}
 
@@ -82,30 +81,3 @@ number-below names text has = by_answer (number_of names text) refl
     by_answer : (answer : Option ℕ) → number_of names text ≡ answer → unwrap_or answer (length names) < length names
     by_answer None absent = absurd (true≢false (sym has ∙ list_any-from_no_number names text absent))
     by_answer (Some n) found = (position-Some (bytes_eq text) names n [] found).0
-
--- a name has its number also among more names
-text-number : (names : List (List ℕ)) (new text : List ℕ) (k : ℕ) → number_of names text ≡ Some k → number_of (with_text names new) text ≡ Some k
-text-number names new text k at = by_test (list_any (bytes_eq new) names) refl
-  where
-    absent : list_any (bytes_eq new) names ≡ false → (found : Option ℕ) → number_of names new ≡ found → number_of names new ≡ None
-    absent no_name None is = is
-    absent no_name (Some n) is = absurd (true≢false (sym (list_any-from_number names new n is) ∙ no_name))
-
-    pushed : number_of names new ≡ None → (same : Bool) → bytes_eq new text ≡ same → cond same (Some (length names)) (number_of names text) ≡ Some k
-    pushed none true same = absurd (none-some k (sym none ∙ ap (number_of names) ((bytes_eq-Decides new text).0 same) ∙ at))
-    pushed none false same = at
-
-    by_test : (known : Bool) → list_any (bytes_eq new) names ≡ known → number_of (cond known names (names ++ new ∷ [])) text ≡ Some k
-    by_test true is = at
-    by_test false is = let none = absent is (number_of names new) refl in number_of-push names new text none ∙ pushed none (bytes_eq new text) refl
-
-mutual
-  form-number : (names : List (List ℕ)) (f : FormTree) (text : List ℕ) (k : ℕ) → number_of names text ≡ Some k → number_of (names_with names f) text ≡ Some k
-  form-number names (symbol new at) text k is = text-number names new text k is
-  form-number names (integer z at) text k is = is
-  form-number names (list fs at) text k is = forms-number names fs text k is
-
-  -- a name keeps its number while the symbols of forms are added
-  pub forms-number : (names : List (List ℕ)) (fs : FormTrees) (text : List ℕ) (k : ℕ) → number_of names text ≡ Some k → number_of (names_with_all names fs) text ≡ Some k
-  forms-number names no_form text k is = is
-  forms-number names (more_forms f fs) text k is = forms-number (names_with names f) fs text k (form-number names f text k is)

@@ -1,7 +1,7 @@
 -- What one look of a search by halves says of the rows on its side.
 use Rattle.std.proofs.Common.{◌≡◌, ℕ, ◌<◌, ◌≤◌, ◌+◌, List, length, get_or, Ordering, Less, Equal, Greater, true, true≢false, refl, sym, ap, ◌∙◌, subst, arith}
 use Rattle.std.proofs.lemmas.List.{get_or_default}
-use Rattle.std.specs.List.{AllWithin, HoldsAt}
+use Rattle.std.specs.List.{AllWithin}
 use Rattle.std.specs.List.Sorted.{IsNonDecreasingBy}
 use Rattle.std.specs.Ordering.{is_gt, is_lt, ordering_index}
 
@@ -18,9 +18,6 @@ greatest-index Greater p = refl
 module _ {X : Type 0} (ord : X → Ordering) (xs : List X) (m : ℕ) (x : X) (low : m < length xs) (is : x ≡ get_or xs m x) where
   at : (o : Ordering) → ord x ≡ o → (d : X) → ord (get_or xs m d) ≡ o
   at o e d = ap ord (get_or_default xs m d x low ∙ sym is) ∙ e
-
-  pub found-here : ord x ≡ Equal → HoldsAt (λ y. ord y ≡ Equal) xs m
-  found-here e d = at Equal e d
 
   pub all-less : (j : ℕ) → j ≡ m + 1 → ord x ≡ Less → IsNonDecreasingBy (λ y. ordering_index (ord y)) xs → AllWithin (λ y. ord y ≡ Less) xs 0 j
   all-less j n e rise k d _ q =

@@ -1,7 +1,7 @@
 -- Items of a list from a place on up to another one.
 use Rattle.std.proofs.Common.{◌≡◌, ℕ, zero, suc, ◌+◌, ◌-◌, ◌<◌, ◌≤◌, List, [], ◌∷◌, ◌++◌, length, length-append, get_or, take, drop, append_assoc, refl, sym, ap, ◌∙◌, subst, arith}
 use Rattle.std.proofs.lemmas.List.{take_all, drop_all, take-take, drop-drop, drop-take, take-append-le, drop-append-le, get_or-take, get_or-drop, length-drop, length-take-le}
-use Rattle.std.proofs.Math.Seq.{drop-append_seam, drop-cons}
+use Rattle.std.proofs.Math.Seq.{drop-append_seam}
 use Rattle.std.specs.List.{insert, remove}
 use Rattle.tl_syntax.specs.declared.value.Value.{Value}
 use Rattle.tl_world.specs.Runs.{between, IsPart}
@@ -66,12 +66,6 @@ module _ {X : Type 0} where
   -- an item of a part
   pub get-between-of : (xs : List X) (a b j : ℕ) (d : X) → j < b - a → get_or (between xs a b) j d ≡ get_or xs (a + j) d
   get-between-of xs a b j d p = get_or-take (b - a) (drop a xs) j d p ∙ get_or-drop a xs j d
-
-  -- one item
-  pub between-one : (xs : List X) (k : ℕ) (x : X) → k < length xs → x ≡ get_or xs k x → between xs k (k + 1) ≡ x ∷ []
-  between-one xs k x p is =
-      let e : k + 1 - k ≡ 1 = omega arith in
-      (λ i. take (e i) (drop-cons xs k x p i)) ∙ ap (λ y. y ∷ []) (sym is)
 
   -- all but what was before
   pub between-to-end : (s t : List X) (n : ℕ) → n ≡ length s + length t → between (s ++ t) (length s) n ≡ t

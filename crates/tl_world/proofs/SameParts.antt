@@ -111,18 +111,6 @@ pub parts-same : (xs ys rows others : List (List Value)) (from start k l n : ℕ
 parts-same xs ys rows others from start k l n h g p q v w e many =
     sym (part-rows xs rows from k n h p v many) ∙ (e ∙ part-rows ys others start l n g q w (sym (ap length e) ∙ many))
 
--- one more row that is the same
-pub more-same : (xs ys : List (List Value)) (k l n m : ℕ) (x y : List Value) (b : Bool) → m ≡ n + 1 → k + n < length xs → l + n < length ys → x ≡ get_or xs (k + n) x → y ≡ get_or ys (l + n) y → b ≡ values_eq x y → b ≡ true
-    → take n (drop k xs) ≡ take n (drop l ys) → take m (drop k xs) ≡ take m (drop l ys)
-more-same xs ys k l n m x y b e p q f g is t same =
-    ap (λ i. take i (drop k xs)) e
-    ∙ (one xs k x p f ∙ ((λ i. same i ++ (row-tells x y).0 (sym is ∙ t) i ∷ []) ∙ (sym (one ys l y q g) ∙ ap (λ i. take i (drop l ys)) (sym e))))
-  where
-    one : (zs : List (List Value)) (i : ℕ) (z : List Value) → i + n < length zs → z ≡ get_or zs (i + n) z → take (n + 1) (drop i zs) ≡ take n (drop i zs) ++ z ∷ []
-    one zs i z w h =
-        take_more (drop i zs) n z (let a = length-drop i zs in omega (arith, a, w))
-        ∙ ap (λ u. take n (drop i zs) ++ u ∷ []) (Rattle.std.proofs.lemmas.List.get_or-drop i zs n z ∙ sym h)
-
 -- lists of values are compared value by value
 pub rest-told : (xs ys : List Value) (i j : ℕ) (x y : Value) → j ≡ i + 1 → i < length xs → i < length ys → x ≡ get_or xs i x → y ≡ get_or ys i y → values_eq (drop i xs) (drop i ys) ≡ (value_eq x y && values_eq (drop j xs) (drop j ys))
 rest-told xs ys i j x y e p q f g =

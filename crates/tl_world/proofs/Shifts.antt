@@ -3,7 +3,6 @@ use Rattle.std.proofs.Common.{◌≡◌, ℕ, ◌+◌, ◌-◌, ◌≤◌, List,
 use Rattle.std.proofs.Math.Seq.{take-append_seam}
 use lib.Seq.{paste, take-append-le}
 use Rattle.std.proofs.lemmas.List.{drop-drop, drop_all, length-drop, length-take-le, take-take, take_all}
-use Rattle.tl_world.specs.Cuts.{items_back, items_on}
 use Rattle.tl_world.proofs.Parts.{same-row, drop-past}
 
 -- values that are moved, and a row that is written over others
@@ -50,27 +49,3 @@ put-back xs row s n e p =
     none : {X : Type 0} (zs : List X) → zs ++ [] ≡ zs
     none [] = refl
     none (z ∷ zs) = ap (λ ys. z ∷ ys) (none zs)
-
--- as many values as before
-module _ {X : Type 0} (xs row : List X) (at cut : ℕ) where
-  pub size-back : at ≤ cut → cut + length row ≤ length xs → length (items_back xs at cut row) ≡ length xs
-  size-back p q =
-      let a = length-take-le at xs (omega (arith, p, q)) in
-      let d = length-drop at xs in
-      let m = length-take-le (cut - at) (drop at xs) (omega (arith, d, p, q)) in
-      let e = length-drop (cut + length row) xs in
-      let l1 = length-append (take at xs) (row ++ (take (cut - at) (drop at xs) ++ drop (cut + length row) xs)) in
-      let l2 = length-append row (take (cut - at) (drop at xs) ++ drop (cut + length row) xs) in
-      let l3 = length-append (take (cut - at) (drop at xs)) (drop (cut + length row) xs) in
-      omega (arith, a, m, e, l1, l2, l3, p, q)
-
-  pub size-on : cut + length row ≤ at → at ≤ length xs → length (items_on xs cut at row) ≡ length xs
-  size-on p q =
-      let a = length-take-le cut xs (omega (arith, p, q)) in
-      let d = length-drop (cut + length row) xs in
-      let m = length-take-le (at - (cut + length row)) (drop (cut + length row) xs) (omega (arith, d, p, q)) in
-      let e = length-drop at xs in
-      let l1 = length-append (take cut xs) (take (at - (cut + length row)) (drop (cut + length row) xs) ++ (row ++ drop at xs)) in
-      let l2 = length-append (take (at - (cut + length row)) (drop (cut + length row) xs)) (row ++ drop at xs) in
-      let l3 = length-append row (drop at xs) in
-      omega (arith, a, m, e, l1, l2, l3, p, q)

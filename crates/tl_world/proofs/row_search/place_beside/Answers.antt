@@ -1,4 +1,4 @@
-use Rattle.std.proofs.Common.{◌≡◌, ◌<◌, ◌+◌, ◌-◌, length, refl, sym, ◌∙◌, subst, arith, Greater, Less}
+use Rattle.std.proofs.Common.{◌≡◌, ◌<◌, ◌+◌, ◌-◌, length, refl, sym, ◌∙◌, arith, Greater, Less}
 use Rattle.std.specs.List.{AllWithin}
 use Rattle.tl_world.specs.Plain.{row_cmp}
 use Rattle.tl_world.proofs.Narrowing.{all-greater, all-less, is-greater, is-less}

@@ -1,4 +1,4 @@
-use Rattle.std.proofs.Common.{◌≡◌, ◌<◌, ◌≤◌, ◌*◌, length, sym, ap, ◌∙◌, arith}
+use Rattle.std.proofs.Common.{length, sym, ap, ◌∙◌, arith}
 use Rattle.tl_world.specs.Cuts.{even_rows}
 use Rattle.tl_world.specs.Moves.{moved_by}
 use Rattle.tl_world.proofs.EvenRows.{alike, many}

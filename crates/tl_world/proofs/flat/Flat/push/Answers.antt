@@ -1,4 +1,4 @@
-use Rattle.std.proofs.Common.{◌≡◌, ◌+◌, ◌*◌, ◌++◌, ◌∷◌, [], length, length-append, refl, sym, ap, ◌∙◌, arith}
+use Rattle.std.proofs.Common.{◌≡◌, ◌+◌, ◌*◌, ◌++◌, ◌∷◌, [], length, length-append, refl, ap, ◌∙◌, arith}
 use Rattle.tl_world.specs.Cuts.{even_rows}
 use Rattle.tl_world.proofs.EvenRows.{alike, more-size, one-more}
 use Rattle.tl_world.proofs.flat.Flat.push.Goals as goal

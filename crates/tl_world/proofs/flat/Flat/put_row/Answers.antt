@@ -1,6 +1,6 @@
 use Rattle.std.proofs.Common.{◌≡◌, ◌+◌, ◌*◌, ◌≤◌, length, refl, sym, ap, ◌∙◌, arith, rules}
 use Rattle.std.specs.List.{insert}
-use Rattle.tl_world.specs.Cuts.{even_rows, items_back, items_with}
+use Rattle.tl_world.specs.Cuts.{even_rows, items_back}
 use Rattle.tl_world.proofs.EvenRows.{alike, many, place-within, with-rows, with-size}
 use Rattle.tl_world.proofs.Shifts.{put-back}
 use Rattle.tl_world.proofs.flat.Flat.put_row.Goals as goal
