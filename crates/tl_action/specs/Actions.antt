@@ -48,11 +48,13 @@ StaysNamed n w a next = WorldIsNamed n w → ArgumentsAreNamed n a → WorldIsNa
 abbrev pub name_count : Task → ℕ
 name_count task = length task.problem.names
 
--- the note is of an operation that the action looks at, and which is past range; want of memory has no cause
+-- the note is of an operation that the action looks at, and which is past range; want of memory has
+-- no cause
 abbrev pub IsCausedByAction : PlainProblem → World → Action → ActFault → Type 0
 IsCausedByAction p w a x = IsCausedBy (looked_by_action p w a) x
 
--- the note is of an operation that some action looks at, and which is past range; want of memory has no cause
+-- the note is of an operation that some action looks at, and which is past range; want of memory
+-- has no cause
 abbrev pub IsCausedBySome : PlainProblem → World → ActFault → Type 0
 IsCausedBySome p w (fault.Range note) = (a : Action) × Tells (looked_by_action p w a) note
 IsCausedBySome p w fault.NoMemory = Unit {0}

@@ -13,7 +13,8 @@ use Rattle.tl_syntax.specs.StateFormulas.{EffectIsState, EffectsAreState}
 abbrev pub Agree : List ℕ → Assignment → Assignment → Type 0
 Agree qs d e = Each (λ q. d q ≡ e q) qs
 
--- an effect that is read below variables of some slots: it fits there, speaks of them alone, and has no temporal word
+-- an effect that is read below variables of some slots: it fits there, speaks of them alone, and
+-- has no temporal word
 pub record EffectReads (g : Signature) (x : EffectTree) : Type 0 where
   pub around : List ℕ
   pub fits : EffectFits g around x

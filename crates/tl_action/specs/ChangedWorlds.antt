@@ -8,7 +8,8 @@ use Rattle.tl_terms.specs.Problem.{PlainProblem}
 use Rattle.tl_terms.specs.Step.{step, with_all, without_all, overwritten}
 use Rattle.tl_terms.specs.World.{World}
 
--- the world without the deleted facts, with the added ones, and with the values of the places that are set
+-- the world without the deleted facts, with the added ones, and with the values of the places that
+-- are set
 unfoldable pub world_after : World → Changes → World
 world_after w c = record {
   facts = with_all (without_all w.facts (map fact_key c.dels)) (map fact_key c.adds);

@@ -29,7 +29,8 @@ pub record HasMore (cs : List EffectInstance) (before after : Changes) : Type 0 
   pub adds : map fact_key after.adds ≡ map fact_key before.adds ++ flat_map added cs
   pub sets : map place_entry after.sets ≡ map place_entry before.sets ++ flat_map given cs
 
--- true where all instances are defined, whose changes are then there; false where some is not; or a fault with its cause
+-- true where all instances are defined, whose changes are then there; false where some is not; or a
+-- fault with its cause
 abbrev pub Collects : List EffectInstance → List Operation → Changes → Changes → Result Bool ActFault → Type 0
 Collects cs looked before after (Ok true) = HasMore cs before after
 Collects cs looked before after (Ok false) = list_all is_defined cs ≡ false
@@ -42,7 +43,8 @@ CollectsEach p w e ss xs ts before after r =
     let looked = flat_map (λ t. looked_in_effects (looks_of p w) s (bind ss t e) xs) ts in
     Collects (flat_map (λ t. all_instances s (bind ss t e) xs) ts) looked before after r
 
--- true where the arguments are defined, and the fact is then there; false where they are not; or a fault with its cause
+-- true where the arguments are defined, and the fact is then there; false where they are not; or a
+-- fault with its cause
 abbrev pub GivesFact : ℕ → Option (List Value) → List Operation → List Fact → List Fact → Result Bool ActFault → Type 0
 GivesFact p args looked before after (Ok true) = (vs : List Value) × (args ≡ Some vs) × (after ≡ before ++ record { pred = p; args = vs } ∷ [])
 GivesFact p args looked before after (Ok false) = args ≡ None

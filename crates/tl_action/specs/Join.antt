@@ -81,7 +81,8 @@ AgreeOnSeen seen ss d e = Each (λ s. stands_in_one seen s ≡ true → d s.slot
 abbrev pub row_assignment : PlainOperator → List Value → Assignment
 row_assignment o t = bind o.params t no_values
 
--- the row has a value for each parameter, agrees with the frame on those that stand in a bound that was seen, and makes the other bounds true
+-- the row has a value for each parameter, agrees with the frame on those that stand in a bound that
+-- was seen, and makes the other bounds true
 pub record IsCompletion (p : PlainProblem) (w : World) (o : PlainOperator) (seen rest : List Bound) (e : Assignment) (t : List Value) : Type 0 where
   pub arity : length t ≡ length o.params
   pub agrees : AgreeOnSeen seen o.params (row_assignment o t) e
@@ -95,7 +96,8 @@ CompletesFrom p w o e k t = IsCompletion p w (plain_operator o) (take k o.bounds
 abbrev pub HasNoCompletion : PlainProblem → World → Operator → Assignment → ℕ → Type 0
 HasNoCompletion p w o e j = (t : List Value) → ¬ CompletesFrom p w o e j t
 
--- the bounds from the j-th to the k-th have no new parameter and are true, so from either on the same rows complete the frame, and what is known after the k-th was known before the j-th
+-- the bounds from the j-th to the k-th have no new parameter and are true, so from either on the
+-- same rows complete the frame, and what is known after the k-th was known before the j-th
 pub record IsPassed (p : PlainProblem) (w : World) (o : Operator) (e : Assignment) (j k : ℕ) : Type 0 where
   pub later : j ≤ k
   pub inside : k ≤ length o.bounds

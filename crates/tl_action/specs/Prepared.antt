@@ -35,7 +35,8 @@ looked_prepared p w e o =
     let before = looked_in_state (looks_of p w) s e o.pre in
     followed_if (state_true s e o.pre) before (looked_in_effects (looks_of p w) s e o.effects)
 
--- the changes that the effects make; none where an instance is undefined or two clash; or a fault with its cause
+-- the changes that the effects make; none where an instance is undefined or two clash; or a fault
+-- with its cause
 abbrev pub CollectsWhole : PlainProblem → World → Assignment → PlainOperator → Result (Option Changes) ActFault → Type 0
 CollectsWhole p w e o (Ok (Some changes)) = (no_clash (flat_map given (instances_of p w e o)) ≡ true) × HasMore (instances_of p w e o) no_changes changes
 CollectsWhole p w e o (Ok None) = (list_all is_defined (instances_of p w e o) && no_clash (flat_map given (instances_of p w e o))) ≡ false

@@ -42,6 +42,7 @@ StaysNamedHere here a next = IfSome next (StaysNamed (name_count here.task.now) 
 abbrev pub LeaveNamedHere : Here → Action → Option Changes → Type 0
 LeaveNamedHere here a changes = IfSome changes (LeaveNamed (name_count here.task.now) here.world.now a)
 
--- the note is of an operation that the action looks at, and which is past range; want of memory has no cause
+-- the note is of an operation that the action looks at, and which is past range; want of memory has
+-- no cause
 abbrev pub IsFaultHere : Here → Action → ActFault → Type 0
 IsFaultHere here a fault = IsCausedByAction (problem_here here) here.world.now a fault

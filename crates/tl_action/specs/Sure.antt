@@ -15,7 +15,8 @@ abbrev pub are_bare : TermTrees → Bool
 are_bare no_term = true
 are_bare (more_terms t ts) = is_bare t && are_bare ts
 
--- the effect has no undefined part where its variables have values, sets no place, and looks at no operation; and so for each of a list
+-- the effect has no undefined part where its variables have values, sets no place, and looks at no
+-- operation; and so for each of a list
 unfoldable mutual
   pub is_sure : EffectTree → Bool
   is_sure (add p ts) = are_bare ts

@@ -99,7 +99,8 @@ AnswersValues here frame ts r =
 abbrev pub row_here : Here → List (Option Value) → List Var → Option (List Value)
 row_here here frame ss = term_values here.world.now (assignment_in frame) (variables ss)
 
--- true where the terms are defined, and the fact with their values is then collected; false where they are not; or a fault with its cause
+-- true where the terms are defined, and the fact with their values is then collected; false where
+-- they are not; or a fault with its cause
 abbrev pub FactIsCollected : Here → List (Option Value) → ℕ → Terms → List Fact → List Fact → Result Bool ActFault → Type 0
 FactIsCollected here frame pred ts before after r =
     GivesFact pred (values_here here frame ts) (looked_for_values here frame ts) before after r
@@ -111,7 +112,8 @@ PlaceIsCollected here frame s before after r =
     let looked = looked_in_term here.world.now (assignment_in frame) (tree_of_term s.value.now) in
     GivesPlace s.fun (values_here here frame s.args.now) value (looked_for_values here frame s.args.now) looked before after r
 
--- true where all instances of the effect are defined, whose changes are then collected; false where some is not; or a fault with its cause
+-- true where all instances of the effect are defined, whose changes are then collected; false where
+-- some is not; or a fault with its cause
 abbrev pub EffectIsCollected : Here → List (Option Value) → Effect → Changes → Changes → Result Bool ActFault → Type 0
 EffectIsCollected here frame x before after r =
     let e = assignment_in frame in
@@ -144,7 +146,8 @@ abbrev pub EachLeavesFrame : Here → ForEach → List (Option Value) → List (
 EachLeavesFrame here each old new =
     EachLeaves (signature_here here) each.vars.now (tree_of_effects each.effects.now) (assignment_in old) (assignment_in new)
 
--- the changes that the operator's effects make; none where an instance is undefined or two clash; or a fault with its cause
+-- the changes that the operator's effects make; none where an instance is undefined or two clash;
+-- or a fault with its cause
 abbrev pub ChangesAreCollected : Here → Operator → List (Option Value) → Result (Option Changes) ActFault → Type 0
 ChangesAreCollected here o frame r = CollectsWhole (problem_here here) here.world.now (assignment_in frame) (plain_operator o) r
 
@@ -152,14 +155,16 @@ ChangesAreCollected here o frame r = CollectsWhole (problem_here here) here.worl
 abbrev pub ChangesArePrepared : Here → Operator → List (Option Value) → Result (Option Changes) ActFault → Type 0
 ChangesArePrepared here o frame r = Prepares (problem_here here) here.world.now (assignment_in frame) (plain_operator o) r
 
--- whether the operator can be applied with its parameters' values in the frame; or a fault with its cause
+-- whether the operator can be applied with its parameters' values in the frame; or a fault with its
+-- cause
 abbrev pub AnswersPrepared : Here → Operator → List (Option Value) → Result Bool ActFault → Type 0
 AnswersPrepared here o frame r =
     let e = assignment_in frame in
     let looked = looked_prepared (problem_here here) here.world.now e (plain_operator o) in
     Answers (is_prepared (problem_here here) here.world.now e (plain_operator o)) looked r
 
--- the bounds from the j-th to the k-th have no new parameter and are true under the values of the frame
+-- the bounds from the j-th to the k-th have no new parameter and are true under the values of the
+-- frame
 abbrev pub IsPassedUnder : Here → Arranged → List (Option Value) → ℕ → ℕ → Type 0
 IsPassedUnder here a frame j k = IsPassed (problem_here here) here.world.now (arranged a) (assignment_in frame) j k
 
@@ -167,7 +172,8 @@ IsPassedUnder here a frame j k = IsPassed (problem_here here) here.world.now (ar
 abbrev pub HasNoneUnder : Here → Arranged → List (Option Value) → ℕ → Type 0
 HasNoneUnder here a frame j = HasNoCompletion (problem_here here) here.world.now (arranged a) (assignment_in frame) j
 
--- the row of the values in the frame is added, where the operator can be applied with it; or a fault with its cause
+-- the row of the values in the frame is added, where the operator can be applied with it; or a
+-- fault with its cause
 abbrev pub RowIsJoined : Here → Arranged → List (Option Value) → Vec (List Value) → Vec (List Value) → Result (Unit {0}) ActFault → Type 0
 RowIsJoined here a frame before after r =
     JoinsRow (problem_here here) here.world.now (arranged a) (assignment_in frame) before.items after.items r

@@ -15,7 +15,8 @@ use tl_eval::Env;
 use tl_syntax::{Action, Actions, NoMemory, Operator, Values};
 use tl_world::{Task, World};
 
-/// Lists the actions of one task. What can be worked out before a world is there stands in it: the parameters to which each bound of an operator gives values, and which effects cannot fail.
+/// Lists the actions of one task. What can be worked out before a world is there stands in it: the
+/// parameters to which each bound of an operator gives values, and which effects cannot fail.
 #[derive(Drop)]
 pub struct Lister {
     alloc: Global,
@@ -55,7 +56,8 @@ impl Lister {
         Ok(Lister { alloc, orders })
     }
 
-    /// All actions that are executable in the world, as `actions` lists them. The lister is for the task before and after the call, a refused one included.
+    /// All actions that are executable in the world, as `actions` lists them. The lister is for the
+    /// task before and after the call, a refused one included.
     pub fn actions(&mut self, task: &Task, w: &World, env: &mut Env) -> Result<Actions, ActFault>
         requires { ListsFor task.now self.old }
         ensures lister { ListsFor task.now self.new }
@@ -82,10 +84,14 @@ impl Lister {
     }
 }
 
-/// All actions that are executable in the world, each once, in action order: by operator in the domain's order, and then by the arguments from left to right in value order.
+/// All actions that are executable in the world, each once, in action order: by operator in the
+/// domain's order, and then by the arguments from left to right in value order.
 ///
-/// Each operator's bounds are joined in their order, or with one of few rows before the others: see `join` and `first_bound` for what that costs. Its rows come out in action order where the parameters first stand in the joined bounds in their own order, and are sorted once.
-/// A range fault tells an operation that one of the actions looks at. The frame is left with values of its own, as by `apply`.
+/// Each operator's bounds are joined in their order, or with one of few rows before the others: see
+/// `join` and `first_bound` for what that costs. Its rows come out in action order where the
+/// parameters first stand in the joined bounds in their own order, and are sorted once.
+/// A range fault tells an operation that one of the actions looks at. The frame is left with values
+/// of its own, as by `apply`.
 /// Whoever lists the actions of many worlds takes a `Lister`.
 pub fn actions(alloc: Global, task: &Task, w: &World, env: &mut Env) -> Result<Actions, ActFault>
     ensures actions { IfOk result (AreActions (plain_problem task.now.problem) w.now) }

@@ -3,7 +3,8 @@ ghost use Rattle.std.specs.Prelude.{◌<◌, length};
 
 use tl_syntax::{Bound, Operator};
 
-/// An operator with its bounds in the order in which they are joined: one of them before the others.
+/// An operator with its bounds in the order in which they are joined: one of them before the
+/// others.
 #[derive(Clone, Copy)]
 pub(crate) struct Arranged<'a> {
     /// The operator.

@@ -7,7 +7,8 @@ use std::alloc::Global;
 use tl_syntax::{Facts, NoMemory, PlaceValues};
 use tl_world::World;
 
-/// What effects change: the facts that they delete and add, and the places that they set, with their values.
+/// What effects change: the facts that they delete and add, and the places that they set, with
+/// their values.
 #[derive(Drop)]
 pub struct Changes {
     /// The deleted facts.
@@ -39,7 +40,8 @@ impl Changes {
         self.sets.clear();
     }
 
-    /// The world that the changes make of a world, which stays as it is. It fails for want of memory alone.
+    /// The world that the changes make of a world, which stays as it is. It fails for want of
+    /// memory alone.
     pub fn world_after(&self, alloc: Global, w: &World) -> Result<World, NoMemory>
         ensures { IfOk result (λ next. next ≡ world_after w.now self.now) }
     {

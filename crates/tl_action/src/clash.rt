@@ -43,16 +43,20 @@ fn agrees_with_each(a: &PlaceValue, sets: &[PlaceValue]) -> bool
     sets.iter().all(|b| agree_as_two(a, b))
 }
 
-/// Whether no two of them give one place different values. Each is compared with each, and it takes no memory.
+/// Whether no two of them give one place different values. Each is compared with each, and it takes
+/// no memory.
 fn each_agrees(sets: &[PlaceValue]) -> bool
     ensures { result ≡ list_all (agrees_with_all sets.now) sets.now }
 {
     sets.iter().all(|a| agrees_with_each(a, sets))
 }
 
-/// Whether no two of them give one place different values. It fails for want of memory alone, and takes none for a few places.
+/// Whether no two of them give one place different values. It fails for want of memory alone, and
+/// takes none for a few places.
 ///
-/// A few are compared with each other. Many are put into a world, which gives each of them one value, so that they agree where that is always the one that is set; it costs one look-up by halves for each.
+/// A few are compared with each other. Many are put into a world, which gives each of them one
+/// value, so that they agree where that is always the one that is set; it costs one look-up by
+/// halves for each.
 pub(crate) fn agree(alloc: Global, sets: &[PlaceValue]) -> Result<bool, NoMemory>
     ensures { IfOk result (λ b. b ≡ no_clash (map place_entry sets.now)) }
 {

@@ -11,7 +11,8 @@ use crate::values::values_of;
 use tl_eval::{Env, TupleReader, state, term};
 use tl_syntax::{Bound, Effect, Effects, Fact, Facts, PlaceValue, PlaceValues, Term, Terms, Vars};
 
-/// Collects a fact whose arguments are the values of terms: false where one of them is undefined. The frame stays as it was.
+/// Collects a fact whose arguments are the values of terms: false where one of them is undefined.
+/// The frame stays as it was.
 #[inline(always)]
 fn collect_fact(
     here: &Here,
@@ -45,7 +46,8 @@ struct Setting<'a> {
     value: &'a Term,
 }
 
-/// Collects a place with its value: false where a term of either is undefined. The frame stays as it was.
+/// Collects a place with its value: false where a term of either is undefined. The frame stays as
+/// it was.
 fn collect_place(
     here: &Here,
     env: &mut Env,
@@ -75,7 +77,8 @@ fn collect_place(
     }
 }
 
-/// Collects the changes of an effect: false where an instance of it has an undefined part. Variables that it quantifies may have other values in the frame afterwards.
+/// Collects the changes of an effect: false where an instance of it has an undefined part.
+/// Variables that it quantifies may have other values in the frame afterwards.
 #[cycle(collected)]
 fn collect(
     here: &Here,
@@ -114,7 +117,8 @@ fn collect(
     }
 }
 
-/// Collects the changes of effects in their order, up to the first that has an undefined part: false where one has.
+/// Collects the changes of effects in their order, up to the first that has an undefined part:
+/// false where one has.
 #[cycle(collected)]
 pub(crate) fn collect_all(
     here: &Here,
@@ -147,7 +151,8 @@ struct ForEach<'a> {
     effects: &'a Effects,
 }
 
-/// Collects the changes of effects for each tuple of the bound, up to the first with an undefined part: false where one has.
+/// Collects the changes of effects for each tuple of the bound, up to the first with an undefined
+/// part: false where one has.
 #[cycle(collected)]
 fn collect_each(
     here: &Here,

@@ -8,7 +8,8 @@ use tl_world::{Task, World};
 /// How many rows a table has at most for which its bound may come first.
 const FEW: usize = 4;
 
-/// How many rows the table of the first bound has at most where it stays first, whatever the others have.
+/// How many rows the table of the first bound has at most where it stays first, whatever the others
+/// have.
 const SMALL: usize = 128;
 
 /// How many facts of the predicate there are. It takes no memory.
@@ -44,7 +45,8 @@ fn have_common(vars: &[Var], a: &Bound, b: &Bound) -> bool {
         .any(|var| stands_in(var, a) && stands_in(var, b))
 }
 
-/// The place of the bound with the fewest rows, among those with at most 4 that have a parameter in common with the first bound or have no row; 0 where there is none such. It takes no memory.
+/// The place of the bound with the fewest rows, among those with at most 4 that have a parameter in
+/// common with the first bound or have no row; 0 where there is none such. It takes no memory.
 fn smallest_bound(task: &Task, w: &World, operator: &Operator) -> usize
     requires { 0 < length operator.now.bounds }
     ensures { result < length operator.now.bounds }
@@ -63,9 +65,11 @@ fn smallest_bound(task: &Task, w: &World, operator: &Operator) -> usize
     smallest
 }
 
-/// The place of the bound that is joined first: that of `smallest_bound` where the table of the first bound has more than 128 rows in the world, and else 0. It takes no memory.
+/// The place of the bound that is joined first: that of `smallest_bound` where the table of the
+/// first bound has more than 128 rows in the world, and else 0. It takes no memory.
 ///
-/// The first bound is then read once for each of a few rows, with their values known (the smallest relation first, Selinger et al. 1979).
+/// The first bound is then read once for each of a few rows, with their values known (the smallest
+/// relation first, Selinger et al. 1979).
 /// Any place would do: the rows that are found in the end are the same.
 pub(crate) fn first_bound(task: &Task, w: &World, operator: &Operator) -> usize
     ensures { 0 < length operator.now.bounds → result < length operator.now.bounds }

@@ -11,7 +11,8 @@ use crate::values::row_of;
 use tl_eval::{BoundPattern, Env, bound_holds};
 use tl_syntax::Values;
 
-/// Adds the row of the parameters' values in the frame, where each has one and the operator can be applied with them. The bounds are not looked at.
+/// Adds the row of the parameters' values in the frame, where each has one and the operator can be
+/// applied with them. The bounds are not looked at.
 fn find_row(
     here: &Here,
     env: &mut Env,
@@ -38,7 +39,9 @@ fn find_row(
     }
 }
 
-/// The first bound from the `j`-th on that gives a parameter its value, or how many bounds there are: None where a bound before it is false. The bounds before it are true, and have no parameter but those that have their values already.
+/// The first bound from the `j`-th on that gives a parameter its value, or how many bounds there
+/// are: None where a bound before it is false. The bounds before it are true, and have no parameter
+/// but those that have their values already.
 /// It takes no memory.
 fn next_bound(here: &Here, env: &Env, order: &JoinOrder, j: usize) -> Option<usize>
     requires keeps { OperatorIsKept here.now order.now.bounds.operator.now }
@@ -57,7 +60,9 @@ fn next_bound(here: &Here, env: &Env, order: &JoinOrder, j: usize) -> Option<usi
     Some(k)
 }
 
-/// Adds the rows that complete the frame with a tuple of the `j`-th bound for its new parameters: those that agree with it on the parameters of the bounds before it, make it and the bounds after it true, and with which the operator can be applied.
+/// Adds the rows that complete the frame with a tuple of the `j`-th bound for its new parameters:
+/// those that agree with it on the parameters of the bounds before it, make it and the bounds after
+/// it true, and with which the operator can be applied.
 /// The parameters of the first `j` bounds keep their values in the frame.
 #[cycle(joined)]
 fn join_bound(
@@ -89,12 +94,16 @@ fn join_bound(
     Ok(())
 }
 
-/// Adds the rows that complete the frame: those that agree with it on the parameters of the first `j` bounds, make the other bounds true, and with which the operator can be applied.
+/// Adds the rows that complete the frame: those that agree with it on the parameters of the first
+/// `j` bounds, make the other bounds true, and with which the operator can be applied.
 /// The parameters of the first `j` bounds keep their values in the frame.
 ///
-/// Each bound gives its new parameters their values, by its tuples in order under the values of the earlier ones, and a bound without new parameters is tested.
-/// So a row of values is given up at the first bound that it makes false, and what is looked up is one tuple more than there are for each row of the bounds before.
-/// It goes one level deeper for each bound with new parameters, so never deeper than an operator has parameters.
+/// Each bound gives its new parameters their values, by its tuples in order under the values of the
+/// earlier ones, and a bound without new parameters is tested.
+/// So a row of values is given up at the first bound that it makes false, and what is looked up is
+/// one tuple more than there are for each row of the bounds before.
+/// It goes one level deeper for each bound with new parameters, so never deeper than an operator
+/// has parameters.
 #[cycle(joined)]
 pub(crate) fn join(
     here: &Here,

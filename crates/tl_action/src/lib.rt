@@ -3,7 +3,8 @@
 //! - `fault`: why a call gives no answer.
 //! - `step`: the step of an action.
 //! - `next`: what an action changes that is known to be executable.
-//! - `all_actions`: all actions that are executable in a world, and what is worked out once to list those of many.
+//! - `all_actions`: all actions that are executable in a world, and what is worked out once to list
+//! those of many.
 //! - `bounds`: whether bounds are true.
 //! - `changes`: what effects change, and the world that this makes.
 //! - `check_fault`: what a check of a plan may end with in place of a verdict.
@@ -15,7 +16,8 @@
 //! - `new_parameters`: the parameters to which each bound gives values.
 //! - `arranged`: the bounds of an operator in the order in which they are joined.
 //! - `order`: the join order of an operator.
-//! - `own_order`: what is worked out once of an operator whose bounds are joined in their own order.
+//! - `own_order`: what is worked out once of an operator whose bounds are joined in their own
+//! order.
 //! - `operator_rows`: the rows with which an operator can be applied, in order.
 //! - `prepared`: what an operator whose bounds are true changes.
 //! - `sure`: effects that cannot fail.

@@ -56,7 +56,8 @@ fn stands_before(var: &Var, bounds: &Arranged, j: usize) -> bool
     false
 }
 
-/// Whether the variable stands in the bound and in none of the first `j` that are joined. It takes no memory.
+/// Whether the variable stands in the bound and in none of the first `j` that are joined. It takes
+/// no memory.
 fn is_new(var: &Var, bounds: &Arranged, j: usize, b: &Bound) -> bool
     requires { j ≤ bound_count bounds.now }
     ensures { result ≡ is_new (take j (arranged bounds.now).bounds) b.now var.now }
@@ -64,7 +65,8 @@ fn is_new(var: &Var, bounds: &Arranged, j: usize, b: &Bound) -> bool
     stands_in(var, b) && !stands_before(var, bounds, j)
 }
 
-/// The parameters that stand in the bound and in none of the first `j` that are joined. It fails for want of memory alone.
+/// The parameters that stand in the bound and in none of the first `j` that are joined. It fails
+/// for want of memory alone.
 fn new_variables(alloc: Global, bounds: &Arranged, j: usize, b: &Bound) -> Result<Vars, NoMemory>
     requires { j ≤ bound_count bounds.now }
     ensures { IfOk result (λ vars. vars ≡ new_at bounds.now j b.now) }
@@ -79,7 +81,8 @@ fn new_variables(alloc: Global, bounds: &Arranged, j: usize, b: &Bound) -> Resul
     Ok(vars)
 }
 
-/// For each bound, in the order in which they are joined, the parameters that stand in it and in none before it, in their order. It fails for want of memory alone.
+/// For each bound, in the order in which they are joined, the parameters that stand in it and in
+/// none before it, in their order. It fails for want of memory alone.
 pub(crate) fn new_parameters_of(alloc: Global, bounds: &Arranged) -> Result<Vec<Vars>, NoMemory>
     ensures { IfOk result (λ new_parameters. new_parameters.items ≡ new_parameters_in bounds.now) }
 {

@@ -22,7 +22,8 @@ fn in_order(mut rows: Vec<Values>) -> Vec<Values>
     rows
 }
 
-/// The rows of values with which the operator of the join order can be applied, in lexicographic value order, each once. `many` is a guess how many there are.
+/// The rows of values with which the operator of the join order can be applied, in lexicographic
+/// value order, each once. `many` is a guess how many there are.
 fn rows_by(
     here: &Here,
     env: &mut Env,
@@ -84,7 +85,8 @@ fn moved_rows(
     rows_by(here, env, &order, 0)
 }
 
-/// The rows of values with which the operator can be applied, in lexicographic value order, each once. The join order is worked out anew only where another bound comes before the first one.
+/// The rows of values with which the operator can be applied, in lexicographic value order, each
+/// once. The join order is worked out anew only where another bound comes before the first one.
 pub(crate) fn rows_of(
     here: &Here,
     env: &mut Env,

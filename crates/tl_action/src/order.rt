@@ -10,7 +10,8 @@ use crate::sure::are_sure;
 use std::alloc::Global;
 use tl_syntax::{NoMemory, Operator, Vars};
 
-/// The join order of an operator: its bounds in the order in which they are joined, and which parameters each of them gives values. It is worked out before the bounds are joined.
+/// The join order of an operator: its bounds in the order in which they are joined, and which
+/// parameters each of them gives values. It is worked out before the bounds are joined.
 #[derive(Drop)]
 pub(crate) struct JoinOrder<'a> {
     /// The bounds of the operator.
@@ -26,7 +27,8 @@ pub(crate) struct JoinOrder<'a> {
 impl<'a> JoinOrder<'a> {
     ghost use Rattle.std.specs.Prelude.{IfOk};
 
-    /// The join order of an operator whose bound at the place `first` comes before the others. It fails for want of memory alone.
+    /// The join order of an operator whose bound at the place `first` comes before the others. It
+    /// fails for want of memory alone.
     pub(crate) fn of(
         alloc: Global,
         operator: &'a Operator,

@@ -9,7 +9,8 @@ use std::marker::Model;
 use std::mem;
 use tl_syntax::{NoMemory, Operator, Vars};
 
-/// What is worked out once of an operator whose bounds are joined in their own order. Contracts see the new parameters of each bound, and whether none of the effects can fail.
+/// What is worked out once of an operator whose bounds are joined in their own order. Contracts see
+/// the new parameters of each bound, and whether none of the effects can fail.
 ///
 /// How many rows there were last is kept as a guess for the next time.
 #[derive(Drop)]

@@ -15,7 +15,9 @@ use crate::here::Here;
 use tl_eval::{Env, state};
 use tl_syntax::Operator;
 
-/// What the operator changes, with its parameters' values in the frame: None where its precondition is false, an instance of its effects has an undefined part, or two set one place to different values.
+/// What the operator changes, with its parameters' values in the frame: None where its precondition
+/// is false, an instance of its effects has an undefined part, or two set one place to different
+/// values.
 /// The bounds are not looked at. The parameters keep their values in the frame.
 pub(crate) fn prepared(
     here: &Here,
@@ -33,7 +35,8 @@ pub(crate) fn prepared(
     }
 }
 
-/// Whether the operator can be applied, with its parameters' values in the frame. Where its effects are `sure`, none can fail, and they are not looked at.
+/// Whether the operator can be applied, with its parameters' values in the frame. Where its effects
+/// are `sure`, none can fail, and they are not looked at.
 /// The bounds are not looked at. The parameters keep their values in the frame.
 pub(crate) fn is_prepared(
     here: &Here,
@@ -60,7 +63,8 @@ pub(crate) fn is_prepared(
     }
 }
 
-/// What the operator's effects change: None where an instance has an undefined part, or two set one place to different values.
+/// What the operator's effects change: None where an instance has an undefined part, or two set one
+/// place to different values.
 fn collected(here: &Here, env: &mut Env, operator: &Operator) -> Result<Option<Changes>, ActFault>
     requires { OperatorIsKept here.now operator.now }
     ensures changes { ChangesAreCollected here.now operator.now env.old result }

@@ -17,9 +17,11 @@ use tl_world::World;
 /// What the action changes: None exactly where the action is not executable in the world.
 /// `Changes::world_after` then makes the next world, which is that of `apply`.
 ///
-/// All bounds, conditions and terms are read in the world: the bounds first, then the precondition, then the effects from left to right, up to the first that decides (Pednault 1989).
+/// All bounds, conditions and terms are read in the world: the bounds first, then the precondition,
+/// then the effects from left to right, up to the first that decides (Pednault 1989).
 /// A range fault tells an operation that the action looks at. Each call counts one step.
-/// The frame is left with values of its own: whoever reads a formula under it afterwards gives the formula's free variables their values first.
+/// The frame is left with values of its own: whoever reads a formula under it afterwards gives the
+/// formula's free variables their values first.
 pub fn changes_if_executable<L: Ledger>(
     here: &Here,
     env: &mut Env,
@@ -41,7 +43,8 @@ pub fn changes_if_executable<L: Ledger>(
     prepared(here, env, operator)
 }
 
-/// The world after the action: None exactly where the action is not executable in the world, which stays as it is.
+/// The world after the action: None exactly where the action is not executable in the world, which
+/// stays as it is.
 ///
 /// It is what `changes_if_executable` makes, with its range fault, its step and its frame.
 pub fn apply<L: Ledger>(

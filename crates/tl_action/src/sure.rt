@@ -40,7 +40,8 @@ fn is_sure(effect: &Effect) -> bool
     }
 }
 
-/// Whether none of the effects can fail once their variables have values: each adds or deletes facts of variables and values alone. It takes no memory.
+/// Whether none of the effects can fail once their variables have values: each adds or deletes
+/// facts of variables and values alone. It takes no memory.
 #[cycle(sure)]
 pub(crate) fn are_sure(effects: &Effects) -> bool
     ensures { result ≡ are_sure (tree_of_effects effects.now) }

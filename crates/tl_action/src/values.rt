@@ -7,7 +7,8 @@ use crate::here::Here;
 use tl_eval::{Env, term};
 use tl_syntax::{NoMemory, Terms, Values, Var};
 
-/// The values of terms in a world, under the frame's values, where all are defined; or a fault. The frame stays as it was.
+/// The values of terms in a world, under the frame's values, where all are defined; or a fault. The
+/// frame stays as it was.
 /// The terms are evaluated from left to right up to the first undefined one.
 #[inline(always)]
 pub(crate) fn values_of(
@@ -30,7 +31,8 @@ pub(crate) fn values_of(
     Ok(Some(values))
 }
 
-/// The values of variables in the frame, in their order, where all have one. It fails for want of memory alone.
+/// The values of variables in the frame, in their order, where all have one. It fails for want of
+/// memory alone.
 pub(crate) fn row_of(here: &Here, env: &Env, vars: &[Var]) -> Result<Option<Values>, NoMemory>
     ensures { IfOk result (λ row. row ≡ row_here here.now env.now vars.now) }
 {

@@ -34,7 +34,8 @@ AreInTurn (r ∷ rs) = Each (λ s. IsEarlier r s) rs × AreInTurn rs
 abbrev pub IsArrival : PlainProblem → ℕ → List KeptPair → Arrived → Type 0
 IsArrival p n kept r = (x : KeptPair) × (slice_get kept r.0 ≡ Some x) × (length x.path < n) × IsTrue (is_some (step p x.node.world r.1))
 
--- these arrivals are the first of all arrivals of the kept pairs, in the order of pairs and of actions
+-- these arrivals are the first of all arrivals of the kept pairs, in the order of pairs and of
+-- actions
 pub record AreFirstArrivals (p : PlainProblem) (n : ℕ) (kept : List KeptPair) (rs : List Arrived) : Type 0 where
   pub in_turn : AreInTurn rs
   pub right : (r : Arrived) → Among r rs → IsArrival p n kept r
@@ -61,7 +62,8 @@ arrivals_of (e ∷ es) = arrived_in e ++ arrivals_of es
 abbrev pub TellsRootOnce : List Event → Type 0
 TellsRootOnce events = length events ≡ suc (length (arrivals_of events))
 
--- as many steps as arrivals; the arrivals are the first ones and those of what was tried; where they are watched, the events are true and report just these after the root's
+-- as many steps as arrivals; the arrivals are the first ones and those of what was tried; where
+-- they are watched, the events are true and report just these after the root's
 pub record IsReported (p : PlainProblem) (n : ℕ) (watch : Bool) (from : ℕ) (kept : List KeptPair) (done : ℕ) (tried : List Action) (events : List Event) (steps : ℕ) : Type 0 where
   pub arrived : List Arrived
   pub first : AreFirstArrivals p n kept arrived
@@ -76,7 +78,8 @@ pub record IsReported (p : PlainProblem) (n : ℕ) (watch : Bool) (from : ℕ) (
 abbrev pub IsReportedSomewhere : PlainProblem → ℕ → Bool → ℕ → List KeptPair → List Event → ℕ → Type 0
 IsReportedSomewhere p n watch from kept events steps = (done : ℕ) × (tried : List Action) × IsReported p n watch from kept done tried events steps
 
--- as many steps as first arrivals of the kept pairs: all that an answer has, also where it is a fault
+-- as many steps as first arrivals of the kept pairs: all that an answer has, also where it is a
+-- fault
 pub record IsTicked (p : PlainProblem) (n from : ℕ) (kept : List KeptPair) (steps : ℕ) : Type 0 where
   pub arrived : List Arrived
   pub first : AreFirstArrivals p n kept arrived
@@ -121,7 +124,8 @@ HasReported p n watch from kept events steps o = IsReportedSomewhere p n watch f
 abbrev pub ReportsSearch : BreadthFirst → PlainProblem → ℕ → List KeptPair → List Event → ℕ → Outcome → Type 0
 ReportsSearch s p from kept events steps o = HasReported p s.within s.watch from kept events steps o
 
--- where the arrivals and events before the first pair's turn are reported, so are those of the whole search
+-- where the arrivals and events before the first pair's turn are reported, so are those of the
+-- whole search
 abbrev pub ReportsRest : BreadthFirst → PlainProblem → List KeptPair → List KeptPair → List Event → List Event → ℕ → ℕ → Outcome → Type 0
 ReportsRest s p old new es later steps more o = (from : ℕ) → IsReported p s.within s.watch from old 0 [] es steps → HasReported p s.within s.watch from new later more o
 

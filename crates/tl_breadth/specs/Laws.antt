@@ -37,11 +37,13 @@ pub record LastKept (p : PlainProblem) (n b : ℕ) (kept : List KeptPair) (last 
   pub spent : IsSpent p n b (pairs_of kept)
   pub spent_breadth_first : IsSpentBreadthFirst p b (pairs_of kept)
 
--- the last pair answers for the search: with a plan if it is accepted, and with Spent if there are too many
+-- the last pair answers for the search: with a plan if it is accepted, and with Spent if there are
+-- too many
 abbrev pub LastKeptAnswers : Type 0
 LastKeptAnswers = (p : PlainProblem) (n : ℕ) (kept : List KeptPair) (done : ℕ) (tried : List Action) → IsBreadthFirst p n kept done tried → (b : ℕ) (last : KeptPair) → slice_get kept b ≡ Some last → length kept ≡ b + 1 → NoneAccepted p kept b → LastKept p n b kept last
 
--- what holds where no kept pair is accepted: of the pair whose turn it is, of one at the bound, and where none is left
+-- what holds where no kept pair is accepted: of the pair whose turn it is, of one at the bound, and
+-- where none is left
 pub record NoneKept (p : PlainProblem) (n : ℕ) (kept : List KeptPair) (done : ℕ) : Type 0 where
   pub turn : (x : KeptPair) → slice_get kept done ≡ Some x → HasNoPlanBelow p (length x.path + 1)
   pub within : (x : KeptPair) → slice_get kept done ≡ Some x → n ≤ length x.path → HasNoPlanWithin p n × HasPairAt p n

@@ -21,14 +21,16 @@ use Rattle.tl_search.specs.declared.fault.SearchFault.TheVariants as fault
 abbrev pub PathsAreShortest : PlainProblem → List KeptPair → Type 0
 PathsAreShortest p kept = (i : ℕ) (x : KeptPair) → slice_get kept i ≡ Some x → IsDistance p x.node (length x.path)
 
--- a plan is the first of the shortest; no plan and none within n exactly say what is not there; Spent comes of b + 1 pairs, and the other answers of at most b
+-- a plan is the first of the shortest; no plan and none within n exactly say what is not there;
+-- Spent comes of b + 1 pairs, and the other answers of at most b
 abbrev pub IsBreadthFirstOutcome : PlainProblem → ℕ → ℕ → List KeptPair → Outcome → Type 0
 IsBreadthFirstOutcome p n b kept (outcome.Plan plan) = IsFirstShortestPlan p n plan × (length kept ≤ b) × PathsAreShortest p kept
 IsBreadthFirstOutcome p n b kept outcome.NoPlan = HasNoPlan p × HasNoPairFrom p n × (length kept ≤ b) × PathsAreShortest p kept
 IsBreadthFirstOutcome p n b kept outcome.NoneWithin = HasNoPlanWithin p n × HasPairAt p n × (length kept ≤ b) × PathsAreShortest p kept
 IsBreadthFirstOutcome p n b kept outcome.Spent = IsSpent p n b (pairs_of kept) × IsSpentBreadthFirst p b (pairs_of kept) × PathsAreShortest p kept
 
--- past range has its cause, and no accepted plan is shorter than the path; want of memory has no cause
+-- past range has its cause, and no accepted plan is shorter than the path; want of memory has no
+-- cause
 abbrev pub IsBreadthFirstFault : PlainProblem → ℕ → SearchFault → Type 0
 IsBreadthFirstFault p n (fault.Range path note) = IsRangeCause p n path (operation_of note) × HasNoPlanBelow p (length path)
 IsBreadthFirstFault p n fault.NoMemory = Unit {0}
@@ -52,7 +54,8 @@ pub record AwaitsJudgement (p : PlainProblem) (n b : ℕ) (kept : List KeptPair)
 abbrev pub AwaitsJudgementIn : BreadthFirst → PlainProblem → List KeptPair → ℕ → Type 0
 AwaitsJudgementIn s p kept k = AwaitsJudgement p s.within s.nodes kept k
 
--- the action is tried next at pair `at`: the k-th of the listed ones, of which those before it were tried
+-- the action is tried next at pair `at`: the k-th of the listed ones, of which those before it were
+-- tried
 pub record HasTurn (p : PlainProblem) (n b : ℕ) (kept : List KeptPair) (at : ℕ) (a : Action) : Type 0 where
   pub pair : KeptPair
   pub is_pair : slice_get kept at ≡ Some pair
@@ -67,7 +70,8 @@ pub record HasTurn (p : PlainProblem) (n b : ℕ) (kept : List KeptPair) (at : �
 abbrev pub HasTurnIn : BreadthFirst → PlainProblem → List KeptPair → ℕ → Action → Type 0
 HasTurnIn s p kept at a = HasTurn p s.within s.nodes kept at a
 
--- the search went on by trying the action, the k-th of any listed ones, and kept at most one more pair
+-- the search went on by trying the action, the k-th of any listed ones, and kept at most one more
+-- pair
 abbrev pub IsTriedThen : PlainProblem → ℕ → ℕ → List KeptPair → List KeptPair → ℕ → Action → Type 0
 IsTriedThen p n b old new at a = (pair : KeptPair) (listed : List Action) (k : ℕ) → slice_get old at ≡ Some pair → ListsActions p pair.node.world listed → slice_get listed k ≡ Some a → IsSearching p n b old at (take k listed) → IsSearching p n b new at (take (k + 1) listed)
 
@@ -88,7 +92,8 @@ pub record IsReady (p : PlainProblem) (n b : ℕ) (kept : List KeptPair) (at : �
 abbrev pub IsReadyIn : BreadthFirst → PlainProblem → List KeptPair → ℕ → Type 0
 IsReadyIn s p kept at = IsReady p s.within s.nodes kept at
 
--- the pairs from `done` on are of two levels: those below `end` have paths of `depth` actions, the others of one more
+-- the pairs from `done` on are of two levels: those below `end` have paths of `depth` actions, the
+-- others of one more
 abbrev pub HasLevels : List KeptPair → ℕ → ℕ → ℕ → Type 0
 HasLevels kept done end depth = (i : ℕ) (x : KeptPair) → slice_get kept i ≡ Some x → done ≤ i → (i < end → length x.path ≡ depth) × (end ≤ i → length x.path ≡ depth + 1)
 

@@ -15,7 +15,8 @@ use Rattle.tl_breadth.specs.Events.{AreFirstArrivals, AreAllArrivals, arrivals_o
 abbrev pub KeepsLast : PlainProblem → List KeptPair → List Action → Type 0
 KeepsLast p kept plan = (k : ℕ) × (x : KeptPair) × (length kept ≡ k + 1) × (slice_get kept k ≡ Some x) × (pair_of p plan ≡ Some x.node)
 
--- where the events end: where no arrival is left, with the pair of the plan, or with the one that is too many
+-- where the events end: where no arrival is left, with the pair of the plan, or with the one that
+-- is too many
 abbrev pub StopsAt : PlainProblem → ℕ → ℕ → List KeptPair → List Event → Outcome → Type 0
 StopsAt p n b kept events (outcome.Plan plan) = EndsByKeeping kept events × KeepsLast p kept plan
 StopsAt p n b kept events outcome.NoPlan = AreAllArrivals p n kept (arrivals_of events)

@@ -114,7 +114,8 @@ impl BreadthFirst {
         }
     }
 
-    /// The last pair that was kept ends the search where there are too many or where it is accepted.
+    /// The last pair that was kept ends the search where there are too many or where it is
+    /// accepted.
     pub fn judged<S: Pairs>(&self, space: &mut S, k: usize) -> Result<Option<Outcome>, SearchFault>
         requires { AwaitsJudgementIn self.now (S.problem space.old) (S.kept space.old) k }
         ensures task { S.task space.new ≡ S.task space.old }

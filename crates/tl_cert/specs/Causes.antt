@@ -43,7 +43,8 @@ pub record IsAsked (p : PlainProblem) (bound : Option ℕ) (links : List Link) (
   pub node : slice_get listed number ≡ Some x
   pub asked : MustBeClosed bound x.path
 
--- the proof visits the path of the node followed by the action: a link says so, or the node has to be closed
+-- the proof visits the path of the node followed by the action: a link says so, or the node has to
+-- be closed
 abbrev pub IsVisited : PlainProblem → Option ℕ → List Link → KeptPair → Action → Type 0
 IsVisited p bound links x a = HasLink p bound links x a ⊎ IsAsked p bound links x
 
@@ -77,7 +78,8 @@ pub record LooksByActing (p : PlainProblem) (bound : Option ℕ) (links : List L
   pub action : Action
   pub looked : Among o (looked_by_action p node.node.world action)
 
--- the path executes, and in its last world the operation is past range and is looked at by the check of the proof
+-- the path executes, and in its last world the operation is past range and is looked at by the
+-- check of the proof
 pub record IsNoneCause (p : PlainProblem) (bound : Option ℕ) (links : List Link) (path : List Action) (o : Operation) : Type 0 where
   pub executes : IsSome (states p path)
   pub past : IsPastRange o

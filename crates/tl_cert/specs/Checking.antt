@@ -25,7 +25,8 @@ use Rattle.tl_cert.specs.declared.verdict.NoneVerdict.TheVariants.{Proved, BadLi
 
 -- ---- faults
 
--- the fault is that of an operation that this note tells of, at the end of this path; or want of memory
+-- the fault is that of an operation that this note tells of, at the end of this path; or want of
+-- memory
 abbrev pub IsFaultAfter : List Action → RangeNote → SearchFault → Type 0
 IsFaultAfter path note (fault.Range other o) = (other ≡ path) × (o ≡ note)
 IsFaultAfter path note fault.NoMemory = Unit {0}
@@ -79,7 +80,8 @@ IsTurnCause p x fault.NoMemory = Unit {0}
 abbrev pub IsTurnFault : PlainProblem → List KeptPair → ℕ → SearchFault → Type 0
 IsTurnFault p kept at f = ForPair kept at (λ x. IsTurnCause p x f)
 
--- where the node is judged, its acceptance or, where it has to be closed, one of its actions is the cause
+-- where the node is judged, its acceptance or, where it has to be closed, one of its actions is the
+-- cause
 abbrev pub IsJudgingCause : PlainProblem → Option ℕ → KeptPair → SearchFault → Type 0
 IsJudgingCause p bound x f = IsIdlingCause p x f ⊎ (MustBeClosed bound x.path × IsTurnCause p x f)
 

@@ -28,12 +28,14 @@ abbrev pub MustBeClosed : Option ℕ → List Action → Type 0
 MustBeClosed None path = Unit {0}
 MustBeClosed (Some n) path = length path < n
 
--- the node is not accepted, and where it has to be closed, it is: every successor is pruned or listed
+-- the node is not accepted, and where it has to be closed, it is: every successor is pruned or
+-- listed
 pub record IsRightNode (p : PlainProblem) (bound : Option ℕ) (listed : List KeptPair) (x : KeptPair) : Type 0 where
   pub unaccepted : IsPairAccepted p x.node → ⊥
   pub closed : MustBeClosed bound x.path → (a : Action) → StaysInside p bound listed x a
 
--- the proof covers the search space: its links are good, and each listed node is right; where the residual of the empty path is FALSE nothing is listed, and there is no link
+-- the proof covers the search space: its links are good, and each listed node is right; where the
+-- residual of the empty path is FALSE nothing is listed, and there is no link
 pub record Covers (p : PlainProblem) (proof : Proof) : Type 0 where
   pub listed : List KeptPair
   pub lists : Lists p proof.bound proof.links listed

@@ -6,7 +6,8 @@ use Rattle.tl_cert.specs.Verdicts.{IsNoneVerdict}
 use Rattle.tl_cert.specs.declared.proof.Proof.{Proof}
 use Rattle.tl_cert.specs.declared.verdict.NoneVerdict.{NoneVerdict}
 
--- where a proof covers the search space, no plan is accepted, or with a bound none of at most so many actions
+-- where a proof covers the search space, no plan is accepted, or with a bound none of at most so
+-- many actions
 abbrev pub CoveredHasNone : Type 0
 CoveredHasNone = (p : PlainProblem) (proof : Proof) → Covers p proof → HasNone p proof.bound
 

@@ -17,7 +17,8 @@ use Rattle.tl_cert.specs.declared.proof.Proof.{Proof}
 abbrev pub AreWritable : List (List ℕ) → List Operator → List Link → Type 0
 AreWritable names operators links = Each (λ link. IsWritable names operators link.action) links
 
--- with so many links before them, each starts from a node of a link before it, or from that of the empty path
+-- with so many links before them, each starts from a node of a link before it, or from that of the
+-- empty path
 abbrev pub StartBefore : ℕ → List Link → Type 0
 StartBefore before [] = Unit {0}
 StartBefore before (link ∷ links) = (link.from ≤ before) × StartBefore (before + 1) links
@@ -34,7 +35,8 @@ pub record AreReadAs (names : List (List ℕ)) (operators : List Operator) (byte
   pub unbroken : proof_breaks names operators forms ≡ []
   pub meant : proof_meant names operators forms ≡ proof
 
--- where operators have different names, the lines of a proof with at most 100000 links that can be written are a proof file of it
+-- where operators have different names, the lines of a proof with at most 100000 links that can be
+-- written are a proof file of it
 abbrev pub ProofsAreReadBack : Type 0
 ProofsAreReadBack =
     (names : List (List ℕ)) (operators : List Operator) (proof : Proof) →

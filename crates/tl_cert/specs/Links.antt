@@ -13,7 +13,9 @@ abbrev pub IsWithinBound : Option ℕ → List Action → Type 0
 IsWithinBound None path = Unit {0}
 IsWithinBound (Some n) path = length path ≤ n
 
--- after these listed nodes the link is good, and lists this one: its action has a step at the listed node that it starts from, and leads to a new pair, whose formula is not FALSE, within the bound
+-- after these listed nodes the link is good, and lists this one: its action has a step at the
+-- listed node that it starts from, and leads to a new pair, whose formula is not FALSE, within the
+-- bound
 pub record IsGood (p : PlainProblem) (bound : Option ℕ) (listed : List KeptPair) (link : Link) (next : KeptPair) : Type 0 where
   pub from : KeptPair
   pub is_from : slice_get listed link.from ≡ Some from
@@ -27,7 +29,8 @@ pub record IsGood (p : PlainProblem) (bound : Option ℕ) (listed : List KeptPai
 abbrev pub ListsRoot : PlainProblem → List KeptPair → Type 0
 ListsRoot p listed = (x : Pair) × (pair_of p [] ≡ Some x) × (((x.formula ≡ falsum) × (listed ≡ [])) ⊎ ((x.formula ≢ falsum) × (listed ≡ record { node = x; path = [] } ∷ [])))
 
--- after the first nodes the links are good, one after another, and in the end these nodes are listed
+-- after the first nodes the links are good, one after another, and in the end these nodes are
+-- listed
 abbrev pub AreGood : PlainProblem → Option ℕ → List KeptPair → List Link → List KeptPair → Type 0
 AreGood p bound old [] new = new ≡ old
 AreGood p bound old (link ∷ links) new = (next : KeptPair) × IsGood p bound old link next × AreGood p bound (old ++ next ∷ []) links new

@@ -1,4 +1,5 @@
--- The proofs that forms stand for. Where a form breaks a rule, what is said of it here does not matter.
+-- The proofs that forms stand for. Where a form breaks a rule, what is said of it here does not
+-- matter.
 use Rattle.std.specs.Prelude.{ℕ, ℤ, List, [], ◌∷◌, Option, Some, None}
 use Rattle.tl_sexpr.specs.Tree.{FormTree, FormTrees, no_form, more_forms}
 use Rattle.tl_syntax.specs.declared.operator.Operator.{Operator}

@@ -1,8 +1,9 @@
 -- Proof files: the rules that their forms break.
 --
--- A proof file is a head `(none)` or `(none-within N)`, and then links `(pair J ACTION)`. N is an integer from 0 to
--- 100000, and J is the number of a pair: 0, or that of a link before. A link asks for an action of the shape of a
--- call, so that the rules on actions that it can break are those after the shape.
+-- A proof file is a head `(none)` or `(none-within N)`, and then links `(pair J ACTION)`. N is an
+-- integer from 0 to 100000, and J is the number of a pair: 0, or that of a link before. A link asks
+-- for an action of the shape of a call, so that the rules on actions that it can break are those
+-- after the shape.
 use Rattle.std.specs.Prelude.{ℕ, ℤ, ◌+◌, List, [], ◌∷◌, ◌++◌, ◌&&◌, not, if◌then◌else◌, codes, Option, Some, None}
 use Rattle.tl_sexpr.specs.Tree.{FormTree, FormTrees, integer, list, no_form, more_forms}
 use Rattle.tl_syntax.specs.declared.operator.Operator.{Operator}
@@ -19,7 +20,8 @@ abbrev pub bounded_head : FormTree → FormTree → Option (Option (ℤ × ℕ))
 bounded_head word (integer n at) = if is_word (codes "none-within") word then Some (Some (n, at)) else None
 bounded_head word _ = None
 
--- the bound of the head with these elements, with its offset, where it has one; other elements are no head
+-- the bound of the head with these elements, with its offset, where it has one; other elements are
+-- no head
 abbrev pub head_in : FormTrees → Option (Option (ℤ × ℕ))
 head_in (more_forms word no_form) = if is_word (codes "none") word then Some None else None
 head_in (more_forms word (more_forms bound no_form)) = bounded_head word bound
@@ -46,7 +48,8 @@ proof_head_breaks f = proof_head_breaks_at (offset_of f) (head_parts f)
 
 -- ---- links
 
--- the number of the pair in the link with these three elements, with its offset, and the form of its action; other elements are no link
+-- the number of the pair in the link with these three elements, with its offset, and the form of
+-- its action; other elements are no link
 abbrev pub link_of_three : FormTree → FormTree → FormTree → Option (ℤ × ℕ × FormTree)
 link_of_three word (integer j at) action = if is_word (codes "pair") word && is_call action then Some (j, at, action) else None
 link_of_three word _ action = None
@@ -61,7 +64,8 @@ abbrev pub link_parts : FormTree → Option (ℤ × ℕ × FormTree)
 link_parts (list fs at) = link_in fs
 link_parts _ = None
 
--- what the form at this offset breaks in the role of a link, with so many links before it, by its parts; a proof has at most as many links as a plan has actions
+-- what the form at this offset breaks in the role of a link, with so many links before it, by its
+-- parts; a proof has at most as many links as a plan has actions
 abbrev pub link_breaks_at : List (List ℕ) → List Operator → ℕ → ℕ → Option (ℤ × ℕ × FormTree) → List Break
 link_breaks_at names operators before at None = (Shape, at) ∷ limit_breaks before at
 link_breaks_at names operators before at (Some parts) = limit_breaks before at ++ (breaks_if (not (is_within 0 before parts.0)) NoPair parts.1 ++ action_breaks names operators parts.2)

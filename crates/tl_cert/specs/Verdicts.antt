@@ -56,7 +56,8 @@ pub record IsFirstAccepted (p : PlainProblem) (bound : Option ℕ) (links : List
   pub comes : ComesTo p bound listed k node
   pub accepted : IsPairAccepted p node.node
 
--- all links are good, and the node of number k is the first that is not right: it is open by the action
+-- all links are good, and the node of number k is the first that is not right: it is open by the
+-- action
 pub record IsFirstOpen (p : PlainProblem) (bound : Option ℕ) (links : List Link) (k : ℕ) (a : Action) : Type 0 where
   pub listed : List KeptPair
   pub lists : Lists p bound links listed

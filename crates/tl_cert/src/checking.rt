@@ -9,7 +9,8 @@ use std::alloc::{AllocError, Global};
 use tl_search::{Arrival, Pairs, SearchFault, SpaceFault};
 use tl_terms::{Actions, Numbers32};
 
-/// What is known while a proof is checked, beside the nodes that the space keeps. Until all links are listed these are the listed ones, under the same numbers.
+/// What is known while a proof is checked, beside the nodes that the space keeps. Until all links
+/// are listed these are the listed ones, under the same numbers.
 #[derive(Drop)]
 pub(crate) struct Checking {
     /// Where paths are stored.

@@ -13,7 +13,8 @@ use tl_search::{Arrival, Pairs, SearchFault, SpaceFault};
 use tl_terms::{Action, Steps};
 
 impl Checking {
-    /// Whether the second node is no farther than one action after the first, where there is a bound.
+    /// Whether the second node is no farther than one action after the first, where there is a
+    /// bound.
     fn is_no_farther(&self, at: usize, other: usize) -> bool
         requires at { at < length self.now.depths }
         requires other { other < length self.now.depths }
@@ -27,7 +28,8 @@ impl Checking {
         }
     }
 
-    /// Whether an action of a node leads to the residual FALSE or to a listed node. Where it does not, one node more may be kept.
+    /// Whether an action of a node leads to the residual FALSE or to a listed node. Where it does
+    /// not, one node more may be kept.
     fn stays_inside<S: Pairs, L: Ledger>(
         &self,
         space: &mut S,

@@ -10,7 +10,8 @@ use std::alloc::Global;
 use tl_search::{Pairs, SearchFault, SpaceFault};
 use tl_terms::{Action, Actions};
 
-/// The executable actions of a node, which stay known while links that start from it come one after another.
+/// The executable actions of a node, which stay known while links that start from it come one after
+/// another.
 #[derive(Drop)]
 pub(crate) struct NodeActions {
     /// The number of the node.

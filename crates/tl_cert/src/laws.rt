@@ -2,7 +2,8 @@
 ghost use Rattle.tl_cert.specs.Laws.{CoveredHasNone, OneNoneVerdict};
 ghost use Rattle.tl_cert.specs.LawsReadBack.{ProofsAreReadBack};
 
-/// Where a proof covers the search space, no plan is accepted; with a bound, none of at most so many actions.
+/// Where a proof covers the search space, no plan is accepted; with a bound, none of at most so
+/// many actions.
 pub fn covered_has_none()
     ensures { CoveredHasNone }
 {}

@@ -74,7 +74,8 @@ impl Checking {
         }
     }
 
-    /// Lists the nodes of the links, up to the first that is not good, whose number is counted from 1.
+    /// Lists the nodes of the links, up to the first that is not good, whose number is counted from
+    /// 1.
     pub(crate) fn list_all<S: Pairs, L: Ledger>(
         &mut self,
         space: &mut S,

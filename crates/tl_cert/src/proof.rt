@@ -4,7 +4,8 @@ use tl_terms::{Action, Items};
 /// A search node that a proof lists: the one after an action of a node that is listed before it.
 #[derive(Drop)]
 pub struct Link {
-    /// The number of the node that the action starts from: 0 for the node of the empty path, and k for that of the k-th link.
+    /// The number of the node that the action starts from: 0 for the node of the empty path, and k
+    /// for that of the k-th link.
     pub from: u32,
     /// The action.
     pub action: Action,
@@ -13,7 +14,8 @@ pub struct Link {
 /// The links of a proof in their order: the k-th lists the node of number k.
 pub type Links = Items<Link>;
 
-/// A proof that no plan is accepted: an inductive set of search nodes (Eriksson, Röger and Helmert 2017), in the sense that every successor of a listed node is listed or pruned.
+/// A proof that no plan is accepted: an inductive set of search nodes (Eriksson, Röger and Helmert
+/// 2017), in the sense that every successor of a listed node is listed or pruned.
 /// It speaks of plans of any length, or of those of at most so many actions as its bound says.
 #[derive(Drop)]
 pub struct Proof {

@@ -34,7 +34,8 @@ fn number_within(number: i64, most: u32, broken: Rule, at: u32) -> Result<u32, F
     Ok(number as u32)
 }
 
-/// The bound of the head with one element more than its word, with its offset, where these two are a head.
+/// The bound of the head with one element more than its word, with its offset, where these two are
+/// a head.
 #[tactic(auto, using(crate::proofs::Rulesets::form_trees))]
 fn bounded_head(word: &Form, bound: &Form) -> Option<Option<(i64, u32)>>
     ensures { result ≡ bounded_head (tree_of word.now) (tree_of bound.now) }
@@ -52,7 +53,8 @@ fn bounded_head(word: &Form, bound: &Form) -> Option<Option<(i64, u32)>>
     }
 }
 
-/// The bound of the head with these elements, with its offset, where it has one; other elements are no head.
+/// The bound of the head with these elements, with its offset, where it has one; other elements are
+/// no head.
 #[tactic(auto, using(crate::proofs::ProofForms::head_elements))]
 fn head_in(forms: &[Form]) -> Option<Option<(i64, u32)>>
     ensures { result ≡ head_in (trees_in forms.now) }
@@ -94,7 +96,8 @@ fn head(form: &Form) -> Result<Option<u32>, FormFault>
     }
 }
 
-/// The number of the pair of a link with these three elements, with its offset, and the form of its action; other elements are no link.
+/// The number of the pair of a link with these three elements, with its offset, and the form of its
+/// action; other elements are no link.
 #[tactic(auto, using(crate::proofs::Rulesets::form_trees))]
 fn three_parts<'a>(word: &Form, from: &Form, action: &'a Form) -> Option<(i64, u32, &'a Form)>
     ensures { option_map (λ parts. (parts.0, parts.1, tree_of parts.2.now)) result
@@ -194,8 +197,12 @@ fn proof(alloc: Global, forms: &[Form], problem: &Problem) -> Result<Proof, Form
 
 /// The proof that the forms of a proof file stand for, or the first rule that one of them breaks.
 ///
-/// The first form is `(none)` or `(none-within N)` with N from 0 to 100,000, and each other form is a link `(pair J ACTION)`, of which there are at most 100,000. J is at least 0 and at most the number of links before it. The fault is the one with the least offset, and there the least rule; a file without any form breaks `Rule::Shape` at 0.
-/// The action of each link is of an operator of the problem, has as many arguments as that has parameters, and names only names of the problem.
+/// The first form is `(none)` or `(none-within N)` with N from 0 to 100,000, and each other form is
+/// a link `(pair J ACTION)`, of which there are at most 100,000. J is at least 0 and at most the
+/// number of links before it. The fault is the one with the least offset, and there the least rule;
+/// a file without any form breaks `Rule::Shape` at 0.
+/// The action of each link is of an operator of the problem, has as many arguments as that has
+/// parameters, and names only names of the problem.
 #[tactic(auto, using(crate::proofs::Rulesets::form_trees, crate::proofs::ProofOrder::least_fault))]
 pub fn proof_of(alloc: Global, forms: &Forms, problem: &Problem) -> Result<Proof, FormFault>
     ensures read { Reads (λ (x : Proof). x) result

@@ -46,7 +46,8 @@ fn put_link(alloc: Global, problem: &Problem, link: &Link, out: &mut Bytes) -> R
     Ok(())
 }
 
-/// The lines of a proof, as a proof file writes them: the head, and a line for each link. It fails for want of memory alone.
+/// The lines of a proof, as a proof file writes them: the head, and a line for each link. It fails
+/// for want of memory alone.
 /// The actions of the links have to be those of the problem, with its names.
 pub fn proof_text(alloc: Global, problem: &Problem, proof: &Proof) -> Result<Bytes, NoMemory>
     requires { LinksAreNamed problem.now.names problem.now.domain.operators proof.now.links }
@@ -114,7 +115,9 @@ fn open_line(alloc: Global, problem: &Problem, number: u32, a: &Action) -> Resul
     Ok(line)
 }
 
-/// The line of the verdict on a proof: whether there is no plan, or else the number of the link that is not good, counted from 1, or that of the node that is accepted or open. It fails for want of memory alone.
+/// The line of the verdict on a proof: whether there is no plan, or else the number of the link
+/// that is not good, counted from 1, or that of the node that is accepted or open. It fails for
+/// want of memory alone.
 /// The action of the verdict has to be one of the problem, with its names.
 pub fn none_text(
     alloc: Global,

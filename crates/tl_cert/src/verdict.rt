@@ -10,6 +10,7 @@ pub enum NoneVerdict {
     BadLink(u32),
     /// All links are good, and the node of this number is accepted.
     Accepts(u32),
-    /// All links are good, and the action leads from the node of this number to one that is neither pruned nor listed.
+    /// All links are good, and the action leads from the node of this number to one that is neither
+    /// pruned nor listed.
     Open(u32, Action),
 }

@@ -1,4 +1,5 @@
--- The truth of a formula in the first of some worlds that the others follow, and after the last of them those that come again and again.
+-- The truth of a formula in the first of some worlds that the others follow, and after the last of
+-- them those that come again and again.
 use Rattle.std.specs.Prelude.{List, [], ◌∷◌, ◌++◌, Bool, true, false, map, not, ◌&&◌, ◌||◌}
 use Rattle.std.specs.List.{list_any, list_all}
 use Rattle.tl_check.specs.Passes.{first_or, next_labels, always_labels, eventually_labels, until_labels, within_labels}
@@ -11,7 +12,8 @@ use Rattle.tl_terms.specs.Situation.{Situation}
 use Rattle.tl_terms.specs.Truth.{state_true}
 use Rattle.tl_terms.specs.World.{World}
 
--- the problem of which worlds are states, and the worlds that come after the last of them, again and again
+-- the problem of which worlds are states, and the worlds that come after the last of them, again
+-- and again
 pub record Course : Type 0 where
   pub problem : PlainProblem
   pub again : List World
@@ -25,7 +27,8 @@ abbrev pub marks : Ahead → List World → List Bool
 marks t [] = []
 marks t (w ∷ ws) = t (w ∷ ws) ∷ marks t ws
 
--- the test at each of the worlds, and then at each of those that come again: no position that comes later has another label
+-- the test at each of the worlds, and then at each of those that come again: no position that comes
+-- later has another label
 abbrev pub marks_on : Course → Ahead → List World → List Bool
 marks_on c t ws = marks t ws ++ marks t c.again
 
@@ -38,7 +41,8 @@ abbrev pub in_first : PlainProblem → (Situation → Bool) → Ahead
 in_first p t [] = false
 in_first p t (w ∷ ws) = t (situation_of p w)
 
--- the formula in the first world; of a temporal word it is the first of the labels that the word makes of those of its part, or parts
+-- the formula in the first world; of a temporal word it is the first of the labels that the word
+-- makes of those of its part, or parts
 unfoldable mutual
   pub true_ahead : Course → Assignment → FormulaTree → Ahead
   true_ahead c e verum ws = true

@@ -42,11 +42,13 @@ FitsAlong along f = Fits (signature_of along.task.now.problem.domain) [] f
 abbrev pub BoundFitsAlong : Along → Bound → Type 0
 BoundFitsAlong along b = BoundFits (signature_of along.task.now.problem.domain) b
 
--- the labels of the formula at the span's positions in these worlds, or a note of an operation that it looks at
+-- the labels of the formula at the span's positions in these worlds, or a note of an operation that
+-- it looks at
 abbrev pub AreLabelsIn : Along → List World → Span → List (Option Value) → FormulaTree → Result (List Bool) CheckFault → Type 0
 AreLabelsIn along ws span frame f r = AreLabels (course_along along) ws span (assignment_in frame) f r
 
--- the labels of the formula at the span's positions, or a note of an operation that it looks at, or the states are not all kept
+-- the labels of the formula at the span's positions, or a note of an operation that it looks at, or
+-- the states are not all kept
 abbrev pub AreLabelsAlong : Along → Span → List (Option Value) → FormulaTree → Result (List Bool) Unlabelled → Type 0
 AreLabelsAlong along span frame f r = UnlessFew along (AreLabels (course_along along) (states_along along) span (assignment_in frame) f) r
 
@@ -78,11 +80,13 @@ AreQuantifiedLabels along span frame b f r = AreLabelsAlong along span frame (qu
 abbrev pub AreGuidedLabels : Along → Span → List (Option Value) → GuidedBinder → Formula → Result (List Bool) Unlabelled → Type 0
 AreGuidedLabels along span frame g f r = AreLabelsAlong along span frame (guided_tree g f) r
 
--- the instance under the frame's values is joined with the labels, or an operation that it looks at is noted, or the states are not all kept
+-- the instance under the frame's values is joined with the labels, or an operation that it looks at
+-- is noted, or the states are not all kept
 abbrev pub JoinsAlong : Along → Span → List (Option Value) → Instance → List Bool → List Bool → Result (Unit {0}) Unlabelled → Type 0
 JoinsAlong along span frame i old new r = UnlessFew along (JoinsInstance (course_along along) (states_along along) span (assignment_in frame) (quantifier_of i) old new) r
 
--- the labels of the part are joined with these, or an operation that it looks at is noted, or the states are not all kept
+-- the labels of the part are joined with these, or an operation that it looks at is noted, or the
+-- states are not all kept
 abbrev pub JoinsPartAlong : Along → Span → List (Option Value) → Part → List Bool → List Bool → Result (Unit {0}) Unlabelled → Type 0
 JoinsPartAlong along span frame part old new r = UnlessFew along (JoinsPart (course_along along) (states_along along) span (assignment_in frame) part.junction (tree_of_formula part.formula.now) old new) r
 

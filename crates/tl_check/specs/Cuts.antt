@@ -14,7 +14,8 @@ abbrev pub rights : List Cut → List Bool
 rights [] = []
 rights (c ∷ cs) = replicate c.count c.right ++ rights cs
 
--- the cut has the label of the first run that is left of the first list, and ends with it at the latest
+-- the cut has the label of the first run that is left of the first list, and ends with it at the
+-- latest
 abbrev pub CutsLeft : Rest → Cut → Type 0
 CutsLeft rest cut = (cut.left ≡ first_truth rest) × (cut.count ≤ first_count rest)
 

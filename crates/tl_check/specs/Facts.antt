@@ -15,7 +15,8 @@ use Rattle.tl_terms.specs.Definitions.{situation_of}
 use Rattle.tl_terms.specs.Problem.{PlainProblem}
 use Rattle.tl_terms.specs.World.{World, has_fact}
 
--- the states are as many as is said and at most as many as a plan has, one of them comes after the last one, they are those that are kept where as many are, and the histories are theirs
+-- the states are as many as is said and at most as many as a plan has, one of them comes after the
+-- last one, they are those that are kept where as many are, and the histories are theirs
 pub record IsAlong (along : Along) : Type 0 where
   pub few : length (states_along along) ≤ 2 ^ 32
   pub count : along.count ≡ length (states_along along)

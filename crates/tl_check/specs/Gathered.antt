@@ -31,7 +31,8 @@ pub record GoesOn (at : ℕ) (cs : List Change) : Type 0 where
   pub place : last.at ≡ at
   pub holds : before.truth ≡ true
 
--- by the second changes the fact holds from the position on, and before it where it holds by the first
+-- by the second changes the fact holds from the position on, and before it where it holds by the
+-- first
 pub record HoldsFrom (at : ℕ) (old new : List Change) : Type 0 where
   pub earlier : (k : ℕ) → k < at → truth_from false new k ≡ truth_from false old k
   pub there : (k : ℕ) → at ≤ k → truth_from false new k ≡ true
@@ -41,7 +42,8 @@ pub record HoldsFrom (at : ℕ) (old new : List Change) : Type 0 where
 abbrev pub BeginsAt : ℕ → List Change → List Change → Type 0
 BeginsAt at old new = AreBefore (at + 1) old → HoldsFrom at old new
 
--- by the second changes the fact holds in the span and not after it, and before it where it holds by the first
+-- by the second changes the fact holds in the span and not after it, and before it where it holds
+-- by the first
 pub record HoldsThere (span : Span) (old new : List Change) : Type 0 where
   pub earlier : (k : ℕ) → k < span.from → truth_from false new k ≡ truth_from false old k
   pub there : (k : ℕ) → span.from ≤ k → k < span.to → truth_from false new k ≡ true
@@ -60,7 +62,8 @@ FactHoldsIn span fact old new = HoldsIn span (line_in old fact) (line_in new fac
 abbrev pub IsNoted : List (List Value) → Span → List Value → List Change → List Change → Type 0
 IsNoted all here a old new = ((Among a all → ⊥) × (new ≡ old)) ⊎ (Among a all × HoldsIn here old new)
 
--- the tuples of the bound in the first of these states are told to hold in all of them, and no others
+-- the tuples of the bound in the first of these states are told to hold in all of them, and no
+-- others
 abbrev pub NoteTuples : Along → List (Option Value) → Alike → Tracks → Tracks → Type 0
 NoteTuples along frame alike old new = (a : List Value)
     → IsNoted (tuples (situation_of (plain_problem along.task.now.problem) alike.first.now) (assignment_in frame) alike.binder.vars.now alike.binder.bound.now) alike.span a (line_in old.lines (fact_with 0 a)) (line_in new.lines (fact_with 0 a))
@@ -77,7 +80,8 @@ HaveCounts b fs = Each (IsTuple (length b.vars.now)) fs
 abbrev pub KeepCounts : Binder → Tracks → Tracks → Type 0
 KeepCounts b old new = HaveCounts b old.seen.items → HaveCounts b new.seen.items
 
--- at each position of the span the tuples that are told to hold are those of the bound, and each that holds at some position was seen
+-- at each position of the span the tuples that are told to hold are those of the bound, and each
+-- that holds at some position was seen
 pub record TellTuples (p : PlainProblem) (ws : List World) (e : Assignment) (ss : List Var) (b : Bound) (span : Span) (t : Tracks) : Type 0 where
   pub tell : (a : List Value) (k : ℕ) (w : World) → span.from ≤ k → k < span.to → slice_get ws k ≡ Some w → (truth_from false (line_in t.lines (fact_with 0 a)) k ≡ true) ↔ Among a (tuples (situation_of p w) e ss b)
   pub covered : HaveSeenAll t

@@ -21,7 +21,8 @@ pub record AreTracksUpTo (n q : ℕ) (ws : List World) (t : Tracks) : Type 0 whe
 abbrev pub AreTracks : ℕ → List World → Tracks → Type 0
 AreTracks q ws t = AreTracksUpTo (length ws) q ws t
 
--- the changes tell which facts of the predicate hold in each world, and each of these facts holds in the world `ever`
+-- the changes tell which facts of the predicate hold in each world, and each of these facts holds
+-- in the world `ever`
 pub record IsFactHistory (ws : List World) (h : History) : Type 0 where
   pub tell : TellUpTo (length ws) h.pred ws h.lines
   pub ever : (a : List Value) (w : World) → Among w ws → has_fact w (h.pred, a) ≡ true → has_fact h.ever (h.pred, a) ≡ true

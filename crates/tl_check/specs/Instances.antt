@@ -17,7 +17,8 @@ use Rattle.tl_terms.specs.World.{World}
 abbrev pub instance_ahead : Course → Quantifier → Assignment → Ahead
 instance_ahead c q e ws = cond (bound_ahead c.problem e q.bound ws) (true_ahead c e q.part ws) (not (deciding_truth q.junction))
 
--- the labels are joined with those of the instance under these values, or an operation of it is noted, which is looked at where the bound was true before
+-- the labels are joined with those of the instance under these values, or an operation of it is
+-- noted, which is looked at where the bound was true before
 abbrev pub JoinsInstance : Course → List World → Span → Assignment → Quantifier → List Bool → List Bool → Result (Unit {0}) CheckFault → Type 0
 JoinsInstance c ws span e q old new (Ok u) = (length new ≡ length old) × ((k : ℕ) → k < length old → slice_index_or new k false ≡ joins q.junction (slice_index_or old k false) (instance_ahead c q e (drop (span.from + k) ws)))
 JoinsInstance c ws span e q old new (Err (fault.Range k note)) = (j : ℕ) × (span.from ≤ j) × ComesAt c ws j k × (bound_ahead c.problem e q.bound (drop j ws) ≡ true) × Tells (looked_at c ws k e q.part) note

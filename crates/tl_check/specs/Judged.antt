@@ -23,7 +23,8 @@ use Rattle.tl_terms.specs.ProblemMeaning.{plain_problem}
 use Rattle.tl_terms.specs.Run.{Satisfies}
 use Rattle.tl_terms.specs.World.{World}
 
--- whether the control formula is true ahead of the worlds, or a note of an operation that it looks at along them
+-- whether the control formula is true ahead of the worlds, or a note of an operation that it looks
+-- at along them
 abbrev pub Obeys : Course → List World → Result Bool CheckFault → Type 0
 Obeys c ws (Ok b) = b ≡ true_ahead c no_values c.problem.control ws
 Obeys c ws (Err (fault.Range k note)) = Tells (looked_at c ws k no_values c.problem.control) note
@@ -37,7 +38,9 @@ ObeysAlong along r = UnlessFew along (Obeys (course_along along) (states_along a
 abbrev pub front_states : PlainProblem → List Action → List World
 front_states p plan = take (length (states_of p plan) - 1) (states_of p plan)
 
--- whether the control formula holds at the first position of the run of worlds of which those from one on come again, or a note of an operation that it looks at in one of them, each tuple making its bound true in any of them
+-- whether the control formula holds at the first position of the run of worlds of which those from
+-- one on come again, or a note of an operation that it looks at in one of them, each tuple making
+-- its bound true in any of them
 abbrev pub ObeysOn : PlainProblem → ℕ → List World → Result Bool CheckFault → Type 0
 ObeysOn p n ws (Ok b) = Satisfies p (lasso_run p n ws) 0 p.control ↔ (b ≡ true)
 ObeysOn p n ws (Err (fault.Range k note)) = Tells (looked_after p ws (slice_get ws k) p.control) note

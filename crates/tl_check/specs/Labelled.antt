@@ -21,7 +21,8 @@ abbrev pub looked_there : PlainProblem → List World → Option World → Assig
 looked_there p ws None e f = []
 looked_there p ws (Some w) e f = looked_in_basics true (looks_of p w) (map (situation_of p) ws) (situation_of p w) e f
 
--- position k comes at position i or after it: it is no earlier, or it is one of those that come again
+-- position k comes at position i or after it: it is no earlier, or it is one of those that come
+-- again
 abbrev pub ComesAt : Course → List World → ℕ → ℕ → Type 0
 ComesAt c ws i k = (i ≤ k) ⊎ (length ws ≤ k + length c.again)
 
@@ -33,13 +34,15 @@ worlds_up_to c ws k = cond (nat_le (length ws) (k + length c.again)) ws (take (s
 abbrev pub looked_at : Course → List World → ℕ → Assignment → FormulaTree → List Operation
 looked_at c ws k e f = looked_there c.problem (worlds_up_to c ws k) (slice_get ws k) e f
 
--- the labels of the span's positions, or a note of an operation that is looked at in a world that comes at its first position or after it
+-- the labels of the span's positions, or a note of an operation that is looked at in a world that
+-- comes at its first position or after it
 abbrev pub AreLabels : Course → List World → Span → Assignment → FormulaTree → Result (List Bool) CheckFault → Type 0
 AreLabels c ws span e f (Ok bs) = bs ≡ marks_in (true_ahead c e f) ws span
 AreLabels c ws span e f (Err (fault.Range k note)) = ComesAt c ws span.from k × Tells (looked_at c ws k e f) note
 AreLabels c ws span e f (Err fault.NoMemory) = Unit {0}
 
--- the labels of the part at the span's positions are joined with these, or an operation that it looks at is noted
+-- the labels of the part at the span's positions are joined with these, or an operation that it
+-- looks at is noted
 abbrev pub JoinsPart : Course → List World → Span → Assignment → Junction → FormulaTree → List Bool → List Bool → Result (Unit {0}) CheckFault → Type 0
 JoinsPart c ws span e j f old new (Ok u) = new ≡ joined_labels j old (marks_in (true_ahead c e f) ws span)
 JoinsPart c ws span e j f old new (Err (fault.Range k note)) = ComesAt c ws span.from k × Tells (looked_at c ws k e f) note

@@ -30,6 +30,7 @@ picked_labels there bs at elsewhere = chosen_labels elsewhere there (placed_labe
 abbrev pub picked_runs : List Run → List Run → ℕ → Bool → List Bool
 picked_runs there rs at elsewhere = picked_labels (spread there) (spread rs) at elsewhere
 
--- the labels are joined with those of the other list, which are for the positions from one on, and decide nothing elsewhere
+-- the labels are joined with those of the other list, which are for the positions from one on, and
+-- decide nothing elsewhere
 abbrev pub JoinsAt : Junction → List Bool → ℕ → List Bool → List Bool → Type 0
 JoinsAt j other at old new = new ≡ joined_labels j old (placed_labels other at (length old) (not (deciding_truth j)))

@@ -13,7 +13,8 @@ worlds_of r = r.stem ++ (r.first ∷ r.rest)
 abbrev pub course_of : PlainProblem → Run → Course
 course_of p r = record { problem = p; again = r.first ∷ r.rest }
 
--- the first n of the worlds are the stem, and the others the loop (Sistla and Clarke 1985); there are more than n of them
+-- the first n of the worlds are the stem, and the others the loop (Sistla and Clarke 1985); there
+-- are more than n of them
 abbrev pub lasso_run : PlainProblem → ℕ → List World → Run
 lasso_run p n ws = record { stem = take n ws; first = slice_index_or ws n p.first; rest = drop (n + 1) ws }
 

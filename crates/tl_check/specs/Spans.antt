@@ -16,7 +16,8 @@ pub record IsWithin (span : Span) (count : ℕ) : Type 0 where
 abbrev pub marks_in : Ahead → List World → Span → List Bool
 marks_in t ws span = take (span.to - span.from) (marks t (drop span.from ws))
 
--- the span, of labels of another span, begins where the label is true and has all positions where it is
+-- the span, of labels of another span, begins where the label is true and has all positions where
+-- it is
 pub record IsHull (bs : List Bool) (span hull : Span) : Type 0 where
   pub from : span.from ≤ hull.from
   pub order : hull.from < hull.to

@@ -41,7 +41,8 @@ OthersStay fact old new = (g : Fact) → fact_eq fact g ≡ false → line_in ne
 abbrev pub fact_with : ℕ → List Value → Fact
 fact_with q a = record { pred = q; args = a }
 
--- the fact has the change's truth at its position, where no change comes after that, and before it the truths that it had; other facts have the changes that they had
+-- the fact has the change's truth at its position, where no change comes after that, and before it
+-- the truths that it had; other facts have the changes that they had
 pub record TellsTruth (fact : Fact) (change : Change) (old new : Fact → List Change) : Type 0 where
   pub others : (g : Fact) → fact_eq fact g ≡ false → new g ≡ old g
   pub earlier : (j : ℕ) → j < change.at → truth_from false (new fact) j ≡ truth_from false (old fact) j

@@ -47,12 +47,14 @@ HaveAllSeen ts = Each HasSeenAll ts
 abbrev pub EndsIn : List World → World → Type 0
 EndsIn ws w = (front : List World) × (ws ≡ front ++ w ∷ [])
 
--- the fact is of another predicate and nothing is noted, or it is told at the position to be what it is in the world
+-- the fact is of another predicate and nothing is noted, or it is told at the position to be what
+-- it is in the world
 abbrev pub NotesFact : Fact → World → ℕ → PredicateTracks → PredicateTracks → Type 0
 NotesFact fact w at old new = ((fact.pred ≡ old.pred → ⊥) × (new ≡ old))
     ⊎ ((fact.pred ≡ old.pred) × (new.pred ≡ old.pred) × TellsOf fact (record { at = at; truth = has_fact w (fact_key fact) }) old.tracks.lines new.tracks.lines)
 
--- those of the facts that are of the predicate are noted at the position with what they are in the world
+-- those of the facts that are of the predicate are noted at the position with what they are in the
+-- world
 abbrev pub NotesFacts : List Fact → World → ℕ → PredicateTracks → PredicateTracks → Type 0
 NotesFacts facts w at old new = (new.pred ≡ old.pred) × AreNoted old.pred at (λ a. has_fact w (old.pred, a)) (λ a. Among (fact_with old.pred a) facts) (line_in old.tracks.lines) (line_in new.tracks.lines)
 
@@ -63,7 +65,8 @@ pub record MakeNext (changes : Changes) (next : World) (at : ℕ) (ws : List Wor
   pub ends : EndsIn ws last
   pub is : next ≡ world_after last changes
 
--- what told of so many worlds, of the last of which the changes make the next one, tells of these and the next one
+-- what told of so many worlds, of the last of which the changes make the next one, tells of these
+-- and the next one
 abbrev pub TracksOn : Changes → World → ℕ → PredicateTracks → PredicateTracks → Type 0
 TracksOn changes next at old new = (ws : List World) → MakeNext changes next at ws → IsTracked ws old → IsTracked (ws ++ next ∷ []) new
 
@@ -88,7 +91,8 @@ FollowsOn keeps changes at old new = (ws : List World) → length ws ≡ at → 
 abbrev pub HasStates : PlainProblem → List Action → Type 0
 HasStates p plan = states p plan ≡ Some (states_of p plan)
 
--- the first action that has no step, or what is kept of the states, or an operation that an action looks at
+-- the first action that has no step, or what is kept of the states, or an operation that an action
+-- looks at
 abbrev pub IsFollowed : PlainProblem → Bool → List Action → Result Followed CheckFault → Type 0
 IsFollowed p keeps plan (Ok (followed.Stopped k)) = StopsAt p plan k
 IsFollowed p keeps plan (Ok (followed.Ended trail)) = HasStates p plan × Follows keeps (states_of p plan) trail

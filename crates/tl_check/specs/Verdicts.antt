@@ -14,7 +14,8 @@ use Rattle.tl_terms.specs.Run.{Satisfies}
 use Rattle.tl_terms.specs.Step.{step}
 use Rattle.tl_terms.specs.World.{World}
 
--- the actions before the k-th execute, and it has no step in the world after them; actions are counted from 1
+-- the actions before the k-th execute, and it has no step in the world after them; actions are
+-- counted from 1
 pub record StopsAt (p : PlainProblem) (plan : List Action) (k : ℕ) : Type 0 where
   pub front : List Action
   pub action : Action
@@ -33,7 +34,8 @@ pub record MissesGoal (p : PlainProblem) (plan : List Action) : Type 0 where
   pub executes : states p plan ≡ Some (from ∷ after)
   pub misses : meets_goal (last_of from after) p.goal p.avoid ≡ false
 
--- all actions execute and the goal is met in the last state, and the control formula does not hold at the first position of the run of the states
+-- all actions execute and the goal is met in the last state, and the control formula does not hold
+-- at the first position of the run of the states
 pub record BreaksControl (p : PlainProblem) (plan : List Action) : Type 0 where
   pub from : World
   pub after : List World
@@ -52,7 +54,8 @@ IsVerdict p plan verdict.Disobeys = BreaksControl p plan
 abbrev pub AcceptsRightly : PlainProblem → List Action → Verdict → Type 0
 AcceptsRightly p plan v = (v ≡ verdict.Valid) ↔ IsAccepted p plan
 
--- the first k actions execute, and the next one looks at the noted operation in the world after them, where it is past range
+-- the first k actions execute, and the next one looks at the noted operation in the world after
+-- them, where it is past range
 pub record IsPastInAction (p : PlainProblem) (plan : List Action) (k : ℕ) (note : RangeNote) : Type 0 where
   pub front : List Action
   pub action : Action
@@ -64,7 +67,9 @@ pub record IsPastInAction (p : PlainProblem) (plan : List Action) (k : ℕ) (not
   pub executes : states p front ≡ Some (from ∷ after)
   pub told : Tells (looked_by_action p (last_of from after) action) note
 
--- all actions execute and the goal is met in the last state, and the control formula along the states looks at the noted operation in the world after the first k actions, where it is past range
+-- all actions execute and the goal is met in the last state, and the control formula along the
+-- states looks at the noted operation in the world after the first k actions, where it is past
+-- range
 pub record IsPastInControl (p : PlainProblem) (plan : List Action) (k : ℕ) (note : RangeNote) : Type 0 where
   pub from : World
   pub after : List World

@@ -13,12 +13,14 @@ within_after n waiting bs = within_labels n (replicate waiting false ++ bs)
 abbrev pub until_after : ℕ → List Bool → List Bool → List Bool
 until_after waiting bs cs = until_labels (replicate waiting true ++ bs) (replicate waiting false ++ cs)
 
--- whatever labels come after the run, the labels of now or within n steps are those made so far and those of what waits
+-- whatever labels come after the run, the labels of now or within n steps are those made so far and
+-- those of what waits
 abbrev pub WaitsWithin : ℕ → ℕ → Run → List Run → List Run → ℕ → Type 0
 WaitsWithin n before r old new after =
     (bs : List Bool) → spread new ++ within_after n after bs ≡ spread old ++ within_after n before (replicate r.count r.truth ++ bs)
 
--- whatever labels come after the cut, the labels of until are those made so far and those of what waits
+-- whatever labels come after the cut, the labels of until are those made so far and those of what
+-- waits
 abbrev pub WaitsUntil : ℕ → Cut → List Run → List Run → ℕ → Type 0
 WaitsUntil before c old new after =
     (bs cs : List Bool) → spread new ++ until_after after bs cs ≡ spread old ++ until_after before (replicate c.count c.left ++ bs) (replicate c.count c.right ++ cs)

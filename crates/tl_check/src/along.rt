@@ -21,7 +21,8 @@ pub(crate) struct Along<'a> {
     pub(crate) plan: &'a [Action],
     /// How many states it has.
     pub(crate) count: usize,
-    /// Which of them comes after the last one: from there on they are repeated for ever. A plan that ends repeats the last one.
+    /// Which of them comes after the last one: from there on they are repeated for ever. A plan
+    /// that ends repeats the last one.
     pub(crate) again: usize,
     /// These states in their order, or none where they are not kept.
     pub(crate) kept: &'a [World],
@@ -43,7 +44,8 @@ impl Along<'_> {
         }
     }
 
-    /// The positions from this one on, and all of those that come again: no others come at it or after it. It takes no memory.
+    /// The positions from this one on, and all of those that come again: no others come at it or
+    /// after it. It takes no memory.
     pub(crate) fn ahead(&self, from: usize) -> Span
         ensures { IsAheadOf self.now from result }
     {

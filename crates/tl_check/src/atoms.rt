@@ -57,7 +57,8 @@ fn row_of_args(alloc: Global, env: &Env, args: &[Arg]) -> Result<Option<Values>,
     Ok(Some(row))
 }
 
-/// The values of terms, where each is a variable with a value, or a value. It fails for want of memory alone.
+/// The values of terms, where each is a variable with a value, or a value. It fails for want of
+/// memory alone.
 fn row_of_terms(alloc: Global, env: &Env, terms: &Terms) -> Result<Option<Values>, NoMemory>
     ensures { IfOk result (λ row. IfSome row (HaveFixedValues env.now terms.now)) }
 {
@@ -71,7 +72,8 @@ fn row_of_terms(alloc: Global, env: &Env, terms: &Terms) -> Result<Option<Values
     Ok(Some(row))
 }
 
-/// The labels of a fact, where it is known when the facts of its predicate hold. It fails for want of memory alone.
+/// The labels of a fact, where it is known when the facts of its predicate hold. It fails for want
+/// of memory alone.
 fn fact_labels(
     pred: u32,
     row: Values,
@@ -92,7 +94,8 @@ fn fact_labels(
     }
 }
 
-/// The labels of an atom, where its terms are variables and values, and it is known when the facts of its predicate hold. It fails for want of memory alone.
+/// The labels of an atom, where its terms are variables and values, and it is known when the facts
+/// of its predicate hold. It fails for want of memory alone.
 pub(crate) fn atom_labels(
     pred: u32,
     terms: &Terms,
@@ -130,7 +133,8 @@ fn bound_read(
     Ok(labels)
 }
 
-/// The truth of the bound in each state of the span, where the states are kept. It fails for want of memory alone.
+/// The truth of the bound in each state of the span, where the states are kept. It fails for want
+/// of memory alone.
 fn bound_in_states(
     bound: &Bound,
     along: &Along,
@@ -152,7 +156,8 @@ fn bound_in_states(
     }
 }
 
-/// The label of a bound over the goal list, which is the same at each position of the span. It fails for want of memory alone.
+/// The label of a bound over the goal list, which is the same at each position of the span. It
+/// fails for want of memory alone.
 fn goal_bound_labels(
     bound: &Bound,
     along: &Along,
@@ -170,7 +175,8 @@ fn goal_bound_labels(
     Ok(Some(labels))
 }
 
-/// The labels of a bound over facts of the states, where its arguments have values, and it is known when the facts of its predicate hold. It fails for want of memory alone.
+/// The labels of a bound over facts of the states, where its arguments have values, and it is known
+/// when the facts of its predicate hold. It fails for want of memory alone.
 fn fact_bound_labels(
     pred: u32,
     args: &Args,
@@ -188,7 +194,8 @@ fn fact_bound_labels(
     }
 }
 
-/// The truth of a bound at each position of the span, where it is known or the states are kept. It fails for want of memory alone.
+/// The truth of a bound at each position of the span, where it is known or the states are kept. It
+/// fails for want of memory alone.
 pub(crate) fn bound_labels(
     bound: &Bound,
     along: &Along,
@@ -213,7 +220,8 @@ pub(crate) fn bound_labels(
     }
 }
 
-/// A world in which every tuple makes the bound true that makes it true in one of the states, where one is known. It takes no memory.
+/// A world in which every tuple makes the bound true that makes it true in one of the states, where
+/// one is known. It takes no memory.
 pub(crate) fn guide_of<'a>(bound: &Bound, along: &'a Along) -> Option<&'a World>
     requires { IsAlong along.now }
     ensures { IfSome result (λ w. GuidesAlong along.now bound.now w.now) }

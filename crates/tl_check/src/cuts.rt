@@ -41,7 +41,8 @@ fn next_cut(left: &Rest, right: &Rest) -> Option<Cut>
     }
 }
 
-/// Two lists of labels of the same positions, cut at each other's ends of runs. It fails for want of memory alone.
+/// Two lists of labels of the same positions, cut at each other's ends of runs. It fails for want
+/// of memory alone.
 pub(crate) fn cuts_of(alloc: Global, left: &[Run], right: &[Run]) -> Result<Vec<Cut>, NoMemory>
     requires { length (spread left.now) ≡ length (spread right.now) }
     ensures left { IfOk result (λ cuts. lefts cuts.items ≡ spread left.now) }

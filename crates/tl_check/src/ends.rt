@@ -6,7 +6,8 @@ ghost use Rattle.tl_check.specs.Runs.{spread};
 
 use crate::run::Run;
 
-/// How many positions come before the first one with a true label, if there is one. It takes no memory.
+/// How many positions come before the first one with a true label, if there is one. It takes no
+/// memory.
 pub(crate) fn before_true(runs: &[Run]) -> Option<usize>
     requires { length (spread runs.now) < 2 ^ 64 }
     ensures none { IfNone result (IsFalse (spread runs.now)) }

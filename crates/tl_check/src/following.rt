@@ -48,7 +48,8 @@ fn fault_after(after: u32, fault: ActFault) -> CheckFault
     }
 }
 
-/// Executes a plan from the first world on, and keeps of the states what is asked for. One world is held at a time, where the states are not kept.
+/// Executes a plan from the first world on, and keeps of the states what is asked for. One world is
+/// held at a time, where the states are not kept.
 pub(crate) fn follow_plan<L: Ledger>(
     follow: &Follow,
     plan: &[Action],

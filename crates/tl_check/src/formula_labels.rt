@@ -34,7 +34,10 @@ use crate::unlabelled::Unlabelled;
 use tl_eval::{Env, TupleReader};
 use tl_syntax::{Formula, Formulas, Junction};
 
-/// Whether the formula is read as a whole in each state, so that a decided part of it ends the reading: it has parts and no temporal word, and functions, definitions or operations stand in it. Where no states are kept, none is read for an operation on variables and values. It takes no memory.
+/// Whether the formula is read as a whole in each state, so that a decided part of it ends the
+/// reading: it has parts and no temporal word, and functions, definitions or operations stand in
+/// it. Where no states are kept, none is read for an operation on variables and values. It takes no
+/// memory.
 fn is_read_whole(f: &Formula, along: &Along) -> bool
     ensures { result ≡ true → IsState (tree_of_formula f.now) }
 {
@@ -46,9 +49,12 @@ fn is_read_whole(f: &Formula, along: &Along) -> bool
     has_parts(f) && !is_plain(f, compared) && is_state(f)
 }
 
-/// The truth of a formula at each position of the span, under the frame's values, where the states from one of them on are repeated for ever.
+/// The truth of a formula at each position of the span, under the frame's values, where the states
+/// from one of them on are repeated for ever.
 ///
-/// Atoms and bounds are labelled by when their facts hold, and what else has no formula below it is read in each state. The labels of other formulas come from those of their parts, which are asked for where they count.
+/// Atoms and bounds are labelled by when their facts hold, and what else has no formula below it is
+/// read in each state. The labels of other formulas come from those of their parts, which are asked
+/// for where they count.
 #[cycle(labels_of)]
 pub(crate) fn labels_of(
     f: &Formula,
@@ -155,7 +161,9 @@ fn next_labels(
     later_labels(part, Later::Next, along, span, env)
 }
 
-/// The labels of a word that asks for its part at later positions. Behind those of the last position stand those of the positions that come again: each position sees all that comes after it, and what comes still later has a label that it has seen.
+/// The labels of a word that asks for its part at later positions. Behind those of the last
+/// position stand those of the positions that come again: each position sees all that comes after
+/// it, and what comes still later has a label that it has seen.
 #[cycle(labels_of)]
 fn later_labels(
     part: &Formula,
@@ -232,7 +240,8 @@ fn parts_labels(
     Ok(all)
 }
 
-/// Joins the labels of a part with those of the parts before it. It is labelled from the first to the last position that these leave open.
+/// Joins the labels of a part with those of the parts before it. It is labelled from the first to
+/// the last position that these leave open.
 #[cycle(labels_of)]
 fn join_part(
     part: &Part,
@@ -261,7 +270,9 @@ fn join_part(
 
 /// The labels of a universal or an existential formula.
 ///
-/// Where the formula below it speaks of facts alone, so that none of its operations can be past range, the tuples are read in the order in which the variables stand in the bound: in which order the instances are labelled bears on nothing.
+/// Where the formula below it speaks of facts alone, so that none of its operations can be past
+/// range, the tuples are read in the order in which the variables stand in the bound: in which
+/// order the instances are labelled bears on nothing.
 #[cycle(labels_of)]
 fn quantified_labels<'a>(
     part: &'a Formula,
@@ -321,7 +332,8 @@ fn ordered_labels<'a>(
     }
 }
 
-/// The labels of a quantified formula whose tuples are all among those of one world: each instance is labelled once, where its tuple makes the bound true.
+/// The labels of a quantified formula whose tuples are all among those of one world: each instance
+/// is labelled once, where its tuple makes the bound true.
 #[cycle(labels_of)]
 fn guided_labels<'a>(
     part: &'a Formula,

@@ -29,7 +29,8 @@ struct Alike<'a> {
 }
 
 impl Tracks {
-    /// Adds that each tuple of the bound in the first of the states makes it true in all of them. It fails for want of memory alone.
+    /// Adds that each tuple of the bound in the first of the states makes it true in all of them.
+    /// It fails for want of memory alone.
     ///
     /// A tuple is kept as a fact of predicate 0.
     fn note_tuples(&mut self, alike: &Alike, along: &Along, env: &Env) -> Result<(), NoMemory>
@@ -53,7 +54,8 @@ impl Tracks {
     }
 }
 
-/// The tuples of the bound in these states at the positions of a span, with the positions at which each makes it true. It fails for want of memory alone.
+/// The tuples of the bound in these states at the positions of a span, with the positions at which
+/// each makes it true. It fails for want of memory alone.
 ///
 /// The tuples are read once for states in a row whose places are the same.
 fn gathered_in(
@@ -90,7 +92,8 @@ fn gathered_in(
     Ok(tracks)
 }
 
-/// The tuples of the bound at the positions of a span, with the positions at which each makes it true, where the states are kept. It fails for want of memory alone.
+/// The tuples of the bound at the positions of a span, with the positions at which each makes it
+/// true, where the states are kept. It fails for want of memory alone.
 pub(crate) fn gathered(
     binder: &Binder,
     along: &Along,

@@ -23,7 +23,8 @@ pub(crate) struct History {
 }
 
 impl History {
-    /// When the facts of a predicate hold along the states from which these changes are. It fails for want of memory alone.
+    /// When the facts of a predicate hold along the states from which these changes are. It fails
+    /// for want of memory alone.
     pub(crate) fn of(alloc: Global, tracked: PredicateTracks) -> Result<History, NoMemory>
         ensures { IfOk result (IsHistoryOf tracked) }
     {
@@ -44,7 +45,8 @@ impl History {
     }
 }
 
-/// When the facts of each predicate hold along the states from which these changes are. It fails for want of memory alone.
+/// When the facts of each predicate hold along the states from which these changes are. It fails
+/// for want of memory alone.
 pub(crate) fn histories_of(
     alloc: Global,
     all: Vec<PredicateTracks>,

@@ -22,7 +22,8 @@ use tl_syntax::{Junction, NoMemory};
 
 /// The truth of a formula at each of some positions in a row.
 ///
-/// They are kept as runs of equal labels: what goes over them takes the time of their changes, and not that of the positions.
+/// They are kept as runs of equal labels: what goes over them takes the time of their changes, and
+/// not that of the positions.
 #[derive(Drop)]
 pub(crate) struct Labels {
     runs: Vec<Run>,
@@ -47,7 +48,8 @@ impl Labels {
         }
     }
 
-    /// Adds the label of one more position at the end. A refused call leaves the labels as they were.
+    /// Adds the label of one more position at the end. A refused call leaves the labels as they
+    /// were.
     pub(crate) fn push(&mut self, truth: bool) -> Result<(), NoMemory>
         ensures added { OnOk result (self.new ≡ self.old ++ truth ∷ []) }
         ensures unchanged { OnErr result (self.new ≡ self.old) }
@@ -55,7 +57,8 @@ impl Labels {
         runs::add(&mut self.runs, truth, 1)
     }
 
-    /// Adds the same label for so many more positions at the end. A refused call leaves the labels as they were.
+    /// Adds the same label for so many more positions at the end. A refused call leaves the labels
+    /// as they were.
     pub(crate) fn add(&mut self, truth: bool, count: usize) -> Result<(), NoMemory>
         ensures added { OnOk result (self.new ≡ self.old ++ replicate count truth) }
         ensures unchanged { OnErr result (self.new ≡ self.old) }
@@ -72,7 +75,8 @@ impl Labels {
         Ok(labels)
     }
 
-    /// The label at a position, counted from the first one here. It takes no memory, and the time of the changes before that position.
+    /// The label at a position, counted from the first one here. It takes no memory, and the time
+    /// of the changes before that position.
     pub(crate) fn at(&self, i: usize) -> bool
         requires { i < length self.now }
         ensures { result ≡ slice_index_or self.now i false }
@@ -114,7 +118,9 @@ impl Labels {
         Ok(())
     }
 
-    /// The labels of now or later for the second formula, where this one's hold until then. A refused call leaves the labels as they were; it is refused too where the number of positions does not fit a `usize`.
+    /// The labels of now or later for the second formula, where this one's hold until then. A
+    /// refused call leaves the labels as they were; it is refused too where the number of positions
+    /// does not fit a `usize`.
     pub(crate) fn until(&mut self, second: &Labels) -> Result<(), NoMemory>
         requires { length self.old ≡ length second.now }
         ensures until { OnOk result (self.new ≡ until_labels self.old second.now) }
@@ -159,7 +165,8 @@ impl Labels {
         Ok(())
     }
 
-    /// The labels of the conjunction or the disjunction of both. A refused call leaves the labels as they were.
+    /// The labels of the conjunction or the disjunction of both. A refused call leaves the labels
+    /// as they were.
     pub(crate) fn join(&mut self, other: &Labels, junction: Junction) -> Result<(), NoMemory>
         requires { length self.old ≡ length other.now }
         ensures joined { OnOk result (self.new ≡ joined_labels junction self.old other.now) }
@@ -183,7 +190,8 @@ impl Labels {
         Ok(())
     }
 
-    /// The least span with all positions where the label is true, if there is one, where the labels are those of this span. It takes no memory.
+    /// The least span with all positions where the label is true, if there is one, where the labels
+    /// are those of this span. It takes no memory.
     pub(crate) fn hull(&self, span: Span) -> Option<Span>
         requires { span.from + length self.now ≡ span.to }
         ensures none { IfNone result ((k : ℕ) → slice_index_or self.now k false ≡ false) }
@@ -201,7 +209,8 @@ impl Labels {
         }
     }
 
-    /// The least span with all positions whose labels do not decide the junction, if there is one, where the labels are those of this span. It takes no memory.
+    /// The least span with all positions whose labels do not decide the junction, if there is one,
+    /// where the labels are those of this span. It takes no memory.
     pub(crate) fn undecided(&mut self, span: Span, junction: Junction) -> Option<Span>
         requires { span.from + length self.old ≡ span.to }
         ensures none { IfNone result (AreDecided junction self.old) }
@@ -219,7 +228,9 @@ impl Labels {
         }
     }
 
-    /// The labels of the conjunction or the disjunction of both, where those of the other list are for the positions from `at` on. A refused call leaves the labels as they were; it is refused too where the number of positions does not fit a `usize`.
+    /// The labels of the conjunction or the disjunction of both, where those of the other list are
+    /// for the positions from `at` on. A refused call leaves the labels as they were; it is refused
+    /// too where the number of positions does not fit a `usize`.
     pub(crate) fn join_at(
         &mut self,
         other: &Labels,
@@ -239,7 +250,9 @@ impl Labels {
         Ok(())
     }
 
-    /// The labels together with those of the other list, which are for the positions from `at` on, at those of them where `there` is true. A refused call leaves the labels as they were; it is refused too where the number of positions does not fit a `usize`.
+    /// The labels together with those of the other list, which are for the positions from `at` on,
+    /// at those of them where `there` is true. A refused call leaves the labels as they were; it is
+    /// refused too where the number of positions does not fit a `usize`.
     pub(crate) fn join_where(
         &mut self,
         there: &Labels,

@@ -1,6 +1,7 @@
 // Words that ask for a formula at later positions.
 
-/// A temporal word over one formula, which asks for it at later positions, and at the same one but for `Next`.
+/// A temporal word over one formula, which asks for it at later positions, and at the same one but
+/// for `Next`.
 #[derive(Clone, Copy)]
 pub(crate) enum Later {
     /// At the next one.

@@ -2,7 +2,8 @@
 ghost use Rattle.tl_check.specs.LawsAhead.{TruthAheadIsSatisfaction};
 ghost use Rattle.tl_check.specs.LawsVerdict.{OneVerdict};
 
-/// A formula holds at the start of a plan's run exactly where it is true ahead of the plan's states, which is what the labels tell.
+/// A formula holds at the start of a plan's run exactly where it is true ahead of the plan's
+/// states, which is what the labels tell.
 pub fn truth_ahead_is_satisfaction()
     ensures { TruthAheadIsSatisfaction }
 {}

@@ -1,9 +1,11 @@
-//! The separate checker of plans (Bacchus and Kabanza 2000), of those that end and of those whose last part is repeated for ever. It stands on no progression.
+//! The separate checker of plans (Bacchus and Kabanza 2000), of those that end and of those whose
+//! last part is repeated for ever. It stands on no progression.
 //!
 //! - `checker`: the verdict on a plan.
 //! - `verdict`: what a verdict says.
 //! - `rounds`: plans whose last part is repeated for ever.
-//! - `following`, `trail`, `predicate_tracks`: a plan is followed from state to state, and what is kept of them.
+//! - `following`, `trail`, `predicate_tracks`: a plan is followed from state to state, and what is
+//! kept of them.
 //! - `predicates`: the predicates of which a formula speaks.
 //! - `history`: when the facts of a predicate hold along the states of a plan.
 //! - `line`: when one fact holds, by its changes.
@@ -15,9 +17,11 @@
 //! - `atoms`: the labels of atoms and bounds.
 //! - `state_labels`: the labels of formulas that are read in each state.
 //! - `steady`: formulas that read no state.
-//! - `temporal`, `plain`: whether a formula has temporal words, whether it has parts, and whether it speaks of facts alone.
+//! - `temporal`, `plain`: whether a formula has temporal words, whether it has parts, and whether
+//! it speaks of facts alone.
 //! - `labels`, `later`: the truth of a formula at each of some positions.
-//! - `run`, `runs`, `rest`: labels as runs of equal ones, and what is left of them as they are read.
+//! - `run`, `runs`, `rest`: labels as runs of equal ones, and what is left of them as they are
+//! read.
 //! - `passes`, `waiting`: what words that ask for later positions make of them.
 //! - `cuts`: two lists of labels, cut at each other's ends of runs.
 //! - `picked`: labels that count at some positions alone.

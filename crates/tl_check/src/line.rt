@@ -34,7 +34,8 @@ fn brought_between(position: usize, from: usize, to: usize) -> usize
     }
 }
 
-/// Whether the fact with these changes holds, at each position of the span. It fails for want of memory alone, and takes the time of the changes.
+/// Whether the fact with these changes holds, at each position of the span. It fails for want of
+/// memory alone, and takes the time of the changes.
 pub(crate) fn line_labels(alloc: Global, line: &[Change], span: Span) -> Result<Labels, NoMemory>
     requires { span.from ≤ span.to }
     ensures { IfOk result (λ labels. labels ≡ test_in (truth_from false line.now) span) }
@@ -65,7 +66,8 @@ fn goes_on(line: &[Change], at: usize) -> bool
     last.at == at && before.truth
 }
 
-/// Has the fact hold from a position on that no change comes after: by a change, or without the last one, where that is at this position and ends what held. It fails for want of memory alone.
+/// Has the fact hold from a position on that no change comes after: by a change, or without the
+/// last one, where that is at this position and ends what held. It fails for want of memory alone.
 fn begin(line: &mut Vec<Change>, at: usize) -> Result<(), NoMemory>
     ensures { OnOk result (BeginsAt at line.old.items line.new.items) }
 {
@@ -77,7 +79,8 @@ fn begin(line: &mut Vec<Change>, at: usize) -> Result<(), NoMemory>
     Ok(())
 }
 
-/// Has the fact hold at the positions of a span, which no change comes after. It fails for want of memory alone.
+/// Has the fact hold at the positions of a span, which no change comes after. It fails for want of
+/// memory alone.
 ///
 /// Spans that follow one another take the memory of one.
 pub(crate) fn add_span(line: &mut Vec<Change>, span: Span) -> Result<(), NoMemory>

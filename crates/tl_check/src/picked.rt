@@ -9,7 +9,8 @@ use crate::runs::{add, add_all, positions};
 use std::alloc::Global;
 use tl_syntax::NoMemory;
 
-/// The labels at their place among so many positions, from `at` on, with this label elsewhere. It fails for want of memory alone.
+/// The labels at their place among so many positions, from `at` on, with this label elsewhere. It
+/// fails for want of memory alone.
 pub(crate) fn placed(
     alloc: Global,
     labels: &[Run],
@@ -28,14 +29,16 @@ pub(crate) fn placed(
     Ok(made)
 }
 
-/// The second label of a cut where the first one is true, and this label elsewhere. It takes no memory.
+/// The second label of a cut where the first one is true, and this label elsewhere. It takes no
+/// memory.
 fn choice(cut: Cut, elsewhere: bool) -> bool
     ensures { result ≡ cond cut.left cut.right elsewhere }
 {
     if cut.left { cut.right } else { elsewhere }
 }
 
-/// The second labels where the first ones are true, and this label elsewhere. It fails for want of memory alone.
+/// The second labels where the first ones are true, and this label elsewhere. It fails for want of
+/// memory alone.
 fn chosen(alloc: Global, cuts: &[Cut], elsewhere: bool) -> Result<Vec<Run>, NoMemory>
     ensures { IfOk result (HaveLabels (chosen_cuts elsewhere cuts.now)) }
 {
@@ -47,7 +50,8 @@ fn chosen(alloc: Global, cuts: &[Cut], elsewhere: bool) -> Result<Vec<Run>, NoMe
     Ok(made)
 }
 
-/// The labels, which are for the positions from `at` on, where `there` is true, and this label elsewhere. It fails for want of memory alone.
+/// The labels, which are for the positions from `at` on, where `there` is true, and this label
+/// elsewhere. It fails for want of memory alone.
 pub(crate) fn picked(
     alloc: Global,
     there: &[Run],

@@ -8,7 +8,8 @@ use tl_syntax::{Bound, Formula, Formulas, Term, Terms};
 pub(crate) enum Compared {
     /// Variables and values, none of which can be past range.
     Plain,
-    /// Operations on them too: they have the same value in every state, or are past range in every one.
+    /// Operations on them too: they have the same value in every state, or are past range in every
+    /// one.
     Fixed,
 }
 
@@ -66,7 +67,8 @@ pub(crate) fn has_parts(f: &Formula) -> bool {
     }
 }
 
-/// Whether the formula speaks of facts alone: no function and no definition stands in it, and in its comparisons nothing but what may. It takes no memory.
+/// Whether the formula speaks of facts alone: no function and no definition stands in it, and in
+/// its comparisons nothing but what may. It takes no memory.
 #[cycle(is_plain)]
 pub(crate) fn is_plain(f: &Formula, compared: Compared) -> bool {
     match f {

@@ -34,7 +34,8 @@ impl PredicateTracks {
         Ok(PredicateTracks { pred, tracks })
     }
 
-    /// Adds what the fact is in a state, where it is of the predicate and that is not what it was before. It fails for want of memory alone.
+    /// Adds what the fact is in a state, where it is of the predicate and that is not what it was
+    /// before. It fails for want of memory alone.
     fn note_fact(
         &mut self,
         alloc: Global,
@@ -54,7 +55,8 @@ impl PredicateTracks {
         Ok(())
     }
 
-    /// Adds what those of the facts that are of the predicate are in a state, where that is not what they were before. It fails for want of memory alone.
+    /// Adds what those of the facts that are of the predicate are in a state, where that is not
+    /// what they were before. It fails for want of memory alone.
     fn note_facts(
         &mut self,
         alloc: Global,
@@ -72,7 +74,8 @@ impl PredicateTracks {
         Ok(())
     }
 
-    /// Adds the changes that come with the next state, which these changes make and which so many come before. It fails for want of memory alone.
+    /// Adds the changes that come with the next state, which these changes make and which so many
+    /// come before. It fails for want of memory alone.
     fn go_on(
         &mut self,
         alloc: Global,
@@ -89,7 +92,8 @@ impl PredicateTracks {
     }
 }
 
-/// The changes of the facts of some predicates that come with the first state. It fails for want of memory alone.
+/// The changes of the facts of some predicates that come with the first state. It fails for want of
+/// memory alone.
 pub(crate) fn all_begun(
     alloc: Global,
     preds: &[u32],
@@ -105,7 +109,8 @@ pub(crate) fn all_begun(
     Ok(all)
 }
 
-/// Adds the changes of the facts of all these predicates that come with the next state, which these changes make and which so many come before. It fails for want of memory alone.
+/// Adds the changes of the facts of all these predicates that come with the next state, which these
+/// changes make and which so many come before. It fails for want of memory alone.
 pub(crate) fn all_go_on(
     alloc: Global,
     all: &mut [PredicateTracks],

@@ -66,7 +66,8 @@ fn add_of_each(preds: &mut Vec<u32>, parts: &Formulas) -> Result<(), NoMemory> {
     Ok(())
 }
 
-/// The predicates of which the formula speaks by atoms and bounds, each once. It fails for want of memory alone.
+/// The predicates of which the formula speaks by atoms and bounds, each once. It fails for want of
+/// memory alone.
 pub(crate) fn predicates_of(alloc: Global, f: &Formula) -> Result<Vec<u32>, NoMemory> {
     let mut preds = Vec::new(alloc);
     add_of(&mut preds, f)?;

@@ -31,7 +31,8 @@ pub struct Round<'a> {
     pub again: usize,
 }
 
-/// Follows a plan from the first world on, and keeps its states, with the changes of the facts of which the control formula speaks.
+/// Follows a plan from the first world on, and keeps its states, with the changes of the facts of
+/// which the control formula speaks.
 pub fn follow_with_states(
     alloc: Global,
     task: &Task,
@@ -51,7 +52,8 @@ pub fn follow_with_states(
     followed_by::<Brand>(&follow, plan, Blank::new(1))
 }
 
-/// Whether the control formula holds at the first position of the run of these states, all of which are kept.
+/// Whether the control formula holds at the first position of the run of these states, all of which
+/// are kept.
 fn obeys_kept(along: &Along) -> Result<bool, CheckFault>
     requires along { IsAlong along.now }
     requires kept { length along.now.kept.now ≡ along.now.count }
@@ -64,9 +66,12 @@ fn obeys_kept(along: &Along) -> Result<bool, CheckFault>
     }
 }
 
-/// Whether the control formula holds along the states of a plan whose repeated part ends in the state in which it began: at the first position of the run that goes through that part again and again.
+/// Whether the control formula holds along the states of a plan whose repeated part ends in the
+/// state in which it began: at the first position of the run that goes through that part again and
+/// again.
 ///
-/// It fails for want of memory, or where an operation is past range that the control formula looks at.
+/// It fails for want of memory, or where an operation is past range that the control formula looks
+/// at.
 pub fn obeys_round(
     alloc: Global,
     task: &Task,

@@ -9,7 +9,8 @@ use crate::run::Run;
 use std::alloc::Global;
 use tl_syntax::NoMemory;
 
-/// Adds the label of so many more positions at the end: to the last run, where it has this label and there is room in it. A refused call leaves the runs as they were.
+/// Adds the label of so many more positions at the end: to the last run, where it has this label
+/// and there is room in it. A refused call leaves the runs as they were.
 pub(crate) fn add(runs: &mut Vec<Run>, truth: bool, count: usize) -> Result<(), NoMemory>
     ensures added { OnOk result (AddLabels (replicate count truth) runs.old runs.new) }
     ensures unchanged { OnErr result (spread runs.new.items ≡ spread runs.old.items) }

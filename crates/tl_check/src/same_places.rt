@@ -61,7 +61,8 @@ fn reads_same(bound: &Bound, left: &World, right: &World) -> bool
     }
 }
 
-/// The first position of the span whose state the bound does not read as the first one, as far as the places in both tell, or the end of the span. It takes no memory.
+/// The first position of the span whose state the bound does not read as the first one, as far as
+/// the places in both tell, or the end of the span. It takes no memory.
 pub(crate) fn same_up_to(bound: &Bound, worlds: &[World], span: Span) -> usize
     requires some { span.from < span.to }
     requires within { span.to ≤ length worlds.now }

@@ -17,7 +17,8 @@ use tl_eval::{Env, state};
 use tl_syntax::Formula;
 use tl_world::World;
 
-/// The truth of a formula without temporal words in each of these states in the span. One that reads no state is evaluated once.
+/// The truth of a formula without temporal words in each of these states in the span. One that
+/// reads no state is evaluated once.
 fn labels_in(
     f: &Formula,
     along: &Along,
@@ -50,7 +51,8 @@ fn labels_in(
     Ok(labels)
 }
 
-/// The truth of a formula without temporal words at each position of the span, where the states are kept or it reads none.
+/// The truth of a formula without temporal words at each position of the span, where the states are
+/// kept or it reads none.
 pub(crate) fn state_labels(
     f: &Formula,
     along: &Along,

@@ -18,7 +18,8 @@ use tl_eval::{Env, state};
 use tl_syntax::{Formula, Term};
 use tl_world::World;
 
-/// Whether the term has the same value in every state, or none in any: no function stands in it. It takes no memory.
+/// Whether the term has the same value in every state, or none in any: no function stands in it. It
+/// takes no memory.
 pub(crate) fn is_fixed(term: &Term) -> bool
     ensures { result ≡ true → IsFixed (tree_of_term term.now) }
 {
@@ -30,7 +31,8 @@ pub(crate) fn is_fixed(term: &Term) -> bool
     }
 }
 
-/// Whether the formula reads no state: it speaks of the goal list or of values alone. It takes no memory.
+/// Whether the formula reads no state: it speaks of the goal list or of values alone. It takes no
+/// memory.
 pub(crate) fn is_steady(f: &Formula) -> bool
     ensures { result ≡ true → IsSteady (tree_of_formula f.now) }
 {
@@ -57,7 +59,8 @@ pub(crate) fn is_steady(f: &Formula) -> bool
     }
 }
 
-/// The labels of a formula that reads no state. It is evaluated once, in the first of these states in the span.
+/// The labels of a formula that reads no state. It is evaluated once, in the first of these states
+/// in the span.
 pub(crate) fn steady_labels(
     f: &Formula,
     along: &Along,
@@ -89,7 +92,8 @@ pub(crate) fn steady_labels(
     }
 }
 
-/// The labels of a formula that reads no state, where the states are not kept. It is evaluated once, in the first world.
+/// The labels of a formula that reads no state, where the states are not kept. It is evaluated
+/// once, in the first world.
 pub(crate) fn labels_unread(
     f: &Formula,
     along: &Along,

@@ -31,7 +31,8 @@ fn have_slots(vars: &[Var], others: &[Var]) -> bool
     true
 }
 
-/// Adds the argument, where it is one of the variables and not among the ordered ones. It fails for want of memory alone.
+/// Adds the argument, where it is one of the variables and not among the ordered ones. It fails for
+/// want of memory alone.
 fn add_arg(ordered: &mut Vars, arg: Arg, vars: &[Var]) -> Result<(), NoMemory>
     requires { AreOrderedSoFar vars.now ordered.old }
     ensures { OnOk result (AreOrderedSoFar vars.now ordered.new) }
@@ -58,7 +59,8 @@ fn add_args(ordered: &mut Vars, args: &[Arg], vars: &[Var]) -> Result<(), NoMemo
     Ok(())
 }
 
-/// The variables in the order in which they first stand in the bound, a place before its value. It fails for want of memory alone.
+/// The variables in the order in which they first stand in the bound, a place before its value. It
+/// fails for want of memory alone.
 fn ordered_by(alloc: Global, vars: &[Var], bound: &Bound) -> Result<Vars, NoMemory>
     ensures { IfOk result (AreOrderedSoFar vars.now) }
 {
@@ -92,7 +94,8 @@ fn are_same(vars: &[Var], others: &[Var]) -> bool {
     true
 }
 
-/// The variables in the order in which they first stand in the bound, where that is another one. It fails for want of memory alone.
+/// The variables in the order in which they first stand in the bound, where that is another one. It
+/// fails for want of memory alone.
 pub(crate) fn table_order(
     alloc: Global,
     vars: &Vars,

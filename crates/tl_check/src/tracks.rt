@@ -66,7 +66,8 @@ impl Tracks {
         }
     }
 
-    /// Takes the changes of a fact out, and counts it among those that were seen. It fails for want of memory alone.
+    /// Takes the changes of a fact out, and counts it among those that were seen. It fails for want
+    /// of memory alone.
     fn take_line(&mut self, alloc: Global, fact: &Fact) -> Result<Vec<Change>, NoMemory>
         requires { HaveSeenAll self.old }
         ensures line { IfOk result (λ line. line.items ≡ line_in self.old.lines fact.now) }
@@ -97,7 +98,8 @@ impl Tracks {
         Ok(())
     }
 
-    /// Adds a change of the fact after its other ones, where these do not tell the same. It fails for want of memory alone.
+    /// Adds a change of the fact after its other ones, where these do not tell the same. It fails
+    /// for want of memory alone.
     pub(crate) fn note_new(
         &mut self,
         alloc: Global,
@@ -115,7 +117,8 @@ impl Tracks {
         self.note(alloc, copy, change)
     }
 
-    /// Adds that the facts of a predicate with these arguments hold from the first state on. It fails for want of memory alone.
+    /// Adds that the facts of a predicate with these arguments hold from the first state on. It
+    /// fails for want of memory alone.
     fn note_rows(&mut self, alloc: Global, pred: u32, rows: &Rows) -> Result<(), NoMemory>
         requires { HaveSeenAll self.old }
         ensures noted { OnOk result (NotesRows pred rows.now self.old.lines self.new.lines) }
@@ -128,7 +131,8 @@ impl Tracks {
         Ok(())
     }
 
-    /// Adds the changes of the facts of a predicate that come with the first state. It fails for want of memory alone.
+    /// Adds the changes of the facts of a predicate that come with the first state. It fails for
+    /// want of memory alone.
     pub(crate) fn note_first(
         &mut self,
         alloc: Global,
@@ -148,7 +152,8 @@ impl Tracks {
         }
     }
 
-    /// Adds that the fact holds at the positions of a span, after its other changes. It fails for want of memory alone.
+    /// Adds that the fact holds at the positions of a span, after its other changes. It fails for
+    /// want of memory alone.
     pub(crate) fn note_span(
         &mut self,
         alloc: Global,

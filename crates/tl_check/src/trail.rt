@@ -27,7 +27,8 @@ fn copy_of(alloc: Global, w: &World) -> Result<World, NoMemory>
     w.changed(alloc, &[], &[], &[])
 }
 
-/// Adds the state to those that are kept, where they are to be kept. It fails for want of memory alone.
+/// Adds the state to those that are kept, where they are to be kept. It fails for want of memory
+/// alone.
 fn keep(alloc: Global, kept: &mut Vec<World>, w: &World, keeps: bool) -> Result<(), NoMemory>
     ensures { OnOk result (KeepsOne keeps w.now kept.old.items kept.new.items) }
 {
@@ -46,7 +47,8 @@ impl Trail {
         self.kept.as_slice()
     }
 
-    /// What is kept of the first state, where the states are to be kept or not. It fails for want of memory alone.
+    /// What is kept of the first state, where the states are to be kept or not. It fails for want
+    /// of memory alone.
     pub(crate) fn begun(
         alloc: Global,
         first: &World,
@@ -66,7 +68,8 @@ impl Trail {
         })
     }
 
-    /// Adds what is kept of the next state, which the changes make and which so many come before. It fails for want of memory alone.
+    /// Adds what is kept of the next state, which the changes make and which so many come before.
+    /// It fails for want of memory alone.
     pub(crate) fn go_on(
         &mut self,
         alloc: Global,

@@ -10,7 +10,8 @@ use crate::runs::add;
 use std::alloc::Global;
 use tl_syntax::NoMemory;
 
-/// Adds the labels of a run, or has them wait: false ones wait for the next true one, at most so many of them, and come true with it. The answer is how many wait after it.
+/// Adds the labels of a run, or has them wait: false ones wait for the next true one, at most so
+/// many of them, and come true with it. The answer is how many wait after it.
 /// It fails for want of memory alone.
 fn within_run(made: &mut Vec<Run>, run: Run, most: usize, waiting: usize) -> Result<usize, NoMemory>
     requires { waiting ≤ most }
@@ -50,7 +51,8 @@ fn is_decided(cut: Cut) -> bool
     cut.right || !cut.left
 }
 
-/// Adds the labels of a cut, or has them wait where the first label alone is true. The answer is how many wait after it.
+/// Adds the labels of a cut, or has them wait where the first label alone is true. The answer is
+/// how many wait after it.
 /// It fails for want of memory, or where that number does not fit a `usize`.
 fn until_cut(made: &mut Vec<Run>, cut: Cut, waiting: usize) -> Result<usize, NoMemory>
     ensures { IfOk result (WaitsUntil waiting cut made.old.items made.new.items) }
@@ -66,7 +68,8 @@ fn until_cut(made: &mut Vec<Run>, cut: Cut, waiting: usize) -> Result<usize, NoM
     Ok(waiting + cut.count)
 }
 
-/// The labels of now or later for the second list, where those of the first hold until then. It fails for want of memory, or where the number of positions does not fit a `usize`.
+/// The labels of now or later for the second list, where those of the first hold until then. It
+/// fails for want of memory, or where the number of positions does not fit a `usize`.
 pub(crate) fn until(alloc: Global, cuts: &[Cut]) -> Result<Vec<Run>, NoMemory>
     ensures { IfOk result (HaveLabels (until_labels (lefts cuts.now) (rights cuts.now))) }
 {

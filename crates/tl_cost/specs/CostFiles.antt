@@ -1,4 +1,6 @@
--- Costs files: the rules that their forms break, and the costs that they stand for. Every form of a costs file is a list `(NAME C)`: the operator of this name costs C. An operator that is not named costs 1.
+-- Costs files: the rules that their forms break, and the costs that they stand for. Every form of a
+-- costs file is a list `(NAME C)`: the operator of this name costs C. An operator that is not named
+-- costs 1.
 use Rattle.std.specs.Prelude.{ℕ, ℤ, List, [], ◌∷◌, ◌++◌, Bool, false, not, Option, Some, None, is_some, length, map, replicate, unwrap_or}
 use Rattle.std.specs.List.{slice_index_or, slice_set}
 use Rattle.tl_sexpr.specs.Tree.{FormTree, FormTrees, symbol, integer, list, no_form, more_forms}
@@ -38,7 +40,8 @@ abbrev pub is_given : List (Option ℕ) → Option ℕ → Bool
 is_given given None = false
 is_given given (Some op) = is_some (slice_index_or given op None)
 
--- what a cost breaks that is given to the operator at this position, if there is one: a cost is at most 1000000
+-- what a cost breaks that is given to the operator at this position, if there is one: a cost is at
+-- most 1000000
 abbrev pub cost_breaks : List (Option ℕ) → Option ℕ → ℤ → ℕ → List Break
 cost_breaks given op z at = breaks_if (is_given given op) Twice at ++ (breaks_if (not (is_within 0 1000000 z)) Limit at ++ breaks_if (not (is_some op)) NoOperator at)
 
@@ -51,7 +54,8 @@ parts_breaks names operators given (Some parts) at = cost_breaks given (operator
 abbrev pub entry_breaks : List (List ℕ) → List Operator → List (Option ℕ) → FormTree → List Break
 entry_breaks names operators given f = parts_breaks names operators given (entry_of_form f) (offset_of f)
 
--- the position of the operator, and its cost; where a rule is broken, what is said here does not matter
+-- the position of the operator, and its cost; where a rule is broken, what is said here does not
+-- matter
 abbrev pub cost_meant : Option ℕ → ℤ → ℕ × ℕ
 cost_meant op z = (unwrap_or op 0, natural z)
 

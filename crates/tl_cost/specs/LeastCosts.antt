@@ -12,7 +12,8 @@ use Rattle.tl_cost.specs.PlanCosts.{plan_cost}
 abbrev pub HasNoCheaperPlan : PlainProblem → List ℕ → ℕ → Type 0
 HasNoCheaperPlan p costs c = (plan : List Action) → IsAccepted p plan → c ≤ plan_cost costs plan
 
--- the plan is accepted and has this cost, no accepted plan costs less, and none of this cost has fewer actions
+-- the plan is accepted and has this cost, no accepted plan costs less, and none of this cost has
+-- fewer actions
 pub record IsCheapestPlan (p : PlainProblem) (costs : List ℕ) (plan : List Action) (cost : ℕ) : Type 0 where
   pub accepted : IsAccepted p plan
   pub its_cost : plan_cost costs plan ≡ cost
@@ -27,7 +28,8 @@ pub record IsLeastCost (p : PlainProblem) (costs : List ℕ) (x : Pair) (c : ℕ
   pub its_cost : plan_cost costs path ≡ c
   pub least : (other : List Action) → IsOpen p other → pair_of p other ≡ Some x → c ≤ plan_cost costs other
 
--- the path has a last action, and the least cost of the pair before it is at most that of every accepted plan
+-- the path has a last action, and the least cost of the pair before it is at most that of every
+-- accepted plan
 pub record EndsCheaply (p : PlainProblem) (costs : List ℕ) (path : List Action) : Type 0 where
   pub front : List Action
   pub last : Action
@@ -62,7 +64,9 @@ pub record BeginsCheaply (p : PlainProblem) (costs : List ℕ) (path : List Acti
   pub open_front : IsOpen p front
   pub cheap : HasNoCheaperPlan p costs (plan_cost costs front)
 
--- the path executes, has at most b actions, and is empty or begins cheaply; in its last world the operation is past range, and is looked at there by progressing what comes in, by the idling check or by an action
+-- the path executes, has at most b actions, and is empty or begins cheaply; in its last world the
+-- operation is past range, and is looked at there by progressing what comes in, by the idling check
+-- or by an action
 pub record IsCheapestCause (p : PlainProblem) (costs : List ℕ) (b : ℕ) (path : List Action) (o : Operation) : Type 0 where
   pub cause : IsRangeCause p b path o
   pub begins : (path ≡ []) ⊎ BeginsCheaply p costs path

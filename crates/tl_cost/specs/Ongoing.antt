@@ -54,7 +54,8 @@ pub record HasWay (kept : List KeptPair) (ways : List Way) (x : Pair) (cost leng
   pub same : pair.node ≡ x
   pub upto : IsUpto way.cost way.length cost length_
 
--- the action is still to be tried at the pair: at the one whose turn it is, all of them or those of a list
+-- the action is still to be tried at the pair: at the one whose turn it is, all of them or those of
+-- a list
 abbrev pub IsUntried : ℕ → Option (List Action) → ℕ → Action → Type 0
 IsUntried at None j a = j ≡ at
 IsUntried at (Some rest) j a = (j ≡ at) × Among a rest
@@ -64,7 +65,11 @@ abbrev pub IsTested : ℕ → Option (List Action) → ℕ → Type 0
 IsTested at None k = k ≡ at → ⊥
 IsTested at (Some rest) k = Unit {0}
 
--- uniform-cost search (Dijkstra 1959): the pairs that are not in the open list are settled, each at its least cost and there with the fewest actions; the last of them has this cost and length, and no pair of the open list comes before it; what was tried at a settled pair leads to kept pairs whose ways come no later; no tested settled pair is accepted, so no accepted plan comes before the last settled pair
+-- uniform-cost search (Dijkstra 1959): the pairs that are not in the open list are settled, each at
+-- its least cost and there with the fewest actions; the last of them has this cost and length, and
+-- no pair of the open list comes before it; what was tried at a settled pair leads to kept pairs
+-- whose ways come no later; no tested settled pair is accepted, so no accepted plan comes before
+-- the last settled pair
 pub record IsOngoing (p : PlainProblem) (task : Task) (costs : List ℕ) (b : ℕ) (kept : List KeptPair) (ways : List Way) (open_ : Entry → Bool) (opened cost length_ at : ℕ) (rest : Option (List Action)) : Type 0 where
   pub are_kept : AreKept (pair_graph p) kept
   pub as_many : length ways ≡ length kept
@@ -92,7 +97,8 @@ pub record IsBetweenTurns (p : PlainProblem) (task : Task) (costs : List ℕ) (b
   pub at : ℕ
   pub ongoing : IsOngoing p task costs b kept found.ways.items (is_listed found.open_list) (listed_len found.open_list) cost length_ at (Some [])
 
--- it is the turn of the pair of this number, which is the last that was settled, and these actions are still to be tried there
+-- it is the turn of the pair of this number, which is the last that was settled, and these actions
+-- are still to be tried there
 pub record IsInTurn (p : PlainProblem) (task : Task) (costs : List ℕ) (b : ℕ) (kept : List KeptPair) (found : Found) (at : ℕ) (rest : Option (List Action)) : Type 0 where
   pub pair : KeptPair
   pub way : Way

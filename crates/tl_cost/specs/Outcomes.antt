@@ -22,7 +22,8 @@ pub record IsSpentNear (p : PlainProblem) (costs : List ℕ) (b : ℕ) (kept : L
   pub many : length kept ≡ b + 1
   pub near : AreNearPairs p costs (pairs_of kept)
 
--- a plan is cheapest; no plan says that there is none; Spent comes of b + 1 near pairs, and the other answers of at most b kept ones
+-- a plan is cheapest; no plan says that there is none; Spent comes of b + 1 near pairs, and the
+-- other answers of at most b kept ones
 abbrev pub IsCheapestOutcome : PlainProblem → List ℕ → ℕ → List KeptPair → CostOutcome → Type 0
 IsCheapestOutcome p costs b kept (outcome.Plan plan cost) = IsCheapestPlan p costs plan cost × (length kept ≤ b)
 IsCheapestOutcome p costs b kept outcome.NoPlan = HasNoPlan p × (length kept ≤ b)
@@ -44,7 +45,8 @@ abbrev pub IsPlanOrNone : Result CostOutcome SearchFault → Type 0
 IsPlanOrNone (Ok o) = o ≢ outcome.Spent
 IsPlanOrNone (Err e) = e ≡ fault.NoMemory
 
--- where no operation past range is the cause of a fault and at most b pairs are near, the search answers a plan, or none, or want of memory
+-- where no operation past range is the cause of a fault and at most b pairs are near, the search
+-- answers a plan, or none, or want of memory
 abbrev pub AnswersWhereCalm : PlainProblem → List ℕ → ℕ → Result CostOutcome SearchFault → Type 0
 AnswersWhereCalm p costs b result = IsCalmAtLeastCost p costs b → HasFewNearPairs p costs b → IsPlanOrNone result
 

@@ -32,7 +32,8 @@ pub record AreTurns (p : PlainProblem) (kept : List KeptPair) (turns : List Turn
   pub differ : (i j : ℕ) (s t : Turn) → slice_get turns i ≡ Some s → slice_get turns j ≡ Some t → s.number ≡ t.number → i ≡ j
   pub right : (i : ℕ) (t : Turn) → slice_get turns i ≡ Some t → IsTurn p kept t
 
--- the steps are at most as many as the kept pairs have executable actions in all: one for each action in some turns, at most one of each pair
+-- the steps are at most as many as the kept pairs have executable actions in all: one for each
+-- action in some turns, at most one of each pair
 pub record IsTicked (p : PlainProblem) (from : ℕ) (kept : List KeptPair) (steps : ℕ) : Type 0 where
   pub turns : List Turn
   pub are : AreTurns p kept turns

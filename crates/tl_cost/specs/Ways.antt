@@ -66,7 +66,8 @@ pub record Moves (old new : Entry → Bool) (from to : Entry) : Type 0 where
   pub is : new to ≡ true
   pub others : (q : Entry) → (q ≡ from → ⊥) → (q ≡ to → ⊥) → new q ≡ old q
 
--- what the first step of a comparison says of a way of this cost and length and another: it comes before that, or not
+-- what the first step of a comparison says of a way of this cost and length and another: it comes
+-- before that, or not
 pub record TellsOrder (before : Bool) (cost length_ : ℕ) (w : Way) : Type 0 where
   pub upto : before ≡ true → IsUpto cost length_ w.cost w.length
   pub falls : before ≡ true → IsUpto w.cost w.length cost length_ → ⊥
@@ -86,7 +87,8 @@ pub record HasRoomAfter (found : Found) (at : ℕ) : Type 0 where
   pub cheap : way.cost + 4294967296 < 2 ^ 64
   pub short : way.length + 1 < 2 ^ 64
 
--- the pair of number k is met again by the action from the pair of the number before: its entry alone is listed for it, and is listed where the new way comes no later
+-- the pair of number k is met again by the action from the pair of the number before: its entry
+-- alone is listed for it, and is listed where the new way comes no later
 pub record IsMet (costs : List ℕ) (found : Found) (w : Way) (a : Action) (k : ℕ) : Type 0 where
   pub way : Way
   pub its_way : slice_get found.ways.items k ≡ Some way
@@ -102,7 +104,8 @@ pub record Improves (costs : List ℕ) (old new : Found) (w : Way) (at : ℕ) (a
   pub moves : Moves (is_listed old.open_list) (is_listed new.open_list) (entry_of u k) (entry_of way k)
   pub len : listed_len new.open_list ≡ listed_len old.open_list
 
--- the pair of number k keeps its way, which comes no later than the new one, or has the new one, which does
+-- the pair of number k keeps its way, which comes no later than the new one, or has the new one,
+-- which does
 abbrev pub Meets : List ℕ → Found → Found → Way → ℕ → Action → ℕ → Way → Type 0
 Meets costs old new w at a k u = ((new ≡ old) × IsUpto u.cost u.length (w.cost + action_cost costs a) (w.length + 1)) ⊎ Improves costs old new w at a k u
 

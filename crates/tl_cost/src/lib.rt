@@ -7,7 +7,8 @@
 //! - `costs`: the costs of operators; `cost_files`: the reader of costs files.
 //! - `outcome`: what the search answers; `texts`: its lines.
 //!
-//! The definitions stand in `specs/`: the cost of a plan, plans and pairs of least cost, what a search has found, and costs files with their rules.
+//! The definitions stand in `specs/`: the cost of a plan, plans and pairs of least cost, what a
+//! search has found, and costs files with their rules.
 #![tactic(auto)]
 
 mod cost_files;

@@ -7,7 +7,8 @@ use std::alloc::Global;
 use std::collections::BTreeSet;
 use tl_terms::NoMemory;
 
-/// A kept pair that is still to be settled. Entries are ordered by cost, then by length, and then by number.
+/// A kept pair that is still to be settled. Entries are ordered by cost, then by length, and then
+/// by number.
 #[derive(Clone, Copy, PartialEq, Eq, PartialOrd, Ord)]
 pub(crate) struct Entry {
     /// The cost of its way.

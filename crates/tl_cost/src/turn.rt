@@ -74,7 +74,8 @@ impl UniformCost<'_> {
         }
     }
 
-    /// All actions of the pair whose turn it is are tried. Answers whether a pair came that is one too many.
+    /// All actions of the pair whose turn it is are tried. Answers whether a pair came that is one
+    /// too many.
     fn expand<S: Pairs, L: Ledger>(
         &self,
         space: &mut S,
@@ -115,7 +116,8 @@ impl UniformCost<'_> {
         Ok(false)
     }
 
-    /// The pair after an action of the pair whose turn it is arrives. Answers whether it is one too many.
+    /// The pair after an action of the pair whose turn it is arrives. Answers whether it is one too
+    /// many.
     fn arrive<S: Pairs, L: Ledger>(
         &self,
         space: &mut S,
@@ -179,7 +181,8 @@ impl UniformCost<'_> {
         })
     }
 
-    /// A kept pair is met again by an action: its way is replaced where the cost, or at the same cost the length, falls.
+    /// A kept pair is met again by an action: its way is replaced where the cost, or at the same
+    /// cost the length, falls.
     fn meet(&self, found: &mut Found, at: usize, a: &Action, k: usize) -> Result<(), NoMemory>
         requires room { HasRoomAfter found.old at }
         requires met { ForWay found.old at (λ w. IsMet self.now.costs.now found.old w a.now k) }

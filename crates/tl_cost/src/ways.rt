@@ -60,7 +60,8 @@ impl Way {
         }
     }
 
-    /// Whether a way of this cost and length comes before: it costs less, or as much with fewer actions.
+    /// Whether a way of this cost and length comes before: it costs less, or as much with fewer
+    /// actions.
     pub(crate) fn falls(&self, cost: u64, length: usize) -> bool
         ensures { TellsOrder result cost length self.now }
     {

@@ -1,4 +1,5 @@
-// The adapters over the machine: a file is handed on whole, a fault is a fault, and what is said to be taken over was.
+// The adapters over the machine: a file is handed on whole, a fault is a fault, and what is said to
+// be taken over was.
 
 use crate::checks::{are_bytes, is_number, is_text, is_true};
 use crate::stop::Stop;
@@ -57,7 +58,9 @@ fn make_files<R: Files>(rt: &R, long: &[u8]) -> Result<(), Stop> {
     Ok(())
 }
 
-// Rows of the name of a file, a limit, and how many bytes are read, or why none are. A file of several pieces comes whole; a folder, of which nothing can be read, and a name that is not there are faults.
+// Rows of the name of a file, a limit, and how many bytes are read, or why none are. A file of
+// several pieces comes whole; a folder, of which nothing can be read, and a name that is not there
+// are faults.
 // A good file is read after each fault, by the same store.
 const READS: &str = "
 long | 9000 | 9000
@@ -82,7 +85,8 @@ fn files_of_the_machine_are_read_whole(rt: HostRuntime) -> Result<(), Stop> {
     Ok(())
 }
 
-// An output that takes at most so many bytes of each call, or fails in each, and keeps the first 16 that came.
+// An output that takes at most so many bytes of each call, or fails in each, and keeps the first 16
+// that came.
 #[derive(Drop)]
 struct Output {
     most: usize,
@@ -150,7 +154,8 @@ fn is_put<R: Abort>(
     are_bytes(rt, &output.held.get(), &came, piece);
 }
 
-// A short write is answered as short, and a write that fails or takes nothing of some bytes is a fault.
+// A short write is answered as short, and a write that fails or takes nothing of some bytes is a
+// fault.
 #[test]
 fn one_put_is_one_write(rt: HostRuntime) {
     for (piece, most, fails, answer, came) in [

@@ -9,7 +9,11 @@ use tl_syntax::{Names, NoMemory};
 use tl_tables::{column, is_row};
 use tl_world::{World, Worlds};
 
-/// Rows of a world, facts that are deleted, facts that are added and places that are set, another world, whether that is the world after the changes, the number of that world, 1, or of the first one, 0, where it is found by the changes, and the number that it has then, 2 or 1 for one that had none. It has that number again once the last world was let go, but where this was the only one.
+/// Rows of a world, facts that are deleted, facts that are added and places that are set, another
+/// world, whether that is the world after the changes, the number of that world, 1, or of the first
+/// one, 0, where it is found by the changes, and the number that it has then, 2 or 1 for one that
+/// had none. It has that number again once the last world was let go, but where this was the only
+/// one.
 ///
 /// Some deleted facts are not there, and some added ones are: the world is found then too.
 const AFTER: &str = "
@@ -107,7 +111,8 @@ fn kept_again(
     kept_in(worlds, first, less, more)
 }
 
-/// The number that is wanted once the last world was let go: the same, or none where no world is left.
+/// The number that is wanted once the last world was let go: the same, or none where no world is
+/// left.
 fn wanted_again(kept: &str) -> &str {
     if kept == "0" { "none" } else { kept }
 }

@@ -288,7 +288,8 @@ fn come<R: Abort>(rt: &R, alloc: Global, names: &Names, row: &str) -> Result<(),
     come_in(rt, alloc, names, &w, row)
 }
 
-/// Rows of a world, a pattern, the values of a tuple, and the matches after it; without a tuple, all matches.
+/// Rows of a world, a pattern, the values of a tuple, and the matches after it; without a tuple,
+/// all matches.
 const MATCHES: &str = "
 {facts} | (p ?x) | - | (-1)(10)(a)(b)
 {facts} | (edge ?x ?x) | - | (10)(b)

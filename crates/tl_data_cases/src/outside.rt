@@ -22,7 +22,8 @@ fn one_number(alloc: Global, number: u32) -> Result<Numbers, AllocError> {
 
 /// The files of all rows. Under a name that comes twice, a store has the first file.
 ///
-/// `text` has 75 bytes. Where one `take` gives at most 64, two calls give all of them, and a third none.
+/// `text` has 75 bytes. Where one `take` gives at most 64, two calls give all of them, and a third
+/// none.
 fn files(alloc: Global) -> Result<FileList, Stop> {
     let mut files = FileList::new(alloc);
     files.add("a", b"one")?;
@@ -80,7 +81,8 @@ fn is_read<R: Abort>(rt: &R, alloc: Global, row: &str) -> Result<(), Stop> {
     Ok(())
 }
 
-/// Rows of the name of a file, a limit, the number of the call that fails, and what is read. Call 0 is `begin`, and the calls after it are `take`.
+/// Rows of the name of a file, a limit, the number of the call that fails, and what is read. Call 0
+/// is `begin`, and the calls after it are `take`.
 const READS: &str = "
 a | 100 | 4 | one
 b | 100 | 4 | -
@@ -109,7 +111,8 @@ fn whole_files_are_read(rt: HostRuntime) -> Result<(), Stop> {
     Ok(())
 }
 
-/// A store of a file of seven bytes, which gives at most four at once, and whose calls 0, 1 and 4 fail.
+/// A store of a file of seven bytes, which gives at most four at once, and whose calls 0, 1 and 4
+/// fail.
 fn seven_bytes(alloc: Global) -> Result<MemoryStore, Stop> {
     let mut files = FileList::new(alloc);
     files.add("a", b"seven..")?;
@@ -130,7 +133,8 @@ fn takes<R: Abort>(rt: &R, store: &mut MemoryStore, room: &mut [u8], count: Opti
     assert_eq!(rt; store.take(room).ok(), count);
 }
 
-/// Compares the answers of calls 3 to 7, and the room after the first bytes and after the last but one.
+/// Compares the answers of calls 3 to 7, and the room after the first bytes and after the last but
+/// one.
 fn takes_all<R: Abort>(rt: &R, store: &mut MemoryStore)
     requires chosen { has_chosen store.old ≡ true }
     requires none { taken_of store.old ≡ 0 }
@@ -181,7 +185,8 @@ fn is_written<R: Abort>(rt: &R, alloc: Global, row: &str) -> Result<(), Stop> {
     Ok(())
 }
 
-/// Rows of the room of a sink that takes over four bytes at once, the number of the call that fails, whether the answer is written, and what is held then.
+/// Rows of the room of a sink that takes over four bytes at once, the number of the call that
+/// fails, whether the answer is written, and what is held then.
 const WRITES: &str = "
 10 | 9 | ok | ten bytes.
 20 | 9 | ok | ten bytes.
@@ -228,7 +233,8 @@ fn is_taken<R: Abort>(rt: &R, alloc: Global, sink: &mut MemorySink, row: &str) -
     Ok(())
 }
 
-/// Rows of a piece, how many of its bytes a sink takes over, and what it holds then. The sink has room for six bytes, takes over four at once, and its second call fails.
+/// Rows of a piece, how many of its bytes a sink takes over, and what it holds then. The sink has
+/// room for six bytes, takes over four at once, and its second call fails.
 const PIECES: &str = "
 front | 4 | fron
 t | failed | fron
@@ -254,7 +260,8 @@ fn a_sink_fails_by_number_and_when_full(rt: HostRuntime) -> Result<(), Stop> {
     are_taken(&rt, rt.alloc(), &mut sink)
 }
 
-/// A sink that takes over three bytes at once, notes whether it was given all that was left, and fails from one call on.
+/// A sink that takes over three bytes at once, notes whether it was given all that was left, and
+/// fails from one call on.
 #[derive(Drop)]
 struct Recorder<'a> {
     left: &'a [u8],

@@ -19,7 +19,8 @@ pub record IsLed (p : PlainProblem) (n : ℕ) (x : Pair) : Type 0 where
   pub its_pair : pair_of p path ≡ Some x
   pub leading : IsLeading p n path
 
--- different pairs, each of which some leading path of at most n actions has, and none of the first b of which is accepted
+-- different pairs, each of which some leading path of at most n actions has, and none of the first
+-- b of which is accepted
 pub record AreLed (p : PlainProblem) (n b : ℕ) (xs : List Pair) : Type 0 where
   pub differ : (i j : ℕ) (x : Pair) → slice_get xs i ≡ Some x → slice_get xs j ≡ Some x → i ≡ j
   pub led : (i : ℕ) (x : Pair) → slice_get xs i ≡ Some x → IsLed p n x
@@ -37,7 +38,8 @@ pub record IsLedWith (p : PlainProblem) (n : ℕ) (x : Pair) (m : ℕ) : Type 0 
 abbrev pub IsKeptWithin : ℕ → List Pair → List ℕ → Pair → ℕ → Type 0
 IsKeptWithin n kept most x l = (k : ℕ) × (slice_get kept k ≡ Some x) × (m : ℕ) × (slice_get most k ≡ Some m) × (l < n → 0 < m)
 
--- nothing is left to expand: the kept pairs are those of open paths of at most n actions; and what follows for plans
+-- nothing is left to expand: the kept pairs are those of open paths of at most n actions; and what
+-- follows for plans
 pub record IsExhausted (p : PlainProblem) (n : ℕ) (reported : Reports Pair) (kept : List Pair) (most : List ℕ) : Type 0 where
   pub none : HasNoPlanWithin p n
   pub led : (k : ℕ) (x : Pair) (m : ℕ) → slice_get kept k ≡ Some x → slice_get most k ≡ Some m → IsLedWith p n x m
@@ -46,7 +48,8 @@ pub record IsExhausted (p : PlainProblem) (n : ℕ) (reported : Reports Pair) (k
   pub uncut : IsUncut most → HasNoPlan p × HasNoPairFrom p n
   pub told : (x : Pair) (d : ℕ) → IsDistance p x d → d < n → (a : Action) → IsTrue (is_some (step p x.world a)) → reported x a
 
--- the pair of each proper prefix of a plan has an event for each of its executable actions up to and including the plan's next one
+-- the pair of each proper prefix of a plan has an event for each of its executable actions up to
+-- and including the plan's next one
 pub record IsToldAlong (p : PlainProblem) (reported : Reports Pair) (plan : List Action) : Type 0 where
   pub told : (front rest : List Action) (b : Action) (x : Pair) → front ++ b ∷ rest ≡ plan → pair_of p front ≡ Some x
       → (a : Action) → IsTrue (is_some (step p x.world a)) → action_cmp a b ≢ Greater → reported x a

@@ -18,7 +18,8 @@ use Rattle.tl_depth.specs.declared.level.Level.{Level}
 abbrev pub IsListed : PlainProblem → Task → List KeptPair → ℕ → List Action → Type 0
 IsListed p task kept at listed = (x : KeptPair) × (slice_get kept at ≡ Some x) × ListsActions p x.node.world listed × AreNamedIn task listed
 
--- the i-th executable action of the pair of the number brings no pair that is not kept: this arrives
+-- the i-th executable action of the pair of the number brings no pair that is not kept: this
+-- arrives
 abbrev pub CameOf : PlainProblem → List KeptPair → ℕ → ℕ → Arrival → Type 0
 CameOf p kept at i r = (x : KeptPair) × (slice_get kept at ≡ Some x) × (listed : List Action) × ListsActions p x.node.world listed × (a : Action) × (slice_get listed i ≡ Some a) × ChildArrives p kept kept at a r
 
@@ -52,7 +53,8 @@ KnowsActions known at listed = (p : PlainProblem) (task : Task) (kept : List Kep
 abbrev pub KnowsArrival : Expansions → ℕ → ℕ → Arrival → Type 0
 KnowsArrival known at i r = (p : PlainProblem) (task : Task) (kept : List KeptPair) → AreExpansions p task kept known → CameOf p kept at i r
 
--- where what is remembered was right, and these are the actions of the pair of the number, it is so still
+-- where what is remembered was right, and these are the actions of the pair of the number, it is so
+-- still
 abbrev pub GainsActions : Expansions → Expansions → ℕ → List Action → Type 0
 GainsActions old new at listed = (p : PlainProblem) (task : Task) (kept : List KeptPair) → AreExpansions p task kept old → IsListed p task kept at listed → AreExpansions p task kept new
 
@@ -74,11 +76,13 @@ GainsArrival old new at i r = (p : PlainProblem) (task : Task) (kept : List Kept
 abbrev pub CameOfTop : PlainProblem → List KeptPair → List Level → Arrival → Type 0
 CameOfTop p kept levels r = (front : List Level) (c : Level) → levels ≡ front ++ c ∷ [] → CameOf p kept c.at c.tried (as_seen r)
 
--- if what is remembered was right, and the last level's actions are its pair's, what is remembered is right still
+-- if what is remembered was right, and the last level's actions are its pair's, what is remembered
+-- is right still
 abbrev pub GainsTop : List Level → Expansions → Expansions → Type 0
 GainsTop levels old new = (front : List Level) (c : Level) → levels ≡ front ++ c ∷ [] → GainsActions old new c.at c.actions
 
--- if what is remembered was right, and this came of the last level's next action, what is remembered is right still
+-- if what is remembered was right, and this came of the last level's next action, what is
+-- remembered is right still
 abbrev pub LearnsTop : List Level → Expansions → Expansions → Arrival → Type 0
 LearnsTop levels old new r = (front : List Level) (c : Level) → levels ≡ front ++ c ∷ [] → GainsArrival old new c.at c.tried r
 

@@ -18,7 +18,8 @@ pub record AreGreatest (most : List ℕ) (met : List Meeting) : Type 0 where
 abbrev pub TriesRest : PlainProblem → List Pair → Bool → Level → List Meeting → List Event → List Meeting → List Event → Type 0
 TriesRest p kept cut c = AreTried cut (Meets p kept cut (c.left - 1)) c.at (drop c.tried c.actions)
 
--- the levels below the top one, the lowest last, go on after their actions that are under way, and then nothing is told
+-- the levels below the top one, the lowest last, go on after their actions that are under way, and
+-- then nothing is told
 unfoldable pub GoOn : PlainProblem → List Pair → Bool → List Level → List Meeting → List Event → Type 0
 GoOn p kept cut [] met events = events ≡ []
 GoOn p kept cut (h ∷ below) met events = (mid : List Meeting) × (next : List Event) × TriesRest p kept cut (stepped h) met events mid next × GoOn p kept cut below mid next

@@ -25,18 +25,21 @@ abbrev pub WalksAreOpenPaths : Type 0
 WalksAreOpenPaths = (p : PlainProblem) → (first_pair p).formula ≢ falsum → (path : List Action) (x : Pair)
     → node_after (graph_of p) path ≡ Some x ↔ (IsOpen p path × (pair_of p path ≡ Some x))
 
--- where nothing is left to expand, the kept pairs are those of open paths of at most n actions, and what follows for plans
+-- where nothing is left to expand, the kept pairs are those of open paths of at most n actions, and
+-- what follows for plans
 abbrev pub DepthFirstEnds : Type 0
 DepthFirstEnds = (p : PlainProblem) (n : ℕ) → (first_pair p).formula ≢ falsum → (told : List (Pair × Action)) (kept : List Pair) (most : List ℕ) (calls : ℕ)
     → IsRunning pair_discrete (graph_of p) n (Told told) kept most [] calls → IsExhausted p n (Told told) kept most
 
--- what a pair is that is met for the first time: a leading path has it; where it is accepted, that path is the first simple plan; with it the kept pairs are a cause of giving up
+-- what a pair is that is met for the first time: a leading path has it; where it is accepted, that
+-- path is the first simple plan; with it the kept pairs are a cause of giving up
 pub record IsMetFirst (p : PlainProblem) (n : ℕ) (kept : List Pair) (path : List Action) (q : Pair) : Type 0 where
   pub led : IsLed p n q
   pub plan : IsPairAccepted p q → IsFirstSimplePlan p n path
   pub spent : AreLed p n (length kept) (kept ++ q ∷ [])
 
--- while the top level takes an action, no simple plan comes before the path, and a fresh pair is met by a leading path
+-- while the top level takes an action, no simple plan comes before the path, and a fresh pair is
+-- met by a leading path
 abbrev pub DepthFirstMeets : Type 0
 DepthFirstMeets = (p : PlainProblem) (n : ℕ) → (first_pair p).formula ≢ falsum
     → (told : List (Pair × Action)) (kept : List Pair) (most : List ℕ) (front : List Level) (c : Level) (calls : ℕ) (a : Action) (x : Pair)
@@ -44,7 +47,8 @@ DepthFirstMeets = (p : PlainProblem) (n : ℕ) → (first_pair p).formula ≢ fa
     → slice_get c.actions c.tried ≡ Some a → slice_get kept c.at ≡ Some x
     → HasNoSimplePlanBefore p n (path_of (front ++ c ∷ [])) × ((q : Pair) → unless_pruned (next_pair p x a) ≡ Some q → Each (λ y. y ≢ q) kept → IsMetFirst p n kept (path_of (front ++ c ∷ [])) q)
 
--- the calls are at most n times the number of executable actions of kept pairs of a distance below n
+-- the calls are at most n times the number of executable actions of kept pairs of a distance below
+-- n
 abbrev pub DepthFirstCallsAreFew : Type 0
 DepthFirstCallsAreFew = (p : PlainProblem) (n : ℕ) → (first_pair p).formula ≢ falsum
     → (told : List (Pair × Action)) (kept : List Pair) (most : List ℕ) (levels : List Level) (calls : ℕ)

@@ -33,7 +33,9 @@ use Rattle.tl_depth.specs.Outcomes.{Reported, AreFewCalls, IsDepthFirstOutcome, 
 abbrev pub AreSized : List Level → Type 0
 AreSized levels = Each (λ (c : Level). length c.actions < 2 ^ 64) levels
 
--- the search goes on: at most b pairs are kept, so many calls were made, and no pair was met with no remaining action, unless pairs are entered again; where events are wanted they are, and the events go on to be those of a depth-first search
+-- the search goes on: at most b pairs are kept, so many calls were made, and no pair was met with
+-- no remaining action, unless pairs are entered again; where events are wanted they are, and the
+-- events go on to be those of a depth-first search
 pub record IsOngoing (p : PlainProblem) (b : ℕ) (kept : List Pair) (w : DepthFirst) (calls : ℕ) : Type 0 where
   pub unpruned : (first_pair p).formula ≢ falsum
   pub running : IsRunning pair_discrete (graph_of p) w.within (Reported w.watch kept w.events) kept w.most.items w.stack.items calls
@@ -80,7 +82,8 @@ pub record IsEntered (p : PlainProblem) (kept : List Pair) (at left : ℕ) (befo
 abbrev pub to_do : ℕ → DepthFirst → ℕ
 to_do b w = entries_left b w.within w.most.items * (suc w.within * 2 ^ 64) + level_height w.stack.items
 
--- at the path, some action looks at what is past range in the world of the pair of the number; or want of memory
+-- at the path, some action looks at what is past range in the world of the pair of the number; or
+-- want of memory
 abbrev pub IsEntryFault : PlainProblem → List Pair → ℕ → List Action → SearchFault → Type 0
 IsEntryFault p kept k at (fault.Range path note) = (path ≡ at) × ((x : Pair) → slice_get kept k ≡ Some x → (a : Action) × Tells (looked_by_action p x.world a) note)
 IsEntryFault p kept k at fault.NoMemory = Unit {0}
@@ -90,7 +93,8 @@ abbrev pub Turned : PlainProblem → ℕ → List Pair → DepthFirst → DepthF
 Turned p b kept old new calls None = IsOngoing p b kept new calls × (to_do b new < to_do b old) × (new.within ≡ old.within) × (new.watch ≡ old.watch)
 Turned p b kept old new calls (Some o) = IsDepthFirstOutcome p old.within b kept o × AreFewCalls p old.within kept calls × IsToldOutcome p old.within old.watch kept new.events o
 
--- the pair of number k, which was kept last, is too many or accepted, and ends the search; or neither
+-- the pair of number k, which was kept last, is too many or accepted, and ends the search; or
+-- neither
 abbrev pub Judged : PlainProblem → ℕ → List Pair → DepthFirst → ℕ → ℕ → Option Outcome → Type 0
 Judged p b kept w k left None = (k < b) × ((x : Pair) → slice_get kept k ≡ Some x → IsPairAccepted p x → ⊥)
 Judged p b kept w k left (Some o) =
@@ -101,7 +105,8 @@ Judged p b kept w k left (Some o) =
 abbrev pub IsTop : List Level → ℕ → Type 0
 IsTop levels left = (front : List Level) × (c : Level) × (levels ≡ front ++ c ∷ []) × (c.tried < length c.actions) × (suc left ≡ c.left)
 
--- a turn of the search: it goes on with less to do, or ends; the calls that were made are the steps that were ticked
+-- a turn of the search: it goes on with less to do, or ends; the calls that were made are the steps
+-- that were ticked
 abbrev pub TurnedTo : PlainProblem → ℕ → List Pair → DepthFirst → DepthFirst → ℕ → ℕ → ℕ → Option Outcome → Type 0
 TurnedTo p b kept old new calls before after None = (made : ℕ) × (made + before ≡ calls + after) × Turned p b kept old new made None
 TurnedTo p b kept old new calls before after (Some o) = (made : ℕ) × (made + before ≡ calls + after) × Turned p b kept old new made (Some o)

@@ -23,7 +23,8 @@ use Rattle.tl_search.specs.declared.fault.SearchFault.TheVariants as fault
 abbrev pub Reported : Bool → List Pair → List Event → Pair → Action → Type 0
 Reported watch kept events x a = IsTrue watch → (j : ℕ) × (slice_get kept j ≡ Some x) × One (IsEventOf j a) events
 
--- the calls are at most n times the number of executable actions of kept pairs of a distance below n
+-- the calls are at most n times the number of executable actions of kept pairs of a distance below
+-- n
 abbrev pub AreFewCalls : PlainProblem → ℕ → List Pair → ℕ → Type 0
 AreFewCalls p n kept calls = (s : ℕ) × IsActionSum p n kept s × (calls ≤ n * s)
 
@@ -31,14 +32,16 @@ AreFewCalls p n kept calls = (s : ℕ) × IsActionSum p n kept s × (calls ≤ n
 abbrev pub HasLastPair : PlainProblem → List Pair → List Action → Type 0
 HasLastPair p kept plan = (k : ℕ) × (x : Pair) × (length kept ≡ k + 1) × (slice_get kept k ≡ Some x) × (pair_of p plan ≡ Some x)
 
--- what the search answers: where it is not spent, at most b pairs are kept, which differ and each have a distance of at most n
+-- what the search answers: where it is not spent, at most b pairs are kept, which differ and each
+-- have a distance of at most n
 abbrev pub IsDepthFirstOutcome : PlainProblem → ℕ → ℕ → List Pair → Outcome → Type 0
 IsDepthFirstOutcome p n b kept (outcome.Plan plan) = IsFirstSimplePlan p n plan × HasLastPair p kept plan × (length kept ≤ b) × AreNear p n kept
 IsDepthFirstOutcome p n b kept outcome.NoPlan = HasNoPlan p × HasNoPairFrom p n × (length kept ≤ b) × AreNear p n kept
 IsDepthFirstOutcome p n b kept outcome.NoneWithin = HasNoPlanWithin p n × HasPairAt p n × (length kept ≤ b) × AreNear p n kept
 IsDepthFirstOutcome p n b kept outcome.Spent = IsSpent p n b kept × IsSpentDepthFirst p n kept
 
--- past range has its cause, and no accepted plan of at most n actions that repeats no pair comes before the path; want of memory has no cause
+-- past range has its cause, and no accepted plan of at most n actions that repeats no pair comes
+-- before the path; want of memory has no cause
 abbrev pub IsDepthFirstFault : PlainProblem → ℕ → SearchFault → Type 0
 IsDepthFirstFault p n (fault.Range path note) = IsRangeCause p n path (operation_of note) × HasNoSimplePlanBefore p n path
 IsDepthFirstFault p n fault.NoMemory = Unit {0}
@@ -52,7 +55,10 @@ AllAreReported p n watch kept events =
 abbrev pub TellsInDepth : PlainProblem → ℕ → Bool → List Pair → Bool → List Event → Type 0
 TellsInDepth p n watch kept cut events = watch ≡ true → AreInDepth p n kept cut events
 
--- what was reported, by the answer: with a plan, of the pair of each of its proper prefixes each executable action up to the plan's next one; where all is done, of each pair of a distance below n each executable action; and all in the order of a depth-first search, which a plan or too many pairs cut short
+-- what was reported, by the answer: with a plan, of the pair of each of its proper prefixes each
+-- executable action up to the plan's next one; where all is done, of each pair of a distance below
+-- n each executable action; and all in the order of a depth-first search, which a plan or too many
+-- pairs cut short
 abbrev pub IsToldOutcome : PlainProblem → ℕ → Bool → List Pair → List Event → Outcome → Type 0
 IsToldOutcome p n watch kept events (outcome.Plan plan) = IsToldAlong p (Reported watch kept events) plan × TellsInDepth p n watch kept true events
 IsToldOutcome p n watch kept events outcome.NoPlan = AllAreReported p n watch kept events × TellsInDepth p n watch kept false events

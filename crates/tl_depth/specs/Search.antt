@@ -1,4 +1,5 @@
--- Depth-first search with a memory of remaining depths: its state, and what is true of it at every moment.
+-- Depth-first search with a memory of remaining depths: its state, and what is true of it at every
+-- moment.
 use Rattle.std.specs.Prelude.{◌≡◌, ◌≢◌, ◌≤◌, ◌<◌, ◌+◌, ◌⊎◌, ℕ, zero, suc, List, [], ◌∷◌, ◌++◌, length, Option, Some, IsTrue}
 use Rattle.tl_syntax.specs.declared.action.Action.{Action}
 use Rattle.tl_syntax.specs.Lists.{Each, One}
@@ -12,7 +13,8 @@ Memory Node = Node → Option ℕ
 abbrev pub Reports : Type 0 → Type 1
 Reports Node = Node → Action → Type 0
 
--- a node that is being expanded: with how many remaining actions, which of its actions are done with, and the others, of which the first may be under way
+-- a node that is being expanded: with how many remaining actions, which of its actions are done
+-- with, and the others, of which the first may be under way
 pub record Frame (Node : Type 0) : Type 0 where
   pub node : Node
   pub left : ℕ
@@ -37,7 +39,8 @@ advanced f a later = record { node = f.node; left = f.left; tried = f.tried ++ a
 abbrev pub entered : {Node : Type 0} → Node → ℕ → List Action → Frame Node
 entered x m actions = record { node = x; left = m; tried = []; rest = actions }
 
--- a node is explored to a depth: it was met with at least so many remaining actions, or with some, and each successor of it is explored to one less; to a depth of 0 it is only kept
+-- a node is explored to a depth: it was met with at least so many remaining actions, or with some,
+-- and each successor of it is explored to one less; to a depth of 0 it is only kept
 unfoldable pub IsExplored : {Node : Type 0} → ActionGraph Node → Memory Node → ℕ → Node → Type 0
 IsExplored {Node} g met zero y = (k : ℕ) × (met y ≡ Some k)
 IsExplored {Node} g met (suc l) y = (k : ℕ) × (met y ≡ Some k) × ((suc l ≤ k) ⊎ ((0 < k) × ((a : Action) (z : Node) → g.next y a ≡ Some z → IsExplored g met l z)))
@@ -78,7 +81,8 @@ AreFrames g n reported met (f ∷ below) =
 abbrev pub IsOnStack : {Node : Type 0} → List (Frame Node) → Node → Type 0
 IsOnStack stack x = One (λ f. f.node ≡ x) stack
 
--- a node is kept, met with at most m remaining actions: it is not accepted, and some leading walk with m remaining actions leads to it
+-- a node is kept, met with at most m remaining actions: it is not accepted, and some leading walk
+-- with m remaining actions leads to it
 pub record IsKept {Node : Type 0} (g : ActionGraph Node) (n : ℕ) (x : Node) (m : ℕ) : Type 0 where
   pub refused : g.Accepts x → ⊥
   pub path : List Action
@@ -86,7 +90,8 @@ pub record IsKept {Node : Type 0} (g : ActionGraph Node) (n : ℕ) (x : Node) (m
   pub budget : length path + m ≡ n
   pub leading : IsLeadingWalk g n path
 
--- each executable action of the node was reported, and its successor is explored to each depth below m
+-- each executable action of the node was reported, and its successor is explored to each depth
+-- below m
 abbrev pub IsDone : {Node : Type 0} → ActionGraph Node → Reports Node → Memory Node → Node → ℕ → Type 0
 IsDone g reported met x m = (a : Action) → IsTrue (g.executable x a) → IsCovered g met x m a × reported x a
 
@@ -97,7 +102,8 @@ pub record IsDepthFirst {Node : Type 0} (g : ActionGraph Node) (n : ℕ) (report
   pub done : (x : Node) (m : ℕ) → met x ≡ Some m → 0 < m → IsOnStack stack x ⊎ IsDone g reported met x m
   pub begun : met g.root ≡ Some n
 
--- the memory afterwards: the node was met with m remaining actions, and of the others nothing changed
+-- the memory afterwards: the node was met with m remaining actions, and of the others nothing
+-- changed
 pub record IsMet {Node : Type 0} (x : Node) (m : ℕ) (before after : Memory Node) : Type 0 where
   pub this : after x ≡ Some m
   pub others : (y : Node) → y ≢ x → after y ≡ before y

@@ -1,4 +1,5 @@
--- The tables of the search: what each kept node was met with, how much work that allows, and what is left to do.
+-- The tables of the search: what each kept node was met with, how much work that allows, and what
+-- is left to do.
 use Rattle.std.specs.Prelude.{◌≡◌, ◌≢◌, ◌≤◌, ◌<◌, ◌+◌, ◌-◌, ◌*◌, ◌⊎◌, ℕ, suc, List, [], ◌∷◌, length, slice_get, Some, None}
 use Rattle.tl_syntax.specs.declared.action.Action.{Action}
 use Rattle.tl_syntax.specs.Lists.{Each}
@@ -10,7 +11,8 @@ abbrev pub where_same : {A B : Type 0} → Dec A → B → B → B
 where_same (yes h) x y = x
 where_same (no h) x y = y
 
--- with how many remaining actions a node was met: its number in the second list stands where the node stands in the first
+-- with how many remaining actions a node was met: its number in the second list stands where the
+-- node stands in the first
 unfoldable pub met_in : {Node : Type 0} → Discrete Node → List Node → List ℕ → Memory Node
 met_in same [] most y = None
 met_in same (x ∷ kept) [] y = None
@@ -25,7 +27,8 @@ abbrev pub AllDiffer : {Node : Type 0} → List Node → Type 0
 AllDiffer [] = Unit {0}
 AllDiffer (x ∷ kept) = Each (λ y. y ≢ x) kept × AllDiffer kept
 
--- the sum over the kept nodes of the number of executable actions, each times the number of remaining actions with which the node was met
+-- the sum over the kept nodes of the number of executable actions, each times the number of
+-- remaining actions with which the node was met
 unfoldable pub IsWork : {Node : Type 0} → ActionGraph Node → List Node → List ℕ → ℕ → Type 0
 IsWork g [] most t = t ≡ 0
 IsWork g (x ∷ kept) [] t = ⊥
@@ -37,7 +40,8 @@ pub record IsNearNode {Node : Type 0} (g : ActionGraph Node) (n : ℕ) (x : Node
   pub ends : node_after g path ≡ Some x
   pub short : length path < n
 
--- the sum of the numbers of executable actions over some of the nodes, to each of which a walk of fewer than n actions leads
+-- the sum of the numbers of executable actions over some of the nodes, to each of which a walk of
+-- fewer than n actions leads
 unfoldable pub IsNearSum : {Node : Type 0} → ActionGraph Node → ℕ → List Node → ℕ → Type 0
 IsNearSum g n [] s = s ≡ 0
 IsNearSum g n (x ∷ kept) s =
@@ -64,7 +68,8 @@ abbrev pub lacking : ℕ → List ℕ → ℕ
 lacking n [] = 0
 lacking n (m ∷ most) = (n - m) + lacking n most
 
--- how often a node may still be entered, at most: each of a number of nodes that may be kept, each of those that are kept
+-- how often a node may still be entered, at most: each of a number of nodes that may be kept, each
+-- of those that are kept
 abbrev pub entries_left : ℕ → ℕ → List ℕ → ℕ
 entries_left nodes n most = (suc nodes - length most) * suc n + lacking n most
 

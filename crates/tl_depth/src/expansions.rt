@@ -29,7 +29,8 @@ fn seen_again(arrival: Arrival) -> Arrival
 }
 
 impl Expansion {
-    /// The pair is entered. Its actions are given out, where they are known, so that they are known no longer.
+    /// The pair is entered. Its actions are given out, where they are known, so that they are known
+    /// no longer.
     fn enter(&mut self) -> Option<PackedActions>
         ensures result { result ≡ self.old.actions }
         ensures actions { self.new.actions ≡ None }
@@ -39,7 +40,8 @@ impl Expansion {
         self.actions.take()
     }
 
-    /// The pair is left. Its actions are known from now on, where it was entered again; a pair that is entered once takes no memory for them.
+    /// The pair is left. Its actions are known from now on, where it was entered again; a pair that
+    /// is entered once takes no memory for them.
     fn leave(&mut self, actions: PackedActions)
         ensures actions { (self.new.actions ≡ self.old.actions) ⊎ (self.new.actions ≡ Some actions) }
         ensures arrivals { self.new.arrivals.items ≡ self.old.arrivals.items }
@@ -49,7 +51,8 @@ impl Expansion {
         }
     }
 
-    /// What came of the action of this place is known from now on, where that of each action before it is known, and its own is not.
+    /// What came of the action of this place is known from now on, where that of each action before
+    /// it is known, and its own is not.
     fn add(&mut self, tried: usize, arrival: Arrival) -> Result<(), NoMemory>
         ensures actions { self.new.actions ≡ self.old.actions }
         ensures arrivals { AddsAt self.old.arrivals.items self.new.arrivals.items tried arrival }
@@ -96,7 +99,8 @@ impl Expansions {
         Ok(())
     }
 
-    /// The pair of the number is entered. Its actions are given out, where they are known, so that they are known no longer.
+    /// The pair of the number is entered. Its actions are given out, where they are known, so that
+    /// they are known no longer.
     pub fn take_actions(
         &mut self,
         alloc: Global,
@@ -109,7 +113,8 @@ impl Expansions {
         Ok(self.entries[at].enter())
     }
 
-    /// The pair of the number is left. Its actions are known from now on, where it was entered again.
+    /// The pair of the number is left. Its actions are known from now on, where it was entered
+    /// again.
     pub fn give_back(&mut self, at: usize, actions: PackedActions)
         ensures { GainsActions self.old self.new at actions }
     {
@@ -133,7 +138,8 @@ impl Expansions {
         Some(arrivals[tried])
     }
 
-    /// What came of the action of the pair of the number is known from now on, where that of each action before it is known.
+    /// What came of the action of the pair of the number is known from now on, where that of each
+    /// action before it is known.
     pub fn learn(&mut self, at: usize, tried: usize, arrival: Arrival) -> Result<(), NoMemory>
         ensures { OnOk result (GainsArrival self.old self.new at tried arrival) }
     {

@@ -26,9 +26,11 @@ pub struct Head {
     pub count: u32,
 }
 
-/// A list of actions, which contracts see as such. An action takes 12 bytes, and 4 for each argument, where there are more than a few.
+/// A list of actions, which contracts see as such. An action takes 12 bytes, and 4 for each
+/// argument, where there are more than a few.
 ///
-/// An argument then has a code of 32 bits: a symbol's number, or where the value stands among others, which are integers and the symbols of large numbers.
+/// An argument then has a code of 32 bits: a symbol's number, or where the value stands among
+/// others, which are integers and the symbols of large numbers.
 #[derive(Drop)]
 pub struct PackedActions {
     count: usize,
@@ -82,7 +84,8 @@ fn code_at(place: usize) -> Result<u32, NoMemory>
     Ok(SYMBOLS + place as u32)
 }
 
-/// The code of the value, which is put among the others where it is to stand there and is not found.
+/// The code of the value, which is put among the others where it is to stand there and is not
+/// found.
 fn code_of(value: Value, others: &mut Vec<Value>) -> Result<u32, NoMemory>
     ensures others { OnOk result (Lengthens others.old.items others.new.items) }
     ensures code { IfOk result (IsCodeOf others.new.items value) }
@@ -178,7 +181,8 @@ impl PackedActions {
         })
     }
 
-    /// The same list. It fails for want of memory alone, which is so for arguments of 2^32 codes too.
+    /// The same list. It fails for want of memory alone, which is so for arguments of 2^32 codes
+    /// too.
     pub fn of(alloc: Global, actions: Actions) -> Result<PackedActions, NoMemory>
         ensures { IfOk result (λ packed. packed ≡ actions) }
     {

@@ -1,4 +1,5 @@
-// What a search has beside its space: the stack, and with how many remaining actions each pair was met.
+// What a search has beside its space: the stack, and with how many remaining actions each pair was
+// met.
 ghost use Rattle.std.specs.Prelude.{◌≡◌, [], ◌∷◌, IfOk, OnOk};
 ghost use Rattle.tl_depth.specs.Levels.{path_of};
 ghost use Rattle.tl_depth.specs.Stacks.{IsStepped, IsUnfinished, IsRangeAfter, PassesTop, LosesTop, LeavesTop, TellsTop};
@@ -22,7 +23,9 @@ pub struct DepthFirst {
     pub within: u32,
     /// Whether events are wanted.
     pub watch: bool,
-    /// Whether a kept pair is entered again where it is met with more remaining actions than ever before: from the beginning where events are wanted, and else from the first pair on that was met with none.
+    /// Whether a kept pair is entered again where it is met with more remaining actions than ever
+    /// before: from the beginning where events are wanted, and else from the first pair on that was
+    /// met with none.
     pub reenters: bool,
     /// With how many remaining actions each pair was met, at most.
     pub most: Vec<u32>,
@@ -48,7 +51,8 @@ pub fn path(alloc: Global, levels: &[Level]) -> Result<Actions, NoMemory>
     Ok(found)
 }
 
-/// The fault at an operation past range after the actions that the levels are at, or want of memory where there is no room for them.
+/// The fault at an operation past range after the actions that the levels are at, or want of memory
+/// where there is no room for them.
 pub fn past_range(alloc: Global, levels: &[Level], note: RangeNote) -> SearchFault
     ensures { IsRangeAfter (path_of levels.now) note result }
 {

@@ -2,7 +2,8 @@
 use Rattle.std.specs.Prelude.{ℕ, List, [], Bool, false}
 use Rattle.tl_formulas.specs.declared.signature.NameSignature.{NameSignature}
 
--- the predicates, functions and definitions; the names of the operators; the levels of all `defined` items together;
+-- the predicates, functions and definitions; the names of the operators; the levels of all
+-- `defined` items together;
 -- and whether there is a control item
 pub record Declarations : Type 0 where
   pub signature : NameSignature

@@ -1,7 +1,7 @@
 -- Domain files: the breaks of a file, and the forms as they are read.
 --
--- The breaks of a file are listed in the order of its forms, and the rules of one form by their numbers, so that
--- the first break is the one that is answered: offsets rise in reading order.
+-- The breaks of a file are listed in the order of its forms, and the rules of one form by their
+-- numbers, so that the first break is the one that is answered: offsets rise in reading order.
 use Rattle.std.specs.Prelude.{List, [], ◌∷◌, ◌++◌, Bool, false, ◌&&◌, not, codes}
 use Rattle.tl_sexpr.specs.Tree.{FormTree, FormTrees, symbol, integer, list, no_form, more_forms}
 use Rattle.tl_rules.specs.declared.rule.Rule.TheVariants.{Shape}

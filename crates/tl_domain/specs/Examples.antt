@@ -1,4 +1,5 @@
--- Worked examples of files and of the first rule that each breaks. Above each stands the text of the file.
+-- Worked examples of files and of the first rule that each breaks. Above each stands the text of
+-- the file.
 use Rattle.std.specs.Prelude.{◌≡◌, ℕ, pos, List, [], ◌∷◌, Option, Some, None, refl, codes}
 use Rattle.tl_sexpr.specs.Tree.{FormTree, symbol, integer, list, trees_of_list}
 use Rattle.tl_rules.specs.declared.rule.Rule.TheVariants.{Shape, Unknown, Twice, Arity, Unbound, Shadow, NotInBound, Temporal}
@@ -449,7 +450,8 @@ pub a_body_too_deep :
 unfolding term_breaks goal_breaks bound_breaks formula_breaks effect_breaks
 a_body_too_deep = refl
 
--- (domain lamps (predicate lamp 1) (predicate on 1) (operator (press ?x) (bounds (lamp ?x)) (pre (not (on ?x))) (effects (add (on ?x)))))
+-- (domain lamps (predicate lamp 1) (predicate on 1) (operator (press ?x) (bounds (lamp ?x)) (pre
+-- (not (on ?x))) (effects (add (on ?x)))))
 abbrev the_lamps : List FormTree
 the_lamps =
     forms (

@@ -1,6 +1,7 @@
 -- What a domain file and a problem file stand for together, by the forms of both.
 --
--- Names are the texts of all symbols of both files. The number of a name is its place in the order of their bytes.
+-- Names are the texts of all symbols of both files. The number of a name is its place in the order
+-- of their bytes.
 use Rattle.std.specs.Prelude.{◌≡◌, ◌↔◌, ◌⊎◌, ◌+◌, ◌<◌, ◌^◌, ℕ, List, [], ◌∷◌, length}
 use Rattle.std.specs.BTreeSet.{insert_key}
 use Rattle.std.specs.Cmp.Lexicographic.{slice_cmp}
@@ -35,7 +36,8 @@ names_of first second = in_order (names_with_all (names_with_all [] first) secon
 abbrev pub HaveRoomTogether : FormTrees → FormTrees → Type 0
 HaveRoomTogether first second = symbols_in_all first + symbols_in_all second < 2 ^ 32
 
--- a domain with these predicates and functions alone; a problem file goes by nothing else of its domain
+-- a domain with these predicates and functions alone; a problem file goes by nothing else of its
+-- domain
 abbrev pub declared_in : DomainTree → Domain
 declared_in d = record {
   name = d.name;
@@ -57,8 +59,8 @@ pub record AreNamesOf (first second : FormTrees) (names : List (List ℕ)) : Typ
   pub in_order : IsInOrder names
   pub are_texts : (text : List ℕ) → Among text names ↔ (HaveSymbol first text ⊎ HaveSymbol second text)
 
--- the forms of both files break no rule and stand for this problem: its domain is what the first mean, and what is true
--- at first and what is wanted is what the second say
+-- the forms of both files break no rule and stand for this problem: its domain is what the first
+-- mean, and what is true at first and what is wanted is what the second say
 pub record AreFilesOf (first second : FormTrees) (p : Problem) : Type 0 where
   pub domain_lawful : domain_file_breaks first ≡ []
   pub problem_lawful : problem_breaks first second ≡ []
@@ -66,7 +68,8 @@ pub record AreFilesOf (first second : FormTrees) (p : Problem) : Type 0 where
   pub domain : domain_tree p.domain ≡ domain_file_meant p.names first
   pub said : sections_of p ≡ problem_file_meant p.names p.domain second
 
--- the names of both files, and the domain of the first, which keeps what the domain of every problem keeps
+-- the names of both files, and the domain of the first, which keeps what the domain of every
+-- problem keeps
 pub record IsRead (first second : FormTrees) (made : List (List ℕ) × Domain) : Type 0 where
   pub names : made.0 ≡ names_of first second
   pub domain : domain_tree made.1 ≡ domain_file_meant (names_of first second) first

@@ -1,4 +1,5 @@
--- Items of a domain: the rules that a form breaks in the role of an item, and what an item declares.
+-- Items of a domain: the rules that a form breaks in the role of an item, and what an item
+-- declares.
 use Rattle.std.specs.Prelude.{ℕ, ◌+◌, List, [], ◌∷◌, ◌++◌, Bool, true, false, ◌&&◌, ◌||◌, ◌==◌, not, nat_lt, length, Option, Some, None}
 use Rattle.tl_sexpr.specs.Tree.{FormTree, FormTrees, symbol, integer, no_form, more_forms}
 use Rattle.tl_domain.specs.Words as item
@@ -69,7 +70,8 @@ abbrev pub declaration_breaks : NameSignature → FormTrees → List Break
 declaration_breaks g (more_forms name (more_forms arity no_form)) = head_name_breaks (is_taken g) name ++ arity_breaks arity
 declaration_breaks g _ = []
 
--- what the elements of a declaration break, with what its list breaks at an offset, before which there are so many of its kind
+-- what the elements of a declaration break, with what its list breaks at an offset, before which
+-- there are so many of its kind
 abbrev pub new_declaration_breaks : NameSignature → ℕ → FormTrees → ℕ → List Break
 new_declaration_breaks g before rest at =
     (breaks_if (not (has_declaration_shape rest)) Shape at ++ breaks_if (not (nat_lt before 256)) Limit at)
@@ -80,7 +82,8 @@ abbrev pub levels_breaks : ℕ → FormTree → List Break
 levels_breaks before (integer z at) = breaks_if (not (is_within 1 64 z) || nat_lt 64 (before + natural z)) Limit at
 levels_breaks before _ = []
 
--- a name with a number of arguments, at the end of the predicates, of the functions and of the definitions
+-- a name with a number of arguments, at the end of the predicates, of the functions and of the
+-- definitions
 abbrev pub with_predicate : NameSignature → List ℕ × ℕ → NameSignature
 with_predicate g e = record { predicates = g.predicates ++ e ∷ []; functions = g.functions; definitions = g.definitions }
 
@@ -104,7 +107,8 @@ natural_of _ = 0
 abbrev pub with_head : NameSignature → FormTree → NameSignature
 with_head g head = with_definition g (name_in_head head, count (rest_of head))
 
--- what a head and a body break after what the first signature has, where the body may use what the second has
+-- what a head and a body break after what the first signature has, where the body may use what the
+-- second has
 abbrev pub definition_breaks : NameSignature → NameSignature → FormTree → FormTree → List Break
 definition_breaks g h head f =
     head_breaks 8 (is_taken g) (λ text. true) head ++ formula_breaks role.Body h (parameters_of head) f

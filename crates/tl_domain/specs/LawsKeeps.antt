@@ -8,7 +8,8 @@ use Rattle.tl_domain.specs.DomainFiles.{domain_file_breaks}
 use Rattle.tl_domain.specs.DomainTrees.{domain_tree}
 use Rattle.tl_domain.specs.MeaningOfItems.{domain_file_meant}
 
--- a domain that forms stand for which break no rule, under names for all their symbols, keeps what the domain of every problem keeps
+-- a domain that forms stand for which break no rule, under names for all their symbols, keeps what
+-- the domain of every problem keeps
 abbrev pub DomainIsKept : Type 0
 DomainIsKept =
     (names : List (List ℕ)) (forms : FormTrees) (d : Domain)

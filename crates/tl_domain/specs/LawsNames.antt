@@ -17,13 +17,15 @@ abbrev pub is_constant : List (List ℕ) → Value → Bool
 is_constant names (Int z) = true
 is_constant names (Sym n) = option_map_or (λ text. not (is_variable text)) (slice_get names n) false
 
--- each name is the text of a symbol, no value that is written down is a variable, and operators have different names
+-- each name is the text of a symbol, no value that is written down is a variable, and operators
+-- have different names
 pub record HasWritableNames (p : Problem) : Type 0 where
   pub names : Each IsSymbolText p.names
   pub values : ProblemPasses (is_constant p.names) p
   pub operators : Differ (map (λ o. o.name) p.domain.operators)
 
--- so it is with a problem that the forms of two files stand for, where their symbols have texts of symbols
+-- so it is with a problem that the forms of two files stand for, where their symbols have texts of
+-- symbols
 abbrev pub LawfulNamesAreWritable : Type 0
 LawfulNamesAreWritable =
     (first second : FormTrees) (p : Problem)

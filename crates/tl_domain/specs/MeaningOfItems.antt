@@ -1,4 +1,5 @@
--- The domain that a file stands for. Where a form breaks a rule, what is said of it here does not matter.
+-- The domain that a file stands for. Where a form breaks a rule, what is said of it here does not
+-- matter.
 use Rattle.std.specs.Prelude.{ℕ, List, [], ◌∷◌, ◌++◌, Option, Some, None}
 use Rattle.tl_sexpr.specs.Tree.{FormTree, FormTrees, symbol, no_form, more_forms}
 use Rattle.tl_syntax.specs.declared.bound.Bound.{Bound}
@@ -37,7 +38,8 @@ definition_named names g levels name scope body = record {
 abbrev pub definition_meant : List (List ℕ) → NameSignature → ℕ → FormTree → FormTree → DefinitionTree
 definition_meant names g levels head body = definition_named names g levels (name_in_head head) (parameters_of head) body
 
--- the bounds of a clause, the precondition of one, and the effects of one, or what stands for them where there is none
+-- the bounds of a clause, the precondition of one, and the effects of one, or what stands for them
+-- where there is none
 abbrev pub bounds_clause_meant : List (List ℕ) → NameSignature → Scope → Option FormTree → List Bound
 bounds_clause_meant names g scope (Some clause) = bounds_meant names g scope (rest_of clause)
 bounds_clause_meant names g scope None = []
@@ -65,7 +67,8 @@ abbrev pub operator_meant : List (List ℕ) → NameSignature → FormTree → F
 operator_meant names g head clauses =
     operator_with names g (name_in_head head) (parameters_of head) (clause_trees clauses)
 
--- the predicates, functions, definitions and operators of an item, by its first word and the elements after it
+-- the predicates, functions, definitions and operators of an item, by its first word and the
+-- elements after it
 abbrev pub predicates_of_item : List (List ℕ) → ItemWord → FormTrees → List Declared
 predicates_of_item names item.Predicate rest = declared_meant names rest
 predicates_of_item names _ rest = []
@@ -89,7 +92,8 @@ abbrev pub control_with : List (List ℕ) → NameSignature → FormulaTree → 
 control_with names g control item.Control (more_forms f no_form) = formula_meant names g [] f
 control_with names g control _ _ = control
 
--- a domain with what an item adds, by its first word and the elements after it, where these things are declared before it
+-- a domain with what an item adds, by its first word and the elements after it, where these things
+-- are declared before it
 abbrev pub with_item : List (List ℕ) → NameSignature → DomainTree → ItemWord → FormTrees → DomainTree
 with_item names g d w rest = record {
   name = d.name;

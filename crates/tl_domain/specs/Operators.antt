@@ -31,8 +31,8 @@ abbrev pub parameter_breaks : (List ℕ → Bool) → Scope → List ℕ → ℕ
 parameter_breaks occurs earlier text at =
     breaks_if (is_some (slot_of earlier text)) Twice at ++ breaks_if (not (occurs text)) NotInBound at
 
--- what the variables of a head break, of which these stand before: one of them again, or, where the test says so, one
--- that occurs nowhere in the bounds
+-- what the variables of a head break, of which these stand before: one of them again, or, where the
+-- test says so, one that occurs nowhere in the bounds
 abbrev pub parameters_breaks : (List ℕ → Bool) → Scope → FormTrees → List Break
 parameters_breaks occurs earlier no_form = []
 parameters_breaks occurs earlier (more_forms (symbol text at) fs) =
@@ -79,7 +79,8 @@ abbrev pub after_leading : List ℕ → FormTrees → FormTrees
 after_leading word no_form = no_form
 after_leading word (more_forms f fs) = if begins_with word f then fs else more_forms f fs
 
--- the clauses of an operator, which stand in the order `bounds`, `pre`, `effects`, each at most once
+-- the clauses of an operator, which stand in the order `bounds`, `pre`, `effects`, each at most
+-- once
 abbrev pub bounds_clause : FormTrees → Option FormTree
 bounds_clause fs = leading (codes "bounds") fs
 
@@ -142,7 +143,8 @@ clause_trees_breaks g scope c =
 abbrev pub clauses_breaks : NameSignature → Scope → FormTrees → List Break
 clauses_breaks g scope fs = clause_trees_breaks g scope (clause_trees fs)
 
--- what an operator breaks that stands after operators with these names, by its elements after the first
+-- what an operator breaks that stands after operators with these names, by its elements after the
+-- first
 abbrev pub operator_breaks : NameSignature → List (List ℕ) → FormTrees → List Break
 operator_breaks g operators no_form = []
 operator_breaks g operators (more_forms head clauses) =

@@ -2,8 +2,9 @@
 use Rattle.std.specs.Prelude.{ℕ, List, if◌then◌else◌, codes}
 use Rattle.std.specs.Str.{bytes_eq}
 
--- a predicate or a function is declared; a formula is defined, whose name can be used after it (`define`) or in its own
--- body too (`defined`); an operator, or the control formula, is given; or another word, of which there is no item
+-- a predicate or a function is declared; a formula is defined, whose name can be used after it
+-- (`define`) or in its own body too (`defined`); an operator, or the control formula, is given; or
+-- another word, of which there is no item
 pub data ItemWord : Type 0 where
   Predicate : ItemWord
   Function : ItemWord

@@ -18,7 +18,8 @@ use tl_rules::{FormFault, Rule, Vocabulary, breaks, number_of};
 use tl_sexpr::Form;
 use tl_syntax::Definition;
 
-/// Whether a name is a word of the language, or that of an earlier predicate, function or definition.
+/// Whether a name is a word of the language, or that of an earlier predicate, function or
+/// definition.
 pub(crate) fn is_taken(signature: &NameSignature<'_>, text: &str) -> bool
     ensures { result ≡ is_taken signature.now text.now }
 {
@@ -50,7 +51,8 @@ pub(crate) fn arity(number: Integer) -> Result<u32, FormFault>
     Ok(number.value as u32)
 }
 
-/// The number of levels of a definition, at least 1, which together with those before is at most 64.
+/// The number of levels of a definition, at least 1, which together with those before is at most
+/// 64.
 pub(crate) fn levels(before: u32, number: Integer) -> Result<u32, FormFault>
     requires few { before ≤ 64 }
     ensures read { Reads (λ (x : ℕ). x) result (levels_breaks before (integer_tree number))

@@ -31,7 +31,8 @@ fn declared_arity(
     arity(declaration.arity)
 }
 
-/// The name and the number of arguments of a declaration, before which there are so many of its kind.
+/// The name and the number of arguments of a declaration, before which there are so many of its
+/// kind.
 #[tactic(auto, using(crate::proofs::Rulesets::items))]
 fn declared<'a>(
     signature: &NameSignature<'_>,

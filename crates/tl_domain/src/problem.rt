@@ -26,7 +26,8 @@ fn names_in(alloc: Global, first: &Forms, second: &Forms) -> Result<Names, NoMem
     Ok(names)
 }
 
-/// The names of both files, and the domain of the first, which breaks no rule. It fails for want of memory alone.
+/// The names of both files, and the domain of the first, which breaks no rule. It fails for want of
+/// memory alone.
 fn names_and_domain(
     alloc: Global,
     first: &Forms,
@@ -46,11 +47,13 @@ fn names_and_domain(
     }
 }
 
-/// The problem that the forms of a domain file and those of a problem file stand for, where the first break no rule.
+/// The problem that the forms of a domain file and those of a problem file stand for, where the
+/// first break no rule.
 ///
-/// The names are the texts of all symbols of both files, numbered by the order of their bytes, and all trees are made with
-/// these numbers. Where a form of the second file breaks a rule, the fault is the one with the least offset and there the
-/// least rule. The forms of the domain file are dropped as soon as they are read.
+/// The names are the texts of all symbols of both files, numbered by the order of their bytes, and
+/// all trees are made with these numbers. Where a form of the second file breaks a rule, the fault
+/// is the one with the least offset and there the least rule. The forms of the domain file are
+/// dropped as soon as they are read.
 pub fn problem_of(alloc: Global, first: Forms, second: &Forms) -> Result<Problem, FormFault>
     requires lawful { domain_file_breaks (trees_of first) ≡ [] }
     requires room { HaveRoomTogether (trees_of first) (trees_of second.now) }

@@ -10,7 +10,8 @@ use Rattle.tl_terms.specs.Situation.{Situation}
 use Rattle.tl_world.specs.declared.pattern.Pattern.{Pattern}
 use Rattle.tl_world.specs.MatchReading.{Reading}
 
--- they are the tuples that make the bound true in the situation, where all other variables have their values in e
+-- they are the tuples that make the bound true in the situation, where all other variables have
+-- their values in e
 pub record ReadsBound (s : Situation) (ss : List Var) (e : Assignment) (b : Bound) (r : Reading) : Type 0 where
   pub stands : IsPatternOf ss e b r.pattern
   pub world : r.world ≡ world_read s b

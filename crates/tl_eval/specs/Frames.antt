@@ -35,7 +35,8 @@ Binds ss vs old new = assignment_in new ≡ bind ss vs (assignment_in old)
 abbrev pub BindsInScope : List Var → List Value → List (Option Value) → List (Option Value) → Type 0
 BindsInScope ss vs old new = Binds ss vs (take 32 old) (take 32 new)
 
--- the new frame gives the variables these values or none, and the other slots what the old one gives them
+-- the new frame gives the variables these values or none, and the other slots what the old one
+-- gives them
 abbrev pub PutsBack : List Var → List (Option Value) → List (Option Value) → List (Option Value) → Type 0
 PutsBack ss os old new = assignment_in new ≡ given_back ss os (assignment_in old)
 
@@ -43,7 +44,8 @@ PutsBack ss os old new = assignment_in new ≡ given_back ss os (assignment_in o
 abbrev pub PutsBackInScope : List Var → List (Option Value) → List (Option Value) → List (Option Value) → Type 0
 PutsBackInScope ss os old new = PutsBack ss os (take 32 old) (take 32 new)
 
--- the two give each slot that is of none of the variables the same: they are the same once these have values
+-- the two give each slot that is of none of the variables the same: they are the same once these
+-- have values
 abbrev pub AgreeElsewhere : List Var → Assignment → Assignment → Type 0
 AgreeElsewhere ss d e = (t : List Value) → bind ss t d ≡ bind ss t e
 
@@ -64,6 +66,7 @@ pub record AreKept (ss : List Var) (frame values : List (Option Value)) : Type 0
   pub slots : length frame ≡ 32
   pub same : AreSlotValues ss frame values
 
--- where the values were kept of a frame with which the old one agrees elsewhere, the new frame is that one
+-- where the values were kept of a frame with which the old one agrees elsewhere, the new frame is
+-- that one
 abbrev pub GivesBack : List Var → List (Option Value) → List (Option Value) → List (Option Value) → Type 0
 GivesBack ss values old new = (frame : List (Option Value)) → AreKept ss frame values → AgreeElsewhere ss (assignment_in old) (assignment_in frame) → new ≡ frame

@@ -1,4 +1,5 @@
--- What an evaluation answers: the value of the definition, where no operation that is looked at is past range, and else one that is.
+-- What an evaluation answers: the value of the definition, where no operation that is looked at is
+-- past range, and else one that is.
 use Rattle.std.specs.Prelude.{◌≡◌, ◌++◌, List, Bool, true, false, Option, Some, None, Result, Ok, Err, ℤ}
 use Rattle.tl_syntax.specs.declared.value.Value.{Value}
 use Rattle.tl_syntax.specs.declared.value.Value.TheVariants.{Int, Sym}
@@ -41,7 +42,8 @@ integer_found (Ok (Some (Sym k))) = Ok None
 integer_found (Ok None) = Ok None
 integer_found (Err note) = Err note
 
--- what is known of all operations once the rest is: they are in range where the rest is, and those of the rest are among them
+-- what is known of all operations once the rest is: they are in range where the rest is, and those
+-- of the rest are among them
 pub record Carries (all rest : List Operation) : Type 0 where
   pub in_range : AreInRange rest → AreInRange all
   pub among : (o : Operation) → Among o rest → Among o all

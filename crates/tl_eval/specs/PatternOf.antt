@@ -25,7 +25,8 @@ free_or_fixed (Some n) o = Some (Free n)
 free_or_fixed None (Some v) = Some (Fixed v)
 free_or_fixed None None = None
 
--- the part for an argument: a value, a variable of the list by its position, or the known value of another variable
+-- the part for an argument: a value, a variable of the list by its position, or the known value of
+-- another variable
 abbrev pub part_for : List Var → Assignment → Arg → Option Part
 part_for ss e (arg.Var s) = free_or_fixed (position (λ u. s.slot == u.slot) ss) (e s.slot)
 part_for ss e (arg.Val v) = Some (Fixed v)
@@ -48,7 +49,8 @@ abbrev pub IsPatternOfArgs : List Var → Assignment → Bool → ℕ → List A
 IsPatternOfArgs ss e place name xs None = Among None (map (part_for ss e) xs)
 IsPatternOfArgs ss e place name xs (Some p) = HasParts ss e place name xs p
 
--- the pattern in place, which keeps its name, is that of the fact of the arguments, where it counts, or some argument has no part
+-- the pattern in place, which keeps its name, is that of the fact of the arguments, where it
+-- counts, or some argument has no part
 abbrev pub PutsFact : List Var → List (Option Value) → List Arg → Bool → Pattern → Pattern → Type 0
 PutsFact ss frame xs counts old new = IsPatternOfArgs ss (assignment_in frame) false old.name xs (in_place counts new)
 
@@ -64,7 +66,8 @@ world_read s (bound.GoalFact p xs) = s.goal
 world_read s (bound.GoalPlace f xs x) = s.goal
 world_read s (bound.GoalNot p xs) = s.avoid
 
--- the pattern is lawful and has as many variables, and the tuples that make it true are those that make the bound true
+-- the pattern is lawful and has as many variables, and the tuples that make it true are those that
+-- make the bound true
 pub record StandsForBound (ss : List Var) (e : Assignment) (b : Bound) (p : Pattern) : Type 0 where
   pub lawful : IsLawful p
   pub free : p.free ≡ length ss

@@ -1,4 +1,5 @@
--- The truth of formulas that are plain to read: nothing is looked at for them that can be past range.
+-- The truth of formulas that are plain to read: nothing is looked at for them that can be past
+-- range.
 use Rattle.std.specs.Prelude.{◌≡◌, ℕ, List, Bool, Option, Ok}
 use Rattle.tl_eval.specs.Frames.{assignment_in}
 use Rattle.tl_eval.specs.TermValues.{IsAtomTruth, IsComparison}

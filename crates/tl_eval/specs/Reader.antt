@@ -14,7 +14,8 @@ use Rattle.tl_world.specs.declared.pattern.Match.{Match}
 use Rattle.tl_world.specs.declared.pattern.Pattern.{Pattern}
 use Rattle.tl_world.specs.Patterns.{IsLawful, tuple_in_place, tuple_of}
 
--- of the tuples that make the bound true, it is the least one that comes after the first, where that is given
+-- of the tuples that make the bound true, it is the least one that comes after the first, where
+-- that is given
 abbrev pub IsNextTuple : Situation → List Var → Assignment → Bound → Option (List Value) → Option (List Value) → Type 0
 IsNextTuple s ss e b after next = IsNext (length ss) (λ t. bound_true s (bind ss t e) b) after next
 
@@ -22,7 +23,8 @@ IsNextTuple s ss e b after next = IsNext (length ss) (λ t. bound_true s (bind s
 abbrev pub IsNextMatch : Situation → List Var → Assignment → Bound → Option Match → Option Match → Type 0
 IsNextMatch s ss e b after next = IsNextTuple s ss e b (option_map tuple_of after) (option_map tuple_of next)
 
--- a reader: the pattern that it goes by, where its bound has one, and the tuple that it has come to, where there is one
+-- a reader: the pattern that it goes by, where its bound has one, and the tuple that it has come
+-- to, where there is one
 pub record Reader : Type 0 where
   pub pattern : Option Pattern
   pub tuple : Option (List Value)
@@ -48,7 +50,8 @@ ReadsAsBefore b old new = (ss : List Var) (e : Assignment) → ReadsTuples ss e 
 abbrev pub HasAsMany : Reader → List Value → Type 0
 HasAsMany r values = (ss : List Var) (e : Assignment) (b : Bound) → ReadsTuples ss e b r → length values ≡ length ss
 
--- what each reader keeps: the pattern is lawful, and the tuple that it has come to has a value for each variable; without a pattern it has come to none
+-- what each reader keeps: the pattern is lawful, and the tuple that it has come to has a value for
+-- each variable; without a pattern it has come to none
 abbrev pub CanGoOn : Option Pattern → Bool → Match → Type 0
 CanGoOn None begun m = begun ≡ false
 CanGoOn (Some p) begun m = IsLawful p × (begun ≡ true → m.len ≡ p.free)

@@ -30,7 +30,8 @@ abbrev pub own_look : PlainProblem → World → ℕ → ℕ → Option PlainDef
 own_look p w n k None = []
 own_look p w n k (Some d) = looked_at_level p w (tests_before p w n) (looks_before p w n) d k ∷ []
 
--- the tests of the first n definitions and of definition n at level k; all tests where n is the number of definitions
+-- the tests of the first n definitions and of definition n at level k; all tests where n is the
+-- number of definitions
 unfoldable pub tests_read : PlainProblem → World → ℕ → ℕ → Tests
 tests_read p w n k = tests_before p w n ++ own_test p w n k (slice_get p.definitions n)
 
@@ -46,6 +47,7 @@ situation_read p w n k = situation_under p w (tests_read p w n k)
 abbrev pub looked_read : PlainProblem → World → ℕ → ℕ → LookedTable
 looked_read p w n k = looked_table (looks_read p w n k)
 
--- how many bodies can be open at once below such a place: the levels of the first n definitions, and k of definition n
+-- how many bodies can be open at once below such a place: the levels of the first n definitions,
+-- and k of definition n
 unfoldable pub rank : PlainProblem → ℕ → ℕ → ℕ
 rank p n k = sum_by (λ d. d.levels) (take n p.definitions) + k

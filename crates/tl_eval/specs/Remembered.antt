@@ -9,7 +9,8 @@ use Rattle.tl_terms.specs.Problem.{PlainProblem}
 use Rattle.tl_terms.specs.World.{World}
 use Rattle.tl_world.specs.View.{coded_value}
 
--- a definition by its number, the level at which it is read, the values of its parameters, and whether it holds of them
+-- a definition by its number, the level at which it is read, the values of its parameters, and
+-- whether it holds of them
 pub record Remembered : Type 0 where
   pub number : ℕ
   pub level : ℕ
@@ -30,7 +31,8 @@ remembered n k vs b = record { number = n; level = k; values = vs; truth = b }
 abbrev pub AreFrom : Remembered → List Remembered → List Remembered → Type 0
 AreFrom r others rs = Each (λ x. (x ≡ r) ⊎ Among x others) rs
 
--- it is the truth of the definition in a world of the problem, and no operation that is looked at is past range
+-- it is the truth of the definition in a world of the problem, and no operation that is looked at
+-- is past range
 abbrev pub IsRight : PlainProblem → World → Remembered → Type 0
 IsRight p w r = Evaluates ((situation_read p w r.number r.level).table r.number r.values) (looked_read p w r.number r.level r.number r.values) (Ok r.truth)
 

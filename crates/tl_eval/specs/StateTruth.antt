@@ -18,7 +18,8 @@ use Rattle.tl_terms.specs.Truth.{state_true}
 use Rattle.tl_terms.specs.World.{World}
 use Rattle.tl_world.specs.declared.task.Task.{Task}
 
--- the truth of the formula under the assignment, where it is read with the first n definitions and definition n at level k; or a note of an operation that is looked at
+-- the truth of the formula under the assignment, where it is read with the first n definitions and
+-- definition n at level k; or a note of an operation that is looked at
 abbrev pub IsTruth : PlainProblem → World → ℕ → ℕ → Assignment → FormulaTree → Result Bool RangeNote → Type 0
 IsTruth p w n k e f result = Evaluates (state_true (situation_read p w n k) e f) (looked_in_state (looked_read p w n k) (situation_read p w n k) e f) result
 
@@ -39,7 +40,8 @@ looked_in_frame task w frame f = looked_in_state (looks_of (plain_problem task.p
 abbrev pub Remembers : Task → World → List Remembered → Type 0
 Remembers task w rs = AreTruths (plain_problem task.problem) w rs
 
--- it is the truth of the formula in a world of the task, under the frame; or a note of an operation that is looked at
+-- it is the truth of the formula in a world of the task, under the frame; or a note of an operation
+-- that is looked at
 abbrev pub IsWholeTruth : Task → World → List (Option Value) → FormulaTree → Result Bool RangeNote → Type 0
 IsWholeTruth task w frame f result = Evaluates (true_in_frame task w frame f) (looked_in_frame task w frame f) result
 

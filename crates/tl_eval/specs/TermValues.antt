@@ -1,4 +1,5 @@
--- What the evaluations of terms under a frame answer: a value, or a note of an operation that is looked at and past range.
+-- What the evaluations of terms under a frame answer: a value, or a note of an operation that is
+-- looked at and past range.
 use Rattle.std.specs.Prelude.{ℕ, List, Bool, Option, Result, Ok, IfOk}
 use Rattle.tl_eval.specs.Frames.{assignment_in}
 use Rattle.tl_eval.specs.Notes.{AreInRange, Evaluates}
@@ -37,7 +38,8 @@ all_looked_under w frame ts = looked_in_terms w (assignment_in frame) ts
 abbrev pub IsValue : World → List (Option Value) → TermTree → Result (Option Value) RangeNote → Type 0
 IsValue w frame t result = Evaluates (value_under w frame t) (looked_under w frame t) result
 
--- it is the value of the term in every world, and no operation that is looked at for it is past range
+-- it is the value of the term in every world, and no operation that is looked at for it is past
+-- range
 abbrev pub IsPlainValue : List (Option Value) → TermTree → Option Value → Type 0
 IsPlainValue frame t found = (w : World) → IsValue w frame t (Ok found)
 
@@ -61,7 +63,8 @@ IsPlaceValue w frame f ts result = Evaluates (place_value w f (values_under w fr
 abbrev pub IsAtomTruth : World → List (Option Value) → ℕ → TermTrees → Result Bool RangeNote → Type 0
 IsAtomTruth w frame p ts result = Evaluates (fact_in w p (values_under w frame ts)) (all_looked_under w frame ts) result
 
--- the operations that are looked at for a comparison: those of the second side only where the first leaves it open
+-- the operations that are looked at for a comparison: those of the second side only where the first
+-- leaves it open
 abbrev pub looked_on_sides : World → List (Option Value) → Cmp → TermTree → TermTree → List Operation
 looked_on_sides w frame cmp s t = followed_if (leaves_open cmp (value_under w frame s)) (looked_under w frame s) (looked_under w frame t)
 

@@ -28,7 +28,8 @@ fn value_of_arg(frame: &[Option<Value>], arg: &Arg) -> Option<Value>
     }
 }
 
-/// Puts the values of arguments under a frame into an empty row, and says whether all have one. It takes no memory.
+/// Puts the values of arguments under a frame into an empty row, and says whether all have one. It
+/// takes no memory.
 fn put_values_of_args(frame: &[Option<Value>], args: &[Arg], row: &mut Row) -> bool
     requires few { length args.now ≤ 8 }
     requires empty { row.old ≡ [] }
@@ -126,7 +127,8 @@ fn two_hold(w: &World, pred: u32, first: Option<Value>, second: Option<Value>) -
     }
 }
 
-/// Whether the fact is in the world, where it has one or two arguments that are variables or values: they are read without a row. None: it has others. It takes no memory.
+/// Whether the fact is in the world, where it has one or two arguments that are variables or
+/// values: they are read without a row. None: it has others. It takes no memory.
 #[inline(never)]
 pub(crate) fn plain_atom(
     w: &World,
@@ -194,7 +196,8 @@ fn sides_compared(
     }
 }
 
-/// Whether two terms that are variables or values stand in the comparison. None: one is another term. It takes no memory.
+/// Whether two terms that are variables or values stand in the comparison. None: one is another
+/// term. It takes no memory.
 #[inline(never)]
 pub(crate) fn plain_comparison(
     frame: &[Option<Value>],
@@ -242,7 +245,8 @@ fn fact_row_true(w: &World, frame: &[Option<Value>], pred: u32, args: &[Arg]) ->
     }
 }
 
-/// Whether the fact of the arguments is one of the world's: the facts of the goal list, or its negated facts. One or two arguments are read without a row. It takes no memory.
+/// Whether the fact of the arguments is one of the world's: the facts of the goal list, or its
+/// negated facts. One or two arguments are read without a row. It takes no memory.
 #[inline(never)]
 pub(crate) fn fact_true(w: &World, frame: &[Option<Value>], pred: u32, args: &[Arg]) -> bool
     requires { length args.now ≤ 8 }

@@ -11,7 +11,8 @@ use crate::basic_truth::{fact_true, place_true};
 use tl_syntax::Bound;
 use tl_world::{Task, World};
 
-/// Whether the bound is true in the world under the values of the caller's frame; a bound with a variable that has no value there is false. It is one look-up by halves, and takes no memory.
+/// Whether the bound is true in the world under the values of the caller's frame; a bound with a
+/// variable that has no value there is false. It is one look-up by halves, and takes no memory.
 pub fn bound_holds(task: &Task, w: &World, env: &Env, b: &Bound) -> bool
     requires { BoundFits (signature_of task.now.problem.domain) b.now }
     ensures { result ≡ bound_true (situation_in task.now w.now) (assignment_in env.now) b.now }

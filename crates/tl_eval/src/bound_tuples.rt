@@ -46,7 +46,8 @@ impl BoundPattern {
         }
     }
 
-    /// Makes it the pattern of the bound for the variables. All other variables have the values that they have now in the caller's frame, which is not looked at again;
+    /// Makes it the pattern of the bound for the variables. All other variables have the values
+    /// that they have now in the caller's frame, which is not looked at again;
     /// a bound with one that has no value there is true of no tuple. It takes no memory.
     #[inline(always)]
     pub fn open_in_place(&mut self, task: &Task, env: &Env, vars: &Vars, b: &Bound)
@@ -72,7 +73,8 @@ impl BoundPattern {
         self.has_pattern = put_pattern_of(frame, vars, b, &mut self.pattern);
     }
 
-    /// The tuples of the bound, which is the one that the pattern was made for, in the world, before the first one. It takes no memory.
+    /// The tuples of the bound, which is the one that the pattern was made for, in the world,
+    /// before the first one. It takes no memory.
     #[tactic(auto, using(crate::proofs::BoundReading::begins_reading))]
     #[inline(always)]
     pub fn tuples<'a>(&'a self, task: &'a Task, w: &'a World, b: &Bound) -> BoundTuples<'a>
@@ -87,7 +89,8 @@ impl BoundPattern {
 }
 
 /// The tuples that make a bound true in a world, in lexicographic value order, one after another.
-/// Contracts see the world, the pattern of the bound, and the tuple that was come to last, where there is one.
+/// Contracts see the world, the pattern of the bound, and the tuple that was come to last, where
+/// there is one.
 #[derive(Drop)]
 pub struct BoundTuples<'a> {
     matches: MatchReader<'a>,
@@ -106,7 +109,8 @@ impl<'a> Model for BoundTuples<'a> {
 }
 
 impl<'a> BoundTuples<'a> {
-    /// Goes on to the next tuple, and says whether there is one. After the last tuple the first one is next again. It takes no memory.
+    /// Goes on to the next tuple, and says whether there is one. After the last tuple the first one
+    /// is next again. It takes no memory.
     #[tactic(auto, using(crate::proofs::BoundReading::comes_on, crate::proofs::BoundReading::stays_with))]
     #[inline(always)]
     pub fn next(&mut self) -> bool
@@ -118,7 +122,8 @@ impl<'a> BoundTuples<'a> {
         self.matches.next()
     }
 
-    /// The values of the tuple that was come to last, in the order of the variables. It takes no memory.
+    /// The values of the tuple that was come to last, in the order of the variables. It takes no
+    /// memory.
     #[tactic(auto, using(crate::proofs::BoundReading::has_one))]
     #[inline(always)]
     pub fn values(&self) -> &[Value]

@@ -16,8 +16,11 @@ use tl_world::Task;
 /// How many slots the frame has.
 pub(crate) const SLOTS: usize = 32;
 
-/// A frame of variable values. It holds the variables of one scope, by their slots; while the body of a definition is read, its own stand there, and then the caller's again.
-/// Contracts see the frame: for each of its 32 slots the value, where it has one. Beside it stands what one call of `state` remembers of definitions, or calls of `state_in` in one world, to which it is lent.
+/// A frame of variable values. It holds the variables of one scope, by their slots; while the body
+/// of a definition is read, its own stand there, and then the caller's again.
+/// Contracts see the frame: for each of its 32 slots the value, where it has one. Beside it stands
+/// what one call of `state` remembers of definitions, or calls of `state_in` in one world, to which
+/// it is lent.
 #[derive(Drop)]
 pub struct Env {
     pub(crate) values: Vec<Option<Value>>,
@@ -40,7 +43,8 @@ impl Model for Env {
 }
 
 impl Env {
-    /// No value in any slot. What there is to remember is reserved once, some 290 KiB, and no evaluation takes memory.
+    /// No value in any slot. What there is to remember is reserved once, some 290 KiB, and no
+    /// evaluation takes memory.
     pub fn new(alloc: Global) -> Result<Env, NoMemory>
         ensures slots { IfOk result (λ env. length env ≡ 32) }
         ensures empty { IfOk result (λ env. (q : ℕ) → assignment_in env q ≡ None) }
@@ -49,7 +53,8 @@ impl Env {
         Env::with_memory(alloc, memory)
     }
 
-    /// `new` for the evaluations of one task. Where nothing is defined there is nothing to remember, and less than a KiB is reserved.
+    /// `new` for the evaluations of one task. Where nothing is defined there is nothing to
+    /// remember, and less than a KiB is reserved.
     pub fn for_task(alloc: Global, task: &Task) -> Result<Env, NoMemory>
         ensures slots { IfOk result (λ env. length env ≡ 32) }
         ensures empty { IfOk result (λ env. (q : ℕ) → assignment_in env q ≡ None) }
@@ -96,7 +101,8 @@ impl Env {
         self.frame()
     }
 
-    /// Gives the variables their values in the caller's frame; of two with the same slot the first counts. It takes no memory.
+    /// Gives the variables their values in the caller's frame; of two with the same slot the first
+    /// counts. It takes no memory.
     pub fn put_values(&mut self, vars: &[Var], values: &[Value])
         requires slots { Each (λ s. s.slot < 32) vars.now }
         requires same { length vars.now ≡ length values.now }
@@ -107,7 +113,8 @@ impl Env {
         put_in_scope(self.values.as_mut_slice(), vars, values);
     }
 
-    /// What the slots of the variables have in the caller's frame, in the variables' order, before others that do not count. It takes no memory.
+    /// What the slots of the variables have in the caller's frame, in the variables' order, before
+    /// others that do not count. It takes no memory.
     ///
     /// `give_back` takes it, once the variables had other values.
     pub fn kept(&self, vars: &[Var]) -> [Option<Value>; 9]
@@ -119,7 +126,8 @@ impl Env {
         values
     }
 
-    /// `kept` in place: puts what the slots of the variables have in the caller's frame into the first places of `values`, in the variables' order. It takes no memory.
+    /// `kept` in place: puts what the slots of the variables have in the caller's frame into the
+    /// first places of `values`, in the variables' order. It takes no memory.
     #[inline(always)]
     pub fn keep(&self, vars: &[Var], values: &mut [Option<Value>; 9])
         requires few { length vars.now ≤ 9 }
@@ -128,9 +136,11 @@ impl Env {
         keep(self.values.as_slice(), vars, values);
     }
 
-    /// Gives the slots of the variables these values in the caller's frame, in the variables' order. It takes no memory.
+    /// Gives the slots of the variables these values in the caller's frame, in the variables'
+    /// order. It takes no memory.
     ///
-    /// Where they are what was kept of a frame, and only these variables were given other values since, the frame is as it was.
+    /// Where they are what was kept of a frame, and only these variables were given other values
+    /// since, the frame is as it was.
     pub fn give_back(&mut self, vars: &[Var], values: &[Option<Value>; 9])
         requires slots { Each (λ s. s.slot < 32) vars.now }
         requires few { length vars.now ≤ 9 }
@@ -140,7 +150,8 @@ impl Env {
         give_back(self.values.as_mut_slice(), vars, values);
     }
 
-    /// A new frame that has the same values, with less room to remember, at most some 37 KiB. It fails for want of memory alone.
+    /// A new frame that has the same values, with less room to remember, at most some 37 KiB. It
+    /// fails for want of memory alone.
     pub fn copy(&self, alloc: Global) -> Result<Env, NoMemory>
         ensures { IfOk result (λ copy. copy ≡ self.now) }
     {
@@ -151,7 +162,8 @@ impl Env {
         Ok(Env { values, memory })
     }
 
-    /// Lends what there is to remember truths of definitions, with nothing remembered, so that it is right in any world: for all that is read in one world by `state_in`.
+    /// Lends what there is to remember truths of definitions, with nothing remembered, so that it
+    /// is right in any world: for all that is read in one world by `state_in`.
     /// Until it is taken back, a call of `state` remembers nothing. It takes no memory.
     pub fn lend_memory(&mut self, alloc: Global) -> Memory
         ensures nothing { result ≡ [] }

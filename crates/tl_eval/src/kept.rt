@@ -8,7 +8,8 @@ use crate::scope::current;
 use crate::term_value::value_in;
 use tl_syntax::{Value, Var};
 
-/// Puts what the slots of the variables have in the frame into the first places of `values`, in the variables' order. It takes no memory.
+/// Puts what the slots of the variables have in the frame into the first places of `values`, in the
+/// variables' order. It takes no memory.
 pub(crate) fn keep(frames: &[Option<Value>], vars: &[Var], values: &mut [Option<Value>; 9])
     requires room { 32 ≤ length frames.now }
     requires few { length vars.now ≤ 9 }
@@ -20,7 +21,8 @@ pub(crate) fn keep(frames: &[Option<Value>], vars: &[Var], values: &mut [Option<
     }
 }
 
-/// Gives the slots of the variables these values in a frame, in the variables' order. It takes no memory.
+/// Gives the slots of the variables these values in a frame, in the variables' order. It takes no
+/// memory.
 fn give_values(frame: &mut [Option<Value>], vars: &[Var], values: &[Option<Value>; 9])
     requires slots { Each (λ s. s.slot < length frame.old) vars.now }
     requires few { length vars.now ≤ 9 }
@@ -33,7 +35,8 @@ fn give_values(frame: &mut [Option<Value>], vars: &[Var], values: &[Option<Value
     }
 }
 
-/// Gives the slots of the variables these values in the frame, in the variables' order. It takes no memory.
+/// Gives the slots of the variables these values in the frame, in the variables' order. It takes no
+/// memory.
 pub(crate) fn give_back(frames: &mut [Option<Value>], vars: &[Var], values: &[Option<Value>; 9])
     requires room { 32 ≤ length frames.old }
     requires slots { Each (λ s. s.slot < 32) vars.now }

@@ -135,7 +135,8 @@ fn home_of(hash: u64, places: usize) -> usize
     (hash >> 32) as usize & (places - TRIES)
 }
 
-/// The first place from `home` on with an entry of another generation, or `home` where there is none nearby. It takes no memory.
+/// The first place from `home` on with an entry of another generation, or `home` where there is
+/// none nearby. It takes no memory.
 fn place_from(entries: &[Entry], generation: u32, home: usize) -> usize
     requires { home + 8 ≤ length entries.now }
     ensures { result < length entries.now }
@@ -148,8 +149,10 @@ fn place_from(entries: &[Entry], generation: u32, home: usize) -> usize
     home
 }
 
-/// Truths of definitions, each with its definition, level and values. They stand in a table of fixed size: a new one may take the place of an old one.
-/// Contracts see the list of those that are remembered. `Env::lend_memory` gives one in which nothing is remembered, and which so is right in any world.
+/// Truths of definitions, each with its definition, level and values. They stand in a table of
+/// fixed size: a new one may take the place of an old one.
+/// Contracts see the list of those that are remembered. `Env::lend_memory` gives one in which
+/// nothing is remembered, and which so is right in any world.
 #[derive(Drop)]
 pub struct Memory {
     generation: u32,
@@ -173,7 +176,8 @@ impl Model for Memory {
 }
 
 impl Memory {
-    /// Nothing remembered, in a table with so many places. Hashes are spread best where these are 7 more than a power of 2.
+    /// Nothing remembered, in a table with so many places. Hashes are spread best where these are 7
+    /// more than a power of 2.
     pub(crate) fn new(alloc: Global, places: usize) -> Result<Memory, NoMemory>
         requires { 8 ≤ places }
         ensures { IfOk result (λ m. m ≡ []) }
@@ -205,7 +209,8 @@ impl Memory {
         Memory::new(alloc, FEW_PLACES)
     }
 
-    /// Forgets all: no entry is of the next generation. It takes no memory, and a time that does not depend on the table's size, but for one call of 2^32.
+    /// Forgets all: no entry is of the next generation. It takes no memory, and a time that does
+    /// not depend on the table's size, but for one call of 2^32.
     pub(crate) fn forget_all(&mut self)
         ensures { self.new ≡ [] }
     {
@@ -237,7 +242,8 @@ impl Memory {
         None
     }
 
-    /// Remembers the truth of what is asked, where there is a place for it. Something else may be forgotten for it. It takes no memory.
+    /// Remembers the truth of what is asked, where there is a place for it. Something else may be
+    /// forgotten for it. It takes no memory.
     pub(crate) fn put(&mut self, hash: u64, asked: &Asked, truth: bool)
         requires { length asked.now.values.now ≤ 8 }
         ensures { AreFrom (answered asked.now truth) self.old self.new }

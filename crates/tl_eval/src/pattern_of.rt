@@ -17,7 +17,8 @@ fn position_in(vars: &[Var], slot: u32) -> Option<usize>
     vars.iter().position(|other| slot == other.slot)
 }
 
-/// The part for an argument: None where it is a variable that is neither of the list nor has a value in the frame. It takes no memory.
+/// The part for an argument: None where it is a variable that is neither of the list nor has a
+/// value in the frame. It takes no memory.
 fn part_of(frame: &[Option<Value>], vars: &[Var], arg: &Arg) -> Option<Part>
     requires few { length vars.now ≤ 9 }
     ensures { result ≡ part_for vars.now (assignment_in frame.now) arg.now }
@@ -34,7 +35,8 @@ fn part_of(frame: &[Option<Value>], vars: &[Var], arg: &Arg) -> Option<Part>
     }
 }
 
-/// Puts the parts for arguments in place, before others that do not count, and says whether each argument has one. It takes no memory.
+/// Puts the parts for arguments in place, before others that do not count, and says whether each
+/// argument has one. It takes no memory.
 fn put_parts(frame: &[Option<Value>], vars: &[Var], args: &[Arg], parts: &mut [Part; 9]) -> bool
     requires few { length vars.now ≤ 9 }
     requires short { length args.now ≤ 9 }
@@ -49,7 +51,8 @@ fn put_parts(frame: &[Option<Value>], vars: &[Var], args: &[Arg], parts: &mut [P
     true
 }
 
-/// Makes the pattern, which has its name, that of a fact, and says whether each argument has a part. It takes no memory.
+/// Makes the pattern, which has its name, that of a fact, and says whether each argument has a
+/// part. It takes no memory.
 fn put_fact(frame: &[Option<Value>], vars: &[Var], args: &[Arg], pattern: &mut Pattern) -> bool
     requires few { length vars.now ≤ 9 }
     requires short { length args.now ≤ 9 }
@@ -61,7 +64,8 @@ fn put_fact(frame: &[Option<Value>], vars: &[Var], args: &[Arg], pattern: &mut P
     put_parts(frame, vars, args, &mut pattern.parts)
 }
 
-/// Makes the pattern, which has its name, that of a place with its value, and says whether the value and each argument have a part. It takes no memory.
+/// Makes the pattern, which has its name, that of a place with its value, and says whether the
+/// value and each argument have a part. It takes no memory.
 fn put_place(
     frame: &[Option<Value>],
     vars: &[Var],
@@ -100,7 +104,9 @@ pub(crate) fn no_pattern() -> Pattern {
     }
 }
 
-/// Puts the pattern that the tuples of the bound make true in place, and says whether each other variable has a value in the frame: where one has none, the pattern means nothing. It takes no memory.
+/// Puts the pattern that the tuples of the bound make true in place, and says whether each other
+/// variable has a value in the frame: where one has none, the pattern means nothing. It takes no
+/// memory.
 pub(crate) fn put_pattern_of(
     frame: &[Option<Value>],
     vars: &[Var],

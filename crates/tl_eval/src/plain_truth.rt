@@ -8,7 +8,9 @@ use crate::basic_truth::{plain_atom, plain_comparison};
 use tl_syntax::Formula;
 use tl_world::World;
 
-/// Whether an atom of one or two arguments, or a comparison, is true in a world, under the frame's values, where its terms are variables or values: nothing is then looked at that can be past range. None: it is another formula.
+/// Whether an atom of one or two arguments, or a comparison, is true in a world, under the frame's
+/// values, where its terms are variables or values: nothing is then looked at that can be past
+/// range. None: it is another formula.
 /// It takes no memory.
 #[inline(always)]
 pub fn plain_state(w: &World, env: &Env, f: &Formula) -> Option<bool>

@@ -14,7 +14,8 @@ use std::marker::Model;
 use tl_syntax::{Bound, Value, Var, Vars};
 use tl_world::{Match, Pattern, Task, World};
 
-/// A reader of the tuples that make a bound true, in lexicographic value order: each found from the one before, by a pattern that is made once.
+/// A reader of the tuples that make a bound true, in lexicographic value order: each found from the
+/// one before, by a pattern that is made once.
 /// Contracts see the pattern, and the tuple that the reader has come to, where there is one.
 #[derive(Drop)]
 pub struct TupleReader {
@@ -37,7 +38,8 @@ impl Model for TupleReader {
 }
 
 impl TupleReader {
-    /// A reader before the first tuple for the variables. All other variables have the values that they have now in the caller's frame, which the reader does not look at again;
+    /// A reader before the first tuple for the variables. All other variables have the values that
+    /// they have now in the caller's frame, which the reader does not look at again;
     /// a bound with one that has no value there is true of no tuple. It takes no memory.
     pub fn open(task: &Task, env: &Env, vars: &Vars, b: &Bound) -> TupleReader
         requires differ { DifferInSlot vars.now }
@@ -52,7 +54,8 @@ impl TupleReader {
         tuples
     }
 
-    /// `open` in the place of another reader, which ends: nothing of a reader's size is handed over. It takes no memory.
+    /// `open` in the place of another reader, which ends: nothing of a reader's size is handed
+    /// over. It takes no memory.
     #[inline(always)]
     pub fn open_in_place(&mut self, task: &Task, env: &Env, vars: &Vars, b: &Bound)
         requires differ { DifferInSlot vars.now }
@@ -98,7 +101,8 @@ impl TupleReader {
         self.has_pattern = put_pattern_of(frame, vars, b, &mut self.pattern);
     }
 
-    /// Goes on to the next tuple of the bound, which is the one that the reader was opened for, in the world, and says whether there is one.
+    /// Goes on to the next tuple of the bound, which is the one that the reader was opened for, in
+    /// the world, and says whether there is one.
     /// After the last tuple the reader is before the first again. It takes no memory.
     #[inline(never)]
     pub fn next(&mut self, task: &Task, w: &World, b: &Bound) -> bool
@@ -121,7 +125,8 @@ impl TupleReader {
         found
     }
 
-    /// The values of the tuple that the reader has come to, in the order of the variables. It takes no memory.
+    /// The values of the tuple that the reader has come to, in the order of the variables. It takes
+    /// no memory.
     pub fn values(&self) -> &[Value]
         requires { IsSome self.now.tuple }
         ensures values { self.now.tuple ≡ Some result.now }

@@ -3,7 +3,8 @@ ghost use Rattle.std.specs.Prelude.{◌≡◌, ◌==◌, cond, length};
 
 use tl_world::Task;
 
-/// Where a formula is read: the definitions before `number` are read whole, and the body of definition `number` at `level`.
+/// Where a formula is read: the definitions before `number` are read whole, and the body of
+/// definition `number` at `level`.
 ///
 /// Outside of definitions the number is that of all definitions.
 #[derive(Clone, Copy)]
@@ -27,7 +28,8 @@ impl Reading {
         }
     }
 
-    /// The level at which an atom of a definition reads its body: the definition's number of levels, or what is left of it. It takes no memory.
+    /// The level at which an atom of a definition reads its body: the definition's number of
+    /// levels, or what is left of it. It takes no memory.
     pub(crate) fn level_of(self, number: u32, levels: u32) -> u32
         ensures { result ≡ cond (number == self.number) self.level levels }
     {

@@ -21,7 +21,8 @@ use crate::{BoundPattern, Env, RangeNote};
 use tl_syntax::{Formula, Formulas, Junction, Terms, Value};
 use tl_world::{Task, World};
 
-/// The truth of a formula under the frame, where it is read. The frame stays as it was. It takes no memory.
+/// The truth of a formula under the frame, where it is read. The frame stays as it was. It takes no
+/// memory.
 #[cycle(truth_of)]
 fn truth_of(
     here: &Here,
@@ -96,7 +97,8 @@ fn truth_of(
     }
 }
 
-/// The truth of a conjunction or a disjunction: the first part that has the truth which decides it. It takes no memory.
+/// The truth of a conjunction or a disjunction: the first part that has the truth which decides it.
+/// It takes no memory.
 #[cycle(truth_of)]
 #[inline(never)]
 fn parts_true(
@@ -157,7 +159,8 @@ fn defined_true(
     }
 }
 
-/// Whether a definition holds of the values: as it is remembered, or else as its body says, which is remembered then. It takes no memory.
+/// Whether a definition holds of the values: as it is remembered, or else as its body says, which
+/// is remembered then. It takes no memory.
 #[cycle(truth_of)]
 #[inline(never)]
 fn body_true(
@@ -197,7 +200,9 @@ fn body_true(
     }
 }
 
-/// Whether the body of a definition, which is read at a level above 0, is true of the values: it is read one level lower, in the frame, of which it looks at its own variables alone. The slots of its parameters get back what they had. It takes no memory.
+/// Whether the body of a definition, which is read at a level above 0, is true of the values: it is
+/// read one level lower, in the frame, of which it looks at its own variables alone. The slots of
+/// its parameters get back what they had. It takes no memory.
 #[cycle(truth_of)]
 fn opened_true(
     here: &Here,
@@ -232,7 +237,8 @@ fn opened_true(
     truth
 }
 
-/// The truth of a universal or an existential formula. Its tuples stand in the frame one after another, which gets the values of their slots back. It takes no memory.
+/// The truth of a universal or an existential formula. Its tuples stand in the frame one after
+/// another, which gets the values of their slots back. It takes no memory.
 #[cycle(truth_of)]
 #[inline(never)]
 fn quantified_true(
@@ -255,7 +261,8 @@ fn quantified_true(
     truth
 }
 
-/// The truth of a quantified formula: the first tuple whose instance has the truth that decides it. The last tuple is left in the frame. It takes no memory.
+/// The truth of a quantified formula: the first tuple whose instance has the truth that decides it.
+/// The last tuple is left in the frame. It takes no memory.
 #[cycle(truth_of)]
 fn tuples_true(
     here: &Here,
@@ -317,8 +324,10 @@ fn whole_true(
     truth_of(&here, env.values.as_mut_slice(), memory, f)
 }
 
-/// Whether a state formula is true in a world, under the frame's values; or a note of an operation that is looked at and past range.
-/// Parts are evaluated from left to right until the truth is decided, and a definition once for its values and level, where that is still remembered.
+/// Whether a state formula is true in a world, under the frame's values; or a note of an operation
+/// that is looked at and past range.
+/// Parts are evaluated from left to right until the truth is decided, and a definition once for its
+/// values and level, where that is still remembered.
 /// It takes no memory, and leaves the caller's frame as it was.
 pub fn state(task: &Task, w: &World, env: &mut Env, f: &Formula) -> Result<bool, RangeNote>
     requires fits { Fits (signature_of task.now.problem.domain) [] (tree_of_formula f.now) }
@@ -338,7 +347,9 @@ pub fn state(task: &Task, w: &World, env: &mut Env, f: &Formula) -> Result<bool,
     truth_of(&here, env.values.as_mut_slice(), &mut env.memory, f)
 }
 
-/// `state` for whoever reads many formulas in one world: what it remembers of definitions is kept for the next one. Each truth that is remembered is the one in this world, before and after the call.
+/// `state` for whoever reads many formulas in one world: what it remembers of definitions is kept
+/// for the next one. Each truth that is remembered is the one in this world, before and after the
+/// call.
 /// It takes no memory, and leaves the caller's frame as it was.
 #[inline(always)]
 pub fn state_in(

@@ -24,7 +24,8 @@ pub(crate) fn value_in(frame: &[Option<Value>], slot: u32) -> Option<Value>
     }
 }
 
-/// The value of a term that is a variable or a value, or None where it is no such term. Nothing is looked at for it, and it takes no memory.
+/// The value of a term that is a variable or a value, or None where it is no such term. Nothing is
+/// looked at for it, and it takes no memory.
 #[inline(always)]
 pub(crate) fn plain_value(frame: &[Option<Value>], t: &Term) -> Option<Option<Value>>
     ensures { IfSome result (λ v. IsPlainValue frame.now (tree_of_term t.now) v) }
@@ -94,7 +95,8 @@ fn value_of_operation(
     }
 }
 
-/// The value of the place of the arguments, where all are defined and it has one. It takes no memory.
+/// The value of the place of the arguments, where all are defined and it has one. It takes no
+/// memory.
 #[cycle(value_of_term)]
 #[inline(never)]
 fn value_of_place(
@@ -120,7 +122,8 @@ fn value_of_place(
     }
 }
 
-/// Puts the values of terms under a frame into an empty row, and says whether all are defined. It takes no memory.
+/// Puts the values of terms under a frame into an empty row, and says whether all are defined. It
+/// takes no memory.
 #[cycle(value_of_term)]
 #[inline(always)]
 pub(crate) fn put_values_of_terms(
@@ -151,7 +154,8 @@ pub(crate) fn put_values_of_terms(
     Ok(true)
 }
 
-/// The value of a term in a world, under the frame's values, where it is defined; or a note of an operation that is looked at and past range.
+/// The value of a term in a world, under the frame's values, where it is defined; or a note of an
+/// operation that is looked at and past range.
 /// It takes no memory.
 #[inline(always)]
 pub fn term(task: &Task, w: &World, env: &mut Env, t: &Term) -> Result<Option<Value>, RangeNote>

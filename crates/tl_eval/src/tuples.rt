@@ -12,7 +12,8 @@ use crate::{Binder, Env};
 use tl_syntax::{Bound, Value, Vars};
 use tl_world::{Match, Task, World};
 
-/// The world that a bound speaks of: the current one, that of the goal list, or that of its negated facts. It takes no memory.
+/// The world that a bound speaks of: the current one, that of the goal list, or that of its negated
+/// facts. It takes no memory.
 pub(crate) fn world_of_bound<'a>(task: &'a Task, w: &'a World, b: &Bound) -> &'a World
     ensures { result.now ≡ world_read (situation_in task.now w.now) b.now }
 {
@@ -49,8 +50,10 @@ fn next_tuple_in(
     }
 }
 
-/// The least tuple for the variables, in lexicographic value order, that makes the bound true in the world and comes after `after`, where that is given: None exactly where there is none.
-/// All other variables have their values in the caller's frame; a bound with one that has no value there is true of no tuple. It takes no memory.
+/// The least tuple for the variables, in lexicographic value order, that makes the bound true in
+/// the world and comes after `after`, where that is given: None exactly where there is none.
+/// All other variables have their values in the caller's frame; a bound with one that has no value
+/// there is true of no tuple. It takes no memory.
 ///
 /// With no variable and no `after` it tests the bound: the answer is the empty tuple or None.
 pub fn next_tuple(

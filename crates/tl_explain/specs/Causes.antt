@@ -12,7 +12,8 @@ use Rattle.tl_check.specs.Verdicts.{IsPastInAction}
 use Rattle.tl_explain.specs.declared.fault.ExplainFault.{ExplainFault}
 use Rattle.tl_explain.specs.declared.fault.ExplainFault.TheVariants as fault
 
--- the first k actions execute, and progressing the formula that comes in after them looks at the noted operation in the world after them, where it is past range
+-- the first k actions execute, and progressing the formula that comes in after them looks at the
+-- noted operation in the world after them, where it is past range
 pub record IsPastInProgression (p : PlainProblem) (plan : List Action) (k : ℕ) (note : RangeNote) : Type 0 where
   pub front : List Action
   pub rest : List Action
@@ -23,7 +24,8 @@ pub record IsPastInProgression (p : PlainProblem) (plan : List Action) (k : ℕ)
   pub executes : states p front ≡ Some (from ∷ after)
   pub told : Tells (looked_by_progressing p (last_of from after) (residual p (all_but_last from after) p.control)) note
 
--- after the first k actions the noted operation is past range, and the next action looks at it or progressing does
+-- after the first k actions the noted operation is past range, and the next action looks at it or
+-- progressing does
 abbrev pub IsPastInExplanation : PlainProblem → List Action → ℕ → RangeNote → Type 0
 IsPastInExplanation p plan k note = IsPastInAction p plan k note ⊎ IsPastInProgression p plan k note
 

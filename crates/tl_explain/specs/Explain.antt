@@ -38,7 +38,8 @@ abbrev pub by_step : List ℕ → (World → List ℕ) → Option World → List
 by_step stopped onward None = stopped
 by_step stopped onward (Some w) = onward w
 
--- the lines after that of a state, which k actions come before, from its world and the residual in it: the last line, or the next action with the line of the state after it and what follows there
+-- the lines after that of a state, which k actions come before, from its world and the residual in
+-- it: the last line, or the next action with the line of the state after it and what follows there
 unfoldable pub lines_after : Problem → ℕ → World → FormulaTree → List Action → List ℕ
 lines_after p k w f [] = end_line
 lines_after p k w f (a ∷ plan) =

@@ -52,7 +52,8 @@ pub record AwaitsFirst (p : Problem) (x : Explanation) : Type 0 where
   pub formula : formula_in x ≡ (plain_problem p).control
   pub text : x.text ≡ []
 
--- the formula that came in is progressed through the world, and the state, which k actions come before, has its line
+-- the formula that came in is progressed through the world, and the state, which k actions come
+-- before, has its line
 pub record ArrivesAtState (p : Problem) (k : ℕ) (old new : Explanation) : Type 0 where
   pub fit : IsFit p new
   pub world : new.world ≡ old.world

@@ -9,7 +9,8 @@ use Rattle.tl_terms.specs.World.{World}
 use Rattle.tl_check.specs.Verdicts.{StopsAt}
 use Rattle.tl_explain.specs.Explain.{end_line, explain_text, state_line, stopped_line}
 
--- the lines have one for the last of these states, with the label of the control formula progressed through all of them; so many actions come before it
+-- the lines have one for the last of these states, with the label of the control formula progressed
+-- through all of them; so many actions come before it
 pub record ShowsState (p : Problem) (text : List ℕ) (k : ℕ) (ws : List World) : Type 0 where
   pub before : List ℕ
   pub behind : List ℕ
@@ -33,7 +34,8 @@ pub record EndsStopped (p : Problem) (plan : List Action) (text : List ℕ) : Ty
   pub whole : text ≡ before ++ stopped_line number
   pub stops : StopsAt (plain_problem p) plan number
 
--- the lines show the states of the plan up to the first action that has no step, and say whether there is such an action
+-- the lines show the states of the plan up to the first action that has no step, and say whether
+-- there is such an action
 pub record Explains (p : Problem) (plan : List Action) (text : List ℕ) : Type 0 where
   pub shows : ShowsStates p plan text
   pub ends : EndsWithAll p plan text ⊎ EndsStopped p plan text

@@ -17,7 +17,8 @@ use tl_syntax::{Action, Bytes, NoMemory};
 use tl_terms::Steps;
 use tl_world::{Task, World};
 
-/// How far a plan is explained: the last state that was reached, the formula there, and the lines so far.
+/// How far a plan is explained: the last state that was reached, the formula there, and the lines
+/// so far.
 #[derive(Drop)]
 pub(crate) struct Explanation {
     pub(crate) alloc: Global,
@@ -60,7 +61,8 @@ impl Explanation {
         })
     }
 
-    /// The formula that comes in is progressed through the world, and the line of this state, which so many actions come before, is added.
+    /// The formula that comes in is progressed through the world, and the line of this state, which
+    /// so many actions come before, is added.
     pub(crate) fn arrive(&mut self, task: &Task, before: u32) -> Result<(), ExplainFault>
         requires fit { IsFit task.now.problem self.old }
         ensures arrives { OnOk result (ArrivesAtState task.now.problem before self.old self.new) }
@@ -82,7 +84,8 @@ impl Explanation {
         Ok(())
     }
 
-    /// Follows an action, which so many others come before, and adds its line and that of the state after it. False where the action has no step.
+    /// Follows an action, which so many others come before, and adds its line and that of the state
+    /// after it. False where the action has no step.
     pub(crate) fn follow<L: Ledger>(
         &mut self,
         task: &Task,

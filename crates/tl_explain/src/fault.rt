@@ -13,7 +13,8 @@ use tl_syntax::NoMemory;
 pub enum ExplainFault {
     /// An operation is past range.
     Range {
-        /// How many actions of the plan execute before the world in which the operation is looked at.
+        /// How many actions of the plan execute before the world in which the operation is looked
+        /// at.
         after: u32,
         /// The operation.
         note: RangeNote,

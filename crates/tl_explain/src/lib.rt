@@ -1,6 +1,8 @@
-//! The explanation of a plan: what is left of the control formula in each of its states (Bacchus and Kabanza 2000).
+//! The explanation of a plan: what is left of the control formula in each of its states (Bacchus
+//! and Kabanza 2000).
 //!
-//! The definitions stand in `specs/`: the lines that explain a plan, what they say, and why a plan is not explained.
+//! The definitions stand in `specs/`: the lines that explain a plan, what they say, and why a plan
+//! is not explained.
 //!
 //! - `explainer`: the lines that explain a plan.
 //! - `explanation`: how far a plan is explained.

@@ -21,7 +21,8 @@ fn state_number(alloc: Global, number: u32) -> Result<String, AllocError>
     format!(in alloc; "; state {number}: ")
 }
 
-/// The line of the state after so many actions, in which the formula of this number is the residual.
+/// The line of the state after so many actions, in which the formula of this number is the
+/// residual.
 pub(crate) fn state_line(
     alloc: Global,
     problem: &Problem,

@@ -70,8 +70,8 @@ unfoldable mutual
   effect_breaks g scope (list (more_forms (integer z _) rest) at) = (Shape, at) ∷ []
   effect_breaks g scope (list (more_forms (list fs _) rest) at) = (Shape, at) ∷ []
 
-  -- what the elements after such a first word break: a fact, a place and a term, a condition and effects,
-  -- or variables with their bound and effects
+  -- what the elements after such a first word break: a fact, a place and a term, a condition and
+  -- effects, or variables with their bound and effects
   pub effect_parts_breaks : NameSignature → Scope → EffectWord → FormTrees → List Break
   effect_parts_breaks g scope w no_form = []
   effect_parts_breaks g scope effect.Add (more_forms fact rest) = target_breaks g.predicates g.functions scope fact

@@ -68,7 +68,8 @@ role_below role.Control = role.Control
 role_below role.State = role.State
 role_below role.Body = role.State
 
--- the list with these elements has more than 24 lists within one another, and is the body of a definition
+-- the list with these elements has more than 24 lists within one another, and is the body of a
+-- definition
 abbrev pub is_too_deep : FormulaRole → FormTrees → Bool
 is_too_deep role.Control fs = false
 is_too_deep role.State fs = false
@@ -135,8 +136,8 @@ unfoldable mutual
   formula_breaks r g scope (list (more_forms (integer z _) rest) at) = (Shape, at) ∷ []
   formula_breaks r g scope (list (more_forms (list fs _) rest) at) = (Shape, at) ∷ []
 
-  -- what the elements after such a first word break: the argument of `goal`, terms, variables with their bound
-  -- and a formula, a number of steps and a formula, or formulas
+  -- what the elements after such a first word break: the argument of `goal`, terms, variables with
+  -- their bound and a formula, a number of steps and a formula, or formulas
   pub formula_parts_breaks : FormulaRole → NameSignature → Scope → FormulaWord → FormTrees → List Break
   formula_parts_breaks r g scope w no_form = []
   formula_parts_breaks r g scope word.Goal (more_forms f fs) = goals_breaks g scope (more_forms f fs)

@@ -28,7 +28,8 @@ miscounted_breaks table (list (more_forms (symbol text _) rest) at) =
     breaks_if (is_miscounted_at table (place_of table text) (count rest)) Arity at
 miscounted_breaks table _ = []
 
--- what an argument of `goal` breaks that is no fact, by its elements and its offset: it should be `(= (f a*) a)` or `(not (p a*))`
+-- what an argument of `goal` breaks that is no fact, by its elements and its offset: it should be
+-- `(= (f a*) a)` or `(not (p a*))`
 abbrev pub other_goal_breaks : NameSignature → Scope → FormTrees → ℕ → List Break
 other_goal_breaks g scope (more_forms word (more_forms place (more_forms value no_form))) at =
     if is_word (codes "=") word && is_flat g.functions place && not (is_list value)

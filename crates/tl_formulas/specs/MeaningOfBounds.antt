@@ -1,4 +1,5 @@
--- The bounds that forms stand for. Where a form breaks a rule, what is said of it here does not matter.
+-- The bounds that forms stand for. Where a form breaks a rule, what is said of it here does not
+-- matter.
 use Rattle.std.specs.Prelude.{ℕ, List, [], ◌∷◌, if◌then◌else◌, unwrap_or}
 use Rattle.tl_sexpr.specs.Tree.{FormTree, FormTrees, symbol, list, no_form, more_forms}
 use Rattle.tl_syntax.specs.declared.value.Cmp.TheVariants as cmp

@@ -1,4 +1,5 @@
--- The effects that forms stand for. Where a form breaks a rule, what is said of it here does not matter.
+-- The effects that forms stand for. Where a form breaks a rule, what is said of it here does not
+-- matter.
 use Rattle.std.specs.Prelude.{ℕ, List}
 use Rattle.tl_sexpr.specs.Tree.{FormTree, FormTrees, symbol, integer, list, no_form, more_forms}
 use Rattle.tl_syntax.specs.Trees.{TermTrees, verum}

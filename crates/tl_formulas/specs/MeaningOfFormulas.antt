@@ -1,4 +1,5 @@
--- The formulas that forms stand for. Where a form breaks a rule, what is said of it here does not matter.
+-- The formulas that forms stand for. Where a form breaks a rule, what is said of it here does not
+-- matter.
 use Rattle.std.specs.Prelude.{ℕ, ◌+◌, List, [], ◌∷◌, Bool, true, false, Option, Some, None, if◌then◌else◌, length, unwrap_or, codes}
 use Rattle.std.specs.Str.{bytes_eq}
 use Rattle.tl_sexpr.specs.Tree.{FormTree, FormTrees, symbol, integer, list, no_form, more_forms}

@@ -1,4 +1,5 @@
--- The terms and arguments that forms stand for. Where a form breaks a rule, what is said of it here does not matter.
+-- The terms and arguments that forms stand for. Where a form breaks a rule, what is said of it here
+-- does not matter.
 use Rattle.std.specs.Prelude.{ℕ, pos, List, [], ◌∷◌, Option, Some, None, if◌then◌else◌, unwrap_or}
 use Rattle.tl_sexpr.specs.Tree.{FormTree, FormTrees, symbol, integer, list, no_form, more_forms}
 use Rattle.tl_syntax.specs.declared.value.Op.{Op}

@@ -1,4 +1,5 @@
--- What the readers of this crate answer: what a form stands for, or the first of the rules that it breaks.
+-- What the readers of this crate answer: what a form stands for, or the first of the rules that it
+-- breaks.
 --
 -- The first argument is what forms are read by, and the last is the answer.
 use Rattle.std.specs.Prelude.{◌≡◌, ℕ, List, [], true, false, ◌++◌, Option, Result, Box, unwrap_or}

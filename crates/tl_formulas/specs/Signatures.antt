@@ -1,7 +1,7 @@
 -- What is declared before a form, and what is in scope there.
 --
--- A table has a name and a number of arguments for each item, in the order of the items. Names are compared by
--- their texts. Predicates, functions and definitions share one set of names.
+-- A table has a name and a number of arguments for each item, in the order of the items. Names are
+-- compared by their texts. Predicates, functions and definitions share one set of names.
 use Rattle.std.specs.Prelude.{ℕ, List, [], ◌∷◌, Bool, false, ◌&&◌, ◌||◌, ◌==◌, not, Option, Some, None, slice_get, is_some}
 use Rattle.std.specs.List.{position, list_any}
 use Rattle.std.specs.Option.{option_map_or}

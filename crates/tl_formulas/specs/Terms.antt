@@ -8,7 +8,8 @@ use Rattle.tl_formulas.specs.Words.{operation_named}
 use Rattle.tl_rules.specs.Parts.{count}
 use Rattle.tl_formulas.specs.Signatures.{Table, Scope, call_breaks, unbound_breaks}
 
--- what the list of a term breaks itself: an operation has two operands, and any other word is a function's name
+-- what the list of a term breaks itself: an operation has two operands, and any other word is a
+-- function's name
 abbrev pub term_call_breaks : Table → Option Op → List ℕ → FormTrees → ℕ → List Break
 term_call_breaks functions (Some op) text rest at = breaks_if (not (count rest == 2)) Shape at
 term_call_breaks functions None text rest at = call_breaks functions text (count rest) at

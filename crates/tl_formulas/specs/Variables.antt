@@ -6,7 +6,8 @@ use Rattle.tl_rules.specs.Rules.{Break, breaks_if}
 use Rattle.tl_rules.specs.Parts.{count, elements_of, texts_of, occurs_in}
 use Rattle.tl_formulas.specs.Signatures.{Scope, slot_of}
 
--- what a variable breaks that stands after these variables of its list: it is one of them, is in scope, or stands nowhere in the bound
+-- what a variable breaks that stands after these variables of its list: it is one of them, is in
+-- scope, or stands nowhere in the bound
 abbrev pub variable_breaks : Scope → Scope → FormTree → List ℕ → ℕ → List Break
 variable_breaks earlier scope bound text at =
     breaks_if (is_some (slot_of earlier text)) Twice at

@@ -22,7 +22,8 @@ pub(crate) enum AtomName {
     Definition(u32),
 }
 
-/// What an atom of this name with so many arguments names: a declared predicate, or else a defined one.
+/// What an atom of this name with so many arguments names: a declared predicate, or else a defined
+/// one.
 pub(crate) fn atom_name(
     signature: &NameSignature<'_>,
     text: &str,

@@ -82,7 +82,8 @@ fn each_parts(rest: &[Form]) -> Option<EffectParts<'_>>
     Some(EffectParts::Each(binding, effects))
 }
 
-/// The parts of an effect's list with this first word and these elements after it, where they have the shape that the word asks for.
+/// The parts of an effect's list with this first word and these elements after it, where they have
+/// the shape that the word asks for.
 pub(crate) fn effect_parts(word: EffectWord, rest: &[Form]) -> Option<EffectParts<'_>>
     ensures { FindsEffectParts word (trees_in rest.now) result }
 {

@@ -83,7 +83,8 @@ pub(crate) fn role_below(role: FormulaRole) -> FormulaRole
     }
 }
 
-/// Whether a list of these forms is the body of a definition and has more than 24 lists within one another.
+/// Whether a list of these forms is the body of a definition and has more than 24 lists within one
+/// another.
 fn is_too_deep(role: FormulaRole, forms: &[Form]) -> bool
     ensures { result ≡ is_too_deep role (trees_in forms.now) }
 {

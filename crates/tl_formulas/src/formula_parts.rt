@@ -89,7 +89,8 @@ fn comparison_parts(cmp: Cmp, rest: &[Form]) -> Option<FormulaParts<'_>>
     }
 }
 
-/// The parts of a formula's list with this first word and these elements after it, where they have the shape that the word asks for.
+/// The parts of a formula's list with this first word and these elements after it, where they have
+/// the shape that the word asks for.
 pub(crate) fn formula_parts(word: FormulaWord, rest: &[Form]) -> Option<FormulaParts<'_>>
     ensures { FindsFormulaParts word (trees_in rest.now) result }
 {

@@ -46,7 +46,8 @@ pub(crate) fn bound_of(goal: GoalArgument) -> Bound
     }
 }
 
-/// The parts of a form that is a list that begins with a name of the table and has no list among the rest.
+/// The parts of a form that is a list that begins with a name of the table and has no list among
+/// the rest.
 fn flat_parts<'a>(table: &Table<'_>, form: &'a Form) -> Option<Flat<'a>>
     ensures { MatchOption result (is_flat table.now (tree_of form.now) ≡ false)
         (IsFlat table.now (tree_of form.now)) }

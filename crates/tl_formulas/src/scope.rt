@@ -7,7 +7,8 @@ ghost use Rattle.tl_formulas.specs.Signatures.{slot_of};
 use std::alloc::{AllocError, Global};
 use std::marker::Model;
 
-/// The variables in scope. Contracts see the list of their texts; the place of a variable is its slot.
+/// The variables in scope. Contracts see the list of their texts; the place of a variable is its
+/// slot.
 #[derive(Drop)]
 pub struct Scope<'a> {
     variables: Vec<&'a str>,

@@ -80,7 +80,8 @@ pub(crate) struct Counted<'a> {
     pub(crate) form: &'a Form,
 }
 
-/// The first word of a formula's list and the elements after it, in the shape that the word asks for.
+/// The first word of a formula's list and the elements after it, in the shape that the word asks
+/// for.
 #[derive(Clone, Copy)]
 pub(crate) enum FormulaParts<'a> {
     /// A word before one formula.
@@ -101,7 +102,8 @@ pub(crate) enum FormulaParts<'a> {
     Atom(&'a [Form]),
 }
 
-/// The first word of an effect's list and the elements after it, in the shape that the word asks for.
+/// The first word of an effect's list and the elements after it, in the shape that the word asks
+/// for.
 #[derive(Clone, Copy)]
 pub(crate) enum EffectParts<'a> {
     /// The fact that is added.

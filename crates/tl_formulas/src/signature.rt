@@ -14,7 +14,8 @@ struct Entry<'a> {
     arity: u32,
 }
 
-/// Names in the order of their items, each with its number of arguments. Contracts see the list of the pairs.
+/// Names in the order of their items, each with its number of arguments. Contracts see the list of
+/// the pairs.
 #[derive(Drop)]
 pub struct Table<'a> {
     entries: Vec<Entry<'a>>,

@@ -7,7 +7,9 @@ abbrev pub text_of_lines : List (List ℕ) → List ℕ
 text_of_lines [] = []
 text_of_lines (line ∷ lines) = line ++ (codes "\n" ++ text_of_lines lines)
 
--- the lines of the domain: balls are picked and dropped in the room where the robot is, and the control keeps a ball in its goal room, drops balls there alone, and leaves no room where a ball has to go and a gripper is free
+-- the lines of the domain: balls are picked and dropped in the room where the robot is, and the
+-- control keeps a ball in its goal room, drops balls there alone, and leaves no room where a ball
+-- has to go and a gripper is free
 abbrev pub domain_lines : List (List ℕ)
 domain_lines =
     codes "(domain gripper" ∷

@@ -1,6 +1,7 @@
 -- Worked examples of the texts of formulas. Above each stands the formula.
 --
--- The names are `on`, `n`, `a` and `?x`; the domain has the predicate `on` and the function `n`, and no definition.
+-- The names are `on`, `n`, `a` and `?x`; the domain has the predicate `on` and the function `n`,
+-- and no definition.
 use Rattle.std.specs.Prelude.{◌≡◌, ℕ, pos, negsuc, List, [], ◌∷◌, length, refl, codes}
 use Rattle.std.specs.Fmt.{digits}
 use Rattle.tl_syntax.specs.declared.bound.Bound.TheVariants as bound

@@ -1,4 +1,5 @@
--- The text of a formula, as a domain file writes it, and the label that stands for it where it is not too long.
+-- The text of a formula, as a domain file writes it, and the label that stands for it where it is
+-- not too long.
 use Rattle.std.specs.Prelude.{ℕ, List, [], ◌∷◌, map, length, nat_le, if◌then◌else◌, slice_get, option_and_then, unwrap_or, codes}
 use Rattle.std.specs.Fmt.{decimal}
 use Rattle.tl_syntax.specs.declared.definition.Definition.{Definition}
@@ -16,7 +17,8 @@ definition_text names definitions p = unwrap_or (option_and_then (λ d. slice_ge
 abbrev pub variables_text : List (List ℕ) → List Var → List ℕ
 variables_text names xs = in_parentheses (map (variable_text names) xs)
 
--- a formula in the syntax of a domain file, and the texts of a list of formulas; `during` is written `for`
+-- a formula in the syntax of a domain file, and the texts of a list of formulas; `during` is
+-- written `for`
 unfoldable mutual
   pub formula_text : List (List ℕ) → Domain → FormulaTree → List ℕ
   formula_text names domain verum = codes "true"

@@ -10,7 +10,8 @@ unfoldable pub after : Written → List ℕ → Written
 after None more = None
 after (Some w) more = if nat_le (length more) w.1 then Some (w.0 ++ more, w.1 - length more) else None
 
--- a measure of the room: one more than the bytes that may still come, and none where the text had too many
+-- a measure of the room: one more than the bytes that may still come, and none where the text had
+-- too many
 abbrev pub room : Written → ℕ
 room None = 0
 room (Some w) = suc w.1

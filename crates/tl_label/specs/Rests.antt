@@ -16,7 +16,8 @@ use Rattle.tl_label.specs.Parts.{after_spaces}
 abbrev pub text_at : Problem → Nodes → ℕ → List ℕ
 text_at p s id = formula_text p.names p.domain (tree_at (trees s) id)
 
--- the rest of the text of a formula, from its part k on: each part after a space, and the closing parenthesis
+-- the rest of the text of a formula, from its part k on: each part after a space, and the closing
+-- parenthesis
 unfoldable pub rest_from : Problem → FormulaTree → ℕ → List ℕ
 rest_from p f k = after_spaces (map (formula_text p.names p.domain) (drop k (subformulas f))) ++ codes ")"
 

@@ -1,6 +1,7 @@
 //! Labels: the text of a formula, as a domain file writes it.
 //!
-//! The definitions stand in `specs/`: parts in parentheses, the text of a term and of a bound, the text of a formula, and the label that stands for it.
+//! The definitions stand in `specs/`: parts in parentheses, the text of a term and of a bound, the
+//! text of a formula, and the label that stands for it.
 //!
 //! - `label`: the label of a node.
 //! - `rests`: what is left to be written of formulas that are begun.

@@ -11,7 +11,8 @@ use tl_syntax::{Bytes, NoMemory};
 const MOST: usize = 10000;
 
 /// A text while it has at most so many bytes as a label may have, and else nothing.
-/// Contracts see its bytes with the number of bytes that it may have more, where it is not too long.
+/// Contracts see its bytes with the number of bytes that it may have more, where it is not too
+/// long.
 #[derive(Drop)]
 pub(crate) struct Line {
     text: Bytes,
@@ -40,7 +41,8 @@ impl Line {
         }
     }
 
-    /// Puts bytes at the end, where there is room for them, and else gives the text up. It fails for want of memory alone.
+    /// Puts bytes at the end, where there is room for them, and else gives the text up. It fails
+    /// for want of memory alone.
     pub(crate) fn put(&mut self, more: &[u8]) -> Result<(), NoMemory>
         ensures { OnOk result (self.new ≡ after self.old more.now) }
     {

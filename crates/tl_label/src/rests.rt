@@ -28,7 +28,8 @@ pub(crate) fn next_rest(line: &Line, rests: &mut Vec<Rest>) -> Option<Rest>
     rests.pop()
 }
 
-/// Puts the text of a formula up to its parts at the end; its parts, where it has some, are left to be written.
+/// Puts the text of a formula up to its parts at the end; its parts, where it has some, are left to
+/// be written.
 pub(crate) fn begin(
     problem: &Problem,
     nodes: &Nodes,
@@ -52,7 +53,8 @@ pub(crate) fn begin(
     Ok(())
 }
 
-/// Puts a space and the next part up to its own parts at the end, or the closing parenthesis where no part is left.
+/// Puts a space and the next part up to its own parts at the end, or the closing parenthesis where
+/// no part is left.
 pub(crate) fn go_on(
     problem: &Problem,
     nodes: &Nodes,

@@ -1,4 +1,5 @@
--- Worked examples of runs with a loop, of labels that go round it, and of what the forms of a plan file with a repeated part break and stand for.
+-- Worked examples of runs with a loop, of labels that go round it, and of what the forms of a plan
+-- file with a repeated part break and stand for.
 use Rattle.std.proofs.Common.{◌≡◌, ℕ, List, [], ◌∷◌, ◌++◌, drop, take, true, false, Some, refl}
 use Rattle.std.specs.Prelude.{codes}
 use Rattle.tl_sexpr.specs.Tree.{FormTree, symbol, list, no_form, more_forms}
@@ -49,7 +50,8 @@ until_is_settled_round_the_loop = refl
 until_is_pending_for_ever : take 2 (until_labels (true ∷ true ∷ true ∷ true ∷ []) (false ∷ false ∷ false ∷ false ∷ [])) ≡ false ∷ false ∷ []
 until_is_pending_for_ever = refl
 
--- from the last position of a loop of three the first one's label is two steps away where the second one has it
+-- from the last position of a loop of three the first one's label is two steps away where the
+-- second one has it
 within_counts_round_the_loop : take 3 (within_labels 1 (false ∷ true ∷ false ∷ false ∷ true ∷ false ∷ [])) ≡ true ∷ true ∷ false ∷ []
 within_counts_round_the_loop = refl
 

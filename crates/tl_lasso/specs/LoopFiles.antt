@@ -1,7 +1,7 @@
 -- Plan files with a repeated part: the rules that their forms break.
 --
--- The last form is the repeated part, `(repeat ACTION ..)` with one action at least, and every form before it is an
--- action. The actions of both parts are counted together.
+-- The last form is the repeated part, `(repeat ACTION ..)` with one action at least, and every form
+-- before it is an action. The actions of both parts are counted together.
 use Rattle.std.specs.Prelude.{ℕ, List, [], ◌∷◌, ◌++◌, if◌then◌else◌, codes, Option, Some, None}
 use Rattle.tl_sexpr.specs.Tree.{FormTree, FormTrees, list, no_form, more_forms}
 use Rattle.tl_syntax.specs.declared.operator.Operator.{Operator}
@@ -22,7 +22,8 @@ abbrev pub repeated : FormTree → Option FormTrees
 repeated (list fs at) = repeated_in fs
 repeated _ = None
 
--- what the form at this offset breaks in the role of the repeated part, with so many actions before it, by the forms of its actions
+-- what the form at this offset breaks in the role of the repeated part, with so many actions before
+-- it, by the forms of its actions
 abbrev pub repeat_breaks_at : List (List ℕ) → List Operator → ℕ → ℕ → Option FormTrees → List Break
 repeat_breaks_at names operators before at None = (Shape, at) ∷ []
 repeat_breaks_at names operators before at (Some fs) = actions_breaks names operators before fs

@@ -1,4 +1,5 @@
--- The plans with a repeated part that forms stand for. Where a form breaks a rule, what is said of it here does not matter.
+-- The plans with a repeated part that forms stand for. Where a form breaks a rule, what is said of
+-- it here does not matter.
 use Rattle.std.specs.Prelude.{ℕ, List, [], Option, Some, None}
 use Rattle.tl_sexpr.specs.Tree.{FormTree, FormTrees}
 use Rattle.tl_syntax.specs.declared.action.Action.{Action}

@@ -1,4 +1,5 @@
--- What is read from the forms of a plan file with a repeated part, where a problem gives the names and the operators.
+-- What is read from the forms of a plan file with a repeated part, where a problem gives the names
+-- and the operators.
 use Rattle.std.specs.Prelude.{ℕ, List, Result}
 use Rattle.tl_sexpr.specs.Tree.{FormTree, FormTrees}
 use Rattle.tl_syntax.specs.declared.action.Action.{Action}
@@ -19,10 +20,12 @@ IsNamedIn problem = ActionIsNamed problem.names problem.domain.operators
 abbrev pub breaks_in : Problem → FormTrees → List Break
 breaks_in problem fs = loop_breaks problem.names problem.domain.operators fs
 
--- the plan is what the forms of a file stand for, and they break nothing; or the fault is the first that they break
+-- the plan is what the forms of a file stand for, and they break nothing; or the fault is the first
+-- that they break
 abbrev pub ReadsLoop : Problem → FormTrees → Result LoopPlan FormFault → Type 0
 ReadsLoop problem fs r = Reads (λ (x : LoopPlan). x) r (breaks_in problem fs) (loop_meant problem.names problem.domain.operators fs)
 
--- the actions are what the form of the repeated part stands for, with so many before them, and it breaks nothing; or the fault is the first that it breaks
+-- the actions are what the form of the repeated part stands for, with so many before them, and it
+-- breaks nothing; or the fault is the first that it breaks
 abbrev pub ReadsRepeated : Problem → ℕ → FormTree → Result (List Action) FormFault → Type 0
 ReadsRepeated problem before f r = Reads (λ (xs : List Action). xs) r (repeat_breaks problem.names problem.domain.operators before f) (repeat_meant problem.names problem.domain.operators f)

@@ -1,4 +1,5 @@
--- Plans with a repeated part: when one is accepted for ever, which verdict is right of it, and why a check gives none.
+-- Plans with a repeated part: when one is accepted for ever, which verdict is right of it, and why
+-- a check gives none.
 use Rattle.std.specs.Prelude.{◌≡◌, ◌≢◌, ◌<◌, ◌+◌, ◌⊎◌, ℕ, List, [], ◌∷◌, ◌++◌, length, false, Some, IsTrue, slice_get}
 use Rattle.tl_action.specs.declared.check_fault.CheckFault.{CheckFault}
 use Rattle.tl_action.specs.declared.check_fault.CheckFault.TheVariants as fault
@@ -16,7 +17,8 @@ use Rattle.tl_terms.specs.Run.{Run, Satisfies}
 use Rattle.tl_syntax.specs.Trees.{FormulaTree}
 use Rattle.tl_terms.specs.World.{World}
 
--- the states of a plan with a repeated part, each action done once: those before the repeated part begins, the one in which it begins, those between its actions, and the one after the last of them
+-- the states of a plan with a repeated part, each action done once: those before the repeated part
+-- begins, the one in which it begins, those between its actions, and the one after the last of them
 pub record LoopStates (p : PlainProblem) (stem cycle : List Action) : Type 0 where
   pub before : List World
   pub first : World
@@ -25,7 +27,8 @@ pub record LoopStates (p : PlainProblem) (stem cycle : List Action) : Type 0 whe
   pub count : length before ≡ length stem
   pub executes : states p (stem ++ cycle) ≡ Some (before ++ (first ∷ (between ++ last ∷ [])))
 
--- the run that it makes, where the repeated part ends in the state in which it began: a stem, and a loop that is repeated for ever (Sistla and Clarke 1985)
+-- the run that it makes, where the repeated part ends in the state in which it began: a stem, and a
+-- loop that is repeated for ever (Sistla and Clarke 1985)
 abbrev pub loop_run : {p : PlainProblem} {stem cycle : List Action} → LoopStates p stem cycle → Run
 loop_run s = record { stem = s.before; first = s.first; rest = s.between }
 
@@ -33,7 +36,8 @@ loop_run s = record { stem = s.before; first = s.first; rest = s.between }
 abbrev pub states_once : {p : PlainProblem} {stem cycle : List Action} → LoopStates p stem cycle → List World
 states_once s = s.before ++ (s.first ∷ s.between)
 
--- the plan is accepted for ever: it executes, the repeated part ends in the state in which it began, the goal is met there, and the control formula holds at the first position of the run
+-- the plan is accepted for ever: it executes, the repeated part ends in the state in which it
+-- began, the goal is met there, and the control formula holds at the first position of the run
 pub record IsAcceptedForEver (p : PlainProblem) (stem cycle : List Action) : Type 0 where
   pub states : LoopStates p stem cycle
   pub closes : states.last ≡ states.first
@@ -66,11 +70,13 @@ IsLoopVerdict p stem cycle verdict.NotClosed = StaysOpen p stem cycle
 IsLoopVerdict p stem cycle verdict.GoalUnmet = MissesGoal p stem cycle
 IsLoopVerdict p stem cycle verdict.Disobeys = BreaksControl p stem cycle
 
--- looked at by the formula along some states, in state k: its basic formulas, for all values of the variables quantified around them, each tuple making its bound true in one of the states
+-- looked at by the formula along some states, in state k: its basic formulas, for all values of the
+-- variables quantified around them, each tuple making its bound true in one of the states
 abbrev pub looked_round : PlainProblem → List World → ℕ → FormulaTree → List Operation
 looked_round p ws k f = looked_after p ws (slice_get ws k) f
 
--- the goal is met where the repeated part begins and ends, and the control formula along the states looks at the noted operation in the world after the first k actions, where it is past range
+-- the goal is met where the repeated part begins and ends, and the control formula along the states
+-- looks at the noted operation in the world after the first k actions, where it is past range
 pub record IsPastInLoop (p : PlainProblem) (stem cycle : List Action) (k : ℕ) (note : RangeNote) : Type 0 where
   pub states : LoopStates p stem cycle
   pub closes : states.last ≡ states.first

@@ -35,7 +35,8 @@ fn both_parts(alloc: Global, stem: &[Action], cycle: &[Action]) -> Result<Action
     Ok(plan)
 }
 
-/// Whether the worlds are the same, in their facts and in the values of all places. It takes no memory.
+/// Whether the worlds are the same, in their facts and in the values of all places. It takes no
+/// memory.
 fn are_same(left: &World, right: &World) -> bool
     ensures { (result ≡ true) ↔ (left.now ≡ right.now) }
 {
@@ -72,10 +73,14 @@ fn judged(
     }
 }
 
-/// The verdict on a plan with a first part and a part that is repeated for ever: `Valid` exactly where it is accepted for ever, and each other verdict exactly where it is right.
+/// The verdict on a plan with a first part and a part that is repeated for ever: `Valid` exactly
+/// where it is accepted for ever, and each other verdict exactly where it is right.
 ///
-/// Both parts are executed once. Then the control formula is labelled along their states as by `tl_check::check`, and no formula is progressed: behind the labels of the last state stand those of the repeated part once more.
-/// It fails for want of memory, or where an operation is past range that an action looks at in its turn, or the control formula along the states.
+/// Both parts are executed once. Then the control formula is labelled along their states as by
+/// `tl_check::check`, and no formula is progressed: behind the labels of the last state stand those
+/// of the repeated part once more.
+/// It fails for want of memory, or where an operation is past range that an action looks at in its
+/// turn, or the control formula along the states.
 ///
 /// The states are kept, and share the tables that stay as they were.
 pub fn check_loop(

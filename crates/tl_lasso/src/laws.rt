@@ -1,7 +1,8 @@
 // What is proved of verdicts, each the contract of a function that does nothing.
 ghost use Rattle.tl_lasso.specs.Laws.{OneLoopVerdict};
 
-/// Of a plan with a repeated part one verdict alone is right, so `check_loop` answers each exactly where it is right.
+/// Of a plan with a repeated part one verdict alone is right, so `check_loop` answers each exactly
+/// where it is right.
 pub fn one_loop_verdict()
     ensures { OneLoopVerdict }
 {}

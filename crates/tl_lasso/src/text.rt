@@ -7,7 +7,8 @@ use std::alloc::Global;
 use tl_line::{bytes_of, not_executable_text};
 use tl_syntax::{Bytes, NoMemory};
 
-/// The line of a verdict on a plan with a repeated part. An action is counted from 1, through both parts. It fails for want of memory alone.
+/// The line of a verdict on a plan with a repeated part. An action is counted from 1, through both
+/// parts. It fails for want of memory alone.
 pub fn loop_text(alloc: Global, verdict: &LoopVerdict) -> Result<Bytes, NoMemory>
     ensures { IfOk result (λ text. text ≡ loop_text verdict.now) }
 {

@@ -1,4 +1,5 @@
--- Actions one after the other, as plan files have them: the rules that their forms break. A plan has at most 100000 actions.
+-- Actions one after the other, as plan files have them: the rules that their forms break. A plan
+-- has at most 100000 actions.
 use Rattle.std.specs.Prelude.{ℕ, ◌+◌, List, [], ◌++◌, not, nat_lt, if◌then◌else◌}
 use Rattle.tl_sexpr.specs.Tree.{FormTree, FormTrees, no_form, more_forms}
 use Rattle.tl_syntax.specs.declared.operator.Operator.{Operator}
@@ -11,7 +12,8 @@ use Rattle.tl_line.specs.Actions.{action_breaks}
 abbrev pub limit_breaks : ℕ → ℕ → List Break
 limit_breaks before at = breaks_if (not (nat_lt before 100000)) Limit at
 
--- what an action breaks with so many actions before it; the rule on its shape has a lesser number than the limit, and those on its operator have greater ones
+-- what an action breaks with so many actions before it; the rule on its shape has a lesser number
+-- than the limit, and those on its operator have greater ones
 abbrev pub placed_breaks : List (List ℕ) → List Operator → ℕ → FormTree → List Break
 placed_breaks names operators before f =
     if is_call f then limit_breaks before (offset_of f) ++ action_breaks names operators f else action_breaks names operators f ++ limit_breaks before (offset_of f)

@@ -1,8 +1,8 @@
 -- Actions: the rules that a form breaks in the role of an action of a plan.
 --
--- An action is a list `(NAME c*)`. NAME is the text of an operator's name, and the arguments are as many values
--- as the operator has parameters. A symbol is a value where it stands in the domain file or the problem file,
--- which is where the table of names has its text.
+-- An action is a list `(NAME c*)`. NAME is the text of an operator's name, and the arguments are as
+-- many values as the operator has parameters. A symbol is a value where it stands in the domain
+-- file or the problem file, which is where the table of names has its text.
 use Rattle.std.specs.Prelude.{ℕ, List, [], ◌∷◌, ◌++◌, Bool, false, ◌||◌, ◌==◌, not, length, Option, Some, None, is_some, slice_get, option_and_then}
 use Rattle.std.specs.List.{position}
 use Rattle.std.specs.Option.{option_map_or}

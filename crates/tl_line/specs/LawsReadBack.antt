@@ -18,7 +18,8 @@ pub record IsReadAs (names : List (List ℕ)) (operators : List Operator) (bytes
   pub unbroken : action_breaks names operators form ≡ []
   pub meant : action_meant names operators form ≡ a
 
--- where operators have different names, the text of an action that can be written is read as that action
+-- where operators have different names, the text of an action that can be written is read as that
+-- action
 abbrev pub TextIsReadBack : Type 0
 TextIsReadBack =
     (names : List (List ℕ)) (operators : List Operator) (a : Action) →

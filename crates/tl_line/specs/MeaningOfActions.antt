@@ -1,4 +1,5 @@
--- The actions that forms stand for. Where a form breaks a rule, what is said of it here does not matter.
+-- The actions that forms stand for. Where a form breaks a rule, what is said of it here does not
+-- matter.
 use Rattle.std.specs.Prelude.{ℕ, List, [], ◌∷◌, unwrap_or}
 use Rattle.tl_sexpr.specs.Tree.{FormTree, FormTrees, symbol, list, no_form, more_forms}
 use Rattle.tl_syntax.specs.declared.action.Action.{Action}

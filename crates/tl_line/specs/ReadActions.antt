@@ -1,4 +1,5 @@
--- What the readers of actions answer: what a form stands for, or the first of the rules that it breaks.
+-- What the readers of actions answer: what a form stands for, or the first of the rules that it
+-- breaks.
 use Rattle.std.specs.Prelude.{ℕ, List, Result}
 use Rattle.tl_sexpr.specs.Tree.{FormTree, FormTrees}
 use Rattle.tl_syntax.specs.declared.action.Action.{Action}

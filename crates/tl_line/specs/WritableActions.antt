@@ -20,7 +20,8 @@ abbrev pub IsWritableValue : List (List ℕ) → Value → Type 0
 IsWritableValue names (Int z) = FitsSigned w64 z
 IsWritableValue names (Sym n) = IsWritableName names n × (is_variable (name_text names n) ≡ false)
 
--- the operator is there and takes as many arguments as the action has, and its name and the arguments can be written
+-- the operator is there and takes as many arguments as the action has, and its name and the
+-- arguments can be written
 pub record IsWritable (names : List (List ℕ)) (operators : List Operator) (a : Action) : Type 0 where
   pub operator : Operator
   pub is : slice_get operators a.op ≡ Some operator

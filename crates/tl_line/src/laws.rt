@@ -2,12 +2,14 @@
 ghost use Rattle.tl_line.specs.LawsOrder.{FirstBreakIsLeast};
 ghost use Rattle.tl_line.specs.LawsReadBack.{TextIsReadBack};
 
-/// Of the rules that a form breaks in the role of an action, the first in reading order is at the least offset, and no lesser rule is broken there.
+/// Of the rules that a form breaks in the role of an action, the first in reading order is at the
+/// least offset, and no lesser rule is broken there.
 pub fn first_break_is_least()
     ensures { FirstBreakIsLeast }
 {}
 
-/// The text of an action spells one form, which stands for that action. The names of operators have to differ, and the names in the action have to be symbols, and no variables in its arguments.
+/// The text of an action spells one form, which stands for that action. The names of operators have
+/// to differ, and the names in the action have to be symbols, and no variables in its arguments.
 pub fn text_is_read_back()
     ensures { TextIsReadBack }
 {}

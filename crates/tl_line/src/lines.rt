@@ -20,7 +20,8 @@ pub fn bytes_of(alloc: Global, text: &str) -> Result<Bytes, NoMemory>
 }
 
 /// Puts a line for each action at the end.
-/// The actions have to be those of the problem, with its names. Where memory runs out, the bytes may have grown by a part of the lines.
+/// The actions have to be those of the problem, with its names. Where memory runs out, the bytes
+/// may have grown by a part of the lines.
 #[tactic(auto, using(crate::proofs::Growth::lines))]
 pub fn put_lines(problem: &Problem, actions: &[Action], out: &mut Bytes) -> Result<(), NoMemory>
     requires { Each (ActionIsNamed problem.now.names problem.now.domain.operators) actions.now }
@@ -43,7 +44,8 @@ pub fn spent_text(alloc: Global, nodes: u32) -> Result<Bytes, NoMemory>
     bytes_of(alloc, line.as_str())
 }
 
-/// The line that says that the action of this number, counted from 1, is not executable in its turn.
+/// The line that says that the action of this number, counted from 1, is not executable in its
+/// turn.
 pub fn not_executable_text(alloc: Global, number: u32) -> Result<Bytes, NoMemory>
     ensures { IfOk result (λ text. text ≡ not_executable_text number) }
 {

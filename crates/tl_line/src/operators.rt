@@ -13,7 +13,8 @@ fn operator_named(operators: &[Operator], number: u32) -> Option<usize>
     operators.iter().position(|one| one.name == number)
 }
 
-/// The position of the operator whose name has this text, where there is one. It goes over the operators.
+/// The position of the operator whose name has this text, where there is one. It goes over the
+/// operators.
 pub fn operator_of(names: &Names, operators: &[Operator], text: &str) -> Option<usize>
     ensures place { result ≡ operator_at names.now operators.now text.now }
     ensures within { IfSome result (λ place. place < length operators.now) }

@@ -48,7 +48,8 @@ fn operator_name(problem: &Problem, op: u32) -> &str
     problem.names.text(operator.name)
 }
 
-/// Puts an action at the end, as a plan file writes it: the operator's name and the arguments in parentheses, with no end of a line.
+/// Puts an action at the end, as a plan file writes it: the operator's name and the arguments in
+/// parentheses, with no end of a line.
 /// Where memory runs out, the bytes may have grown by a part of the text.
 #[tactic(auto, using(crate::proofs::Growth::growth))]
 pub fn put_action(problem: &Problem, a: &Action, out: &mut Bytes) -> Result<(), NoMemory>

@@ -42,8 +42,8 @@ fn status<R: Env + Files + Print + AllocGlobal>(rt: &R) -> Status {
     }
 }
 
-// The exit status is the number of the run's status. Where that is without a whole answer a line on standard error says
-// so first; a fault of that write is ignored.
+// The exit status is the number of the run's status. Where that is without a whole answer a line on
+// standard error says so first; a fault of that write is ignored.
 fn main(rt: HostRuntime) -> ExitCode {
     let status = status(&rt);
     if let Some(line) = status.complaint() {

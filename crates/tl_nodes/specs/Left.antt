@@ -37,7 +37,8 @@ pub record IsLeft (ts : List FormulaTree) (junction : Junction) (parts ids : Lis
   pub same : without_repeats (trees_at ts flat) ≡ without_repeats (flat_map (junction_parts junction) (trees_at ts parts))
   pub left : ids ≡ left_of junction flat
 
--- of whatever parts the old numbers are left, the new ones are left of those and of these further ones
+-- of whatever parts the old numbers are left, the new ones are left of those and of these further
+-- ones
 abbrev pub GoesOnWith : Nodes → Junction → List ℕ → List ℕ → List ℕ → Type 0
 GoesOnWith s junction more old new = (parts : List ℕ) → IsOpened (trees s) junction parts old → IsOpened (trees s) junction (parts ++ more) new
 

@@ -30,8 +30,10 @@ use marks::mark_at;
 use std::alloc::Global;
 use tl_syntax::NoMemory;
 
-/// Formulas that share their parts. Each number below `len` denotes one tree, and equal trees have one number.
-/// The parts of a node have smaller numbers than the node. Numbers keep their trees after every call, a refused one included.
+/// Formulas that share their parts. Each number below `len` denotes one tree, and equal trees have
+/// one number.
+/// The parts of a node have smaller numbers than the node. Numbers keep their trees after every
+/// call, a refused one included.
 #[derive(Drop)]
 pub struct Nodes {
     pub(crate) alloc: Global,
@@ -96,7 +98,8 @@ impl Nodes {
         self.table.get_index(id).unwrap()
     }
 
-    /// Whether the number's tree has a temporal word. It takes no memory: the answer is stored with the node.
+    /// Whether the number's tree has a temporal word. It takes no memory: the answer is stored with
+    /// the node.
     pub fn temporal(&self, id: usize) -> bool
         requires { id < length (trees self.now) }
         ensures word { result ≡ has_temporal (tree_at (trees self.now) id) }
@@ -105,7 +108,8 @@ impl Nodes {
         self.temporal[id]
     }
 
-    /// A fingerprint of the number's tree, where it is a fact or the negation of one: that of `fact_mark`. Of each other tree it is 0. It takes no memory.
+    /// A fingerprint of the number's tree, where it is a fact or the negation of one: that of
+    /// `fact_mark`. Of each other tree it is 0. It takes no memory.
     pub fn mark(&self, id: usize) -> u64 {
         mark_at(self.marks.as_slice(), id)
     }

@@ -3,7 +3,8 @@ use Rattle.std.specs.Prelude.{◌≡◌, ℕ, ◌+◌, ◌≤◌, Bool, true, fa
 use Rattle.tl_outside.specs.declared.reading.ReadFault.{ReadFault}
 use Rattle.tl_outside.specs.declared.reading.ReadFault.TheVariants.{Failed}
 
--- a call of a store: the file of this name was chosen, or was not; so many bytes of it came, or the call failed
+-- a call of a store: the file of this name was chosen, or was not; so many bytes of it came, or the
+-- call failed
 pub data Call : Type 0 where
   begins : List ℕ → Call
   begin_fails : List ℕ → Call
@@ -24,7 +25,8 @@ take_of (Err e) = take_fails
 abbrev pub with_calls : Option (List Call) → List Call → Option (List Call)
 with_calls told calls = option_map (λ all. all ++ calls) told
 
--- bytes of a file are taken, of which so many have come: until none comes, more came than the limit says, or a call fails
+-- bytes of a file are taken, of which so many have come: until none comes, more came than the limit
+-- says, or a call fails
 abbrev pub IsTaken : ℕ → ℕ → List Call → Bool → Type 0
 IsTaken limit count [] failed = failed ≡ false
 IsTaken limit count (takes n ∷ calls) failed = (count ≤ limit) × (n ≡ 0 → calls ≡ []) × IsTaken limit (count + n) calls failed

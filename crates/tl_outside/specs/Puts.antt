@@ -15,7 +15,8 @@ put_of piece (Err e) = fails piece
 abbrev pub with_puts : Option (List Put) → List Put → Option (List Put)
 with_puts told puts = option_map (λ all. all ++ puts) told
 
--- each call is given all that is left, and is made only where something is; a failed one is the last; whether all was taken over
+-- each call is given all that is left, and is made only where something is; a failed one is the
+-- last; whether all was taken over
 abbrev pub HandsOver : List ℕ → List Put → Bool → Type 0
 HandsOver left [] all = (left ≡ []) × (all ≡ true)
 HandsOver left (takes_over piece n ∷ puts) all = (0 < length left) × (piece ≡ left) × HandsOver (drop n left) puts all

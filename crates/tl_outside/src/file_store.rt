@@ -7,7 +7,8 @@ use std::fs::File;
 use std::io::Read;
 use std::rt::Files;
 
-/// The files of the machine, by their paths. It tells no content, and a file that cannot be opened is a fault.
+/// The files of the machine, by their paths. It tells no content, and a file that cannot be opened
+/// is a fault.
 /// At most one file is open at a time: `begin` lets the last one go first.
 #[derive(Drop)]
 pub struct FileStore<'a, R: Files> {

@@ -11,7 +11,8 @@ use std::alloc::Global;
 use tl_syntax::NoMemory;
 
 /// Room in memory for bytes. Calls of `put` are numbered from 0.
-/// A call fails, as a fault, where its number is among those given, or where bytes come and no room is left.
+/// A call fails, as a fault, where its number is among those given, or where bytes come and no room
+/// is left.
 #[derive(Drop)]
 pub struct MemorySink {
     // All the room, of which the first `used` bytes are those taken over.

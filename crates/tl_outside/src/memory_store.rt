@@ -28,7 +28,8 @@ pub struct MemoryStore {
 impl MemoryStore {
     ghost use Rattle.tl_outside.specs.MemoryStore.{told_files, has_chosen, faults_of, most_of, fails_of, calls_of};
 
-    /// A store of these files. One `take` gives at most `most` bytes, and the calls of the numbers in `fails` fail.
+    /// A store of these files. One `take` gives at most `most` bytes, and the calls of the numbers
+    /// in `fails` fail.
     pub fn new(files: FileList, most: usize, fails: Numbers) -> MemoryStore
         requires { 1 ≤ most }
         ensures files { told_files result ≡ Some (files_of files) }

@@ -4,7 +4,8 @@ ghost use Rattle.std.specs.Prelude.{◌≡◌, None};
 use crate::machine::bytes_written;
 use crate::{Failed, Sink};
 
-/// The standard output of the machine. It tells no bytes, and a call that takes over nothing of some bytes is a fault.
+/// The standard output of the machine. It tells no bytes, and a call that takes over nothing of
+/// some bytes is a fault.
 #[derive(Drop)]
 pub struct OutSink<'a, R: Print> {
     rt: &'a R,

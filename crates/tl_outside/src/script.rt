@@ -4,7 +4,8 @@ ghost use Rattle.tl_outside.specs.Script.{fails_at, counted};
 
 use tl_syntax::Items;
 
-/// The numbers of the calls that fail. Their order does not matter, nor does a number that comes twice.
+/// The numbers of the calls that fail. Their order does not matter, nor does a number that comes
+/// twice.
 pub type Numbers = Items<u32>;
 
 // The calls that were made, and the faults among them.

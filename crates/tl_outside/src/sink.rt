@@ -12,7 +12,8 @@ pub trait Sink {
     /// The bytes taken over, where they are told.
     ghost bytes: { Self → Option (List ℕ) };
 
-    /// The calls of `put` in their order, where they are told. A sink that leaves this out does not tell them.
+    /// The calls of `put` in their order, where they are told. A sink that leaves this out does not
+    /// tell them.
     ghost puts: { Self → Option (List Put) } = { λ _. None };
 
     /// How often the sink has failed.

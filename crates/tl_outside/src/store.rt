@@ -21,13 +21,15 @@ pub trait Store {
     /// How many bytes were taken since the last `begin`.
     ghost taken: { Self → ℕ };
 
-    /// The calls in their order, where they are told. A store that leaves this out does not tell them.
+    /// The calls in their order, where they are told. A store that leaves this out does not tell
+    /// them.
     ghost calls: { Self → Option (List Call) } = { λ _. None };
 
     /// How often the store has failed.
     ghost faults: { Self → ℕ };
 
-    /// Chooses the file of this name, of which nothing is taken yet. After a failed call no file is chosen.
+    /// Chooses the file of this name, of which nothing is taken yet. After a failed call no file is
+    /// chosen.
     /// A name that a told store lacks is no fault of the store.
     fn begin(&mut self, name: &str) -> Result<(), Failed>
         ensures chosen { chosen self.new ≡ is_ok result }

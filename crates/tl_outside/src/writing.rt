@@ -7,7 +7,8 @@ ghost use Rattle.tl_outside.specs.Told.{GrowsByPart};
 
 use crate::{Failed, Sink};
 
-/// Hands all of the bytes to the sink. Each `put` is given all that is left, and a failed one is the last.
+/// Hands all of the bytes to the sink. Each `put` is given all that is left, and a failed one is
+/// the last.
 #[tactic(auto, using(crate::proofs::Front::append_known_more))]
 pub fn write_whole<K: Sink>(out: &mut K, bytes: &[u8]) -> Result<(), Failed>
     ensures all { OnOk result (K.bytes out.new ≡ append_known (K.bytes out.old) bytes.now) }

@@ -4,7 +4,8 @@ use Rattle.std.specs.Str.{bytes_eq}
 use Rattle.tl_problem.specs.declared.elements.Section.{Section}
 use Rattle.tl_problem.specs.declared.elements.Section.TheVariants as section
 
--- a place has a value; a fact is to be false; or another symbol, which should be the name of a predicate
+-- a place has a value; a fact is to be false; or another symbol, which should be the name of a
+-- predicate
 pub data ElementWord : Type 0 where
   Equality : ElementWord
   Negation : ElementWord

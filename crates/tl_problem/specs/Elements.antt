@@ -1,6 +1,8 @@
--- The elements of `init` and of `goal`: the rules that each breaks beside the elements before it, and what all say.
+-- The elements of `init` and of `goal`: the rules that each breaks beside the elements before it,
+-- and what all say.
 --
--- Two elements contradict each other where they give one place two values, or where one is a fact that the other negates.
+-- Two elements contradict each other where they give one place two values, or where one is a fact
+-- that the other negates.
 -- Contradictions are looked for only between elements that break no other rule.
 use Rattle.std.specs.Prelude.{ℕ, List, [], ◌∷◌, ◌++◌, Option, Some, None}
 use Rattle.tl_sexpr.specs.Tree.{FormTree, FormTrees, no_form, more_forms}

@@ -1,4 +1,5 @@
--- Worked examples of problem files. Above each stands the text of the file. The domain is `(domain d (predicate p 1) (function n 0))`.
+-- Worked examples of problem files. Above each stands the text of the file. The domain is `(domain
+-- d (predicate p 1) (function n 0))`.
 use Rattle.std.specs.Prelude.{◌≡◌, ◌+◌, ℕ, pos, List, [], ◌∷◌, Option, Some, refl, codes}
 use Rattle.tl_sexpr.specs.Tree.{FormTree, symbol, integer, list, trees_of_list}
 use Rattle.tl_syntax.specs.declared.domain.Domain.{Domain}
@@ -14,7 +15,8 @@ use Rattle.tl_problem.specs.ProblemFiles.{problem_file_breaks, problem_file_mean
 abbrev forms : List FormTree → ℕ → FormTree
 forms fs at = list (trees_of_list fs) at
 
--- a file of the problem form of these elements of `init` and of `goal`, which stands at this offset; and one with more forms
+-- a file of the problem form of these elements of `init` and of `goal`, which stands at this
+-- offset; and one with more forms
 abbrev file_and : List FormTree → ℕ → List FormTree → List FormTree → List FormTree
 file_and init goal_at goal later =
     forms (

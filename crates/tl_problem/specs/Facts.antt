@@ -1,4 +1,5 @@
--- Facts, equalities and negated facts, each by itself: the rules that forms break, and what they stand for.
+-- Facts, equalities and negated facts, each by itself: the rules that forms break, and what they
+-- stand for.
 --
 -- What is said of the meaning of a form that breaks a rule does not matter.
 use Rattle.std.specs.Prelude.{ℕ, pos, List, [], ◌∷◌, ◌++◌, Option, Some, None}
@@ -25,7 +26,8 @@ fact_meant names predicates c = record {
   args = values_meant names c.rest;
 }
 
--- the fact X of `(not X)`: X itself breaks the rules of facts, and where it calls nothing, `(not X)` has no shape
+-- the fact X of `(not X)`: X itself breaks the rules of facts, and where it calls nothing, `(not
+-- X)` has no shape
 abbrev pub negated_breaks : List (List ℕ) → List Declared → Option CallTree → ℕ → List Break
 negated_breaks names predicates (Some fact) at = ground_breaks names predicates fact
 negated_breaks names predicates None at = (Shape, at) ∷ []
@@ -46,7 +48,8 @@ negation_meant names predicates (more_forms fact no_form) =
     negated_meant names predicates (call_in fact)
 negation_meant names predicates _ = record { pred = 0; args = [] }
 
--- the place X and the value c of `(= X c)`: both break their own rules, and where X calls nothing, `(= X c)` has no shape
+-- the place X and the value c of `(= X c)`: both break their own rules, and where X calls nothing,
+-- `(= X c)` has no shape
 abbrev pub place_breaks : List (List ℕ) → List Declared → Option CallTree → FormTree → ℕ → List Break
 place_breaks names functions (Some place) value at =
     ground_breaks names functions place ++ value_breaks value

@@ -7,7 +7,8 @@ use Rattle.tl_syntax.specs.Signature.{Signature}
 use Rattle.tl_problem.specs.Literals.{Literals}
 use Rattle.tl_problem.specs.Sections.{Sections}
 
--- with n names: facts and places take their values, no place has two values, and no fact is also negated
+-- with n names: facts and places take their values, no place has two values, and no fact is also
+-- negated
 pub record LiteralsKeep (g : Signature) (n : ℕ) (l : Literals) : Type 0 where
   pub facts : Each (FactKeeps g n) l.facts
   pub values : Each (PlaceKeeps g n) l.values

@@ -1,6 +1,8 @@
--- What the elements of `init` or of `goal` say together: facts, places with values, and negated facts.
+-- What the elements of `init` or of `goal` say together: facts, places with values, and negated
+-- facts.
 --
--- A fact that is written twice counts once, where it stands first; so does a place that is written twice with one value.
+-- A fact that is written twice counts once, where it stands first; so does a place that is written
+-- twice with one value.
 use Rattle.std.specs.Prelude.{ℕ, List, [], ◌∷◌, ◌++◌, Bool, false, ◌&&◌, ◌==◌, not, Option, if◌then◌else◌, is_some, map}
 use Rattle.std.specs.List.{list_any}
 use Rattle.std.specs.Map.{lookup}
@@ -53,8 +55,8 @@ and_value l x = record { facts = l.facts; values = with_value l.values x; nots =
 abbrev pub and_not : Literals → Fact → Literals
 and_not l f = record { facts = l.facts; values = l.values; nots = with_fact l.nots f }
 
--- what an element at an offset breaks beside what is said: its fact is negated there, the fact that it negates is
--- said there, or its place has another value there
+-- what an element at an offset breaks beside what is said: its fact is negated there, the fact that
+-- it negates is said there, or its place has another value there
 abbrev pub fact_denied : Literals → Fact → ℕ → List Break
 fact_denied l f at = breaks_if (list_any (fact_eq f) l.nots) TwoValues at
 

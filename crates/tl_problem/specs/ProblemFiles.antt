@@ -13,7 +13,8 @@ use Rattle.tl_problem.specs.Elements.{elements_breaks, with_elements}
 use Rattle.tl_problem.specs.Literals.{Literals, no_literal}
 use Rattle.tl_problem.specs.Sections.{Sections, no_sections}
 
--- the elements of the problem form are the word `problem`, a name, a list that begins with `init` and one that begins with `goal`
+-- the elements of the problem form are the word `problem`, a name, a list that begins with `init`
+-- and one that begins with `goal`
 abbrev pub has_problem_shape : FormTrees → Bool
 has_problem_shape (more_forms word (more_forms name (more_forms init (more_forms goal no_form)))) =
     is_word (codes "problem") word && is_name name && begins_with (codes "init") init && begins_with (codes "goal") goal

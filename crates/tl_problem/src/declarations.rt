@@ -16,7 +16,8 @@ fn position_among(declared: &[Declared], name: u32) -> Option<usize>
     declared.iter().position(|one| one.name == name)
 }
 
-/// The position of the declaration of a name, which is called with so many arguments by the form at an offset.
+/// The position of the declaration of a name, which is called with so many arguments by the form at
+/// an offset.
 /// A domain declares far less than what 32 bits can number; past them the answer is want of memory.
 fn position_with(declared: &[Declared], name: u32, count: usize, at: u32) -> Result<u32, FormFault>
     ensures { Reads (λ (x : ℕ). x) result (call_breaks_at declared.now

@@ -9,7 +9,8 @@ use std::alloc::{AllocError, AllocFailed, Global};
 use std::marker::Model;
 use tl_syntax::{Fact, Facts};
 
-/// Facts, each once, in the order of their first mention. Contracts see the list of them. A fact is looked up by its hash.
+/// Facts, each once, in the order of their first mention. Contracts see the list of them. A fact is
+/// looked up by its hash.
 #[derive(Drop)]
 pub(crate) struct FactSet {
     facts: IndexSet<Fact>,

@@ -9,7 +9,8 @@ use std::alloc::Global;
 use tl_rules::{FormFault, Rule, breaks};
 use tl_syntax::{Fact, PlaceValue};
 
-/// What the elements of `init` or of `goal` say together, in tables where facts and places are looked up.
+/// What the elements of `init` or of `goal` say together, in tables where facts and places are
+/// looked up.
 #[derive(Drop)]
 pub(crate) struct LiteralTables {
     /// The facts.
@@ -56,7 +57,8 @@ impl LiteralTables {
         Ok(())
     }
 
-    /// Adds the place with its value of an element at this offset, to which no element may give another value.
+    /// Adds the place with its value of an element at this offset, to which no element may give
+    /// another value.
     pub(crate) fn add_value(&mut self, entry: PlaceValue, at: u32) -> Result<(), FormFault>
         ensures { AddsMeant result self.new (value_differs (literals_in self.old) entry at)
             (and_value (literals_in self.old) entry) }

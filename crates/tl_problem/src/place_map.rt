@@ -14,7 +14,8 @@ pub(crate) struct Place {
     pub(crate) args: Values,
 }
 
-/// Places with values, each place once, in the order of their first mention. Contracts see the list of them.
+/// Places with values, each place once, in the order of their first mention. Contracts see the list
+/// of them.
 /// A place is looked up by its hash.
 #[derive(Drop)]
 pub(crate) struct PlaceMap {

@@ -1,4 +1,5 @@
--- What calls take and answer, by their arguments: a task, a world, the values of a frame, and formulas by their numbers.
+-- What calls take and answer, by their arguments: a task, a world, the values of a frame, and
+-- formulas by their numbers.
 use Rattle.std.specs.Prelude.{◌≡◌, ◌↔◌, ℕ, suc, List, length, map, Bool, Option, Result, IfOk, IfErr}
 use Rattle.tl_eval.specs.Frames.{assignment_in}
 use Rattle.tl_nodes.specs.declared.nodes.Nodes.{Nodes}
@@ -133,7 +134,8 @@ progressed_at task w nodes i = progressed (situation_of (plain_problem task.prob
 abbrev pub looked_by_progressing_at : Task → World → Nodes → ℕ → List Operation
 looked_by_progressing_at task w nodes i = looked_by_progressing (plain_problem task.problem) w (tree_at (trees nodes) i)
 
--- on each run the one number's tree holds at the world just where the other's holds at the position after it, and on each infinite sequence of worlds it fails just where the other's does
+-- on each run the one number's tree holds at the world just where the other's holds at the position
+-- after it, and on each infinite sequence of worlds it fails just where the other's does
 pub record IsProgression (task : Task) (w : World) (old : Nodes) (i : ℕ) (new : Nodes) (n : ℕ) : Type 0 where
   pub holds : (r : Run) (k : ℕ) → state_at r k ≡ w
       → Satisfies (plain_problem task.problem) r k (tree_at (trees old) i) ↔ Satisfies (plain_problem task.problem) r (suc k) (tree_at (trees new) n)
@@ -141,7 +143,8 @@ pub record IsProgression (task : Task) (w : World) (old : Nodes) (i : ℕ) (new 
       → (SatisfiesAlong (plain_problem task.problem) s k (tree_at (trees old) i) → ⊥)
       ↔ (SatisfiesAlong (plain_problem task.problem) s (suc k) (tree_at (trees new) n) → ⊥)
 
--- where the task names all that the world and the one number's tree have, it names all that the other's has
+-- where the task names all that the world and the one number's tree have, it names all that the
+-- other's has
 abbrev pub StaysNamed : Task → World → Nodes → ℕ → Nodes → ℕ → Type 0
 StaysNamed task w old i new n = WorldIsNamed (length task.problem.names) w → IsNamed (length task.problem.names) (tree_at (trees old) i) → IsNamed (length task.problem.names) (tree_at (trees new) n)
 

@@ -1,4 +1,5 @@
--- What calls take and answer where formulas are read: in a world of a task, with what is known there.
+-- What calls take and answer where formulas are read: in a world of a task, with what is known
+-- there.
 use Rattle.std.specs.Borrow.{Bor}
 use Rattle.std.specs.Prelude.{◌≡◌, ℕ, List, Bool, Option, Some, None, Result, IfOk, IfErr, IfSome, IfNone, nat_eq}
 use Rattle.indexmap.specs.IndexMap.{get}

@@ -18,7 +18,8 @@ use Rattle.tl_terms.specs.World.{World}
 unfoldable pub found_in : Residuals → ℕ → ℕ → Option ℕ
 found_in r n k = number_for r.table (record { world = n; formula = k })
 
--- the number is kept for the formula in its world, and what is kept there for other formulas is as before
+-- the number is kept for the formula in its world, and what is kept there for other formulas is as
+-- before
 abbrev pub KeepsNumber : Residuals → Residuals → Incoming → ℕ → Type 0
 KeepsNumber old new incoming number = (k : ℕ) → found_in new incoming.world k ≡ cond (nat_eq incoming.formula k) (Some number) (found_in old incoming.world k)
 

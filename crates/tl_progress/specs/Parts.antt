@@ -22,7 +22,8 @@ use Rattle.tl_terms.specs.Situation.{Situation}
 abbrev pub AddsOnly : List ℕ → List ℕ → List ℕ → Type 0
 AddsOnly old new ids = (q : ℕ) → Among q new → Among q old ⊎ Among q ids
 
--- the parts that are worked through before the node: true is for the idling check, which reads below a `next` and of an `until` the second part alone
+-- the parts that are worked through before the node: true is for the idling check, which reads
+-- below a `next` and of an `until` the second part alone
 abbrev pub parts : Bool → Node → List ℕ
 parts n node.True = []
 parts n node.False = []
@@ -39,7 +40,8 @@ parts n (node.During k i) = i ∷ []
 parts n (node.ForAll vs b i) = []
 parts n (node.Exists vs b i) = []
 
--- the number is this one or below it, outside of quantifiers: it fits where this one does, its free variables are among those of this one, and all that is looked at in it is looked at in this one
+-- the number is this one or below it, outside of quantifiers: it fits where this one does, its free
+-- variables are among those of this one, and all that is looked at in it is looked at in this one
 pub record IsBelow (n : Bool) (ts : List FormulaTree) (id at : ℕ) : Type 0 where
   pub under : at ≤ id
   pub fits : (g : Signature) (around : List ℕ) → Fits g around (tree_at ts id) → Fits g around (tree_at ts at)
@@ -65,6 +67,7 @@ IsPartAt nodes at i part = slice_get (join_parts (tree_at (trees nodes) at)) i �
 abbrev pub IsJoin : Junction → FormulaTree → Type 0
 IsJoin junction f = f ≡ joined junction (formulas_of_list (join_parts f))
 
--- the part is gathered: whatever parts follow, the join of the new ones is that of the old ones and the part
+-- the part is gathered: whatever parts follow, the join of the new ones is that of the old ones and
+-- the part
 abbrev pub GathersPart : Nodes → Junction → List ℕ → ℕ → List ℕ → Type 0
 GathersPart nodes junction old part new = (rest : List FormulaTree) → simplified_join junction (trees_at (trees nodes) new ++ rest) ≡ simplified_join junction (trees_at (trees nodes) old ++ tree_at (trees nodes) part ∷ rest)

@@ -74,7 +74,8 @@ ReadsPatternAt task w nodes q p r = (frame : List (Option Value)) → StandsForB
 abbrev pub IsReader : List Var → Reading → Type 0
 IsReader ss r = (s : Situation) × (b : Bound) × (e : Assignment) × ReadsBound s ss e b r
 
--- a step to the next instance: the tuples are gone on with, and the variables get the values of the one that is found
+-- a step to the next instance: the tuples are gone on with, and the variables get the values of the
+-- one that is found
 pub record HasStepped (s : Situation) (ss : List Var) (b : Bound) (before after : Reading) (old new : List (Option Value)) (found : Bool) : Type 0 where
   pub reads : (e : Assignment) → ReadsBound s ss e b before → ReadsBound s ss e b after
   pub next : (e : Assignment) → ReadsBound s ss e b before → IsNext (length ss) (λ t. bound_true s (bind ss t e) b) before.tuple after.tuple
@@ -90,6 +91,7 @@ HasSteppedOver ss before after old new found = (s : Situation) (b : Bound) → H
 abbrev pub HasSteppedAt : Nodes → Quantifier → Reading → Reading → List (Option Value) → List (Option Value) → Bool → Type 0
 HasSteppedAt nodes q before after old new found = HasSteppedOver (node_vars (trees nodes) q) before after old new found
 
--- of whatever frame the variables' values were kept, where the old frame agrees with it elsewhere, it is the new one
+-- of whatever frame the variables' values were kept, where the old frame agrees with it elsewhere,
+-- it is the new one
 abbrev pub GivesBack : List Var → List (Option Value) → List (Option Value) → List (Option Value) → Type 0
 GivesBack ss kept old new = (frame : List (Option Value)) → AreKept ss frame kept → AgreeElsewhere ss (assignment_in old) (assignment_in frame) → new ≡ frame

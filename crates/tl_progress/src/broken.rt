@@ -103,7 +103,8 @@ fn is_made(nodes: &Nodes, at: usize, dels: &[Fact], adds: &[Fact]) -> bool
     }
 }
 
-// Whether the number's tree is a fact that the changes delete, or the negation of one that they add.
+// Whether the number's tree is a fact that the changes delete, or the negation of one that they
+// add.
 fn is_broken(nodes: &Nodes, at: usize, dels: &[Fact], adds: &[Fact]) -> bool
     requires { at < length (trees nodes.now) }
     ensures { IsTrue result → LeavesTruth false (tree_at (trees nodes.now) at) dels.now adds.now }
@@ -115,7 +116,8 @@ fn is_broken(nodes: &Nodes, at: usize, dels: &[Fact], adds: &[Fact]) -> bool
     }
 }
 
-// Whether one of the conjunction's parts is a fact that the changes delete, or the negation of one that they add, seen by a look at each.
+// Whether one of the conjunction's parts is a fact that the changes delete, or the negation of one
+// that they add, seen by a look at each.
 fn is_seen_broken(
     conjunction: &Conjunction<'_>,
     changed: &Changed,
@@ -135,7 +137,8 @@ fn is_seen_broken(
     false
 }
 
-// Whether one of the conjunction's parts is found by the fingerprints of the changes to be a fact that they delete, or the negation of one that they add.
+// Whether one of the conjunction's parts is found by the fingerprints of the changes to be a fact
+// that they delete, or the negation of one that they add.
 fn is_found_broken(
     conjunction: &Conjunction<'_>,
     places: &PartPlaces,
@@ -157,7 +160,8 @@ fn is_found_broken(
     false
 }
 
-// Whether one of the conjunction's parts is a fact that the changes delete, or the negation of one that they add, as far as that is found.
+// Whether one of the conjunction's parts is a fact that the changes delete, or the negation of one
+// that they add, as far as that is found.
 fn is_one_broken(
     conjunction: &Conjunction<'_>,
     places: &mut PartPlaces,
@@ -177,8 +181,12 @@ fn is_one_broken(
     is_seen_broken(conjunction, &changed, dels, adds)
 }
 
-/// Whether the changes of facts decide by themselves that the number's tree leaves FALSE in the world after them: it is a fact that they delete, or the negation of one that they add, or a conjunction with such a part.
-/// Most residuals that prune a search are decided so, and the world need not be made. Of a conjunction with many parts those that the changes name are looked up, and where they stand is noted once for many actions; that takes memory, and where there is none each part is looked at.
+/// Whether the changes of facts decide by themselves that the number's tree leaves FALSE in the
+/// world after them: it is a fact that they delete, or the negation of one that they add, or a
+/// conjunction with such a part.
+/// Most residuals that prune a search are decided so, and the world need not be made. Of a
+/// conjunction with many parts those that the changes name are looked up, and where they stand is
+/// noted once for many actions; that takes memory, and where there is none each part is looked at.
 pub fn is_broken_by(
     nodes: &Nodes,
     id: usize,

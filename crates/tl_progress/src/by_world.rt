@@ -9,7 +9,8 @@ use std::alloc::Global;
 use std::marker::Model;
 use tl_syntax::NoMemory;
 
-/// Numbers for worlds and formulas, in the order in which they came. The newest world has the greatest number of all that are kept.
+/// Numbers for worlds and formulas, in the order in which they came. The newest world has the
+/// greatest number of all that are kept.
 ///
 /// Contracts see the entries.
 #[derive(Drop)]
@@ -68,7 +69,8 @@ impl ByWorld {
         }
     }
 
-    /// Lets go what is kept of a world: of the newest what came since its first entry, and of one before it all that is kept. It takes no memory.
+    /// Lets go what is kept of a world: of the newest what came since its first entry, and of one
+    /// before it all that is kept. It takes no memory.
     pub fn forget(&mut self, world: usize)
         ensures none { (k : ℕ) → number_for self.new (record { world = world; formula = k }) ≡ None }
         ensures fewer { (q : PlainIncoming) (i : ℕ) → number_for self.new q ≡ Some i → number_for self.old q ≡ Some i }

@@ -7,7 +7,8 @@ use tl_syntax::Fact;
 /// How many fingerprints there may be, before none is told from others.
 const MOST: usize = 16;
 
-/// Fingerprints of the facts that are deleted, and of the negations of those that are added. No clause speaks of them: they only say where to look.
+/// Fingerprints of the facts that are deleted, and of the negations of those that are added. No
+/// clause speaks of them: they only say where to look.
 #[derive(Drop)]
 pub(crate) struct Changed {
     /// One bit for each fingerprint: that of its first six bits.

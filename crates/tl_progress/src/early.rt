@@ -15,7 +15,8 @@ use tl_eval::{Env, Memory};
 use tl_nodes::{Node, Nodes};
 use tl_syntax::Junction;
 
-// The number of what has to hold next for a conjunction or a disjunction, where a plain part decides it.
+// The number of what has to hold next for a conjunction or a disjunction, where a plain part
+// decides it.
 fn early_join(
     here: &Here,
     nodes: &Nodes,
@@ -49,7 +50,9 @@ fn early_join(
     Ok(None)
 }
 
-/// The number of what has to hold next for a number's tree, where it is a conjunction or a disjunction that a plain part decides: most residuals that prune a search are decided so, and nothing else is then worked out.
+/// The number of what has to hold next for a number's tree, where it is a conjunction or a
+/// disjunction that a plain part decides: most residuals that prune a search are decided so, and
+/// nothing else is then worked out.
 /// It takes no memory.
 pub(crate) fn early_residual(
     here: &Here,

@@ -82,7 +82,8 @@ fn has_value(frame: &[Option<Value>], slot: usize) -> bool
     first | second
 }
 
-/// Puts the values of a frame to no bindings, as bindings of their slots. False: they are more than a few. It takes no memory.
+/// Puts the values of a frame to no bindings, as bindings of their slots. False: they are more than
+/// a few. It takes no memory.
 ///
 /// Most slots have no value, and four are asked at once.
 pub(crate) fn put_few(out: &mut FewBindings, frame: &[Option<Value>]) -> bool

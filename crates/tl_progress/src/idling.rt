@@ -16,7 +16,8 @@ use tl_eval::{Env, Memory};
 use tl_nodes::Nodes;
 use tl_world::{Task, World};
 
-/// The truth of a number's tree, which has no free variable. What it is made of outside of quantifiers is worked out before it.
+/// The truth of a number's tree, which has no free variable. What it is made of outside of
+/// quantifiers is worked out before it.
 pub(crate) fn sentence_truth(
     here: &Here,
     nodes: &Nodes,
@@ -59,10 +60,13 @@ pub(crate) fn sentence_truth(
     truth_of(&so_far, nodes, env, memory, id)
 }
 
-/// Whether the number's tree holds where the world is repeated for ever (the idling check, Bacchus and Kabanza 2000).
-/// `Range` notes an operation that is looked at and past the 64 bits of an integer. The caller's frame stays as it was, and no node is added.
+/// Whether the number's tree holds where the world is repeated for ever (the idling check, Bacchus
+/// and Kabanza 2000).
+/// `Range` notes an operation that is looked at and past the 64 bits of an integer. The caller's
+/// frame stays as it was, and no node is added.
 ///
-/// The time grows with the parts of the tree, outside of quantifiers each counted once, and with the tuples of its quantifiers.
+/// The time grows with the parts of the tree, outside of quantifiers each counted once, and with
+/// the tuples of its quantifiers.
 pub fn idle(
     alloc: Global,
     nodes: &Nodes,

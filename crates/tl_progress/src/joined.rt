@@ -1,4 +1,6 @@
-// What has to hold next for a conjunction or a disjunction without free variables, from its parts with temporal words: the others are read first, and most residuals that prune a search are decided by one of them.
+// What has to hold next for a conjunction or a disjunction without free variables, from its parts
+// with temporal words: the others are read first, and most residuals that prune a search are
+// decided by one of them.
 ghost use Rattle.std.specs.Prelude.{◌≡◌, ◌<◌, length, false};
 ghost use Rattle.tl_nodes.specs.Numbering.{Keeps};
 ghost use Rattle.tl_nodes.specs.Numbers.{trees, tree_in};
@@ -33,7 +35,8 @@ pub(crate) struct Joined {
     pub at: usize,
 }
 
-/// The parts of a conjunction or a disjunction that are left once those without temporal words are read.
+/// The parts of a conjunction or a disjunction that are left once those without temporal words are
+/// read.
 #[derive(Clone, Copy)]
 struct OpenParts<'p> {
     /// The conjunction or the disjunction.
@@ -70,7 +73,8 @@ fn state_part(
     sentence_truth(here, nodes, env, memory, part)
 }
 
-// The parts with temporal words, by a memory for the truths of definitions in this world: None where one of the others decides the join.
+// The parts with temporal words, by a memory for the truths of definitions in this world: None
+// where one of the others decides the join.
 fn remembering_open_parts(
     here: &Here,
     nodes: &Nodes,
@@ -136,7 +140,8 @@ fn open_parts(
     answer
 }
 
-// The number of what has to hold next for a number's tree, which has a temporal word and no free variable, where it is not kept. It is kept then.
+// The number of what has to hold next for a number's tree, which has a temporal word and no free
+// variable, where it is not kept. It is kept then.
 fn residual_anew(
     here: &Here,
     nodes: &mut Nodes,
@@ -163,7 +168,8 @@ fn residual_anew(
     }
 }
 
-/// The number of what has to hold next for a number's tree, which has a temporal word and no free variable: the one that is kept, or else the one that is worked out and then kept.
+/// The number of what has to hold next for a number's tree, which has a temporal word and no free
+/// variable: the one that is kept, or else the one that is worked out and then kept.
 pub(crate) fn kept_residual(
     here: &Here,
     nodes: &mut Nodes,

@@ -8,7 +8,8 @@ use tl_syntax::NoMemory;
 /// How many numbers stand in place.
 const FEW: usize = 8;
 
-/// Numbers in their order. A few stand in place, and take no memory; where they are more, all of them are in the list.
+/// Numbers in their order. A few stand in place, and take no memory; where they are more, all of
+/// them are in the list.
 #[derive(Drop)]
 pub(crate) struct Numbers {
     few: [usize; 8],

@@ -23,7 +23,9 @@ pub(crate) struct Conjunction<'a> {
     pub(crate) parts: &'a Ids,
 }
 
-/// Where the parts of one conjunction stand by their fingerprints: of that which was asked for last, since a search asks for one and the same with the changes of many actions. No clause speaks of the fingerprints: they only say where to look.
+/// Where the parts of one conjunction stand by their fingerprints: of that which was asked for
+/// last, since a search asks for one and the same with the changes of many actions. No clause
+/// speaks of the fingerprints: they only say where to look.
 #[derive(Drop)]
 pub struct PartPlaces {
     alloc: Global,
@@ -55,7 +57,8 @@ impl PartPlaces {
         }
     }
 
-    /// Notes that the part at `k`, counted from 1, has the fingerprint, where a place is free nearby.
+    /// Notes that the part at `k`, counted from 1, has the fingerprint, where a place is free
+    /// nearby.
     fn put(&mut self, mark: u64, k: u32) {
         let home = home_of(mark, self.places.len());
         for place in home..home.saturating_add(TRIES) {
@@ -88,7 +91,8 @@ impl PartPlaces {
         Ok(())
     }
 
-    /// Whether it is noted where the parts of the conjunction stand: where they are many, and there is memory for it.
+    /// Whether it is noted where the parts of the conjunction stand: where they are many, and there
+    /// is memory for it.
     pub(crate) fn know(&mut self, conjunction: &Conjunction<'_>) -> bool {
         if conjunction.parts.len() < MANY {
             return false;

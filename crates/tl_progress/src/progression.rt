@@ -25,7 +25,8 @@ use tl_nodes::{Node, Nodes};
 use tl_syntax::Junction;
 use tl_world::{Task, World};
 
-// Works out what has to hold next for a number's tree, or its truth where it has no temporal word, and keeps it. The tree has no free variable.
+// Works out what has to hold next for a number's tree, or its truth where it has no temporal word,
+// and keeps it. The tree has no free variable.
 fn learn(
     here: &Here,
     nodes: &mut Nodes,
@@ -70,7 +71,8 @@ fn learn(
     }
 }
 
-// The number of what has to hold next for a number's tree, which has no free variable. What it is made of outside of quantifiers is worked out before it.
+// The number of what has to hold next for a number's tree, which has no free variable. What it is
+// made of outside of quantifiers is worked out before it.
 fn ordered_residual(
     here: &Here,
     nodes: &mut Nodes,
@@ -105,7 +107,9 @@ fn ordered_residual(
     residual_of(&so_far, nodes, env, memory, id)
 }
 
-// The number of what has to hold next for a number's tree, which has no free variable: a part that decides it, or else what its parts give. Nothing is kept between calls but truths of definitions in this world.
+// The number of what has to hold next for a number's tree, which has no free variable: a part that
+// decides it, or else what its parts give. Nothing is kept between calls but truths of definitions
+// in this world.
 fn remembering_residual(
     here: &Here,
     nodes: &mut Nodes,
@@ -133,7 +137,9 @@ fn remembering_residual(
     }
 }
 
-/// The number of what has to hold next for a number's tree, which has no free variable: a part that decides it, or else what its parts give. Nothing is kept between calls, and within one a definition is read once for its values and level, where that is still remembered.
+/// The number of what has to hold next for a number's tree, which has no free variable: a part that
+/// decides it, or else what its parts give. Nothing is kept between calls, and within one a
+/// definition is read once for its values and level, where that is still remembered.
 pub(crate) fn temporal_residual(
     here: &Here,
     nodes: &mut Nodes,
@@ -159,7 +165,8 @@ pub(crate) fn temporal_residual(
     answer
 }
 
-// The number of what has to hold next for a number's tree, which has a temporal word and no free variable, by what is kept of the world.
+// The number of what has to hold next for a number's tree, which has a temporal word and no free
+// variable, by what is kept of the world.
 fn found_residual(
     here: &Here,
     nodes: &mut Nodes,
@@ -198,7 +205,8 @@ fn found_residual(
     }
 }
 
-// The number of what has to hold next for a number's tree, which has no free variable. Where it has no temporal word, it is a constant.
+// The number of what has to hold next for a number's tree, which has no free variable. Where it has
+// no temporal word, it is a constant.
 fn sentence_residual(
     here: &Here,
     nodes: &mut Nodes,
@@ -267,12 +275,19 @@ fn lone_residual(
     answer
 }
 
-/// The number of what has to hold from the next position on, for the number's tree to hold in this world and on (progression, Bacchus and Kabanza 2000).
-/// `Range` notes an operation that is looked at and past the 64 bits of an integer. The caller's frame stays as it was.
-/// Where the tree has no temporal word, the answer is 0 or 1, and no node is added. A refused call may have added nodes.
+/// The number of what has to hold from the next position on, for the number's tree to hold in this
+/// world and on (progression, Bacchus and Kabanza 2000).
+/// `Range` notes an operation that is looked at and past the 64 bits of an integer. The caller's
+/// frame stays as it was.
+/// Where the tree has no temporal word, the answer is 0 or 1, and no node is added. A refused call
+/// may have added nodes.
 ///
-/// What is kept for this world is right of it, before and after the call, a refused one included; what is kept for other worlds stays. Of a conjunction or a disjunction the parts without temporal words are read first, and what has to hold next for another part is worked out once for the world.
-/// The time grows with the parts of the tree, outside of quantifiers each counted once, with the tuples of its quantifiers, and with what the answer adds.
+/// What is kept for this world is right of it, before and after the call, a refused one included;
+/// what is kept for other worlds stays. Of a conjunction or a disjunction the parts without
+/// temporal words are read first, and what has to hold next for another part is worked out once for
+/// the world.
+/// The time grows with the parts of the tree, outside of quantifiers each counted once, with the
+/// tuples of its quantifiers, and with what the answer adds.
 pub fn progress_kept(
     nodes: &mut Nodes,
     task: &Task,

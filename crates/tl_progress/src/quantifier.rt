@@ -11,7 +11,8 @@ use tl_nodes::{Node, Nodes};
 use tl_syntax::{Bound, Junction, Value, Vars};
 use tl_world::{Task, World};
 
-/// Goes on to the next instance: the variables get its values. False: there is none. It takes no memory.
+/// Goes on to the next instance: the variables get its values. False: there is none. It takes no
+/// memory.
 pub(crate) fn put_instance(env: &mut Env, vars: &Vars, tuples: &mut BoundTuples) -> bool
     requires slots { Each (λ s. s.slot < 32) vars.now }
     requires reads { IsReader vars.now tuples.old }
@@ -24,7 +25,8 @@ pub(crate) fn put_instance(env: &mut Env, vars: &Vars, tuples: &mut BoundTuples)
     true
 }
 
-/// A quantifier over the tree of a number, that stands in a node. Its variables and its bound are read there again for each step, since the table of nodes grows between two steps.
+/// A quantifier over the tree of a number, that stands in a node. Its variables and its bound are
+/// read there again for each step, since the table of nodes grows between two steps.
 #[derive(Clone, Copy)]
 pub(crate) struct Quantifier {
     /// All instances, or any.

@@ -1,4 +1,5 @@
-// Truth where a world is repeated for ever, of trees that are quick to read: nothing is looked at for them that can be past range.
+// Truth where a world is repeated for ever, of trees that are quick to read: nothing is looked at
+// for them that can be past range.
 ghost use Rattle.std.specs.Prelude.{◌≡◌, ◌<◌, true, length, IfSome};
 ghost use Rattle.tl_nodes.specs.Fits.{all_below};
 ghost use Rattle.tl_nodes.specs.Numbers.{trees};
@@ -22,7 +23,8 @@ fn plain_basic(here: &Here, nodes: &Nodes, env: &Env, at: usize) -> Option<bool>
     }
 }
 
-/// The truth of a basic formula that is plain to read, or of its negation; None for any other tree. It takes no memory.
+/// The truth of a basic formula that is plain to read, or of its negation; None for any other tree.
+/// It takes no memory.
 #[inline(always)]
 pub(crate) fn plain_truth(here: &Here, nodes: &Nodes, env: &Env, at: usize) -> Option<bool>
     requires { at < length (trees nodes.now) }
@@ -58,7 +60,8 @@ fn plain_join(here: &Here, nodes: &Nodes, env: &Env, join: &Join) -> Option<bool
     Some(!stop)
 }
 
-/// The truth of a tree that is plain to read, or a join of such parts; None for any other tree. It takes no memory.
+/// The truth of a tree that is plain to read, or a join of such parts; None for any other tree. It
+/// takes no memory.
 #[inline(never)]
 pub(crate) fn quick_truth(here: &Here, nodes: &Nodes, env: &Env, at: usize) -> Option<bool>
     requires { at < length (trees nodes.now) }

@@ -51,7 +51,8 @@ fn filled(
     }
 }
 
-/// The number of the tree with the frame's values put in. It is made once, where it is remembered still.
+/// The number of the tree with the frame's values put in. It is made once, where it is remembered
+/// still.
 pub(crate) fn remaining(
     alloc: Global,
     nodes: &mut Nodes,
@@ -82,7 +83,8 @@ pub(crate) struct PartAndRest {
     pub at: usize,
 }
 
-/// The number of the join of a part and of what remains of a tree. Where the part decides, nothing is put in.
+/// The number of the join of a part and of what remains of a tree. Where the part decides, nothing
+/// is put in.
 pub(crate) fn with_remaining(
     alloc: Global,
     nodes: &mut Nodes,
@@ -112,7 +114,8 @@ pub(crate) struct UntilAnswers {
     pub at: usize,
 }
 
-/// The number of what has to hold next for an `until`, from those for its second part and its first.
+/// The number of what has to hold next for an `until`, from those for its second part and its
+/// first.
 pub(crate) fn until_remaining(
     alloc: Global,
     nodes: &mut Nodes,
@@ -157,7 +160,8 @@ pub(crate) struct StepsAnswer {
     pub part: usize,
 }
 
-/// The number of what has to hold next for a `within` or a `for`, from that for its part: it has one step less.
+/// The number of what has to hold next for a `within` or a `for`, from that for its part: it has
+/// one step less.
 pub(crate) fn with_fewer_steps(
     alloc: Global,
     nodes: &mut Nodes,

@@ -24,7 +24,8 @@ use tl_eval::{BoundPattern, BoundTuples, Env, Memory};
 use tl_nodes::{Node, Nodes};
 use tl_syntax::Junction;
 
-/// The number of what has to hold next, where the number's tree has no temporal word: a constant. No node is added, and it takes no memory.
+/// The number of what has to hold next, where the number's tree has no temporal word: a constant.
+/// No node is added, and it takes no memory.
 #[inline(always)]
 pub(crate) fn state_residual(
     here: &Here,
@@ -50,7 +51,8 @@ pub(crate) fn state_residual(
     }
 }
 
-/// The number of what has to hold next for a number's tree: the one that is known, or else the one that is worked out from its parts.
+/// The number of what has to hold next for a number's tree: the one that is known, or else the one
+/// that is worked out from its parts.
 #[cycle(residual_of)]
 pub(crate) fn residual_of(
     here: &Here,
@@ -247,7 +249,8 @@ fn join_residual(
     Ok(number)
 }
 
-// The number for a quantifier. What is known is of trees without free variables, and is not looked up for its instances. The slots of its variables get back what they had.
+// The number for a quantifier. What is known is of trees without free variables, and is not looked
+// up for its instances. The slots of its variables get back what they had.
 #[cycle(residual_of)]
 fn quantifier_residual(
     here: &Here,
@@ -283,7 +286,8 @@ fn quantifier_residual(
     answer
 }
 
-// The number for a quantifier: the join of those for its instances, in tuple order. The first instance that decides ends it, and the variables are left with its values.
+// The number for a quantifier: the join of those for its instances, in tuple order. The first
+// instance that decides ends it, and the variables are left with its values.
 #[cycle(residual_of)]
 fn instances_residual(
     here: &Here,

@@ -15,7 +15,8 @@ pub struct Incoming {
     pub formula: usize,
 }
 
-/// What was found of worlds: for a world and a formula the number of what has to hold next. Where many formulas come in to one world, what they have in common is so worked out once.
+/// What was found of worlds: for a world and a formula the number of what has to hold next. Where
+/// many formulas come in to one world, what they have in common is so worked out once.
 ///
 /// Contracts see it as the number that is kept for a world and a formula, where one is.
 #[derive(Drop)]
@@ -54,7 +55,8 @@ impl Residuals {
         }
     }
 
-    /// Lets go what is kept of the world of this number, as for a world whose number is given again. It takes no memory.
+    /// Lets go what is kept of the world of this number, as for a world whose number is given
+    /// again. It takes no memory.
     ///
     /// It is quick where no world with a greater number has come since; else all that is kept goes.
     pub fn forget(&mut self, world: usize)

@@ -38,7 +38,8 @@ pub(crate) fn basic_truth(
     }
 }
 
-/// The truth of a number's tree: the one that is known, or else the one that is worked out from its parts. It takes no memory.
+/// The truth of a number's tree: the one that is known, or else the one that is worked out from its
+/// parts. It takes no memory.
 #[cycle(truth_of)]
 pub(crate) fn truth_of(
     here: &Here,
@@ -132,7 +133,8 @@ fn layer_truth(
     }
 }
 
-/// The truth of a number's tree, as `truth_of` has it, without a call of it for what is plain to read. It takes no memory.
+/// The truth of a number's tree, as `truth_of` has it, without a call of it for what is plain to
+/// read. It takes no memory.
 #[cycle(truth_of)]
 #[inline(always)]
 pub(crate) fn part_truth(
@@ -157,7 +159,8 @@ pub(crate) fn part_truth(
     }
 }
 
-// The truth of an instance of a quantified formula, as `truth_of` has it, without a call of it for what is quick to read.
+// The truth of an instance of a quantified formula, as `truth_of` has it, without a call of it for
+// what is quick to read.
 #[cycle(truth_of)]
 #[inline(always)]
 fn instance_truth(
@@ -182,7 +185,8 @@ fn instance_truth(
     }
 }
 
-// The truth of the join of the parts: the first part that has the truth which decides it. All parts are below the join's number.
+// The truth of the join of the parts: the first part that has the truth which decides it. All parts
+// are below the join's number.
 #[cycle(truth_of)]
 fn join_truth(
     here: &Here,
@@ -243,7 +247,8 @@ fn quantifier_truth(
     truth
 }
 
-// The truth of a quantified formula: the first instance that has the truth which decides it. The variables are left with the values of the last one.
+// The truth of a quantified formula: the first instance that has the truth which decides it. The
+// variables are left with the values of the last one.
 #[cycle(truth_of)]
 fn instances_truth(
     here: &Here,

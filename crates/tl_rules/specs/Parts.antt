@@ -137,7 +137,8 @@ abbrev mutual
   sizes no_form = 0
   sizes (more_forms f fs) = 1 + size f + sizes fs
 
--- more lists than this number lie within one another in the form, and in one of the forms; an empty list is one
+-- more lists than this number lie within one another in the form, and in one of the forms; an empty
+-- list is one
 abbrev mutual
   pub is_deeper : ℕ → FormTree → Bool
   is_deeper limit (symbol text at) = false

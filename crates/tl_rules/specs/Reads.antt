@@ -21,7 +21,8 @@ abbrev pub IsBreak : FormFault → Type 0
 IsBreak (Breaks broken at) = Unit {0}
 IsBreak NoMemory = ⊥
 
--- what is read, seen by view, is what the form stands for, and breaks nothing; or the fault is the first of the breaks
+-- what is read, seen by view, is what the form stands for, and breaks nothing; or the fault is the
+-- first of the breaks
 abbrev pub Reads : {X Y : Type 0} → (X → Y) → Result X FormFault → List Break → Y → Type 0
 Reads view (Ok x) breaks meant = (breaks ≡ []) × (view x ≡ meant)
 Reads view (Err fault) breaks meant = IsFirst breaks fault

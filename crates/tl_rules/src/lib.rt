@@ -1,4 +1,5 @@
-//! What the readers of domain, problem and plan files share: rules and the forms that break them, parts of forms, and the symbols of a file.
+//! What the readers of domain, problem and plan files share: rules and the forms that break them,
+//! parts of forms, and the symbols of a file.
 //!
 //! - `calls`: lists that begin with a symbol.
 //! - `one_form`: files of one form.

@@ -7,7 +7,8 @@ use crate::parts::{offset, split_first};
 use crate::rule::{FormFault, Rule, breaks};
 use tl_sexpr::Form;
 
-/// Checks that no form of a file stands after its first, given those that do: the second one breaks the rule of shapes. It takes no memory.
+/// Checks that no form of a file stands after its first, given those that do: the second one breaks
+/// the rule of shapes. It takes no memory.
 pub fn check_last(forms: &[Form]) -> Result<(), FormFault>
     ensures lawful { Checks result (second_form_breaks (trees_in forms.now)) }
     ensures no_memory { IfErr result IsBreak }

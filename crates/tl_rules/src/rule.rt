@@ -6,7 +6,8 @@ ghost use Rattle.tl_rules.specs.declared.rule.FormFault.TheVariants as fault;
 use std::alloc::{AllocError, AllocFailed};
 use tl_syntax::NoMemory;
 
-/// A rule of domain, problem, plan and proof files. `docs/COMMANDS.md` says when a form breaks which rule.
+/// A rule of domain, problem, plan and proof files. `docs/COMMANDS.md` says when a form breaks
+/// which rule.
 #[derive(Clone, Copy, PartialEq, Eq)]
 pub enum Rule {
     /// The form has no shape that its place asks for.

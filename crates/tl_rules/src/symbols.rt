@@ -18,7 +18,8 @@ pub fn number_of(names: &Names, text: &str) -> u32
     }
 }
 
-/// Adds the symbols of a form, in reading order. Whatever is answered, every text that was there keeps its number, and no other text joins.
+/// Adds the symbols of a form, in reading order. Whatever is answered, every text that was there
+/// keeps its number, and no other text joins.
 #[cycle(add_symbols)]
 #[tactic(auto, using(crate::proofs::FormTrees::form_trees, crate::proofs::Beginnings::beginnings))]
 pub fn add_form(form: &Form, names: &mut Names) -> Result<(), NoMemory>
@@ -37,7 +38,8 @@ pub fn add_form(form: &Form, names: &mut Names) -> Result<(), NoMemory>
     }
 }
 
-/// Adds the symbols of forms, in reading order. Whatever is answered, every text that was there keeps its number, and no other text joins.
+/// Adds the symbols of forms, in reading order. Whatever is answered, every text that was there
+/// keeps its number, and no other text joins.
 #[cycle(add_symbols)]
 #[tactic(auto, using(crate::proofs::Beginnings::beginnings))]
 pub fn add_forms(forms: &[Form], names: &mut Names) -> Result<(), NoMemory>

@@ -44,7 +44,13 @@ use Rattle.tl_run.specs.Refusals.{refusal_text}
 use Rattle.tl_run.specs.Trace.{IsTrace}
 use Rattle.tl_run.specs.Sample.{IsSummary, SampleEndsPastRange, sample_text}
 
--- the file of this number is refused by this rule; an operation is past range after so many actions, which are those of the path where one is shown; the verdict on a plan; the outcome of a search, or this with the search nodes that it kept and its events; the residuals along a plan, which its files determine; the proof that a search leaves, or the outcome of one that leaves none; the verdict on a proof; of the sample of so many balls, how many search nodes were kept, the outcome of its search and the verdict on its plan; the outcome of a search for a cheapest plan that keeps at most so many search nodes; or the verdict on a plan with a repeated part
+-- the file of this number is refused by this rule; an operation is past range after so many
+-- actions, which are those of the path where one is shown; the verdict on a plan; the outcome of a
+-- search, or this with the search nodes that it kept and its events; the residuals along a plan,
+-- which its files determine; the proof that a search leaves, or the outcome of one that leaves
+-- none; the verdict on a proof; of the sample of so many balls, how many search nodes were kept,
+-- the outcome of its search and the verdict on its plan; the outcome of a search for a cheapest
+-- plan that keeps at most so many search nodes; or the verdict on a plan with a repeated part
 pub data Answer : Type 0 where
   refusal : ℕ → Broken → Answer
   past_range : ℕ → RangeNote → List Action → Answer
@@ -59,7 +65,8 @@ pub data Answer : Type 0 where
   costed : ℕ → CostOutcome → Answer
   judged_loop : LoopVerdict → Answer
 
--- over what its files stand for, the answer is right for the command: one line for each command and answer
+-- over what its files stand for, the answer is right for the command: one line for each command and
+-- answer
 abbrev pub IsRightAnswer : Command → Input → Answer → Type 0
 IsRightAnswer (check d p q) (a_plan problem plan) (judged v) = IsVerdict (plain_problem problem) plan v
 IsRightAnswer (check d p q) (a_plan problem plan) (past_range after note path) = IsCause (plain_problem problem) plan (fault.Range after note) × (path ≡ [])
@@ -82,7 +89,8 @@ IsRightAnswer (check_loop d p q) (a_loop problem plan) (judged_loop v) = IsLoopV
 IsRightAnswer (check_loop d p q) (a_loop problem plan) (past_range after note path) = IsLoopCause (plain_problem problem) plan.stem plan.cycle (fault.Range after note) × (path ≡ [])
 IsRightAnswer command input answer = ⊥
 
--- the actions of the plan that the answer shows, or of the links of its proof, have integers of 64 bits
+-- the actions of the plan that the answer shows, or of the links of its proof, have integers of 64
+-- bits
 abbrev pub AnswerFits : Answer → Type 0
 AnswerFits (refusal number broken) = ⊤
 AnswerFits (past_range after note path) = ⊤

@@ -1,4 +1,5 @@
--- What the command `cheapest` promises: the outcomes that are right of its search, the operations at which it ends, and what its lines say.
+-- What the command `cheapest` promises: the outcomes that are right of its search, the operations
+-- at which it ends, and what its lines say.
 use Rattle.std.specs.Prelude.{◌≡◌, ℕ, ◌+◌, List, length, Option, ⊤}
 use Rattle.tl_cost.specs.CostTexts.{none_text, plan_text}
 use Rattle.tl_cost.specs.LeastCosts.{AreNearPairs, HasFewNearPairs, IsCalmAtLeastCost, IsCheapestCause, IsCheapestPlan}
@@ -19,12 +20,14 @@ use Rattle.tl_run.specs.Commands.{Command}
 use Rattle.tl_run.specs.Inputs.{Input, some_costs}
 use Rattle.tl_run.specs.Turns.{HoldInput}
 
--- so many different search nodes, each of them near: the first one, or one action after a search node that costs no more than any accepted plan
+-- so many different search nodes, each of them near: the first one, or one action after a search
+-- node that costs no more than any accepted plan
 pub record AreTooManyNear (p : PlainProblem) (costs : List ℕ) (b : ℕ) (nodes : List Pair) : Type 0 where
   pub many : length nodes ≡ b + 1
   pub near : AreNearPairs p costs nodes
 
--- the outcome is right of a search that keeps at most b search nodes: a cheapest plan with its cost; that no plan of any length is accepted; or that b + 1 search nodes are near
+-- the outcome is right of a search that keeps at most b search nodes: a cheapest plan with its
+-- cost; that no plan of any length is accepted; or that b + 1 search nodes are near
 abbrev pub IsCostOutcome : ℕ → PlainProblem → List ℕ → CostOutcome → Type 0
 IsCostOutcome b p costs (outcome.Plan plan cost) = IsCheapestPlan p costs plan cost
 IsCostOutcome b p costs outcome.NoPlan = HasNoPlan p
@@ -35,14 +38,17 @@ abbrev pub IsCostOutcomeOver : Input → ℕ → CostOutcome → Type 0
 IsCostOutcomeOver (some_costs problem costs) b o = IsCostOutcome b (plain_problem problem) costs o
 IsCostOutcomeOver input b o = ⊥
 
--- both are plans of the same cost with the same number of actions, or both say that there is none, or both are spent
+-- both are plans of the same cost with the same number of actions, or both say that there is none,
+-- or both are spent
 abbrev pub AreAlike : CostOutcome → CostOutcome → Type 0
 AreAlike (outcome.Plan plan cost) (outcome.Plan other price) = (price ≡ cost) × (length other ≡ length plan)
 AreAlike outcome.NoPlan outcome.NoPlan = ⊤
 AreAlike outcome.Spent outcome.Spent = ⊤
 AreAlike o ended = ⊥
 
--- the path executes and has at most b actions; it is empty, or without its last action it is open and costs no more than any accepted plan; and in its last state the operation is looked at and is past range
+-- the path executes and has at most b actions; it is empty, or without its last action it is open
+-- and costs no more than any accepted plan; and in its last state the operation is looked at and is
+-- past range
 abbrev pub CheapestEndsPastRange : ℕ → PlainProblem → List ℕ → List Action → RangeNote → Type 0
 CheapestEndsPastRange b p costs path note = IsCheapestCause p costs b path (operation_of note)
 
@@ -52,7 +58,8 @@ cost_status (outcome.Plan plan cost) = Yes
 cost_status outcome.NoPlan = No
 cost_status outcome.Spent = Spent
 
--- the lines are those of a plan and its cost: the plan is accepted and costs this, no accepted plan costs less, and none of this cost has fewer actions
+-- the lines are those of a plan and its cost: the plan is accepted and costs this, no accepted plan
+-- costs less, and none of this cost has fewer actions
 pub record PrintsCheapestPlan (files : Option Files) (c : Command) (text : List ℕ) : Type 0 where
   pub problem : Problem
   pub costs : List ℕ
@@ -70,7 +77,8 @@ pub record SaysNoPlanAtAll (files : Option Files) (c : Command) (text : List ℕ
   pub line : text ≡ none_text
   pub none : HasNoPlan (plain_problem problem)
 
--- nothing past range is looked at after a path that costs no more without its last action than any accepted plan, and at most b search nodes are near
+-- nothing past range is looked at after a path that costs no more without its last action than any
+-- accepted plan, and at most b search nodes are near
 pub record HasCalmCosts (files : Option Files) (c : Command) (b : ℕ) : Type 0 where
   pub problem : Problem
   pub costs : List ℕ

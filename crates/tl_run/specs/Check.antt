@@ -20,7 +20,8 @@ pub record SaysAccepted (files : Option Files) (c : Command) (text : List ℕ) :
   pub accepted : IsAccepted (plain_problem problem) plan
   pub line : text ≡ codes "; valid\n"
 
--- no operation past range is looked at by the actions of the files' plan in their turn, or by the control formula along it
+-- no operation past range is looked at by the actions of the files' plan in their turn, or by the
+-- control formula along it
 pub record HasCalmPlan (files : Option Files) (c : Command) : Type 0 where
   pub problem : Problem
   pub plan : List Action

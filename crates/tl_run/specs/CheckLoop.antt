@@ -31,7 +31,8 @@ pub record SaysAcceptedForEver (files : Option Files) (c : Command) (text : List
   pub accepted : IsAcceptedForEver (plain_problem problem) plan.stem plan.cycle
   pub line : text ≡ codes "; valid for ever\n"
 
--- no operation past range is looked at by the actions of the files' plan in their turn, or, where it executes, is closed and meets the goal, by the control formula along it
+-- no operation past range is looked at by the actions of the files' plan in their turn, or, where
+-- it executes, is closed and meets the goal, by the control formula along it
 pub record HasCalmLoop (files : Option Files) (c : Command) : Type 0 where
   pub problem : Problem
   pub plan : LoopPlan

@@ -25,7 +25,8 @@ none_status (BadLink k) = No
 none_status (Accepts k) = No
 none_status (Open k a) = No
 
--- the line is `; proved none`, or `; proved none within N` for a proof with this bound: the proof of the files covers the search space, so no plan is accepted, or none of at most N actions
+-- the line is `; proved none`, or `; proved none within N` for a proof with this bound: the proof
+-- of the files covers the search space, so no plan is accepted, or none of at most N actions
 pub record SaysProved (files : Option Files) (c : Command) (text : List ℕ) : Type 0 where
   pub problem : Problem
   pub proof : Proof

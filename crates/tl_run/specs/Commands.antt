@@ -8,7 +8,10 @@ use Rattle.tl_run.specs.declared.words.Role.TheVariants as role
 use Rattle.tl_run.specs.declared.search.Mode.TheVariants.{Breadth}
 use Rattle.tl_run.specs.Searches.{breadth_in, number_between, search_in, IsWithinLimits}
 
--- a command, with the names of its files: `check`, `plan` and `trace` with their search, `explain`, `prove-none` with its search, and `check-none`; `sample` with its number of balls; `cheapest`, again with files, and with the most search nodes that it keeps; and `check-loop`, whose plan has a repeated part
+-- a command, with the names of its files: `check`, `plan` and `trace` with their search, `explain`,
+-- `prove-none` with its search, and `check-none`; `sample` with its number of balls; `cheapest`,
+-- again with files, and with the most search nodes that it keeps; and `check-loop`, whose plan has
+-- a repeated part
 pub data Command : Type 0 where
   check : List ℕ → List ℕ → List ℕ → Command
   search : Search → List ℕ → List ℕ → Command
@@ -20,7 +23,8 @@ pub data Command : Type 0 where
   cheapest : ℕ → List ℕ → List ℕ → List ℕ → Command
   check_loop : List ℕ → List ℕ → List ℕ → Command
 
--- the files of a command, in the order in which they are read, each with what it is read as; a sample has none
+-- the files of a command, in the order in which they are read, each with what it is read as; a
+-- sample has none
 abbrev pub files_of : Command → List (Role × List ℕ)
 files_of (check domain problem plan) = (role.Domain, domain) ∷ ((role.Problem, problem) ∷ ((role.Plan, plan) ∷ []))
 files_of (search s domain problem) = (role.Domain, domain) ∷ ((role.Problem, problem) ∷ [])

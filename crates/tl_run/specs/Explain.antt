@@ -11,14 +11,16 @@ use Rattle.tl_run.specs.Commands.{Command}
 use Rattle.tl_run.specs.Inputs.{a_plan}
 use Rattle.tl_run.specs.Turns.{HoldInput}
 
--- the lines have one for each state of the plan up to the first action without a step, with the label of its residual, and the last one says whether there is such an action
+-- the lines have one for each state of the plan up to the first action without a step, with the
+-- label of its residual, and the last one says whether there is such an action
 pub record ExplainsPlan (files : Option Files) (c : Command) (text : List ℕ) : Type 0 where
   pub problem : Problem
   pub plan : List Action
   pub stand : HoldInput files c (a_plan problem plan)
   pub explains : Explains problem plan text
 
--- no operation past range is looked at by the actions of the files' plan in their turn, or by progressing the control formula through its states
+-- no operation past range is looked at by the actions of the files' plan in their turn, or by
+-- progressing the control formula through its states
 pub record HasCalmStates (files : Option Files) (c : Command) : Type 0 where
   pub problem : Problem
   pub plan : List Action

@@ -27,7 +27,8 @@ IsHeld (Costs p costs) (some_costs q given) = (q ≡ p) × (given ≡ costs)
 IsHeld (Loop p plan) (a_loop q other) = (q ≡ p) × (other ≡ plan)
 IsHeld held input = ⊥
 
--- the repeated part of a plan has an action, both parts together have at most 100000, and each names only what the problem has
+-- the repeated part of a plan has an action, both parts together have at most 100000, and each
+-- names only what the problem has
 pub record KeepsParts (names : List (List ℕ)) (operators : List Operator) (plan : LoopPlan) : Type 0 where
   pub some : 0 < length plan.cycle
   pub few : length plan.stem + length plan.cycle ≤ 100000
@@ -68,14 +69,16 @@ abbrev pub AreInOrder : Option Role → List (Role × List ℕ) → Type 0
 AreInOrder last [] = ⊤
 AreInOrder last (f ∷ fs) = (role_before f.0 ≡ last) × AreInOrder (Some f.0) fs
 
--- the forms of a file of this role break no rule, and this holds what they stand for together with what was read before
+-- the forms of a file of this role break no rule, and this holds what they stand for together with
+-- what was read before
 pub record HoldsForms (r : Role) (before : inputs.Input) (forms : FormTrees) (held : Input) : Type 0 where
   pub input : inputs.Input
   pub lawful : breaks_of r before forms ≡ []
   pub meant : IsMeant r before forms input
   pub is_held : IsHeld held input
 
--- the file of this role and name breaks no rule, and this holds what it stands for together with what was read before
+-- the file of this role and name breaks no rule, and this holds what it stands for together with
+-- what was read before
 pub record HoldsFile (files : Option Files) (r : Role) (name : List ℕ) (before : inputs.Input) (held : Input) : Type 0 where
   pub input : inputs.Input
   pub bytes : List ℕ

@@ -1,4 +1,5 @@
--- What the command `plan` promises: the outcomes that are right of a search, the operations at which it ends, and what its lines say.
+-- What the command `plan` promises: the outcomes that are right of a search, the operations at
+-- which it ends, and what its lines say.
 use Rattle.std.specs.Prelude.{◌≡◌, ◌⊎◌, ℕ, ◌≤◌, List, length, Option}
 use Rattle.tl_outside.specs.Told.{Files}
 use Rattle.tl_syntax.specs.declared.action.Action.{Action}
@@ -23,14 +24,19 @@ use Rattle.tl_run.specs.Commands.{Command}
 use Rattle.tl_run.specs.Inputs.{a_problem}
 use Rattle.tl_run.specs.Turns.{HoldInput}
 
--- the outcome is right of a search for plans of at most n actions among b search nodes, which gives plans of this kind and is spent in this way: that there is none, or none within n and some search node at n actions, or b + 1 search nodes
+-- the outcome is right of a search for plans of at most n actions among b search nodes, which gives
+-- plans of this kind and is spent in this way: that there is none, or none within n and some search
+-- node at n actions, or b + 1 search nodes
 abbrev pub IsRightOutcome : (List Action → Type 0) → (List Pair → Type 0) → ℕ → ℕ → PlainProblem → Outcome → Type 0
 IsRightOutcome GivesPlan SpendsPairs n b p (outcome.Plan plan) = GivesPlan plan
 IsRightOutcome GivesPlan SpendsPairs n b p outcome.NoPlan = HasNoPlan p × HasNoPairFrom p n
 IsRightOutcome GivesPlan SpendsPairs n b p outcome.NoneWithin = HasNoPlanWithin p n × HasPairAt p n
 IsRightOutcome GivesPlan SpendsPairs n b p outcome.Spent = (xs : List Pair) × IsSpent p n b xs × SpendsPairs xs
 
--- the outcome that is right in a mode, one line for each: breadth-first, the first in action order of the shortest accepted plans, and where it is spent all nearer search nodes are among those; depth-first, the first in action order of the accepted plans that repeat no search node, and where it is spent each of those ends a path that no such plan comes before
+-- the outcome that is right in a mode, one line for each: breadth-first, the first in action order
+-- of the shortest accepted plans, and where it is spent all nearer search nodes are among those;
+-- depth-first, the first in action order of the accepted plans that repeat no search node, and
+-- where it is spent each of those ends a path that no such plan comes before
 abbrev pub IsOutcomeIn : Mode → ℕ → ℕ → PlainProblem → Outcome → Type 0
 IsOutcomeIn Breadth n b p o = IsRightOutcome (IsFirstShortestPlan p n) (IsSpentBreadthFirst p b) n b p o
 IsOutcomeIn Depth n b p o = IsRightOutcome (IsFirstSimplePlan p n) (IsSpentDepthFirst p n) n b p o
@@ -39,16 +45,20 @@ IsOutcomeIn Depth n b p o = IsRightOutcome (IsFirstSimplePlan p n) (IsSpentDepth
 abbrev pub IsOutcome : Search → PlainProblem → Outcome → Type 0
 IsOutcome s p o = IsOutcomeIn s.mode s.within s.nodes p o
 
--- what more is known of a path at whose end an operation is past range, in a search for plans of at most n actions, one line for each mode: breadth-first no accepted plan is shorter, depth-first no accepted plan that repeats no search node comes before it
+-- what more is known of a path at whose end an operation is past range, in a search for plans of at
+-- most n actions, one line for each mode: breadth-first no accepted plan is shorter, depth-first no
+-- accepted plan that repeats no search node comes before it
 abbrev pub ComesFirst : Mode → ℕ → PlainProblem → List Action → Type 0
 ComesFirst Breadth n p path = HasNoPlanBelow p (length path)
 ComesFirst Depth n p path = HasNoSimplePlanBefore p n path
 
--- the path executes and has at most as many actions as a plan may have, and in its last state the operation is looked at and is past range
+-- the path executes and has at most as many actions as a plan may have, and in its last state the
+-- operation is looked at and is past range
 abbrev pub EndsPastRange : Search → PlainProblem → List Action → RangeNote → Type 0
 EndsPastRange s p path note = IsRangeCause p s.within path (operation_of note) × ComesFirst s.mode s.within p path
 
--- the lines are those of a plan that is accepted and has at most so many actions, and breadth-first no accepted plan is shorter
+-- the lines are those of a plan that is accepted and has at most so many actions, and breadth-first
+-- no accepted plan is shorter
 pub record PrintsPlan (files : Option Files) (c : Command) (s : Search) (text : List ℕ) : Type 0 where
   pub problem : Problem
   pub stand : HoldInput files c (a_problem problem)
@@ -58,7 +68,8 @@ pub record PrintsPlan (files : Option Files) (c : Command) (s : Search) (text : 
   pub accepted : IsAccepted (plain_problem problem) plan
   pub shortest : s.mode ≡ Breadth → HasNoPlanBelow (plain_problem problem) (length plan)
 
--- the line says that there is no plan, and no plan is accepted; or it says so of plans of at most n actions, and none of those is
+-- the line says that there is no plan, and no plan is accepted; or it says so of plans of at most n
+-- actions, and none of those is
 abbrev pub SaysNone : PlainProblem → ℕ → List ℕ → Type 0
 SaysNone p n text = ((text ≡ none_text) × HasNoPlan p) ⊎ ((text ≡ none_within_text n) × HasNoPlanWithin p n)
 
@@ -68,7 +79,8 @@ pub record SaysNoPlan (files : Option Files) (c : Command) (s : Search) (text : 
   pub stand : HoldInput files c (a_problem problem)
   pub none : SaysNone (plain_problem problem) s.within text
 
--- nothing past range is looked at by the search, and no more search nodes are near enough than it may keep
+-- nothing past range is looked at by the search, and no more search nodes are near enough than it
+-- may keep
 pub record HasCalmSearch (files : Option Files) (c : Command) (s : Search) : Type 0 where
   pub problem : Problem
   pub stand : HoldInput files c (a_problem problem)

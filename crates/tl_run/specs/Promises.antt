@@ -26,7 +26,8 @@ use Rattle.tl_run.specs.Turns.{BeginsFirst, CallsTold, HoldInput, IsRefused}
 use Rattle.tl_run.specs.Sent.{SendsAll, SendsPart, SinkTold}
 use Rattle.tl_run.specs.Sample.{IsSummaryOver, SaysSummary, HasCalmSample, sample_text}
 
--- the files allow this answer to the command: the refusal of a file in its turn, or what is right over all of them
+-- the files allow this answer to the command: the refusal of a file in its turn, or what is right
+-- over all of them
 abbrev pub Allows : Option Files → Command → Input → Answer → Type 0
 Allows files c input (refusal number broken) = IsRefused files c number broken
 Allows files c input answer = HoldInput files c input × IsRightAnswer c input answer
@@ -46,7 +47,8 @@ pub record IsAnswer (files : Option Files) (c : Command) (told : CallsTold) (sta
   pub status_is : status ≡ status_of answer
   pub text_is : text ≡ text_of input answer
 
--- what is written: all of an answer of which P holds; a front part of one, where a call failed, which is then the last; or nothing, without a call
+-- what is written: all of an answer of which P holds; a front part of one, where a call failed,
+-- which is then the last; or nothing, without a call
 abbrev pub Writes : (Status → List ℕ → Type 0) → SinkTold → SinkTold → Status → Type 0
 Writes P old new Usage = new ≡ old
 Writes P old new ReadFault = new ≡ old
@@ -93,7 +95,8 @@ Yields (past_range after note path) Yes = ⊤
 Yields (past_range after note path) No = ⊤
 Yields answer status = ⊥
 
--- the lines of the sample of so many balls with this outcome, or with one that may come in its place
+-- the lines of the sample of so many balls with this outcome, or with one that may come in its
+-- place
 pub record SummarizesAlike (input : Input) (balls : ℕ) (o : Outcome) (text : List ℕ) : Type 0 where
   pub kept : ℕ
   pub ended : Outcome
@@ -115,7 +118,8 @@ IsTextOf input answer text = text ≡ text_of input answer
 abbrev pub Gives : Option (List ℕ) → Option (List ℕ) → Input → Answer → Status → Type 0
 Gives old new input answer status = ((status ≡ status_of answer) × ((text : List ℕ) × IsTextOf input answer text × (new ≡ append_known old text))) ⊎ Yields answer status
 
--- what a reader of the lines may rely on: a row for each command and each status that says something of plans
+-- what a reader of the lines may rely on: a row for each command and each status that says
+-- something of plans
 abbrev pub Headline : Option Files → Command → Status → List ℕ → Type 0
 Headline files (check d p q) Yes text = SaysAccepted files (check d p q) text
 Headline files (search s d p) Yes text = PrintsPlan files (search s d p) s text

@@ -1,4 +1,5 @@
--- What the command `prove-none` promises: which proofs are right of its search, which outcomes leave none, and what its lines say.
+-- What the command `prove-none` promises: which proofs are right of its search, which outcomes
+-- leave none, and what its lines say.
 use Rattle.std.specs.Prelude.{◌≡◌, ◌≤◌, ℕ, List, length, Option, Some, None, ⊤}
 use Rattle.tl_cert.specs.Covers.{Covers, HasNone}
 use Rattle.tl_cert.specs.LawsReadBack.{StartBefore}
@@ -18,14 +19,17 @@ use Rattle.tl_run.specs.Inputs.{Input, a_problem}
 use Rattle.tl_run.specs.Plan.{IsOutcome}
 use Rattle.tl_run.specs.Turns.{HoldInput}
 
--- the bound of a proof after this outcome: none where there is no plan of any length, and the search's where there is none within it
+-- the bound of a proof after this outcome: none where there is no plan of any length, and the
+-- search's where there is none within it
 abbrev pub IsBoundOf : ℕ → Outcome → Option ℕ → Type 0
 IsBoundOf n (outcome.Plan plan) bound = ⊥
 IsBoundOf n outcome.NoPlan bound = bound ≡ None
 IsBoundOf n outcome.NoneWithin bound = bound ≡ Some n
 IsBoundOf n outcome.Spent bound = ⊥
 
--- the proof covers the search space, and its bound is that of the outcome which is right of the search; each link starts from a node that is there before it, and there are no more than a proof file may have
+-- the proof covers the search space, and its bound is that of the outcome which is right of the
+-- search; each link starts from a node that is there before it, and there are no more than a proof
+-- file may have
 pub record IsCertificate (s : Search) (p : PlainProblem) (proof : Proof) : Type 0 where
   pub ended : Outcome
   pub right : IsOutcome s p ended
@@ -53,7 +57,8 @@ unproved_status outcome.NoPlan = No
 unproved_status outcome.NoneWithin = No
 unproved_status outcome.Spent = Spent
 
--- the lines are those of a proof that covers the search space; so no plan is accepted, or where it has a bound none of at most so many actions
+-- the lines are those of a proof that covers the search space; so no plan is accepted, or where it
+-- has a bound none of at most so many actions
 pub record PrintsProof (files : Option Files) (c : Command) (text : List ℕ) : Type 0 where
   pub problem : Problem
   pub stand : HoldInput files c (a_problem problem)

@@ -33,35 +33,40 @@ pub record AreBytesOf (domain problem : List ℕ) (p : Problem) : Type 0 where
   pub second_spelled : Spells problem second
   pub files : AreFilesOf first second p
 
--- the lines of a plan of two files that executes, of at most 100000 actions and with integers of 64 bits, are a plan file of it
+-- the lines of a plan of two files that executes, of at most 100000 actions and with integers of 64
+-- bits, are a plan file of it
 abbrev pub ExecutedPlansAreReadBack : Type 0
 ExecutedPlansAreReadBack =
     (domain problem : List ℕ) (p : Problem) (actions : List Action) (ws : List World) →
     AreBytesOf domain problem p → states (plain_problem p) actions ≡ Some ws → Each ArgumentsFit actions → length actions ≤ 100000 →
     plan.AreReadAs p.names p.domain.operators (plan_text p.names p.domain.operators actions) actions
 
--- the text is that of a plan, and with the third file the files stand for it and allow `check` to answer that it is valid
+-- the text is that of a plan, and with the third file the files stand for it and allow `check` to
+-- answer that it is valid
 pub record IsValidFile (files : Option Files) (d p q text : List ℕ) : Type 0 where
   pub problem : Problem
   pub actions : List Action
   pub lines : text ≡ plan_text problem.names problem.domain.operators actions
   pub valid : Allows files (check d p q) (a_plan problem actions) (judged Valid)
 
--- where `plan` printed a plan, or `prove-none` one in place of a proof, and its lines are at most 4194304 bytes and those of a third file, it is so
+-- where `plan` printed a plan, or `prove-none` one in place of a proof, and its lines are at most
+-- 4194304 bytes and those of a third file, it is so
 abbrev pub PrintedPlansAreValid : Type 0
 PrintedPlansAreValid =
     (files : Option Files) (s : Search) (d p q text : List ℕ) (told : CallsTold) →
     IsAnswer files (search s d p) told Yes text ⊎ IsAnswer files (prove_none s d p) told No text → s.within ≤ 100000 → length text ≤ 4194304 → IsContent files q text →
     IsValidFile files d p q text
 
--- the text is that of a proof, and with the third file the files stand for it and allow `check-none` to answer that there is no plan
+-- the text is that of a proof, and with the third file the files stand for it and allow
+-- `check-none` to answer that there is no plan
 pub record IsProofFile (files : Option Files) (d p q text : List ℕ) : Type 0 where
   pub problem : Problem
   pub proof : Proof
   pub lines : text ≡ proof_text problem.names problem.domain.operators proof
   pub proved : Allows files (check_none d p q) (a_proof problem proof) (judged_proof Proved)
 
--- where a proof was printed, and its lines are at most 4194304 bytes and those of a third file, it is so
+-- where a proof was printed, and its lines are at most 4194304 bytes and those of a third file, it
+-- is so
 abbrev pub PrintedProofsAreProved : Type 0
 PrintedProofsAreProved =
     (files : Option Files) (s : Search) (d p q text : List ℕ) (told : CallsTold) →

@@ -19,7 +19,8 @@ pub record Replies (c : Command) (input : Input) (reply : Reply) : Type 0 where
   pub status_is : reply.status ≡ status_of answer
   pub text_is : reply.text ≡ text_of input answer
 
--- the file that was read last is of the role that comes last for the command: one line for each command
+-- the file that was read last is of the role that comes last for the command: one line for each
+-- command
 abbrev pub FitsCommand : Command → Held → Type 0
 FitsCommand (check d p q) held = last_role held ≡ Some role.Plan
 FitsCommand (search s d p) held = last_role held ≡ Some role.Problem

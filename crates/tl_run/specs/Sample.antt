@@ -1,4 +1,5 @@
--- What the command `sample` promises: what is right of the search of a sample and of the check of its plan, and what its lines say.
+-- What the command `sample` promises: what is right of the search of a sample and of the check of
+-- its plan, and what its lines say.
 use Rattle.std.specs.Prelude.{◌≡◌, ◌⊎◌, ℕ, ◌*◌, List, [], ◌++◌, length, Option, Some, None, codes, ⊤}
 use Rattle.std.specs.Fmt.{decimal}
 use Rattle.tl_syntax.specs.Lists.{Among}
@@ -25,7 +26,8 @@ use Rattle.tl_run.specs.Inputs.{Input, a_problem}
 use Rattle.tl_run.specs.Plan.{IsOutcome, EndsPastRange}
 use Rattle.tl_run.specs.SampleTexts.{SampleStandsFor}
 
--- the search of the sample of so many balls: depth-first, for plans of at most three actions for each ball, among at most 20,000 search nodes
+-- the search of the sample of so many balls: depth-first, for plans of at most three actions for
+-- each ball, among at most 20,000 search nodes
 abbrev pub sample_search : ℕ → Search
 sample_search balls = record { mode = Depth; within = 3 * balls; nodes = 20000 }
 
@@ -35,7 +37,8 @@ HasPrefixes p nodes (outcome.Plan plan) =
     (front rest : List Action) → front ++ rest ≡ plan → (x : Pair) × (pair_of p front ≡ Some x) × Among x nodes
 HasPrefixes p nodes o = ⊤
 
--- so many different search nodes of a distance of at most n, among them those of all prefixes of the plan, where there is one
+-- so many different search nodes of a distance of at most n, among them those of all prefixes of
+-- the plan, where there is one
 pub record KeepsNodes (p : PlainProblem) (n : ℕ) (o : Outcome) (count : ℕ) : Type 0 where
   pub nodes : List Pair
   pub many : length nodes ≡ count
@@ -66,7 +69,8 @@ pub record CheckEndsPastRange (balls : ℕ) (p : PlainProblem) (after : ℕ) (no
   pub found : IsOutcome (sample_search balls) p (outcome.Plan plan)
   pub cause : IsCause p plan (fault.Range after note)
 
--- the search ends at an operation past range, after the actions of the path; or the check of its plan does, and no path is shown
+-- the search ends at an operation past range, after the actions of the path; or the check of its
+-- plan does, and no path is shown
 abbrev pub SampleEndsPastRange : ℕ → PlainProblem → ℕ → RangeNote → List Action → Type 0
 SampleEndsPastRange balls p after note path =
     (EndsPastRange (sample_search balls) p path note × (after ≡ length path)) ⊎ (CheckEndsPastRange balls p after note × (path ≡ []))
@@ -87,12 +91,15 @@ verdict_line (Some v) = verdict_text v
 abbrev pub kept_line : ℕ → List ℕ
 kept_line count = codes "; kept " ++ (decimal count ++ codes " pairs\n")
 
--- the lines of a sample: the number of balls, the outcome, the number of kept search nodes, and the verdict
+-- the lines of a sample: the number of balls, the outcome, the number of kept search nodes, and the
+-- verdict
 abbrev pub sample_text : ℕ → ℕ → Outcome → Option Verdict → List ℕ
 sample_text balls kept o v =
     codes "; sample " ++ (decimal balls ++ (codes "\n" ++ (first_line (sample_search balls) o ++ (kept_line kept ++ verdict_line v))))
 
--- what the lines of an outcome say: a plan, with the line `; valid`, is accepted and has at most three actions for each ball; `; none` says that no plan is accepted, and `; none within N` that none of at most N actions is
+-- what the lines of an outcome say: a plan, with the line `; valid`, is accepted and has at most
+-- three actions for each ball; `; none` says that no plan is accepted, and `; none within N` that
+-- none of at most N actions is
 abbrev pub Summarizes : ℕ → PlainProblem → ℕ → Outcome → List ℕ → Type 0
 Summarizes balls p kept (outcome.Plan plan) text =
     (text ≡ sample_text balls kept (outcome.Plan plan) (Some Valid)) × IsPlanWithin p (3 * balls) plan

@@ -43,7 +43,8 @@ abbrev pub report_text : Problem → Search → List KeptPair → Report → Lis
 report_text problem s kept report =
     trace_text problem.names problem.domain kept report.events ++ outcome_text problem.names problem.domain.operators s.within s.nodes report.outcome
 
--- the actions of the events and of the plan, where there is one, are those of the problem and name only its names, and the numbers of the events are those of kept search nodes
+-- the actions of the events and of the plan, where there is one, are those of the problem and name
+-- only its names, and the numbers of the events are those of kept search nodes
 pub record HasNamedLines (problem : Problem) (kept : List KeptPair) (report : Report) : Type 0 where
   pub events : AreWritable problem.names problem.domain (length kept) report.events
   pub plan : HasNamedPlan problem.names problem.domain.operators report.outcome

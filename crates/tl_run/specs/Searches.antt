@@ -6,7 +6,8 @@ use Rattle.tl_run.specs.declared.search.Mode.{Mode}
 use Rattle.tl_run.specs.declared.search.Mode.TheVariants.{Breadth, Depth}
 use Rattle.tl_run.specs.declared.search.Search.{Search}
 
--- the number that a word writes in decimal digits, which zeros may precede, where it is from the first to the second one
+-- the number that a word writes in decimal digits, which zeros may precede, where it is from the
+-- first to the second one
 abbrev pub number_between : ℕ → ℕ → List ℕ → Option ℕ
 number_between least most [] = None
 number_between least most (c ∷ cs) =
@@ -16,16 +17,19 @@ number_between least most (c ∷ cs) =
 abbrev pub mode_in : List ℕ → Option Mode
 mode_in word = if bytes_eq word (codes "breadth") then Some Breadth else (if bytes_eq word (codes "depth") then Some Depth else None)
 
--- a search in this mode, for plans of at most so many actions, that keeps at most so many search nodes
+-- a search in this mode, for plans of at most so many actions, that keeps at most so many search
+-- nodes
 abbrev pub search_with : Option Mode → Option ℕ → Option ℕ → Option Search
 search_with (Some mode) (Some within) (Some nodes) = Some (record { mode = mode; within = within; nodes = nodes })
 search_with mode within nodes = None
 
--- the search that three words write: its mode, the most actions of a plan, and the most search nodes
+-- the search that three words write: its mode, the most actions of a plan, and the most search
+-- nodes
 abbrev pub search_in : List ℕ → List ℕ → List ℕ → Option Search
 search_in mode within nodes = search_with (mode_in mode) (number_between 0 100000 within) (number_between 1 100000 nodes)
 
--- the search breadth-first that two words write: the most actions of a plan, and the most search nodes
+-- the search breadth-first that two words write: the most actions of a plan, and the most search
+-- nodes
 abbrev pub breadth_in : List ℕ → List ℕ → Option Search
 breadth_in within nodes = search_with (Some Breadth) (number_between 0 100000 within) (number_between 1 100000 nodes)
 

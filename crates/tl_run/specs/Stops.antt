@@ -53,7 +53,8 @@ pub record IsLeastBroken (breaks : List Break) (b : Broken) : Type 0 where
   pub is : b ≡ broken.Form rule.0 rule.1
   pub least : IsLeastBreak breaks rule
 
--- why the forms of the file of this number stand for nothing, where these are the rules that they break
+-- why the forms of the file of this number stand for nothing, where these are the rules that they
+-- break
 abbrev pub IsFormsStop : ℕ → List Break → Stop → Type 0
 IsFormsStop number breaks ReadFault = ⊥
 IsFormsStop number breaks NoMemory = ⊤

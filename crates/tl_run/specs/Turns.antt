@@ -55,13 +55,15 @@ BegunInTurn files c count = (count ≡ 0) ⊎ ReachesFile (λ k r name before. c
 abbrev pub first_names : Command → ℕ → List (List ℕ)
 first_names c count = map (λ (f : Role × List ℕ). f.1) (take count (files_of c))
 
--- where calls are told, those that came began the first so many files of the command, in their order and no other; whether one failed, which is then the last
+-- where calls are told, those that came began the first so many files of the command, in their
+-- order and no other; whether one failed, which is then the last
 pub record BeginsFirst (c : Command) (told : CallsTold) (count : ℕ) (failed : Bool) : Type 0 where
   pub calls : List Call
   pub came : told.after ≡ with_calls told.before calls
   pub begun : begun_names calls ≡ first_names c count
   pub ends : EndsByFault calls failed
 
--- the files of a command are begun in their turn, by their names; whether a call failed, which is then the last
+-- the files of a command are begun in their turn, by their names; whether a call failed, which is
+-- then the last
 abbrev pub BeginsInTurn : Option Files → Command → CallsTold → Bool → Type 0
 BeginsInTurn files c told failed = (count : ℕ) × BegunInTurn files c count × BeginsFirst c told count failed

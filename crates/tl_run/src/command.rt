@@ -38,28 +38,29 @@ pub fn run<S: Store, K: Sink>(alloc: Global, words: &[String], store: &mut S, ou
     // Wrong words leave the store and the sink untouched.
     ensures untouched { result ≡ Status.Usage → (store.new ≡ store.old) × (out.new ≡ out.old) }
 
-    // A file is begun only in its turn, by its name, after those before it have passed; and a call of the store that
-    // fails is its last, and the answer a read fault.
+    // A file is begun only in its turn, by its name, after those before it have passed; and a call
+    // of the store that fails is its last, and the answer a read fault.
     ensures calls { ForCommand (map string_bytes words.now) (λ c.
         BeginsInTurn (S.files store.old) c (calls_told (S.calls store.old) (S.calls store.new)) (is_read_fault result)) }
     ensures read_fault { ForCommand (map string_bytes words.now) (λ c. result ≡ Status.ReadFault
         → LacksFile (S.files store.old) c ⊎ Rose (S.faults store.old) (S.faults store.new)) }
     ensures write_fault { result ≡ Status.WriteFault → Rose (K.faults out.old) (K.faults out.new) }
 
-    // What is written is an answer that the files allow, and the headline holds of it: all of its text, or, where a
-    // call of the sink fails, a front part, and then nothing more.
+    // What is written is an answer that the files allow, and the headline holds of it: all of its
+    // text, or, where a call of the sink fails, a front part, and then nothing more.
     ensures answers { ForCommand (map string_bytes words.now) (λ c.
         Writes (AnswersRightly (S.files store.old) c (calls_told (S.calls store.old) (S.calls store.new)))
         (sink_told (K.bytes out.old) (K.puts out.old)) (sink_told (K.bytes out.new) (K.puts out.new)) result) }
 
-    // An answer that the files allow is the one that is written, but for those that come in its place by a cause of their own.
+    // An answer that the files allow is the one that is written, but for those that come in its
+    // place by a cause of their own.
     ensures exact { ForCommand (map string_bytes words.now) (λ c. (input : Input) (answer : Answer)
         → AreTold (S.files store.old) c → Allows (S.files store.old) c input answer
         → Gives (K.bytes out.old) (K.bytes out.new) input answer result) }
 
-    // Where nothing past range is looked at, no operation past range is the answer; and where a search may keep
-    // all search nodes of at most N actions, it ends with a plan or without one. Of a sample it is enough that
-    // its two texts break no rule and have no arithmetic term.
+    // Where nothing past range is looked at, no operation past range is the answer; and where a
+    // search may keep all search nodes of at most N actions, it ends with a plan or without one. Of
+    // a sample it is enough that its two texts break no rule and have no arithmetic term.
     ensures calm { ForCommand (map string_bytes words.now) (λ c. AreTold (S.files store.old) c
         → IsCalm (S.files store.old) c → IsCalmStatus result) }
 {

@@ -30,7 +30,8 @@ fn is_digits(word: &str) -> bool
     word.as_bytes().iter().all(|byte| byte.is_ascii_digit())
 }
 
-/// The number that the word writes in decimal digits, where it is from `least` to `most`. Zeros may stand before it. It takes no memory.
+/// The number that the word writes in decimal digits, where it is from `least` to `most`. Zeros may
+/// stand before it. It takes no memory.
 pub(crate) fn number_of(word: &str, least: u32, most: u32) -> Option<u32>
     ensures number { result ≡ number_between least most word.now }
     ensures least { IfSome result (λ number. least ≤ number) }
@@ -56,7 +57,8 @@ fn mode_of(word: &str) -> Option<Mode>
     }
 }
 
-/// The search in this mode whose most actions and most search nodes the words write. It takes no memory.
+/// The search in this mode whose most actions and most search nodes the words write. It takes no
+/// memory.
 fn search_with(mode: Mode, within: &str, nodes: &str) -> Option<Search>
     ensures search { result ≡ search_with (Some mode) (number_between 0 100000 within.now) (number_between 1 100000 nodes.now) }
     ensures mode { IfSome result (λ search. search.mode ≡ mode) }
@@ -69,7 +71,8 @@ fn search_with(mode: Mode, within: &str, nodes: &str) -> Option<Search>
     })
 }
 
-/// The search breadth-first that the words for the most actions and the most search nodes write. It takes no memory.
+/// The search breadth-first that the words for the most actions and the most search nodes write. It
+/// takes no memory.
 pub(crate) fn breadth_of(within: &str, nodes: &str) -> Option<Search>
     ensures search { result ≡ breadth_in within.now nodes.now }
     ensures breadth { IfSome result (λ search. search.mode ≡ Mode.Breadth) }
@@ -78,7 +81,8 @@ pub(crate) fn breadth_of(within: &str, nodes: &str) -> Option<Search>
     search_with(Mode::Breadth, within, nodes)
 }
 
-/// The search that the words for its mode, the most actions and the most search nodes write. It takes no memory.
+/// The search that the words for its mode, the most actions and the most search nodes write. It
+/// takes no memory.
 pub(crate) fn search_of(mode: &str, within: &str, nodes: &str) -> Option<Search>
     ensures search { result ≡ search_in mode.now within.now nodes.now }
     ensures limits { IfSome result IsWithinLimits }

@@ -42,8 +42,8 @@ impl Status {
             Status::Usage => 8,
         }
     }
-    /// The line on standard error for a status without a whole answer, without its line feed; None where the answer was
-    /// written whole.
+    /// The line on standard error for a status without a whole answer, without its line feed; None
+    /// where the answer was written whole.
     pub fn complaint(self) -> Option<&'static str>
         ensures { option_map (λ line. line.now) result ≡ complaint_of self }
     {

@@ -49,7 +49,8 @@ pub(crate) enum Input {
     Loop(Problem, LoopPlan),
 }
 
-// Written out, so that what drops an input calls this; each value goes by a call of its own, which keeps the model of this function small.
+// Written out, so that what drops an input calls this; each value goes by a call of its own, which
+// keeps the model of this function small.
 impl Drop for Input {
     fn drop(self) {
         match self {
@@ -261,7 +262,8 @@ fn proof_in(alloc: Global, number: u8, forms: &Forms, problem: Problem) -> Resul
     }
 }
 
-/// The cost of each operator that the forms of a file give, after files that stand for this problem.
+/// The cost of each operator that the forms of a file give, after files that stand for this
+/// problem.
 fn prices_in(alloc: Global, number: u8, forms: &Forms, problem: &Problem) -> Result<Costs, Stop>
     requires { AreAsRead (trees_of forms.now) }
     ensures lawful { OnOk result (breaks_of role.Costs (a_problem problem.now) (trees_of forms.now) ≡ []) }
@@ -350,7 +352,8 @@ fn forms_in(
     }
 }
 
-/// Adds what the forms of a file of this role stand for to what was read before. After a stop nothing is held.
+/// Adds what the forms of a file of this role stand for to what was read before. After a stop
+/// nothing is held.
 fn add_forms(
     alloc: Global,
     number: u8,
@@ -374,7 +377,8 @@ fn add_forms(
     Ok(())
 }
 
-/// Adds what the bytes of the file of this number, which has this role, stand for to what was read before.
+/// Adds what the bytes of the file of this number, which has this role, stand for to what was read
+/// before.
 pub(crate) fn add_bytes(
     alloc: Global,
     number: u8,
@@ -396,7 +400,8 @@ pub(crate) fn add_bytes(
     add_forms(alloc, number, role, forms, input)
 }
 
-/// Adds what the command's file of this number stands for to what was read before. It is begun, and read to its end.
+/// Adds what the command's file of this number stands for to what was read before. It is begun, and
+/// read to its end.
 pub(crate) fn read_next<S: Store>(
     alloc: Global,
     store: &mut S,

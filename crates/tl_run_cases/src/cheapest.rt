@@ -1,9 +1,11 @@
-// Searches for cheapest plans: the most search nodes, the files, and what the table says; then the status, and the output.
+// Searches for cheapest plans: the most search nodes, the files, and what the table says; then the
+// status, and the output.
 
 use crate::run::are_run;
 use crate::stop::Stop;
 
-/// Rows of the most search nodes, further items of the domain, the initial world, the goal list, and the costs file; then the status, and the output.
+/// Rows of the most search nodes, further items of the domain, the initial world, the goal list,
+/// and the costs file; then the status, and the output.
 const TRAVELS: &str = "
 cheapest {0} w p k | w = {travel} {1}) & p = (problem p (init {2}) (goal {3})) & k = {4} | {5} | {6}
 # the least cost, which a longer plan may have; and costs that are not named
@@ -41,7 +43,8 @@ cheapest {0} w p k | w = {travel} {1}) & p = (problem p (init {2}) (goal {3})) &
 3 | - | (at s) | (at u) | - | 1 | ; none
 ";
 
-/// Rows of the most search nodes, the control item, and the costs file, for two lamps; then the status, and the output.
+/// Rows of the most search nodes, the control item, and the costs file, for two lamps; then the
+/// status, and the output.
 const LAMPS: &str = "
 cheapest {0} l ab k | l = {lamps} {1}) & ab = {ab} & k = {2} | {3} | {4}
 100 | - | (press 5) | 0 | ; cheapest plan of 2 actions costs 10 / (press a) / (press b)
@@ -59,7 +62,8 @@ cheapest {0} l ab k | l = {lamps} {1}) & ab = {ab} & k = {2} | {3} | {4}
 100 | (control (always (not (on b)))) | (jump 3) | 3 | ; refused file 3 rule 30 at 0
 ";
 
-/// Rows of the most search nodes, the costs file, and the cost of the plan of 4,296 actions, the sum of which may be past 32 bits.
+/// Rows of the most search nodes, the costs file, and the cost of the plan of 4,296 actions, the
+/// sum of which may be past 32 bits.
 const SUMS: &str = "
 cheapest {0} c p k | c = (domain c (function n 0) (operator (tick) (effects (set (n) (+ (n) 1))))) & p = (problem p (init (= (n) 0)) (goal (= (n) 4296))) & k = {1} | 0 | ; cheapest plan of 4296 actions costs {2}{4296  / (tick)}
 5000 | (tick 1000000) | 4296000000
@@ -69,7 +73,8 @@ cheapest {0} c p k | c = (domain c (function n 0) (operator (tick) (effects (set
 4297 | (tick 0) | 0
 ";
 
-/// Rows of the value of a counter, the goal list, and the costs file; then the status, and the output.
+/// Rows of the value of a counter, the goal list, and the costs file; then the status, and the
+/// output.
 const RANGES: &str = "
 cheapest 10 c p k | c = (domain c (function n 0) (predicate done 0) (operator (tick) (effects (set (n) (+ (n) 1)))) (operator (end) (effects (add (done))))) & p = (problem p (init (= (n) {0})) (goal {1})) & k = {2} | {3} | {4}
 9223372036854775807 | (done) | (end 0) | 4 | ; range at 79: 9223372036854775807 + 1 / ; after 0 actions
@@ -119,7 +124,8 @@ fly | 10 at 0
 {4194305  } | 6 at 4194304
 ";
 
-/// Rows of the words after the first, and of what fails; the files are a domain, a problem, two costs files and an empty file. Then the status, and the output.
+/// Rows of the words after the first, and of what fails; the files are a domain, a problem, two
+/// costs files and an empty file. Then the status, and the output.
 const WORDS: &str = "
 cheapest {0} | w = {travel}) & p = (problem p (init (at s)) (goal (at t))) & k = (fly 9) & n = fly & e = - | {1} | {2} | {3}
 100 w p k | 0 | ; cheapest plan of 2 actions costs 2 / (walk) / (ride)

@@ -1,9 +1,11 @@
-// Depth-first searches for plans of lamps, of ways through a graph and of a robot: the most actions, the most search nodes, and what the table says; then the status, and the output.
+// Depth-first searches for plans of lamps, of ways through a graph and of a robot: the most
+// actions, the most search nodes, and what the table says; then the status, and the output.
 
 use crate::run::are_run;
 use crate::stop::Stop;
 
-/// Rows of the most actions, the most search nodes, the control item, the initial world and the goal list; then the status, and the output.
+/// Rows of the most actions, the most search nodes, the control item, the initial world and the
+/// goal list; then the status, and the output.
 const LAMPS: &str = "
 plan depth {0} {1} l p | l = {lamps} {2}) & p = (problem p (init {3}) (goal {4})) | {5} | {6}
 # the first plan in the order of actions, which need not be a shortest one
@@ -32,7 +34,8 @@ plan depth {0} {1} l p | l = {lamps} {2}) & p = (problem p (init {3}) (goal {4})
 5 | 100 | (control (eventually (on c))) | (lamp a) (lamp c) (on a) | (on a) | 0 | ; plan of 1 actions / (press c)
 ";
 
-/// Rows of the most actions and of the edges of a graph in which a node is met again with more actions left; then the status, and the output.
+/// Rows of the most actions and of the edges of a graph in which a node is met again with more
+/// actions left; then the status, and the output.
 const WAYS: &str = "
 plan depth {0} 100 g p | g = (domain g (predicate here 1) (predicate edge 2) (operator (go ?x ?y) (bounds (here ?x) (edge ?x ?y)) (effects (del (here ?x)) (add (here ?y))))) & p = (problem p (init (here s) {1}) (goal (here t))) | {2} | {3}
 2 | {two ways} | 1 | ; none within 2
@@ -45,7 +48,8 @@ plan depth {0} 100 g p | g = (domain g (predicate here 1) (predicate edge 2) (op
 7 | {late cut} | 0 | ; plan of 7 actions / (go s d) / (go d e) / (go e f) / (go f m) / (go m n) / (go n o) / (go o t)
 ";
 
-/// Rows of the most actions, for the same graph with an operation past range at k; then the status, and the output.
+/// Rows of the most actions, for the same graph with an operation past range at k; then the status,
+/// and the output.
 const RANGES: &str = "
 plan depth {0} 100 g p | g = (domain g (predicate here 1) (predicate edge 2) (function n 0) (operator (go ?x ?y) (bounds (here ?x) (edge ?x ?y)) (effects (del (here ?x)) (add (here ?y)))) (operator (tick) (pre (here k)) (effects (set (n) (+ (n) 1))))) & p = (problem p (init (here s) (edge s a) (edge a b) (edge b m) (edge s m) (edge m k) (edge k t) {max}) (goal (here t))) | {1} | {2}
 # k is met with no action left, and then below m, which is entered again
@@ -65,7 +69,8 @@ plan depth {0} l p | l = {lamps}) & p = {ab} | {1} | {2}
 5 | 8 | -
 ";
 
-/// Rows of the most actions and the most search nodes, for six balls; then the status, and the output.
+/// Rows of the most actions and the most search nodes, for six balls; then the status, and the
+/// output.
 const BALLS: &str = "
 plan depth {0} {1} g p | g = {gripper} (control {useful})) & p = (problem sample (init {six balls}) (goal {six there})) | {2} | {3}
 # the first action that is not pruned is the right one each time, so one search node is kept for each action, and the root

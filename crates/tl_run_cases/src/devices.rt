@@ -7,7 +7,8 @@ use std::process::Abort;
 use tl_outside::MemoryStore;
 use tl_tables::column;
 
-/// Rows of words, the calls of the store and of the sink that fail, the status, and what the sink holds.
+/// Rows of words, the calls of the store and of the sink that fail, the status, and what the sink
+/// holds.
 const FAILS: &str = "
 {0} | d = {one domain} & p = {one problem} & q = (lit) | {3} | {4} | store 64 fails {1}, sink 4 fails {2}
 check d p q | 0 | - | 5 | -
@@ -48,7 +49,8 @@ fn is_told<R: Abort>(
     is_answered(rt, alloc, line.as_str(), store, line.as_str())
 }
 
-/// Runs over a store whose call `k` fails, and, where this is one of the ten that a run makes, again over the same store.
+/// Runs over a store whose call `k` fails, and, where this is one of the ten that a run makes,
+/// again over the same store.
 fn fails_once<R: Abort>(rt: &R, alloc: Global, line: &str, k: u32) -> Result<(), Stop> {
     let mut store = failing_store(alloc, line, k)?;
     if k < 10 {
@@ -57,7 +59,8 @@ fn fails_once<R: Abort>(rt: &R, alloc: Global, line: &str, k: u32) -> Result<(),
     is_told(rt, alloc, line, &mut store, "0 | ; valid")
 }
 
-/// Each call of the store fails once, and the answer comes from the same store when it is read again.
+/// Each call of the store fails once, and the answer comes from the same store when it is read
+/// again.
 #[test]
 fn a_store_fails_at_each_call(rt: HostRuntime) -> Result<(), Stop> {
     for k in 0..11 {

@@ -1,4 +1,5 @@
-// Domain files that break a rule, each with the rule and the offset of the form that breaks it, and ones that break none.
+// Domain files that break a rule, each with the rule and the offset of the form that breaks it, and
+// ones that break none.
 
 use crate::run::are_run;
 use crate::stop::Stop;

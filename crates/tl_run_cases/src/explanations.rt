@@ -7,7 +7,8 @@ use std::alloc::{AllocError, Global};
 use tl_outside::{MemorySink, Numbers};
 use tl_tables::filled;
 
-/// Rows of the control formula, the initial world, the goal list, the plan, the status, and the output.
+/// Rows of the control formula, the initial world, the goal list, the plan, the status, and the
+/// output.
 const LAMPS: &str = "
 explain l p q | l = {lamps} (control {0})) & p = (problem p (init {1}) (goal {2})) & q = {3} | {4} | {5}
 (always (implies (on a) (next (on b)))) | {two} | (on a) (on b) | (press a) (press b) | 0 | ; state 0: (always (or (not (on a)) (next (on b)))) / (press a) / ; state 1: (and (on b) (always (or (not (on a)) (next (on b))))) / (press b) / ; state 2: (and (on b) (always (or (not (on a)) (next (on b))))) / ; end
@@ -46,7 +47,8 @@ const GROWING: &str =
 /// More bytes than the lines along that plan have.
 const ROOM: usize = 2_097_152;
 
-/// The label of the state after so many actions: a level for each state so far, of 51 bytes, around 47 bytes.
+/// The label of the state after so many actions: a level for each state so far, of 51 bytes, around
+/// 47 bytes.
 fn label_of(alloc: Global, before: u32) -> Result<String, AllocError> {
     if before > 194 {
         return String::from_str(alloc, "long");

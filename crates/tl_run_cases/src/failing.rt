@@ -36,7 +36,8 @@ fn sink_of(alloc: Global, most: usize, k: u32) -> Result<MemorySink, Stop>
     Ok(MemorySink::new(alloc, ROOM, most, fails)?)
 }
 
-/// The status of a run of the row over the store, which has to write this text, or nothing where it failed.
+/// The status of a run of the row over the store, which has to write this text, or nothing where it
+/// failed.
 fn status_over<R: Abort>(
     rt: &R,
     alloc: Global,
@@ -51,7 +52,8 @@ fn status_over<R: Abort>(
     Ok(status)
 }
 
-/// Runs the row over a store whose call `k` fails, and where it was made, again over the same store. Whether it was made.
+/// Runs the row over a store whose call `k` fails, and where it was made, again over the same
+/// store. Whether it was made.
 fn store_fails<R: Abort>(
     rt: &R,
     alloc: Global,
@@ -82,7 +84,8 @@ fn front(text: &str, bytes: usize) -> &[u8] {
     }
 }
 
-/// Runs the row over a sink that takes over four bytes at once and whose call `k` fails. Whether the call was made.
+/// Runs the row over a sink that takes over four bytes at once and whose call `k` fails. Whether
+/// the call was made.
 fn sink_fails<R: Abort>(
     rt: &R,
     alloc: Global,

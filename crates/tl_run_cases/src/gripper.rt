@@ -1,4 +1,5 @@
-// Plans for a robot with two grippers that carries balls from room to room: the control formula, the goal list, the plan, the status, and the verdict.
+// Plans for a robot with two grippers that carries balls from room to room: the control formula,
+// the goal list, the plan, the status, and the verdict.
 
 use crate::run::are_run;
 use crate::stop::Stop;

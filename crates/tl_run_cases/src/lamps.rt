@@ -1,4 +1,5 @@
-// Plans for lamps that are pressed and put off: the control formula, the initial world, the goal list, the plan, the status, and the verdict.
+// Plans for lamps that are pressed and put off: the control formula, the initial world, the goal
+// list, the plan, the status, and the verdict.
 
 use crate::run::are_run;
 use crate::stop::Stop;

@@ -1,4 +1,5 @@
-// Plans of a domain with a definition that names itself down to a number of levels: the levels, the control formula, the initial world, the goal list, the plan, the status, and the verdict.
+// Plans of a domain with a definition that names itself down to a number of levels: the levels, the
+// control formula, the initial world, the goal list, the plan, the status, and the verdict.
 
 use crate::run::are_run;
 use crate::stop::Stop;

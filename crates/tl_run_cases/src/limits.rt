@@ -60,7 +60,8 @@ fn put_definition(k: u32, out: &mut String) -> Result<(), Stop> {
     put_closing(24, out)
 }
 
-/// Puts at the end a definition of 64 levels, of 22 formulas round itself and the last of the others, and the control formula.
+/// Puts at the end a definition of 64 levels, of 22 formulas round itself and the last of the
+/// others, and the control formula.
 fn put_levels(out: &mut String) -> Result<(), Stop> {
     out.push_str(" (defined 64 (e) ")?;
     put_quantifiers(22, out)?;
@@ -70,7 +71,8 @@ fn put_levels(out: &mut String) -> Result<(), Stop> {
     Ok(())
 }
 
-/// A domain whose control formula is evaluated as deep as any: 63 definitions, each round the one before, and one of 64 levels.
+/// A domain whose control formula is evaluated as deep as any: 63 definitions, each round the one
+/// before, and one of 64 levels.
 fn deep_domain(alloc: Global) -> Result<String, Stop> {
     let mut text = String::from_str(alloc, "(domain deep (predicate p 1)")?;
     for k in 0..63 {

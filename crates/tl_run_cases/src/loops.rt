@@ -3,7 +3,8 @@
 use crate::run::are_run;
 use crate::stop::Stop;
 
-/// Rows of the items of the domain after those of the lamps, the initial world, the goal list and the plan file; then the status, and the output.
+/// Rows of the items of the domain after those of the lamps, the initial world, the goal list and
+/// the plan file; then the status, and the output.
 const VERDICTS: &str = "
 check-loop l p q | l = {lamps} {0}) & p = (problem p (init {1}) (goal {2})) & q = {3} | {4} | {5}
 # again and again; from some time on for ever; not closed; the goal is false where the repeated part begins
@@ -55,7 +56,8 @@ check-loop l p q | l = {lamps} {0}) & p = (problem p (init {1}) (goal {2})) & q 
 - | (lamp a) | - | ; first{lf}(press a); on{lf}(off a){lf}(repeat ; for ever{lf}(press a){lf}(off a)){lf} | 0 | ; valid for ever
 ";
 
-/// Rows of the items of a domain with a counter, its value, the goal list and the plan file; then the status, and the output.
+/// Rows of the items of a domain with a counter, its value, the goal list and the plan file; then
+/// the status, and the output.
 const RANGES: &str = "
 check-loop c p q | c = (domain c (function n 0) {0}) & p = (problem p (init (= (n) {1})) (goal {2})) & q = {3} | {4} | {5}
 # in an action of the first part, and of the repeated one
@@ -75,7 +77,8 @@ check-loop c p q | c = (domain c (function n 0) {0}) & p = (problem p (init (= (
 (operator (wait) (effects)) (control (always (< (+ (n) 1) 5))) | 9223372036854775807 | (= (n) 0) | (repeat (wait)) | 1 | ; goal unmet
 ";
 
-/// Rows of words, over two lamps, their problem and a plan with a repeated part; then the status, and the output.
+/// Rows of words, over two lamps, their problem and a plan with a repeated part; then the status,
+/// and the output.
 const WORDS: &str = "
 {0} | l = {lamps}) & p = {ab} & q = (press a) (press b) (repeat (off a) (press a)) | {1} | {2}
 check-loop l p q | 0 | ; valid for ever
@@ -97,7 +100,8 @@ check-loop l q other | 3 | ; refused file 2 rule 10 at 0
 check-loop p p other | 3 | ; refused file 1 rule 10 at 0
 ";
 
-/// Rows of a plan file, over a domain whose one action is called `repeat` and changes nothing; then the status, and the output.
+/// Rows of a plan file, over a domain whose one action is called `repeat` and changes nothing; then
+/// the status, and the output.
 const NAMED_REPEAT: &str = "
 check-loop r p q | r = (domain r (operator (repeat) (effects))) & p = (problem p (init) (goal)) & q = {0} | {1} | {2}
 (repeat) (repeat (repeat)) | 0 | ; valid for ever

@@ -1,9 +1,11 @@
-// Breadth-first searches for plans of lamps, of counters and of a robot: the most actions, the most search nodes, and what the table says; then the status, and the output.
+// Breadth-first searches for plans of lamps, of counters and of a robot: the most actions, the most
+// search nodes, and what the table says; then the status, and the output.
 
 use crate::run::are_run;
 use crate::stop::Stop;
 
-/// Rows of the most actions, the most search nodes, the control item, the initial world and the goal list; then the status, and the output.
+/// Rows of the most actions, the most search nodes, the control item, the initial world and the
+/// goal list; then the status, and the output.
 const LAMPS: &str = "
 plan breadth {0} {1} l p | l = {lamps} {2}) & p = (problem p (init {3}) (goal {4})) | {5} | {6}
 5 | 100 | - | {two} | (on a) (on b) | 0 | ; plan of 2 actions / (press a) / (press b)
@@ -31,7 +33,8 @@ plan breadth {0} {1} l p | l = {lamps} {2}) & p = (problem p (init {3}) (goal {4
 5 | 100 | - | {two} (on b) | (on a) (not (on b)) | 0 | ; plan of 2 actions / (press a) / (off b)
 ";
 
-/// Rows of the most actions, the most search nodes, the control item and the goal list, for two lamps; then the status, and the output.
+/// Rows of the most actions, the most search nodes, the control item and the goal list, for two
+/// lamps; then the status, and the output.
 const BOUNDS: &str = "
 plan breadth {0} {1} l p | l = {lamps} {2}) & p = (problem p (init {two}) (goal {3})) | {4} | {5}
 # the fourth search node is that of the plan
@@ -60,7 +63,8 @@ plan breadth {0} {1} l p | l = {lamps} {2}) & p = (problem p (init {two}) (goal 
 3 | 4 | - | (on c) | 1 | ; none
 ";
 
-/// Rows of the most actions, the items of a domain with a counter, its value and the goal list; then the status, and the output.
+/// Rows of the most actions, the items of a domain with a counter, its value and the goal list;
+/// then the status, and the output.
 const RANGES: &str = "
 plan breadth {0} 10 c p | c = (domain c (function n 0) {1}) & p = (problem p (init (= (n) {2})) (goal {3})) | {4} | {5}
 5 | (operator (tick) (effects (set (n) (+ (n) 1)))) | 9223372036854775807 | (= (n) 0) | 4 | ; range at 60: 9223372036854775807 + 1 / ; after 0 actions
@@ -96,7 +100,8 @@ wide 5 10 | 8 | -
 Breadth 5 10 | 8 | -
 ";
 
-/// Rows of the words and the files, of which some are refused or missing, or fail; then the status, and the output, and what fails.
+/// Rows of the words and the files, of which some are refused or missing, or fail; then the status,
+/// and the output, and what fails.
 const OUTSIDE: &str = "
 plan breadth 5 100 {0} | l = {lamps}) & p = {ab} & e = - | {1} | {2} | {3}
 l p | 5 | - | store 64 fails 2
@@ -108,7 +113,8 @@ l e | 3 | ; refused file 2 rule 10 at 0 | -
 e q | 3 | ; refused file 1 rule 10 at 0 | -
 ";
 
-/// Rows of the most actions and the problem, for a robot that carries balls; then the status, and the output.
+/// Rows of the most actions and the problem, for a robot that carries balls; then the status, and
+/// the output.
 const BALLS: &str = "
 plan breadth {0} 20000 g p | g = {gripper} (control {useful})) & p = {1} | {2} | {3}
 4 | {two balls} | 1 | ; none within 4

@@ -1,4 +1,5 @@
-// Problem files that break a rule, each with the rule and the offset of the form that breaks it, and ones that break none.
+// Problem files that break a rule, each with the rule and the offset of the form that breaks it,
+// and ones that break none.
 
 use crate::run::are_run;
 use crate::stop::Stop;

@@ -3,7 +3,8 @@
 use crate::run::are_run;
 use crate::stop::Stop;
 
-/// Rows of the most actions, the most search nodes, the control item, the initial world and the goal list; then the status, and the output.
+/// Rows of the most actions, the most search nodes, the control item, the initial world and the
+/// goal list; then the status, and the output.
 const PROVED: &str = "
 prove-none {0} {1} l p | l = {lamps} {2}) & p = (problem p (init {3}) (goal {4})) | {5} | {6}
 5 | 100 | (control (always (not (on b)))) | {two} | (on a) (on b) | 0 | (none) / (pair 0 (press a))
@@ -29,7 +30,8 @@ prove-none {0} {1} l p | l = {lamps} {2}) & p = (problem p (init {3}) (goal {4})
 5 | 3 | - | {two} | (on a) (on b) | 2 | ; spent 3
 ";
 
-/// Rows of the most actions, the items of a domain with a counter, its value and the goal list; then the status, and the output.
+/// Rows of the most actions, the items of a domain with a counter, its value and the goal list;
+/// then the status, and the output.
 const RANGES: &str = "
 prove-none {0} 10 c p | c = (domain c (function n 0) {1}) & p = (problem p (init (= (n) {2})) (goal {3})) | {4} | {5}
 5 | (operator (tick) (effects (set (n) (+ (n) 1)))) | 9223372036854775807 | (= (n) 0) | 4 | ; range at 60: 9223372036854775807 + 1 / ; after 0 actions
@@ -38,7 +40,8 @@ prove-none {0} 10 c p | c = (domain c (function n 0) {1}) & p = (problem p (init
 1 | (operator (tick) (effects (set (n) (+ (n) 1)))) | 9223372036854775806 | (= (n) 0) | 0 | (none-within 1) / (pair 0 (tick))
 ";
 
-/// Rows of words, over two lamps, their problem and a proof that is open; then the status, and the output.
+/// Rows of words, over two lamps, their problem and a proof that is open; then the status, and the
+/// output.
 const WORDS: &str = "
 {0} | l = {lamps}) & p = {ab} & q = (none) | {1} | {2}
 prove-none 5 100000 l p | 1 | ; plan of 2 actions / (press a) / (press b)
@@ -70,7 +73,8 @@ check-none l q other | 3 | ; refused file 2 rule 10 at 0
 check-none p p other | 3 | ; refused file 1 rule 10 at 0
 ";
 
-/// Rows of the control item, the initial world, the goal list and the proof file; then the status, and the output.
+/// Rows of the control item, the initial world, the goal list and the proof file; then the status,
+/// and the output.
 const VERDICTS: &str = "
 check-none l p q | l = {lamps} {0}) & p = (problem p (init {1}) (goal {2})) & q = {3} | {4} | {5}
 # what the searches left
@@ -117,7 +121,8 @@ check-none l p q | l = {lamps} {0}) & p = (problem p (init {1}) (goal {2})) & q 
 (control (always false)) | {two} | - | (none){4194298  } | 0 | ; proved none
 ";
 
-/// Rows of the items of a domain with a counter, its value, the goal list and the proof file; then the status, and the output.
+/// Rows of the items of a domain with a counter, its value, the goal list and the proof file; then
+/// the status, and the output.
 const FAULTS: &str = "
 check-none c p q | c = (domain c (function n 0) {0}) & p = (problem p (init (= (n) {1})) (goal {2})) & q = {3} | {4} | {5}
 # in an action of the root, for a link and for the verdict

@@ -1,9 +1,11 @@
-// Plans with a repeated part, of lamps, of what goes from place to place and of a count: the verdicts on them, and their files.
+// Plans with a repeated part, of lamps, of what goes from place to place and of a count: the
+// verdicts on them, and their files.
 
 use crate::run::are_run;
 use crate::stop::Stop;
 
-/// Rows of a control formula, the initial world, the goal list and the plan file; then the status, and the output.
+/// Rows of a control formula, the initial world, the goal list and the plan file; then the status,
+/// and the output.
 const PLANS: &str = "
 check-loop w p q | w = {places} (control {0})) & p = (problem q (init {1}) (goal {2})) & q = {3} | {4} | {5}
 # a lamp that is on again and again, and one that is not on from some position on
@@ -120,7 +122,8 @@ true | (lamp a) (lamp b) | - | {99999 (wait) }(repeat (wait)) | 0 | ; valid for 
 true | (lamp a) (lamp b) | - | {99999 (wait) }(repeat (wait) (wait)) | 3 | ; refused file 3 rule 19 at 700008
 ";
 
-/// Rows of plan files, where an operator is named `repeat`: the last form is the repeated part all the same.
+/// Rows of plan files, where an operator is named `repeat`: the last form is the repeated part all
+/// the same.
 const NAMED_REPEAT: &str = "
 check-loop r p q | r = {places} (operator (repeat) (effects (set (n) (+ (n) 1)))) (control (next (always (= (n) 1))))) & p = (problem q (init (= (n) 0)) (goal)) & q = {0} | {1} | {2}
 (repeat) (repeat (wait)) | 0 | ; valid for ever

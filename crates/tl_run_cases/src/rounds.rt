@@ -1,9 +1,11 @@
-// Words below quantifiers, on plans whose repeated part goes round one place, two, and so on to five: a place comes again after as many steps as there are places.
+// Words below quantifiers, on plans whose repeated part goes round one place, two, and so on to
+// five: a place comes again after as many steps as there are places.
 
 use crate::run::are_run;
 use crate::stop::Stop;
 
-/// Rows of a control formula, in which a bound is true of another place at each position, the status, and the verdict on a round of one place.
+/// Rows of a control formula, in which a bound is true of another place at each position, the
+/// status, and the verdict on a round of one place.
 const ROUND_OF_ONE: &str = "
 check-loop w p q | w = {places} (control {0})) & p = (problem q (init (at a) {steps}) (goal)) & q = (repeat (go a a)) | {1} | {2}
 # a place comes again after as many steps as there are places

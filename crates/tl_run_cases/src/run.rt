@@ -1,9 +1,12 @@
-// One run: its words, the files by name, the status, the lines of the output, and which calls of the outside fail.
+// One run: its words, the files by name, the status, the lines of the output, and which calls of
+// the outside fail.
 //
 // - Words and files: `check l p q | l = TEXT & p = TEXT & q = TEXT`.
 // - The status is the number of the exit status.
-// - Lines of the output are separated by ` / `. A line that ends with `..` is cut there, where the sink takes over no more.
-// - `store 64 fails 2 5` gives 64 bytes at once, and its calls 2 and 5 fail; `sink 4 fails 1` takes over four bytes at once, and its call 1 fails.
+// - Lines of the output are separated by ` / `. A line that ends with `..` is cut there, where the
+// sink takes over no more.
+// - `store 64 fails 2 5` gives 64 bytes at once, and its calls 2 and 5 fail; `sink 4 fails 1` takes
+// over four bytes at once, and its call 1 fails.
 
 use crate::checks::{are_bytes, is_true};
 use crate::stop::Stop;
@@ -52,14 +55,16 @@ fn files_of(alloc: Global, text: &str) -> Result<FileList, Stop> {
     Ok(files)
 }
 
-/// How many bytes one call of the store or of the sink gives or takes over, and the numbers of the calls that fail.
+/// How many bytes one call of the store or of the sink gives or takes over, and the numbers of the
+/// calls that fail.
 #[derive(Drop)]
 struct Script {
     most: usize,
     fails: Numbers,
 }
 
-/// Puts the numbers of some words into a script: the first is `most`, and the others are numbers of calls.
+/// Puts the numbers of some words into a script: the first is `most`, and the others are numbers of
+/// calls.
 fn put_numbers(words: &str, script: &mut Script) -> Result<(), Stop> {
     for (k, word) in words.split(' ').enumerate() {
         if let Ok(number) = word.parse::<u32>() {

@@ -10,7 +10,8 @@ use tl_gen::{Texts, sample};
 use tl_outside::{FileList, MemoryStore, Numbers};
 use tl_tables::is_row;
 
-/// Rows of the number of balls; then the status, the output, and what fails. The store has no files, and is not called.
+/// Rows of the number of balls; then the status, the output, and what fails. The store has no
+/// files, and is not called.
 const SAMPLES: &str = "
 sample {0} | - | {1} | {2} | {3}
 1 | 0 | ; sample 1 / ; plan of 3 actions / ; kept 4 pairs / ; valid | -

@@ -4,7 +4,8 @@ use std::alloc::{AllocError, AllocFailed};
 use std::num::ParseIntError;
 use tl_syntax::NoMemory;
 
-/// Why a case was not tried to its end: for want of memory, or since something of it is not as its row says.
+/// Why a case was not tried to its end: for want of memory, or since something of it is not as its
+/// row says.
 #[derive(Clone, Copy, Debug)]
 pub(crate) enum Stop {
     NoMemory,

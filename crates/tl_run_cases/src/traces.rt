@@ -1,9 +1,11 @@
-// Searches with their events: which search nodes are kept, seen again or pruned, with what is left of the control formula, and after them the lines of the outcome; then the status, and the output.
+// Searches with their events: which search nodes are kept, seen again or pruned, with what is left
+// of the control formula, and after them the lines of the outcome; then the status, and the output.
 
 use crate::run::are_run;
 use crate::stop::Stop;
 
-/// Rows of the most actions, the most search nodes, the control item, the initial world and the goal list; then the status, and the output.
+/// Rows of the most actions, the most search nodes, the control item, the initial world and the
+/// goal list; then the status, and the output.
 const BREADTH: &str = "
 trace breadth {0} {1} l p | l = {lamps} {2}) & p = (problem p (init {3}) (goal {4})) | {5} | {6}
 # control prunes what the goal does not ask for, and what it denies
@@ -47,7 +49,8 @@ trace breadth {0} {1} l p | l = {lamps} {2}) & p = (problem p (init {3}) (goal {
 5 | 100 | (control (eventually (on b))) | (lamp a) | (on a) | 1 | ; kept 0 / ; label (eventually (on b)) / ; kept 1 0 (press a) / ; label (eventually (on b)) / ; seen 0 1 (off a) / ; none
 ";
 
-/// Rows of the most actions, the most search nodes, the control item, the initial world and the goal list; then the status, and the output.
+/// Rows of the most actions, the most search nodes, the control item, the initial world and the
+/// goal list; then the status, and the output.
 const DEPTH: &str = "
 trace depth {0} {1} l p | l = {lamps} {2}) & p = (problem p (init {3}) (goal {4})) | {5} | {6}
 2 | 100 | - | (lamp a) | (on c) | 1 | ; kept 0 / ; label true / ; kept 1 0 (press a) / ; label true / ; seen 0 1 (off a) / ; none
@@ -62,7 +65,8 @@ trace depth {0} {1} l p | l = {lamps} {2}) & p = (problem p (init {3}) (goal {4}
 3 | 2 | - | {two} | (on c) | 2 | ; kept 0 / ; label true / ; kept 1 0 (press a) / ; label true / ; kept 2 1 (press b) / ; label true / ; spent 2
 ";
 
-/// Rows of the most actions and of the edges of a graph in which a search node is met again with more actions left; then the status, and the output.
+/// Rows of the most actions and of the edges of a graph in which a search node is met again with
+/// more actions left; then the status, and the output.
 const WAYS: &str = "
 trace depth {0} 100 g p | g = (domain g (predicate here 1) (predicate edge 2) (operator (go ?x ?y) (bounds (here ?x) (edge ?x ?y)) (effects (del (here ?x)) (add (here ?y))))) & p = (problem p (init (here s) {1}) (goal (here t))) | {2} | {3}
 # m is kept with no action left, and entered when it is seen with more
@@ -73,7 +77,8 @@ trace depth {0} 100 g p | g = (domain g (predicate here 1) (predicate edge 2) (o
 10 | (edge s a) (edge a b) (edge b m) (edge s m) (edge m k) (edge k f) | 1 | ; kept 0 / ; label true / ; kept 1 0 (go s a) / ; label true / ; kept 2 1 (go a b) / ; label true / ; kept 3 2 (go b m) / ; label true / ; kept 4 3 (go m k) / ; label true / ; kept 5 4 (go k f) / ; label true / ; seen 3 0 (go s m) / ; seen 4 3 (go m k) / ; seen 5 4 (go k f) / ; none
 ";
 
-/// Rows of the mode and the value of a counter; then the status, and the output. Where an operation is past range no event is shown.
+/// Rows of the mode and the value of a counter; then the status, and the output. Where an operation
+/// is past range no event is shown.
 const RANGES: &str = "
 trace {0} 5 10 c p | c = (domain c (function n 0) (operator (tick) (effects (set (n) (+ (n) 1))))) & p = (problem p (init (= (n) {1})) (goal (= (n) 0))) | {2} | {3}
 breadth | 9223372036854775807 | 4 | ; range at 60: 9223372036854775807 + 1 / ; after 0 actions
@@ -82,7 +87,8 @@ depth | 9223372036854775806 | 4 | ; range at 60: 9223372036854775807 + 1 / ; aft
 depth | -2 | 0 | ; kept 0 / ; label true / ; kept 1 0 (tick) / ; label true / ; kept 2 1 (tick) / ; label true / ; plan of 2 actions / (tick) / (tick)
 ";
 
-/// Rows of the words and the files, of which some are refused or missing, or fail; then the status, and the output, and what fails.
+/// Rows of the words and the files, of which some are refused or missing, or fail; then the status,
+/// and the output, and what fails.
 const OUTSIDE: &str = "
 trace {0} | l = {lamps}) & p = (problem p (init (lamp a)) (goal)) & e = - | {1} | {2} | {3}
 breadth 5 100 l p | 0 | ; kept 0 / ; label true / ; plan of 0 actions | -
@@ -101,7 +107,9 @@ breadth 5 100 e p | 3 | ; refused file 1 rule 10 at 0 | -
 depth 5 100 l e | 3 | ; refused file 2 rule 10 at 0 | -
 ";
 
-/// Rows of the items of a domain with a counter, its value and the goal list; then where an operation is past range: in the control formula, in an action, in the control formula after an action, and where the last state is repeated.
+/// Rows of the items of a domain with a counter, its value and the goal list; then where an
+/// operation is past range: in the control formula, in an action, in the control formula after an
+/// action, and where the last state is repeated.
 const COUNTERS: &str = "
 trace breadth 5 10 c p | c = (domain c (function n 0) {0}) & p = (problem p (init (= (n) {1})) (goal {2})) | 4 | ; range at {3}
 (control (< (+ (n) 1) 9)) | 9223372036854775807 | - | 37: 9223372036854775807 + 1 / ; after 0 actions

@@ -1,9 +1,11 @@
-// The truth of state formulas and the values of terms: a formula is the precondition of an action, which makes the goal true.
+// The truth of state formulas and the values of terms: a formula is the precondition of an action,
+// which makes the goal true.
 
 use crate::run::are_run;
 use crate::stop::Stop;
 
-/// Rows of an initial world, a formula, the status, and the verdict: `valid` where the formula is true, and `not executable 1` where it is not.
+/// Rows of an initial world, a formula, the status, and the verdict: `valid` where the formula is
+/// true, and `not executable 1` where it is not.
 const BASIC: &str = "
 check d p q | d = (domain d (predicate p 1) (predicate edge 2) (function n 0) (function f 1) (operator (look) (pre {1}) (effects (add (p g)) (set (f g) 7) (del (p h))))) & p = (problem q (init {0}) (goal (p g) (= (f g) 7) (not (p h)))) & q = (look) | {2} | {3}
 (p a) | (p a) | 0 | ; valid
@@ -113,7 +115,8 @@ check d p q | d = (domain d (predicate p 1) (predicate edge 2) (function n 0) (f
 - | (q63) | 0 | ; valid | {chain}
 ";
 
-/// Rows of an initial world, a term, the value that it is compared with, the status, and the verdict. A term without a value is not equal to itself.
+/// Rows of an initial world, a term, the value that it is compared with, the status, and the
+/// verdict. A term without a value is not equal to itself.
 const TERMS: &str = "
 check d p q | d = (domain d (function n 0) (function f 1) (operator (look) (pre (= {1} {2})))) & p = (problem q (init {0}) (goal)) & q = (look) | {3} | {4}
 - | a | a | 0 | ; valid

@@ -1,4 +1,5 @@
-// Verdicts, and operations past range: the domain, the problem, the plan, the status, and the output.
+// Verdicts, and operations past range: the domain, the problem, the plan, the status, and the
+// output.
 
 use crate::run::are_run;
 use crate::stop::Stop;

@@ -3,7 +3,8 @@
 use crate::run::are_run;
 use crate::stop::Stop;
 
-/// Rows of a control formula that speaks of all facts and places of a world, of the goal list or of its negated facts, and of what is left of it.
+/// Rows of a control formula that speaks of all facts and places of a world, of the goal list or of
+/// its negated facts, and of what is left of it.
 const WORLDS: &str = "
 explain d p q | d = (domain d (predicate p 1) (predicate edge 2) (function n 0) (function f 1) (control {0})) & p = (problem q (init (edge b a) (p b) (= (f b) 2) (p 7) (p b) (= (n) -1) (= (f a) b)) (goal (not (p a)) (p b) (= (f a) a) (not (edge a b)) (not (p 3)))) & q = - | 0 | ; state 0: {1} / ; end
 (and (forall (?x) (p ?x) (next (p ?x))) (forall (?x ?y) (edge ?x ?y) (next (edge ?x ?y))) (forall (?x) (= (n) ?x) (next (= (n) ?x))) (forall (?x ?y) (= (f ?x) ?y) (next (= (f ?x) ?y)))) | (and (p 7) (p b) (edge b a) (= (n) -1) (= (f a) b) (= (f b) 2))
@@ -51,7 +52,8 @@ check d p q | d = (domain d (predicate p 1) (predicate edge 2) (function n 0) (f
 (= (f a) 3) | (= (f b) 3) | (set (f b) 3)
 ";
 
-/// Rows of operators, an initial world, the status, and the events of a search of one action: the actions of that world in their order.
+/// Rows of operators, an initial world, the status, and the events of a search of one action: the
+/// actions of that world in their order.
 const ACTIONS: &str = "
 trace breadth 1 100 d p | d = (domain d (predicate lamp 1) (predicate on 1) (predicate edge 2) (function n 0) (function f 1) {0}) & p = (problem q (init {1}) (goal (lamp g) (= (f g) 7) (not (lamp h)))) | {2} | {3}
 - | {some lamps} | 1 | ; kept 0 / ; label true / ; none
@@ -75,7 +77,8 @@ trace breadth 1 100 d p | d = (domain d (predicate lamp 1) (predicate on 1) (pre
 (operator (count) (effects (set (n) (+ (n) 1)))) | {max} | 4 | ; range at 131: 9223372036854775807 + 1 / ; after 0 actions
 ";
 
-/// Rows of the clauses of an operator, an initial world, and the facts and places of the world after its action, as what is left of a control formula that speaks of all of them.
+/// Rows of the clauses of an operator, an initial world, and the facts and places of the world
+/// after its action, as what is left of a control formula that speaks of all of them.
 const LEADS: &str = "
 explain d p q | d = (domain d (predicate p 1) (predicate edge 2) (function n 0) (function m 0) (operator (act) {0}) (control (next {all of it}))) & p = (problem q (init {1}) (goal (p g))) & q = (act) | 0 | ; state 0: {all of it} / (act) / ; state 1: {2} / ; end
 - | (p a) | (p a)

@@ -10,7 +10,8 @@ use Rattle.tl_eval.specs.Notes.{Tells}
 use Rattle.tl_search.specs.declared.fault.SpaceFault.{SpaceFault}
 use Rattle.tl_search.specs.declared.fault.SpaceFault.TheVariants as fault
 
--- the root: progressing the control formula in the initial world looks at it; want of memory has no cause
+-- the root: progressing the control formula in the initial world looks at it; want of memory has no
+-- cause
 abbrev pub IsRootFault : PlainProblem → SpaceFault → Type 0
 IsRootFault p (fault.RangeHere note) = Tells (looked_by_progressing p p.first p.control) note
 IsRootFault p (fault.RangeAfter note) = ⊥
@@ -28,7 +29,8 @@ IsCausedByAcceptance p x (fault.RangeHere note) = Tells (looked_by_idling p x.wo
 IsCausedByAcceptance p x (fault.RangeAfter note) = ⊥
 IsCausedByAcceptance p x fault.NoMemory = Unit {0}
 
--- the pair after an action: the action looks at it in the world of the pair, or progressing the pair's formula does in the world after the action
+-- the pair after an action: the action looks at it in the world of the pair, or progressing the
+-- pair's formula does in the world after the action
 abbrev pub IsCausedByChild : PlainProblem → Pair → Action → SpaceFault → Type 0
 IsCausedByChild p x a (fault.RangeHere note) = Tells (looked_by_action p x.world a) note
 IsCausedByChild p x a (fault.RangeAfter note) = (w : World) × (step p x.world a ≡ Some w) × Tells (looked_by_progressing p w x.formula) note

@@ -11,7 +11,8 @@ use Rattle.tl_terms.specs.Pairs.{Pair, pair_of, IsOpen}
 use Rattle.tl_terms.specs.Step.{step}
 use Rattle.tl_search.specs.RangeCauses.{IsRangeCause}
 
--- what progressing at the root, the idling check after an open path, an action there, or progressing after that action looks at, is the cause of a fault
+-- what progressing at the root, the idling check after an open path, an action there, or
+-- progressing after that action looks at, is the cause of a fault
 pub record LooksAreCauses (p : PlainProblem) (n : ℕ) (o : Operation) : Type 0 where
   pub at_root : Among o (looked_by_progressing p p.first p.control) → IsRangeCause p n [] o
   pub by_idling : (path : List Action) (x : Pair) → pair_of p path ≡ Some x → IsOpen p path → length path ≤ n → Among o (looked_by_idling p x.world x.formula) → IsRangeCause p n path o

@@ -25,6 +25,7 @@ pub record ReportIsNamed (task : Task) (report : Report) : Type 0 where
   pub plan : OutcomeIsNamed task report.outcome
   pub events : EventsAreNamed task report.events
 
--- where the search is calm, and at most b pairs have a distance of at most n, it answers a plan, or none, or want of memory
+-- where the search is calm, and at most b pairs have a distance of at most n, it answers a plan, or
+-- none, or want of memory
 abbrev pub AnswersWhereCalm : PlainProblem → ℕ → ℕ → Result Report SearchFault → Type 0
 AnswersWhereCalm p n b result = IsCalm p n → HasFewPairs p n b → IsPlanOrNone result

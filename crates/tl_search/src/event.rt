@@ -1,7 +1,8 @@
 // What a search reports.
 use tl_terms::{Action, Items};
 
-/// One arrival of a search: the number of the pair that it came from, the action, and the number of the pair that was met.
+/// One arrival of a search: the number of the pair that it came from, the action, and the number of
+/// the pair that was met.
 #[derive(Drop)]
 pub enum Event {
     /// The pair of the empty path is kept as pair 0.

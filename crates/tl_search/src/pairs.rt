@@ -13,8 +13,10 @@ use std::alloc::Global;
 use std::sync::ledger::Ledger;
 use tl_terms::{Action, Actions, NoMemory, Steps};
 
-/// A search space as a search sees it: pairs of a world and a residual (Bacchus and Kabanza 2000), each kept once under a number, with the path by which it was met first.
-/// No call changes the task, nor the number or the path of a kept pair. Where a call gives no answer, the kept pairs are as before, and the same call can be made again.
+/// A search space as a search sees it: pairs of a world and a residual (Bacchus and Kabanza 2000),
+/// each kept once under a number, with the path by which it was met first.
+/// No call changes the task, nor the number or the path of a kept pair. Where a call gives no
+/// answer, the kept pairs are as before, and the same call can be made again.
 pub trait Pairs {
     /// The task whose problem the space is of.
     ghost task: { Self → Task };
@@ -62,7 +64,8 @@ pub trait Pairs {
         ensures cause { IfErr result (IsChildFault (problem self.old) (kept self.old) at a.now) }
         ensures ticks { steps.new ≡ steps.old + 1 };
 
-    /// Whether a pair is accepted: its world meets the goal, and its residual holds where that world is repeated for ever.
+    /// Whether a pair is accepted: its world meets the goal, and its residual holds where that
+    /// world is repeated for ever.
     fn accepted(&mut self, at: usize) -> Result<bool, SpaceFault>
         requires at { at < length (kept self.old) }
         ensures task { task self.new ≡ task self.old }

@@ -6,7 +6,8 @@ use crate::{Arrival, Event, Events};
 use std::alloc::{AllocError, Global};
 use tl_terms::{Action, NoMemory};
 
-/// Adds the event of what came of an action from the pair `at`, where events are watched. It fails for want of memory alone, and takes none where they are not.
+/// Adds the event of what came of an action from the pair `at`, where events are watched. It fails
+/// for want of memory alone, and takes none where they are not.
 pub fn report_arrival(
     alloc: Global,
     events: &mut Events,
@@ -30,7 +31,8 @@ pub fn report_arrival(
     Ok(())
 }
 
-/// Adds the event of the root, where events are watched. It fails for want of memory alone, and takes none where they are not.
+/// Adds the event of the root, where events are watched. It fails for want of memory alone, and
+/// takes none where they are not.
 pub fn report_root(events: &mut Events, watch: bool, event: Event) -> Result<(), AllocError>
     ensures { OnOk result (events.new ≡ events_after watch events.old event) }
 {

@@ -11,7 +11,8 @@ is_blank c = c == 32 || c == 9 || c == 13 || c == 10
 abbrev pub is_token_byte : ℕ → Bool
 is_token_byte c = is_ascii_alphanumeric c || list_any (λ sign. c == sign) (codes "!#$%&*+-./:<=>?@^_~")
 
--- byte k is in a comment: it is no line feed, and a `;` stands there or before it with no line feed from that `;` on
+-- byte k is in a comment: it is no line feed, and a `;` stands there or before it with no line feed
+-- from that `;` on
 pub record IsInComment (bytes : List ℕ) (k : ℕ) : Type 0 where
   pub begin : ℕ
   pub before : begin ≤ k

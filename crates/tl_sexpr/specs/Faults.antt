@@ -61,7 +61,8 @@ pub data FaultAt (bytes : List ℕ) (k : ℕ) : Type 0 where
 abbrev pub NoFaultBefore : List ℕ → ℕ → Type 0
 NoFaultBefore bytes n = (k : ℕ) → k < n → ¬ FaultAt bytes k
 
--- none of them stands anywhere, lists are open at the end, and this is the last `(` where no list was open
+-- none of them stands anywhere, lists are open at the end, and this is the last `(` where no list
+-- was open
 pub record IsUnclosed (bytes : List ℕ) (k : ℕ) : Type 0 where
   pub faultless : NoFaultBefore bytes (length bytes)
   pub depth : ℕ
@@ -71,7 +72,8 @@ pub record IsUnclosed (bytes : List ℕ) (k : ℕ) : Type 0 where
   pub outermost : IsDepth bytes k 0
   pub last : (j : ℕ) → k < j → StandsAt bytes j 40 → ¬ IsDepth bytes j 0
 
--- the fault of the bytes: of the first four the one with the least offset, and else that lists are open at the end
+-- the fault of the bytes: of the first four the one with the least offset, and else that lists are
+-- open at the end
 abbrev pub IsFaultOf : List ℕ → TextFault → Type 0
 IsFaultOf bytes (BadByte k) = IsBadByte bytes k × NoFaultBefore bytes k
 IsFaultOf bytes (StrayClose k) = IsStrayClose bytes k × NoFaultBefore bytes k

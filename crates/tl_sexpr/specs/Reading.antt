@@ -16,8 +16,8 @@ pub record IsStart (bytes : List ℕ) (at : ℕ) : Type 0 where
   pub comments_end : at < length bytes → (j : ℕ) → j < at → slice_index bytes j ≡ 59 → (m : ℕ) × (j < m) × (m < at) × (slice_index bytes m ≡ 10)
   pub no_token_cut : (k : ℕ) → k + 1 ≡ at → IsTokenAt bytes k → ¬ IsTokenAt bytes at
 
--- the bytes of the range are these open lists, from the outermost, each with its forms before the next one, and
--- the last forms stand in the innermost of them; so many lists are around the range
+-- the bytes of the range are these open lists, from the outermost, each with its forms before the
+-- next one, and the last forms stand in the innermost of them; so many lists are around the range
 unfoldable pub Nested : List ℕ → ℕ → ℕ → List OpenList → FormTrees → ℕ → Type 0
 Nested bytes around from [] forms to = AreItems bytes around from to forms
 Nested bytes around from (o ∷ os) forms to =

@@ -1,4 +1,5 @@
--- What it means that bytes spell forms. Ranges of bytes go from their first byte to the one after their last.
+-- What it means that bytes spell forms. Ranges of bytes go from their first byte to the one after
+-- their last.
 use Rattle.std.specs.Prelude.{◌≡◌, ℕ, ◌+◌, ◌<◌, ◌≤◌, ◌⊎◌, ℤ, pos, neg_ℤ, List, [], ◌∷◌, length, Bool, true, false, ◌&&◌, ◌==◌, nat_lt, if◌then◌else◌, IsTrue, slice_index, slice_range, FitsSigned}
 use Rattle.std.specs.Int.{w64}
 use Rattle.std.specs.Str.{all_ascii_digits}

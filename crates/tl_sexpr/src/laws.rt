@@ -8,12 +8,14 @@ pub fn one_spelling()
     ensures { OneSpelling }
 {}
 
-/// The law that the offsets of the forms that bytes spell rise in reading order, and are below the number of the bytes. A call does nothing.
+/// The law that the offsets of the forms that bytes spell rise in reading order, and are below the
+/// number of the bytes. A call does nothing.
 pub fn offsets_rise()
     ensures { OffsetsRise }
 {}
 
-/// The law that each symbol of the forms that bytes spell has one or more bytes of tokens as its text, and no integer. A call does nothing.
+/// The law that each symbol of the forms that bytes spell has one or more bytes of tokens as its
+/// text, and no integer. A call does nothing.
 pub fn symbols_are_tokens()
     ensures { SymbolsAreTokens }
 {}

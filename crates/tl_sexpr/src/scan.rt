@@ -32,7 +32,8 @@ pub(crate) fn token_end(bytes: &[u8], from: usize) -> usize
     end
 }
 
-/// The position after the comment that begins here and after the line feed that ends it, if there is one.
+/// The position after the comment that begins here and after the line feed that ends it, if there
+/// is one.
 pub(crate) fn comment_end(bytes: &[u8], from: usize) -> usize
     requires within { from < length bytes.now }
     requires semicolon { slice_index bytes.now from ≡ 59 }

@@ -74,7 +74,8 @@ pub record MeetsOneMore (old new : Space) : Type 0 where
   pub worlds : length (worlds_in new.worlds) ≤ suc (length (worlds_in old.worlds))
   pub arrivals : new.arrivals ≡ old.arrivals
 
--- the number is that of the last world, and all kept pairs and all arrivals that are remembered are of worlds before it
+-- the number is that of the last world, and all kept pairs and all arrivals that are remembered are
+-- of worlds before it
 pub record IsLastUnmet (s : Space) (n : ℕ) : Type 0 where
   pub last : suc n ≡ length (worlds_in s.worlds)
   pub pairs : (i : ℕ) (m : Numbers) → slice_get s.pairs.keys i ≡ Some m → m.world < n
@@ -100,12 +101,14 @@ IsArrivalFound s key (found.New n) = IsToKeep s key n
 abbrev pub IsProgressFault : Space → Numbers → ProgressFault → Type 0
 IsProgressFault s n fault = IsCausedBy (looked_by_progressing (problem_of s) (world_at (worlds_in s.worlds) n.world) (tree_at (trees s.nodes) n.label)) fault
 
--- these numbers are of the arrival at the empty path: the first world, in which the control formula comes in
+-- these numbers are of the arrival at the empty path: the first world, in which the control formula
+-- comes in
 pub record IsRootKey (s : Space) (n : Numbers) : Type 0 where
   pub world : slice_get (worlds_in s.worlds) n.world ≡ Some (problem_of s).first
   pub label : slice_get (trees s.nodes) n.label ≡ Some (problem_of s).control
 
--- these numbers are of the arrival by an action: the world after it, in which the pair's formula comes in
+-- these numbers are of the arrival by an action: the world after it, in which the pair's formula
+-- comes in
 pub record IsKeyAfter (p : PlainProblem) (x : Pair) (a : Action) (s : Space) (n : Numbers) : Type 0 where
   pub world : World
   pub steps : step p x.world a ≡ Some world

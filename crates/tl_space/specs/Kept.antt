@@ -1,4 +1,5 @@
--- The kept pairs by their numbers: a world and a formula, each by its number, and how the pair was met first.
+-- The kept pairs by their numbers: a world and a formula, each by its number, and how the pair was
+-- met first.
 use Rattle.std.specs.Prelude.{◌≡◌, ◌<◌, ℕ, List, [], ◌∷◌, ◌++◌, fold, map, length, slice_get, slice_index_or, Some}
 use Rattle.tl_syntax.specs.declared.action.Action.{Action}
 use Rattle.tl_syntax.specs.Lists.{Each}
@@ -84,7 +85,8 @@ abbrev pub MayMeet : List Met → Met → Type 0
 MayMeet ms met.First = ms ≡ []
 MayMeet ms (met.After j a) = j < length ms
 
--- what is kept: each pair once, with the way by which it was met first, which leads to it from the pairs before it
+-- what is kept: each pair once, with the way by which it was met first, which leads to it from the
+-- pairs before it
 pub record AreKeptBy (g : Signature) (c : ℕ) (p : PlainProblem) (ws : List World) (ts : List FormulaTree) (ns : List Numbers) (ms : List Met) : Type 0 where
   pub all_met : length ms ≡ length ns
   pub once : IsOnce ns

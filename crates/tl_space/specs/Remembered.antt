@@ -37,6 +37,7 @@ pub record IsRemembered (p : PlainProblem) (ws : List World) (ts : List FormulaT
 abbrev pub AreRemembered : PlainProblem → List World → List FormulaTree → List Numbers → List (Numbers × Arrival) → Type 0
 AreRemembered p ws ts ns es = Each (IsRemembered p ws ts ns) es
 
--- what is kept of worlds for progression: the worlds and the formulas have numbers, and it is what has to hold next
+-- what is kept of worlds for progression: the worlds and the formulas have numbers, and it is what
+-- has to hold next
 abbrev pub AreFound : PlainProblem → List World → List FormulaTree → Residuals → Type 0
 AreFound p ws ts r = (n k i : ℕ) → found_in r n k ≡ Some i → (n < length ws) × ((k < length ts) × ((e : Assignment) → slice_get ts i ≡ Some (residual p (world_at ws n) e (tree_at ts k))))

@@ -30,7 +30,8 @@ kept_of s = kept_over (worlds_in s.worlds) (trees s.nodes) s.pairs.keys (paths_o
 abbrev pub labels_of : Space → List ℕ
 labels_of s = map (λ n. n.label) s.pairs.keys
 
--- the task stays, and each kept pair has its number, its world, its path and its label still, and each label its tree
+-- the task stays, and each kept pair has its number, its world, its path and its label still, and
+-- each label its tree
 pub record Grows (old new : Space) : Type 0 where
   pub task : task_of new ≡ task_of old
   pub kept : Stay (kept_of old) (kept_of new)

@@ -18,9 +18,11 @@ pub(crate) struct FirstArrival {
     pub(crate) arrival: Arrival,
 }
 
-/// What came of arrivals. Contracts see the list of them, each by the numbers of its world and of the formula that came in.
+/// What came of arrivals. Contracts see the list of them, each by the numbers of its world and of
+/// the formula that came in.
 ///
-/// Most worlds are met with one formula alone. So what came of the first arrival in each world stands in a list, by the number of the world, and what came of others in a map.
+/// Most worlds are met with one formula alone. So what came of the first arrival in each world
+/// stands in a list, by the number of the world, and what came of others in a map.
 #[derive(Drop)]
 pub(crate) struct Arrivals {
     first: Vec<FirstArrival>,

@@ -3,7 +3,8 @@
 use tl_search::Arrival;
 use tl_terms::Action;
 
-/// A world and a formula, each by its number: a pair, or an arrival in a world with the formula that comes in.
+/// A world and a formula, each by its number: a pair, or an arrival in a world with the formula
+/// that comes in.
 #[derive(Clone, Copy, PartialEq, Eq, Hash)]
 pub(crate) struct Numbers {
     /// The number of the world.

@@ -34,13 +34,22 @@ use tl_progress::{PartPlaces, Residuals};
 use tl_terms::NoMemory;
 use tl_world::{Task, Unmet, Worlds};
 
-/// Pairs of a world and a residual, each kept once under a number, with the path by which it was met first.
+/// Pairs of a world and a residual, each kept once under a number, with the path by which it was
+/// met first.
 ///
-/// No call changes the task, the tree of a number, or the number, label, world or path of a kept pair. A pair is kept as the last growth of a call: after a refused call the kept pairs are as before, and the same call can be made again.
-/// A pair is two numbers, that of its world and that of its residual. What came of an arrival in a world that was met before is remembered by its world and the formula that came in, where there is memory for it, so progression is asked once for each; and what formulas that come in to one world have in common is progressed once for the world.
-/// Where an action leads to a new world and its arrival is pruned there, that world is let go, with all that was found of it.
-/// What an action changes is put into one list, again for each, so that a child that is seen or pruned takes no memory for it.
-/// Actions are looked at under a frame of their own. That of formulas has no values between calls, so progression need not put any away.
+/// No call changes the task, the tree of a number, or the number, label, world or path of a kept
+/// pair. A pair is kept as the last growth of a call: after a refused call the kept pairs are as
+/// before, and the same call can be made again.
+/// A pair is two numbers, that of its world and that of its residual. What came of an arrival in a
+/// world that was met before is remembered by its world and the formula that came in, where there
+/// is memory for it, so progression is asked once for each; and what formulas that come in to one
+/// world have in common is progressed once for the world.
+/// Where an action leads to a new world and its arrival is pruned there, that world is let go, with
+/// all that was found of it.
+/// What an action changes is put into one list, again for each, so that a child that is seen or
+/// pruned takes no memory for it.
+/// Actions are looked at under a frame of their own. That of formulas has no values between calls,
+/// so progression need not put any away.
 #[derive(Drop)]
 pub struct Space {
     pub(crate) alloc: Global,
@@ -106,7 +115,8 @@ fn begun(alloc: Global, task: &Task) -> Result<Beginning, NoMemory>
 impl Space {
     ghost use Rattle.tl_space.specs.Spaces.{task_of, kept_of};
 
-    /// The space of the task, in which nothing is kept. It fails for want of memory alone, and then drops the task.
+    /// The space of the task, in which nothing is kept. It fails for want of memory alone, and then
+    /// drops the task.
     pub fn start(alloc: Global, task: Task) -> Result<Space, NoMemory>
         ensures task { IfOk result (λ s. task_of s ≡ task) }
         ensures empty { IfOk result (λ s. kept_of s ≡ []) }
@@ -120,7 +130,8 @@ impl Space {
         }
     }
 
-    /// The space of the task with what it begins with, in which nothing is kept. It takes no memory.
+    /// The space of the task with what it begins with, in which nothing is kept. It takes no
+    /// memory.
     fn of(alloc: Global, task: Task, beginning: Beginning) -> Space
         requires { ListsFor task beginning.lister }
         ensures task { task_of result ≡ task }

@@ -13,7 +13,8 @@ use tl_terms::{Action, NoMemory};
 
 /// How pairs were met first, one pair after another. Contracts see the list of it.
 ///
-/// Many pairs are met by one action, so each action is kept once, and a pair by two numbers of 32 bits.
+/// Many pairs are met by one action, so each action is kept once, and a pair by two numbers of 32
+/// bits.
 #[derive(Drop)]
 pub(crate) struct Ways {
     actions: IndexSet<Action>,

@@ -5,7 +5,8 @@ use Rattle.tl_syntax.specs.declared.bound.Bound.{Bound}
 use Rattle.tl_syntax.specs.Trees.{TermTree, TermTrees, FormulaTree}
 
 mutual
-  -- an ADL effect (Pednault 1989): a fact that is added or deleted, a place that is set, effects under a condition, and effects for every tuple of a bound
+  -- an ADL effect (Pednault 1989): a fact that is added or deleted, a place that is set, effects
+  -- under a condition, and effects for every tuple of a bound
   pub data EffectTree : Type 0 where
     add : ℕ → TermTrees → EffectTree
     del : ℕ → TermTrees → EffectTree

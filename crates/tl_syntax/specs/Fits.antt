@@ -29,7 +29,8 @@ BoundFits g (bound.GoalFact p xs) = ArgsFit g.predicates p xs
 BoundFits g (bound.GoalPlace f xs x) = ArgsFit g.functions f xs × ArgFits x
 BoundFits g (bound.GoalNot p xs) = ArgsFit g.predicates p xs
 
--- quantified variables: their slots are of a frame, differ from each other and from those around, and each stands in the bound, which fits
+-- quantified variables: their slots are of a frame, differ from each other and from those around,
+-- and each stands in the bound, which fits
 pub record VariablesFit (g : Signature) (around : List ℕ) (ss : List Var) (b : Bound) : Type 0 where
   pub frame : Each (λ s. s.slot < 32) ss
   pub fresh : Each (λ s. is_slot_in around s.slot ≡ false) ss
@@ -54,7 +55,8 @@ unfoldable mutual
   TermsFit g no_term = Unit {0}
   TermsFit g (more_terms t ts) = TermFits g t × TermsFit g ts
 
--- a formula fits, below quantifiers of the slots around it: each predicate, function and definition in it is there and takes its arguments, and its quantified variables fit
+-- a formula fits, below quantifiers of the slots around it: each predicate, function and definition
+-- in it is there and takes its arguments, and its quantified variables fit
 unfoldable mutual
   pub Fits : Signature → List ℕ → FormulaTree → Type 0
   Fits g around verum = Unit {0}

@@ -43,7 +43,8 @@ unfoldable mutual
   terms_slots no_term = []
   terms_slots (more_terms t ts) = term_slots t ++ terms_slots ts
 
--- the slots of the free variables of a formula: a quantifier binds its own in its bound and below it
+-- the slots of the free variables of a formula: a quantifier binds its own in its bound and below
+-- it
 unfoldable mutual
   pub free_slots : FormulaTree → List ℕ
   free_slots verum = []

@@ -30,7 +30,8 @@ pub record ParametersKeep (n most : ℕ) (ss : List Var) : Type 0 where
   pub few : length ss ≤ most
   pub counted : AreTheirPlaces (slots_of ss)
 
--- the i-th definition: its body speaks of its parameters, has no temporal word, and names no definition after its own
+-- the i-th definition: its body speaks of its parameters, has no temporal word, and names no
+-- definition after its own
 pub record DefinitionKeeps (g : Signature) (n i : ℕ) (d : Definition) : Type 0 where
   pub name : d.name < n
   pub params : ParametersKeep n 8 d.params
@@ -40,7 +41,8 @@ pub record DefinitionKeeps (g : Signature) (n i : ℕ) (d : Definition) : Type 0
   pub named : IsNamed n (tree_of_formula d.body)
   pub levels : 1 ≤ d.levels
 
--- an operator: bounds, precondition and effects speak of its parameters, each of which stands in some bound
+-- an operator: bounds, precondition and effects speak of its parameters, each of which stands in
+-- some bound
 pub record OperatorKeeps (g : Signature) (n : ℕ) (o : Operator) : Type 0 where
   pub name : o.name < n
   pub params : ParametersKeep n 16 o.params

@@ -10,7 +10,8 @@ use Rattle.tl_syntax.specs.declared.value.Value.TheVariants.{Int, Sym}
 use Rattle.tl_syntax.specs.declared.fact.Fact.{Fact}
 use Rattle.tl_syntax.specs.declared.place_value.PlaceValue.{PlaceValue}
 
--- a predicate with its values, or a function with its values, each by its position in the domain's list
+-- a predicate with its values, or a function with its values, each by its position in the domain's
+-- list
 abbrev pub Key : Type 0
 Key = ℕ × List Value
 

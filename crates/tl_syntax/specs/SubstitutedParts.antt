@@ -23,7 +23,8 @@ substituted_comparison bs c s t = compare c (substituted_term (assignment_of bs)
 abbrev pub substituted_goal_place : List Binding → ℕ → List Arg → Arg → FormulaTree
 substituted_goal_place bs f xs x = goal_place f (substituted_args (assignment_of bs) xs) (substituted_arg (assignment_of bs) x)
 
--- the formula for every tuple of the bound, or for some one: the values are put in for all variables but its own
+-- the formula for every tuple of the bound, or for some one: the values are put in for all
+-- variables but its own
 abbrev pub substituted_quantified : List Binding → Junction → List Var → Bound → Formula → FormulaTree
 substituted_quantified bs j ss b f =
     quantified j ss (substituted_bound (without ss (assignment_of bs)) b) (substituted (without ss (assignment_of bs)) (tree_of_formula f))

@@ -15,7 +15,8 @@ number_of names text = position (bytes_eq text) names
 abbrev pub AreDistinct : List (List ℕ) → Type 0
 AreDistinct names = (i j : ℕ) (text : List ℕ) → slice_get names i ≡ Some text → slice_get names j ≡ Some text → i ≡ j
 
--- a table of these texts: they differ, their numbers fit 32 bits, and a look-up gives each text its number
+-- a table of these texts: they differ, their numbers fit 32 bits, and a look-up gives each text its
+-- number
 pub record IsNumbered (names : List (List ℕ)) (looked_up : List ℕ → Option ℕ) : Type 0 where
   pub numbered : (text : List ℕ) → looked_up text ≡ number_of names text
   pub distinct : AreDistinct names

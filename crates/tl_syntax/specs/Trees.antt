@@ -8,7 +8,8 @@ use Rattle.tl_syntax.specs.declared.variable.Arg.{Arg}
 use Rattle.tl_syntax.specs.declared.bound.Bound.{Bound}
 
 mutual
-  -- a variable, a value, a place of a function (a fluent, Pednault 1989), or an operation with the offset of its form
+  -- a variable, a value, a place of a function (a fluent, Pednault 1989), or an operation with the
+  -- offset of its form
   pub data TermTree : Type 0 where
     variable : Var → TermTree
     value : Value → TermTree
@@ -23,7 +24,9 @@ mutual
     deriving Discrete as TermTrees-discrete
 
 mutual
-  -- a formula of first-order linear temporal logic with bounded quantifiers and a goal modality (Bacchus and Kabanza 2000); `within` and `during` are read over a number of steps (Koymans 1990), and `during` is written `for`
+  -- a formula of first-order linear temporal logic with bounded quantifiers and a goal modality
+  -- (Bacchus and Kabanza 2000); `within` and `during` are read over a number of steps (Koymans
+  -- 1990), and `during` is written `for`
   pub data FormulaTree : Type 0 where
     verum : FormulaTree
     falsum : FormulaTree

@@ -16,7 +16,8 @@ impl Formula {
         Ok(Formula::Not(Box::new(alloc, f)?))
     }
 
-    /// That the formula holds in the next state. It fails for want of memory alone, and drops the formula then.
+    /// That the formula holds in the next state. It fails for want of memory alone, and drops the
+    /// formula then.
     #[tactic(auto, using(crate::proofs::FormulaTrees::formula_trees))]
     pub fn next(alloc: Global, f: Formula) -> Result<Formula, NoMemory>
         ensures made { IfOk result (λ out. tree_of_formula out ≡ next (tree_of_formula f)) }
@@ -24,7 +25,8 @@ impl Formula {
         Ok(Formula::Next(Box::new(alloc, f)?))
     }
 
-    /// That the formula holds from now on. It fails for want of memory alone, and drops the formula then.
+    /// That the formula holds from now on. It fails for want of memory alone, and drops the formula
+    /// then.
     #[tactic(auto, using(crate::proofs::FormulaTrees::formula_trees))]
     pub fn always(alloc: Global, f: Formula) -> Result<Formula, NoMemory>
         ensures made { IfOk result (λ out. tree_of_formula out ≡ always (tree_of_formula f)) }
@@ -32,7 +34,8 @@ impl Formula {
         Ok(Formula::Always(Box::new(alloc, f)?))
     }
 
-    /// That the formula holds now or later. It fails for want of memory alone, and drops the formula then.
+    /// That the formula holds now or later. It fails for want of memory alone, and drops the
+    /// formula then.
     #[tactic(auto, using(crate::proofs::FormulaTrees::formula_trees))]
     pub fn eventually(alloc: Global, f: Formula) -> Result<Formula, NoMemory>
         ensures made { IfOk result (λ out. tree_of_formula out ≡ eventually (tree_of_formula f)) }
@@ -40,7 +43,8 @@ impl Formula {
         Ok(Formula::Eventually(Box::new(alloc, f)?))
     }
 
-    /// That the formula holds now or in one of the next `n` states. It fails for want of memory alone, and drops the formula then.
+    /// That the formula holds now or in one of the next `n` states. It fails for want of memory
+    /// alone, and drops the formula then.
     #[tactic(auto, using(crate::proofs::FormulaTrees::formula_trees))]
     pub fn within(alloc: Global, n: u32, f: Formula) -> Result<Formula, NoMemory>
         ensures made { IfOk result (λ out. tree_of_formula out ≡ within n (tree_of_formula f)) }
@@ -48,7 +52,8 @@ impl Formula {
         Ok(Formula::Within(n, Box::new(alloc, f)?))
     }
 
-    /// That the formula holds now and in each of the next `n` states. It fails for want of memory alone, and drops the formula then.
+    /// That the formula holds now and in each of the next `n` states. It fails for want of memory
+    /// alone, and drops the formula then.
     #[tactic(auto, using(crate::proofs::FormulaTrees::formula_trees))]
     pub fn during(alloc: Global, n: u32, f: Formula) -> Result<Formula, NoMemory>
         ensures made { IfOk result (λ out. tree_of_formula out ≡ during n (tree_of_formula f)) }
@@ -56,7 +61,8 @@ impl Formula {
         Ok(Formula::During(n, Box::new(alloc, f)?))
     }
 
-    /// That `g` holds now or later, and `f` until then. It fails for want of memory alone, and drops both then.
+    /// That `g` holds now or later, and `f` until then. It fails for want of memory alone, and
+    /// drops both then.
     #[tactic(auto, using(crate::proofs::FormulaTrees::formula_trees))]
     pub fn until(alloc: Global, f: Formula, g: Formula) -> Result<Formula, NoMemory>
         ensures made { IfOk result (λ out. tree_of_formula out
@@ -67,7 +73,8 @@ impl Formula {
         Ok(Formula::Until(f, g))
     }
 
-    /// That the formula holds for every tuple that makes the bound true. It fails for want of memory alone, and drops the parts then.
+    /// That the formula holds for every tuple that makes the bound true. It fails for want of
+    /// memory alone, and drops the parts then.
     #[tactic(auto, using(crate::proofs::FormulaTrees::formula_trees))]
     pub fn for_all(alloc: Global, vars: Vars, bound: Bound, f: Formula) -> Result<Formula, NoMemory>
         ensures made { IfOk result (λ out. tree_of_formula out ≡ for_all vars bound (tree_of_formula f)) }
@@ -76,7 +83,8 @@ impl Formula {
         Ok(Formula::ForAll(vars, bound, f))
     }
 
-    /// That the formula holds for some tuple that makes the bound true. It fails for want of memory alone, and drops the parts then.
+    /// That the formula holds for some tuple that makes the bound true. It fails for want of memory
+    /// alone, and drops the parts then.
     #[tactic(auto, using(crate::proofs::FormulaTrees::formula_trees))]
     pub fn exists(alloc: Global, vars: Vars, bound: Bound, f: Formula) -> Result<Formula, NoMemory>
         ensures made { IfOk result (λ out. tree_of_formula out ≡ for_some vars bound (tree_of_formula f)) }
@@ -85,7 +93,8 @@ impl Formula {
         Ok(Formula::Exists(vars, bound, f))
     }
 
-    /// That the formula holds for every tuple of the bound, or for some one. It fails for want of memory alone, and drops the parts then.
+    /// That the formula holds for every tuple of the bound, or for some one. It fails for want of
+    /// memory alone, and drops the parts then.
     pub fn quantified(
         alloc: Global,
         junction: Junction,

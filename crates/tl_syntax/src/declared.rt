@@ -2,7 +2,8 @@
 
 use crate::Items;
 
-/// A predicate or a function as a domain declares it. Trees name it by its position in the domain's list.
+/// A predicate or a function as a domain declares it. Trees name it by its position in the domain's
+/// list.
 #[derive(Clone, Copy, PartialEq, Eq)]
 pub struct Declared {
     /// The number of its name.

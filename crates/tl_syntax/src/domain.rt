@@ -2,7 +2,8 @@
 
 use crate::{Declareds, Definitions, Formula, Operators};
 
-/// A domain: what may stand in facts, what is defined, and what can be done, with the control formula of every plan.
+/// A domain: what may stand in facts, what is defined, and what can be done, with the control
+/// formula of every plan.
 ///
 /// Trees name a predicate, a function, a definition or an operator by its position in its list.
 #[derive(Drop)]

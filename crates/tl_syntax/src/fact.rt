@@ -32,7 +32,8 @@ impl Fact {
         })
     }
 
-    /// How the two stand by predicate and then by arguments in value order. The derived order is the same.
+    /// How the two stand by predicate and then by arguments in value order. The derived order is
+    /// the same.
     pub fn order(&self, other: &Fact) -> Ordering
         ensures { result ≡ fact_cmp self.now other.now }
     {

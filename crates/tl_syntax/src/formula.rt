@@ -14,7 +14,8 @@ use crate::substitution::{
 use crate::{Arg, Args, Bound, Cmp, Junction, NoMemory, Term, Terms, Vars};
 use std::alloc::{AllocError, Global};
 
-/// A formula of first-order linear temporal logic with bounded quantifiers and a goal modality (Bacchus and Kabanza 2000).
+/// A formula of first-order linear temporal logic with bounded quantifiers and a goal modality
+/// (Bacchus and Kabanza 2000).
 ///
 /// Predicates, functions and definitions are named by their position in the domain's list.
 /// `(implies F G)` has no variant: it is the disjunction of the negated F and G.
@@ -123,7 +124,8 @@ impl Formulas {
         Ok(out)
     }
 
-    /// Whether the two lists are the same: the derived equality tells exactly the plain trees apart.
+    /// Whether the two lists are the same: the derived equality tells exactly the plain trees
+    /// apart.
     pub fn is_same(&self, list: &Formulas) -> bool
         ensures same { (result ≡ true) ↔ (tree_of_formulas self.now ≡ tree_of_formulas list.now) }
     {
@@ -140,7 +142,8 @@ impl Formula {
         self.with_values(alloc, &[])
     }
 
-    /// The formula with the values put in for free variables, where the first binding of a slot counts. It fails for want of memory alone.
+    /// The formula with the values put in for free variables, where the first binding of a slot
+    /// counts. It fails for want of memory alone.
     #[cycle(put_in_formulas)]
     #[tactic(auto, using(crate::proofs::FormulaTrees::formula_trees, crate::proofs::Bindings::assignment_below), unfolding(crate::specs::Substitution::substituted))]
     pub fn with_values(&self, alloc: Global, bindings: &[Binding]) -> Result<Formula, NoMemory>
@@ -181,7 +184,8 @@ impl Formula {
         }
     }
 
-    /// Whether the two formulas are the same: the derived equality tells exactly the plain trees apart.
+    /// Whether the two formulas are the same: the derived equality tells exactly the plain trees
+    /// apart.
     pub fn is_same(&self, other: &Formula) -> bool
         ensures same { (result ≡ true) ↔ (tree_of_formula self.now ≡ tree_of_formula other.now) }
     {
@@ -321,7 +325,8 @@ fn until_with_values(
     Formula::until(alloc, f, g)
 }
 
-// The formula for every tuple of the bound, or for some one, with the values put in for all variables but its own.
+// The formula for every tuple of the bound, or for some one, with the values put in for all
+// variables but its own.
 #[cycle(put_in_formulas)]
 #[tactic(auto, using(crate::proofs::Bindings::assignment_below))]
 fn quantified_with_values(

@@ -2,9 +2,11 @@
 ghost use Rattle.std.specs.Prelude.{◌≡◌};
 ghost use Rattle.tl_syntax.specs.Junctions.{deciding_truth};
 
-/// How the truth of a whole goes by that of its parts: `and` and `forall` need all of them, `or` and `exists` any one.
+/// How the truth of a whole goes by that of its parts: `and` and `forall` need all of them, `or`
+/// and `exists` any one.
 ///
-/// The parts are those of a conjunction or a disjunction, or the instances of a bounded quantifier (Bacchus and Kabanza 2000).
+/// The parts are those of a conjunction or a disjunction, or the instances of a bounded quantifier
+/// (Bacchus and Kabanza 2000).
 #[derive(Clone, Copy, PartialEq, Eq)]
 pub enum Junction {
     /// All parts: a conjunction, or a universal quantifier.
@@ -14,7 +16,8 @@ pub enum Junction {
 }
 
 impl Junction {
-    /// The truth of a part that decides the whole, which then has the same truth; the whole has the other one where no part has this one. It takes no memory.
+    /// The truth of a part that decides the whole, which then has the same truth; the whole has the
+    /// other one where no part has this one. It takes no memory.
     pub fn deciding_truth(self) -> bool
         ensures { result ≡ deciding_truth self }
     {

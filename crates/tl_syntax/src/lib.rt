@@ -10,7 +10,8 @@
 //! - `compound`: formulas made of formulas.
 //! - `substitution`: formulas and bounds with values put in.
 //! - `definition`, `operator`, `domain`: what a domain file gives.
-//! - `fact`, `place_value`, `action`: ground facts, places with their values, and the steps of a plan.
+//! - `fact`, `place_value`, `action`: ground facts, places with their values, and the steps of a
+//! plan.
 //! - `problem`: a domain with the initial world and the goal, and what their type keeps.
 //! - `laws`: what the derived tests of equality and the derived orders say.
 //!

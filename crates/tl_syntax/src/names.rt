@@ -54,7 +54,8 @@ impl Names {
         self.numbers.get(text).copied()
     }
 
-    /// Adds a text, and answers its number. A known text keeps its number and takes no memory, and a new one gets the number `len`.
+    /// Adds a text, and answers its number. A known text keeps its number and takes no memory, and
+    /// a new one gets the number `len`.
     /// A refused call leaves the table as it was.
     pub fn add(&mut self, text: &str) -> Result<u32, NoMemory>
         requires { length self.old < 2 ^ 32 - 1 }

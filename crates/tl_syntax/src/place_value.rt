@@ -5,7 +5,8 @@ ghost use Rattle.std.specs.Prelude.{◌≡◌, IfOk};
 use crate::{Items, NoMemory, Value, Values};
 use std::alloc::Global;
 
-/// A function, by its position in the domain's list, with its arguments and the value that it has of them.
+/// A function, by its position in the domain's list, with its arguments and the value that it has
+/// of them.
 #[derive(PartialEq, Eq, Hash, Drop)]
 pub struct PlaceValue {
     /// The function's position.

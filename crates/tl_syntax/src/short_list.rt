@@ -12,7 +12,8 @@ use std::default::MadeWith;
 use std::hash::{Hash, Hasher};
 use std::marker::Model;
 
-/// A list, which contracts see as the list of its items. Up to three items stand in the list itself, and take no memory of their own.
+/// A list, which contracts see as the list of its items. Up to three items stand in the list
+/// itself, and take no memory of their own.
 #[derive(Drop)]
 pub struct ShortList<T> {
     items: SmallVec<T, 3>,

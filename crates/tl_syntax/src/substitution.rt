@@ -125,7 +125,8 @@ pub fn bound_with_values(
     }
 }
 
-/// The formula with the values put in for the free occurrences of the variables. It fails for want of memory alone.
+/// The formula with the values put in for the free occurrences of the variables. It fails for want
+/// of memory alone.
 pub fn subst(alloc: Global, f: &Formula, vars: &Vars, values: &[Value]) -> Result<Formula, NoMemory>
     requires { length vars.now ≡ length values.now }
     ensures { IfOk result (λ out. tree_of_formula out

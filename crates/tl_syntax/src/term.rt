@@ -20,7 +20,8 @@ pub enum Term {
     Val(Value),
     /// The value of a place: a function, by its position in the domain's list, with its arguments.
     Place(u32, Terms),
-    /// An operation on two integers. The `u32` is the offset of its form in the domain file, in bytes.
+    /// An operation on two integers. The `u32` is the offset of its form in the domain file, in
+    /// bytes.
     Arith(Op, Box<Term>, Box<Term>, u32),
 }
 
@@ -81,7 +82,8 @@ impl Terms {
         Ok(out)
     }
 
-    /// Whether the two lists are the same: the derived equality tells exactly the plain trees apart.
+    /// Whether the two lists are the same: the derived equality tells exactly the plain trees
+    /// apart.
     pub fn is_same(&self, list: &Terms) -> bool
         ensures same { (result ≡ true) ↔ (tree_of_terms self.now ≡ tree_of_terms list.now) }
     {
@@ -123,7 +125,8 @@ impl Term {
         }
     }
 
-    /// Whether the two terms are the same: the derived equality tells exactly the plain trees apart.
+    /// Whether the two terms are the same: the derived equality tells exactly the plain trees
+    /// apart.
     pub fn is_same(&self, other: &Term) -> bool
         ensures same { (result ≡ true) ↔ (tree_of_term self.now ≡ tree_of_term other.now) }
     {

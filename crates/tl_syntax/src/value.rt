@@ -24,7 +24,8 @@ impl Default for Value {
 }
 
 impl Value {
-    /// How the two stand in value order. The derived order is the same, and is what compares lists of values and facts.
+    /// How the two stand in value order. The derived order is the same, and is what compares lists
+    /// of values and facts.
     pub fn order(self, other: Value) -> Ordering
         ensures { result ≡ value_cmp self other }
     {

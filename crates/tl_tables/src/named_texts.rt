@@ -17,7 +17,8 @@ pub(crate) fn named(name: &str) -> &str {
     "{ there is no such text }"
 }
 
-/// Texts by name, each below a line of its name, a colon, and what it says; an empty line comes between two of them.
+/// Texts by name, each below a line of its name, a colon, and what it says; an empty line comes
+/// between two of them.
 fn texts() -> &'static str {
     "max: the place (n) has the greatest integer
 (= (n) 9223372036854775807)

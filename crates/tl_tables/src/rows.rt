@@ -8,7 +8,8 @@ pub fn is_row(line: &str) -> bool {
     !line.is_empty() && !line.starts_with("# ")
 }
 
-/// The column of a row with this number, counted from 0. Columns are separated by ` | `; one that is `-`, or left out, is empty.
+/// The column of a row with this number, counted from 0. Columns are separated by ` | `; one that
+/// is `-`, or left out, is empty.
 pub fn column(row: &str, number: usize) -> &str {
     for (k, text) in row.split(" | ").enumerate() {
         if k == number && text != "-" {
@@ -18,7 +19,8 @@ pub fn column(row: &str, number: usize) -> &str {
     ""
 }
 
-/// Puts a text so many times at the end. It is doubled again and again, so that a text of some megabytes is put together in a few steps.
+/// Puts a text so many times at the end. It is doubled again and again, so that a text of some
+/// megabytes is put together in a few steps.
 fn put_repeated(alloc: Global, part: &str, times: u32, out: &mut String) -> Result<(), AllocError> {
     let mut unit = String::from_str(alloc, part)?;
     let mut left = times;
@@ -35,7 +37,8 @@ fn put_repeated(alloc: Global, part: &str, times: u32, out: &mut String) -> Resu
     Ok(())
 }
 
-/// How many times a text is asked for, and the text, where a name is a number, a space, and the text.
+/// How many times a text is asked for, and the text, where a name is a number, a space, and the
+/// text.
 fn repetition(name: &str) -> Option<(u32, &str)> {
     let (times, part) = name.split_once(' ')?;
     match times.parse::<u32>() {
@@ -44,7 +47,8 @@ fn repetition(name: &str) -> Option<(u32, &str)> {
     }
 }
 
-/// Puts at the end what a text in braces stands for: a column of the row, where it is a number, a text so many times, or the text of this name.
+/// Puts at the end what a text in braces stands for: a column of the row, where it is a number, a
+/// text so many times, or the text of this name.
 fn put_braces(alloc: Global, name: &str, row: &str, out: &mut String) -> Result<(), AllocError> {
     match (name.parse::<u32>(), repetition(name)) {
         (Ok(number), _) => out.push_str(column(row, number as usize)),
@@ -53,7 +57,8 @@ fn put_braces(alloc: Global, name: &str, row: &str, out: &mut String) -> Result<
     }
 }
 
-/// A text in which each part in braces is replaced by what it stands for; the numbers among them are columns of the row.
+/// A text in which each part in braces is replaced by what it stands for; the numbers among them
+/// are columns of the row.
 pub fn filled(alloc: Global, text: &str, row: &str) -> Result<String, AllocError> {
     let mut out = String::new(alloc);
     for piece in text.split('{') {

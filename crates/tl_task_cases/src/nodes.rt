@@ -1,4 +1,5 @@
-// Interned formulas: one number for one tree, simplified joins and negations, and fifty thousand nested nodes.
+// Interned formulas: one number for one tree, simplified joins and negations, and fifty thousand
+// nested nodes.
 ghost use Rattle.std.specs.Prelude.{◌≡◌};
 ghost use Rattle.tl_nodes.specs.Fits.{all_below};
 
@@ -146,7 +147,8 @@ fn made(nodes: &mut Nodes, word: &str, parts: &[usize]) -> Result<usize, NoMemor
     }
 }
 
-/// Rows of formulas, the word that makes one of all but the last of them, and the last of them, which it makes.
+/// Rows of formulas, the word that makes one of all but the last of them, and the last of them,
+/// which it makes.
 const JOINS: &str = "
 true | and
 false | or
@@ -216,7 +218,8 @@ fn fact(alloc: Global, nodes: &mut Nodes) -> Result<usize, NoMemory> {
     nodes.of_tree(&Formula::Atom(0, Terms::new(alloc)))
 }
 
-/// Compares the number that the layer of `(always (p))` gets when it comes again, for which no node is added.
+/// Compares the number that the layer of `(always (p))` gets when it comes again, for which no node
+/// is added.
 fn come_again<R: Abort>(
     rt: &R,
     alloc: Global,
@@ -237,7 +240,8 @@ fn is_layer<R: Abort>(rt: &R, nodes: &Nodes, id: usize, layer: &Node) {
     is_true(rt, nodes.get(id) == layer, "the layer of a number");
 }
 
-/// The top layer that a number is given for is the one that it has, and the layer gets its number again.
+/// The top layer that a number is given for is the one that it has, and the layer gets its number
+/// again.
 #[test]
 fn one_layer_has_one_number(rt: HostRuntime) -> Result<(), Stop> {
     let mut nodes = Nodes::new(rt.alloc())?;
@@ -248,7 +252,8 @@ fn one_layer_has_one_number(rt: HostRuntime) -> Result<(), Stop> {
     Ok(())
 }
 
-/// A chain of conjunctions, each of the one before and one part more; the last part; and a conjunction that has each one before it twice.
+/// A chain of conjunctions, each of the one before and one part more; the last part; and a
+/// conjunction that has each one before it twice.
 #[derive(Clone, Copy)]
 struct Nested {
     chain: usize,

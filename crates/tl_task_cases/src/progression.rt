@@ -130,7 +130,8 @@ fn is_fault<R: Abort>(rt: &R, alloc: Global, fault: ProgressFault, row: &str) ->
     Ok(())
 }
 
-/// Compares what a formula progresses to with the number that is wanted or, where there is no answer, with the text that the row has.
+/// Compares what a formula progresses to with the number that is wanted or, where there is no
+/// answer, with the text that the row has.
 fn is_next<R: Abort>(
     rt: &R,
     alloc: Global,
@@ -171,7 +172,8 @@ fn is_told<R: Abort>(rt: &R, alloc: Global, row: &str) -> Result<(), Stop> {
     compared
 }
 
-/// Goes over the rows of a table: the initial world, the goal list, the formula, what it progresses to, and the answer of the idling check.
+/// Goes over the rows of a table: the initial world, the goal list, the formula, what it progresses
+/// to, and the answer of the idling check.
 fn are_told<R: Abort>(rt: &R, alloc: Global, table: &str) -> Result<(), Stop> {
     for row in table.lines() {
         if is_row(row) {
@@ -286,7 +288,8 @@ fn adds_no_node<R: Abort>(rt: &R, alloc: Global, task: &Task) -> Result<(), Stop
     Ok(())
 }
 
-/// A row whose formula is a quantifier without temporal words over a hundred facts, all of them in the goal.
+/// A row whose formula is a quantifier without temporal words over a hundred facts, all of them in
+/// the goal.
 fn row_of_facts(alloc: Global) -> Result<String, Stop> {
     let mut facts = String::new(alloc);
     for k in 0..100u32 {
@@ -356,7 +359,8 @@ fn are_false<R: Abort>(rt: &R, alloc: Global, task: &Task) -> Result<(), Stop> {
     Ok(())
 }
 
-/// The idling check of fifty thousand nested nodes answers false, and so it does for what the formula progresses to.
+/// The idling check of fifty thousand nested nodes answers false, and so it does for what the
+/// formula progresses to.
 #[test]
 fn fifty_thousand_nested_nodes_need_no_stack(rt: HostRuntime) -> Result<(), Stop> {
     let alloc = rt.alloc();

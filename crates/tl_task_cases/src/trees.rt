@@ -1,4 +1,5 @@
-// Copies, equality, basic formulas and substitution. The formulas are the parts of a conjunction in the scope of `?x` and `?y`, whose slots are 0 and 1; a variable below gets slot 2.
+// Copies, equality, basic formulas and substitution. The formulas are the parts of a conjunction in
+// the scope of `?x` and `?y`, whose slots are 0 and 1; a variable below gets slot 2.
 
 ghost use Rattle.std.specs.Prelude.{◌≡◌, length};
 
@@ -12,7 +13,8 @@ use tl_syntax::{
 };
 use tl_tables::{column, filled, is_row};
 
-/// The domain text of a row whose first column is the list of the parts. A part has at most 96 nested lists.
+/// The domain text of a row whose first column is the list of the parts. A part has at most 96
+/// nested lists.
 const DOMAIN: &str =
     "(domain d (predicate press 1) (predicate q 1) (predicate edge 2) (function f 1) (define (known) (press a)) (control (forall (?x ?y) (edge ?x ?y) (and {0}))))";
 
@@ -41,7 +43,8 @@ fn domain_of_row(alloc: Global, names: &mut Names, row: &str) -> Result<Domain, 
     filled_domain(alloc, names, DOMAIN, row.as_str())
 }
 
-/// Formulas that all differ, the last of them in the deepest trees of a file. Two lines of the same words differ in the offset of their sum.
+/// Formulas that all differ, the last of them in the deepest trees of a file. Two lines of the same
+/// words differ in the offset of their sum.
 const FORMULAS: &str = "(press a)
 (press ?x)
 (press ?y)
@@ -72,7 +75,8 @@ fn is_at<R: Abort>(rt: &R, formula: &Formula, formulas: &[Formula], place: usize
     }
 }
 
-/// Compares a copy of a formula with each of the formulas, of which only the one at `place` is the same.
+/// Compares a copy of a formula with each of the formulas, of which only the one at `place` is the
+/// same.
 fn is_one_of<R: Abort>(
     rt: &R,
     alloc: Global,
@@ -170,7 +174,8 @@ fn bound_of(f: &Formula) -> Option<&Bound> {
     }
 }
 
-/// Rows of a formula, of the same with the symbol `a` in place of the variable of a slot, and that slot. Both are read at the same place, so sums stand at the same offsets.
+/// Rows of a formula, of the same with the symbol `a` in place of the variable of a slot, and that
+/// slot. Both are read at the same place, so sums stand at the same offsets.
 const SUBSTITUTIONS: &str = "
 (press ?x) | (press a) | 0
 (press ?y) | (press ?y) | 0
@@ -220,7 +225,8 @@ fn bound_becomes<R: Abort>(
     Ok(())
 }
 
-/// Compares two formulas, of which the second is the first with values for the variables, and their bounds where both have one.
+/// Compares two formulas, of which the second is the first with values for the variables, and their
+/// bounds where both have one.
 fn have_values<R: Abort>(
     rt: &R,
     alloc: Global,

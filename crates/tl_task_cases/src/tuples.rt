@@ -1,4 +1,5 @@
-// The tuples of bounds: a bound is the only one of an operator with its parameters, and is read in the initial world.
+// The tuples of bounds: a bound is the only one of an operator with its parameters, and is read in
+// the initial world.
 ghost use Rattle.tl_syntax.specs.BoundVariables.{OccurIn, DifferInSlot};
 ghost use Rattle.tl_syntax.specs.Fits.{BoundFits};
 ghost use Rattle.tl_syntax.specs.Signature.{signature_of};
@@ -23,7 +24,8 @@ const PROBLEM: &str = "(problem q
  (init (p b) (p 10) (p -1) (p a) (edge a b) (edge b b) (edge b 10) (= (f a) b) (= (f b) b) (= (f 10) a))
  (goal (p c) (p 3) (edge c 3) (= (f c) 7) (= (f 3) c) (not (p a)) (not (p 2)) (not (edge a a))))";
 
-/// The tuple of the variables after this one that makes the bound true in the initial world; or the first such tuple.
+/// The tuple of the variables after this one that makes the bound true in the initial world; or the
+/// first such tuple.
 fn next_after(
     task: &Task,
     env: &Env,

@@ -32,7 +32,8 @@ abbrev pub is_value : Option Value → Value → Bool
 is_value (Some v) u = is_eq (value_cmp v u)
 is_value None u = false
 
--- every fact of the goal is in the world, every place of the goal has its value there, and no fact to avoid is in the world
+-- every fact of the goal is in the world, every place of the goal has its value there, and no fact
+-- to avoid is in the world
 unfoldable pub meets_goal : World → World → World → Bool
 meets_goal w goal avoid = list_all (has_fact w) (set.items goal.facts) && (list_all (λ k. is_value (value_at w k.0) k.1) (dict.entries goal.places) && list_all (λ k. not (has_fact w k)) (set.items avoid.facts))
 
@@ -50,7 +51,8 @@ all_but_last w (v ∷ ws) = w ∷ all_but_last v ws
 abbrev pub run_of : World → List World → Run
 run_of w ws = record { stem = all_but_last w ws; first = last_of w ws; rest = [] }
 
--- the plan executes, the goal is met in its last state, and the control formula holds along its states, the last of them repeated for ever (Bacchus and Kabanza 2000)
+-- the plan executes, the goal is met in its last state, and the control formula holds along its
+-- states, the last of them repeated for ever (Bacchus and Kabanza 2000)
 pub record IsAccepted (p : PlainProblem) (plan : List Action) : Type 0 where
   pub from : World
   pub after : List World

@@ -46,6 +46,7 @@ unfoldable pub tuples_of : List Value → ℕ → List (List Value)
 tuples_of vs zero = [] ∷ []
 tuples_of vs (suc n) = flat_map (λ v. map (λ t. v ∷ t) (tuples_of vs n)) vs
 
--- the tuples that make the bound true, in their order (Bacchus and Kabanza 2000, bounded quantification)
+-- the tuples that make the bound true, in their order (Bacchus and Kabanza 2000, bounded
+-- quantification)
 unfoldable pub tuples : Situation → Assignment → List Var → Bound → List (List Value)
 tuples s e ss b = filter (λ t. bound_true s (bind ss t e) b) (tuples_of (values_of (s.world ∷ s.goal ∷ s.avoid ∷ [])) (length ss))

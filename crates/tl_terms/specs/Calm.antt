@@ -19,7 +19,9 @@ pub record IsReached (p : PlainProblem) (n : ℕ) (path : List Action) : Type 0 
   pub short : length path ≤ n
   pub begins : (path ≡ []) ⊎ ((front : List Action) × (a : Action) × (path ≡ front ++ a ∷ []) × IsOpen p front)
 
--- nothing past range is looked at after a path with these states: by progressing what comes in, and, where the path is open, by the idling check of its residual and, where it is shorter than n, by an action
+-- nothing past range is looked at after a path with these states: by progressing what comes in,
+-- and, where the path is open, by the idling check of its residual and, where it is shorter than n,
+-- by an action
 pub record IsCalmAfter (p : PlainProblem) (n : ℕ) (path : List Action) (from : World) (after : List World) : Type 0 where
   pub progressing : NonePastRange (looked_by_progressing p (last_of from after) (residual p (all_but_last from after) p.control))
   pub idling : IsOpen p path → NonePastRange (looked_by_idling p (last_of from after) (residual p (from ∷ after) p.control))

@@ -24,7 +24,8 @@ table_of ts n vs = asked (slice_get ts n) vs
 abbrev pub situation_under : PlainProblem → World → Tests → Situation
 situation_under p w ts = record { world = w; goal = p.goal; avoid = p.avoid; table = table_of ts }
 
--- the body of the definition after the earlier ones, at a level, is true of the values: its own name means the body one level lower, and at level 1 false
+-- the body of the definition after the earlier ones, at a level, is true of the values: its own
+-- name means the body one level lower, and at level 1 false
 unfoldable pub true_at_level : PlainProblem → World → Tests → PlainDefinition → ℕ → List Value → Bool
 true_at_level p w earlier d zero vs = false
 true_at_level p w earlier d (suc k) vs = state_true (situation_under p w (earlier ++ true_at_level p w earlier d k ∷ [])) (bind d.params vs no_values) d.body

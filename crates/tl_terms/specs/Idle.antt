@@ -7,7 +7,8 @@ use Rattle.tl_syntax.specs.Assignment.{Assignment, bind}
 use Rattle.tl_terms.specs.Bounds.{tuples}
 use Rattle.tl_terms.specs.Truth.{state_true}
 
--- each temporal word of one formula means that formula, and `until` means its second part (the idling check, Bacchus and Kabanza 2000)
+-- each temporal word of one formula means that formula, and `until` means its second part (the
+-- idling check, Bacchus and Kabanza 2000)
 unfoldable mutual
   pub idle_true : Situation → Assignment → FormulaTree → Bool
   idle_true s e verum = true

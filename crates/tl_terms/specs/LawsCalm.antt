@@ -7,7 +7,8 @@ use Rattle.tl_terms.specs.Looked.{looked_by_action, looked_along}
 use Rattle.tl_terms.specs.Problem.{PlainProblem}
 use Rattle.tl_terms.specs.World.{World}
 
--- no action looks at an operation, nor does the control formula along any states, and a search of any length meets none past range
+-- no action looks at an operation, nor does the control formula along any states, and a search of
+-- any length meets none past range
 pub record LooksAtNothing (p : PlainProblem) : Type 0 where
   pub acting : (w : World) (a : Action) → looked_by_action p w a ≡ []
   pub along : (ws : List World) (k : ℕ) → looked_along p ws k p.control ≡ []

@@ -5,7 +5,8 @@ use Rattle.tl_syntax.specs.Keys.{Key}
 use Rattle.tl_terms.specs.World.{World, has_fact, value_at}
 use Rattle.tl_terms.specs.Acceptance.{meets_goal}
 
--- each fact of the goal is in the world, each place of the goal has its value there, and no fact to avoid is there
+-- each fact of the goal is in the world, each place of the goal has its value there, and no fact to
+-- avoid is there
 pub record MeetsGoal (w goal avoid : World) : Type 0 where
   pub facts : (k : Key) → IsTrue (has_fact goal k) → IsTrue (has_fact w k)
   pub places : (k : Key) (v : Value) → value_at goal k ≡ Some v → value_at w k ≡ Some v

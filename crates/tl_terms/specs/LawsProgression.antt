@@ -15,11 +15,13 @@ use Rattle.tl_terms.specs.Simplification.{simplified_not, simplified_and, simpli
 use Rattle.tl_terms.specs.Progression.{constant, progressed}
 use Rattle.tl_terms.specs.Pairs.{residual, Pair, pair_of, IsOpen, IsPairAccepted}
 
--- the progression lemma (Bacchus and Kabanza 2000): a formula holds at a position exactly where its progression through the world there holds at the next
+-- the progression lemma (Bacchus and Kabanza 2000): a formula holds at a position exactly where its
+-- progression through the world there holds at the next
 abbrev pub ProgressionLemma : Type 0
 ProgressionLemma = (p : PlainProblem) (r : Run) (i : ℕ) (f : FormulaTree) → Satisfies p r i f ↔ Satisfies p r (suc i) (progressed (situation_of p (state_at r i)) no_values f)
 
--- the same over any infinite sequence of worlds: a formula fails at a position exactly where its progression through the world there fails at the next
+-- the same over any infinite sequence of worlds: a formula fails at a position exactly where its
+-- progression through the world there fails at the next
 abbrev pub ProgressionLemmaAlong : Type 0
 ProgressionLemmaAlong = (p : PlainProblem) (s : Worlds) (i : ℕ) (f : FormulaTree)
     → (SatisfiesAlong p s i f → ⊥) ↔ (SatisfiesAlong p s (suc i) (progressed (situation_of p (s i)) no_values f) → ⊥)
@@ -81,6 +83,7 @@ pub record ProgressesByTheTable (s : Situation) (f g : FormulaTree) (n : ℕ) : 
 abbrev pub ProgressionTable : Type 0
 ProgressionTable = (s : Situation) (f g : FormulaTree) (n : ℕ) → ProgressesByTheTable s f g n
 
--- a path is open exactly where it executes and its own residual is not FALSE: what is FALSE stays so
+-- a path is open exactly where it executes and its own residual is not FALSE: what is FALSE stays
+-- so
 abbrev pub OpenByItsResidual : Type 0
 OpenByItsResidual = (p : PlainProblem) (path : List Action) → IsOpen p path ↔ ((x : Pair) × (pair_of p path ≡ Some x) × (x.formula ≢ falsum))

@@ -12,7 +12,9 @@ use Rattle.tl_terms.specs.Truth.{state_true}
 use Rattle.tl_terms.specs.Definitions.{situation_of}
 use Rattle.tl_terms.specs.Step.{EffectInstance, all_instances, is_defined, added, deleted, given, changed, step}
 
--- the instances of effects lead from w to v: each is defined, no place is set to two values, each fact is there that is added, or was there and is not deleted, each place that is set has its value, and every other place is as it was
+-- the instances of effects lead from w to v: each is defined, no place is set to two values, each
+-- fact is there that is added, or was there and is not deleted, each place that is set has its
+-- value, and every other place is as it was
 pub record IsChange (w : World) (cs : List EffectInstance) (v : World) : Type 0 where
   pub all_defined : Each (λ c. IsTrue (is_defined c)) cs
   pub one_value : (k : Key) (a b : Value) → Among (k, a) (flat_map given cs) → Among (k, b) (flat_map given cs) → a ≡ b
@@ -24,7 +26,8 @@ pub record IsChange (w : World) (cs : List EffectInstance) (v : World) : Type 0 
 abbrev pub arguments_of : PlainOperator → Action → Assignment
 arguments_of o a = bind o.params a.args no_values
 
--- the action is executable in w and leads to v: its operator exists, has as many parameters as it has arguments, its bounds and its precondition are true in w, and its effects lead to v
+-- the action is executable in w and leads to v: its operator exists, has as many parameters as it
+-- has arguments, its bounds and its precondition are true in w, and its effects lead to v
 pub record IsStep (p : PlainProblem) (w : World) (a : Action) (v : World) : Type 0 where
   pub operator : PlainOperator
   pub exists : slice_get p.operators a.op ≡ Some operator

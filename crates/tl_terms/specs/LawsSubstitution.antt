@@ -31,7 +31,8 @@ pub record QuantifiersHoldByInstances (p : PlainProblem) (r : Run) (i : ℕ) (ss
   pub of_forall : Satisfies p r i (for_all ss b f) ↔ Each (λ t. Satisfies p r i (instance ss f t)) (tuples (situation_of p (state_at r i)) no_values ss b)
   pub of_exists : Satisfies p r i (for_some ss b f) ↔ One (λ t. Satisfies p r i (instance ss f t)) (tuples (situation_of p (state_at r i)) no_values ss b)
 
--- a `forall` progresses to the conjunction of its progressed instances, and an `exists` to the disjunction, in tuple order
+-- a `forall` progresses to the conjunction of its progressed instances, and an `exists` to the
+-- disjunction, in tuple order
 pub record QuantifiersProgressByInstances (s : Situation) (ss : List Var) (b : Bound) (f : FormulaTree) : Type 0 where
   pub of_forall : progressed s no_values (for_all ss b f) ≡ simplified_and (map (λ t. progressed s no_values (instance ss f t)) (tuples s no_values ss b))
   pub of_exists : progressed s no_values (for_some ss b f) ≡ simplified_or (map (λ t. progressed s no_values (instance ss f t)) (tuples s no_values ss b))

@@ -10,7 +10,8 @@ use Rattle.tl_terms.specs.Acceptance.{states}
 use Rattle.tl_terms.specs.ProblemMeaning.{plain_problem}
 use Rattle.tl_terms.specs.World.{World}
 
--- where all integers and all values that the problem writes down pass a test, the arguments of a plan that executes pass it
+-- where all integers and all values that the problem writes down pass a test, the arguments of a
+-- plan that executes pass it
 abbrev pub ExecutedArgumentsPass : Type 0
 ExecutedArgumentsPass =
     (p : Problem) (test : Value → Bool) (plan : List Action) (ws : List World) →

@@ -33,7 +33,8 @@ operation_on at op _ _ = []
 abbrev pub followed_if : Bool → List Operation → List Operation → List Operation
 followed_if goes_on first others = first ++ cond goes_on others []
 
--- looked at in a term, and in a list of terms; an undefined argument and an operand that is no integer decide
+-- looked at in a term, and in a list of terms; an undefined argument and an operand that is no
+-- integer decide
 unfoldable mutual
   pub looked_in_term : World → Assignment → TermTree → List Operation
   looked_in_term w e (variable s) = []
@@ -108,7 +109,8 @@ looks_asked None vs = []
 abbrev pub looked_table : Looks → LookedTable
 looked_table ls n vs = looks_asked (slice_get ls n) vs
 
--- looked at in the body of the definition after the earlier ones, at a level; where the levels are used up, nothing
+-- looked at in the body of the definition after the earlier ones, at a level; where the levels are
+-- used up, nothing
 unfoldable pub looked_at_level : PlainProblem → World → Tests → Looks → PlainDefinition → ℕ → List Value → List Operation
 looked_at_level p w ts ls d zero vs = []
 looked_at_level p w ts ls d (suc k) vs = looked_in_state (looked_table (ls ++ looked_at_level p w ts ls d k ∷ [])) (situation_under p w (ts ++ true_at_level p w ts d k ∷ [])) (bind d.params vs no_values) d.body
@@ -122,7 +124,8 @@ looks_over p w ts ls (d ∷ ds) = looks_over p w (with_tests_of p w ts d) (ls ++
 unfoldable pub looks_of : PlainProblem → World → LookedTable
 looks_of p w = looked_table (looks_over p w [] [] p.definitions)
 
--- looked at in all basic formulas, those below a `next` where n says so, and for all tuples that make their bounds true in one of the situations bs
+-- looked at in all basic formulas, those below a `next` where n says so, and for all tuples that
+-- make their bounds true in one of the situations bs
 unfoldable mutual
   pub looked_in_basics : Bool → LookedTable → List Situation → Situation → Assignment → FormulaTree → List Operation
   looked_in_basics n d bs s e verum = []
@@ -157,7 +160,8 @@ looked_by_progressing p w f = looked_in_basics false (looks_of p w) (situation_o
 unfoldable pub looked_by_idling : PlainProblem → World → FormulaTree → List Operation
 looked_by_idling p w f = looked_in_basics true (looks_of p w) (situation_of p w ∷ []) (situation_of p w) no_values f
 
--- looked at by the formula in a world at the end of these worlds, whose bounds may be true in any of them
+-- looked at by the formula in a world at the end of these worlds, whose bounds may be true in any
+-- of them
 abbrev pub looked_after : PlainProblem → List World → Option World → FormulaTree → List Operation
 looked_after p ws None f = []
 looked_after p ws (Some w) f = looked_in_basics true (looks_of p w) (map (situation_of p) ws) (situation_of p w) no_values f
@@ -171,7 +175,8 @@ unfoldable pub looked_in_each : World → Assignment → TermTrees → List Oper
 looked_in_each w e no_term = []
 looked_in_each w e (more_terms t ts) = looked_in_term w e t ++ looked_in_each w e ts
 
--- looked at in conditions, arguments and values of effects, those inside a `when` only where its condition is true
+-- looked at in conditions, arguments and values of effects, those inside a `when` only where its
+-- condition is true
 unfoldable mutual
   pub looked_in_effect : LookedTable → Situation → Assignment → EffectTree → List Operation
   looked_in_effect d s e (add p ts) = looked_in_each s.world e ts
@@ -184,7 +189,8 @@ unfoldable mutual
   looked_in_effects d s e no_effect = []
   looked_in_effects d s e (more_effects x xs) = looked_in_effect d s e x ++ looked_in_effects d s e xs
 
--- looked at by the operator with these arguments: nothing where a bound is false, else the precondition, and where that is true the effects
+-- looked at by the operator with these arguments: nothing where a bound is false, else the
+-- precondition, and where that is true the effects
 unfoldable pub looked_by_operator : PlainProblem → World → PlainOperator → List Value → List Operation
 looked_by_operator p w o vs =
     let s = situation_of p w in

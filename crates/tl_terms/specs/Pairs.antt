@@ -15,7 +15,8 @@ unfoldable pub residual : PlainProblem → List World → FormulaTree → Formul
 residual p [] f = f
 residual p (w ∷ ws) f = residual p ws (progressed (situation_of p w) no_values f)
 
--- a search node (Bacchus and Kabanza 2000): a world, and the formula that has to hold from the next position on
+-- a search node (Bacchus and Kabanza 2000): a world, and the formula that has to hold from the next
+-- position on
 pub record Pair : Type 0 where
   pub world : World
   pub formula : FormulaTree

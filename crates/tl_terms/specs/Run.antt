@@ -14,7 +14,8 @@ use Rattle.tl_terms.specs.Definitions.{situation_of}
 abbrev pub Situations : Type 0
 Situations = ℕ → Situation
 
--- the formula holds at position i (linear temporal logic, Pnueli 1977; with bounded quantifiers, Bacchus and Kabanza 2000); a basic formula is read in the situation there
+-- the formula holds at position i (linear temporal logic, Pnueli 1977; with bounded quantifiers,
+-- Bacchus and Kabanza 2000); a basic formula is read in the situation there
 unfoldable mutual
   pub Holds : Situations → Assignment → FormulaTree → ℕ → Type 0
   Holds r e verum i = Unit {0}
@@ -45,7 +46,8 @@ unfoldable mutual
   HoldsOne r e no_formula i = ⊥
   HoldsOne r e (more_formulas f fs) i = Holds r e f i ⊎ HoldsOne r e fs i
 
--- a lasso (Sistla and Clarke 1985): a finite list of worlds, the stem, and a loop of one or more worlds, `first` and `rest`, that is repeated for ever after it
+-- a lasso (Sistla and Clarke 1985): a finite list of worlds, the stem, and a loop of one or more
+-- worlds, `first` and `rest`, that is repeated for ever after it
 pub record Run : Type 0 where
   pub stem : List World
   pub first : World
@@ -63,7 +65,8 @@ Worlds = ℕ → World
 abbrev pub situations_along : PlainProblem → Worlds → Situations
 situations_along p ws i = situation_of p (ws i)
 
--- the formula holds at position i of the sequence, under the goal list and the definitions of the problem
+-- the formula holds at position i of the sequence, under the goal list and the definitions of the
+-- problem
 unfoldable pub SatisfiesAlong : PlainProblem → Worlds → ℕ → FormulaTree → Type 0
 SatisfiesAlong p ws i f = Holds (situations_along p ws) no_values f i
 

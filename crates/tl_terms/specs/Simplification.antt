@@ -60,11 +60,13 @@ disjunction_of [] = falsum
 disjunction_of (f ∷ []) = f
 disjunction_of (f ∷ (g ∷ fs)) = disjunction (more_formulas f (more_formulas g (formulas_of_list fs)))
 
--- the conjunction of the formulas: inner conjunctions are opened, a part `false` gives `false`, each `true` is dropped, of equal parts the first stays
+-- the conjunction of the formulas: inner conjunctions are opened, a part `false` gives `false`,
+-- each `true` is dropped, of equal parts the first stays
 unfoldable pub simplified_and : List FormulaTree → FormulaTree
 simplified_and fs = let ps = flat_map and_parts fs in cond (list_any is_falsum ps) falsum (conjunction_of (without_repeats (filter (λ f. not (is_verum f)) ps)))
 
--- the disjunction of the formulas: inner disjunctions are opened, a part `true` gives `true`, each `false` is dropped, of equal parts the first stays
+-- the disjunction of the formulas: inner disjunctions are opened, a part `true` gives `true`, each
+-- `false` is dropped, of equal parts the first stays
 unfoldable pub simplified_or : List FormulaTree → FormulaTree
 simplified_or fs = let ps = flat_map or_parts fs in cond (list_any is_verum ps) verum (disjunction_of (without_repeats (filter (λ f. not (is_falsum f)) ps)))
 

@@ -7,7 +7,8 @@ use Rattle.tl_terms.specs.World.{World}
 abbrev pub DefinitionTruths : Type 0
 DefinitionTruths = ℕ → List Value → Bool
 
--- the world, the facts and places of the goal list, its negated facts, and what the definitions say of the world
+-- the world, the facts and places of the goal list, its negated facts, and what the definitions say
+-- of the world
 pub record Situation : Type 0 where
   pub world : World
   pub goal : World

@@ -72,7 +72,8 @@ abbrev pub overwritten : dict.FinMap key_cmp Value → List (Key × Value) → d
 overwritten m [] = m
 overwritten m (p ∷ ps) = dict.insert (overwritten m ps) p.0 p.1
 
--- the facts without the deleted ones and with the added ones, so that a fact which is both is there; the places overwritten by the set ones
+-- the facts without the deleted ones and with the added ones, so that a fact which is both is
+-- there; the places overwritten by the set ones
 unfoldable pub changed : World → List EffectInstance → World
 changed w cs = record {
   facts = with_all (without_all w.facts (flat_map deleted cs)) (flat_map added cs);

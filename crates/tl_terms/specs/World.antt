@@ -1,11 +1,13 @@
--- A world is a finite set of facts and a finite map of places, under the closed-world assumption (Reiter 1978).
+-- A world is a finite set of facts and a finite map of places, under the closed-world assumption
+-- (Reiter 1978).
 use Rattle.std.specs.Prelude.{map, List, [], ◌∷◌, ◌++◌, flat_map, Bool, Option}
 use Rattle.std.specs.FinSet as set
 use Rattle.std.specs.FinMap as dict
 use Rattle.tl_syntax.specs.declared.value.Value.{Value}
 use Rattle.tl_syntax.specs.Keys.{Key, key_cmp, value_cmp}
 
--- the facts that are true, and the values of the places that have one; what is not there is false or undefined
+-- the facts that are true, and the values of the places that have one; what is not there is false
+-- or undefined
 pub record World : Type 0 where
   pub facts : set.FinSet key_cmp
   pub places : dict.FinMap key_cmp Value

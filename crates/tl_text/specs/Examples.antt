@@ -23,7 +23,8 @@ the_last_action = refl
 pub one_action_more : limit_breaks 100000 0 ≡ (Limit, 0) ∷ []
 one_action_more = refl
 
--- past the limit a list that begins with a symbol breaks the limit first, and another form the rule on its shape
+-- past the limit a list that begins with a symbol breaks the limit first, and another form the rule
+-- on its shape
 pub a_surplus_action : first_break (placed_breaks [] [] 100000 (list (trees_of_list (symbol (codes "jump") 4 ∷ [])) 3)) ≡ Some (Limit, 3)
 a_surplus_action = refl
 

@@ -6,7 +6,8 @@ use Rattle.tl_syntax.specs.declared.operator.Operator.{Operator}
 use Rattle.tl_rules.specs.Rules.{Break, first_break, IsLeastBreak}
 use Rattle.tl_text.specs.Plans.{plan_breaks}
 
--- of the breaks of a plan file whose forms have rising offsets, the first in reading order has the least offset, and there the least rule
+-- of the breaks of a plan file whose forms have rising offsets, the first in reading order has the
+-- least offset, and there the least rule
 abbrev pub FirstBreakIsLeast : Type 0
 FirstBreakIsLeast =
     (names : List (List ℕ)) (operators : List Operator) (forms : FormTrees) (low next : ℕ) (b : Break) →

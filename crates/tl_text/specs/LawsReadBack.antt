@@ -20,7 +20,8 @@ pub record AreReadAs (names : List (List ℕ)) (operators : List Operator) (byte
   pub unbroken : plan_breaks names operators forms ≡ []
   pub meant : plan_meant names operators forms ≡ plan
 
--- where operators have different names, the lines of at most 100000 actions that can be written are a plan file of these actions
+-- where operators have different names, the lines of at most 100000 actions that can be written are
+-- a plan file of these actions
 abbrev pub LinesAreReadBack : Type 0
 LinesAreReadBack =
     (names : List (List ℕ)) (operators : List Operator) (plan : List Action) →

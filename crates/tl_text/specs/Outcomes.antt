@@ -23,7 +23,8 @@ plan_text names operators plan = plan_line (length plan) ++ action_lines names o
 abbrev pub none_within_text : ℕ → List ℕ
 none_within_text n = codes "; none within " ++ (decimal n ++ codes "\n")
 
--- the lines of what a search for plans of at most n actions, which keeps at most b search nodes, answers
+-- the lines of what a search for plans of at most n actions, which keeps at most b search nodes,
+-- answers
 abbrev pub outcome_text : List (List ℕ) → List Operator → ℕ → ℕ → Outcome → List ℕ
 outcome_text names operators n b (Plan plan) = plan_text names operators plan
 outcome_text names operators n b NoPlan = none_text

@@ -33,7 +33,8 @@ event_text names domain kept (event.Pruned j a) = codes "; pruned " ++ (decimal 
 abbrev pub trace_text : List (List ℕ) → Domain → List KeptPair → List Event → List ℕ
 trace_text names domain kept events = flat_map (event_text names domain kept) events
 
--- the action of the event is of the domain's operators and names only these names, and the numbers of its pairs are below n
+-- the action of the event is of the domain's operators and names only these names, and the numbers
+-- of its pairs are below n
 abbrev pub EventIsWritable : List (List ℕ) → Domain → ℕ → Event → Type 0
 EventIsWritable names domain n event.RootKept = 0 < n
 EventIsWritable names domain n event.RootPruned = Unit {0}

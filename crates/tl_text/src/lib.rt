@@ -1,6 +1,7 @@
 //! Plan files, and the texts of answers.
 //!
-//! The definitions stand in `specs/`: the rules that the forms of a plan file break, the plan that they stand for, and the bytes of each answer.
+//! The definitions stand in `specs/`: the rules that the forms of a plan file break, the plan that
+//! they stand for, and the bytes of each answer.
 //!
 //! - `plans`: the reader of plan files.
 //! - `refusals`: the text for a file that is refused.

@@ -39,7 +39,8 @@ fn actions_before(alloc: Global, after: u32) -> Result<String, AllocError>
     format!(in alloc; "; after {after} actions\n")
 }
 
-/// The lines for an operation that is past range after `after` actions, and then a line for each action of the path.
+/// The lines for an operation that is past range after `after` actions, and then a line for each
+/// action of the path.
 /// The actions of the path have to be those of the problem, with its names.
 pub fn range_text(
     alloc: Global,

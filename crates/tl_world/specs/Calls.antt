@@ -47,7 +47,8 @@ lacks_table w t = list_all (λ a. not (has_row w t.name a)) t.rows.value
 abbrev pub IsNamedByParts : List Fact → List PlaceValue → World → Type 0
 IsNamedByParts facts places w = (n : ℕ) → Each (FactIsNamed n) facts → Each (PlaceIsNamed n) places → WorldIsNamed n w
 
--- where a world, the facts that are added and the places that are set are named, so is the world after
+-- where a world, the facts that are added and the places that are set are named, so is the world
+-- after
 abbrev pub StaysNamedWith : World → List Fact → List PlaceValue → World → Type 0
 StaysNamedWith old adds sets new = (n : ℕ) → WorldIsNamed n old → Each (FactIsNamed n) adds → Each (PlaceIsNamed n) sets → WorldIsNamed n new
 

@@ -1,4 +1,5 @@
--- The leading values of a row that a pattern asks for, as far as the values of its first variables are known.
+-- The leading values of a row that a pattern asks for, as far as the values of its first variables
+-- are known.
 use Rattle.std.specs.Prelude.{◌≡◌, ◌≤◌, ℕ, ◌+◌, List, [], ◌∷◌, Bool, true, false, ◌&&◌, cond, ◌==◌, nat_le, Option, Some, None, slice_get, length, take, drop}
 use Rattle.std.specs.declared.cmp.Ordering.{Ordering}
 use Rattle.std.specs.declared.cmp.Ordering.TheVariants.{Less, Equal, Greater}
@@ -20,7 +21,8 @@ abbrev pub seen_after : ℕ → Part → ℕ
 seen_after n (Fixed v) = n
 seen_after n (Free m) = cond (m == n) (n + 1) n
 
--- a tuple that begins with the first n of the old values and makes the part v begins with the new ones as far as they are known after the part
+-- a tuple that begins with the first n of the old values and makes the part v begins with the new
+-- ones as far as they are known after the part
 abbrev pub BeginsOn : Part → Value → ℕ → List Value → List Value → Type 0
 BeginsOn p v n old new = (t : List Value) → BeginsAs n old t → fits_at p v t ≡ true → BeginsAs (seen_after n p) new t
 
@@ -34,7 +36,8 @@ abbrev pub led_by : Option Value → List Value → List Value
 led_by None vs = []
 led_by (Some v) vs = v ∷ vs
 
--- the values of the leading parts, up to the first part without a known value or with a variable out of turn
+-- the values of the leading parts, up to the first part without a known value or with a variable
+-- out of turn
 abbrev pub front : ℕ → List Part → List Value → List Value
 front n [] known = []
 front n (p ∷ ps) known = led_by (known_value n known p) (front (seen_after n p) ps known)

@@ -27,7 +27,8 @@ unfoldable pub IsLeast : ℕ → (List Value → Bool) → Option Match → Type
 IsLeast k c None = (t : List Value) → length t ≡ k → c t ≡ false
 IsLeast k c (Some m) = (m.len ≡ k) × (length (take k m.values) ≡ k) × (c (take k m.values) ≡ true) × ((t : List Value) → length t ≡ k → c t ≡ true → is_gt (row_cmp (take k m.values) t) ≡ false)
 
--- the match that was found, where it comes after `after` and before the best so far, and else the best so far
+-- the match that was found, where it comes after `after` and before the best so far, and else the
+-- best so far
 abbrev pub lesser : Option Match → Option Match → Option Match → ℕ → Option Match
 lesser best None after k = best
 lesser best (Some m) after k = cond (above after k (take k m.values) && lower best k (take k m.values)) (Some m) best
@@ -55,7 +56,8 @@ match_in_place false m = None
 abbrev pub PutsNext : ℕ → List Part → List (List Value) → Bool → Match → Bool → Match → Type 0
 PutsNext k ps rows b old c new = IsLeast k (λ t. fits_some ps rows t && above (match_in_place b old) k t) (match_in_place c new)
 
--- the values that were found, where any were, are the least tuple that makes the parts one of the rows
+-- the values that were found, where any were, are the least tuple that makes the parts one of the
+-- rows
 abbrev pub IsLeastOf : ℕ → List Part → List (List Value) → Bool → List Value → Type 0
 IsLeastOf k ps rows found values = IsLeast k (λ t. fits_some ps rows t) (match_if found k values)
 

@@ -16,13 +16,15 @@ abbrev pub pattern_if : Bool → Pattern → Option Pattern
 pattern_if true p = Some p
 pattern_if false p = None
 
--- a reader: its world, the pattern that it goes by, where there is one, and the tuple that it has come to, where there is one
+-- a reader: its world, the pattern that it goes by, where there is one, and the tuple that it has
+-- come to, where there is one
 pub record Reading : Type 0 where
   pub world : World
   pub pattern : Option Pattern
   pub tuple : Option (List Value)
 
--- of the tuples that make the pattern true in the world, it is the least one after the first, where that is given; without a pattern there is none
+-- of the tuples that make the pattern true in the world, it is the least one after the first, where
+-- that is given; without a pattern there is none
 abbrev pub IsNextBy : World → Option Pattern → Option (List Value) → Option (List Value) → Type 0
 IsNextBy w None after next = next ≡ None
 IsNextBy w (Some p) after next = IsNext p.free (makes_true w p) after next
@@ -33,7 +35,8 @@ pub record ReadsOn (old new : Reading) : Type 0 where
   pub pattern : new.pattern ≡ old.pattern
   pub next : IsNextBy old.world old.pattern old.tuple new.tuple
 
--- the rows are those by which the pattern is true in the world, and from the place on they have its tuples after the one in place
+-- the rows are those by which the pattern is true in the world, and from the place on they have its
+-- tuples after the one in place
 pub record GoesThrough (w : World) (p : Pattern) (begun : Bool) (m : Match) (place : ℕ) (rows : List (List Value)) : Type 0 where
   pub turn : are_in_turn 0 (parts_of p) ≡ true
   pub order : Rises row_cmp rows
@@ -41,7 +44,8 @@ pub record GoesThrough (w : World) (p : Pattern) (begun : Bool) (m : Match) (pla
   pub bound : place ≤ length rows
   pub later : HasLater (parts_of p) begun (take p.free m.values) rows place
 
--- what each reader keeps: the pattern is lawful, the tuple that it has come to has a value for each variable, and it goes through the rows that it has; without a pattern it has neither
+-- what each reader keeps: the pattern is lawful, the tuple that it has come to has a value for each
+-- variable, and it goes through the rows that it has; without a pattern it has neither
 abbrev pub CanReadOn : World → Option Pattern → Bool → Match → ℕ → Option (List (List Value)) → Type 0
 CanReadOn w None begun m place rows = (begun ≡ false) × (rows ≡ None)
 CanReadOn w (Some p) begun m place rows = IsLawful p × (begun ≡ true → m.len ≡ p.free) × IfSome rows (GoesThrough w p begun m place)

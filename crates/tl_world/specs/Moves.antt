@@ -1,4 +1,5 @@
--- Rows of which one is taken out and one is put in, and sets of facts that differ in some facts alone.
+-- Rows of which one is taken out and one is put in, and sets of facts that differ in some facts
+-- alone.
 use Rattle.std.specs.Prelude.{◌≡◌, ◌+◌, ◌-◌, ◌<◌, ◌≤◌, ◌⊎◌, ℕ, List, false, cond, length, map, slice_index_or, Err}
 use Rattle.std.proofs.Common.{leb}
 use Rattle.std.specs.FinSet as set
@@ -39,14 +40,16 @@ moved_by rows step = row_moved rows step.cut step.at step.row.now
 abbrev pub HasRowAt : List Value → List (List Value) → ℕ → Type 0
 HasRowAt args rows k = (k < length rows) × HoldsAt (λ (r : List Value). row_cmp r args ≡ Equal) rows k
 
--- the fact at place `found.0` of the list is of the table with the number n, and not among its rows: it would stand at place `found.1`
+-- the fact at place `found.0` of the list is of the table with the number n, and not among its
+-- rows: it would stand at place `found.1`
 pub record IsComing (rows : List (List Value)) (n : ℕ) (facts : List Fact) (found : ℕ × ℕ) : Type 0 where
   pub below : found.0 < length facts
   pub of_table : (d : Fact) → (slice_index_or facts found.0 d).pred ≡ n
   pub within : found.1 ≤ length rows
   pub absent : (d : Fact) → IsBinarySearchResult (λ (r : List Value). row_cmp r (slice_index_or facts found.0 d).args) rows (Err found.1)
 
--- the rows without that at place `cut`, and with the arguments of one of the facts, which are not among them
+-- the rows without that at place `cut`, and with the arguments of one of the facts, which are not
+-- among them
 pub record IsMoved (rows : List (List Value)) (cut n : ℕ) (facts : List Fact) (after : List (List Value)) : Type 0 where
   pub fact : Fact
   pub at : ℕ

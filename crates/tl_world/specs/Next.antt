@@ -25,11 +25,13 @@ abbrev pub IsNext : ℕ → (List Value → Bool) → Option (List Value) → Op
 IsNext k test after None = (t : List Value) → ¬ IsLater k test after t
 IsNext k test after (Some m) = IsLater k test after m × ((t : List Value) → IsLater k test after t → is_gt (row_cmp m t) ≡ false)
 
--- the least tuple after the one in place that makes the pattern true in the world is put in place, where there is one
+-- the least tuple after the one in place that makes the pattern true in the world is put in place,
+-- where there is one
 abbrev pub PutsNextMatch : World → Pattern → Bool → Match → Bool → Match → Type 0
 PutsNextMatch w p b old c new = IsNext p.free (makes_true w p) (tuple_in_place b old) (tuple_in_place c new)
 
--- the least tuple after the one in place that makes the pattern a fact of the world, or a place with its value, is put in place
+-- the least tuple after the one in place that makes the pattern a fact of the world, or a place
+-- with its value, is put in place
 abbrev pub PutsNextOf : World → Bool → Pattern → Bool → Match → Bool → Match → Type 0
 PutsNextOf w place p b old c new =
     IsLeast p.free (λ t. is_true_of w place p.name (filled (parts_of p) t) && above (match_in_place b old) p.free t) (match_in_place c new)
@@ -39,7 +41,8 @@ abbrev pub IsChain : ℕ → (List Value → Bool) → Option (List Value) → L
 IsChain k test after [] = IsNext k test after None
 IsChain k test after (t ∷ ts) = IsNext k test after (Some t) × IsChain k test (Some t) ts
 
--- the chain of the tuples that make a pattern true has all of them, each once, in lexicographic value order
+-- the chain of the tuples that make a pattern true has all of them, each once, in lexicographic
+-- value order
 abbrev pub ChainHasAllMatches : Type 0
 ChainHasAllMatches = (w : World) (p : Pattern) (ts : List (List Value)) → IsChain p.free (makes_true w p) None ts → Rises row_cmp ts × ((t : List Value) → Among t ts ↔ ((length t ≡ p.free) × (makes_true w p t ≡ true)))
 

@@ -1,4 +1,5 @@
--- Patterns: bounds with their known values put in (Bacchus and Kabanza 2000, bounded quantification).
+-- Patterns: bounds with their known values put in (Bacchus and Kabanza 2000, bounded
+-- quantification).
 use Rattle.std.specs.Prelude.{◌≡◌, ◌↔◌, ◌≤◌, ◌<◌, ◌-◌, ℕ, List, Bool, true, false, map, length, take, slice_get, slice_index_or, Option, Some, None}
 use Rattle.tl_syntax.specs.declared.value.Value.{Value}
 use Rattle.tl_syntax.specs.declared.value.Value.TheVariants.{Sym}
@@ -23,7 +24,8 @@ filled ps t = map (fill t) ps
 abbrev pub parts_of : Pattern → List Part
 parts_of p = take p.len p.parts
 
--- whether the fact is in the world, or the place of all values but the last has the last as its value
+-- whether the fact is in the world, or the place of all values but the last has the last as its
+-- value
 abbrev pub is_true_of : World → Bool → ℕ → List Value → Bool
 is_true_of w false n vs = has_fact w (n, vs)
 is_true_of w true n vs = same_value (value_at w (n, take (length vs - 1) vs)) (slice_get vs (length vs - 1))
@@ -32,7 +34,8 @@ is_true_of w true n vs = same_value (value_at w (n, take (length vs - 1) vs)) (s
 abbrev pub makes_true : World → Pattern → List Value → Bool
 makes_true w p t = is_true_of w p.place p.name (filled (parts_of p) t)
 
--- what each pattern keeps: at most 9 parts, at least one for a place, and the variables among the parts are exactly those below `free`
+-- what each pattern keeps: at most 9 parts, at least one for a place, and the variables among the
+-- parts are exactly those below `free`
 pub record IsLawful (p : Pattern) : Type 0 where
   pub parts : p.len ≤ 9
   pub variables : p.free ≤ 9

@@ -35,7 +35,8 @@ GainsPlaceAt old k args v new = new.rows.value ≡ place_put old.rows.value k ar
 abbrev pub ArePlacesPassed : List Value → List PlaceRow → ℕ → Type 0
 ArePlacesPassed f rows i = Each (λ r. front_cmp f r.args ≡ Greater) (take i rows)
 
--- whether the leading parts and the last one are the place's arguments and its value under the tuple's values
+-- whether the leading parts and the last one are the place's arguments and its value under the
+-- tuple's values
 abbrev pub fits_place : List Part → Part → PlaceRow → List Value → Bool
 fits_place lead last r t = fits_all (lead ++ last ∷ []) (whole_row r) t
 

@@ -1,4 +1,5 @@
--- The rows of a table with their first two values exchanged, which a large table also keeps in order.
+-- The rows of a table with their first two values exchanged, which a large table also keeps in
+-- order.
 use Rattle.std.specs.Prelude.{◌≡◌, ◌<◌, ◌≤◌, ◌-◌, ℕ, List, [], ◌∷◌, length, slice_index_or, Option, Some, None}
 use Rattle.std.specs.List.{insert, remove, sum_by}
 use Rattle.std.specs.declared.cmp.Ordering.TheVariants.{Less}
@@ -13,11 +14,13 @@ exchanged [] = []
 exchanged (x ∷ []) = x ∷ []
 exchanged (x ∷ y ∷ zs) = y ∷ x ∷ zs
 
--- `second` has the rows, each exchanged and as often, whatever their order: a sum over them is the sum over the rows
+-- `second` has the rows, each exchanged and as often, whatever their order: a sum over them is the
+-- sum over the rows
 abbrev pub AreExchanged : List (List Value) → List (List Value) → Type 0
 AreExchanged rows second = (f : List Value → ℕ) → sum_by f second ≡ sum_by (λ r. f (exchanged r)) rows
 
--- it has them in their order besides, which is the order of the rows by the second value, the first and then the others
+-- it has them in their order besides, which is the order of the rows by the second value, the first
+-- and then the others
 pub record IsSecond (rows second : List (List Value)) : Type 0 where
   pub order : Rises row_cmp second
   pub are : AreExchanged rows second

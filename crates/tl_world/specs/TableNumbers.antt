@@ -13,11 +13,13 @@ use Rattle.tl_world.specs.declared.table_numbers.Source.{Source}
 use Rattle.tl_world.specs.declared.table_numbers.TableNumbers.{TableNumbers}
 use Rattle.tl_world.specs.WorldCode.{facts_in, places_in}
 
--- the predicates that have facts in the world, in order, and then the functions that have places with a value: one for each of its tables
+-- the predicates that have facts in the world, in order, and then the functions that have places
+-- with a value: one for each of its tables
 abbrev pub tables_in : World → List TableName
 tables_in w = map (λ t. Pred t.0) (facts_in w) ++ map (λ t. Fun t.0) (places_in w)
 
--- whether the fact of the predicate with these arguments is in the world, or the place of the function has the value there
+-- whether the fact of the predicate with these arguments is in the world, or the place of the
+-- function has the value there
 abbrev pub says : TableName → World → List Value → Value → Bool
 says (Pred p) w a u = has_fact w (p, a)
 says (Fun f) w a u = is_value (value_at w (f, a)) u
@@ -42,7 +44,8 @@ StandFrom ws all s w = (s + length (tables_in w) ≤ length all) × AreTableNumb
 abbrev pub LaterStandFrom : List ℕ → ℕ → ℕ → Type 0
 LaterStandFrom starts n end = (m t : ℕ) → n < m → slice_get starts m ≡ Some t → end ≤ t
 
--- those of the first worlds do, each from its own place on, one world's after another's, and none is that of a later world
+-- those of the first worlds do, each from its own place on, one world's after another's, and none
+-- is that of a later world
 abbrev pub AreNumbered : List World → List ℕ → List ℕ → Type 0
 AreNumbered ws starts all = (length starts ≤ length ws) × ((n s : ℕ) (w : World) → slice_get ws n ≡ Some w → slice_get starts n ≡ Some s → StandFrom (take (suc n) ws) all s w × LaterStandFrom starts n (s + length (tables_in w)))
 

@@ -53,7 +53,8 @@ TellRowsOf ts us = TellRows ts.tables.now ts.numbers.now us.tables.now us.number
 abbrev pub AreNumberedBeside : List Fact → List Fact → NumberedTables → NumberedTables → Type 0
 AreNumberedBeside dels adds ts us = AreTablesBeside dels adds ts.tables.now us.tables.now
 
--- the world without some facts, with others, and with the values that are set; of two for one place the earlier counts
+-- the world without some facts, with others, and with the values that are set; of two for one place
+-- the earlier counts
 abbrev pub changed_world : World → List Fact → List Fact → List PlaceValue → World
 changed_world w dels adds sets = record { facts = changed_facts w.facts dels adds; places = changed_places w.places sets }
 

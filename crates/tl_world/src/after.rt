@@ -42,7 +42,8 @@ fn keeps_from(rows: &Runs, lead: &[Part], known: &[Value], ties: bool, at: usize
     at == rows.len() || !is_passed(ties, order_of_front(lead, known, rows.row(at)))
 }
 
-/// How many rows come before the first whose leading values are at least the known ones of the parts, or with `ties` exceed them, found by halves.
+/// How many rows come before the first whose leading values are at least the known ones of the
+/// parts, or with `ties` exceed them, found by halves.
 pub(crate) fn rows_before(rows: &Runs, lead: &[Part], known: &[Value], ties: bool) -> usize
     requires { Rises row_cmp rows.now }
     ensures { IsFirstKept ties (front 0 lead.now known.now) rows.now result }
@@ -60,7 +61,8 @@ pub(crate) fn rows_before(rows: &Runs, lead: &[Part], known: &[Value], ties: boo
     low
 }
 
-/// How many rows come before the first whose leading values are at least the fixed ones of the parts. They are counted by halves where `near` is another number.
+/// How many rows come before the first whose leading values are at least the fixed ones of the
+/// parts. They are counted by halves where `near` is another number.
 pub(crate) fn rows_before_near(rows: &Runs, lead: &[Part], near: usize) -> usize
     requires { Rises row_cmp rows.now }
     ensures { IsFirstKept false (front 0 lead.now []) rows.now result }
@@ -75,7 +77,9 @@ pub(crate) fn rows_before_near(rows: &Runs, lead: &[Part], near: usize) -> usize
     }
 }
 
-/// How many first variables came before what follows the part, where it is the value under the tuple's values, and is fixed, or one of the first variables, of which `seen` came before, or the next one.
+/// How many first variables came before what follows the part, where it is the value under the
+/// tuple's values, and is fixed, or one of the first variables, of which `seen` came before, or the
+/// next one.
 pub(crate) fn after_part(part: Part, v: Value, seen: usize, tuple: &[Value]) -> Option<usize>
     requires { seen + 1 < 2 ^ 64 }
     ensures fits { IfSome result (λ _. fits_at part v tuple.now ≡ true) }
@@ -107,7 +111,8 @@ fn is_at(tuple: &[Value], n: usize, v: Value) -> bool
     }
 }
 
-/// How many first variables the parts have, where the row is the parts with the tuple's values put in, and the variables first stand in the order of their numbers.
+/// How many first variables the parts have, where the row is the parts with the tuple's values put
+/// in, and the variables first stand in the order of their numbers.
 #[inline(always)]
 pub(crate) fn fits_in_turn(parts: &[Part], row: &[Value], tuple: &[Value]) -> Option<usize>
     ensures fits { IfSome result (λ _. fits_all parts.now row.now tuple.now ≡ true) }
@@ -130,7 +135,8 @@ pub(crate) fn fits_in_turn(parts: &[Part], row: &[Value], tuple: &[Value]) -> Op
     Some(seen)
 }
 
-/// Whether the row before the place is the parts with the tuple's values put in, and the variables first stand in the order of their numbers.
+/// Whether the row before the place is the parts with the tuple's values put in, and the variables
+/// first stand in the order of their numbers.
 #[inline(always)]
 fn is_after_row(rows: &Runs, parts: &[Part], tuple: &[Value], at: usize) -> bool
     ensures bound { result ≡ true → at ≤ length rows.now }
@@ -144,7 +150,8 @@ fn is_after_row(rows: &Runs, parts: &[Part], tuple: &[Value], at: usize) -> bool
     k < rows.len() && fits_in_turn(parts, rows.row(k), tuple).is_some()
 }
 
-/// How many rows come before those with the tuples after that in place, or with all tuples where none is. None where the variables do not first stand in the order of their numbers.
+/// How many rows come before those with the tuples after that in place, or with all tuples where
+/// none is. None where the variables do not first stand in the order of their numbers.
 ///
 /// They are looked for where `near` is another number.
 pub(crate) fn rows_up_to(
@@ -188,7 +195,8 @@ fn guess_after(rows: &Runs, parts: &[Part], tuple: &[Value]) -> usize {
     }
 }
 
-/// How many rows come before those with the tuples after that in place. They are counted by halves where it is not the number that is guessed.
+/// How many rows come before those with the tuples after that in place. They are counted by halves
+/// where it is not the number that is guessed.
 fn rows_with(rows: &Runs, parts: &[Part], tuple: &[Value]) -> usize
     requires each { (n : ℕ) → n < length tuple.now → occurs n parts.now ≡ true }
     requires slots { (n : ℕ) → occurs n parts.now ≡ true → n < length tuple.now }
@@ -205,7 +213,8 @@ fn rows_with(rows: &Runs, parts: &[Part], tuple: &[Value]) -> usize
     }
 }
 
-/// How many rows come before those with the tuples after that in place, or before all tuples where none is. `near` is a guess for the latter.
+/// How many rows come before those with the tuples after that in place, or before all tuples where
+/// none is. `near` is a guess for the latter.
 #[inline(never)]
 fn look_up_to(rows: &Runs, parts: &[Part], begun: bool, tuple: &[Value], near: usize) -> usize
     requires each { (n : ℕ) → n < length tuple.now → occurs n parts.now ≡ true }

@@ -1,4 +1,5 @@
-// The least tuple above another one in a table, by the second order of the table where the pattern asks for it.
+// The least tuple above another one in a table, by the second order of the table where the pattern
+// asks for it.
 ghost use Rattle.std.specs.Prelude.{◌≡◌, ◌<◌, ◌≤◌, ℕ, length, take, true};
 ghost use Rattle.tl_syntax.specs.Lists.{Rises};
 ghost use Rattle.tl_world.specs.Fits.{occurs};
@@ -9,7 +10,8 @@ ghost use Rattle.tl_world.specs.Tables.{row_cmp};
 use crate::next::put_next;
 use crate::{Match, Part, Rows};
 
-/// Whether the first part is free and the second fixed, or the first is for a later variable and the second for the first one.
+/// Whether the first part is free and the second fixed, or the first is for a later variable and
+/// the second for the first one.
 #[inline]
 fn is_by_second(parts: &[Part]) -> bool {
     if parts.len() < 2 {
@@ -42,9 +44,12 @@ fn exchanged_parts(parts: &[Part]) -> [Part; 9]
     out
 }
 
-/// Puts the least tuple after that in place that makes the parts one of the rows in place. False where there is none.
+/// Puts the least tuple after that in place that makes the parts one of the rows in place. False
+/// where there is none.
 ///
-/// Where the first part is free and the second fixed, and the table keeps its second order, the rows with that second value stand together there. Where the variables of the first two parts stand in the other order, so do the tuples.
+/// Where the first part is free and the second fixed, and the table keeps its second order, the
+/// rows with that second value stand together there. Where the variables of the first two parts
+/// stand in the other order, so do the tuples.
 pub(crate) fn put_next_in_table(
     rows: &Rows,
     parts: &[Part],

@@ -35,7 +35,8 @@ fn keep_guess(guesses: &mut [usize], j: usize, place: usize) {
     }
 }
 
-/// The last of the facts that is of the table and not among its rows, where no guess is kept of its place, and the place at which it would stand.
+/// The last of the facts that is of the table and not among its rows, where no guess is kept of its
+/// place, and the place at which it would stand.
 #[inline(always)]
 fn coming(table: &Named<Rows>, adds: &[Fact], guesses: &[usize]) -> Option<(usize, usize)>
     ensures { IfSome result (IsComing table.now.rows.value table.now.name adds.now) }
@@ -67,7 +68,9 @@ fn move_for(fact: &Fact, cut: usize, at: usize) -> Move<'_>
     }
 }
 
-/// The rows without that at place `cut`. A fact of this table that is to be added comes in with the same copy, and a guess is kept of its place. No fact came into these rows before, since another world shares them: so no guess is looked at.
+/// The rows without that at place `cut`. A fact of this table that is to be added comes in with the
+/// same copy, and a guess is kept of its place. No fact came into these rows before, since another
+/// world shares them: so no guess is looked at.
 #[inline]
 fn rows_without(
     alloc: Global,
@@ -88,7 +91,8 @@ fn rows_without(
     }
 }
 
-/// Takes the row at place `cut` out of the table, in place where no other world shares it. A fact of this table that is to be added comes in with the same step, and a guess is kept of its place.
+/// Takes the row at place `cut` out of the table, in place where no other world shares it. A fact
+/// of this table that is to be added comes in with the same step, and a guess is kept of its place.
 #[inline(never)]
 fn cut_row(
     alloc: Global,
@@ -161,7 +165,8 @@ fn without(
     }
 }
 
-/// Takes the facts out of the tables, from the last on. Those of `adds` may come in, and guesses are kept of their places.
+/// Takes the facts out of the tables, from the last on. Those of `adds` may come in, and guesses
+/// are kept of their places.
 fn without_each(
     alloc: Global,
     tables: &mut Vec<Named<Rows>>,
@@ -182,7 +187,8 @@ fn without_each(
     Ok(())
 }
 
-/// Puts one more row at place `k` into the table. The rows are copied where another world shares them.
+/// Puts one more row at place `k` into the table. The rows are copied where another world shares
+/// them.
 fn put_row(alloc: Global, table: &mut Named<Rows>, k: usize, row: &[Value]) -> Result<(), NoMemory>
     requires { k ≤ length table.old.rows.value }
     ensures name { table.new.name ≡ table.old.name }
@@ -248,7 +254,8 @@ fn is_at(tables: &[Named<Rows>], fact: &Fact, guess: usize) -> bool
     }
 }
 
-/// Puts the facts into the tables, from the last on. One is looked for first at the place that is guessed.
+/// Puts the facts into the tables, from the last on. One is looked for first at the place that is
+/// guessed.
 #[inline(always)]
 fn with_each(
     alloc: Global,
@@ -283,7 +290,8 @@ fn falling(alloc: Global, facts: &[Fact]) -> Result<Vec<Fact>, NoMemory>
     Ok(out)
 }
 
-/// Puts the facts into the tables. Many are sorted first, so that each comes after the rows that are there, where a table is new.
+/// Puts the facts into the tables. Many are sorted first, so that each comes after the rows that
+/// are there, where a table is new.
 fn with_facts(
     alloc: Global,
     tables: &mut Vec<Named<Rows>>,
@@ -309,7 +317,9 @@ fn few(facts: &[Fact]) -> &[Fact]
     if facts.len() < 8 { facts } else { &facts[..0] }
 }
 
-/// Takes the fact `gone` out of its table, where it is there, and puts another one of the same table in. It does so only where the rows stand in one list and the other fact is not among them: whether that is so.
+/// Takes the fact `gone` out of its table, where it is there, and puts another one of the same
+/// table in. It does so only where the rows stand in one list and the other fact is not among them:
+/// whether that is so.
 #[inline(always)]
 fn replace_fact(
     alloc: Global,
@@ -352,7 +362,8 @@ fn replace_fact(
     }
 }
 
-/// Takes the facts of `dels` out of the tables, and then puts those of `adds` in, one after another.
+/// Takes the facts of `dels` out of the tables, and then puts those of `adds` in, one after
+/// another.
 #[inline(never)]
 fn change_many(
     alloc: Global,
@@ -372,7 +383,8 @@ fn change_many(
 
 /// Takes the facts of `dels` out of the tables, and then puts those of `adds` in.
 ///
-/// A fact that is deleted and one that is added to the same table are one copy of it, or one edit of that copy, where not many are added.
+/// A fact that is deleted and one that is added to the same table are one copy of it, or one edit
+/// of that copy, where not many are added.
 #[inline(always)]
 pub(crate) fn change_facts(
     alloc: Global,

@@ -12,7 +12,8 @@ use crate::front::order_of_front;
 use crate::runs::Runs;
 use tl_syntax::Value;
 
-/// How many first variables have values after the part, where a tuple that begins with the first `seen` values can make it the value `v`. A new variable gets its value.
+/// How many first variables have values after the part, where a tuple that begins with the first
+/// `seen` values can make it the value `v`. A new variable gets its value.
 pub(crate) fn put_value(part: Part, v: Value, seen: usize, values: &mut [Value; 9]) -> Option<usize>
     requires turn { is_in_turn seen part ≡ true }
     requires room { seen_after seen part ≤ 9 }
@@ -38,7 +39,8 @@ pub(crate) fn put_value(part: Part, v: Value, seen: usize, values: &mut [Value; 
     }
 }
 
-/// How many first variables the parts have, where some tuple makes them the row. Their values are then put into the first places of `values`.
+/// How many first variables the parts have, where some tuple makes them the row. Their values are
+/// then put into the first places of `values`.
 #[inline(always)]
 pub(crate) fn put_values(
     parts: &[Part],
@@ -70,7 +72,10 @@ pub(crate) fn put_values(
     Some(seen)
 }
 
-/// The place after the first row, from a place on, that some tuple makes the parts, where there is one. The values of the least tuple that makes the parts one of those rows are then put into the first places of `values`: they are those of that row. The rows from the place after it on have the later tuples.
+/// The place after the first row, from a place on, that some tuple makes the parts, where there is
+/// one. The values of the least tuple that makes the parts one of those rows are then put into the
+/// first places of `values`: they are those of that row. The rows from the place after it on have
+/// the later tuples.
 ///
 /// Rows are looked at up to the first whose leading values exceed the fixed leading parts.
 #[inline(always)]

@@ -15,7 +15,8 @@ use crate::table::Place;
 use crate::{Part, PlaceRows};
 use tl_syntax::Value;
 
-/// How many places come before the first whose leading arguments are at least the known ones of the parts, found by halves.
+/// How many places come before the first whose leading arguments are at least the known ones of the
+/// parts, found by halves.
 pub(crate) fn places_before(rows: &PlaceRows, lead: &[Part], known: &[Value]) -> usize
     requires { Rises row_cmp (map (λ r. r.args) rows.now) }
     ensures bound { result ≤ length rows.now }
@@ -34,7 +35,8 @@ pub(crate) fn places_before(rows: &PlaceRows, lead: &[Part], known: &[Value]) ->
     low
 }
 
-/// Whether the leading parts and the last one are the arguments and the value of the place under the tuple's values, and the variables first stand in the order of their numbers.
+/// Whether the leading parts and the last one are the arguments and the value of the place under
+/// the tuple's values, and the variables first stand in the order of their numbers.
 fn fits_place(lead: &[Part], last: Part, row: &Place<'_>, tuple: &[Value]) -> bool
     requires { length lead.now + 1 < 2 ^ 64 }
     ensures fits { result ≡ true → fits_place lead.now last row.now tuple.now ≡ true }
@@ -46,7 +48,8 @@ fn fits_place(lead: &[Part], last: Part, row: &Place<'_>, tuple: &[Value]) -> bo
     }
 }
 
-/// Whether some tuple of `free` values makes the leading parts and the last one the arguments and the value of the place. Its values are then put into the first places of `values`.
+/// Whether some tuple of `free` values makes the leading parts and the last one the arguments and
+/// the value of the place. Its values are then put into the first places of `values`.
 fn put_place(lead: &[Part], last: Part, free: u32, row: &Place<'_>, values: &mut [Value; 9]) -> bool
     requires few { free ≤ 9 }
     requires slots { (n : ℕ) → occurs n (lead.now ++ last ∷ []) ≡ true → n < free }
@@ -60,7 +63,8 @@ fn put_place(lead: &[Part], last: Part, free: u32, row: &Place<'_>, values: &mut
     }
 }
 
-/// Whether the place before `at` is the parts with the tuple's values put in, and the variables first stand in the order of their numbers.
+/// Whether the place before `at` is the parts with the tuple's values put in, and the variables
+/// first stand in the order of their numbers.
 fn is_after_place(rows: &PlaceRows, parts: &[Part], tuple: &[Value], at: usize) -> bool
     requires { 1 ≤ length parts.now }
     ensures bound { result ≡ true → at ≤ length rows.now }
@@ -72,7 +76,9 @@ fn is_after_place(rows: &PlaceRows, parts: &[Part], tuple: &[Value], at: usize) 
     at > 0 && at <= rows.len() && fits_place(&parts[..n], parts[n], &rows.place(at - 1), tuple)
 }
 
-/// How many places come before those with the tuples after that in place, or with all tuples where none is. None where the variables do not first stand in the order of their numbers, or `near` is another number, where a tuple is in place.
+/// How many places come before those with the tuples after that in place, or with all tuples where
+/// none is. None where the variables do not first stand in the order of their numbers, or `near` is
+/// another number, where a tuple is in place.
 pub(crate) fn places_up_to(
     rows: &PlaceRows,
     parts: &[Part],
@@ -101,7 +107,9 @@ pub(crate) fn places_up_to(
     }
 }
 
-/// The place after the first one, from a place of the list on, that some tuple makes the parts, where there is one. The values of the least tuple that makes the parts one of those are then put into the first places of `values`: they are those of that one.
+/// The place after the first one, from a place of the list on, that some tuple makes the parts,
+/// where there is one. The values of the least tuple that makes the parts one of those are then put
+/// into the first places of `values`: they are those of that one.
 ///
 /// Places are looked at up to the first whose leading arguments exceed the fixed leading parts.
 pub(crate) fn put_first_place(

@@ -94,7 +94,8 @@ fn write_values(values: &mut Vec<Value>, at: usize, row: &[Value])
     }
 }
 
-/// Puts the row's values before those from `at` on, and takes as many out from the place `cut` on, which is not before it.
+/// Puts the row's values before those from `at` on, and takes as many out from the place `cut` on,
+/// which is not before it.
 #[inline]
 fn shift_back(values: &mut Vec<Value>, at: usize, cut: usize, row: &[Value])
     requires order { at ≤ cut }
@@ -105,7 +106,8 @@ fn shift_back(values: &mut Vec<Value>, at: usize, cut: usize, row: &[Value])
     write_values(values, at, row);
 }
 
-/// Puts the row's values before those from `at` on, and takes as many out from the place `cut` on, which all come before it.
+/// Puts the row's values before those from `at` on, and takes as many out from the place `cut` on,
+/// which all come before it.
 #[inline]
 fn shift_on(values: &mut Vec<Value>, cut: usize, at: usize, row: &[Value])
     requires order { cut + length row.now ≤ at }
@@ -286,7 +288,8 @@ impl Flat {
         )
     }
 
-    /// How many rows from place `k` on are those of the other from place `l` on. The values are compared one after another.
+    /// How many rows from place `k` on are those of the other from place `l` on. The values are
+    /// compared one after another.
     pub(crate) fn same_rows(&self, k: usize, other: &Flat, l: usize) -> usize
         requires row { k ≤ length self.now }
         requires other { l ≤ length other.now }

@@ -7,7 +7,8 @@ use crate::{Match, Part};
 use std::cmp::Ordering;
 use tl_syntax::Value;
 
-/// The value of the part: a fixed one, or that of one of the first variables, of which `seen` came before.
+/// The value of the part: a fixed one, or that of one of the first variables, of which `seen` came
+/// before.
 pub(crate) fn value_of_part(part: Part, seen: usize, known: &[Value]) -> Option<Value>
     ensures { result ≡ known_value seen known.now part }
 {
@@ -35,7 +36,8 @@ fn count_seen(part: Part, seen: usize) -> usize
     }
 }
 
-/// Whether the part is fixed, or one of the first variables, of which `seen` came before, or the next one.
+/// Whether the part is fixed, or one of the first variables, of which `seen` came before, or the
+/// next one.
 fn is_in_turn(part: Part, seen: usize) -> bool
     ensures { result ≡ is_in_turn seen part }
 {
@@ -61,7 +63,8 @@ pub(crate) fn are_in_turn(parts: &[Part]) -> bool
     true
 }
 
-/// How the values of the leading parts, as far as they are fixed or known in turn, stand to as many leading values of the row.
+/// How the values of the leading parts, as far as they are fixed or known in turn, stand to as many
+/// leading values of the row.
 pub(crate) fn order_of_front(lead: &[Part], known: &[Value], row: &[Value]) -> Ordering
     ensures { result ≡ front_cmp (front 0 lead.now known.now) row.now }
 {

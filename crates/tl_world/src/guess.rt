@@ -1,4 +1,6 @@
-// Guesses for a place among rows that rise, from the values of the first and the last of them (interpolation search, Peterson 1957). No clause speaks of them: whoever takes one looks whether it is right.
+// Guesses for a place among rows that rise, from the values of the first and the last of them
+// (interpolation search, Peterson 1957). No clause speaks of them: whoever takes one looks whether
+// it is right.
 use tl_syntax::Value;
 
 /// The first column in which two rows differ, and what the first and the last row have there.
@@ -27,7 +29,8 @@ impl Difference {
         None
     }
 
-    /// How many of so many steps from the first value to the last one it is to the value, if all of them are of one length.
+    /// How many of so many steps from the first value to the last one it is to the value, if all of
+    /// them are of one length.
     #[inline(always)]
     pub(crate) fn steps_to(&self, v: Value, steps: usize) -> usize {
         let part = distance(self.first, v).saturating_mul(steps as u64);

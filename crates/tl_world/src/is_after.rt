@@ -21,7 +21,8 @@ impl World {
         adds.iter().all(|f| self.holds(f.pred, f.args.as_slice()))
     }
 
-    /// Whether none of the facts of `dels` is in the world but for such as are of `adds`. It takes no memory.
+    /// Whether none of the facts of `dels` is in the world but for such as are of `adds`. It takes
+    /// no memory.
     fn lacks_deleted(&self, dels: &[Fact], adds: &[Fact]) -> bool
         ensures { result ≡ list_all (is_gone self.now adds.now) dels.now }
     {
@@ -38,7 +39,9 @@ impl World {
             .all(|p| self.value(p.fun, p.args.as_slice()) == Some(p.value))
     }
 
-    /// Whether this world is found to be the one that the changes make of the world `from`, without making it. It may be so where the answer is no, as where one place is set to two values. It takes no memory.
+    /// Whether this world is found to be the one that the changes make of the world `from`, without
+    /// making it. It may be so where the answer is no, as where one place is set to two values. It
+    /// takes no memory.
     ///
     /// The facts and the places of both worlds are gone over once, side by side.
     pub fn is_after(&self, from: &World, dels: &[Fact], adds: &[Fact], sets: &[PlaceValue]) -> bool
@@ -66,7 +69,8 @@ pub(crate) struct Numbered<'a> {
 }
 
 impl<'a> Numbered<'a> {
-    /// Whether the facts of this world are found to be those that the changes make of the facts of the world `from`. It takes no memory.
+    /// Whether the facts of this world are found to be those that the changes make of the facts of
+    /// the world `from`. It takes no memory.
     fn has_changed_facts(&self, from: &Numbered<'a>, dels: &[Fact], adds: &[Fact]) -> bool
         requires { AreToldAlike self.now from.now }
         ensures { result ≡ true
@@ -81,7 +85,8 @@ impl<'a> Numbered<'a> {
         self.world.is_beside(self.numbers, from, dels, adds)
     }
 
-    /// Whether the places of this world are found to have the values that the settings leave of those of the world `from`. It takes no memory.
+    /// Whether the places of this world are found to have the values that the settings leave of
+    /// those of the world `from`. It takes no memory.
     fn has_changed_places(&self, from: &Numbered<'a>, sets: &[PlaceValue]) -> bool
         requires { AreToldAlike self.now from.now }
         ensures { result ≡ true
@@ -93,7 +98,9 @@ impl<'a> Numbered<'a> {
         self.world.has_values_beside(self.numbers, from, sets)
     }
 
-    /// Whether this world is found to be the one that the changes make of the world `from`, as `World::is_after` finds it. Tables with one number are passed without a look at what they hold. It takes no memory.
+    /// Whether this world is found to be the one that the changes make of the world `from`, as
+    /// `World::is_after` finds it. Tables with one number are passed without a look at what they
+    /// hold. It takes no memory.
     pub(crate) fn is_after(
         &self,
         from: &Numbered<'a>,

@@ -47,7 +47,8 @@ pub(crate) fn mark_of_fact(fact: &Fact) -> u64 {
     part(code_of_row(fact.args.as_slice()), fact.pred, FACTORS[0])
 }
 
-/// The mark after the facts of `dels` are deleted and those of `adds` added, as if each that is deleted were there and each that is added were not.
+/// The mark after the facts of `dels` are deleted and those of `adds` added, as if each that is
+/// deleted were there and each that is added were not.
 pub(crate) fn changed_mark(mark: u64, dels: &[Fact], adds: &[Fact]) -> u64 {
     let mut mark = mark;
     for d in dels {

@@ -6,7 +6,8 @@ use tl_syntax::NoMemory;
 /// How many places are looked at for a mark, one after another.
 const TRIES: usize = 8;
 
-/// How many places there are at least, once there is a number. It is a power of two, as all later counts are.
+/// How many places there are at least, once there is a number. It is a power of two, as all later
+/// counts are.
 const FEWEST: usize = 64;
 
 /// What stands in a place without a number.
@@ -18,9 +19,11 @@ const UPPER: u64 = 0xffff_ffff_0000_0000;
 /// The part of a place in which the number stands, counted from 1.
 const LOWER: u64 = 0xffff_ffff;
 
-/// Numbers by marks, as guesses: whoever takes one looks whether it is right, and so nothing is promised of them. A number takes 16 bytes or fewer than twice that.
+/// Numbers by marks, as guesses: whoever takes one looks whether it is right, and so nothing is
+/// promised of them. A number takes 16 bytes or fewer than twice that.
 ///
-/// In a place stand the upper half of a mark and the number. The latest number counts, and one may be forgotten where many have places side by side.
+/// In a place stand the upper half of a mark and the number. The latest number counts, and one may
+/// be forgotten where many have places side by side.
 #[derive(Drop)]
 pub(crate) struct Marks {
     alloc: Global,
@@ -61,7 +64,8 @@ fn place_of(places: &[u64], mark: u64) -> usize {
     home
 }
 
-/// Puts a word at the place of its mark, where there are places, and says whether nothing stood there.
+/// Puts a word at the place of its mark, where there are places, and says whether nothing stood
+/// there.
 fn put(places: &mut [u64], word: u64) -> bool {
     let place = place_of(places, word);
     if let Some(there) = places.get_mut(place) {

@@ -15,9 +15,13 @@ use crate::{Match, Part, Pattern, World};
 use std::marker::Model;
 use tl_syntax::Value;
 
-/// A reader of the matches of a pattern in a world, in lexicographic value order. Contracts see the world, the pattern, where there is one, and the tuple that the reader has come to, where there is one.
+/// A reader of the matches of a pattern in a world, in lexicographic value order. Contracts see the
+/// world, the pattern, where there is one, and the tuple that the reader has come to, where there
+/// is one.
 ///
-/// Where the variables of a pattern of facts first stand in the order of their numbers, it keeps the table and the place of the next row there, so that each row is looked at once. Else it asks the world for each match.
+/// Where the variables of a pattern of facts first stand in the order of their numbers, it keeps
+/// the table and the place of the next row there, so that each row is looked at once. Else it asks
+/// the world for each match.
 #[derive(Drop)]
 pub struct MatchReader<'a> {
     world: &'a World,
@@ -45,7 +49,9 @@ impl<'a> Model for MatchReader<'a> {
     ghost invariant = { λ r. CanReadOn r.world.now (pattern_if r.has_pattern r.pattern.now) r.begun r.tuple r.place (option_map (λ rows. rows.now) r.rows) };
 }
 
-/// Puts the least tuple after that in place that makes the pattern's parts one of the rows in place, where these have such tuples from the given place on, which goes on. False where there is none.
+/// Puts the least tuple after that in place that makes the pattern's parts one of the rows in
+/// place, where these have such tuples from the given place on, which goes on. False where there is
+/// none.
 #[inline(always)]
 fn put_next_from(
     rows: &Runs,
@@ -88,7 +94,8 @@ fn begins_free(parts: &[Part]) -> bool
     }
 }
 
-/// How many rows come before the first whose leading values are at least the fixed ones of the parts.
+/// How many rows come before the first whose leading values are at least the fixed ones of the
+/// parts.
 #[inline]
 fn first_place(rows: &Runs, parts: &[Part]) -> usize
     requires { Rises row_cmp rows.now }
@@ -108,7 +115,9 @@ struct InTable<'a> {
     place: usize,
 }
 
-/// The table of a pattern of facts in the world, and the place of the first row with the fixed leading values, where the variables first stand in the order of their numbers. None where they do not, or the rows are found by their second values, or there are none.
+/// The table of a pattern of facts in the world, and the place of the first row with the fixed
+/// leading values, where the variables first stand in the order of their numbers. None where they
+/// do not, or the rows are found by their second values, or there are none.
 #[inline(always)]
 fn table_of<'a>(world: &'a World, pattern: &Pattern, tuple: &Match) -> Option<InTable<'a>>
     requires { IsLawful pattern.now }
@@ -131,7 +140,8 @@ fn table_of<'a>(world: &'a World, pattern: &Pattern, tuple: &Match) -> Option<In
 }
 
 impl<'a> MatchReader<'a> {
-    /// A reader before the first match of the pattern in the world, or of no match, where the pattern does not count. It takes no memory.
+    /// A reader before the first match of the pattern in the world, or of no match, where the
+    /// pattern does not count. It takes no memory.
     #[inline(always)]
     pub fn of(world: &'a World, pattern: &'a Pattern, counts: bool) -> MatchReader<'a>
         requires { counts ≡ true → IsLawful pattern.now }
@@ -176,7 +186,10 @@ impl<'a> MatchReader<'a> {
         }
     }
 
-    /// Goes on to the next match: the least tuple, in lexicographic value order, that makes the pattern true and comes after the one that the reader has come to, where it has come to one. False exactly where there is none; the reader is before the first match then. It takes no memory.
+    /// Goes on to the next match: the least tuple, in lexicographic value order, that makes the
+    /// pattern true and comes after the one that the reader has come to, where it has come to one.
+    /// False exactly where there is none; the reader is before the first match then. It takes no
+    /// memory.
     #[inline(never)]
     pub fn next(&mut self) -> bool
         ensures next { ReadsOn self.old self.new }
@@ -214,7 +227,8 @@ impl<'a> MatchReader<'a> {
         }
     }
 
-    /// The values of the tuple that the reader has come to, by the variables' numbers. It takes no memory.
+    /// The values of the tuple that the reader has come to, by the variables' numbers. It takes no
+    /// memory.
     #[inline(always)]
     pub fn values(&self) -> &[Value]
         requires { IsSome self.now.tuple }

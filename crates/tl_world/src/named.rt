@@ -15,7 +15,8 @@ pub(crate) struct Named<R> {
     pub(crate) rows: Rc<R>,
 }
 
-/// The place of the table with this number, or the place at which it would stand. The place of this number is tried first: the table is there where each smaller number has one.
+/// The place of the table with this number, or the place at which it would stand. The place of this
+/// number is tried first: the table is there where each smaller number has one.
 pub(crate) fn find_table<R>(tables: &[Named<R>], name: u32) -> Result<usize, usize>
     ensures range { IsSearchInRange result (length tables.now) }
     ensures place { IsBinarySearchResult (λ t. nat_cmp t.name name) tables.now result }

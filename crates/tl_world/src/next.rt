@@ -48,7 +48,8 @@ fn is_lower(best: &Option<Match>, m: &Match, free: u32) -> bool
     }
 }
 
-/// The match of a row, where it comes after `after` and before the best so far, and else the best so far.
+/// The match of a row, where it comes after `after` and before the best so far, and else the best
+/// so far.
 fn lesser(
     best: Option<Match>,
     found: Option<Match>,
@@ -70,7 +71,8 @@ fn lesser(
     }
 }
 
-/// Whether the leading values of the row, and so of all later rows, exceed those that the best match so far has, or else the fixed ones.
+/// Whether the leading values of the row, and so of all later rows, exceed those that the best
+/// match so far has, or else the fixed ones.
 fn is_past(lead: &[Part], best: &Option<Match>, free: u32, row: &[Value]) -> bool
     requires { free ≤ 9 }
     ensures { result ≡ is_lt (front_cmp (front 0 lead.now (known_of best.now free)) row.now) }
@@ -98,9 +100,11 @@ fn put_match(found: &Option<Match>, tuple: &mut Match) -> bool
     }
 }
 
-/// Puts the least tuple after that in place that makes the parts one of the rows in place. False where there is none.
+/// Puts the least tuple after that in place that makes the parts one of the rows in place. False
+/// where there is none.
 ///
-/// Where the variables first stand in the order of their numbers, it is that of the first row after those up to the tuple in place that the parts fit.
+/// Where the variables first stand in the order of their numbers, it is that of the first row after
+/// those up to the tuple in place that the parts fit.
 pub(crate) fn put_next(
     rows: &Runs,
     parts: &[Part],
@@ -130,7 +134,8 @@ pub(crate) fn put_next(
     }
 }
 
-/// Puts the least tuple after that in place that makes the parts one of the rows in place, whatever the order of the variables.
+/// Puts the least tuple after that in place that makes the parts one of the rows in place, whatever
+/// the order of the variables.
 fn put_least(rows: &Runs, parts: &[Part], free: u32, begun: bool, tuple: &mut Match) -> bool
     requires few { free ≤ 9 }
     requires each { (n : ℕ) → n < free → occurs n parts.now ≡ true }
@@ -144,10 +149,13 @@ fn put_least(rows: &Runs, parts: &[Part], free: u32, begun: bool, tuple: &mut Ma
     )
 }
 
-/// The least tuple above `after` that makes the parts one of the rows, whatever the order of the variables.
+/// The least tuple above `after` that makes the parts one of the rows, whatever the order of the
+/// variables.
 ///
-/// The first row is found by halves, by the leading parts that are fixed or have their values from `after`.
-/// Rows are looked at up to the first whose leading parts exceed the fixed ones, or those of the best match so far.
+/// The first row is found by halves, by the leading parts that are fixed or have their values from
+/// `after`.
+/// Rows are looked at up to the first whose leading parts exceed the fixed ones, or those of the
+/// best match so far.
 fn least_in_rows(rows: &Runs, parts: &[Part], free: u32, after: &Option<Match>) -> Option<Match>
     requires few { free ≤ 9 }
     requires each { (n : ℕ) → n < free → occurs n parts.now ≡ true }
@@ -168,9 +176,11 @@ fn least_in_rows(rows: &Runs, parts: &[Part], free: u32, after: &Option<Match>) 
     best
 }
 
-/// Puts the least tuple after that in place that makes the parts, of which the last is for the value, one of the places with its value in place. False where there is none.
+/// Puts the least tuple after that in place that makes the parts, of which the last is for the
+/// value, one of the places with its value in place. False where there is none.
 ///
-/// Where the variables first stand in the order of their numbers, it is that of the first place after that of the tuple in place that the parts fit.
+/// Where the variables first stand in the order of their numbers, it is that of the first place
+/// after that of the tuple in place that the parts fit.
 pub(crate) fn put_next_in_places(
     rows: &PlaceRows,
     parts: &[Part],
@@ -201,7 +211,8 @@ pub(crate) fn put_next_in_places(
     }
 }
 
-/// Puts the least tuple after that in place that makes the parts one of the places with its value in place, whatever the order of the variables.
+/// Puts the least tuple after that in place that makes the parts one of the places with its value
+/// in place, whatever the order of the variables.
 fn put_least_place(
     rows: &PlaceRows,
     parts: &[Part],
@@ -226,7 +237,8 @@ fn put_least_place(
     found
 }
 
-/// The least tuple above `after` that makes the parts, of which the last is for the value, one of the places with its value.
+/// The least tuple above `after` that makes the parts, of which the last is for the value, one of
+/// the places with its value.
 ///
 /// It looks at rows as `next_in_rows` does, by the parts for the arguments.
 fn next_in_places(

@@ -24,7 +24,8 @@ pub(crate) fn find_place(rows: &PlaceRows, args: &[Value]) -> Result<usize, usiz
     find_row(rows.all_args(), args)
 }
 
-/// Puts another value at place `k` of the table. The values are copied where another world shares them.
+/// Puts another value at place `k` of the table. The values are copied where another world shares
+/// them.
 fn set_value(
     alloc: Global,
     table: &mut Named<PlaceRows>,
@@ -48,7 +49,8 @@ fn set_value(
     }
 }
 
-/// Puts one more row at place `k` of the table. The rows are copied where another world shares them.
+/// Puts one more row at place `k` of the table. The rows are copied where another world shares
+/// them.
 fn put_place(
     alloc: Global,
     table: &mut Named<PlaceRows>,
@@ -135,7 +137,8 @@ fn order_of(a: &PlaceValue, b: &PlaceValue) -> Ordering
     }
 }
 
-/// The places with their values by falling places. Of two values for one place the earlier still comes first.
+/// The places with their values by falling places. Of two values for one place the earlier still
+/// comes first.
 fn falling(alloc: Global, sets: &[PlaceValue]) -> Result<Vec<PlaceValue>, NoMemory>
     ensures { IfOk result (λ v. IsStableBy is_above sets.now v.items) }
 {
@@ -147,7 +150,8 @@ fn falling(alloc: Global, sets: &[PlaceValue]) -> Result<Vec<PlaceValue>, NoMemo
     Ok(out)
 }
 
-/// Gives the places their values; of two values for one place the earlier counts. Many are sorted first, so that each comes after the rows that are there, where a table is new.
+/// Gives the places their values; of two values for one place the earlier counts. Many are sorted
+/// first, so that each comes after the rows that are there, where a table is new.
 pub(crate) fn change_places(
     alloc: Global,
     tables: &mut Vec<Named<PlaceRows>>,

@@ -13,7 +13,8 @@ use crate::same_row::is_same_row;
 use crate::table::Place;
 use tl_syntax::{PlaceValue, Value};
 
-/// Tables of places with their numbers, as far as these are known: where two tables of one function have one number, their places have the same values.
+/// Tables of places with their numbers, as far as these are known: where two tables of one function
+/// have one number, their places have the same values.
 #[derive(Clone, Copy)]
 pub(crate) struct NumberedPlaces<'a> {
     pub(crate) tables: &'a [Named<PlaceRows>],
@@ -64,7 +65,8 @@ fn are_set_from(fun: u32, rows: &PlaceRows, from: usize, sets: &[PlaceValue]) ->
     true
 }
 
-/// Whether the places of a function are found to have the same values in both tables, but for those that are set. It takes no memory.
+/// Whether the places of a function are found to have the same values in both tables, but for those
+/// that are set. It takes no memory.
 ///
 /// Both tables are gone over once, side by side.
 fn are_places_beside(fun: u32, rows: &PlaceRows, others: &PlaceRows, sets: &[PlaceValue]) -> bool
@@ -104,9 +106,11 @@ fn are_tables_set_from(tables: &[Named<PlaceRows>], from: usize, sets: &[PlaceVa
     true
 }
 
-/// Whether the places of the two lists of tables are found to have the same values, but for those that are set. It takes no memory.
+/// Whether the places of the two lists of tables are found to have the same values, but for those
+/// that are set. It takes no memory.
 ///
-/// Both lists are gone over once, side by side. Tables with one number are passed without a look at their places.
+/// Both lists are gone over once, side by side. Tables with one number are passed without a look at
+/// their places.
 pub(crate) fn are_place_tables_beside(
     these: &NumberedPlaces<'_>,
     those: &NumberedPlaces<'_>,

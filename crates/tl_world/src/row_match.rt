@@ -73,7 +73,8 @@ pub(crate) fn match_row(parts: &[Part], free: u32, row: &[Value]) -> Option<Matc
     }
 }
 
-/// The tuple of `free` values that makes the parts the arguments and then the value of the place, where there is one.
+/// The tuple of `free` values that makes the parts the arguments and then the value of the place,
+/// where there is one.
 pub(crate) fn match_place(parts: &[Part], free: u32, row: &Place<'_>) -> Option<Match>
     requires few { free ≤ 9 }
     requires each { (n : ℕ) → n < free → occurs n parts.now ≡ true }

@@ -3,7 +3,9 @@ ghost use Rattle.std.specs.Prelude.{◌≡◌, ◌-◌, ◌≤◌};
 
 use tl_syntax::Value;
 
-/// What puts one row in the place of another: the row that comes in, the place `at` before which it comes in, and the place `cut` of the one that goes. Both places are counted before anything moves.
+/// What puts one row in the place of another: the row that comes in, the place `at` before which it
+/// comes in, and the place `cut` of the one that goes. Both places are counted before anything
+/// moves.
 #[derive(Clone, Copy)]
 pub(crate) struct Move<'a> {
     pub(crate) cut: usize,

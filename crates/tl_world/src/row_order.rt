@@ -6,7 +6,8 @@ ghost use Rattle.tl_world.specs.Tables.{row_cmp};
 use std::cmp::Ordering;
 use tl_syntax::Value;
 
-/// How one value stands to another in value order. The derived order is the same; here it is written out, so that it becomes a few steps of the search that asks for it.
+/// How one value stands to another in value order. The derived order is the same; here it is
+/// written out, so that it becomes a few steps of the search that asks for it.
 #[inline(always)]
 pub(crate) fn order_of_values(x: Value, y: Value) -> Ordering
     ensures { result ≡ value_cmp x y }

@@ -36,7 +36,8 @@ pub(crate) fn find_in(rows: &Flat, args: &[Value]) -> Result<usize, usize>
     Err(low)
 }
 
-/// The place at which a row with these arguments would stand, where it is not among the rows and would stand beside row `k`.
+/// The place at which a row with these arguments would stand, where it is not among the rows and
+/// would stand beside row `k`.
 #[inline(always)]
 fn place_beside(rows: &Flat, k: usize, args: &[Value]) -> Option<usize>
     requires { k < length rows.now }
@@ -62,7 +63,8 @@ fn place_beside(rows: &Flat, k: usize, args: &[Value]) -> Option<usize>
     }
 }
 
-/// The place of the row with these arguments, or the place at which it would stand. It looks beside row `k` first.
+/// The place of the row with these arguments, or the place at which it would stand. It looks beside
+/// row `k` first.
 #[inline(always)]
 pub(crate) fn find_near(rows: &Flat, k: usize, args: &[Value]) -> Result<usize, usize>
     requires { k < length rows.now }

@@ -23,7 +23,8 @@ use tl_syntax::{NoMemory, Value};
 
 /// The argument lists of one predicate's facts. Contracts see it as the list of its rows.
 ///
-/// The rows stand in runs, which tables share. A large table of rows with two values or more keeps them by their second value too.
+/// The rows stand in runs, which tables share. A large table of rows with two values or more keeps
+/// them by their second value too.
 #[derive(Drop)]
 pub struct Rows {
     runs: Runs,
@@ -87,7 +88,8 @@ impl Rows {
         self.runs.len() == 0
     }
 
-    /// The arguments of the fact at place `k`, counted from 0. Its run, where there are several, is guessed, and found by halves where the guess is wrong.
+    /// The arguments of the fact at place `k`, counted from 0. Its run, where there are several, is
+    /// guessed, and found by halves where the guess is wrong.
     pub fn row(&self, k: usize) -> &[Value]
         requires { k < length self.now }
         ensures { result.now ≡ slice_index_or self.now k result.now }
@@ -95,7 +97,9 @@ impl Rows {
         self.runs.row(k)
     }
 
-    /// How many rows from place `k` on are those of the other from place `l` on. There may be more where the rows are cut into runs, but 0 tells that the first ones differ. It takes no memory.
+    /// How many rows from place `k` on are those of the other from place `l` on. There may be more
+    /// where the rows are cut into runs, but 0 tells that the first ones differ. It takes no
+    /// memory.
     pub(crate) fn same_rows(&self, k: usize, other: &Rows, l: usize) -> usize
         requires row { k < length self.now }
         requires other { l < length other.now }
@@ -275,7 +279,8 @@ impl Rows {
         Ok(())
     }
 
-    /// Puts one row in the place of another, where the table keeps no second order and both are in one run: whether that is so.
+    /// Puts one row in the place of another, where the table keeps no second order and both are in
+    /// one run: whether that is so.
     fn move_in_run(&mut self, alloc: Global, step: &Move<'_>) -> Result<bool, NoMemory>
         requires cut { step.now.cut < length self.old }
         requires at { step.now.at ≤ length self.old }

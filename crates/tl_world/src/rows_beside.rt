@@ -26,7 +26,8 @@ pub(crate) fn are_named_from(
     true
 }
 
-/// Whether the rows of the two tables are found to be the same, but for those of facts that the changes name. It takes no memory.
+/// Whether the rows of the two tables are found to be the same, but for those of facts that the
+/// changes name. It takes no memory.
 ///
 /// Both tables are gone over once, side by side.
 pub(crate) fn are_rows_beside(

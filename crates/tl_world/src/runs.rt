@@ -19,9 +19,11 @@ use std::mem;
 use std::rc::Rc;
 use tl_syntax::{NoMemory, Value};
 
-/// Rows in runs that other tables may share, but for the last ones, which are the table's own. A table of few rows has no others. Contracts see the list of all rows.
+/// Rows in runs that other tables may share, but for the last ones, which are the table's own. A
+/// table of few rows has no others. Contracts see the list of all rows.
 ///
-/// A change copies the run in which it stands and the last rows, and shares the other runs (unrolled linked lists, Shao, Reppy and Appel 1994; leaves of a B+-tree, Comer 1979).
+/// A change copies the run in which it stands and the last rows, and shares the other runs
+/// (unrolled linked lists, Shao, Reppy and Appel 1994; leaves of a B+-tree, Comer 1979).
 #[derive(Drop)]
 pub(crate) struct Runs {
     shared: Shared,
@@ -99,7 +101,8 @@ impl Runs {
         }
     }
 
-    /// The rows with which row `k` stands in one list, and the place at which they begin. A run is found by halves where it is not the one that is guessed.
+    /// The rows with which row `k` stands in one list, and the place at which they begin. A run is
+    /// found by halves where it is not the one that is guessed.
     #[inline]
     fn part_of(&self, k: usize, guess: usize) -> (&Flat, usize)
         ensures part { IsPart self.now result.1 result.0.now }
@@ -116,7 +119,8 @@ impl Runs {
         }
     }
 
-    /// The rows among which one with these arguments stands or would stand, and the place at which they begin.
+    /// The rows among which one with these arguments stands or would stand, and the place at which
+    /// they begin.
     #[inline]
     fn part_for(&self, args: &[Value]) -> (&Flat, usize)
         ensures part { IsPartFor args.now self.now result.1 result.0.now }
@@ -218,13 +222,15 @@ impl Runs {
         self.begin_last(alloc, next)
     }
 
-    /// Whether the run goes in by sharing: one with few rows is copied, and so is one that fits in with the last rows.
+    /// Whether the run goes in by sharing: one with few rows is copied, and so is one that fits in
+    /// with the last rows.
     fn takes_run(&self, rows: &Flat) -> bool {
         let count = self.last.len();
         rows.len() >= FEWEST && (count == 0 || count + rows.len() > MOST)
     }
 
-    /// Some rows of the other from place `k` on, at the end, but none from the place `to` on. It gives the place after them. `guess` is a guess for the run of the other.
+    /// Some rows of the other from place `k` on, at the end, but none from the place `to` on. It
+    /// gives the place after them. `guess` is a guess for the run of the other.
     fn push_some(
         &mut self,
         alloc: Global,
@@ -252,7 +258,8 @@ impl Runs {
         Ok(next)
     }
 
-    /// Whole runs of the other from place `k` on at the end, where there are no last rows before them. It gives the place after them. `guess` is a guess for the run of the other.
+    /// Whole runs of the other from place `k` on at the end, where there are no last rows before
+    /// them. It gives the place after them. `guess` is a guess for the run of the other.
     fn push_whole(
         &mut self,
         other: &Runs,
@@ -274,7 +281,8 @@ impl Runs {
         self.shared.push_runs(&other.shared, k, to, guess)
     }
 
-    /// Some rows of the other from place `k` on, at the end, but none from the place `to` on, whole runs first. It gives the place after them. `guess` is a guess for the run of the other.
+    /// Some rows of the other from place `k` on, at the end, but none from the place `to` on, whole
+    /// runs first. It gives the place after them. `guess` is a guess for the run of the other.
     fn push_more(
         &mut self,
         alloc: Global,
@@ -336,7 +344,8 @@ impl Runs {
         Ok(out)
     }
 
-    /// Puts one more row at place `k`, in place where its run or the last rows have room. After a failure the rows are those of before.
+    /// Puts one more row at place `k`, in place where its run or the last rows have room. After a
+    /// failure the rows are those of before.
     pub(crate) fn put_row(&mut self, alloc: Global, k: usize, row: &[Value]) -> Result<(), NoMemory>
         requires { k ≤ length self.old }
         ensures all { OnOk result (self.new ≡ insert self.old k row.now) }
@@ -353,7 +362,8 @@ impl Runs {
         Ok(())
     }
 
-    /// Takes row `k` out, in place where it is among the last rows or its run has rows enough. After a failure the rows are those of before.
+    /// Takes row `k` out, in place where it is among the last rows or its run has rows enough.
+    /// After a failure the rows are those of before.
     pub(crate) fn cut_row(&mut self, alloc: Global, k: usize) -> Result<(), NoMemory>
         requires { k < length self.old }
         ensures all { OnOk result (self.new ≡ remove self.old k) }
@@ -371,7 +381,8 @@ impl Runs {
         Ok(())
     }
 
-    /// Puts one row in the place of another, where both are in one run or among the last rows: whether they are. After a failure the rows are those of before.
+    /// Puts one row in the place of another, where both are in one run or among the last rows:
+    /// whether they are. After a failure the rows are those of before.
     pub(crate) fn move_row(&mut self, alloc: Global, step: &Move<'_>) -> Result<bool, NoMemory>
         requires cut { step.now.cut < length self.old }
         requires at { step.now.at ≤ length self.old }
@@ -420,7 +431,9 @@ impl Runs {
         }
     }
 
-    /// How many rows from place `k` on are found to be those of the other from place `l` on, by one comparison of values: all rows of a run, where one with the same rows begins at each of the places, and else none.
+    /// How many rows from place `k` on are found to be those of the other from place `l` on, by one
+    /// comparison of values: all rows of a run, where one with the same rows begins at each of the
+    /// places, and else none.
     pub(crate) fn same_from(&self, k: usize, other: &Runs, l: usize) -> usize
         ensures same { take result (drop k self.now) ≡ take result (drop l other.now) }
         ensures many { length (take result (drop k self.now)) ≡ result }
@@ -434,7 +447,9 @@ impl Runs {
         }
     }
 
-    /// How many rows from place `k` on are those of the other from place `l` on, up to the end of a run of one of the two. A run with the same rows as one of the other is compared in one go, where the table is cut into runs.
+    /// How many rows from place `k` on are those of the other from place `l` on, up to the end of a
+    /// run of one of the two. A run with the same rows as one of the other is compared in one go,
+    /// where the table is cut into runs.
     pub(crate) fn same_rows(&self, k: usize, other: &Runs, l: usize) -> usize
         requires row { k < length self.now }
         requires other { l < length other.now }
@@ -487,7 +502,8 @@ impl PartialEq for Runs {
     }
 }
 
-/// The place of the row with these arguments, or the place at which it would stand, by halves: first over the first rows of the runs, and then in one of them.
+/// The place of the row with these arguments, or the place at which it would stand, by halves:
+/// first over the first rows of the runs, and then in one of them.
 #[inline(never)]
 fn find_in_runs(rows: &Runs, args: &[Value]) -> Result<usize, usize>
     ensures range { IsSearchInRange result (length rows.now) }

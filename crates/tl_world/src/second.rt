@@ -9,7 +9,9 @@ use std::alloc::Global;
 use std::marker::Model;
 use tl_syntax::{NoMemory, Value, Values};
 
-/// The rows of a table with their first two values exchanged, in order, where the table keeps them so too: then they are the rows by their second value, their first and the others (secondary index, Comer 1979). Contracts see the list of them, or none.
+/// The rows of a table with their first two values exchanged, in order, where the table keeps them
+/// so too: then they are the rows by their second value, their first and the others (secondary
+/// index, Comer 1979). Contracts see the list of them, or none.
 #[derive(Drop)]
 pub(crate) struct Second {
     rows: Option<Box<Runs>>,
@@ -141,7 +143,8 @@ impl Second {
         }
     }
 
-    /// What is kept with one more row, which is put into the exchanged rows. Nothing is kept any more where the row was there.
+    /// What is kept with one more row, which is put into the exchanged rows. Nothing is kept any
+    /// more where the row was there.
     pub(crate) fn put_row(self, alloc: Global, row: &[Value]) -> Result<Second, NoMemory>
         ensures { IfOk result (KeepsWith self row.now) }
     {
@@ -158,7 +161,8 @@ impl Second {
         }
     }
 
-    /// What is kept without the row, which is taken out of the exchanged rows. Nothing is kept any more where few rows are left.
+    /// What is kept without the row, which is taken out of the exchanged rows. Nothing is kept any
+    /// more where few rows are left.
     pub(crate) fn cut_row(self, alloc: Global, gone: &[Value]) -> Result<Second, NoMemory>
         ensures { IfOk result (KeepsWithout self gone.now) }
     {

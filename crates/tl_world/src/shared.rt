@@ -19,7 +19,8 @@ use tl_syntax::{NoMemory, Value};
 /// How many rows a run has at most, and so how many a table has that is not cut into runs.
 pub(crate) const MOST: usize = 48;
 
-/// How many rows a run has at least that is shared. One with fewer is copied, and so joined to the next.
+/// How many rows a run has at least that is shared. One with fewer is copied, and so joined to the
+/// next.
 pub(crate) const FEWEST: usize = 12;
 
 /// How many runs there are at least, where the one for a row is guessed.
@@ -133,7 +134,9 @@ fn look_between(low: usize, high: usize, guess: usize) -> usize
     }
 }
 
-/// The last run that does not begin after the arguments, or else the first one, found by halves. Of many runs those at growing distances from a guess are looked at before (exponential search, Bentley and Yao 1976).
+/// The last run that does not begin after the arguments, or else the first one, found by halves. Of
+/// many runs those at growing distances from a guess are looked at before (exponential search,
+/// Bentley and Yao 1976).
 fn find_run_for(runs: &[Run], args: &[Value]) -> usize
     requires counted { AreCounted 0 runs.now }
     requires some { 0 < length runs.now }
@@ -171,7 +174,8 @@ fn is_whole(run: &Run, to: usize) -> bool
     run.end <= to && run.rows.len() >= FEWEST
 }
 
-/// Takes row `k` out of the run, in place where no other table shares it. After a failure its rows are those of before.
+/// Takes row `k` out of the run, in place where no other table shares it. After a failure its rows
+/// are those of before.
 fn cut_in_run(alloc: Global, run: &mut Run, k: usize) -> Result<(), NoMemory>
     requires { k < length run.old.rows.value }
     ensures end { run.new.end ≡ run.old.end }
@@ -191,7 +195,8 @@ fn cut_in_run(alloc: Global, run: &mut Run, k: usize) -> Result<(), NoMemory>
     }
 }
 
-/// Puts one more row at place `k` into the run, in place where no other table shares it. After a failure its rows are those of before.
+/// Puts one more row at place `k` into the run, in place where no other table shares it. After a
+/// failure its rows are those of before.
 fn put_in_run(alloc: Global, run: &mut Run, k: usize, row: &[Value]) -> Result<(), NoMemory>
     requires place { k ≤ length run.old.rows.value }
     requires fits { HaveWidth (length row.now) run.old.rows.value }
@@ -209,7 +214,8 @@ fn put_in_run(alloc: Global, run: &mut Run, k: usize, row: &[Value]) -> Result<(
     }
 }
 
-/// Puts one row of the run in the place of another, in place where no other table shares the run. After a failure its rows are those of before.
+/// Puts one row of the run in the place of another, in place where no other table shares the run.
+/// After a failure its rows are those of before.
 fn move_in_run(alloc: Global, run: &mut Run, step: &Move<'_>) -> Result<(), NoMemory>
     requires cut { step.now.cut < length run.old.rows.value }
     requires at { step.now.at ≤ length run.old.rows.value }
@@ -256,7 +262,8 @@ fn raise_ends(runs: &mut Vec<Run>, i: usize)
 }
 
 impl Shared {
-    /// Takes row `k` out of its run, where that has rows enough: whether it has. After a failure the rows are those of before.
+    /// Takes row `k` out of its run, where that has rows enough: whether it has. After a failure
+    /// the rows are those of before.
     pub(crate) fn cut_row(&mut self, alloc: Global, k: usize) -> Result<bool, NoMemory>
         requires { k < length self.old }
         ensures all { IfOk result (λ b. b ≡ true → self.new ≡ remove self.old k) }
@@ -273,7 +280,8 @@ impl Shared {
         Ok(true)
     }
 
-    /// Puts one more row at place `k` into the run that has one there, where that has room: whether it has. After a failure the rows are those of before.
+    /// Puts one more row at place `k` into the run that has one there, where that has room: whether
+    /// it has. After a failure the rows are those of before.
     pub(crate) fn put_row(
         &mut self,
         alloc: Global,
@@ -298,7 +306,8 @@ impl Shared {
         Ok(true)
     }
 
-    /// Puts one row in the place of another, where both are in one run: whether they are. After a failure the rows are those of before.
+    /// Puts one row in the place of another, where both are in one run: whether they are. After a
+    /// failure the rows are those of before.
     pub(crate) fn move_row(&mut self, alloc: Global, step: &Move<'_>) -> Result<bool, NoMemory>
         requires { step.now.cut < length self.old }
         ensures all { IfOk result (λ b. b ≡ true → self.new ≡ moved_by self.old step.now) }
@@ -353,7 +362,8 @@ impl Shared {
         begin(runs, runs.len())
     }
 
-    /// The run in which row `k` stands, and the place at which it begins. It is found by halves where it is not the one that is guessed. The next run is then the guess.
+    /// The run in which row `k` stands, and the place at which it begins. It is found by halves
+    /// where it is not the one that is guessed. The next run is then the guess.
     #[inline]
     pub(crate) fn run_of(&self, k: usize, guess: &mut usize) -> (&Rc<Flat>, usize)
         requires { k < length self.now }
@@ -367,7 +377,8 @@ impl Shared {
         (&runs[i].rows, begin(runs, i))
     }
 
-    /// The run in which a row with these arguments stands or would stand, and the place at which it begins.
+    /// The run in which a row with these arguments stands or would stand, and the place at which it
+    /// begins.
     pub(crate) fn run_for(&self, args: &[Value]) -> (&Flat, usize)
         requires { 0 < length self.now }
         ensures part { IsPartFor args.now self.now result.1 result.0.now }
@@ -394,7 +405,9 @@ impl Shared {
         Ok(())
     }
 
-    /// Runs of the other at the end, which are shared: those from place `k` on, up to the first that has few rows or goes past the place `to`, and none where no run begins at `k`. It gives the place after them. `guess` is a guess for the run of the other.
+    /// Runs of the other at the end, which are shared: those from place `k` on, up to the first
+    /// that has few rows or goes past the place `to`, and none where no run begins at `k`. It gives
+    /// the place after them. `guess` is a guess for the run of the other.
     pub(crate) fn push_runs(
         &mut self,
         other: &Shared,

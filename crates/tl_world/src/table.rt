@@ -27,7 +27,8 @@ pub struct PlaceRow {
 
 /// The places of one function with their values. Contracts see it as the list of its rows.
 ///
-/// The arguments of all places stand in one list, and their values in another. Tables that differ in values alone share the arguments.
+/// The arguments of all places stand in one list, and their values in another. Tables that differ
+/// in values alone share the arguments.
 #[derive(Drop)]
 pub struct PlaceRows {
     args: Rc<Runs>,
@@ -107,7 +108,8 @@ fn values_set(
     Ok(out)
 }
 
-/// Puts one more row at place `k`, in place where no other table shares the rows. After a failure they are those of before.
+/// Puts one more row at place `k`, in place where no other table shares the rows. After a failure
+/// they are those of before.
 fn put_args(alloc: Global, args: &mut Rc<Runs>, k: usize, row: &[Value]) -> Result<(), NoMemory>
     requires { k ≤ length args.old.value }
     ensures all { OnOk result (args.new.value ≡ insert args.old.value k row.now) }

@@ -12,9 +12,11 @@ use indexmap::IndexSet;
 use std::alloc::Global;
 use tl_syntax::{Fact, NoMemory, PlaceValue};
 
-/// The numbers of the tables of worlds. That of a table is the number of the first world that was found to have the same facts of its predicate, or the same values at the places of its function.
+/// The numbers of the tables of worlds. That of a table is the number of the first world that was
+/// found to have the same facts of its predicate, or the same values at the places of its function.
 ///
-/// Those of the first worlds are known, each from its own place of one list on: of all worlds, where there was memory for them.
+/// Those of the first worlds are known, each from its own place of one list on: of all worlds,
+/// where there was memory for them.
 #[derive(Drop)]
 pub(crate) struct TableNumbers {
     pub(crate) alloc: Global,
@@ -23,7 +25,8 @@ pub(crate) struct TableNumbers {
     by_mark: Marks,
 }
 
-/// Where a world comes from: the number of another one, the facts that are deleted and added, and the places that are set.
+/// Where a world comes from: the number of another one, the facts that are deleted and added, and
+/// the places that are set.
 #[derive(Clone, Copy)]
 pub(crate) struct Source<'a> {
     pub(crate) from: usize,
@@ -33,7 +36,8 @@ pub(crate) struct Source<'a> {
 }
 
 impl<'a> Source<'a> {
-    /// Whether the changes name a fact of the predicate, or a place of the function. It takes no memory.
+    /// Whether the changes name a fact of the predicate, or a place of the function. It takes no
+    /// memory.
     fn changes(&self, table: TableName) -> bool
         ensures { result
             ≡ changes_table self.now.dels.now self.now.adds.now self.now.sets.now table }
@@ -69,7 +73,8 @@ fn known(by_mark: &Marks, worlds: &IndexSet<World>, world: &World, table: TableN
     }
 }
 
-/// The number of the table that the world of a number has: that of a world before, or else its own, which is noted then.
+/// The number of the table that the world of a number has: that of a world before, or else its own,
+/// which is noted then.
 fn number_anew(by_mark: &mut Marks, worlds: &IndexSet<World>, number: u32, table: TableName) -> u32
     requires { number < length worlds.now.keys }
     ensures { (w : PlainWorld) → slice_get worlds.now.keys number ≡ Some w
@@ -99,7 +104,8 @@ impl TableNumbers {
         }
     }
 
-    /// The numbers of the tables of the world of a number, from its first table on; those of other worlds follow. It takes no memory.
+    /// The numbers of the tables of the world of a number, from its first table on; those of other
+    /// worlds follow. It takes no memory.
     pub(crate) fn of(&self, number: usize) -> &[u32]
         ensures { result.now ≡ numbers_at self.now.starts.items self.now.all.items number }
     {
@@ -115,7 +121,8 @@ impl TableNumbers {
         }
     }
 
-    /// The number of the table that a world comes by with its source: None where the changes name its predicate or its function, or where the table has no number there.
+    /// The number of the table that a world comes by with its source: None where the changes name
+    /// its predicate or its function, or where the table has no number there.
     fn inherited(
         &self,
         worlds: &IndexSet<World>,
@@ -187,7 +194,8 @@ impl TableNumbers {
         Ok(numbers)
     }
 
-    /// Puts the numbers of the tables of one more world after the others, where there is memory for them.
+    /// Puts the numbers of the tables of one more world after the others, where there is memory for
+    /// them.
     fn push(&mut self, numbers: &[u32]) -> Result<(), NoMemory>
         ensures starts { OnOk result (GainsStart self.old self.new) }
         ensures refused { OnErr result (self.new.starts.items ≡ self.old.starts.items) }
@@ -200,7 +208,8 @@ impl TableNumbers {
         Ok(())
     }
 
-    /// Adds the numbers of the tables of the world of a number, which comes from a source, where it is the last one, those of all worlds before are known and there is memory for them.
+    /// Adds the numbers of the tables of the world of a number, which comes from a source, where it
+    /// is the last one, those of all worlds before are known and there is memory for them.
     pub(crate) fn add(&mut self, worlds: &IndexSet<World>, number: usize, source: &Source<'_>)
         requires number { number < length worlds.now.keys }
         requires numbered { AreNumbered worlds.now.keys self.old.starts.items self.old.all.items }
@@ -224,7 +233,8 @@ impl TableNumbers {
         }
     }
 
-    /// Keeps the numbers of the tables of so many worlds at most, and lets those of later ones go. It takes no memory.
+    /// Keeps the numbers of the tables of so many worlds at most, and lets those of later ones go.
+    /// It takes no memory.
     pub(crate) fn keep_first(&mut self, worlds: usize)
         ensures { (ws : List PlainWorld)
             → AreNumbered ws self.old.starts.items self.old.all.items

@@ -9,14 +9,16 @@ use crate::rows_beside::{are_named_from, are_rows_beside};
 use crate::same_number::is_same_number;
 use tl_syntax::Fact;
 
-/// Tables of facts with their numbers, as far as these are known: where two tables of one predicate have one number, their facts are the same.
+/// Tables of facts with their numbers, as far as these are known: where two tables of one predicate
+/// have one number, their facts are the same.
 #[derive(Clone, Copy)]
 pub(crate) struct NumberedTables<'a> {
     pub(crate) tables: &'a [Named<Rows>],
     pub(crate) numbers: &'a [u32],
 }
 
-/// Whether the two tables of one predicate, which have different numbers or none, are found to have the same facts, but for those that the changes name. It takes no memory.
+/// Whether the two tables of one predicate, which have different numbers or none, are found to have
+/// the same facts, but for those that the changes name. It takes no memory.
 fn is_table_beside(pred: u32, rows: &Rows, others: &Rows, dels: &[Fact], adds: &[Fact]) -> bool
     ensures { result ≡ true → AreRowsBeside dels.now adds.now pred rows.now others.now }
 {
@@ -27,7 +29,8 @@ fn is_table_beside(pred: u32, rows: &Rows, others: &Rows, dels: &[Fact], adds: &
     }
 }
 
-/// Whether all facts of the tables from a place on are such as the changes name. It takes no memory.
+/// Whether all facts of the tables from a place on are such as the changes name. It takes no
+/// memory.
 fn are_tables_named_from(tables: &[Named<Rows>], from: usize, dels: &[Fact], adds: &[Fact]) -> bool
     ensures { result ≡ true → AreTablesBeside dels.now adds.now (drop from tables.now) [] }
 {
@@ -42,9 +45,11 @@ fn are_tables_named_from(tables: &[Named<Rows>], from: usize, dels: &[Fact], add
     true
 }
 
-/// Whether the two lists of tables are found to have the same facts, but for those that the changes name. It takes no memory.
+/// Whether the two lists of tables are found to have the same facts, but for those that the changes
+/// name. It takes no memory.
 ///
-/// Both lists are gone over once, side by side. Tables with one number are passed without a look at their rows.
+/// Both lists are gone over once, side by side. Tables with one number are passed without a look at
+/// their rows.
 pub(crate) fn are_tables_beside(
     these: &NumberedTables<'_>,
     those: &NumberedTables<'_>,

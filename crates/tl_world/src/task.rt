@@ -12,7 +12,8 @@ use crate::unmet::Unmet;
 use std::alloc::Global;
 use tl_syntax::{NoMemory, Problem};
 
-/// A problem with its initial world and its goal list, seen as worlds, in which all is named as in the problem.
+/// A problem with its initial world and its goal list, seen as worlds, in which all is named as in
+/// the problem.
 #[derive(Drop)]
 pub struct Task {
     /// The problem.
@@ -81,14 +82,17 @@ impl Task {
         }
     }
 
-    /// The goal test: whether each fact of the goal is in the world, each place of the goal has its value there, and no negated fact is in the world.
+    /// The goal test: whether each fact of the goal is in the world, each place of the goal has its
+    /// value there, and no negated fact is in the world.
     /// It takes no memory.
     pub fn met(&self, w: &World) -> bool
         ensures { result ≡ meets_goal w.now (plain_problem self.now.problem).goal (plain_problem self.now.problem).avoid }
     {
         w.has_all_facts(&self.goal) && (w.has_all_values(&self.goal) && w.has_no_fact(&self.avoid))
     }
-    /// The goal test, as `met`, for many worlds one after another. A fact of the goal that the world lacks is looked for first from the place on at which one was found last, which the call leaves there for the next: in a search most worlds lack what the world before lacked.
+    /// The goal test, as `met`, for many worlds one after another. A fact of the goal that the
+    /// world lacks is looked for first from the place on at which one was found last, which the
+    /// call leaves there for the next: in a search most worlds lack what the world before lacked.
     /// It takes no memory.
     pub fn met_from(&self, w: &World, unmet: &mut Unmet) -> bool
         ensures { result ≡ meets_goal w.now (plain_problem self.now.problem).goal (plain_problem self.now.problem).avoid }
@@ -103,7 +107,8 @@ impl Task {
         }
     }
 
-    /// The place of a fact of the goal that the world lacks: from the given place on in its table, or else in any table.
+    /// The place of a fact of the goal that the world lacks: from the given place on in its table,
+    /// or else in any table.
     fn lacked_by(&self, w: &World, from: Unmet) -> Option<Unmet>
         ensures { IfSome result (λ _. LacksFacts w.now self.now.goal) }
     {

@@ -129,9 +129,11 @@ impl World {
         whole(Vec::new(alloc), Vec::new(alloc))
     }
 
-    /// The world with these facts and these places; of two values for one place the earlier counts. It fails for want of memory alone.
+    /// The world with these facts and these places; of two values for one place the earlier counts.
+    /// It fails for want of memory alone.
     ///
-    /// More than a few facts are sorted first, so that each is found by halves and stands at the end of its table.
+    /// More than a few facts are sorted first, so that each is found by halves and stands at the
+    /// end of its table.
     pub fn of(alloc: Global, facts: &[Fact], places: &[PlaceValue]) -> Result<World, NoMemory>
         ensures same { IfOk result (λ w. w ≡ world_of facts.now places.now) }
         ensures named { IfOk result (λ w. IsNamedByParts facts.now places.now w) }
@@ -139,7 +141,8 @@ impl World {
         World::new(alloc).changed(alloc, &[], facts, places)
     }
 
-    /// Whether the fact of the predicate `pred` with these arguments is in the world. It takes no memory. The table and the row are found by halves.
+    /// Whether the fact of the predicate `pred` with these arguments is in the world. It takes no
+    /// memory. The table and the row are found by halves.
     pub fn holds(&self, pred: u32, args: &[Value]) -> bool
         ensures { result ≡ has_fact self.now (pred, args.now) }
     {
@@ -153,7 +156,8 @@ impl World {
         }
     }
 
-    /// The value of the place of the function `fun` with these arguments: None exactly where it has none. It takes no memory.
+    /// The value of the place of the function `fun` with these arguments: None exactly where it has
+    /// none. It takes no memory.
     pub fn value(&self, fun: u32, args: &[Value]) -> Option<Value>
         ensures { result ≡ value_at self.now (fun, args.now) }
     {
@@ -169,7 +173,8 @@ impl World {
         }
     }
 
-    /// The arguments of the facts of the predicate `pred`, each once, in lexicographic value order: None exactly where there is no such fact.
+    /// The arguments of the facts of the predicate `pred`, each once, in lexicographic value order:
+    /// None exactly where there is no such fact.
     /// It takes no memory.
     pub fn rows(&self, pred: u32) -> Option<&Rows>
         ensures none { IfNone result ((a : List _) → has_fact self.now (pred, a) ≡ false) }
@@ -186,7 +191,8 @@ impl World {
         }
     }
 
-    /// The places of the function `fun` with their values, by the lexicographic value order of their arguments: None exactly where no place of `fun` has a value.
+    /// The places of the function `fun` with their values, by the lexicographic value order of
+    /// their arguments: None exactly where no place of `fun` has a value.
     /// It takes no memory.
     pub fn places(&self, fun: u32) -> Option<&PlaceRows>
         ensures none { IfNone result ((a : List _) → value_at self.now (fun, a) ≡ None) }
@@ -203,12 +209,25 @@ impl World {
         }
     }
 
-    /// This world without the facts of `dels`, with those of `adds`, and with the values of `sets`; of two values for one place the earlier counts.
-    /// This world stays as it is, and tables that do not change are shared. It fails for want of memory alone.
+    /// This world without the facts of `dels`, with those of `adds`, and with the values of `sets`;
+    /// of two values for one place the earlier counts.
+    /// This world stays as it is, and tables that do not change are shared. It fails for want of
+    /// memory alone.
     ///
-    /// A table is copied once: by the first fact that is deleted from it, where one that is added to it comes in with the same copy, or else by the first that is added to it. Later facts are taken out of the copy and put into it where they stand, one that goes and one that comes in one step where that can be. In a table of more than 48 rows the run in which such a fact stands is copied once, where other tables share it. A run that would be left with fewer than 12 rows, or grow past 48, makes its table be copied once more.
-    /// A copy of a table of facts takes its rows where they are at most 48. Of a larger one it takes the runs in which rows change and the last rows, some 150 rows at most, and a step for each of the other runs, which the worlds share: a table of n rows has some n / 48 to n / 12 of them. A copy of a table of places takes the values, and the arguments too where a place comes in that had no value.
-    /// A table of facts that grows past 128 rows is sorted by the second value once, and its rows by the second value are copied with it from then on, so that a copy takes about twice the steps.
+    /// A table is copied once: by the first fact that is deleted from it, where one that is added
+    /// to it comes in with the same copy, or else by the first that is added to it. Later facts are
+    /// taken out of the copy and put into it where they stand, one that goes and one that comes in
+    /// one step where that can be. In a table of more than 48 rows the run in which such a fact
+    /// stands is copied once, where other tables share it. A run that would be left with fewer than
+    /// 12 rows, or grow past 48, makes its table be copied once more.
+    /// A copy of a table of facts takes its rows where they are at most 48. Of a larger one it
+    /// takes the runs in which rows change and the last rows, some 150 rows at most, and a step for
+    /// each of the other runs, which the worlds share: a table of n rows has some n / 48 to n / 12
+    /// of them. A copy of a table of places takes the values, and the arguments too where a place
+    /// comes in that had no value.
+    /// A table of facts that grows past 128 rows is sorted by the second value once, and its rows
+    /// by the second value are copied with it from then on, so that a copy takes about twice the
+    /// steps.
     pub fn changed(
         &self,
         alloc: Global,
@@ -280,7 +299,8 @@ impl World {
         }
     }
 
-    /// A number that is the same for worlds with the same table of this name, and seldom for others. It takes no memory.
+    /// A number that is the same for worlds with the same table of this name, and seldom for
+    /// others. It takes no memory.
     pub(crate) fn mark_of_table(&self, table: TableName) -> u64 {
         match table {
             TableName::Pred(pred) => match self.rows(pred) {
@@ -304,7 +324,8 @@ impl World {
         }
     }
 
-    /// Whether the worlds are found to have the same values at the places of the function. It takes no memory.
+    /// Whether the worlds are found to have the same values at the places of the function. It takes
+    /// no memory.
     fn has_same_values(&self, other: &World, fun: u32) -> bool
         ensures { result ≡ true → AreAlikeOf (Fun fun) self.now other.now }
     {
@@ -324,7 +345,8 @@ impl World {
         }
     }
 
-    /// Whether the worlds are found to have the same facts, but for those that the changes name. It takes no memory.
+    /// Whether the worlds are found to have the same facts, but for those that the changes name. It
+    /// takes no memory.
     pub(crate) fn is_beside<'a>(
         &'a self,
         numbers: &'a [u32],
@@ -348,7 +370,8 @@ impl World {
         are_tables_beside(&these, &those, dels, adds)
     }
 
-    /// Whether the places of the worlds are found to have the same values, but for those that are set. It takes no memory.
+    /// Whether the places of the worlds are found to have the same values, but for those that are
+    /// set. It takes no memory.
     pub(crate) fn has_values_beside<'a>(
         &'a self,
         numbers: &'a [u32],
@@ -376,7 +399,8 @@ impl World {
         mark_of_facts(self.facts.as_slice()).wrapping_add(mark_of_places(self.places.as_slice()))
     }
 
-    /// The mark of the world that the changes make of this one, where each deleted fact is in it and no added one is. It takes no memory.
+    /// The mark of the world that the changes make of this one, where each deleted fact is in it
+    /// and no added one is. It takes no memory.
     pub(crate) fn mark_after(&self, dels: &[Fact], adds: &[Fact], sets: &[PlaceValue]) -> u64 {
         let mut mark = changed_mark(self.mark(), dels, adds);
         for p in sets {
@@ -386,7 +410,8 @@ impl World {
         mark
     }
 
-    /// That mark, where a deleted fact may not be in this world and an added one may be. It takes no memory.
+    /// That mark, where a deleted fact may not be in this world and an added one may be. It takes
+    /// no memory.
     #[inline(never)]
     pub(crate) fn corrected_mark(&self, mark: u64, dels: &[Fact], adds: &[Fact]) -> u64 {
         let mut exact = mark;
@@ -425,7 +450,8 @@ impl World {
         self.gives_each(other.places.as_slice())
     }
 
-    /// A place in the table of the other world's facts from the place `at` on with a fact that is not in this world.
+    /// A place in the table of the other world's facts from the place `at` on with a fact that is
+    /// not in this world.
     pub(crate) fn lacking(&self, other: &World, at: Unmet) -> Option<Unmet>
         ensures { IfSome result (λ _. LacksFacts self.now other.now) }
     {
@@ -443,7 +469,8 @@ impl World {
         }
     }
 
-    /// The place of the first row from a place on that is not the arguments of a fact in this world.
+    /// The place of the first row from a place on that is not the arguments of a fact in this
+    /// world.
     fn lacking_row(&self, pred: u32, rows: &Rows, from: usize) -> Option<usize>
         ensures { IfSome result (λ _. list_all (has_row self.now pred) rows.now ≡ false) }
     {

@@ -13,9 +13,13 @@ use indexmap::IndexSet;
 use std::alloc::Global;
 use tl_syntax::{Fact, NoMemory, PlaceValue};
 
-/// Worlds by numbers: each number below `len` is of one world, and equal worlds have one number. Numbers keep their worlds after every call but that which lets one go, a refused one included.
+/// Worlds by numbers: each number below `len` is of one world, and equal worlds have one number.
+/// Numbers keep their worlds after every call but that which lets one go, a refused one included.
 ///
-/// A world is found by its code, and then compared with the kept worlds of that code. One that changes make of a kept world is guessed by its mark before it is made. Tables of facts and of places have numbers too, so that those which the changes leave alone are compared by their numbers.
+/// A world is found by its code, and then compared with the kept worlds of that code. One that
+/// changes make of a kept world is guessed by its mark before it is made. Tables of facts and of
+/// places have numbers too, so that those which the changes leave alone are compared by their
+/// numbers.
 #[derive(Drop)]
 pub struct Worlds {
     alloc: Global,
@@ -64,7 +68,8 @@ impl Worlds {
         self.table.get_index(number).unwrap()
     }
 
-    /// The number of the world: the one that it has, or else the next one. It fails for want of memory alone, for a world without a number, and then drops the world.
+    /// The number of the world: the one that it has, or else the next one. It fails for want of
+    /// memory alone, for a world without a number, and then drops the world.
     pub fn number(&mut self, world: World) -> Result<usize, NoMemory>
         ensures number { IfOk result (λ n. slice_get (worlds_in self.new) n ≡ Some world) }
         ensures known { (n : ℕ) → slice_get (worlds_in self.old) n ≡ Some world → result ≡ Ok n }
@@ -81,7 +86,8 @@ impl Worlds {
         self.keep(world, &source)
     }
 
-    /// The number of the world, which comes from a source: the one that it has, or else the next one.
+    /// The number of the world, which comes from a source: the one that it has, or else the next
+    /// one.
     fn keep(&mut self, world: World, source: &Source<'_>) -> Result<usize, NoMemory>
         requires { ComesFrom (worlds_in self.old) source.now.from
             source.now.dels.now source.now.adds.now source.now.sets.now world }
@@ -110,7 +116,8 @@ impl Worlds {
         }
     }
 
-    /// The number of the world that comes from the source, where it is the one that was noted last with the mark. It takes no memory.
+    /// The number of the world that comes from the source, where it is the one that was noted last
+    /// with the mark. It takes no memory.
     fn find_by_mark(&self, mark: u64, source: &Source<'_>) -> Option<usize>
         requires { source.now.from < length (worlds_in self.now) }
         ensures { IfSome result (IsNumberAfter (worlds_in self.now) source.now.from
@@ -129,9 +136,13 @@ impl Worlds {
         }
     }
 
-    /// The number of the world that the changes make of the world of the number `from`, where it is found without making that world. It may have a number where none is found. It takes no memory.
+    /// The number of the world that the changes make of the world of the number `from`, where it is
+    /// found without making that world. It may have a number where none is found. It takes no
+    /// memory.
     ///
-    /// It is found where none of the changes is given twice, and no later world has the same mark. At first each deleted fact is taken to be in the world of `from`, and no added one; where nothing is found so, those are looked up of which that is not true.
+    /// It is found where none of the changes is given twice, and no later world has the same mark.
+    /// At first each deleted fact is taken to be in the world of `from`, and no added one; where
+    /// nothing is found so, those are looked up of which that is not true.
     pub fn find_after(
         &self,
         from: usize,
@@ -161,9 +172,12 @@ impl Worlds {
         self.find_by_mark(exact, &source)
     }
 
-    /// The number of the world that the changes make of the world of the number `from`: the one that it has, or else the next one. It fails for want of memory alone.
+    /// The number of the world that the changes make of the world of the number `from`: the one
+    /// that it has, or else the next one. It fails for want of memory alone.
     ///
-    /// A world that has a number is seldom made, but is found as by `find_after`. The tables of a new world that the changes leave alone keep the numbers that they have in the world of `from`.
+    /// A world that has a number is seldom made, but is found as by `find_after`. The tables of a
+    /// new world that the changes leave alone keep the numbers that they have in the world of
+    /// `from`.
     pub fn number_after(
         &mut self,
         from: usize,

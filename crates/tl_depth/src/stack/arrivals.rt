@@ -223,7 +223,8 @@ impl DepthFirst {
         Ok(())
     }
 
-    /// The executable actions of a pair: those that are remembered, or else those that the space lists.
+    /// The executable actions of a pair: those that are remembered, or else those that the space
+    /// lists.
     fn actions_of<S: Pairs>(
         &mut self,
         alloc: Global,
@@ -257,7 +258,8 @@ impl DepthFirst {
         }
     }
 
-    /// The executable actions of a pair, where they are remembered. While no pair is entered again nothing is, and no memory is taken for it.
+    /// The executable actions of a pair, where they are remembered. While no pair is entered again
+    /// nothing is, and no memory is taken for it.
     fn remembered_actions(
         &mut self,
         alloc: Global,

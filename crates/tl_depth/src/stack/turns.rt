@@ -57,7 +57,8 @@ impl DepthFirst {
         self.arrived(alloc, space, nodes, arrival, left)
     }
 
-    /// The top level's next action is tried, and what arrives is reported: what is remembered, or else what the space answers.
+    /// The top level's next action is tried, and what arrives is reported: what is remembered, or
+    /// else what the space answers.
     fn attempt<S: Pairs, L: Ledger>(
         &mut self,
         alloc: Global,

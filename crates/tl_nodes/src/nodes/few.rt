@@ -11,7 +11,8 @@ pub(crate) const FEW: usize = 32;
 /// How many places there are for what was seen.
 const PLACES: usize = 4096;
 
-/// Numbers in the order in which they came first, each once. The room for them is used again and again.
+/// Numbers in the order in which they came first, each once. The room for them is used again and
+/// again.
 #[derive(Drop)]
 pub(crate) struct Few {
     ids: Vec<usize>,

@@ -7,7 +7,8 @@ use super::filled::{FEW_BINDINGS, Filled, home_of};
 use tl_syntax::Binding;
 
 impl Nodes {
-    /// The number of the tree with the values put in for free variables, where that is remembered. It takes no memory.
+    /// The number of the tree with the values put in for free variables, where that is remembered.
+    /// It takes no memory.
     pub fn find_filled(&self, at: usize, bindings: &[Binding]) -> Option<usize>
         ensures { IfSome result (λ i. Denotes self.now i (filled_at self.now bindings.now at)) }
     {
@@ -20,7 +21,8 @@ impl Nodes {
         }
     }
 
-    /// Remembers the number of the tree with the values put in, where they are few. Another one may be forgotten for it. It takes no memory.
+    /// Remembers the number of the tree with the values put in, where they are few. Another one may
+    /// be forgotten for it. It takes no memory.
     pub fn keep_filled(&mut self, at: usize, bindings: &[Binding], number: usize)
         requires at { at < length (trees self.old) }
         requires number { Denotes self.old number (filled_at self.old bindings.now at) }

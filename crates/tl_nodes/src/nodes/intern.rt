@@ -12,7 +12,8 @@ use crate::Node;
 use tl_syntax::NoMemory;
 
 impl Nodes {
-    /// The number of the node's very tree, without simplification: the one that it has, or else the next one.
+    /// The number of the node's very tree, without simplification: the one that it has, or else the
+    /// next one.
     /// A refused call drops the node and leaves all trees as they were.
     pub fn intern(&mut self, node: Node) -> Result<usize, NoMemory>
         requires { fits (length (trees self.old)) node ≡ true }

@@ -16,8 +16,9 @@ use std::mem;
 use tl_syntax::{Ids, Junction, NoMemory};
 
 impl Nodes {
-    /// The number of the parts' conjunction: inner conjunctions are opened, a part false gives false, each true is dropped,
-    /// of equal parts the first stays, no part gives true, and one part stands alone.
+    /// The number of the parts' conjunction: inner conjunctions are opened, a part false gives
+    /// false, each true is dropped, of equal parts the first stays, no part gives true, and one
+    /// part stands alone.
     pub fn and(&mut self, parts: &[usize]) -> Result<usize, NoMemory>
         requires { all_below (length (trees self.old)) parts.now ≡ true }
         ensures number { GivesNumber self.new (conjunction_of self.old parts.now) result }
@@ -128,7 +129,8 @@ impl Nodes {
         }
     }
 
-    // The number of the join of these numbers, which is remembered then. Another one may be forgotten for it.
+    // The number of the join of these numbers, which is remembered then. Another one may be
+    // forgotten for it.
     fn join_anew(
         &mut self,
         home: usize,

@@ -12,7 +12,8 @@ use std::alloc::Global;
 use tl_syntax::{Junction, NoMemory};
 
 impl Nodes {
-    // What is left of the parts, where they are few, none is a join of the same kind, and what is left stands in a row. It takes no memory.
+    // What is left of the parts, where they are few, none is a join of the same kind, and what is
+    // left stands in a row. It takes no memory.
     pub(crate) fn row_left<'a>(&self, parts: &'a [usize], junction: Junction) -> Option<&'a [usize]>
         requires { all_below (length (trees self.now)) parts.now ≡ true }
         ensures { IfSome result (λ row. IsOpened (trees self.now) junction parts.now row.now) }
@@ -41,7 +42,8 @@ impl Nodes {
         Some(&parts[from..to])
     }
 
-    // Puts what is left of the parts to no numbers, where none is nested in a join of a part. False: one is, or there is no memory.
+    // Puts what is left of the parts to no numbers, where none is nested in a join of a part.
+    // False: one is, or there is no memory.
     pub(crate) fn put_few_left(&self, few: &mut Few, parts: &[usize], junction: Junction) -> bool
         requires below { all_below (length (trees self.now)) parts.now ≡ true }
         requires none { few.old ≡ [] }
@@ -59,7 +61,8 @@ impl Nodes {
         true
     }
 
-    // Keeps the parts of a join. False: one of them is a join of the same kind, or there is no memory.
+    // Keeps the parts of a join. False: one of them is a join of the same kind, or there is no
+    // memory.
     fn keep_all(&self, few: &mut Few, ids: &[usize], junction: Junction) -> bool
         requires { all_below (length (trees self.now)) ids.now ≡ true }
         ensures { IsTrue result → GoesOnWith self.now junction ids.now few.old few.new }

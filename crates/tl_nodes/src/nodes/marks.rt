@@ -1,4 +1,5 @@
-// Fingerprints of facts and of their negations. No clause speaks of them: two trees may have the same.
+// Fingerprints of facts and of their negations. No clause speaks of them: two trees may have the
+// same.
 
 use super::filled::{mixed, word_of};
 use crate::Node;

@@ -9,7 +9,8 @@ use crate::Node;
 use tl_syntax::NoMemory;
 
 impl Nodes {
-    /// The number of the part's negation: of a constant the other one, of a negation its part, else the negation.
+    /// The number of the part's negation: of a constant the other one, of a negation its part, else
+    /// the negation.
     pub fn not(&mut self, part: usize) -> Result<usize, NoMemory>
         requires { part < length (trees self.old) }
         ensures number { GivesNumber self.new (negation_of self.old part) result }

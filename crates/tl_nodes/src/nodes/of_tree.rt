@@ -12,7 +12,8 @@ use crate::Node;
 use tl_syntax::{Formula, Formulas, Ids, NoMemory};
 
 impl Nodes {
-    /// The number of the formula's very tree, without simplification. It goes as deep as the formula is nested.
+    /// The number of the formula's very tree, without simplification. It goes as deep as the
+    /// formula is nested.
     /// A refused call may have added numbers for parts of the formula.
     #[cycle(of_tree)]
     pub fn of_tree(&mut self, f: &Formula) -> Result<usize, NoMemory>

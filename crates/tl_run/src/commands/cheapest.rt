@@ -123,7 +123,8 @@ fn space_reply(
     }
 }
 
-/// The outcome of a search for a plan of a problem that is cheapest by these costs, or the operation past range at which the search ends.
+/// The outcome of a search for a plan of a problem that is cheapest by these costs, or the
+/// operation past range at which the search ends.
 pub(crate) fn reply(
     alloc: Global,
     problem: Problem,

@@ -44,7 +44,8 @@ fn verdict_reply(alloc: Global, verdict: Verdict) -> Result<Reply, NoMemory>
     Ok(Reply { status, text })
 }
 
-/// The reply where the check of a plan ends with a fault: to `check`, and to `sample` where its search gave the plan.
+/// The reply where the check of a plan ends with a fault: to `check`, and to `sample` where its
+/// search gave the plan.
 pub(crate) fn fault_reply(
     alloc: Global,
     problem: &Problem,

@@ -115,7 +115,8 @@ fn space_reply(alloc: Global, space: &mut Space, proof: &Proof) -> Result<Reply,
     }
 }
 
-/// The verdict on a proof that a problem has no plan, or the operation past range that its check looks at.
+/// The verdict on a proof that a problem has no plan, or the operation past range that its check
+/// looks at.
 pub(crate) fn reply(alloc: Global, problem: Problem, proof: &Proof) -> Result<Reply, NoMemory>
     requires few { length proof.now.links ≤ 100000 }
     ensures { (d p q : List ℕ) → IfOk result (Replies (commands.check_none d p q) (a_proof problem proof.now)) }

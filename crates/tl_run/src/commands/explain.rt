@@ -51,7 +51,8 @@ fn task_reply(alloc: Global, task: &Task, plan: &[Action]) -> Result<Reply, NoMe
     }
 }
 
-/// The lines that explain a plan of a problem, or the operation past range that is looked at along it.
+/// The lines that explain a plan of a problem, or the operation past range that is looked at along
+/// it.
 pub(crate) fn reply(alloc: Global, problem: Problem, plan: &[Action]) -> Result<Reply, NoMemory>
     requires named { Each (ActionIsNamed problem.names problem.domain.operators) plan.now }
     requires few { length plan.now ≤ 100000 }

@@ -52,7 +52,8 @@ fn space_reply(alloc: Global, space: &mut Space, search: Search) -> Result<Reply
     }
 }
 
-/// The outcome of a search for a plan of a problem, or the operation past range at which the search ends.
+/// The outcome of a search for a plan of a problem, or the operation past range at which the search
+/// ends.
 pub(crate) fn reply(alloc: Global, problem: Problem, search: Search) -> Result<Reply, NoMemory>
     requires { IsWithinLimits search }
     ensures { (d p : List ℕ) → IfOk result (Replies (commands.search search d p) (a_problem problem)) }

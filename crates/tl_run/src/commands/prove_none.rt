@@ -110,7 +110,8 @@ fn space_reply(alloc: Global, space: &mut Space, search: Search) -> Result<Reply
     }
 }
 
-/// The proof that a problem has no plan, or the outcome of a search that leaves none, or the operation past range at which the search ends.
+/// The proof that a problem has no plan, or the outcome of a search that leaves none, or the
+/// operation past range at which the search ends.
 pub(crate) fn reply(alloc: Global, problem: Problem, search: Search) -> Result<Reply, NoMemory>
     requires breadth { search.mode ≡ Mode.Breadth }
     requires limits { IsWithinLimits search }

@@ -77,7 +77,8 @@ fn verdict_line(alloc: Global, verdict: Option<Verdict>) -> Result<Bytes, NoMemo
     }
 }
 
-/// The lines of a sample of so many balls, of whose search this is the outcome, with so many kept search nodes.
+/// The lines of a sample of so many balls, of whose search this is the outcome, with so many kept
+/// search nodes.
 fn summary(
     alloc: Global,
     balls: u32,
@@ -137,7 +138,8 @@ fn outcome_reply(
     }
 }
 
-/// Searches a space in which nothing is kept, depth-first and over a count of steps of its own. Events are watched, since they say which search nodes were kept along the plan.
+/// Searches a space in which nothing is kept, depth-first and over a count of steps of its own.
+/// Events are watched, since they say which search nodes were kept along the plan.
 fn searched<L: Ledger>(
     alloc: Global,
     space: &mut Space,
@@ -179,7 +181,8 @@ fn space_reply(alloc: Global, space: &mut Space, balls: u32) -> Result<Reply, No
     }
 }
 
-/// The outcome of the search of the sample of so many balls, whose problem this is, and the verdict on its plan; or the operation past range at which one of them ends.
+/// The outcome of the search of the sample of so many balls, whose problem this is, and the verdict
+/// on its plan; or the operation past range at which one of them ends.
 pub(crate) fn reply(alloc: Global, problem: Problem, balls: u32) -> Result<Reply, NoMemory>
     requires { balls ≤ 100 }
     ensures { IfOk result (Replies (commands.sample balls) (a_problem problem)) }

@@ -1,4 +1,5 @@
-// What `plan`, `trace`, `prove-none` and `sample` have in common: a space is searched, and the search may end at an operation past range.
+// What `plan`, `trace`, `prove-none` and `sample` have in common: a space is searched, and the
+// search may end at an operation past range.
 ghost use Rattle.std.specs.Prelude.{◌≡◌, ◌<◌, ℕ, List, [], true, IfOk, IfErr};
 ghost use Rattle.tl_search.specs.NamedAnswers.{EventsAreNamed, FaultIsNamed, OutcomeIsNamed};
 ghost use Rattle.tl_space.specs.Spaces.{task_of, problem_of, kept_of};
@@ -38,7 +39,8 @@ pub(crate) fn status_of(outcome: &Outcome) -> Status
     }
 }
 
-/// The reply where a search ends with a fault: to `plan`, to `trace`, which shows no events then, to `prove-none`, and to `sample` where this is its search.
+/// The reply where a search ends with a fault: to `plan`, to `trace`, which shows no events then,
+/// to `prove-none`, and to `sample` where this is its search.
 pub(crate) fn fault_reply(
     alloc: Global,
     problem: &Problem,
@@ -64,7 +66,8 @@ pub(crate) fn fault_reply(
     }
 }
 
-/// Searches a space in which nothing is kept, over a count of steps of its own, with or without events: one line for each mode.
+/// Searches a space in which nothing is kept, over a count of steps of its own, with or without
+/// events: one line for each mode.
 pub(crate) fn searched<L: Ledger>(
     alloc: Global,
     space: &mut Space,

@@ -67,7 +67,8 @@ fn space_reply(alloc: Global, space: &mut Space, search: Search) -> Result<Reply
     }
 }
 
-/// The events and the outcome of a search for a plan of a problem, or the operation past range at which the search ends.
+/// The events and the outcome of a search for a plan of a problem, or the operation past range at
+/// which the search ends.
 pub(crate) fn reply(alloc: Global, problem: Problem, search: Search) -> Result<Reply, NoMemory>
     requires { IsWithinLimits search }
     ensures { (d p : List ℕ) → IfOk result (Replies (commands.trace search d p) (a_problem problem)) }

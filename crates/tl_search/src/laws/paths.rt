@@ -6,7 +6,8 @@ pub fn pair_goes_on()
     ensures { PairGoesOn }
 {}
 
-/// A walk in the graph of pairs leads to a pair exactly where it is a path with that pair, whose residual is not FALSE.
+/// A walk in the graph of pairs leads to a pair exactly where it is a path with that pair, whose
+/// residual is not FALSE.
 pub fn walks_have_pairs()
     ensures { WalksHavePairs }
 {}

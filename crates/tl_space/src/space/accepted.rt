@@ -8,7 +8,8 @@ use tl_progress::{ProgressFault, idle};
 use tl_search::SpaceFault;
 
 impl Space {
-    /// Whether the pair is accepted: its world meets the goal, and its residual holds where that world is repeated for ever. Nothing that is kept changes.
+    /// Whether the pair is accepted: its world meets the goal, and its residual holds where that
+    /// world is repeated for ever. Nothing that is kept changes.
     pub fn accepted(&mut self, at: usize) -> Result<bool, SpaceFault>
         requires { at < length (kept_of self.old) }
         ensures grows { Grows self.old self.new }

@@ -9,7 +9,8 @@ use tl_search::SpaceFault;
 use tl_terms::Actions;
 
 impl Space {
-    /// The executable actions of the pair, each once, in action order. Nothing that is kept changes.
+    /// The executable actions of the pair, each once, in action order. Nothing that is kept
+    /// changes.
     pub fn actions(&mut self, at: usize) -> Result<Actions, SpaceFault>
         requires { at < length (kept_of self.old) }
         ensures grows { Grows self.old self.new }

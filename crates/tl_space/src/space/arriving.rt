@@ -22,7 +22,8 @@ impl Space {
         self.arrivals.get(key)
     }
 
-    /// What is known of the pair of these numbers: it is pruned where its formula is FALSE, or is kept already.
+    /// What is known of the pair of these numbers: it is pruned where its formula is FALSE, or is
+    /// kept already.
     fn known(&self, numbers: Numbers) -> Option<Arrival>
         requires { AreNumbersIn self.now numbers }
         ensures known { IfSome result (IsKnown (nodes_in self.now) (node_in self.now numbers)) }
@@ -66,7 +67,8 @@ impl Space {
         }
     }
 
-    /// What is found of the arrival in this world with this formula: by memory, or else anew. Nothing is kept yet.
+    /// What is found of the arrival in this world with this formula: by memory, or else anew.
+    /// Nothing is kept yet.
     pub(crate) fn find(&mut self, key: Numbers) -> Result<Found, ProgressFault>
         requires { AreNumbersIn self.old key }
         ensures keeps { KeepsPairs self.old self.new }
@@ -79,7 +81,8 @@ impl Space {
         }
     }
 
-    /// What is found of the arrival that is not remembered: at once where TRUE comes in, or else by progression.
+    /// What is found of the arrival that is not remembered: at once where TRUE comes in, or else by
+    /// progression.
     fn find_first(&mut self, key: Numbers) -> Result<Found, ProgressFault>
         requires { AreNumbersIn self.old key }
         ensures keeps { KeepsPairs self.old self.new }
@@ -132,7 +135,8 @@ impl Space {
         }
     }
 
-    /// What is found of the first arrival in a new world: at once where TRUE comes in, or else by progression. Nothing is remembered of it.
+    /// What is found of the first arrival in a new world: at once where TRUE comes in, or else by
+    /// progression. Nothing is remembered of it.
     pub(crate) fn find_in_new(&mut self, key: Numbers) -> Result<Found, ProgressFault>
         requires { AreNumbersIn self.old key }
         ensures keeps { KeepsPairs self.old self.new }

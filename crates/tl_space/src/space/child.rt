@@ -16,8 +16,11 @@ use tl_search::{Arrival, SpaceFault};
 use tl_terms::{Action, NoMemory, Steps};
 
 impl Space {
-    /// The pair after an executable action of the pair `at` arrives. It is pruned exactly where its residual is FALSE, is seen exactly where it is kept already, and else is kept under the next number, with the path of `at` and the action.
-    /// Each call applies the action once and counts one step. A refused call leaves all kept pairs as they were, and can be made again.
+    /// The pair after an executable action of the pair `at` arrives. It is pruned exactly where its
+    /// residual is FALSE, is seen exactly where it is kept already, and else is kept under the next
+    /// number, with the path of `at` and the action.
+    /// Each call applies the action once and counts one step. A refused call leaves all kept pairs
+    /// as they were, and can be made again.
     pub fn child<L: Ledger>(
         &mut self,
         at: usize,
@@ -47,7 +50,8 @@ impl Space {
         }
     }
 
-    /// The pair after an action of the pair `at` arrives, in this world with this formula. The action is copied only for a new pair.
+    /// The pair after an action of the pair `at` arrives, in this world with this formula. The
+    /// action is copied only for a new pair.
     fn arrive_after(
         &mut self,
         key: Numbers,
@@ -78,7 +82,8 @@ impl Space {
         }
     }
 
-    /// The pair after an action of the pair `at` arrives, in this new world with this formula. Where it is pruned the world is let go again, and nothing is remembered of it.
+    /// The pair after an action of the pair `at` arrives, in this new world with this formula.
+    /// Where it is pruned the world is let go again, and nothing is remembered of it.
     #[inline(never)]
     fn arrive_new(&mut self, key: Numbers, at: usize, a: &Action) -> Result<Arrival, ProgressFault>
         requires key { AreNumbersIn self.old key }
@@ -126,7 +131,9 @@ impl Space {
         self.keep(key, numbers, Met::After(at, action))
     }
 
-    /// The numbers of the world after the action and of the pair's residual, which comes in there. None: what the action changes decides by itself that the residual leaves FALSE there, and no world is made.
+    /// The numbers of the world after the action and of the pair's residual, which comes in there.
+    /// None: what the action changes decides by itself that the residual leaves FALSE there, and no
+    /// world is made.
     fn child_key<L: Ledger>(
         &mut self,
         at: usize,

@@ -10,7 +10,8 @@ use tl_search::Arrival;
 use tl_terms::NoMemory;
 
 impl Space {
-    /// Keeps the new pair of these numbers, met first in this way, and remembers its arrival. The pair is the last growth that can fail: where it does, the way is let go again.
+    /// Keeps the new pair of these numbers, met first in this way, and remembers its arrival. The
+    /// pair is the last growth that can fail: where it does, the way is let go again.
     pub(crate) fn keep(
         &mut self,
         key: Numbers,

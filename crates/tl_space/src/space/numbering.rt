@@ -35,7 +35,8 @@ fn number_control(nodes: &mut Nodes, task: &Task) -> Result<usize, NoMemory>
     nodes.of_tree(&task.problem.domain.control)
 }
 
-/// The number of the world that the changes make of the world of a number: the one that it has, or else the next one.
+/// The number of the world that the changes make of the world of a number: the one that it has, or
+/// else the next one.
 fn number_changed(worlds: &mut Worlds, from: usize, changes: &Changes) -> Result<usize, NoMemory>
     requires { from < length (worlds_in worlds.old) }
     ensures number { IfOk result (λ n. slice_get (worlds_in worlds.new) n
@@ -52,7 +53,8 @@ fn number_changed(worlds: &mut Worlds, from: usize, changes: &Changes) -> Result
 }
 
 impl Space {
-    /// The number of the world: the one that it has, or else the next one. A refused call drops the world.
+    /// The number of the world: the one that it has, or else the next one. A refused call drops the
+    /// world.
     pub(crate) fn number_of_world(&mut self, world: World) -> Result<usize, NoMemory>
         requires named { WorldIsNamed (name_count self.old) world }
         ensures keeps { KeepsPairs self.old self.new }
@@ -61,7 +63,8 @@ impl Space {
         self.worlds.number(world)
     }
 
-    /// The number of the world that the space's changes make of the world of a number. A world that has a number is seldom made for it.
+    /// The number of the world that the space's changes make of the world of a number. A world that
+    /// has a number is seldom made for it.
     pub(crate) fn number_after(&mut self, from: usize) -> Result<usize, NoMemory>
         requires from { from < length (worlds_in self.old.worlds) }
         requires named { WorldIsNamed (name_count self.old)
@@ -74,7 +77,8 @@ impl Space {
         number_changed(&mut self.worlds, from, &self.changes)
     }
 
-    /// Lets the last world go, of which nothing is kept, with what progression found there. It takes no memory.
+    /// Lets the last world go, of which nothing is kept, with what progression found there. It
+    /// takes no memory.
     pub(crate) fn forget_world(&mut self, world: usize)
         requires { IsLastUnmet self.old world }
         ensures grows { Grows self.old self.new }

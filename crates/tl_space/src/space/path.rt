@@ -8,7 +8,8 @@ use std::alloc::Global;
 use tl_terms::{Action, Actions, NoMemory};
 
 impl Space {
-    /// The path by which the pair was met first: an open path with that pair. It fails for want of memory alone.
+    /// The path by which the pair was met first: an open path with that pair. It fails for want of
+    /// memory alone.
     pub fn path(&self, alloc: Global, at: usize) -> Result<Actions, NoMemory>
         requires { at < length (kept_of self.now) }
         ensures path { IfOk result (IsPathOf (kept_of self.now) at) }

@@ -14,7 +14,8 @@ use tl_search::{Arrival, SpaceFault};
 use tl_terms::NoMemory;
 
 impl Space {
-    /// The pair of the empty path arrives: the initial world, with the control formula progressed through it. It is pruned exactly where that residual is FALSE, and else kept as pair 0.
+    /// The pair of the empty path arrives: the initial world, with the control formula progressed
+    /// through it. It is pruned exactly where that residual is FALSE, and else kept as pair 0.
     /// A refused call leaves nothing kept, and can be made again.
     pub fn root(&mut self) -> Result<Arrival, SpaceFault>
         requires empty { kept_of self.old ≡ [] }

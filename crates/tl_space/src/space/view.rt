@@ -26,7 +26,8 @@ impl Space {
         *self.pairs.get_index(at).unwrap()
     }
 
-    /// How many pairs are kept, of which no two are the same: their numbers are 0 up to it. It takes no memory.
+    /// How many pairs are kept, of which no two are the same: their numbers are 0 up to it. It
+    /// takes no memory.
     pub fn kept(&self) -> usize
         ensures count { result ≡ length (kept_of self.now) }
         ensures kept { AreKept (pair_graph (problem_of self.now)) (kept_of self.now) }

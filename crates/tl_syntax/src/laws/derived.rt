@@ -3,7 +3,8 @@ ghost use Rattle.tl_syntax.specs.DerivedTests.{TellsSame, OrdersAs, op_eq, cmp_e
 ghost use Rattle.tl_syntax.specs.Keys.{value_cmp, fact_cmp};
 ghost use Rattle.std.specs.Cmp.Lexicographic.{slice_cmp};
 
-/// The derived equality of each type that does not hold itself holds exactly where the two are the same.
+/// The derived equality of each type that does not hold itself holds exactly where the two are the
+/// same.
 /// Terms and formulas have `is_same`.
 pub fn equality_is_sameness()
     ensures op { TellsSame op_eq }
@@ -20,7 +21,8 @@ pub fn equality_is_sameness()
     ensures action { TellsSame action_eq }
 {}
 
-/// The derived order of values is value order, that of their lists lexicographic, and that of facts by predicate and then by arguments.
+/// The derived order of values is value order, that of their lists lexicographic, and that of facts
+/// by predicate and then by arguments.
 pub fn orders_are_value_order()
     ensures value { OrdersAs value_order value_cmp }
     ensures values { OrdersAs values_order (slice_cmp value_cmp) }

@@ -18,7 +18,8 @@ pub fn substitution_keeps_state_formulas()
     ensures { SubstitutedIsState }
 {}
 
-/// The free variables that are left are those without a value, so a formula whose free variables all have one has none left.
+/// The free variables that are left are those without a value, so a formula whose free variables
+/// all have one has none left.
 pub fn substitution_leaves_what_has_no_value()
     ensures formula { SubstitutedLeaves }
     ensures bound { SubstitutedBoundLeaves }

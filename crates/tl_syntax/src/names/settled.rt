@@ -9,7 +9,8 @@ use std::alloc::{AllocError, Global};
 use std::rc::RcStr;
 
 impl Names {
-    /// The same texts, numbered by the order of their bytes, and the list that gives each old number its new one.
+    /// The same texts, numbered by the order of their bytes, and the list that gives each old
+    /// number its new one.
     /// A refused call drops the table.
     pub fn settled(self, alloc: Global) -> Result<(Names, Numbers32), NoMemory>
         ensures permutation { IfOk result (λ settled. IsPermutation self settled.0) }

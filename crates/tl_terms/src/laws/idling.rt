@@ -1,7 +1,8 @@
 // One world that is repeated for ever.
 ghost use Rattle.tl_terms.specs.LawsIdle.{IdleWordsLaw, IdlingCheckIsTruth};
 
-/// Where one world is repeated for ever, `next`, `always`, `eventually`, `within` and `for` of a formula mean the formula, and `until` means its second part.
+/// Where one world is repeated for ever, `next`, `always`, `eventually`, `within` and `for` of a
+/// formula mean the formula, and `until` means its second part.
 pub fn idle_words_mean_their_formula()
     ensures { IdleWordsLaw }
 {}

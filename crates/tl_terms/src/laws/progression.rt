@@ -1,12 +1,14 @@
 // Progression, residuals and accepted plans.
 ghost use Rattle.tl_terms.specs.LawsProgression.{ProgressionLemma, ProgressionLemmaAlong, ProgressionTable, NotKeepsTruth, AndKeepsTruth, OrKeepsTruth, StateFormulaProgressesToItsTruth, StateFormulaHoldsWhereTrue, ResidualLaw, FalseResidualBeginsNoRun, AcceptedWhereItsPairIs, AcceptanceDependsOnThePair, OpenByItsResidual, FutureDependsOnThePair};
 
-/// A formula holds at a position of a run exactly where its progression through the world there holds at the next position (Bacchus and Kabanza 2000).
+/// A formula holds at a position of a run exactly where its progression through the world there
+/// holds at the next position (Bacchus and Kabanza 2000).
 pub fn progression_lemma()
     ensures { ProgressionLemma }
 {}
 
-/// Over any infinite sequence of worlds a formula fails at a position exactly where its progression through the world there fails at the next.
+/// Over any infinite sequence of worlds a formula fails at a position exactly where its progression
+/// through the world there fails at the next.
 /// On a run of a stem and a loop, where what holds is decided, this is the progression lemma.
 pub fn progression_lemma_along_a_sequence()
     ensures { ProgressionLemmaAlong }
@@ -37,17 +39,20 @@ pub fn state_formula_progresses_to_its_truth()
     ensures { StateFormulaProgressesToItsTruth }
 {}
 
-/// A formula without temporal words holds at a position exactly where it is true in the world there.
+/// A formula without temporal words holds at a position exactly where it is true in the world
+/// there.
 pub fn state_formula_holds_where_true()
     ensures { StateFormulaHoldsWhereTrue }
 {}
 
-/// A formula holds on a run exactly where what is left of it after the run's first worlds holds behind them.
+/// A formula holds on a run exactly where what is left of it after the run's first worlds holds
+/// behind them.
 pub fn residual_holds_after_the_worlds()
     ensures { ResidualLaw }
 {}
 
-/// Worlds after which the residual is FALSE begin no infinite sequence of worlds on which the formula holds, so pruning there loses nothing.
+/// Worlds after which the residual is FALSE begin no infinite sequence of worlds on which the
+/// formula holds, so pruning there loses nothing.
 pub fn false_residual_begins_no_satisfying_run()
     ensures { FalseResidualBeginsNoRun }
 {}
@@ -67,7 +72,8 @@ pub fn open_by_its_own_residual()
     ensures { OpenByItsResidual }
 {}
 
-/// Of two paths with one pair, the same further actions lead to one pair, so duplicate detection loses nothing.
+/// Of two paths with one pair, the same further actions lead to one pair, so duplicate detection
+/// loses nothing.
 pub fn future_depends_on_the_pair()
     ensures { FutureDependsOnThePair }
 {}

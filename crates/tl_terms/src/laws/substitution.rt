@@ -1,7 +1,8 @@
 // Formulas with values put in.
 ghost use Rattle.tl_terms.specs.LawsSubstitution.{TruthByInstances, SatisfactionByInstances, ProgressionByInstances, SubstitutedTwice, SubstitutedByNothing, SubstitutedOver};
 
-/// A quantified formula is true by the truth of its instances, which are the formula with values put in.
+/// A quantified formula is true by the truth of its instances, which are the formula with values
+/// put in.
 pub fn quantifiers_are_true_by_instances()
     ensures { TruthByInstances }
 {}
@@ -11,7 +12,8 @@ pub fn quantifiers_hold_by_instances()
     ensures { SatisfactionByInstances }
 {}
 
-/// A quantified formula progresses to the conjunction or disjunction of its progressed instances, in tuple order.
+/// A quantified formula progresses to the conjunction or disjunction of its progressed instances,
+/// in tuple order.
 pub fn quantifiers_progress_by_instances()
     ensures { ProgressionByInstances }
 {}
