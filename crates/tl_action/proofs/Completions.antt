@@ -14,7 +14,7 @@ use Rattle.tl_syntax.specs.declared.variable.Var.{Var}
 use Rattle.tl_syntax.specs.Assignment.{Assignment, bind, no_values}
 use Rattle.tl_syntax.specs.BoundVariables.{is_that_variable, stands_in, args_of, DifferInSlot, OccurIn}
 use Rattle.tl_syntax.specs.FreeVariables.{slots_of, arg_slots, bound_slots, is_slot_in, InScope}
-use Rattle.tl_syntax.specs.Lists.{One, Among}
+use Rattle.tl_syntax.specs.Lists.{AtLeastOne, Among}
 use Rattle.tl_syntax.proofs.ListLaws.{Each-Among, one_in}
 use Rattle.tl_terms.specs.Bounds.{bound_true, tuples}
 use Rattle.tl_terms.specs.Definitions.{situation_of}
@@ -73,14 +73,14 @@ new-alike seen b s u e = λ i. stands-alike b s u e i && not (one-alike seen s u
 
 among-filter : (p : Var → Bool) (ss : List Var) (s : Var) → Among s (filter p ss) → Among s ss × (p s ≡ true)
 among-filter p [] s h = absurd h
-among-filter p (u ∷ ss) s h = (elim (p u) as (λ b. p u ≡ b → One (λ z. z ≡ s) (cond b (u ∷ filter p ss) (filter p ss)) → (u ≡ s ⊎ Among s ss) × (p s ≡ true)) [
+among-filter p (u ∷ ss) s h = (elim (p u) as (λ b. p u ≡ b → AtLeastOne (λ z. z ≡ s) (cond b (u ∷ filter p ss) (filter p ss)) → (u ≡ s ⊎ Among s ss) × (p s ≡ true)) [
   | true ↦ λ z. elim [ inl e ↦ (inl e, subst (λ (v : Var). p v ≡ true) e z) | inr k ↦ (let w = among-filter p ss s k in (inr w.0, w.1)) ]
   | false ↦ λ z k. let w = among-filter p ss s k in (inr w.0, w.1)
 ]) refl h
 
 filter-among : (p : Var → Bool) (ss : List Var) (s : Var) → Among s ss → p s ≡ true → Among s (filter p ss)
 filter-among p [] s h k = absurd h
-filter-among p (u ∷ ss) s h k = (elim (p u) as (λ b. p u ≡ b → One (λ z. z ≡ s) (cond b (u ∷ filter p ss) (filter p ss))) [
+filter-among p (u ∷ ss) s h k = (elim (p u) as (λ b. p u ≡ b → AtLeastOne (λ z. z ≡ s) (cond b (u ∷ filter p ss) (filter p ss))) [
   | true ↦ λ z. elim h [ inl e ↦ inl e | inr l ↦ inr (filter-among p ss s l k) ]
   | false ↦ λ z. elim h [ inl e ↦ absurd (true≢false (sym (subst (λ (v : Var). p v ≡ true) (sym e) k) ∙ z)) | inr l ↦ filter-among p ss s l k ]
 ]) refl
@@ -193,7 +193,7 @@ module _ (p : PlainProblem) (w : World) (o : PlainOperator) (seen : List Bound) 
       ]) refl)
 
   -- a row completes the frame exactly where it completes it with a tuple of the bound put in
-  pub completion-out : DifferInSlot fresh → OccurIn fresh b → (e : Assignment) (t : List Value) → IsCompletion p w o seen (b ∷ rest) e t → One (λ u. IsCompletion p w o (seen ++ b ∷ []) rest (bind fresh u e) t) (tuples (situation_of p w) e fresh b)
+  pub completion-out : DifferInSlot fresh → OccurIn fresh b → (e : Assignment) (t : List Value) → IsCompletion p w o seen (b ∷ rest) e t → AtLeastOne (λ u. IsCompletion p w o (seen ++ b ∷ []) rest (bind fresh u e) t) (tuples (situation_of p w) e fresh b)
   completion-out d c e t h =
       let u = copied fresh (row_assignment o t) in
       let k = new-values t e h.arity h.agrees in

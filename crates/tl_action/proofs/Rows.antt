@@ -18,7 +18,7 @@ use Rattle.tl_syntax.specs.Assignment.{Assignment, bind, no_values}
 use Rattle.tl_syntax.specs.BoundVariables.{DifferInSlot, OccurIn}
 use Rattle.tl_syntax.specs.FreeVariables.{slots_of, bound_slots, InScope}
 use Rattle.tl_syntax.specs.Kept.{OperatorKeeps}
-use Rattle.tl_syntax.specs.Lists.{Each, One, Among}
+use Rattle.tl_syntax.specs.Lists.{Each, AtLeastOne, Among}
 use Rattle.tl_syntax.specs.Signature.{Signature}
 use Rattle.tl_syntax.proofs.ListLaws.{Each-over, One-append, one_out, one_in}
 use Rattle.tl_terms.specs.Bounds.{tuples}
@@ -133,7 +133,7 @@ no-row P before never t = (λ m. inl m, λ m. elim m [ inl k ↦ k | inr k ↦ a
 
 -- the rows so far are those before and those that complete the frame with one of the tuples
 abbrev pub RowsSoFar : PlainProblem → World → PlainOperator → List Bound → List Bound → Assignment → List Var → List (List Value) → List (List Value) → List (List Value) → Type 0
-RowsSoFar p w o seen rest e vars us before now = (t : List Value) → Among t now ↔ (Among t before ⊎ One (λ u. IsFound p w o seen rest (bind vars u e) t) us)
+RowsSoFar p w o seen rest e vars us before now = (t : List Value) → Among t now ↔ (Among t before ⊎ AtLeastOne (λ u. IsFound p w o seen rest (bind vars u e) t) us)
 
 module _ (p : PlainProblem) (w : World) (o : PlainOperator) (seen : List Bound) (b : Bound) (rest : List Bound) (scope : InScope (slots_of o.params) (bound_slots b)) where
   abbrev pub fresh : List Var
@@ -178,7 +178,7 @@ module _ (p : PlainProblem) (w : World) (o : PlainOperator) (seen : List Bound) 
       let out = λ (h : IsFound p w o seen (b ∷ rest) e t).
       let k = one_out (λ u. IsCompletion p w o after rest (bind fresh u e) t) ts (completion-out p w o seen b rest scope differ occur e t h.completes) in
       one_in (λ u. IsFound p w o after rest (bind fresh u e) t) k.0 ts k.1.0 (record { completes = k.1.1; prepared = h.prepared }) in
-      let within = λ (h : One (λ u. IsFound p w o after rest (bind fresh u e) t) ts).
+      let within = λ (h : AtLeastOne (λ u. IsFound p w o after rest (bind fresh u e) t) ts).
       let k = one_out (λ u. IsFound p w o after rest (bind fresh u e) t) ts h in
       let f : IsFound p w o seen (b ∷ rest) e t = record { completes = completion-in p w o seen b rest scope differ occur e t k.0 k.1.0 k.1.1.completes; prepared = k.1.1.prepared } in f in (
         λ m. elim ((r t).0 m) [ inl a ↦ inl a | inr a ↦ inr (within a) ],

@@ -2,7 +2,7 @@
 use Rattle.std.proofs.Common.{◌≡◌, ◌≢◌, ◌≤◌, ◌<◌, ◌+◌, ◌^◌, ◌⊎◌, ℕ, zero, suc, List, [], ◌∷◌, ◌++◌, length, take, slice_get, Option, Some, None, refl, sym, ap, ap₂, ◌∙◌, subst, inl, inr, arith}
 use Rattle.std.proofs.lemmas.Option.{slice_get_within}
 use Rattle.tl_syntax.specs.declared.action.Action.{Action}
-use Rattle.tl_syntax.specs.Lists.{Among, One}
+use Rattle.tl_syntax.specs.Lists.{Among, AtLeastOne}
 use Rattle.tl_syntax.specs.Trees.{falsum}
 use Rattle.tl_terms.specs.Acceptance.{IsAccepted}
 use Rattle.tl_terms.specs.Pairs.{Pair, pair_of}
@@ -123,7 +123,7 @@ module _ (p : PlainProblem) where
   met-later old es new y t (inl f) = inl f
   met-later old es new y t (inr m) = inr (m.0, m.1, events-stay old es new m.0 m.1 t m.2, m.3)
 
-  events-meet : (old : List KeptPair) (es : List Event) (new : List KeptPair) (j : ℕ) (a : Action) (x : KeptPair) (y : Pair) → AreTrueEvents p old es new → One (IsOf j a) es → slice_get new j ≡ Some x → next_pair p x.node a ≡ Some y → IsMet new y
+  events-meet : (old : List KeptPair) (es : List Event) (new : List KeptPair) (j : ℕ) (a : Action) (x : KeptPair) (y : Pair) → AreTrueEvents p old es new → AtLeastOne (IsOf j a) es → slice_get new j ≡ Some x → next_pair p x.node a ≡ Some y → IsMet new y
   events-meet old [] new j a x y t o s n = absurd o
   events-meet old (e ∷ es) new j a x y t (inl o) s n = met-later t.0 es new y t.2 (event-meets old e t.0 j a x y t.1 o (λ u q. get-one new j u x (events-stay t.0 es new j u t.2 (event-stays old e t.0 j u t.1 q)) s) n)
   events-meet old (e ∷ es) new j a x y t (inr o) s n = events-meet t.0 es new j a x y t.2 o s n

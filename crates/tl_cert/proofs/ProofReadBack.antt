@@ -22,7 +22,7 @@ use Rattle.tl_line.proofs.Pieces.{Has, has-all, has-front, has-back, has-first, 
 use Rattle.tl_line.proofs.ReadBack.{form-breaks, form-meant, clean-text}
 use Rattle.tl_line.proofs.Tokens.{clean-token, decimal-read, decimal-token, symbol-token, token}
 use Rattle.tl_line.proofs.WrittenForms.{action_form, action-item, apart}
-use Rattle.tl_cert.specs.LawsReadBack.{AreReadAs, AreWritable, IsBoundWritable, StartBefore}
+use Rattle.tl_cert.specs.LawsReadBack.{AreReadAsProof, AreWritable, IsBoundWritable, StartBefore}
 use Rattle.tl_cert.specs.MeaningOfProofs.{length_bound_meant, links_meant}
 use Rattle.tl_cert.specs.ProofFiles.{proof_head_breaks, links_breaks}
 use Rattle.tl_cert.specs.ProofTexts.{head_line, link_line, link_lines, proof_text}
@@ -349,7 +349,7 @@ proof-spelled names operators proof w low few bounded =
     head-spelled text proof.bound (length text) (links_forms names operators proof.links (length head)) clean bounded (has-front text 0 head lines all)
     (subst B (sym start) (subst I last (lines-items names operators text clean (length head) proof.links 0 w low (omega arith) after)))
 
-pub proof-read-back : (names : List (List ℕ)) (operators : List Operator) (proof : Proof) → AreDistinct names → Differ (map (λ o. o.name) operators) → AreWritable names operators proof.links → StartBefore 0 proof.links → length proof.links ≤ 100000 → IsBoundWritable proof.bound → AreReadAs names operators (proof_text names operators proof) proof
+pub proof-read-back : (names : List (List ℕ)) (operators : List Operator) (proof : Proof) → AreDistinct names → Differ (map (λ o. o.name) operators) → AreWritable names operators proof.links → StartBefore 0 proof.links → length proof.links ≤ 100000 → IsBoundWritable proof.bound → AreReadAsProof names operators (proof_text names operators proof) proof
 proof-read-back names operators proof distinct differ w low few bounded =
     let at = length (head_line proof.bound) in
     let head = head-means proof.bound in

@@ -29,7 +29,7 @@ IsBoundWritable None = Unit {0}
 IsBoundWritable (Some n) = n ≤ 100000
 
 -- the bytes spell forms that break no rule of proof files and stand for this proof
-pub record AreReadAs (names : List (List ℕ)) (operators : List Operator) (bytes : List ℕ) (proof : Proof) : Type 0 where
+pub record AreReadAsProof (names : List (List ℕ)) (operators : List Operator) (bytes : List ℕ) (proof : Proof) : Type 0 where
   pub forms : FormTrees
   pub spelled : Spells bytes forms
   pub unbroken : proof_breaks names operators forms ≡ []
@@ -41,4 +41,4 @@ abbrev pub ProofsAreReadBack : Type 0
 ProofsAreReadBack =
     (names : List (List ℕ)) (operators : List Operator) (proof : Proof) →
     AreDistinct names → Differ (map (λ o. o.name) operators) → AreWritable names operators proof.links → StartBefore 0 proof.links → length proof.links ≤ 100000 → IsBoundWritable proof.bound →
-    AreReadAs names operators (proof_text names operators proof) proof
+    AreReadAsProof names operators (proof_text names operators proof) proof

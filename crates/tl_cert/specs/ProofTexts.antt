@@ -43,11 +43,13 @@ abbrev pub open_line : List (List ℕ) → List Operator → ℕ → Action → 
 open_line names operators k a = codes "; open " ++ (decimal k ++ (codes " " ++ (action_text names operators a ++ codes "\n")))
 
 -- the line of a verdict on a proof with this bound
-abbrev pub none_text : List (List ℕ) → List Operator → Option ℕ → NoneVerdict → List ℕ
-none_text names operators bound Proved = proved_line bound
-none_text names operators bound (BadLink k) = codes "; bad link " ++ (decimal k ++ codes "\n")
-none_text names operators bound (Accepts k) = codes "; accepts " ++ (decimal k ++ codes "\n")
-none_text names operators bound (Open k a) = open_line names operators k a
+abbrev pub proof_verdict_text : List (List ℕ) → List Operator → Option ℕ → NoneVerdict → List ℕ
+proof_verdict_text names operators bound Proved = proved_line bound
+proof_verdict_text names operators bound (BadLink k) =
+    codes "; bad link " ++ (decimal k ++ codes "\n")
+proof_verdict_text names operators bound (Accepts k) =
+    codes "; accepts " ++ (decimal k ++ codes "\n")
+proof_verdict_text names operators bound (Open k a) = open_line names operators k a
 
 -- the action of the verdict is of these operators and names only these names, where there is one
 abbrev pub HasNamedAction : List (List ℕ) → List Operator → NoneVerdict → Type 0

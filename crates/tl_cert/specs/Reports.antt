@@ -1,7 +1,7 @@
 -- Reports that say that there is no plan.
 use Rattle.std.specs.Prelude.{◌≡◌, ◌<◌, ◌^◌, ℕ, List, [], ◌∷◌, length, slice_get, Option, Some, None, IsTrue, is_some}
 use Rattle.tl_syntax.specs.declared.action.Action.{Action}
-use Rattle.tl_syntax.specs.Lists.{Among, One}
+use Rattle.tl_syntax.specs.Lists.{Among, AtLeastOne}
 use Rattle.tl_terms.specs.Paths.{IsDistance}
 use Rattle.tl_terms.specs.Problem.{PlainProblem}
 use Rattle.tl_terms.specs.Step.{step}
@@ -66,4 +66,4 @@ pub record IsNoneReport (p : PlainProblem) (n : ℕ) (kept : List KeptPair) (rep
   pub begins : BeginsAtRoot p report.events
   pub near : (j : ℕ) (a : Action) (k : ℕ) (x : KeptPair) → Among (event.Kept j a k) report.events → slice_get kept j ≡ Some x → length x.path < n
   pub shortest : (i : ℕ) (x : KeptPair) → slice_get kept i ≡ Some x → IsDistance p x.node (length x.path)
-  pub arrivals : (j : ℕ) (x : KeptPair) (a : Action) → slice_get kept j ≡ Some x → length x.path < n → IsTrue (is_some (step p x.node.world a)) → One (IsOf j a) report.events
+  pub arrivals : (j : ℕ) (x : KeptPair) (a : Action) → slice_get kept j ≡ Some x → length x.path < n → IsTrue (is_some (step p x.node.world a)) → AtLeastOne (IsOf j a) report.events

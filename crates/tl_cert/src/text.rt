@@ -5,7 +5,7 @@ ghost use Rattle.std.specs.String.{string_bytes};
 ghost use Rattle.tl_line.specs.NamedActions.{ActionIsNamed};
 ghost use Rattle.tl_line.specs.Puts.{Puts};
 ghost use Rattle.tl_line.specs.WritableActions.{ArgumentsFit};
-ghost use Rattle.tl_cert.specs.ProofTexts.{HasNamedAction, LinksAreNamed, LinksFit, head_line, link_line, none_text, open_line, proof_text, proved_line};
+ghost use Rattle.tl_cert.specs.ProofTexts.{HasNamedAction, LinksAreNamed, LinksFit, head_line, link_line, proof_verdict_text, open_line, proof_text, proved_line};
 
 use crate::proof::{Link, Proof};
 use crate::verdict::NoneVerdict;
@@ -127,7 +127,7 @@ pub fn none_text(
 ) -> Result<Bytes, NoMemory>
     requires { HasNamedAction problem.now.names problem.now.domain.operators verdict.now }
     ensures { IfOk result
-        (λ text. text ≡ none_text problem.now.names problem.now.domain.operators
+        (λ text. text ≡ proof_verdict_text problem.now.names problem.now.domain.operators
         proof.now.bound verdict.now) }
 {
     match verdict {

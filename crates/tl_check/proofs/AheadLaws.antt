@@ -15,7 +15,7 @@ use Rattle.tl_check.specs.declared.later.Later.{Later}
 use Rattle.tl_check.specs.declared.later.Later.TheVariants as later
 use Rattle.tl_syntax.proofs.ListLaws.{iff-trans, iff-path, and-iff, or-iff, not-iff, all-iff, any-iff}
 use Rattle.tl_syntax.specs.Assignment.{Assignment, no_values, bind}
-use Rattle.tl_syntax.specs.Lists.{Each, One}
+use Rattle.tl_syntax.specs.Lists.{Each, AtLeastOne}
 use Rattle.tl_syntax.specs.Trees.{FormulaTree, FormulaTrees, verum, falsum, atom, defined, compare, goal_fact, goal_place, goal_not, negation, conjunction, disjunction, for_all, for_some, next, always, eventually, until, within, during, no_formula, more_formulas}
 use Rattle.tl_terms.specs.Acceptance.{all_but_last, last_of, run_of}
 use Rattle.tl_terms.specs.Bounds.{tuples}
@@ -130,7 +130,7 @@ module _ (p : PlainProblem) (n : ℕ) (ws : List World) (loops : n < length ws) 
     holds-ahead e (for_some ss b f) i l =
         let v = there-is ws i l in
         let any : Situation → Bool = λ s. list_any (λ t. true_ahead c (bind ss t e) f (drop i ws)) (tuples s e ss b) in
-        iff-trans (iff-path (λ s. One (λ t. Holds (situations_round p n ws) (bind ss t e) f i) (tuples s e ss b)) (situation-is i v.0 l v.1))
+        iff-trans (iff-path (λ s. AtLeastOne (λ t. Holds (situations_round p n ws) (bind ss t e) f i) (tuples s e ss b)) (situation-is i v.0 l v.1))
         (iff-trans (any-iff (λ t. Holds (situations_round p n ws) (bind ss t e) f i) (λ t. true_ahead c (bind ss t e) f (drop i ws)) (λ t. holds-ahead (bind ss t e) f i l) (tuples (situation_of p v.0) e ss b))
         (iff-path (λ (x : Bool). x ≡ true) (sym (ap (in_first p any) (opened-at ws i v.0 v.1)))))
     holds-ahead e (next f) i l = word-tells later.Next (λ j. Holds (situations_round p n ws) e f (suc j)) e f (next-round n period rises (marked e f) (sized e f) (held e f) (repeated e f) (labels-tell (held e f) (true_ahead c e f) (holds-ahead e f))) i l

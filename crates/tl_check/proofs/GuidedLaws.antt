@@ -27,7 +27,7 @@ use Rattle.tl_syntax.specs.declared.value.Value.{Value}
 use Rattle.tl_syntax.specs.Assignment.{Assignment, bind}
 use Rattle.tl_syntax.specs.BoundVariables.{DifferInSlot, OccurIn}
 use Rattle.tl_syntax.specs.Junctions.{deciding_truth, quantified}
-use Rattle.tl_syntax.specs.Lists.{Among, One}
+use Rattle.tl_syntax.specs.Lists.{Among, AtLeastOne}
 use Rattle.tl_terms.proofs.Tuples.{all-tuples}
 use Rattle.tl_terms.specs.Bounds.{bound_true, tuples}
 use Rattle.tl_terms.specs.Definitions.{situation_of}
@@ -45,19 +45,19 @@ same-by false false b h k = sym (h refl)
 same-by false true false h k = k refl
 same-by false true true h k = refl
 
-pub some-decides : {A : Type 0} (j : Junction) (truth : A → Bool) (xs : List A) → joined_truths j truth xs ≡ deciding_truth j → One (λ x. truth x ≡ deciding_truth j) xs
+pub some-decides : {A : Type 0} (j : Junction) (truth : A → Bool) (xs : List A) → joined_truths j truth xs ≡ deciding_truth j → AtLeastOne (λ x. truth x ≡ deciding_truth j) xs
 some-decides Any truth [] h = absurd (true≢false (sym h))
 some-decides All truth [] h = absurd (true≢false h)
-some-decides Any truth (x ∷ xs) h = (elim (truth x) as (λ b. truth x ≡ b → One (λ y. truth y ≡ true) (x ∷ xs)) [
+some-decides Any truth (x ∷ xs) h = (elim (truth x) as (λ b. truth x ≡ b → AtLeastOne (λ y. truth y ≡ true) (x ∷ xs)) [
   | true ↦ λ q. inl q
   | false ↦ λ q. inr (some-decides Any truth xs (ap (λ (c : Bool). c || joined_truths Any truth xs) (sym q) ∙ h))
 ]) refl
-some-decides All truth (x ∷ xs) h = (elim (truth x) as (λ b. truth x ≡ b → One (λ y. truth y ≡ false) (x ∷ xs)) [
+some-decides All truth (x ∷ xs) h = (elim (truth x) as (λ b. truth x ≡ b → AtLeastOne (λ y. truth y ≡ false) (x ∷ xs)) [
   | false ↦ λ q. inl q
   | true ↦ λ q. inr (some-decides All truth xs (ap (λ (c : Bool). c && joined_truths All truth xs) (sym q) ∙ h))
 ]) refl
 
-pub decided-by_some : {A : Type 0} (j : Junction) (truth : A → Bool) (xs : List A) → One (λ x. truth x ≡ deciding_truth j) xs → joined_truths j truth xs ≡ deciding_truth j
+pub decided-by_some : {A : Type 0} (j : Junction) (truth : A → Bool) (xs : List A) → AtLeastOne (λ x. truth x ≡ deciding_truth j) xs → joined_truths j truth xs ≡ deciding_truth j
 decided-by_some j truth [] h = absurd h
 decided-by_some Any truth (x ∷ xs) h = elim h [
   | inl q ↦ ap (λ (b : Bool). b || joined_truths Any truth xs) q
@@ -76,7 +76,7 @@ decided-by_some All truth (x ∷ xs) h = elim h [
     later true h = h
     later false h = refl
 
-pub one-out : {A : Type 0} (P : A → Type 0) (xs : List A) → One P xs → (x : A) × Among x xs × P x
+pub one-out : {A : Type 0} (P : A → Type 0) (xs : List A) → AtLeastOne P xs → (x : A) × Among x xs × P x
 one-out P [] h = absurd h
 one-out P (x ∷ xs) h = elim h [
   | inl k ↦ (x, inl refl, k)

@@ -17,7 +17,7 @@ use Rattle.tl_syntax.specs.declared.bound.Bound.{Bound}
 use Rattle.tl_syntax.specs.declared.value.Value.{Value}
 use Rattle.tl_syntax.specs.declared.variable.Var.{Var}
 use Rattle.tl_syntax.specs.Assignment.{Assignment, bind, no_values}
-use Rattle.tl_syntax.specs.Lists.{One, Among}
+use Rattle.tl_syntax.specs.Lists.{AtLeastOne, Among}
 use Rattle.tl_syntax.specs.Trees.{FormulaTree, FormulaTrees, verum, falsum, atom, defined, compare, goal_fact, goal_place, goal_not, negation, conjunction, disjunction, for_all, for_some, next, always, eventually, until, within, during, no_formula, more_formulas, formulas_of_list}
 use Rattle.tl_terms.specs.Bounds.{tuples}
 use Rattle.tl_terms.specs.Definitions.{situation_of}
@@ -29,7 +29,7 @@ use Rattle.tl_terms.specs.World.{World}
 
 -- ---- lists of operations
 
-pub one-within-each : {A : Type 0} (P Q : A → Type 0) → ((x : A) → P x → Q x) → (xs : List A) → One P xs → One Q xs
+pub one-within-each : {A : Type 0} (P Q : A → Type 0) → ((x : A) → P x → Q x) → (xs : List A) → AtLeastOne P xs → AtLeastOne Q xs
 one-within-each P Q h [] k = k
 one-within-each P Q h (x ∷ xs) k = elim k [ inl m ↦ inl (h x m) | inr m ↦ inr (one-within-each P Q h xs m) ]
 
@@ -37,16 +37,16 @@ followed-out : (o : Operation) (b : Bool) (xs ys : List Operation) → Among o (
 followed-out o true xs ys h = (One-append (λ y. y ≡ o) xs ys).0 h
 followed-out o false xs ys h = elim ((One-append (λ y. y ≡ o) xs []).0 h) [ inl k ↦ inl k | inr b ↦ absurd b ]
 
-turn-out : (o : Operation) (looked : List Value → List Operation) (goes_on : List Value → Bool) (ts : List (List Value)) → Among o (looked_in_turn looked goes_on ts) → One (λ t. Among o (looked t)) ts
+turn-out : (o : Operation) (looked : List Value → List Operation) (goes_on : List Value → Bool) (ts : List (List Value)) → Among o (looked_in_turn looked goes_on ts) → AtLeastOne (λ t. Among o (looked t)) ts
 turn-out o looked goes_on [] h = absurd h
 turn-out o looked goes_on (t ∷ ts) h = elim (followed-out o (goes_on t) (looked t) (looked_in_turn looked goes_on ts) h) [ inl k ↦ inl k | inr k ↦ inr (turn-out o looked goes_on ts k) ]
 
 -- the instances of the tuples of one situation are among those of all
 instances-in : (o : Operation) (e : Assignment) (ss : List Var) (b : Bound) (bs : List Situation) (s : Situation) (looked : List Value → List Operation) → Among s bs
-    → One (λ t. Among o (looked t)) (tuples s e ss b) → Among o (flat_map looked (flat_map (λ q. tuples q e ss b) bs))
+    → AtLeastOne (λ t. Among o (looked t)) (tuples s e ss b) → Among o (flat_map looked (flat_map (λ q. tuples q e ss b) bs))
 instances-in o e ss b bs s looked m h =
     (One-flat (λ y. y ≡ o) looked (flat_map (λ q. tuples q e ss b) bs)).1
-    ((One-flat (λ t. Among o (looked t)) (λ q. tuples q e ss b) bs).1 (one_in (λ q. One (λ t. Among o (looked t)) (tuples q e ss b)) s bs m h))
+    ((One-flat (λ t. Among o (looked t)) (λ q. tuples q e ss b) bs).1 (one_in (λ q. AtLeastOne (λ t. Among o (looked t)) (tuples q e ss b)) s bs m h))
 
 -- ---- what a formula looks at in a state, it looks at along the worlds
 
@@ -95,7 +95,7 @@ module _ (d : LookedTable) (bs cs : List Situation) (more : (q : Situation) → 
   instances-more : (e : Assignment) (ss : List Var) (b : Bound) (looked wider : List Value → List Operation) → ((t : List Value) → Among o (looked t) → Among o (wider t)) → Among o (flat_map looked (flat_map (λ q. tuples q e ss b) bs)) → Among o (flat_map wider (flat_map (λ q. tuples q e ss b) cs))
   instances-more e ss b looked wider step h =
       let each = (One-flat (λ t. Among o (looked t)) (λ q. tuples q e ss b) bs).0 ((One-flat (λ y. y ≡ o) looked (flat_map (λ q. tuples q e ss b) bs)).0 h) in
-      let found = one_out (λ q. One (λ t. Among o (looked t)) (tuples q e ss b)) bs each in
+      let found = one_out (λ q. AtLeastOne (λ t. Among o (looked t)) (tuples q e ss b)) bs each in
       instances-in o e ss b cs found.0 wider (more found.0 found.1.0) (one-within-each (λ t. Among o (looked t)) (λ t. Among o (wider t)) step (tuples found.0 e ss b) found.1.1)
 
   mutual

@@ -31,7 +31,7 @@ use Rattle.tl_syntax.specs.BoundVariables.{DifferInSlot, OccurIn, args_of, is_th
 use Rattle.tl_syntax.specs.Fits.{Fits, VariablesFit}
 use Rattle.tl_syntax.specs.FreeVariables.{is_slot_in, slots_of}
 use Rattle.tl_syntax.specs.Junctions.{deciding_truth, quantified}
-use Rattle.tl_syntax.specs.Lists.{Each, One, Among}
+use Rattle.tl_syntax.specs.Lists.{Each, AtLeastOne, Among}
 use Rattle.tl_syntax.specs.Signature.{Signature}
 use Rattle.tl_syntax.specs.Trees.{FormulaTree}
 use Rattle.tl_terms.proofs.Tuples.{all-tuples}
@@ -149,7 +149,7 @@ module _ (s : Situation) (e : Assignment) (b : Bound) (ss us : List Var) (d : Di
       let to = other found.0 found.1 in
       decided-by_some j (λ t. truth (bind us t e)) (tuples s e us b) (one_in (λ t. truth (bind us t e) ≡ deciding_truth j) to.values (tuples s e us b) to.there (ap truth to.same ∙ found.2))
 
-  pub looked-too : (x : Operation) (looked : Assignment → List Operation) → One (λ t. Among x (looked (bind ss t e))) (tuples s e ss b) → One (λ t. Among x (looked (bind us t e))) (tuples s e us b)
+  pub looked-too : (x : Operation) (looked : Assignment → List Operation) → AtLeastOne (λ t. Among x (looked (bind ss t e))) (tuples s e ss b) → AtLeastOne (λ t. Among x (looked (bind us t e))) (tuples s e us b)
   looked-too x looked h =
       let found = one-out (λ t. Among x (looked (bind ss t e))) (tuples s e ss b) h in
       let to = other found.0 found.1 in
@@ -194,7 +194,7 @@ module _ (p : Course) (e : Assignment) (j : Junction) (b : Bound) (f : FormulaTr
   all-too looked x bs h =
       (One-flat (λ y. y ≡ x) (λ t. looked (bind ss t e)) (flat_map (λ q. tuples q e ss b) bs)).1
       ((One-flat (λ t. Among x (looked (bind ss t e))) (λ q. tuples q e ss b) bs).1
-      (one-within-each (λ q. One (λ t. Among x (looked (bind us t e))) (tuples q e us b)) (λ q. One (λ t. Among x (looked (bind ss t e))) (tuples q e ss b))
+      (one-within-each (λ q. AtLeastOne (λ t. Among x (looked (bind us t e))) (tuples q e us b)) (λ q. AtLeastOne (λ t. Among x (looked (bind ss t e))) (tuples q e ss b))
       (λ q m. looked-too q e b us ss is.differ ou d o is.all is.some x looked m) bs
       ((One-flat (λ t. Among x (looked (bind us t e))) (λ q. tuples q e us b) bs).0
       ((One-flat (λ y. y ≡ x) (λ t. looked (bind us t e)) (flat_map (λ q. tuples q e us b) bs)).0 h))))

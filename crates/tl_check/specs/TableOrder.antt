@@ -2,11 +2,11 @@
 use Rattle.std.specs.Prelude.{◌≡◌, ℕ, List}
 use Rattle.tl_syntax.specs.declared.variable.Var.{Var}
 use Rattle.tl_syntax.specs.BoundVariables.{DifferInSlot}
-use Rattle.tl_syntax.specs.Lists.{Each, One}
+use Rattle.tl_syntax.specs.Lists.{Each, AtLeastOne}
 
 -- one of the variables has this slot
 abbrev pub HasSlot : ℕ → List Var → Type 0
-HasSlot q ss = One (λ s. s.slot ≡ q) ss
+HasSlot q ss = AtLeastOne (λ s. s.slot ≡ q) ss
 
 -- none has it
 abbrev pub HasNoSlot : ℕ → List Var → Type 0

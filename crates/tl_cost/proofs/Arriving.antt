@@ -22,7 +22,7 @@ use Rattle.tl_cost.specs.Ongoing.{IsAt, IsInTurn}
 use Rattle.tl_cost.specs.Outcomes.{IsSpentNear, OpensAsMany}
 use Rattle.tl_cost.specs.PlanCosts.{action_cost}
 use Rattle.tl_cost.specs.Ticks.{Extends, StaySettled}
-use Rattle.tl_cost.specs.Ways.{IsUpto, Adds, GoesOn, HasRoomAfter, Improves, IsMet, Meets, entry_of, is_listed, listed_len}
+use Rattle.tl_cost.specs.Ways.{ComesNoLater, Adds, GoesOn, HasRoomAfter, Improves, IsMet, Meets, entry_of, is_listed, listed_len}
 use Rattle.tl_cost.specs.declared.open_list.Entry.{Entry}
 use Rattle.tl_cost.specs.declared.ways.Way.{Way}
 use Rattle.tl_cost.specs.declared.ways.Found.{Found}
@@ -152,7 +152,7 @@ module _ (p : PlainProblem) (task : Task) (costs : List ℕ) (b : ℕ) (kept : L
     its-place = record { pair = h.1.1; way = its-way.1 }
 
     -- where the new way comes no later, the pair is open
-    opened : IsUpto (t.way.cost + action_cost costs a) (t.way.length + 1) its-way.0.cost its-way.0.length → is_listed found.open_list (entry_of its-way.0 k) ≡ true
+    opened : ComesNoLater (t.way.cost + action_cost costs a) (t.way.length + 1) its-way.0.cost its-way.0.length → is_listed found.open_list (entry_of its-way.0 k) ≡ true
     opened u = by_list (is_listed found.open_list (entry_of its-way.0 k)) refl
       where
         by_list : (l : Bool) → is_listed found.open_list (entry_of its-way.0 k) ≡ l → is_listed found.open_list (entry_of its-way.0 k) ≡ true
@@ -194,7 +194,7 @@ module _ (p : PlainProblem) (task : Task) (costs : List ℕ) (b : ℕ) (kept : L
         ];
         better = λ x u q. (let o = at-one kept found.ways.items k k x h.1.0 u its-way.0 q its-place refl in (
           o.0,
-          subst (λ (v : Way). IsUpto i.way.cost i.way.length v.cost v.length) (sym o.1) i.upto,
+          subst (λ (v : Way). ComesNoLater i.way.cost i.way.length v.cost v.length) (sym o.1) i.upto,
           subst (λ (v : Way). is_listed found.open_list (entry_of v k) ≡ true) (sym o.1) (opened (upto-from (t.way.cost + action_cost costs a) (t.way.length + 1) i.way.cost i.way.length its-way.0.cost its-way.0.length (sym i.goes_on.cost) (sym i.goes_on.longer) i.upto)),
         ));
       }
@@ -217,7 +217,7 @@ module _ (p : PlainProblem) (task : Task) (costs : List ℕ) (b : ℕ) (kept : L
           }
 
     -- the pair keeps its way
-    pub seen-kept : IsUpto its-way.0.cost its-way.0.length (t.way.cost + action_cost costs a) (t.way.length + 1) → IsInTurn p task costs b more found at (Some rest)
+    pub seen-kept : ComesNoLater its-way.0.cost its-way.0.length (t.way.cost + action_cost costs a) (t.way.length + 1) → IsInTurn p task costs b more found at (Some rest)
     seen-kept u = subst (λ xs. IsInTurn p task costs b xs found at (Some rest)) (sym h.0) (record {
       pair = t.pair;
       way = t.way;

@@ -5,7 +5,7 @@ use Rattle.std.specs.Ordering.{nat_cmp, ordering_then, is_gt, is_eq, MatchOrderi
 use Rattle.std.specs.BTreeMap.{is_at}
 use Rattle.std.specs.BTreeSet.{IsLowerBound, Updates}
 use Rattle.std.proofs.lemmas.Cmp.{ranked}
-use Rattle.tl_cost.specs.Ways.{IsUpto, Adds, Drops, IsFirstOf, entry_cmp, is_listed}
+use Rattle.tl_cost.specs.Ways.{ComesNoLater, Adds, Drops, IsFirstOf, entry_cmp, is_listed}
 use Rattle.tl_cost.specs.declared.open_list.Entry.{Entry}
 use Rattle.tl_cost.specs.declared.open_list.OpenList.{OpenList}
 
@@ -61,7 +61,7 @@ adds-one old new e h = record { is = h.1; others = λ q n. h.2 q (not-at e q n) 
 pub drops-one : (old new : OpenList) (e : Entry) → Updates entry_cmp old.entries new.entries e false → Drops (is_listed old) (is_listed new) e
 drops-one old new e h = record { is = h.1; others = λ q n. h.2 q (not-at e q n) }
 
-upto-by : (a b m n : ℕ) (r s t : Ordering) → MatchOrdering r (a < b) (a ≡ b) (b < a) → MatchOrdering s (m < n) (m ≡ n) (n < m) → is_gt (ordering_then r (ordering_then s t)) ≡ false → IsUpto a m b n
+upto-by : (a b m n : ℕ) (r s t : Ordering) → MatchOrdering r (a < b) (a ≡ b) (b < a) → MatchOrdering s (m < n) (m ≡ n) (n < m) → is_gt (ordering_then r (ordering_then s t)) ≡ false → ComesNoLater a m b n
 upto-by a b m n Less s t h k e = record { cheap = omega arith; short = λ q. absurd (omega arith) }
 upto-by a b m n Equal Less t h k e = record { cheap = omega arith; short = λ q. omega arith }
 upto-by a b m n Equal Equal t h k e = record { cheap = omega arith; short = λ q. omega arith }

@@ -14,7 +14,7 @@ use Rattle.tl_search.proofs.ListLaws.{get-inside}
 use Rattle.tl_search.proofs.WalkLaws.{length-snoc, walk-onward}
 use Rattle.tl_cost.specs.Ongoing.{IsAt, IsWayTo, HasWay, IsLinked, IsOngoing}
 use Rattle.tl_cost.specs.PlanCosts.{action_cost}
-use Rattle.tl_cost.specs.Ways.{IsUpto, GoesOn, entry_of}
+use Rattle.tl_cost.specs.Ways.{ComesNoLater, GoesOn, entry_of}
 use Rattle.tl_cost.specs.declared.open_list.Entry.{Entry}
 use Rattle.tl_cost.specs.declared.ways.Way.{Way}
 use Rattle.tl_cost.specs.declared.ways.LastStep.{LastStep}
@@ -29,7 +29,7 @@ pub record IsImproved (kept : List KeptPair) (ways : List Way) (open_ : Entry �
   pub stayed : (i : ℕ) (x : KeptPair) (w : Way) → (i ≡ k → ⊥) → IsAt more other i x w → IsAt kept ways i x w
   pub same : (e : Entry) → (e.number ≡ k → ⊥) → list e ≡ open_ e
   pub only : (e : Entry) → e.number ≡ k → list e ≡ true → e ≡ entry_of m k
-  pub better : (x : KeptPair) (u : Way) → IsAt kept ways k x u → (x ≡ y) × IsUpto m.cost m.length u.cost u.length × (open_ (entry_of u k) ≡ true)
+  pub better : (x : KeptPair) (u : Way) → IsAt kept ways k x u → (x ≡ y) × ComesNoLater m.cost m.length u.cost u.length × (open_ (entry_of u k) ≡ true)
 
 true-false : (t : Bool) → t ≡ true → t ≡ false → ⊥
 true-false t e f = let d : true ≡ false = sym e ∙ f in cc
@@ -85,7 +85,7 @@ module _ (p : PlainProblem) (task : Task) (costs : List ℕ) (b : ℕ) (kept : L
           let d : record { from = at; action = a } ≡ r = (let z : Some (record { from = at; action = a }) ≡ Some r = sym g.last ∙ q in cc) in
           subst (λ (o : LastStep). IsNamedIn task o.action) d named
 
-      later : IsUpto w.cost w.length m.cost m.length
+      later : ComesNoLater w.cost w.length m.cost m.length
       later = let q = upto-grows w.cost w.length (action_cost costs a) in record { cheap = omega (arith, g.cost, q.cheap); short = λ _. omega (arith, g.longer) }
 
       by-number : (P : ℕ → KeptPair → Way → Type 0) → P k y m → ((j : ℕ) (z : KeptPair) (v : Way) → (j ≡ k → ⊥) → IsAt kept ways j z v → P j z v) → (j : ℕ) (z : KeptPair) (v : Way) → IsAt more other j z v → P j z v
@@ -127,7 +127,7 @@ module _ (p : PlainProblem) (task : Task) (costs : List ℕ) (b : ℕ) (kept : L
         ];
         least = λ j z v i h. (let t = settled-before j z v i h in s.least j z v t.0 t.1);
         below = λ j z v i h. (let t = settled-before j z v i h in s.below j z v t.0 t.1);
-        above = λ j z v i h. by-number (λ n u o. list (entry_of o n) ≡ true → IsUpto w.cost w.length o.cost o.length) (λ _. later) (λ n u o far q t. s.above n u o q (sym (im.same (entry_of o n) far) ∙ t)) j z v i h;
+        above = λ j z v i h. by-number (λ n u o. list (entry_of o n) ≡ true → ComesNoLater w.cost w.length o.cost o.length) (λ _. later) (λ n u o far q t. s.above n u o q (sym (im.same (entry_of o n) far) ∙ t)) j z v i h;
         closed = λ j z v c u i h untried f. (let t = settled-before j z v i h in elim (untried-more at a rest j c untried) [
           | inl n ↦ reached-on u (v.cost + action_cost costs c) (v.length + 1) (s.closed j z v c u t.0 t.1 n f)
           | inr q ↦ (let o = at-one kept ways j at z x v w t.0 here q.0 in

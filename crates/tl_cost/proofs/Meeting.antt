@@ -4,7 +4,7 @@ use Rattle.std.specs.List.{slice_set}
 use Rattle.tl_syntax.specs.declared.action.Action.{Action}
 use Rattle.tl_search.proofs.ListLaws.{get-one}
 use Rattle.tl_cost.specs.PlanCosts.{action_cost}
-use Rattle.tl_cost.specs.Ways.{IsUpto, GoesOn, IsMet, Meets, Moves, TellsOrder, entry_of, is_listed, listed_len}
+use Rattle.tl_cost.specs.Ways.{ComesNoLater, GoesOn, IsMet, Meets, Moves, TellsOrder, entry_of, is_listed, listed_len}
 use Rattle.tl_cost.specs.declared.open_list.Entry.{Entry}
 use Rattle.tl_cost.specs.declared.ways.Way.{Way}
 use Rattle.tl_cost.specs.declared.ways.Found.{Found}
@@ -16,7 +16,7 @@ module _ (costs : List ℕ) (found : Found) (at k : ℕ) (a : Action) (w u : Way
 
   -- where the new way comes before, the pair is open
   pub met-open : t ≡ true → is_listed found.open_list (entry_of u k) ≡ true
-  met-open h = subst (λ (v : Way). is_listed found.open_list (entry_of v k) ≡ true) met-is (m.opened (subst (λ (v : Way). IsUpto (w.cost + action_cost costs a) (w.length + 1) v.cost v.length) (sym met-is) (upto-from (w.cost + action_cost costs a) (w.length + 1) cost (w.length + 1) u.cost u.length (sym is) refl (o.upto h))))
+  met-open h = subst (λ (v : Way). is_listed found.open_list (entry_of v k) ≡ true) met-is (m.opened (subst (λ (v : Way). ComesNoLater (w.cost + action_cost costs a) (w.length + 1) v.cost v.length) (sym met-is) (upto-from (w.cost + action_cost costs a) (w.length + 1) cost (w.length + 1) u.cost u.length (sym is) refl (o.upto h))))
 
   -- and the new one is not listed
   pub met-fresh : t ≡ true → (n : Way) → n.cost ≡ cost → n.length ≡ w.length + 1 → is_listed found.open_list (entry_of n k) ≡ false

@@ -14,7 +14,7 @@ use Rattle.tl_search.proofs.PathLaws.{walk-accepted}
 use Rattle.tl_search.proofs.WalkLaws.{by_last, walk-back}
 use Rattle.tl_cost.specs.Ongoing.{IsAt, HasWay, IsOngoing}
 use Rattle.tl_cost.specs.PlanCosts.{action_cost, plan_cost}
-use Rattle.tl_cost.specs.Ways.{IsUpto, entry_of}
+use Rattle.tl_cost.specs.Ways.{ComesNoLater, entry_of}
 use Rattle.tl_cost.specs.declared.open_list.Entry.{Entry}
 use Rattle.tl_cost.specs.declared.ways.Way.{Way}
 use Rattle.tl_cost.proofs.CostOrder.{upto-zero, upto-trans, upto-onward, upto-grows, upto-path}
@@ -27,7 +27,7 @@ pub record SettledUpto (kept : List KeptPair) (ways : List Way) (open_ : Entry �
   pub is_at : IsAt kept ways number pair way
   pub same : pair.node ≡ v
   pub settled : open_ (entry_of way number) ≡ false
-  pub upto : IsUpto way.cost way.length cost length_
+  pub upto : ComesNoLater way.cost way.length cost length_
 
 -- the way to a pair of the open list comes no later
 pub record OpenUpto (kept : List KeptPair) (ways : List Way) (open_ : Entry → Bool) (cost length_ : ℕ) : Type 0 where
@@ -36,7 +36,7 @@ pub record OpenUpto (kept : List KeptPair) (ways : List Way) (open_ : Entry → 
   pub way : Way
   pub is_at : IsAt kept ways number pair way
   pub listed : open_ (entry_of way number) ≡ true
-  pub upto : IsUpto way.cost way.length cost length_
+  pub upto : ComesNoLater way.cost way.length cost length_
 
 module _ (p : PlainProblem) (task : Task) (costs : List ℕ) (b : ℕ) (kept : List KeptPair) (ways : List Way) (open_ : Entry → Bool) (opened cost length_ at : ℕ) (s : IsOngoing p task costs b kept ways open_ opened cost length_ at (Some [])) where
   from-reached : (v : Pair) (c l : ℕ) → HasWay kept ways v c l → SettledUpto kept ways open_ v c l ⊎ OpenUpto kept ways open_ c l
@@ -100,16 +100,16 @@ module _ (p : PlainProblem) (task : Task) (costs : List ℕ) (b : ℕ) (kept : L
   pub none-open : ((e : Entry) → open_ e ≡ false) → HasNoPlan p
   none-open empty plan h = let m = plan-ahead plan h in let d : true ≡ false = sym m.listed ∙ empty (entry_of m.way m.number) in cc
 
-  module _ (e : Entry) (first : (q : Entry) → open_ q ≡ true → IsUpto e.cost e.length q.cost q.length) where
+  module _ (e : Entry) (first : (q : Entry) → open_ q ≡ true → ComesNoLater e.cost e.length q.cost q.length) where
     -- the first of the open list comes no later than any accepted plan
-    pub first-cheap : (plan : List Action) → IsAccepted p plan → IsUpto e.cost e.length (plan_cost costs plan) (length plan)
+    pub first-cheap : (plan : List Action) → IsAccepted p plan → ComesNoLater e.cost e.length (plan_cost costs plan) (length plan)
     first-cheap plan h = let m = plan-ahead plan h in upto-trans e.cost e.length m.way.cost m.way.length (plan_cost costs plan) (length plan) (first (entry_of m.way m.number) m.listed) m.upto
 
     -- nor than any path to its pair
-    pub first-least : (x : KeptPair) (w : Way) → IsAt kept ways e.number x w → e ≡ entry_of w e.number → open_ e ≡ true → (path : List Action) → walk (pair_graph p) path ≡ Some x.node → IsUpto e.cost e.length (plan_cost costs path) (length path)
+    pub first-least : (x : KeptPair) (w : Way) → IsAt kept ways e.number x w → e ≡ entry_of w e.number → open_ e ≡ true → (path : List Action) → walk (pair_graph p) path ≡ Some x.node → ComesNoLater e.cost e.length (plan_cost costs path) (length path)
     first-least x w here is listed path f = by_lead (leads path x.node f)
       where
-        by_lead : SettledUpto kept ways open_ x.node (plan_cost costs path) (length path) ⊎ OpenUpto kept ways open_ (plan_cost costs path) (length path) → IsUpto e.cost e.length (plan_cost costs path) (length path)
+        by_lead : SettledUpto kept ways open_ x.node (plan_cost costs path) (length path) ⊎ OpenUpto kept ways open_ (plan_cost costs path) (length path) → ComesNoLater e.cost e.length (plan_cost costs path) (length path)
         by_lead (inl m) =
             let same : m.number ≡ e.number = s.are_kept.differ m.number e.number m.pair x m.is_at.pair here.pair m.same in
             let way : m.way ≡ w = get-one ways e.number m.way w (subst (λ k. slice_get ways k ≡ Some m.way) same m.is_at.way) here.way in

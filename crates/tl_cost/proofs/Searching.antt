@@ -25,7 +25,7 @@ use Rattle.tl_search.proofs.RangeLaws.{range-at-root}
 use Rattle.tl_cost.specs.LeastCosts.{HasFewNearPairs, IsCalmAtLeastCost, IsCheapestCause}
 use Rattle.tl_cost.specs.Ongoing.{IsAt, IsOngoing, IsBetweenTurns, IsInTurn}
 use Rattle.tl_cost.specs.Outcomes.{AnswersWhereCalm, IsCheapestFault, IsCheapestOutcome, OpensAsMany}
-use Rattle.tl_cost.specs.Ticks.{IsTicked, IsCounted, IsPairSettled, StaySettled}
+use Rattle.tl_cost.specs.Ticks.{IsTickedByTurns, IsCounted, IsPairSettled, StaySettled}
 use Rattle.tl_cost.specs.Ways.{Adds, Drops, IsFirstOf, entry_of, is_listed, listed_len}
 use Rattle.tl_cost.specs.declared.open_list.Entry.{Entry}
 use Rattle.tl_cost.specs.declared.open_list.OpenList.{OpenList}
@@ -90,14 +90,14 @@ turns-fall b old new found popped after few len opens = omega (arith, few, len, 
 -- ---- at first
 
 -- no step was counted
-pub ticked-none : (p : PlainProblem) (from : ℕ) (kept : List KeptPair) → IsTicked p from kept from
+pub ticked-none : (p : PlainProblem) (from : ℕ) (kept : List KeptPair) → IsTickedByTurns p from kept from
 ticked-none p from kept = record { turns = []; are = record { differ = λ i j s u e f q. (let c : ⊥ = cc in absurd c); right = λ i s e. (let c : ⊥ = cc in absurd c) }; ticks = omega arith }
 
 pub counted-none : (p : PlainProblem) (from : ℕ) (kept : List KeptPair) (found : Found) → IsCounted p from kept found from
 counted-none p from kept found = record { turns = []; are = record { differ = λ i j s u e f q. (let c : ⊥ = cc in absurd c); right = λ i s e. (let c : ⊥ = cc in absurd c) }; ticks = omega arith; settled = λ i s e. (let c : ⊥ = cc in absurd c) }
 
 -- what is counted is ticked
-pub counted-ticked : (p : PlainProblem) (from : ℕ) (kept : List KeptPair) (found : Found) (steps : ℕ) → IsCounted p from kept found steps → IsTicked p from kept steps
+pub counted-ticked : (p : PlainProblem) (from : ℕ) (kept : List KeptPair) (found : Found) (steps : ℕ) → IsCounted p from kept found steps → IsTickedByTurns p from kept steps
 counted-ticked p from kept found steps c = record { turns = c.turns; are = c.are; ticks = c.ticks }
 
 module _ (p : PlainProblem) (task : Task) (costs : List ℕ) (b : ℕ) (x : KeptPair) (r : Way) (open_ : Entry → Bool) (is_root : r ≡ record { cost = 0; length = 0; last = None }) (listed : open_ (entry_of r 0) ≡ true) (only : (e : Entry) → open_ e ≡ true → e ≡ entry_of r 0) where

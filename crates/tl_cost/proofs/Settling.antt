@@ -18,7 +18,7 @@ use Rattle.tl_search.proofs.ListLaws.{get-one, decide_among}
 use Rattle.tl_search.proofs.PathLaws.{unless-pruned}
 use Rattle.tl_cost.specs.Ongoing.{IsAt, HasWay, IsLinked, IsUntried, IsOngoing}
 use Rattle.tl_cost.specs.PlanCosts.{action_cost, plan_cost}
-use Rattle.tl_cost.specs.Ways.{IsUpto, Drops, entry_of}
+use Rattle.tl_cost.specs.Ways.{ComesNoLater, Drops, entry_of}
 use Rattle.tl_cost.specs.declared.open_list.Entry.{Entry}
 use Rattle.tl_cost.specs.declared.ways.Way.{Way}
 use Rattle.tl_cost.specs.declared.ways.LastStep.{LastStep}
@@ -39,7 +39,7 @@ linked-on p costs kept more ways other old new k x w (Some last) stay h =
     let t = stay last.from h.before h.its_way h.is_at h.settled in
     record { before = h.before; its_way = h.its_way; is_at = t.0; settled = t.1; leads = h.leads; cost = h.cost; longer = h.longer }
 
-module _ (p : PlainProblem) (task : Task) (costs : List ℕ) (b : ℕ) (kept : List KeptPair) (ways : List Way) (open_ : Entry → Bool) (opened cost length_ at : ℕ) (s : IsOngoing p task costs b kept ways open_ opened cost length_ at (Some [])) (e : Entry) (listed : open_ e ≡ true) (first : (q : Entry) → open_ q ≡ true → IsUpto e.cost e.length q.cost q.length) (left : Entry → Bool) (d : Drops open_ left e) (fewer : ℕ) (len : fewer + 1 ≡ opened) where
+module _ (p : PlainProblem) (task : Task) (costs : List ℕ) (b : ℕ) (kept : List KeptPair) (ways : List Way) (open_ : Entry → Bool) (opened cost length_ at : ℕ) (s : IsOngoing p task costs b kept ways open_ opened cost length_ at (Some [])) (e : Entry) (listed : open_ e ≡ true) (first : (q : Entry) → open_ q ≡ true → ComesNoLater e.cost e.length q.cost q.length) (left : Entry → Bool) (d : Drops open_ left e) (fewer : ℕ) (len : fewer + 1 ≡ opened) where
   settled-now : (k : ℕ) (w : Way) → left (entry_of w k) ≡ false → (k ≡ e.number) ⊎ (open_ (entry_of w k) ≡ false)
   settled-now k w h = elim (ℕ_discrete k e.number) [ yes same ↦ inl same | no other ↦ inr (sym (d.others (entry_of w k) (λ q. other (ap (λ (u : Entry). u.number) q))) ∙ h) ]
 

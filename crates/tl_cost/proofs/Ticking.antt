@@ -10,7 +10,7 @@ use Rattle.tl_terms.specs.Step.{step}
 use Rattle.tl_search.specs.KeptPairs.{KeptPair}
 use Rattle.tl_search.specs.ListedActions.{ListsActions}
 use Rattle.tl_search.proofs.ListLaws.{get-one, get-either}
-use Rattle.tl_cost.specs.Ticks.{Turn, IsTurn, AreTurns, IsTicked, IsCounted, IsPairSettled, TicksTurn, Extends, StaySettled, total}
+use Rattle.tl_cost.specs.Ticks.{Turn, IsTurn, AreTurns, IsTickedByTurns, IsCounted, IsPairSettled, TicksTurn, Extends, StaySettled, total}
 use Rattle.tl_cost.specs.declared.ways.Found.{Found}
 
 -- a turn of no action
@@ -71,7 +71,7 @@ module _ (p : PlainProblem) (from : ℕ) (old new : List KeptPair) (found : Foun
   more-ticks : more ≡ from + total (c.turns ++ record { number = at; actions = t.actions } ∷ [])
   more-ticks = let e = total-snoc c.turns (record { number = at; actions = t.actions }) in omega (arith, e, c.ticks, t.ticks)
 
-  pub ticked-turn : IsTicked p from new more
+  pub ticked-turn : IsTickedByTurns p from new more
   ticked-turn = record { turns = c.turns ++ record { number = at; actions = t.actions } ∷ []; are = more-turns; ticks = more-ticks }
 
   pub counted-turn : (later : Found) → StaySettled found later → IsPairSettled later at → IsCounted p from new later more

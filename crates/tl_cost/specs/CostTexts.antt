@@ -14,12 +14,12 @@ abbrev pub cheapest_line : ℕ → ℕ → List ℕ
 cheapest_line n cost = codes "; cheapest plan of " ++ (decimal n ++ (codes " actions costs " ++ (decimal cost ++ codes "\n")))
 
 -- the lines of a plan and its cost
-abbrev pub plan_text : List (List ℕ) → List Operator → List Action → ℕ → List ℕ
-plan_text names operators plan cost = cheapest_line (length plan) cost ++ plan_lines names operators plan
+abbrev pub cheapest_plan_text : List (List ℕ) → List Operator → List Action → ℕ → List ℕ
+cheapest_plan_text names operators plan cost = cheapest_line (length plan) cost ++ plan_lines names operators plan
 
 -- the lines of what a search that keeps at most b pairs answers
 abbrev pub cost_text : List (List ℕ) → List Operator → ℕ → CostOutcome → List ℕ
-cost_text names operators b (outcome.Plan plan cost) = plan_text names operators plan cost
+cost_text names operators b (outcome.Plan plan cost) = cheapest_plan_text names operators plan cost
 cost_text names operators b outcome.NoPlan = none_text
 cost_text names operators b outcome.Spent = spent_text b
 

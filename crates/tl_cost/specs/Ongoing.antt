@@ -12,7 +12,7 @@ use Rattle.tl_search.specs.KeptPairs.{KeptPair}
 use Rattle.tl_search.specs.NamedAnswers.{IsNamedIn}
 use Rattle.tl_search.specs.PairGraph.{pair_graph}
 use Rattle.tl_cost.specs.PlanCosts.{action_cost, plan_cost}
-use Rattle.tl_cost.specs.Ways.{IsUpto, entry_of, is_listed, listed_len}
+use Rattle.tl_cost.specs.Ways.{ComesNoLater, entry_of, is_listed, listed_len}
 use Rattle.tl_cost.specs.declared.open_list.Entry.{Entry}
 use Rattle.tl_cost.specs.declared.ways.Way.{Way}
 use Rattle.tl_cost.specs.declared.ways.LastStep.{LastStep}
@@ -52,7 +52,7 @@ pub record HasWay (kept : List KeptPair) (ways : List Way) (x : Pair) (cost leng
   pub way : Way
   pub is_at : IsAt kept ways number pair way
   pub same : pair.node ≡ x
-  pub upto : IsUpto way.cost way.length cost length_
+  pub upto : ComesNoLater way.cost way.length cost length_
 
 -- the action is still to be tried at the pair: at the one whose turn it is, all of them or those of
 -- a list
@@ -83,12 +83,12 @@ pub record IsOngoing (p : PlainProblem) (task : Task) (costs : List ℕ) (b : �
   pub short : (k : ℕ) (w : Way) → slice_get ways k ≡ Some w → w.length + opened ≤ length kept
   pub settled_short : (k : ℕ) (w : Way) → slice_get ways k ≡ Some w → open_ (entry_of w k) ≡ false → w.length + opened < length kept
   pub exact : (e : Entry) → open_ e ≡ true → (x : KeptPair) × (w : Way) × IsAt kept ways e.number x w × (e ≡ entry_of w e.number)
-  pub least : (k : ℕ) (x : KeptPair) (w : Way) → IsAt kept ways k x w → open_ (entry_of w k) ≡ false → (path : List Action) → walk (pair_graph p) path ≡ Some x.node → IsUpto w.cost w.length (plan_cost costs path) (length path)
-  pub below : (k : ℕ) (x : KeptPair) (w : Way) → IsAt kept ways k x w → open_ (entry_of w k) ≡ false → IsUpto w.cost w.length cost length_
-  pub above : (k : ℕ) (x : KeptPair) (w : Way) → IsAt kept ways k x w → open_ (entry_of w k) ≡ true → IsUpto cost length_ w.cost w.length
+  pub least : (k : ℕ) (x : KeptPair) (w : Way) → IsAt kept ways k x w → open_ (entry_of w k) ≡ false → (path : List Action) → walk (pair_graph p) path ≡ Some x.node → ComesNoLater w.cost w.length (plan_cost costs path) (length path)
+  pub below : (k : ℕ) (x : KeptPair) (w : Way) → IsAt kept ways k x w → open_ (entry_of w k) ≡ false → ComesNoLater w.cost w.length cost length_
+  pub above : (k : ℕ) (x : KeptPair) (w : Way) → IsAt kept ways k x w → open_ (entry_of w k) ≡ true → ComesNoLater cost length_ w.cost w.length
   pub closed : (k : ℕ) (x : KeptPair) (w : Way) (a : Action) (y : Pair) → IsAt kept ways k x w → open_ (entry_of w k) ≡ false → (IsUntried at rest k a → ⊥) → (pair_graph p).after x.node a ≡ Some y → HasWay kept ways y (w.cost + action_cost costs a) (w.length + 1)
   pub none : (k : ℕ) (x : KeptPair) (w : Way) → IsAt kept ways k x w → open_ (entry_of w k) ≡ false → IsTested at rest k → IsPairAccepted p x.node → ⊥
-  pub cheap : (plan : List Action) → IsAccepted p plan → IsUpto cost length_ (plan_cost costs plan) (length plan)
+  pub cheap : (plan : List Action) → IsAccepted p plan → ComesNoLater cost length_ (plan_cost costs plan) (length plan)
 
 -- the search is between two turns
 pub record IsBetweenTurns (p : PlainProblem) (task : Task) (costs : List ℕ) (b : ℕ) (kept : List KeptPair) (found : Found) : Type 0 where

@@ -34,7 +34,7 @@ pub record AreTurns (p : PlainProblem) (kept : List KeptPair) (turns : List Turn
 
 -- the steps are at most as many as the kept pairs have executable actions in all: one for each
 -- action in some turns, at most one of each pair
-pub record IsTicked (p : PlainProblem) (from : ℕ) (kept : List KeptPair) (steps : ℕ) : Type 0 where
+pub record IsTickedByTurns (p : PlainProblem) (from : ℕ) (kept : List KeptPair) (steps : ℕ) : Type 0 where
   pub turns : List Turn
   pub are : AreTurns p kept turns
   pub ticks : steps ≡ from + total turns
@@ -68,4 +68,4 @@ StaySettled old new = (k : ℕ) → IsPairSettled old k → IsPairSettled new k
 
 -- where the steps so far are counted, so are those of the whole search
 abbrev pub TicksRest : PlainProblem → List KeptPair → List KeptPair → Found → ℕ → ℕ → Type 0
-TicksRest p old new found steps more = (from : ℕ) → IsCounted p from old found steps → IsTicked p from new more
+TicksRest p old new found steps more = (from : ℕ) → IsCounted p from old found steps → IsTickedByTurns p from new more

@@ -13,7 +13,7 @@ use Rattle.tl_cost.specs.declared.ways.Found.{Found}
 use Rattle.tl_cost.specs.PlanCosts.{action_cost}
 
 -- a cost and a length that come no later than others: less, or the same cost and no more actions
-pub record IsUpto (cost length_ other_cost other_length : ℕ) : Type 0 where
+pub record ComesNoLater (cost length_ other_cost other_length : ℕ) : Type 0 where
   pub cheap : cost ≤ other_cost
   pub short : cost ≡ other_cost → length_ ≤ other_length
 
@@ -49,7 +49,7 @@ pub record Drops (old new : Entry → Bool) (e : Entry) : Type 0 where
 
 -- the entry comes no later than any in the list
 abbrev pub IsFirstOf : (Entry → Bool) → Entry → Type 0
-IsFirstOf list e = (q : Entry) → list q ≡ true → IsUpto e.cost e.length q.cost q.length
+IsFirstOf list e = (q : Entry) → list q ≡ true → ComesNoLater e.cost e.length q.cost q.length
 
 -- the last step of each way is from a pair whose way is shorter by it
 abbrev pub AreLinked : List Way → Type 0
@@ -69,9 +69,9 @@ pub record Moves (old new : Entry → Bool) (from to : Entry) : Type 0 where
 -- what the first step of a comparison says of a way of this cost and length and another: it comes
 -- before that, or not
 pub record TellsOrder (before : Bool) (cost length_ : ℕ) (w : Way) : Type 0 where
-  pub upto : before ≡ true → IsUpto cost length_ w.cost w.length
-  pub falls : before ≡ true → IsUpto w.cost w.length cost length_ → ⊥
-  pub stays : before ≡ false → IsUpto w.cost w.length cost length_
+  pub upto : before ≡ true → ComesNoLater cost length_ w.cost w.length
+  pub falls : before ≡ true → ComesNoLater w.cost w.length cost length_ → ⊥
+  pub stays : before ≡ false → ComesNoLater w.cost w.length cost length_
 
 -- the way goes on from this way, to the pair of a number, by the action
 pub record GoesOn (costs : List ℕ) (w : Way) (at : ℕ) (a : Action) (m : Way) : Type 0 where
@@ -92,14 +92,14 @@ pub record HasRoomAfter (found : Found) (at : ℕ) : Type 0 where
 pub record IsMet (costs : List ℕ) (found : Found) (w : Way) (a : Action) (k : ℕ) : Type 0 where
   pub way : Way
   pub its_way : slice_get found.ways.items k ≡ Some way
-  pub opened : IsUpto (w.cost + action_cost costs a) (w.length + 1) way.cost way.length → is_listed found.open_list (entry_of way k) ≡ true
+  pub opened : ComesNoLater (w.cost + action_cost costs a) (w.length + 1) way.cost way.length → is_listed found.open_list (entry_of way k) ≡ true
   pub exact : (e : Entry) → is_listed found.open_list e ≡ true → e.number ≡ k → e ≡ entry_of way k
 
 -- the way to the pair of number k was replaced by one that comes no later
 pub record Improves (costs : List ℕ) (old new : Found) (w : Way) (at : ℕ) (a : Action) (k : ℕ) (u : Way) : Type 0 where
   pub way : Way
   pub goes_on : GoesOn costs w at a way
-  pub upto : IsUpto way.cost way.length u.cost u.length
+  pub upto : ComesNoLater way.cost way.length u.cost u.length
   pub ways : new.ways.items ≡ slice_set old.ways.items k way
   pub moves : Moves (is_listed old.open_list) (is_listed new.open_list) (entry_of u k) (entry_of way k)
   pub len : listed_len new.open_list ≡ listed_len old.open_list
@@ -107,7 +107,7 @@ pub record Improves (costs : List ℕ) (old new : Found) (w : Way) (at : ℕ) (a
 -- the pair of number k keeps its way, which comes no later than the new one, or has the new one,
 -- which does
 abbrev pub Meets : List ℕ → Found → Found → Way → ℕ → Action → ℕ → Way → Type 0
-Meets costs old new w at a k u = ((new ≡ old) × IsUpto u.cost u.length (w.cost + action_cost costs a) (w.length + 1)) ⊎ Improves costs old new w at a k u
+Meets costs old new w at a k u = ((new ≡ old) × ComesNoLater u.cost u.length (w.cost + action_cost costs a) (w.length + 1)) ⊎ Improves costs old new w at a k u
 
 -- so it is for the ways to the pairs of the two numbers
 abbrev pub MeetsAgain : List ℕ → Found → Found → ℕ → Action → ℕ → Type 0

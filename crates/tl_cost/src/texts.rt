@@ -3,7 +3,7 @@ ghost use Rattle.std.specs.Prelude.{◌≡◌, IfOk};
 ghost use Rattle.std.specs.String.{string_bytes};
 ghost use Rattle.tl_syntax.specs.Lists.{Each};
 ghost use Rattle.tl_line.specs.NamedActions.{ActionIsNamed};
-ghost use Rattle.tl_cost.specs.CostTexts.{cheapest_line, cost_text, plan_text, HasNamedPlan};
+ghost use Rattle.tl_cost.specs.CostTexts.{cheapest_line, cost_text, cheapest_plan_text, HasNamedPlan};
 
 use crate::outcome::CostOutcome;
 use std::alloc::{AllocError, Global};
@@ -26,7 +26,8 @@ fn plan_text(
 ) -> Result<Bytes, NoMemory>
     requires { Each (ActionIsNamed problem.now.names problem.now.domain.operators) plan.now }
     ensures { IfOk result
-        (λ text. text ≡ plan_text problem.now.names problem.now.domain.operators plan.now cost) }
+        (λ text. text ≡ cheapest_plan_text problem.now.names problem.now.domain.operators
+            plan.now cost) }
 {
     let first = cheapest_line(alloc, plan.len(), cost)?;
     let mut text = bytes_of(alloc, first.as_str())?;

@@ -3,7 +3,7 @@ ghost use Rattle.std.specs.Prelude.{◌≡◌, ◌≤◌, [], IfOk, IfErr};
 ghost use Rattle.tl_search.specs.NamedAnswers.{FaultIsNamed};
 ghost use Rattle.tl_cost.specs.Ongoing.{IsBetweenTurns};
 ghost use Rattle.tl_cost.specs.Outcomes.{AnswersWhereCalm, CostOutcomeIsNamed, IsCheapestFault, IsCheapestOutcome};
-ghost use Rattle.tl_cost.specs.Ticks.{IsTicked, TicksRest};
+ghost use Rattle.tl_cost.specs.Ticks.{IsTickedByTurns, TicksRest};
 
 use crate::costs::Costs;
 use crate::outcome::CostOutcome;
@@ -28,7 +28,8 @@ impl UniformCost<'_> {
         ensures problem { S.problem space.new ≡ S.problem space.old }
         ensures outcome { IfOk result (IsCheapestOutcome (S.problem space.old)
             self.now.costs.now self.now.nodes (S.kept space.new)) }
-        ensures steps { IsTicked (S.problem space.old) steps.old (S.kept space.new) steps.new }
+        ensures steps { IsTickedByTurns (S.problem space.old) steps.old (S.kept space.new)
+            steps.new }
         ensures fault { IfErr result
             (IsCheapestFault (S.problem space.old) self.now.costs.now self.now.nodes) }
         ensures plan_named { IfOk result (CostOutcomeIsNamed (S.task space.old)) }
@@ -105,7 +106,7 @@ pub fn cheapest<S: Pairs, L: Ledger>(
     ensures problem { S.problem space.new ≡ S.problem space.old }
     ensures outcome { IfOk result
         (IsCheapestOutcome (S.problem space.old) costs.now nodes (S.kept space.new)) }
-    ensures steps { IsTicked (S.problem space.old) steps.old (S.kept space.new) steps.new }
+    ensures steps { IsTickedByTurns (S.problem space.old) steps.old (S.kept space.new) steps.new }
     ensures calm { AnswersWhereCalm (S.problem space.old) costs.now nodes result }
     ensures fault { IfErr result (IsCheapestFault (S.problem space.old) costs.now nodes) }
     ensures named { IfOk result (CostOutcomeIsNamed (S.task space.old)) }

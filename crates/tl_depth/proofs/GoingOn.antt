@@ -2,7 +2,7 @@
 use Rattle.std.proofs.Common.{◌≡◌, ◌≢◌, ◌≤◌, ◌<◌, ◌+◌, ◌*◌, ◌^◌, ℕ, zero, suc, List, [], ◌∷◌, ◌++◌, length, drop, set, Bool, true, false, Some, sym, ap, ◌∙◌, subst, inl, inr, arith, mul-le-mul_right}
 use Rattle.std.specs.List.{slice_get}
 use Rattle.tl_syntax.specs.declared.action.Action.{Action}
-use Rattle.tl_syntax.specs.Lists.{One}
+use Rattle.tl_syntax.specs.Lists.{AtLeastOne}
 use Rattle.tl_syntax.specs.Trees.{falsum}
 use Rattle.tl_terms.specs.Pairs.{Pair}
 use Rattle.tl_terms.specs.Problem.{PlainProblem}
@@ -22,11 +22,11 @@ use Rattle.tl_depth.specs.Ongoing.{AreSized, IsOngoing, to_do}
 use Rattle.tl_search.specs.declared.event.Event.{Event}
 use Rattle.tl_depth.specs.declared.stack.DepthFirst.{DepthFirst}
 
-pub one-first : {A : Type 0} (P : A → Type 0) (xs : List A) (y : A) → One P xs → One P (xs ++ y ∷ [])
+pub one-first : {A : Type 0} (P : A → Type 0) (xs : List A) (y : A) → AtLeastOne P xs → AtLeastOne P (xs ++ y ∷ [])
 one-first P [] y h = absurd h
 one-first P (x ∷ xs) y h = elim h [ inl k ↦ inl k | inr k ↦ inr (one-first P xs y k) ]
 
-pub one-end : {A : Type 0} (P : A → Type 0) (xs : List A) (y : A) → P y → One P (xs ++ y ∷ [])
+pub one-end : {A : Type 0} (P : A → Type 0) (xs : List A) (y : A) → P y → AtLeastOne P (xs ++ y ∷ [])
 one-end P [] y h = inl h
 one-end P (x ∷ xs) y h = inr (one-end P xs y h)
 
@@ -34,8 +34,9 @@ pub told-reports : (watch : Bool) (before after : List Event) (top : Level) (old
     → ((j : ℕ) (x : Pair) → slice_get old j ≡ Some x → slice_get kept j ≡ Some x) → ReportsOneMore from a (Reported watch old before) (Reported watch kept after)
 told-reports false before after top old kept from a t e f more = record { this = λ w. absurd (let q : false ≡ true = w in cc); others = λ y b h w. absurd (let q : false ≡ true = w in cc) }
 told-reports true before after top old kept from a t e f more = record {
-  this = λ w. (top.at, more top.at from f, subst (One (IsEventOf top.at a)) (sym t.1) (one-end (IsEventOf top.at a) before t.0 (t.2 a e)));
-  others = λ y b h w. (let k = h w in (k.0, more k.0 y k.1, subst (One (IsEventOf k.0 b)) (sym t.1) (one-first (IsEventOf k.0 b) before t.0 k.2)));
+  this = λ w. (top.at, more top.at from f,
+    subst (AtLeastOne (IsEventOf top.at a)) (sym t.1) (one-end (IsEventOf top.at a) before t.0 (t.2 a e)));
+  others = λ y b h w. (let k = h w in (k.0, more k.0 y k.1, subst (AtLeastOne (IsEventOf k.0 b)) (sym t.1) (one-first (IsEventOf k.0 b) before t.0 k.2)));
 }
 
 pub get-more : {A : Type 0} (xs : List A) (y : A) (j : ℕ) (x : A) → slice_get xs j ≡ Some x → slice_get (xs ++ y ∷ []) j ≡ Some x

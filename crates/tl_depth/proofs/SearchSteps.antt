@@ -1,7 +1,7 @@
 -- What is true at every moment of the search stays true in each of its steps.
 use Rattle.std.proofs.Common.{◌≡◌, ◌≤◌, ◌+◌, ℕ, suc, List, [], ◌∷◌, ◌++◌, length, Some, Less, sym, ap, ◌∙◌, subst, inl, inr, append_assoc, length-append, arith}
 use Rattle.tl_syntax.specs.declared.action.Action.{Action}
-use Rattle.tl_syntax.specs.Lists.{One}
+use Rattle.tl_syntax.specs.Lists.{AtLeastOne}
 use Rattle.tl_terms.specs.Orders.{plan_cmp}
 use Rattle.tl_depth.specs.ActionGraphs.{ActionGraph, IsLawful, AreActionsOf, walked, node_after, IsSimpleGoalWalk, IsLeadingWalk}
 use Rattle.tl_depth.specs.Search.{Memory, Reports, Frame, at_hand, gone, advanced, IsCovered, IsFruitless, IsDone, IsUnderWay, AreFrames, IsOnStack, IsDepthFirst}
@@ -29,7 +29,7 @@ module _ {Node : Type 0} (g : ActionGraph Node) (n : ℕ) (lawful : IsLawful g) 
       first = λ other w. stack-first g n reported met lawful f below s.frames (λ x m e. (s.kept x m e).refused) other w;
     }
 
-    not-there : (front : List Action) (q : Node) (stack : List (Frame Node)) → (IsOnStack stack q → ⊥) → node_after g front ≡ Some q → One (λ h. node_after g front ≡ Some h.node) stack → ⊥
+    not-there : (front : List Action) (q : Node) (stack : List (Frame Node)) → (IsOnStack stack q → ⊥) → node_after g front ≡ Some q → AtLeastOne (λ h. node_after g front ≡ Some h.node) stack → ⊥
     not-there front q [] off e o = o
     not-there front q (h ∷ stack) off e o = elim o [
       | inl p ↦ off (inl (let d : Some h.node ≡ Some q = sym p ∙ e in let c : h.node ≡ q = cc in c))

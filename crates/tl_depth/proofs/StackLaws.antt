@@ -1,7 +1,7 @@
 -- What the frames of a stack say of its walk.
 use Rattle.std.proofs.Common.{◌≡◌, ◌≢◌, ◌≤◌, ◌<◌, ◌+◌, ◌⊎◌, ℕ, zero, suc, List, [], ◌∷◌, ◌++◌, length, Some, Less, refl, sym, ap, ◌∙◌, subst, inl, inr, append_assoc, arith}
 use Rattle.tl_syntax.specs.declared.action.Action.{Action}
-use Rattle.tl_syntax.specs.Lists.{Each, One}
+use Rattle.tl_syntax.specs.Lists.{Each, AtLeastOne}
 use Rattle.tl_terms.specs.Orders.{plan_cmp}
 use Rattle.tl_depth.specs.ActionGraphs.{ActionGraph, IsLawful, AreActionsOf, walked, node_after, IsSimpleWalk, IsSimpleGoalWalk}
 use Rattle.tl_depth.specs.Search.{Memory, Reports, Frame, at_hand, gone, IsExplored, IsFruitless, IsDone, IsFrame, IsUnderWay, AreFrames, IsOnStack}
@@ -14,7 +14,7 @@ module _ {Node : Type 0} (g : ActionGraph Node) (n : ℕ) (reported : Reports No
   gone-under h below u = ap (λ r. gone below ++ at_hand r) u.is
 
   -- each front of the stack's walk leads to the node of a frame
-  pub stack-fronts : (f : Frame Node) (below : List (Frame Node)) → AreFrames g n reported met (f ∷ below) → (front rest : List Action) → front ++ rest ≡ gone below → One (λ h. node_after g front ≡ Some h.node) (f ∷ below)
+  pub stack-fronts : (f : Frame Node) (below : List (Frame Node)) → AreFrames g n reported met (f ∷ below) → (front rest : List Action) → front ++ rest ≡ gone below → AtLeastOne (λ h. node_after g front ≡ Some h.node) (f ∷ below)
   stack-fronts f [] s front rest e = inl (ap (node_after g) (nothing front e) ∙ s.0.ends)
     where
       nothing : (us : List Action) → us ++ rest ≡ [] → us ≡ []
@@ -40,11 +40,11 @@ module _ {Node : Type 0} (g : ActionGraph Node) (n : ℕ) (reported : Reports No
       more : ((front : List Action) × (rest : List Action) × (front ++ rest ≡ gone below) × (node_after g front ≡ Some x)) → (front : List Action) × (rest : List Action) × (front ++ rest ≡ gone (h ∷ below)) × (node_after g front ≡ Some x)
       more w = (w.0, w.1 ++ at_hand h.rest, sym (append_assoc w.0 w.1 (at_hand h.rest)) ∙ ap (λ us. us ++ at_hand h.rest) w.2, w.3)
 
-  off-node : (x : Node) (below : List (Frame Node)) → Each (λ h. h.node ≢ x) below → One (λ h. Some x ≡ Some h.node) below → ⊥
+  off-node : (x : Node) (below : List (Frame Node)) → Each (λ h. h.node ≢ x) below → AtLeastOne (λ h. Some x ≡ Some h.node) below → ⊥
   off-node x [] d o = o
   off-node x (h ∷ below) d o = elim o [ inl e ↦ d.0 (let q : h.node ≡ x = cc in q) | inr m ↦ off-node x below d.1 m ]
 
-  one-path : (front : List Action) (x : Node) (below : List (Frame Node)) → node_after g front ≡ Some x → One (λ h. node_after g front ≡ Some h.node) below → One (λ h. Some x ≡ Some h.node) below
+  one-path : (front : List Action) (x : Node) (below : List (Frame Node)) → node_after g front ≡ Some x → AtLeastOne (λ h. node_after g front ≡ Some h.node) below → AtLeastOne (λ h. Some x ≡ Some h.node) below
   one-path front x [] e o = o
   one-path front x (h ∷ below) e o = elim o [ inl q ↦ inl (sym e ∙ q) | inr m ↦ inr (one-path front x below e m) ]
 

@@ -1,7 +1,7 @@
 -- What a depth-first search answers, and why it gives no answer.
 use Rattle.std.specs.Prelude.{◌≡◌, ◌≤◌, ◌<◌, ◌+◌, ◌*◌, ℕ, List, length, slice_get, Bool, true, false, Some, IsTrue, is_some}
 use Rattle.tl_syntax.specs.declared.action.Action.{Action}
-use Rattle.tl_syntax.specs.Lists.{One}
+use Rattle.tl_syntax.specs.Lists.{AtLeastOne}
 use Rattle.tl_terms.specs.Problem.{PlainProblem}
 use Rattle.tl_terms.specs.Pairs.{Pair, pair_of}
 use Rattle.tl_terms.specs.Paths.{IsDistance}
@@ -21,7 +21,7 @@ use Rattle.tl_search.specs.declared.fault.SearchFault.TheVariants as fault
 
 -- where events are wanted, one is there of the action at the pair
 abbrev pub Reported : Bool → List Pair → List Event → Pair → Action → Type 0
-Reported watch kept events x a = IsTrue watch → (j : ℕ) × (slice_get kept j ≡ Some x) × One (IsEventOf j a) events
+Reported watch kept events x a = IsTrue watch → (j : ℕ) × (slice_get kept j ≡ Some x) × AtLeastOne (IsEventOf j a) events
 
 -- the calls are at most n times the number of executable actions of kept pairs of a distance below
 -- n

@@ -2,7 +2,7 @@
 -- moment.
 use Rattle.std.specs.Prelude.{◌≡◌, ◌≢◌, ◌≤◌, ◌<◌, ◌+◌, ◌⊎◌, ℕ, zero, suc, List, [], ◌∷◌, ◌++◌, length, Option, Some, IsTrue}
 use Rattle.tl_syntax.specs.declared.action.Action.{Action}
-use Rattle.tl_syntax.specs.Lists.{Each, One}
+use Rattle.tl_syntax.specs.Lists.{Each, AtLeastOne}
 use Rattle.tl_depth.specs.ActionGraphs.{ActionGraph, AreActionsOf, node_after, IsSimpleGoalWalk, IsLeadingWalk}
 
 -- the greatest number of remaining actions with which a kept node was met
@@ -79,7 +79,7 @@ AreFrames g n reported met (f ∷ below) =
 
 -- the node is being expanded
 abbrev pub IsOnStack : {Node : Type 0} → List (Frame Node) → Node → Type 0
-IsOnStack stack x = One (λ f. f.node ≡ x) stack
+IsOnStack stack x = AtLeastOne (λ f. f.node ≡ x) stack
 
 -- a node is kept, met with at most m remaining actions: it is not accepted, and some leading walk
 -- with m remaining actions leads to it

@@ -16,7 +16,7 @@ use Rattle.tl_problem.specs.declared.elements.Section.TheVariants as section
 use Rattle.tl_problem.specs.ElementWords.{ElementWord, element_word}
 use Rattle.tl_problem.specs.ElementWords as word
 use Rattle.tl_problem.specs.Elements.{element_call_breaks, with_element_call, element_breaks, with_element, elements_breaks, with_elements}
-use Rattle.tl_problem.specs.Facts.{ground_breaks, fact_meant, equality_breaks, equality_meant, negation_breaks, negation_meant}
+use Rattle.tl_problem.specs.Facts.{ground_breaks, fact_meant, place_value_breaks, place_value_meant, negation_breaks, negation_meant}
 use Rattle.tl_problem.specs.Literals.{Literals, no_literal}
 use Rattle.tl_problem.specs.ProblemFiles.{has_problem_shape, section_breaks, section_meant, sections_breaks, sections_meant, problem_form_breaks, problem_form_meant, problem_file_breaks, problem_file_meant}
 use Rattle.tl_problem.specs.Sections.{Sections}
@@ -55,7 +55,7 @@ module _ (others : List (List ℕ)) (e : Domain) (names : List (List ℕ)) (d : 
   negation-passes (more_forms f no_form) at has none = cc
   negation-passes fs at has none = cc
 
-  equality-passes : (fs : FormTrees) (at : ℕ) → HaveNames names fs → equality_breaks others e.functions fs at ≡ [] → PlacePasses (is_constant names) (equality_meant names d.functions fs)
+  equality-passes : (fs : FormTrees) (at : ℕ) → HaveNames names fs → place_value_breaks others e.functions fs at ≡ [] → PlacePasses (is_constant names) (place_value_meant names d.functions fs)
   equality-passes (more_forms (list (more_forms (symbol text s) rest) place) (more_forms value no_form)) at has none =
       let parts = none-parts (ground_breaks others e.functions (record { word = text; rest = rest; at = place })) (value_breaks value) none in
       (values-pass rest has.0.1 (none-parts _ _ parts.0).1, value-passes value has.1.0 parts.1)
@@ -65,7 +65,7 @@ module _ (others : List (List ℕ)) (e : Domain) (names : List (List ℕ)) (d : 
   element_call-passes : (k l : Literals) (w : ElementWord) (c : CallTree) → HaveNames names c.rest → element_call_breaks others e k w c ≡ [] → LiteralsPass names l → LiteralsPass names (with_element_call names d l w c)
   element_call-passes k l word.Equality c has none h =
       let more = equality-passes c.rest c.at has (else-parts _ _ none).0 in
-      record { facts = h.facts; values = Each-with_value (PlacePasses (is_constant names)) l.values (equality_meant names d.functions c.rest) h.values more; nots = h.nots }
+      record { facts = h.facts; values = Each-with_value (PlacePasses (is_constant names)) l.values (place_value_meant names d.functions c.rest) h.values more; nots = h.nots }
   element_call-passes k l word.Negation c has none h =
       let more = negation-passes c.rest c.at has (else-parts _ _ none).0 in
       record { facts = h.facts; values = h.values; nots = Each-with_fact (FactPasses (is_constant names)) l.nots (negation_meant names d.predicates c.rest) h.nots more }

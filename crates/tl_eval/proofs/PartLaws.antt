@@ -13,7 +13,7 @@ use Rattle.tl_syntax.specs.declared.variable.Arg.TheVariants as arg
 use Rattle.tl_syntax.specs.declared.variable.Var.{Var}
 use Rattle.tl_syntax.specs.Assignment.{Assignment, bind}
 use Rattle.tl_syntax.specs.BoundVariables.{is_that_variable, DifferInSlot}
-use Rattle.tl_syntax.specs.Lists.{One, Among}
+use Rattle.tl_syntax.specs.Lists.{AtLeastOne, Among}
 use Rattle.tl_syntax.proofs.ListLaws.{Each-Among, One-over, one_out, one_in}
 use Rattle.tl_terms.specs.Bounds.{arg_value, arg_values}
 use Rattle.tl_terms.specs.Terms.{prepend}
@@ -177,7 +177,7 @@ free-part ss e (arg.Var u) n s h d k =
 
 -- the variables among the parts are those of the list, where each stands among the arguments
 pub each-variable : (ss : List Var) (e : Assignment) (xs : List Arg) (ps : List Part) → map (λ p. Some p) ps ≡ map (part_for ss e) xs → DifferInSlot ss
-    → ((s : Var) → Among s ss → One (λ a. is_that_variable s a ≡ true) xs) → (n : ℕ) → Among (Free n) ps ↔ (n < length ss)
+    → ((s : Var) → Among s ss → AtLeastOne (λ a. is_that_variable s a ≡ true) xs) → (n : ℕ) → Among (Free n) ps ↔ (n < length ss)
 each-variable ss e xs ps h d o n = (
   λ m.
       let there : Among (Some (Free n)) (map (λ p. Some p) ps) = (One-over (λ y. y ≡ Some (Free n)) (λ p. Some p) ps).1 (one_in (λ p. Some p ≡ Some (Free n)) (Free n) ps m refl) in
@@ -202,9 +202,10 @@ both-name s u (arg.Var y) h k = sym (eqb-true y.slot u.slot k) ∙ eqb-true y.sl
 -- the other arguments than one that is the variable
 pub record Without (s : Var) (xs ys : List Arg) : Type 0 where
   pub one_less : length xs ≡ suc (length ys)
-  pub others : (u : Var) → (u.slot ≡ s.slot → ⊥) → One (λ a. is_that_variable u a ≡ true) xs → One (λ a. is_that_variable u a ≡ true) ys
+  pub others : (u : Var) → (u.slot ≡ s.slot → ⊥) → AtLeastOne (λ a. is_that_variable u a ≡ true) xs
+    → AtLeastOne (λ a. is_that_variable u a ≡ true) ys
 
-without-one : (s : Var) (xs : List Arg) → One (λ a. is_that_variable s a ≡ true) xs → (ys : List Arg) × Without s xs ys
+without-one : (s : Var) (xs : List Arg) → AtLeastOne (λ a. is_that_variable s a ≡ true) xs → (ys : List Arg) × Without s xs ys
 without-one s [] h = absurd h
 without-one s (x ∷ xs) h = elim h [
   | inl e ↦ (xs, record { one_less = refl; others = λ u d m. elim m [ inl k ↦ absurd (d (both-name s u x e k)) | inr k ↦ k ] })
@@ -212,7 +213,7 @@ without-one s (x ∷ xs) h = elim h [
 ]
 
 -- variables of different slots that all stand among arguments are no more than those
-pub no-more-variables : (ss : List Var) (xs : List Arg) → DifferInSlot ss → ((s : Var) → Among s ss → One (λ a. is_that_variable s a ≡ true) xs) → length ss ≤ length xs
+pub no-more-variables : (ss : List Var) (xs : List Arg) → DifferInSlot ss → ((s : Var) → Among s ss → AtLeastOne (λ a. is_that_variable s a ≡ true) xs) → length ss ≤ length xs
 no-more-variables [] xs d o = omega arith
 no-more-variables (s ∷ ss) xs d o =
     let r = without-one s xs (o s (inl refl)) in

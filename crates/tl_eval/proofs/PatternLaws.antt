@@ -12,7 +12,7 @@ use Rattle.tl_syntax.specs.declared.variable.Var.{Var}
 use Rattle.tl_syntax.specs.Assignment.{Assignment, bind}
 use Rattle.tl_syntax.specs.BoundVariables.{args_of, is_that_variable, stands_in, OccurIn, DifferInSlot}
 use Rattle.tl_syntax.specs.Fits.{BoundFits}
-use Rattle.tl_syntax.specs.Lists.{One, Among}
+use Rattle.tl_syntax.specs.Lists.{AtLeastOne, Among}
 use Rattle.tl_syntax.specs.Signature.{Signature}
 use Rattle.tl_syntax.proofs.ListLaws.{Each-Among, One-over, One-append, any-iff}
 use Rattle.tl_terms.specs.Bounds.{arg_value, arg_values, fact_in, same_value, bound_true}
@@ -27,11 +27,11 @@ use Rattle.tl_world.specs.Patterns.{filled, parts_of, is_true_of, makes_true, Is
 -- variables of different slots that all stand among the arguments, and are few
 pub record Stand (ss : List Var) (xs : List Arg) : Type 0 where
   pub differ : DifferInSlot ss
-  pub stand : (s : Var) → Among s ss → One (λ a. is_that_variable s a ≡ true) xs
+  pub stand : (s : Var) → Among s ss → AtLeastOne (λ a. is_that_variable s a ≡ true) xs
   pub few : length ss ≤ 9
   pub short : length xs ≤ 9
 
-stand-in : (ss : List Var) (b : Bound) → OccurIn ss b → (s : Var) → Among s ss → One (λ a. is_that_variable s a ≡ true) (args_of b)
+stand-in : (ss : List Var) (b : Bound) → OccurIn ss b → (s : Var) → Among s ss → AtLeastOne (λ a. is_that_variable s a ≡ true) (args_of b)
 stand-in ss b o s m = (any-iff (λ a. is_that_variable s a ≡ true) (is_that_variable s) (λ x. (λ q. q, λ q. q)) (args_of b)).1 ((Each-Among (λ u. IsTrue (stands_in u b)) ss).0 o s m)
 
 pub few-variables : (ss : List Var) (b : Bound) → DifferInSlot ss → OccurIn ss b → length (args_of b) ≤ 9 → length ss ≤ 9

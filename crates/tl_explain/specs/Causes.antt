@@ -30,6 +30,6 @@ abbrev pub IsPastInExplanation : PlainProblem → List Action → ℕ → RangeN
 IsPastInExplanation p plan k note = IsPastInAction p plan k note ⊎ IsPastInProgression p plan k note
 
 -- why a plan is not explained; want of memory has no cause
-abbrev pub IsCause : PlainProblem → List Action → ExplainFault → Type 0
-IsCause p plan (fault.Range k note) = IsPastInExplanation p plan k note
-IsCause p plan fault.NoMemory = Unit {0}
+abbrev pub IsExplainCause : PlainProblem → List Action → ExplainFault → Type 0
+IsExplainCause p plan (fault.Range k note) = IsPastInExplanation p plan k note
+IsExplainCause p plan fault.NoMemory = Unit {0}

@@ -3,7 +3,7 @@ ghost use Rattle.std.specs.Prelude.{◌≡◌, ◌<◌, ◌≤◌, length, IfOk,
 ghost use Rattle.tl_syntax.specs.Lists.{Each};
 ghost use Rattle.tl_line.specs.NamedActions.{ActionIsNamed};
 ghost use Rattle.tl_terms.specs.ProblemMeaning.{plain_problem};
-ghost use Rattle.tl_explain.specs.Causes.{IsCause};
+ghost use Rattle.tl_explain.specs.Causes.{IsExplainCause};
 ghost use Rattle.tl_explain.specs.Explain.{explain_text};
 ghost use Rattle.tl_explain.specs.Explanations.{AwaitsFirst};
 
@@ -27,7 +27,7 @@ fn explain_states<L: Ledger>(
     requires named { Each (ActionIsNamed task.now.problem.names task.now.problem.domain.operators) plan.now }
     requires few { length plan.now ≤ 100000 }
     ensures text { OnOk result (explanation.new.text ≡ explain_text task.now.problem plan.now) }
-    ensures cause { IfErr result (IsCause (plain_problem task.now.problem) plan.now) }
+    ensures cause { IfErr result (IsExplainCause (plain_problem task.now.problem) plan.now) }
 {
     explanation.arrive(task, 0)?;
     for k in 0..plan.len() {
@@ -53,7 +53,7 @@ fn explained<L: Ledger>(
     requires parts { blank.parts ≡ L.parts }
     requires some { 0 < blank.parts }
     ensures text { IfOk result (λ text. text ≡ explain_text task.now.problem plan.now) }
-    ensures cause { IfErr result (IsCause (plain_problem task.now.problem) plan.now) }
+    ensures cause { IfErr result (IsExplainCause (plain_problem task.now.problem) plan.now) }
 {
     let mut explanation = Explanation::start(alloc, task)?;
     let mut steps: Steps<L> = Steps::new(blank);
@@ -77,7 +77,7 @@ pub fn explain(alloc: Global, task: &Task, plan: &[Action]) -> Result<Bytes, Exp
     requires named { Each (ActionIsNamed task.now.problem.names task.now.problem.domain.operators) plan.now }
     requires few { length plan.now ≤ 100000 }
     ensures text { IfOk result (λ text. text ≡ explain_text task.now.problem plan.now) }
-    ensures cause { IfErr result (IsCause (plain_problem task.now.problem) plan.now) }
+    ensures cause { IfErr result (IsExplainCause (plain_problem task.now.problem) plan.now) }
 {
     explained::<Brand>(alloc, task, plan, Blank::new(1))
 }

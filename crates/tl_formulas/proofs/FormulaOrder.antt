@@ -114,7 +114,7 @@ effect_list-order : (scope : Scope) (w : EffectWord) (rest : FormTrees) (at : â„
 effect_list-order scope w rest at =
     both (64 * at) (64 * at + 10) (64 * (at + 1)) _ _
     (tested (not (has_effect_shape w rest)) Shape at (64 * at) (64 * at + 10) (omega arith) (omega arith))
-    (tested (changes.is_crowded_by scope w rest) Limit at (64 * at + 10) (64 * (at + 1)) (omega arith) (omega arith))
+    (tested (changes.is_crowded_by_effect scope w rest) Limit at (64 * at + 10) (64 * (at + 1)) (omega arith) (omega arith))
 
 mutual
   unfolding effect_breaks

@@ -27,7 +27,7 @@ use Rattle.tl_formulas.specs.Terms.{terms_breaks}
 use Rattle.tl_formulas.specs.Bounds.{bound_breaks}
 use Rattle.tl_formulas.specs.Variables.{variables_breaks, with_variables}
 use Rattle.tl_formulas.specs.Formulas.{formula_breaks}
-use Rattle.tl_formulas.specs.Effects.{has_effect_shape, is_crowded_by, effect_list_breaks, target_breaks, effect_breaks, effect_parts_breaks, effects_breaks}
+use Rattle.tl_formulas.specs.Effects.{has_effect_shape, is_crowded_by_effect, effect_list_breaks, target_breaks, effect_breaks, effect_parts_breaks, effects_breaks}
 use Rattle.tl_formulas.specs.MeaningOfTerms.{first_term, terms_meant}
 use Rattle.tl_formulas.specs.MeaningOfBounds.{call_place, bound_meant}
 use Rattle.tl_formulas.specs.MeaningOfFormulas.{variables_meant}
@@ -110,12 +110,13 @@ set-keeps g n around k f ts us h later =
 -- what the list of an effect itself does not break
 pub record ListBreaksNothing (scope : Scope) (w : EffectWord) (rest : FormTrees) : Type 0 where
   pub shape : has_effect_shape w rest ≡ true
-  pub few : is_crowded_by scope w rest ≡ false
+  pub few : is_crowded_by_effect scope w rest ≡ false
 
 own-parts : (scope : Scope) (w : EffectWord) (rest : FormTrees) (at : ℕ) → effect_list_breaks scope w rest at ≡ [] → ListBreaksNothing scope w rest
 own-parts scope w rest at none =
-    let parts = none-parts (breaks_if (not (has_effect_shape w rest)) Shape at) (breaks_if (is_crowded_by scope w rest) Limit at) none in
-    record { shape = test-passes (has_effect_shape w rest) Shape at parts.0; few = test-fails (is_crowded_by scope w rest) Limit at parts.1 }
+    let parts = none-parts (breaks_if (not (has_effect_shape w rest)) Shape at)
+      (breaks_if (is_crowded_by_effect scope w rest) Limit at) none in
+    record { shape = test-passes (has_effect_shape w rest) Shape at parts.0; few = test-fails (is_crowded_by_effect scope w rest) Limit at parts.1 }
 
 fact-call : (f : FormTree) (fs : FormTrees) → has_effect_shape effect.Add (more_forms f fs) ≡ true → is_call f ≡ true
 fact-call f no_form h = h

@@ -45,13 +45,13 @@ has_effect_shape effect.Each rest = has_each_shape rest
 has_effect_shape effect.Other rest = false
 
 -- with the variables of an `each` more than 32 are in scope
-abbrev pub is_crowded_by : Scope → EffectWord → FormTrees → Bool
-is_crowded_by scope effect.Each (more_forms vs rest) = is_crowded scope vs
-is_crowded_by scope _ _ = false
+abbrev pub is_crowded_by_effect : Scope → EffectWord → FormTrees → Bool
+is_crowded_by_effect scope effect.Each (more_forms vs rest) = is_crowded scope vs
+is_crowded_by_effect scope _ _ = false
 
 -- what the list of an effect breaks itself
 abbrev pub effect_list_breaks : Scope → EffectWord → FormTrees → ℕ → List Break
-effect_list_breaks scope w rest at = breaks_if (not (has_effect_shape w rest)) Shape at ++ breaks_if (is_crowded_by scope w rest) Limit at
+effect_list_breaks scope w rest at = breaks_if (not (has_effect_shape w rest)) Shape at ++ breaks_if (is_crowded_by_effect scope w rest) Limit at
 
 -- what `(n T*)` breaks, with its terms, where it should name something of the table
 abbrev pub target_breaks : Table → Table → Scope → FormTree → List Break

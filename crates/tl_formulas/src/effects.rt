@@ -3,7 +3,7 @@
 
 ghost use Rattle.std.specs.Prelude.{◌≡◌, false};
 ghost use Rattle.tl_sexpr.specs.Tree.{tree_of};
-ghost use Rattle.tl_formulas.specs.Effects.{is_crowded_by};
+ghost use Rattle.tl_formulas.specs.Effects.{is_crowded_by_effect};
 ghost use Rattle.tl_formulas.specs.Readers.{ReadsTarget, ReadsEffect, ReadsEffectCall, ReadsEffectParts, ReadsEffects};
 ghost use Rattle.tl_formulas.specs.Shapes.{variables_tree, word_of_change, elements_of_change};
 ghost use Rattle.tl_formulas.specs.Variables.{is_crowded};
@@ -113,7 +113,7 @@ fn effect_call(
 
 /// Whether with the variables of an `each` more than 32 are in scope.
 fn is_crowded_by(scope: &Scope<'_>, parts: EffectParts<'_>) -> bool
-    ensures { result ≡ is_crowded_by scope.now (word_of_change parts.entry)
+    ensures { result ≡ is_crowded_by_effect scope.now (word_of_change parts.entry)
         (elements_of_change parts.entry) }
 {
     match parts {
@@ -129,7 +129,8 @@ fn shaped_effect(
     scope: &Scope<'_>,
     parts: EffectParts<'_>,
 ) -> Result<Effect, FormFault>
-    requires { is_crowded_by scope.now (word_of_change parts) (elements_of_change parts) ≡ false }
+    requires { is_crowded_by_effect scope.now (word_of_change parts) (elements_of_change parts)
+        ≡ false }
     ensures { ReadsEffectParts vocabulary.now scope.now parts.entry result }
 {
     match parts {

@@ -10,7 +10,7 @@ use Rattle.tl_eval.specs.Notes.{Tells, operation_of}
 use Rattle.tl_check.specs.Judged.{ObeysOn}
 use Rattle.tl_lasso.specs.Judged.{IsJudgementOn}
 use Rattle.tl_check.specs.Rounds.{lasso_run}
-use Rattle.tl_lasso.specs.Verdicts.{LoopStates, IsAcceptedForEver, StaysOpen, MissesGoal, BreaksControl, IsLoopCause, looked_round}
+use Rattle.tl_lasso.specs.Verdicts.{LoopStates, IsAcceptedForEver, StaysOpen, LoopMissesGoal, LoopBreaksControl, IsLoopCause, looked_round}
 use Rattle.tl_lasso.specs.declared.verdict.LoopVerdict.{LoopVerdict}
 use Rattle.tl_lasso.specs.declared.verdict.LoopVerdict.TheVariants as verdict
 use Rattle.tl_syntax.specs.declared.action.Action.{Action}
@@ -87,7 +87,7 @@ module _ (p : PlainProblem) (ws : List World) (n : ℕ) (loops : n + 1 < length 
         closes : loop_states.last ≡ loop_states.first
         closes = last-there ∙ (closed ∙ sym first-there)
 
-        misses-goal : meets_goal u p.goal p.avoid ≡ false → MissesGoal p stem cycle
+        misses-goal : meets_goal u p.goal p.avoid ≡ false → LoopMissesGoal p stem cycle
         misses-goal h = record { states = loop_states; closes = closes; misses = ap (λ (w : World). meets_goal w p.goal p.avoid) first-there ∙ h }
 
         module _ (met : meets_goal u p.goal p.avoid ≡ true) where
@@ -97,7 +97,7 @@ module _ (p : PlainProblem) (ws : List World) (n : ℕ) (loops : n + 1 < length 
           accepts : Satisfies p (lasso_run p n once) 0 p.control → IsAcceptedForEver p stem cycle
           accepts h = record { states = loop_states; closes = closes; reaches = reaches; obeys = h }
 
-          breaks-control : (Satisfies p (lasso_run p n once) 0 p.control → ⊥) → BreaksControl p stem cycle
+          breaks-control : (Satisfies p (lasso_run p n once) 0 p.control → ⊥) → LoopBreaksControl p stem cycle
           breaks-control h = record { states = loop_states; closes = closes; reaches = reaches; breaks = h }
 
           past-in-loop : (x : CheckFault) → ObeysOn p n once (Err x) → IsLoopCause p stem cycle x

@@ -50,13 +50,13 @@ pub record StaysOpen (p : PlainProblem) (stem cycle : List Action) : Type 0 wher
   pub opens : states.last ≢ states.first
 
 -- the repeated part ends in the state in which it began, and an element of the goal is false there
-pub record MissesGoal (p : PlainProblem) (stem cycle : List Action) : Type 0 where
+pub record LoopMissesGoal (p : PlainProblem) (stem cycle : List Action) : Type 0 where
   pub states : LoopStates p stem cycle
   pub closes : states.last ≡ states.first
   pub misses : meets_goal states.first p.goal p.avoid ≡ false
 
 -- the goal is met there, and the control formula does not hold at the first position of the run
-pub record BreaksControl (p : PlainProblem) (stem cycle : List Action) : Type 0 where
+pub record LoopBreaksControl (p : PlainProblem) (stem cycle : List Action) : Type 0 where
   pub states : LoopStates p stem cycle
   pub closes : states.last ≡ states.first
   pub reaches : IsTrue (meets_goal states.first p.goal p.avoid)
@@ -67,8 +67,8 @@ abbrev pub IsLoopVerdict : PlainProblem → List Action → List Action → Loop
 IsLoopVerdict p stem cycle verdict.Valid = IsAcceptedForEver p stem cycle
 IsLoopVerdict p stem cycle (verdict.NotExecutable k) = StopsAt p (stem ++ cycle) k
 IsLoopVerdict p stem cycle verdict.NotClosed = StaysOpen p stem cycle
-IsLoopVerdict p stem cycle verdict.GoalUnmet = MissesGoal p stem cycle
-IsLoopVerdict p stem cycle verdict.Disobeys = BreaksControl p stem cycle
+IsLoopVerdict p stem cycle verdict.GoalUnmet = LoopMissesGoal p stem cycle
+IsLoopVerdict p stem cycle verdict.Disobeys = LoopBreaksControl p stem cycle
 
 -- looked at by the formula along some states, in state k: its basic formulas, for all values of the
 -- variables quantified around them, each tuple making its bound true in one of the states

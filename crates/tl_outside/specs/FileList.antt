@@ -4,8 +4,8 @@ use Rattle.std.specs.FinMap as dict
 use Rattle.tl_outside.specs.Told.{Files}
 
 -- the files of a list; under a name that comes twice, the first
-abbrev pub files_of : List (List ℕ × List ℕ) → Files
-files_of files = dict.from_entries files
+abbrev pub listed_files : List (List ℕ × List ℕ) → Files
+listed_files files = dict.from_entries files
 
 -- the bytes of the file at this place of the list
 abbrev pub bytes_at : List (List ℕ × List ℕ) → ℕ → List ℕ

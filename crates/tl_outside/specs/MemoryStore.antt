@@ -1,14 +1,14 @@
 -- What contracts see of a store in memory.
 use Rattle.std.specs.Prelude.{◌≡◌, ℕ, Bool, List, Option, Some, is_some}
 use Rattle.tl_outside.specs.Told.{Files}
-use Rattle.tl_outside.specs.FileList.{files_of}
+use Rattle.tl_outside.specs.FileList.{listed_files}
 use Rattle.tl_outside.specs.Chosen.{chosen_bytes, left_after}
 use Rattle.tl_outside.specs.Script.{fails_at, counted}
 use Rattle.tl_outside.specs.declared.memory_store.MemoryStore.{MemoryStore}
 
 -- its files, which it always tells
 abbrev pub told_files : MemoryStore → Option Files
-told_files store = Some (files_of store.files)
+told_files store = Some (listed_files store.files)
 
 -- whether a file is chosen
 abbrev pub has_chosen : MemoryStore → Bool

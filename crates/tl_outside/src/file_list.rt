@@ -1,7 +1,7 @@
 // Files in memory, with their names.
 ghost use Rattle.std.specs.Prelude.{◌≡◌, ◌<◌, [], ◌∷◌, ◌++◌, None, Some, length, cond, is_ok, map, MatchOption, IfOk};
 ghost use Rattle.std.specs.FinMap as dict;
-ghost use Rattle.tl_outside.specs.FileList.{files_of, bytes_at};
+ghost use Rattle.tl_outside.specs.FileList.{listed_files, bytes_at};
 ghost use Rattle.tl_outside.specs.NamedFile.{name_and_bytes};
 
 use std::alloc::{AllocError, Global};
@@ -34,8 +34,8 @@ impl Model for FileList {
 // The place of the first file of this name.
 fn place_of(files: &[NamedFile], name: &str) -> Option<usize>
     ensures { MatchOption result
-        (dict.get (files_of (map name_and_bytes files.now)) name.now ≡ None)
-        (λ index. (index < length files.now) × (dict.get (files_of (map name_and_bytes files.now)) name.now ≡ Some (bytes_at (map name_and_bytes files.now) index))) }
+        (dict.get (listed_files (map name_and_bytes files.now)) name.now ≡ None)
+        (λ index. (index < length files.now) × (dict.get (listed_files (map name_and_bytes files.now)) name.now ≡ Some (bytes_at (map name_and_bytes files.now) index))) }
 {
     for (index, file) in files.iter().enumerate() {
         if name == file.name.as_str() {
@@ -80,8 +80,8 @@ impl FileList {
     // The place of the first file of this name.
     pub(crate) fn place(&self, name: &str) -> Option<usize>
         ensures { MatchOption result
-            (dict.get (files_of self.now) name.now ≡ None)
-            (λ index. (index < length self.now) × (dict.get (files_of self.now) name.now ≡ Some (bytes_at self.now index))) }
+            (dict.get (listed_files self.now) name.now ≡ None)
+            (λ index. (index < length self.now) × (dict.get (listed_files self.now) name.now ≡ Some (bytes_at self.now index))) }
     {
         place_of(&self.files, name)
     }

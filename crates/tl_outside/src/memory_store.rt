@@ -3,7 +3,7 @@ ghost use Rattle.std.specs.Prelude.{◌≡◌, ◌+◌, ◌^◌, ◌≤◌, ◌�
 ghost use Rattle.std.specs.Io.{ReadsAtMost};
 ghost use Rattle.tl_outside.specs.Causes.{HasCause, Rose};
 ghost use Rattle.tl_outside.specs.Told.{told_file, Lacks, GivesFrom};
-ghost use Rattle.tl_outside.specs.FileList.{files_of};
+ghost use Rattle.tl_outside.specs.FileList.{listed_files};
 ghost use Rattle.tl_outside.specs.Chosen.{IsTakenWithin};
 ghost use Rattle.tl_outside.specs.Script.{counted};
 
@@ -32,7 +32,7 @@ impl MemoryStore {
     /// in `fails` fail.
     pub fn new(files: FileList, most: usize, fails: Numbers) -> MemoryStore
         requires { 1 ≤ most }
-        ensures files { told_files result ≡ Some (files_of files) }
+        ensures files { told_files result ≡ Some (listed_files files) }
         ensures chosen { has_chosen result ≡ false }
         ensures faults { faults_of result ≡ 0 }
         ensures most { most_of result ≡ most }

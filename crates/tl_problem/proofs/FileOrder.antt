@@ -19,9 +19,9 @@ use Rattle.tl_rules.specs.Calls.{CallTree}
 use Rattle.tl_problem.specs.ElementWords.{ElementWord, element_word}
 use Rattle.tl_problem.specs.ElementWords as word
 use Rattle.tl_problem.specs.Literals.{Literals, no_literal, has_other_value}
-use Rattle.tl_problem.specs.Declarations.{position_of, has_arity, call_breaks_at}
+use Rattle.tl_problem.specs.Declarations.{position_of, has_declared_arity, declared_call_breaks_at}
 use Rattle.tl_problem.specs.Elements.{breaks_or_else, element_call_breaks, element_breaks, with_element, elements_breaks}
-use Rattle.tl_problem.specs.Facts.{ground_breaks, fact_meant, equality_breaks, equality_meant, negation_breaks, negation_meant}
+use Rattle.tl_problem.specs.Facts.{ground_breaks, fact_meant, place_value_breaks, place_value_meant, negation_breaks, negation_meant}
 use Rattle.tl_problem.specs.ProblemFiles.{has_problem_shape, section_breaks, sections_breaks, problem_form_breaks, problem_file_breaks}
 use Rattle.tl_problem.specs.Values.{value_breaks, values_breaks}
 
@@ -34,9 +34,10 @@ values-order : (fs : FormTrees) (low next : ℕ) → RiseFrom low fs next → Is
 values-order no_form low next h = none (64 * low) (64 * next) (omega arith)
 values-order (more_forms f fs) low next h = both (64 * low) (64 * h.0) (64 * next) _ _ (value-order f low h.0 h.1) (values-order fs h.0 next h.2)
 
-call-order : (declared : List Declared) (found : Option ℕ) (n at : ℕ) → IsInOrder (64 * at) (call_breaks_at declared found n at) (64 * at + 64)
+call-order : (declared : List Declared) (found : Option ℕ) (n at : ℕ) → IsInOrder (64 * at) (declared_call_breaks_at declared found n at) (64 * at + 64)
 call-order declared None n at = one Unknown at (64 * at) (64 * at + 64) (omega arith) (omega arith)
-call-order declared (Some i) n at = tested (not (has_arity declared i n)) Arity at (64 * at) (64 * at + 64) (omega arith) (omega arith)
+call-order declared (Some i) n at =
+    tested (not (has_declared_arity declared i n)) Arity at (64 * at) (64 * at + 64) (omega arith) (omega arith)
 
 ground-order : (names : List (List ℕ)) (declared : List Declared) (c : CallTree) (low next : ℕ) → c.at + 1 ≤ low → RiseFrom low c.rest next → IsInOrder (64 * c.at) (ground_breaks names declared c) (64 * next)
 ground-order names declared c low next le h =
@@ -44,7 +45,7 @@ ground-order names declared c low next le h =
     (call-order declared (position_of names declared c.word) (count c.rest) c.at)
     (from (64 * c.at + 64) (64 * low) (64 * next) _ (omega arith) (values-order c.rest low next h))
 
-equality-order : (names : List (List ℕ)) (functions : List Declared) (fs : FormTrees) (at next : ℕ) → RiseFrom (at + 1) fs next → IsInOrder (64 * at) (equality_breaks names functions fs at) (64 * next)
+equality-order : (names : List (List ℕ)) (functions : List Declared) (fs : FormTrees) (at next : ℕ) → RiseFrom (at + 1) fs next → IsInOrder (64 * at) (place_value_breaks names functions fs at) (64 * next)
 equality-order names functions (more_forms (list (more_forms (symbol text s) rest) place) (more_forms value no_form)) at next h =
     let inner = h.1.1 in
     let first = form-within (symbol text s) (place + 1) inner.0 inner.1 in
@@ -73,7 +74,7 @@ element_call-order : (names : List (List ℕ)) (d : Domain) (l : Literals) (w : 
 element_call-order names d l word.Equality c low next le h i =
     let parts = forms-within c.rest low next h in
     else-order (64 * c.at) (64 * next) _ _ (equality-order names d.functions c.rest c.at next i)
-    (tested (has_other_value l.values (equality_meant names d.functions c.rest)) TwoValues c.at (64 * c.at) (64 * next) (omega arith) (omega arith))
+    (tested (has_other_value l.values (place_value_meant names d.functions c.rest)) TwoValues c.at (64 * c.at) (64 * next) (omega arith) (omega arith))
 element_call-order names d l word.Negation c low next le h i =
     let parts = forms-within c.rest low next h in
     else-order (64 * c.at) (64 * next) _ _ (negation-order names d.predicates c.rest c.at next i)

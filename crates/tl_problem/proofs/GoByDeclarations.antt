@@ -15,7 +15,7 @@ use Rattle.tl_problem.specs.ElementWords as word
 use Rattle.tl_problem.specs.Literals.{Literals, no_literal, and_fact, and_value, and_not, fact_denied, fact_said, value_differs}
 use Rattle.tl_problem.specs.Elements.{breaks_or_else, element_call_breaks, with_element_call, called_breaks, with_called, element_breaks, with_element, elements_breaks, with_elements}
 use Rattle.tl_problem.specs.LawsDeclarations.{DeclareAlike, FilesGoByDeclarations}
-use Rattle.tl_problem.specs.Facts.{ground_breaks, fact_meant, equality_breaks, equality_meant, negation_breaks, negation_meant}
+use Rattle.tl_problem.specs.Facts.{ground_breaks, fact_meant, place_value_breaks, place_value_meant, negation_breaks, negation_meant}
 use Rattle.tl_rules.specs.OneForm.{second_form_breaks}
 use Rattle.tl_problem.specs.ProblemFiles.{has_problem_shape, section_breaks, sections_breaks, problem_form_breaks, problem_file_breaks, sections_meant, problem_form_meant, problem_file_meant}
 
@@ -23,7 +23,7 @@ module _ (names : List (List ℕ)) (d e : Domain) (alike : DeclareAlike d e) whe
   call_breaks : (l : Literals) (w : ElementWord) (c : CallTree) → element_call_breaks names d l w c ≡ element_call_breaks names e l w c
   call_breaks l word.Equality c =
       let fs = alike.functions in
-      λ i. breaks_or_else (equality_breaks names (fs i) c.rest c.at) (value_differs l (equality_meant names (fs i) c.rest) c.at)
+      λ i. breaks_or_else (place_value_breaks names (fs i) c.rest c.at) (value_differs l (place_value_meant names (fs i) c.rest) c.at)
   call_breaks l word.Negation c =
       let ps = alike.predicates in
       λ i. breaks_or_else (negation_breaks names (ps i) c.rest c.at) (fact_said l (negation_meant names (ps i) c.rest) c.at)
@@ -32,7 +32,7 @@ module _ (names : List (List ℕ)) (d e : Domain) (alike : DeclareAlike d e) whe
       λ i. breaks_or_else (ground_breaks names (ps i) c) (fact_denied l (fact_meant names (ps i) c) c.at)
 
   with_call : (l : Literals) (w : ElementWord) (c : CallTree) → with_element_call names d l w c ≡ with_element_call names e l w c
-  with_call l word.Equality c = ap (λ (fs : List Declared). and_value l (equality_meant names fs c.rest)) alike.functions
+  with_call l word.Equality c = ap (λ (fs : List Declared). and_value l (place_value_meant names fs c.rest)) alike.functions
   with_call l word.Negation c = ap (λ (ps : List Declared). and_not l (negation_meant names ps c.rest)) alike.predicates
   with_call l word.Fact c = ap (λ (ps : List Declared). and_fact l (fact_meant names ps c)) alike.predicates
 

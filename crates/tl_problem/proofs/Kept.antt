@@ -27,9 +27,9 @@ use Rattle.tl_rules.specs.Calls.{CallTree}
 use Rattle.tl_problem.specs.ElementWords.{ElementWord, element_word}
 use Rattle.tl_problem.specs.ElementWords as word
 use Rattle.tl_problem.specs.Literals.{Literals, no_literal, with_fact, with_value, value_among}
-use Rattle.tl_problem.specs.Declarations.{position_of, has_arity, call_breaks_at}
+use Rattle.tl_problem.specs.Declarations.{position_of, has_declared_arity, declared_call_breaks_at}
 use Rattle.tl_problem.specs.Elements.{breaks_or_else, element_call_breaks, with_element_call, element_breaks, with_element, elements_breaks, with_elements}
-use Rattle.tl_problem.specs.Facts.{ground_breaks, fact_meant, equality_breaks, equality_meant, negation_breaks, negation_meant}
+use Rattle.tl_problem.specs.Facts.{ground_breaks, fact_meant, place_value_breaks, place_value_meant, negation_breaks, negation_meant}
 use Rattle.tl_problem.specs.Keeps.{LiteralsKeep, SectionsKeep}
 use Rattle.tl_problem.specs.ProblemFiles.{has_problem_shape, section_breaks, section_meant, sections_breaks, sections_meant, problem_form_breaks, problem_form_meant, problem_file_breaks, problem_file_meant}
 use Rattle.tl_rules.specs.Values.{value_meant, values_meant}
@@ -76,16 +76,16 @@ length-values names (more_forms f fs) = omega (arith, length-values names fs)
 abbrev pub arities : List Declared → List ℕ
 arities declared = map (λ d. d.arity) declared
 
-arity-takes : (declared : List Declared) (i n : ℕ) → has_arity declared i n ≡ true → Takes (arities declared) i n
+arity-takes : (declared : List Declared) (i n : ℕ) → has_declared_arity declared i n ≡ true → Takes (arities declared) i n
 arity-takes declared i n h = slice_get-map (λ d. d.arity) declared i ∙ by_item (slice_get declared i) h
   where
     by_item : (item : Option Declared) → option_map_or (λ d. d.arity == n) item false ≡ true → option_map (λ d. d.arity) item ≡ Some n
     by_item None test = cc
     by_item (Some d) test = ap (λ (k : ℕ). Some k) (eqb-true d.arity n test)
 
-called-takes : (declared : List Declared) (found : Option ℕ) (n at : ℕ) → call_breaks_at declared found n at ≡ [] → Takes (arities declared) (unwrap_or found 0) n
+called-takes : (declared : List Declared) (found : Option ℕ) (n at : ℕ) → declared_call_breaks_at declared found n at ≡ [] → Takes (arities declared) (unwrap_or found 0) n
 called-takes declared None n at none = cc
-called-takes declared (Some i) n at none = arity-takes declared i n (test-passes (has_arity declared i n) Arity at none)
+called-takes declared (Some i) n at none = arity-takes declared i n (test-passes (has_declared_arity declared i n) Arity at none)
 
 -- what `(n c*)` calls takes its values
 ground-takes : (names : List (List ℕ)) (declared : List Declared) (c : CallTree) → ground_breaks names declared c ≡ [] → Takes (arities declared) (unwrap_or (position_of names declared c.word) 0) (length (values_meant names c.rest))
@@ -105,7 +105,7 @@ negation-kept g names predicates (more_forms (list (more_forms (symbol text s) r
 negation-kept g names predicates (more_forms f no_form) at is have none = cc
 negation-kept g names predicates fs at is have none = cc
 
-equality-kept : (g : Signature) (names : List (List ℕ)) (functions : List Declared) (fs : FormTrees) (at : ℕ) → arities functions ≡ g.functions → HaveNames names fs → equality_breaks names functions fs at ≡ [] → PlaceKeeps g (length names) (equality_meant names functions fs)
+equality-kept : (g : Signature) (names : List (List ℕ)) (functions : List Declared) (fs : FormTrees) (at : ℕ) → arities functions ≡ g.functions → HaveNames names fs → place_value_breaks names functions fs at ≡ [] → PlaceKeeps g (length names) (place_value_meant names functions fs)
 equality-kept g names functions (more_forms (list (more_forms (symbol text s) rest) place) (more_forms value no_form)) at is have none = record {
   takes = let P : List ℕ → Type 0 = λ ns. Takes ns (unwrap_or (position_of names functions text) 0) (length (values_meant names rest)) in subst P is (ground-takes names functions (record { word = text; rest = rest; at = place }) (none-parts _ _ none).0);
   named = values-named names rest have.0.1;
@@ -136,9 +136,9 @@ element_call-kept names d l word.Equality c have none kept =
     let more = equality-kept (signature_of d) names d.functions c.rest c.at refl have parts.0 in
     record {
       facts = kept.facts;
-      values = Each-with_value (PlaceKeeps (signature_of d) (length names)) l.values (equality_meant names d.functions c.rest) kept.values more;
+      values = Each-with_value (PlaceKeeps (signature_of d) (length names)) l.values (place_value_meant names d.functions c.rest) kept.values more;
       nots = kept.nots;
-      agrees = agrees-with_value l.values (equality_meant names d.functions c.rest) kept.agrees;
+      agrees = agrees-with_value l.values (place_value_meant names d.functions c.rest) kept.agrees;
       consistent = kept.consistent;
     }
 element_call-kept names d l word.Negation c have none kept =

@@ -18,14 +18,15 @@ abbrev pub position_meant : List (List ℕ) → List Declared → List ℕ → �
 position_meant names declared text = unwrap_or (position_of names declared text) 0
 
 -- what is declared at this position takes so many arguments
-abbrev pub has_arity : List Declared → ℕ → ℕ → Bool
-has_arity declared i n = option_map_or (λ d. d.arity == n) (slice_get declared i) false
+abbrev pub has_declared_arity : List Declared → ℕ → ℕ → Bool
+has_declared_arity declared i n = option_map_or (λ d. d.arity == n) (slice_get declared i) false
 
 -- what a list breaks that calls what is declared at this position with so many arguments
-abbrev pub call_breaks_at : List Declared → Option ℕ → ℕ → ℕ → List Break
-call_breaks_at declared None n at = (Unknown, at) ∷ []
-call_breaks_at declared (Some i) n at = breaks_if (not (has_arity declared i n)) Arity at
+abbrev pub declared_call_breaks_at : List Declared → Option ℕ → ℕ → ℕ → List Break
+declared_call_breaks_at declared None n at = (Unknown, at) ∷ []
+declared_call_breaks_at declared (Some i) n at =
+    breaks_if (not (has_declared_arity declared i n)) Arity at
 
 -- what a list breaks by what it calls
-abbrev pub call_breaks : List (List ℕ) → List Declared → CallTree → List Break
-call_breaks names declared c = call_breaks_at declared (position_of names declared c.word) (count c.rest) c.at
+abbrev pub declared_call_breaks : List (List ℕ) → List Declared → CallTree → List Break
+declared_call_breaks names declared c = declared_call_breaks_at declared (position_of names declared c.word) (count c.rest) c.at

@@ -14,7 +14,7 @@ use Rattle.tl_problem.specs.declared.elements.Section.{Section}
 use Rattle.tl_rules.specs.Calls.{CallTree, call_in}
 use Rattle.tl_problem.specs.ElementWords.{ElementWord, element_word}
 use Rattle.tl_problem.specs.ElementWords as word
-use Rattle.tl_problem.specs.Facts.{ground_breaks, fact_meant, equality_breaks, equality_meant, negation_breaks, negation_meant}
+use Rattle.tl_problem.specs.Facts.{ground_breaks, fact_meant, place_value_breaks, place_value_meant, negation_breaks, negation_meant}
 use Rattle.tl_problem.specs.Literals.{Literals, and_fact, and_value, and_not, fact_denied, fact_said, value_differs}
 
 -- the first breaks, and only where there are none the second
@@ -25,8 +25,8 @@ breaks_or_else (b ∷ bs) later = b ∷ bs
 -- what an element of this word breaks, where the elements before it say this
 abbrev pub element_call_breaks : List (List ℕ) → Domain → Literals → ElementWord → CallTree → List Break
 element_call_breaks names d l word.Equality c =
-    breaks_or_else (equality_breaks names d.functions c.rest c.at)
-    (value_differs l (equality_meant names d.functions c.rest) c.at)
+    breaks_or_else (place_value_breaks names d.functions c.rest c.at)
+    (value_differs l (place_value_meant names d.functions c.rest) c.at)
 element_call_breaks names d l word.Negation c =
     breaks_or_else (negation_breaks names d.predicates c.rest c.at)
     (fact_said l (negation_meant names d.predicates c.rest) c.at)
@@ -36,7 +36,8 @@ element_call_breaks names d l word.Fact c =
 
 -- what is said with an element of this word
 abbrev pub with_element_call : List (List ℕ) → Domain → Literals → ElementWord → CallTree → Literals
-with_element_call names d l word.Equality c = and_value l (equality_meant names d.functions c.rest)
+with_element_call names d l word.Equality c =
+    and_value l (place_value_meant names d.functions c.rest)
 with_element_call names d l word.Negation c = and_not l (negation_meant names d.predicates c.rest)
 with_element_call names d l word.Fact c = and_fact l (fact_meant names d.predicates c)
 

@@ -12,12 +12,12 @@ use Rattle.tl_rules.specs.declared.rule.Rule.TheVariants.{Shape}
 use Rattle.tl_rules.specs.Rules.{Break}
 use Rattle.tl_rules.specs.Values.{value_meant, values_meant}
 use Rattle.tl_rules.specs.Calls.{CallTree, call_in}
-use Rattle.tl_problem.specs.Declarations.{call_breaks, position_meant}
+use Rattle.tl_problem.specs.Declarations.{declared_call_breaks, position_meant}
 use Rattle.tl_problem.specs.Values.{value_breaks, values_breaks}
 
 -- what `(n c*)` breaks, with its values, where it should name something that is declared
 abbrev pub ground_breaks : List (List ℕ) → List Declared → CallTree → List Break
-ground_breaks names declared c = call_breaks names declared c ++ values_breaks c.rest
+ground_breaks names declared c = declared_call_breaks names declared c ++ values_breaks c.rest
 
 -- a fact `(p c*)`
 abbrev pub fact_meant : List (List ℕ) → List Declared → CallTree → Fact
@@ -64,13 +64,13 @@ place_meant names functions (Some place) value = record {
 place_meant names functions None value = record { fun = 0; args = []; value = Int (pos 0) }
 
 -- what `(= X c)` breaks by itself, by its elements after the first
-abbrev pub equality_breaks : List (List ℕ) → List Declared → FormTrees → ℕ → List Break
-equality_breaks names functions (more_forms place (more_forms value no_form)) at =
+abbrev pub place_value_breaks : List (List ℕ) → List Declared → FormTrees → ℕ → List Break
+place_value_breaks names functions (more_forms place (more_forms value no_form)) at =
     place_breaks names functions (call_in place) value at
-equality_breaks names functions _ at = (Shape, at) ∷ []
+place_value_breaks names functions _ at = (Shape, at) ∷ []
 
 -- a place with its value, by the elements of `(= X c)` after the first
-abbrev pub equality_meant : List (List ℕ) → List Declared → FormTrees → PlaceValue
-equality_meant names functions (more_forms place (more_forms value no_form)) =
+abbrev pub place_value_meant : List (List ℕ) → List Declared → FormTrees → PlaceValue
+place_value_meant names functions (more_forms place (more_forms value no_form)) =
     place_meant names functions (call_in place) value
-equality_meant names functions _ = record { fun = 0; args = []; value = Int (pos 0) }
+place_value_meant names functions _ = record { fun = 0; args = []; value = Int (pos 0) }

@@ -3,7 +3,7 @@ ghost use Rattle.std.specs.Prelude.{◌≡◌, ◌==◌, ◌<◌, ℕ, IfSome, l
 ghost use Rattle.std.specs.List.{position};
 ghost use Rattle.tl_rules.specs.Reads.{Reads};
 ghost use Rattle.tl_rules.specs.Calls.{call_tree};
-ghost use Rattle.tl_problem.specs.Declarations.{call_breaks_at, position_meant, call_breaks};
+ghost use Rattle.tl_problem.specs.Declarations.{declared_call_breaks_at, position_meant, declared_call_breaks};
 
 use tl_rules::{Call, FormFault, Rule, breaks, number_of};
 use tl_syntax::{Declared, Names};
@@ -20,7 +20,7 @@ fn position_among(declared: &[Declared], name: u32) -> Option<usize>
 /// an offset.
 /// A domain declares far less than what 32 bits can number; past them the answer is want of memory.
 fn position_with(declared: &[Declared], name: u32, count: usize, at: u32) -> Result<u32, FormFault>
-    ensures { Reads (λ (x : ℕ). x) result (call_breaks_at declared.now
+    ensures { Reads (λ (x : ℕ). x) result (declared_call_breaks_at declared.now
         (position (λ d. d.name == name) declared.now) count at)
         (unwrap_or (position (λ d. d.name == name) declared.now) 0) }
 {
@@ -39,7 +39,7 @@ fn position_with(declared: &[Declared], name: u32, count: usize, at: u32) -> Res
 /// The position of what a list calls.
 #[tactic(auto, using(crate::proofs::Rulesets::composed))]
 pub(crate) fn called(names: &Names, declared: &[Declared], call: Call<'_>) -> Result<u32, FormFault>
-    ensures { Reads (λ (x : ℕ). x) result (call_breaks names.now declared.now
+    ensures { Reads (λ (x : ℕ). x) result (declared_call_breaks names.now declared.now
         (call_tree call.entry))
         (position_meant names.now declared.now call.entry.word.now) }
 {

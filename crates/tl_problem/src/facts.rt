@@ -7,7 +7,7 @@ ghost use Rattle.tl_rules.specs.Reads.{Reads, trees_in};
 ghost use Rattle.tl_rules.specs.Values.{values_meant};
 ghost use Rattle.tl_rules.specs.Calls.{call_tree};
 ghost use Rattle.tl_problem.specs.Declarations.{position_meant};
-ghost use Rattle.tl_problem.specs.Facts.{ground_breaks, fact_meant, equality_breaks, equality_meant, negation_breaks, negation_meant};
+ghost use Rattle.tl_problem.specs.Facts.{ground_breaks, fact_meant, place_value_breaks, place_value_meant, negation_breaks, negation_meant};
 
 use crate::declarations::called;
 use crate::values::{value, values};
@@ -60,8 +60,8 @@ pub(crate) fn equality(
     call: Call<'_>,
 ) -> Result<PlaceValue, FormFault>
     ensures { Reads (λ (x : PlaceValue). x) result
-        (equality_breaks names.now functions.now (trees_in call.entry.rest.now) call.entry.at)
-        (equality_meant names.now functions.now (trees_in call.entry.rest.now)) }
+        (place_value_breaks names.now functions.now (trees_in call.entry.rest.now) call.entry.at)
+        (place_value_meant names.now functions.now (trees_in call.entry.rest.now)) }
 {
     let Some((place, form)) = two(call.rest) else {
         return Err(breaks(Rule::Shape, call.at));

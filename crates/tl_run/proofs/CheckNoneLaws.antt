@@ -3,7 +3,7 @@ use Rattle.std.proofs.Common.{◌≡◌, inl, inr, ℕ, List, sym, ap, ◌∙◌
 use Rattle.std.specs.Prelude.{Option}
 use Rattle.tl_cert.specs.Causes.{IsNoneCause}
 use Rattle.tl_cert.specs.Laws.{OneNoneVerdict}
-use Rattle.tl_cert.specs.ProofTexts.{none_text}
+use Rattle.tl_cert.specs.ProofTexts.{proof_verdict_text}
 use Rattle.tl_cert.specs.Verdicts.{IsNoneVerdict}
 use Rattle.tl_cert.specs.declared.proof.Proof.{Proof}
 use Rattle.tl_cert.specs.declared.verdict.NoneVerdict.{NoneVerdict}
@@ -33,11 +33,11 @@ one_verdict law p q proof other v w same e h k =
     sym (law (plain_problem q) other v w (subst (λ (x : PlainProblem). IsNoneVerdict x other v) same.meaning (subst (λ (x : Proof). IsNoneVerdict (plain_problem p) x v) e h)) k)
 
 -- and it has one line
-one_line : (m n : Problem) (proof other : Proof) (v w : NoneVerdict) → SameProblem m n → proof ≡ other → w ≡ v → none_text n.names n.domain.operators other.bound w ≡ none_text m.names m.domain.operators proof.bound v
+one_line : (m n : Problem) (proof other : Proof) (v w : NoneVerdict) → SameProblem m n → proof ≡ other → w ≡ v → proof_verdict_text n.names n.domain.operators other.bound w ≡ proof_verdict_text m.names m.domain.operators proof.bound v
 one_line m n proof other v w same e is =
     let names = sym same.names in
     let back = sym e in
-    (λ i. none_text (names i) n.domain.operators (back i).bound (is i)) ∙ same_none_text m.names n.domain.operators m.domain.operators (sym same.heads) proof.bound v
+    (λ i. proof_verdict_text (names i) n.domain.operators (back i).bound (is i)) ∙ same_none_text m.names n.domain.operators m.domain.operators (sym same.heads) proof.bound v
 
 yields_to_verdict : (after : ℕ) (note : RangeNote) (path : List Action) (v : NoneVerdict) → Yields (past_range after note path) (none_status v)
 yields_to_verdict after note path Proved = tt
@@ -63,7 +63,7 @@ check_none_agrees law d p q (a_proof m proof) y (judged_proof v) b same h k = ju
 check_none_agrees law d p q (a_proof m proof) y (past_range after note path) b same h k = past_range_agrees d p q (a_proof m proof) y after note path b k
 check_none_agrees law d p q x y a b same h k = absurd h
 
-verdict_says : Laws → (files : Option Files) (d p q : List ℕ) (problem : Problem) (proof : Proof) (v : NoneVerdict) (text : List ℕ) → HoldInput files (check_none d p q) (a_proof problem proof) → IsNoneVerdict (plain_problem problem) proof v → text ≡ none_text problem.names problem.domain.operators proof.bound v → Headline files (check_none d p q) (none_status v) text
+verdict_says : Laws → (files : Option Files) (d p q : List ℕ) (problem : Problem) (proof : Proof) (v : NoneVerdict) (text : List ℕ) → HoldInput files (check_none d p q) (a_proof problem proof) → IsNoneVerdict (plain_problem problem) proof v → text ≡ proof_verdict_text problem.names problem.domain.operators proof.bound v → Headline files (check_none d p q) (none_status v) text
 verdict_says laws files d p q problem proof Proved text stand right line =
     record { problem = problem; proof = proof; stand = stand; covers = right; none = laws.covered (plain_problem problem) proof right; line = line }
 verdict_says laws files d p q problem proof (BadLink k) text stand right line = tt

@@ -16,7 +16,7 @@ use Rattle.tl_search.specs.declared.outcome.Report.{Report}
 use Rattle.tl_syntax.specs.declared.action.Action.{Action}
 use Rattle.tl_syntax.specs.declared.domain.Domain.{Domain}
 use Rattle.tl_syntax.specs.declared.problem.Problem.{Problem}
-use Rattle.tl_syntax.specs.Lists.{Among, One}
+use Rattle.tl_syntax.specs.Lists.{Among, AtLeastOne}
 use Rattle.tl_terms.specs.Problem.{PlainProblem}
 use Rattle.tl_terms.specs.ProblemMeaning.{plain_problem}
 use Rattle.tl_text.specs.Traces.{AreWritable}
@@ -50,7 +50,7 @@ kept_arrives (e ∷ es) j k a (inl same) = subst (λ (u : Event). Among (j, a) (
 kept_arrives (e ∷ es) j k a (inr h) = later e es (j, a) (kept_arrives es j k a h)
 
 -- each arrival has an event
-arrival_told : (events : List Event) (j : ℕ) (a : Action) → Among (j, a) (arrivals_of events) → One (IsOf j a) events
+arrival_told : (events : List Event) (j : ℕ) (a : Action) → Among (j, a) (arrivals_of events) → AtLeastOne (IsOf j a) events
 arrival_told [] j a h = absurd h
 arrival_told (event.RootKept ∷ es) j a h = inr (arrival_told es j a h)
 arrival_told (event.RootPruned ∷ es) j a h = inr (arrival_told es j a h)

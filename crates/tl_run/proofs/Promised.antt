@@ -23,7 +23,7 @@ use Rattle.tl_run.specs.Commands.{Command, check, search, trace, explain, prove_
 use Rattle.tl_run.specs.Inputs.{Input, a_problem, a_plan, a_proof, some_costs, a_loop}
 use Rattle.tl_run.specs.Cheapest.{cost_status}
 use Rattle.tl_run.specs.Laws.{Laws}
-use Rattle.tl_run.specs.Promises.{Allows, AreTold, Headline, IsAnswer, IsCalm, IsCalmStatus, IsTextOf}
+use Rattle.tl_run.specs.Promises.{Allows, AreTold, Headline, IsAnswer, IsCalmCommand, IsCalmStatus, IsTextOf}
 use Rattle.tl_run.specs.ProveNone.{unproved_status}
 use Rattle.tl_run.specs.Refusals.{refusal_text}
 use Rattle.tl_run.specs.Replies.{HasLines}
@@ -202,7 +202,7 @@ answer_agrees laws files c told x a status text are allowed h =
     subst (λ (s : Status). Agrees x a s text) (sym h.status_is) (subst (λ (t : List ℕ). Agrees x a (status_of h.answer) t) (sym h.text_is) agrees)
 
 -- files whose command is calm all pass: one line for each command
-calm_passes : (files : Files) (c : Command) → IsCalm (Some files) c → (x : Input) × HoldInput (Some files) c x
+calm_passes : (files : Files) (c : Command) → IsCalmCommand (Some files) c → (x : Input) × HoldInput (Some files) c x
 calm_passes files (check d p q) calm = (a_plan calm.problem calm.plan, calm.stand)
 calm_passes files (search s d p) calm = (a_problem calm.problem, calm.stand)
 calm_passes files (trace s d p) calm = (a_problem calm.problem, calm.stand)
@@ -214,7 +214,7 @@ calm_passes files (cheapest b d p k) calm = (some_costs calm.problem calm.costs,
 calm_passes files (check_loop d p q) calm = (a_loop calm.problem calm.plan, calm.stand)
 
 -- right answers where nothing past range is looked at: one line for each command
-right_calm : Laws → (files : Files) (c : Command) (x : Input) (a : Answer) → IsCalm (Some files) c → Stands (Some files) c x a
+right_calm : Laws → (files : Files) (c : Command) (x : Input) (a : Answer) → IsCalmCommand (Some files) c → Stands (Some files) c x a
     → IsCalmStatus (status_of a)
 right_calm laws files (check d p q) x a calm h =
     check_calm d p q calm.problem calm.plan x a (one_input laws.problems files (check d p q) (a_plan calm.problem calm.plan) x calm.stand h.0) calm.calm h.1
@@ -235,7 +235,7 @@ right_calm laws files (cheapest b d p k) x a calm h =
 right_calm laws files (check_loop d p q) x a calm h =
     check_loop_calm d p q calm.problem calm.plan x a (one_input laws.problems files (check_loop d p q) (a_loop calm.problem calm.plan) x calm.stand h.0) calm.calm h.1
 
-split_calm : Laws → (files : Files) (c : Command) (x : Input) (a : Answer) → IsCalm (Some files) c → Splits (Some files) c x a
+split_calm : Laws → (files : Files) (c : Command) (x : Input) (a : Answer) → IsCalmCommand (Some files) c → Splits (Some files) c x a
     → IsCalmStatus (status_of a)
 split_calm laws files c x a calm (inl h) =
     let passes = calm_passes files c calm in
@@ -244,7 +244,7 @@ split_calm laws files c x a calm (inr h) = right_calm laws files c x a calm h
 
 -- where nothing past range is looked at and there is room, no answer has the status Range or Spent
 pub answer_calm : Laws → (files : Option Files) (c : Command) (told : CallsTold) (status : Status) (text : List ℕ) → AreTold files c
-    → IsCalm files c → IsAnswer files c told status text → IsCalmStatus status
+    → IsCalmCommand files c → IsAnswer files c told status text → IsCalmStatus status
 answer_calm laws (Some files) c told status text are calm h =
     subst IsCalmStatus (sym h.status_is) (split_calm laws files c h.input h.answer calm (splits (Some files) c h.input h.answer h.allowed))
 answer_calm laws None (sample m) told status text are calm h =

@@ -12,7 +12,7 @@ use Rattle.tl_line.specs.ActionLists.{limit_breaks}
 use Rattle.tl_line.specs.ActionTexts.{action_text, values_text}
 use Rattle.tl_cert.specs.MeaningOfProofs.{length_bound_meant, link_meant_by, links_meant, proof_meant}
 use Rattle.tl_cert.specs.ProofFiles.{proof_head_breaks, link_breaks_at, link_parts, links_breaks, proof_breaks}
-use Rattle.tl_cert.specs.ProofTexts.{head_line, link_line, link_lines, none_text, proof_text}
+use Rattle.tl_cert.specs.ProofTexts.{head_line, link_line, link_lines, proof_verdict_text, proof_text}
 use Rattle.tl_cert.specs.declared.proof.Link.{Link}
 use Rattle.tl_cert.specs.declared.proof.Proof.{Proof}
 use Rattle.tl_cert.specs.declared.verdict.NoneVerdict.{NoneVerdict}
@@ -81,7 +81,7 @@ module _ (names : List (List ℕ)) (os us : List Operator) (alike : map head_of 
   same_proof_text proof = ap (λ lines. head_line proof.bound ++ lines) (same_link_lines proof.links)
 
   -- and so is the line of a verdict on one
-  pub same_none_text : (bound : Option ℕ) (v : NoneVerdict) → none_text names os bound v ≡ none_text names us bound v
+  pub same_none_text : (bound : Option ℕ) (v : NoneVerdict) → proof_verdict_text names os bound v ≡ proof_verdict_text names us bound v
   same_none_text bound Proved = refl
   same_none_text bound (BadLink k) = refl
   same_none_text bound (Accepts k) = refl

@@ -6,7 +6,7 @@ use Rattle.tl_terms.specs.ProblemMeaning.{plain_problem}
 use Rattle.tl_eval.specs.Notes.{operation_of}
 use Rattle.tl_eval.specs.declared.range.RangeNote.{RangeNote}
 use Rattle.tl_cert.specs.Causes.{IsNoneCause}
-use Rattle.tl_cert.specs.ProofTexts.{LinksFit, none_text, proof_text}
+use Rattle.tl_cert.specs.ProofTexts.{LinksFit, proof_verdict_text, proof_text}
 use Rattle.tl_cert.specs.Verdicts.{IsNoneVerdict}
 use Rattle.tl_cert.specs.declared.proof.Proof.{Proof}
 use Rattle.tl_cert.specs.declared.verdict.NoneVerdict.{NoneVerdict}
@@ -194,7 +194,7 @@ text_of input (traced s kept events o) = events_text input kept events ++ outcom
 text_of input explained = explanation_in input
 text_of input (certified s proof) = proof_text (names_in input) (operators_in input) proof
 text_of input (unproved s o) = outcome_text (names_in input) (operators_in input) s.within s.nodes o
-text_of input (judged_proof v) = none_text (names_in input) (operators_in input) (length_bound_in input) v
+text_of input (judged_proof v) = proof_verdict_text (names_in input) (operators_in input) (length_bound_in input) v
 text_of input (sampled n kept o v) = sample_text n kept o v
 text_of input (costed b o) = cost_text (names_in input) (operators_in input) b o
 text_of input (judged_loop v) = loop_text v

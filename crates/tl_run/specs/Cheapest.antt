@@ -1,7 +1,7 @@
 -- What the command `cheapest` promises: the outcomes that are right of its search, the operations
 -- at which it ends, and what its lines say.
 use Rattle.std.specs.Prelude.{◌≡◌, ℕ, ◌+◌, List, length, Option, ⊤}
-use Rattle.tl_cost.specs.CostTexts.{none_text, plan_text}
+use Rattle.tl_cost.specs.CostTexts.{none_text, cheapest_plan_text}
 use Rattle.tl_cost.specs.LeastCosts.{AreNearPairs, HasFewNearPairs, IsCalmAtLeastCost, IsCheapestCause, IsCheapestPlan}
 use Rattle.tl_cost.specs.declared.outcome.CostOutcome.{CostOutcome}
 use Rattle.tl_cost.specs.declared.outcome.CostOutcome.TheVariants as outcome
@@ -66,7 +66,7 @@ pub record PrintsCheapestPlan (files : Option Files) (c : Command) (text : List 
   pub stand : HoldInput files c (some_costs problem costs)
   pub plan : List Action
   pub cost : ℕ
-  pub lines : text ≡ plan_text problem.names problem.domain.operators plan cost
+  pub lines : text ≡ cheapest_plan_text problem.names problem.domain.operators plan cost
   pub cheapest : IsCheapestPlan (plain_problem problem) costs plan cost
 
 -- the line says that there is no plan, and no plan of any length is accepted

@@ -149,16 +149,16 @@ AreTold files (sample balls) = ⊤
 AreTold files c = IsSome files
 
 -- nothing past range is looked at, and a search has room for the search nodes that it meets
-abbrev pub IsCalm : Option Files → Command → Type 0
-IsCalm files (check d p q) = HasCalmPlan files (check d p q)
-IsCalm files (search s d p) = HasCalmSearch files (search s d p) s
-IsCalm files (trace s d p) = HasCalmSearch files (trace s d p) s
-IsCalm files (explain d p q) = HasCalmStates files (explain d p q)
-IsCalm files (prove_none s d p) = HasCalmSearch files (prove_none s d p) s
-IsCalm files (check_none d p q) = HasCalmProof files (check_none d p q)
-IsCalm files (sample balls) = HasCalmSample balls
-IsCalm files (cheapest b d p k) = HasCalmCosts files (cheapest b d p k) b
-IsCalm files (check_loop d p q) = HasCalmLoop files (check_loop d p q)
+abbrev pub IsCalmCommand : Option Files → Command → Type 0
+IsCalmCommand files (check d p q) = HasCalmPlan files (check d p q)
+IsCalmCommand files (search s d p) = HasCalmSearch files (search s d p) s
+IsCalmCommand files (trace s d p) = HasCalmSearch files (trace s d p) s
+IsCalmCommand files (explain d p q) = HasCalmStates files (explain d p q)
+IsCalmCommand files (prove_none s d p) = HasCalmSearch files (prove_none s d p) s
+IsCalmCommand files (check_none d p q) = HasCalmProof files (check_none d p q)
+IsCalmCommand files (sample balls) = HasCalmSample balls
+IsCalmCommand files (cheapest b d p k) = HasCalmCosts files (cheapest b d p k) b
+IsCalmCommand files (check_loop d p q) = HasCalmLoop files (check_loop d p q)
 
 -- an answer of the command itself, or one by a cause outside it
 abbrev pub IsCalmStatus : Status → Type 0

@@ -39,7 +39,7 @@ abbrev pub ExecutedPlansAreReadBack : Type 0
 ExecutedPlansAreReadBack =
     (domain problem : List ℕ) (p : Problem) (actions : List Action) (ws : List World) →
     AreBytesOf domain problem p → states (plain_problem p) actions ≡ Some ws → Each ArgumentsFit actions → length actions ≤ 100000 →
-    plan.AreReadAs p.names p.domain.operators (plan_text p.names p.domain.operators actions) actions
+    plan.AreReadAsPlan p.names p.domain.operators (plan_text p.names p.domain.operators actions) actions
 
 -- the text is that of a plan, and with the third file the files stand for it and allow `check` to
 -- answer that it is valid

@@ -6,14 +6,14 @@ use Rattle.tl_run.specs.declared.stop.Broken.{Broken}
 use Rattle.tl_run.specs.declared.stop.Broken.TheVariants.{BadByte, StrayClose, Unclosed, TooDeep, BigInteger, TooLong, Form}
 
 -- the number of a rule
-abbrev pub rule_number : Broken → ℕ
-rule_number (BadByte at) = 1
-rule_number (StrayClose at) = 2
-rule_number (Unclosed at) = 3
-rule_number (TooDeep at) = 4
-rule_number (BigInteger at) = 5
-rule_number TooLong = 6
-rule_number (Form rule at) = forms.rule_number rule
+abbrev pub refusal_rule : Broken → ℕ
+refusal_rule (BadByte at) = 1
+refusal_rule (StrayClose at) = 2
+refusal_rule (Unclosed at) = 3
+refusal_rule (TooDeep at) = 4
+refusal_rule (BigInteger at) = 5
+refusal_rule TooLong = 6
+refusal_rule (Form rule at) = forms.rule_number rule
 
 -- the offset that is reported with a rule
 abbrev pub refusal_offset : Broken → ℕ
@@ -27,4 +27,4 @@ refusal_offset (Form rule at) = at
 
 -- the line of a refusal
 abbrev pub refusal_text : ℕ → Broken → List ℕ
-refusal_text number broken = refused_text number (rule_number broken) (refusal_offset broken)
+refusal_text number broken = refused_text number (refusal_rule broken) (refusal_offset broken)

@@ -5,7 +5,7 @@ ghost use Rattle.tl_outside.specs.Causes.{Rose};
 ghost use Rattle.tl_run.specs.Answers.{Answer};
 ghost use Rattle.tl_run.specs.Commands.{ForCommand, command_in};
 ghost use Rattle.tl_run.specs.Inputs.{Input};
-ghost use Rattle.tl_run.specs.Promises.{Allows, AnswersRightly, AreTold, Gives, IsCalm, IsCalmStatus, Writes};
+ghost use Rattle.tl_run.specs.Promises.{Allows, AnswersRightly, AreTold, Gives, IsCalmCommand, IsCalmStatus, Writes};
 ghost use Rattle.tl_run.specs.Replies.{HasLines, Sends};
 ghost use Rattle.tl_run.specs.Sent.{sink_told};
 ghost use Rattle.tl_run.specs.Stops.{is_read_fault};
@@ -62,7 +62,7 @@ pub fn run<S: Store, K: Sink>(alloc: Global, words: &[String], store: &mut S, ou
     // search may keep all search nodes of at most N actions, it ends with a plan or without one. Of
     // a sample it is enough that its two texts break no rule and have no arithmetic term.
     ensures calm { ForCommand (map string_bytes words.now) (λ c. AreTold (S.files store.old) c
-        → IsCalm (S.files store.old) c → IsCalmStatus result) }
+        → IsCalmCommand (S.files store.old) c → IsCalmStatus result) }
 {
     laws();
     let Some(command) = command_of(words) else {

@@ -1,6 +1,6 @@
 // Why a file is refused, and why the files of a command are not read on.
 ghost use Rattle.std.specs.Prelude.{◌≡◌};
-ghost use Rattle.tl_run.specs.Refusals.{rule_number, refusal_offset};
+ghost use Rattle.tl_run.specs.Refusals.{refusal_rule, refusal_offset};
 ghost use Rattle.tl_run.specs.Stops.{stop_of_forms, stop_of_reading, stop_of_text};
 ghost use Rattle.tl_run.specs.declared.stop.Stop.TheVariants as stop;
 
@@ -32,7 +32,7 @@ pub(crate) enum Broken {
 impl Broken {
     /// The rule's number.
     pub(crate) fn number(self) -> u8
-        ensures { result ≡ rule_number self }
+        ensures { result ≡ refusal_rule self }
     {
         match self {
             Broken::BadByte(_) => 1,

@@ -9,13 +9,13 @@ Each P [] = Unit {0}
 Each P (x ∷ xs) = P x × Each P xs
 
 -- P holds of one of the list
-abbrev pub One : {A : Type 0} → (A → Type 0) → List A → Type 0
-One P [] = ⊥
-One P (x ∷ xs) = P x ⊎ One P xs
+abbrev pub AtLeastOne : {A : Type 0} → (A → Type 0) → List A → Type 0
+AtLeastOne P [] = ⊥
+AtLeastOne P (x ∷ xs) = P x ⊎ AtLeastOne P xs
 
 -- x is in the list
 abbrev pub Among : {A : Type 0} → A → List A → Type 0
-Among x xs = One (λ y. y ≡ x) xs
+Among x xs = AtLeastOne (λ y. y ≡ x) xs
 
 -- each comes before all after it
 abbrev pub Rises : {A : Type 0} → (A → A → Ordering) → List A → Type 0

@@ -1,6 +1,6 @@
 -- What fails together: where it is not decided what holds, this is said in place of holding together.
 use Rattle.std.proofs.Common.{◌⊎◌, ◌↔◌, List, [], ◌∷◌, inl, inr}
-use Rattle.tl_syntax.specs.Lists.{Each, One}
+use Rattle.tl_syntax.specs.Lists.{Each, AtLeastOne}
 
 -- one fails exactly where the other does
 abbrev pub FailTogether : Type 0 → Type 0 → Type 0
@@ -28,6 +28,7 @@ pub fail-each : {A : Type 0} {P Q : A → Type 0} → ((x : A) → FailTogether 
 fail-each h [] = (λ n. n, λ n. n)
 fail-each h (x ∷ xs) = fail-and (h x) (fail-each h xs)
 
-pub fail-one : {A : Type 0} {P Q : A → Type 0} → ((x : A) → FailTogether (P x) (Q x)) → (xs : List A) → FailTogether (One P xs) (One Q xs)
+pub fail-one : {A : Type 0} {P Q : A → Type 0} → ((x : A) → FailTogether (P x) (Q x)) → (xs : List A)
+    → FailTogether (AtLeastOne P xs) (AtLeastOne Q xs)
 fail-one h [] = (λ n. n, λ n. n)
 fail-one h (x ∷ xs) = fail-or (h x) (fail-one h xs)

@@ -5,7 +5,7 @@ use Rattle.tl_terms.specs.Bounds.{tuples}
 use Rattle.tl_terms.specs.Definitions.{situation_of}
 use Rattle.tl_terms.specs.Idle.{idle_true, idle_all, idle_one}
 use Rattle.tl_terms.specs.LawsIdle.{IdleWords}
-use Rattle.tl_syntax.specs.Lists.{Each, One}
+use Rattle.tl_syntax.specs.Lists.{Each, AtLeastOne}
 use Rattle.tl_terms.specs.Problem.{PlainProblem}
 use Rattle.tl_terms.specs.Run.{Situations, Holds, HoldAll, HoldsOne, situations_of, Satisfies, SatisfiesAlong, idle_run}
 use Rattle.tl_terms.specs.Situation.{Situation}
@@ -35,7 +35,7 @@ module _ (r : Situations) (s : Situation) (still : (j : ℕ) → r j ≡ s) wher
         iff-trans (iff-path (λ w. Each (λ t. Holds r (bind ss t e) f i) (tuples w e ss b)) (still i))
         (all-iff (λ t. Holds r (bind ss t e) f i) (λ t. idle_true s (bind ss t e) f) (λ t. Holds-idle (bind ss t e) f i) (tuples s e ss b))
     Holds-idle e (for_some ss b f) i =
-        iff-trans (iff-path (λ w. One (λ t. Holds r (bind ss t e) f i) (tuples w e ss b)) (still i))
+        iff-trans (iff-path (λ w. AtLeastOne (λ t. Holds r (bind ss t e) f i) (tuples w e ss b)) (still i))
         (any-iff (λ t. Holds r (bind ss t e) f i) (λ t. idle_true s (bind ss t e) f) (λ t. Holds-idle (bind ss t e) f i) (tuples s e ss b))
     Holds-idle e (next f) i = Holds-idle e f (suc i)
     Holds-idle e (always f) i = (λ h. (Holds-idle e f i).0 (h i (omega arith)), λ b j q. (Holds-idle e f j).1 b)

@@ -4,7 +4,7 @@ use native.Mathlib.Decide.{dec_lt}
 use mathlib.Core.Bool.{Bool-discrete}
 use Rattle.tl_syntax.specs.Assignment.{Assignment, bind}
 use Rattle.tl_terms.specs.Bounds.{tuples}
-use Rattle.tl_syntax.specs.Lists.{Each, One}
+use Rattle.tl_syntax.specs.Lists.{Each, AtLeastOne}
 use Rattle.tl_terms.specs.Run.{Situations, Holds, HoldAll, HoldsOne}
 use Rattle.tl_syntax.specs.Trees.{FormulaTree, verum, falsum, atom, defined, compare, goal_fact, goal_place, goal_not, negation, conjunction, disjunction, for_all, for_some, next, always, eventually, until, within, during, FormulaTrees, no_formula, more_formulas}
 use Rattle.tl_terms.specs.Truth.{state_true}
@@ -19,11 +19,11 @@ Each-dec P d (x ∷ xs) = both (d x) (Each-dec P d xs)
     both (no h) e = no (λ w. h w.0)
     both (yes h) (no k) = no (λ w. k w.1)
 
-pub One-dec : {A : Type 0} (P : A → Type 0) → ((x : A) → Dec (P x)) → (xs : List A) → Dec (One P xs)
+pub One-dec : {A : Type 0} (P : A → Type 0) → ((x : A) → Dec (P x)) → (xs : List A) → Dec (AtLeastOne P xs)
 One-dec P d [] = no (λ h. h)
 One-dec P d (x ∷ xs) = either (d x) (One-dec P d xs)
   where
-    either : Dec (P x) → Dec (One P xs) → Dec (P x ⊎ One P xs)
+    either : Dec (P x) → Dec (AtLeastOne P xs) → Dec (P x ⊎ AtLeastOne P xs)
     either (yes h) e = yes (inl h)
     either (no h) (yes k) = yes (inr k)
     either (no h) (no k) = no (elim [ inl m ↦ h m | inr m ↦ k m ])
@@ -62,7 +62,7 @@ module _ (r : Situations) (stem period : ℕ) (rises : 0 < period) (again : (j :
     repeats e (for_some ss b f) j s =
         iff-trans
         (One-map (λ t. repeats (bind ss t e) f j s) (tuples (r j) e ss b))
-        (iff-path (λ w. One (λ t. Holds r (bind ss t e) f (j + period)) (tuples w e ss b)) (sym (again j s)))
+        (iff-path (λ w. AtLeastOne (λ t. Holds r (bind ss t e) f (j + period)) (tuples w e ss b)) (sym (again j s)))
     repeats e (next f) j s = iff-trans (repeats e f (suc j) (omega arith)) (iff-path (Holds r e f) (let q : suc j + period ≡ suc (j + period) = omega arith in q))
     repeats e (always f) j s = (λ h k q. h k (omega arith), λ h k q. (repeats e f k (omega arith)).1 (h (k + period) (omega arith)))
     repeats e (eventually f) j s = (λ h. (h.0 + period, omega arith, (repeats e f h.0 (omega arith)).0 h.2), λ h. (h.0, omega arith, h.2))

@@ -6,7 +6,7 @@ use Rattle.tl_terms.specs.Acceptance.{states, last_of, all_but_last, run_of, IsA
 use Rattle.tl_syntax.specs.Assignment.{Assignment, no_values, bind}
 use Rattle.tl_terms.specs.Bounds.{tuples}
 use Rattle.tl_terms.specs.Definitions.{situation_of}
-use Rattle.tl_syntax.specs.Lists.{Each, One}
+use Rattle.tl_syntax.specs.Lists.{Each, AtLeastOne}
 use Rattle.tl_terms.specs.Pairs.{residual, Pair, pair_after, pair_of, IsPairAccepted}
 use Rattle.tl_terms.specs.Problem.{PlainProblem}
 use Rattle.tl_terms.specs.Progression.{progressed}
@@ -55,7 +55,7 @@ module _ (r q : Situations) where
     suffix e (for_some ss b f) i j s =
         iff-trans
         (One-map (λ t. suffix (bind ss t e) f i j s) (tuples (r i) e ss b))
-        (iff-path (λ w. One (λ t. Holds q (bind ss t e) f j) (tuples w e ss b)) (here i j s))
+        (iff-path (λ w. AtLeastOne (λ t. Holds q (bind ss t e) f j) (tuples w e ss b)) (here i j s))
     suffix e (next f) i j s =
         iff-trans (iff-path (Holds r e f) (let k : suc i ≡ i + 1 = omega arith in k)) (iff-trans (suffix e f (i + 1) (j + 1) (later i j 1 s)) (iff-path (Holds q e f) (let k : j + 1 ≡ suc j = omega arith in k)))
     suffix e (always f) i j s = (

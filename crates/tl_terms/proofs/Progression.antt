@@ -3,7 +3,7 @@ use Rattle.std.proofs.Common.{◌≡◌, ℕ, zero, suc, ◌≤◌, ◌⊎◌, �
 use native.Mathlib.Decide.{dec_lt}
 use Rattle.tl_syntax.specs.Assignment.{Assignment, no_values, bind}
 use Rattle.tl_terms.specs.Bounds.{tuples}
-use Rattle.tl_syntax.specs.Lists.{Each, One}
+use Rattle.tl_syntax.specs.Lists.{Each, AtLeastOne}
 use Rattle.tl_terms.specs.Progression.{constant, progressed, progressed_all}
 use Rattle.tl_terms.specs.Run.{Situations, Holds, HoldAll, HoldsOne}
 use Rattle.tl_terms.specs.Simplification.{simplified_and, simplified_or}
@@ -148,6 +148,6 @@ module _ (r : Situations) (i : ℕ) where
     progression_all e no_formula = (λ n. n, λ n. n)
     progression_all e (more_formulas f fs) = fail-and (progression e f) (progression_all e fs)
 
-    progression_one : (e : Assignment) (fs : FormulaTrees) → FailTogether (HoldsOne r e fs i) (One After (progressed_all (r i) e fs))
+    progression_one : (e : Assignment) (fs : FormulaTrees) → FailTogether (HoldsOne r e fs i) (AtLeastOne After (progressed_all (r i) e fs))
     progression_one e no_formula = (λ n. n, λ n. n)
     progression_one e (more_formulas f fs) = fail-or (progression e f) (progression_one e fs)

@@ -2,7 +2,7 @@
 use Rattle.std.proofs.Common.{◌≡◌, ℕ, ◌⊎◌, ◌↔◌, List, [], ◌∷◌, flat_map, filter, true, false, cond, not, true≢false, refl, sym, subst, inl, inr}
 use Rattle.std.specs.List.{list_any}
 use Rattle.tl_syntax.specs.Assignment.{Assignment}
-use Rattle.tl_syntax.specs.Lists.{Each, One}
+use Rattle.tl_syntax.specs.Lists.{Each, AtLeastOne}
 use Rattle.tl_terms.specs.Run.{Situations, Holds, HoldAll, HoldsOne}
 use Rattle.tl_syntax.proofs.Same.{formula_discrete}
 use Rattle.tl_terms.specs.Simplification.{is_yes, same_formula, and_parts, and_parts_all, or_parts, or_parts_all, is_verum, is_falsum, without_repeats, conjunction_of, disjunction_of, simplified_and, simplified_or, simplified_not}
@@ -27,7 +27,7 @@ module _ (P : FormulaTree → Type 0) where
     λ h. (h.0, (Each-drop P (same_formula f) (λ g e. subst P (same_formula-is f g e) h.0) (without_repeats fs)).1 ((Each-without_repeats fs).1 h.1)),
   )
 
-  pub One-without_repeats : (fs : List FormulaTree) → One P (without_repeats fs) ↔ One P fs
+  pub One-without_repeats : (fs : List FormulaTree) → AtLeastOne P (without_repeats fs) ↔ AtLeastOne P fs
   unfolding without_repeats
   One-without_repeats [] = (λ h. h, λ h. h)
   One-without_repeats (f ∷ fs) = (
@@ -71,7 +71,7 @@ module _ (r : Situations) (e : Assignment) (i : ℕ) where
   mutual
     unfolding or_parts Holds
 
-    pub or_parts-One : (f : FormulaTree) → One (λ g. Holds r e g i) (or_parts f) ↔ Holds r e f i
+    pub or_parts-One : (f : FormulaTree) → AtLeastOne (λ g. Holds r e g i) (or_parts f) ↔ Holds r e f i
     or_parts-One (disjunction fs) = or_parts_all-One fs
     or_parts-One verum = lone (Holds r e verum i)
     or_parts-One falsum = lone (Holds r e falsum i)
@@ -92,7 +92,7 @@ module _ (r : Situations) (e : Assignment) (i : ℕ) where
     or_parts-One (within n f) = lone (Holds r e (within n f) i)
     or_parts-One (during n f) = lone (Holds r e (during n f) i)
 
-    pub or_parts_all-One : (fs : FormulaTrees) → One (λ g. Holds r e g i) (or_parts_all fs) ↔ HoldsOne r e fs i
+    pub or_parts_all-One : (fs : FormulaTrees) → AtLeastOne (λ g. Holds r e g i) (or_parts_all fs) ↔ HoldsOne r e fs i
     or_parts_all-One no_formula = (λ h. h, λ h. h)
     or_parts_all-One (more_formulas f fs) = (
       λ h. elim ((One-append (λ g. Holds r e g i) (or_parts f) (or_parts_all fs)).0 h) [ inl k ↦ inl ((or_parts-One f).0 k) | inr k ↦ inr ((or_parts_all-One fs).0 k) ],
@@ -109,7 +109,7 @@ module _ (r : Situations) (e : Assignment) (i : ℕ) where
     λ h. (Each-append N (and_parts f) (flat_map and_parts fs)).1 ((and_parts-Each f).1 h.0, (flat-Each fs).1 h.1),
   )
 
-  flat-One : (fs : List FormulaTree) → One N (flat_map or_parts fs) ↔ One N fs
+  flat-One : (fs : List FormulaTree) → AtLeastOne N (flat_map or_parts fs) ↔ AtLeastOne N fs
   flat-One [] = (λ h. h, λ h. h)
   flat-One (f ∷ fs) = (
     λ h. elim ((One-append N (or_parts f) (flat_map or_parts fs)).0 h) [ inl k ↦ inl ((or_parts-One f).0 k) | inr k ↦ inr ((flat-One fs).0 k) ],
@@ -121,7 +121,7 @@ module _ (r : Situations) (e : Assignment) (i : ℕ) where
   formulas_of_list-All [] = (λ h. h, λ h. h)
   formulas_of_list-All (f ∷ fs) = (λ h. (h.0, (formulas_of_list-All fs).0 h.1), λ h. (h.0, (formulas_of_list-All fs).1 h.1))
 
-  pub formulas_of_list-One : (fs : List FormulaTree) → HoldsOne r e (formulas_of_list fs) i ↔ One N fs
+  pub formulas_of_list-One : (fs : List FormulaTree) → HoldsOne r e (formulas_of_list fs) i ↔ AtLeastOne N fs
   unfolding Holds
   formulas_of_list-One [] = (λ h. h, λ h. h)
   formulas_of_list-One (f ∷ fs) = (
@@ -135,7 +135,7 @@ module _ (r : Situations) (e : Assignment) (i : ℕ) where
   conjunction_of-holds (f ∷ []) = (λ h. (h, tt), λ h. h.0)
   conjunction_of-holds (f ∷ (g ∷ fs)) = formulas_of_list-All (f ∷ (g ∷ fs))
 
-  disjunction_of-holds : (fs : List FormulaTree) → N (disjunction_of fs) ↔ One N fs
+  disjunction_of-holds : (fs : List FormulaTree) → N (disjunction_of fs) ↔ AtLeastOne N fs
   unfolding Holds
   disjunction_of-holds [] = (λ h. h, λ h. h)
   disjunction_of-holds (f ∷ []) = ((lone (N f)).1, (lone (N f)).0)
@@ -162,10 +162,10 @@ module _ (r : Situations) (e : Assignment) (i : ℕ) where
         )
       ]) refl
 
-  pub simplified_or-holds : (fs : List FormulaTree) → N (simplified_or fs) ↔ One N fs
+  pub simplified_or-holds : (fs : List FormulaTree) → N (simplified_or fs) ↔ AtLeastOne N fs
   unfolding simplified_or Holds
   simplified_or-holds fs = let ps : List FormulaTree = flat_map or_parts fs in
-      (elim (list_any is_verum ps) as (λ b. list_any is_verum ps ≡ b → N (cond b verum (disjunction_of (without_repeats (filter (λ f. not (is_falsum f)) ps)))) ↔ One N fs) [
+      (elim (list_any is_verum ps) as (λ b. list_any is_verum ps ≡ b → N (cond b verum (disjunction_of (without_repeats (filter (λ f. not (is_falsum f)) ps)))) ↔ AtLeastOne N fs) [
         | true ↦ λ q. (λ h. (flat-One fs).0 (One-certain N is_verum verum-holds ps q), λ h. tt)
         | false ↦ λ q. (
           λ h. (flat-One fs).0 ((One-drop N is_falsum falsum-fails ps).0 ((One-without_repeats N (filter (λ f. not (is_falsum f)) ps)).0 ((disjunction_of-holds (without_repeats (filter (λ f. not (is_falsum f)) ps))).0 h))),

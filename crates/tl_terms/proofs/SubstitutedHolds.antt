@@ -3,7 +3,7 @@ use Rattle.std.proofs.Common.{◌≡◌, ℕ, suc, ◌↔◌, List, [], ◌∷�
 use mathlib.Core.Path.{fun_ext}
 use Rattle.tl_syntax.specs.Assignment.{Assignment, no_values, bind}
 use Rattle.tl_terms.specs.Bounds.{arg_value, arg_values, fact_in, same_value, bound_true, tuples_of, tuples}
-use Rattle.tl_syntax.specs.Lists.{Each, One}
+use Rattle.tl_syntax.specs.Lists.{Each, AtLeastOne}
 use Rattle.tl_terms.specs.Run.{Situations, Holds, HoldAll, HoldsOne}
 use Rattle.tl_terms.specs.Situation.{Situation}
 use Rattle.tl_syntax.specs.Substitution.{or_else, over, without, value_or_arg, substituted_arg, substituted_args, substituted_bound, value_or_term, substituted_term, substituted_terms, substituted, substituted_all}
@@ -118,7 +118,7 @@ mutual
       (Each-map (λ t. iff-trans (Holds-substituted r (bind ss t d) (without ss e) f i) (iff-path (λ x. Holds r x f i) (bind-over ss t e d))) (tuples (r i) (over e d) ss b))
   Holds-substituted r d e (for_some ss b f) i =
       iff-trans
-      (iff-path (One (λ t. Holds r (bind ss t d) (substituted (without ss e) f) i)) (tuples-substituted (r i) e d ss b))
+      (iff-path (AtLeastOne (λ t. Holds r (bind ss t d) (substituted (without ss e) f) i)) (tuples-substituted (r i) e d ss b))
       (One-map (λ t. iff-trans (Holds-substituted r (bind ss t d) (without ss e) f i) (iff-path (λ x. Holds r x f i) (bind-over ss t e d))) (tuples (r i) (over e d) ss b))
   Holds-substituted r d e (next f) i = Holds-substituted r d e f (suc i)
   Holds-substituted r d e (always f) i = (λ h j q. (Holds-substituted r d e f j).0 (h j q), λ h j q. (Holds-substituted r d e f j).1 (h j q))

@@ -6,7 +6,7 @@ use Rattle.tl_syntax.specs.Assignment.{Assignment, no_values, bind}
 use Rattle.tl_terms.specs.Bounds.{tuples}
 use Rattle.tl_terms.specs.LawsProgression.{ProgressesByTheTable}
 use Rattle.tl_terms.specs.LawsSubstitution.{QuantifiersAreTrueByInstances, QuantifiersHoldByInstances, QuantifiersProgressByInstances, MeansTheSameSubstituted}
-use Rattle.tl_syntax.specs.Lists.{Each, One}
+use Rattle.tl_syntax.specs.Lists.{Each, AtLeastOne}
 use Rattle.tl_terms.specs.Problem.{PlainProblem}
 use Rattle.tl_terms.specs.Progression.{constant, progressed, progressed_all}
 use Rattle.tl_terms.specs.Run.{Situations, Holds, Run, situations_of, SatisfiesAlong}
@@ -202,7 +202,7 @@ Holds-for_all r i ss b f = Each-map (λ t. let k = Holds-substituted-no_values r
 
 -- an `exists` holds where one of its instances does
 pub Holds-for_some : (r : Situations) (i : ℕ) (ss : List Var) (b : Bound) (f : FormulaTree)
-    → Holds r no_values (for_some ss b f) i ↔ One (λ t. Holds r no_values (substituted (bind ss t no_values) f) i) (tuples (r i) no_values ss b)
+    → Holds r no_values (for_some ss b f) i ↔ AtLeastOne (λ t. Holds r no_values (substituted (bind ss t no_values) f) i) (tuples (r i) no_values ss b)
 unfolding Holds
 Holds-for_some r i ss b f = One-map (λ t. let k = Holds-substituted-no_values r (bind ss t no_values) f i in (k.1, k.0)) (tuples (r i) no_values ss b)
 

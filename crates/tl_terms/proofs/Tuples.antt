@@ -9,7 +9,7 @@ use Rattle.std.specs.Cmp.{tied_itself, Equal-is}
 use Rattle.tl_syntax.specs.Assignment.{Assignment, bind}
 use Rattle.tl_syntax.specs.BoundVariables.{args_of, is_that_variable, stands_in, OccurIn, DifferInSlot}
 use Rattle.tl_terms.specs.Bounds.{arg_value, arg_values, fact_in, same_value, bound_true, tuples_of, tuples}
-use Rattle.tl_syntax.specs.Lists.{Each, One, Among}
+use Rattle.tl_syntax.specs.Lists.{Each, AtLeastOne, Among}
 use Rattle.tl_terms.specs.Situation.{Situation}
 use Rattle.tl_terms.specs.Terms.{prepend, place_value}
 use Rattle.tl_syntax.proofs.TotalOrders.{value_total, value_ties}
@@ -138,7 +138,7 @@ place-bound w e f xs x h a m v q = (elim (arg_values e xs) as (λ o. arg_values 
   ]) refl
 ]) refl h
 
-in_one : (s : Situation) (v : Value) → One (λ w. Among v (values_in w)) (worlds_of s) → Among v (values_of (worlds_of s))
+in_one : (s : Situation) (v : Value) → AtLeastOne (λ w. Among v (values_in w)) (worlds_of s) → Among v (values_of (worlds_of s))
 in_one s v h = (Among-values_of (worlds_of s) v).1 ((One-flat (λ y. y ≡ v) values_in (worlds_of s)).1 h)
 
 bound-values : (s : Situation) (e : Assignment) (b : Bound) → bound_true s e b ≡ true → (a : Arg) → Among a (args_of b) → (v : Value) → arg_value e a ≡ Some v → Among v (values_of (worlds_of s))
@@ -173,9 +173,9 @@ occurs-of [] b o s m = absurd m
 occurs-of (u ∷ us) b o s m = elim m [ inl e ↦ subst (λ z. stands_in z b ≡ true) e o.0 | inr k ↦ occurs-of us b o.1 s k ]
 
 -- where a test holds of one of the list, some item passes it
-one-of : (s : Var) (xs : List Arg) → list_any (is_that_variable s) xs ≡ true → One (λ a. is_that_variable s a ≡ true) xs
+one-of : (s : Var) (xs : List Arg) → list_any (is_that_variable s) xs ≡ true → AtLeastOne (λ a. is_that_variable s a ≡ true) xs
 one-of s [] h = absurd (true≢false (sym h))
-one-of s (x ∷ xs) h = (elim (is_that_variable s x) as (λ b. is_that_variable s x ≡ b → (b || list_any (is_that_variable s) xs) ≡ true → is_that_variable s x ≡ true ⊎ One (λ a. is_that_variable s a ≡ true) xs) [
+one-of s (x ∷ xs) h = (elim (is_that_variable s x) as (λ b. is_that_variable s x ≡ b → (b || list_any (is_that_variable s) xs) ≡ true → is_that_variable s x ≡ true ⊎ AtLeastOne (λ a. is_that_variable s a ≡ true) xs) [
   | true ↦ λ q k. inl q
   | false ↦ λ q k. inr (one-of s xs k)
 ]) refl h

@@ -4,7 +4,7 @@ use Rattle.std.specs.List.{list_any, list_all}
 use Rattle.tl_syntax.specs.declared.value.Value.{Value}
 use Rattle.tl_syntax.specs.declared.variable.Var.{Var}
 use Rattle.tl_syntax.specs.declared.bound.Bound.{Bound}
-use Rattle.tl_syntax.specs.Lists.{Each, One}
+use Rattle.tl_syntax.specs.Lists.{Each, AtLeastOne}
 use Rattle.tl_syntax.specs.Trees.{FormulaTree, for_all, for_some}
 use Rattle.tl_terms.specs.Situation.{Situation}
 use Rattle.tl_syntax.specs.Assignment.{Assignment, no_values, bind}
@@ -29,7 +29,7 @@ pub record QuantifiersAreTrueByInstances (s : Situation) (ss : List Var) (b : Bo
 -- a `forall` holds at a position where each instance does, and an `exists` where one does
 pub record QuantifiersHoldByInstances (p : PlainProblem) (r : Run) (i : ℕ) (ss : List Var) (b : Bound) (f : FormulaTree) : Type 0 where
   pub of_forall : Satisfies p r i (for_all ss b f) ↔ Each (λ t. Satisfies p r i (instance ss f t)) (tuples (situation_of p (state_at r i)) no_values ss b)
-  pub of_exists : Satisfies p r i (for_some ss b f) ↔ One (λ t. Satisfies p r i (instance ss f t)) (tuples (situation_of p (state_at r i)) no_values ss b)
+  pub of_exists : Satisfies p r i (for_some ss b f) ↔ AtLeastOne (λ t. Satisfies p r i (instance ss f t)) (tuples (situation_of p (state_at r i)) no_values ss b)
 
 -- a `forall` progresses to the conjunction of its progressed instances, and an `exists` to the
 -- disjunction, in tuple order

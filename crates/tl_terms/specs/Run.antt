@@ -1,6 +1,6 @@
 -- Runs, and the truth of formulas along them.
 use Rattle.std.specs.Prelude.{◌≡◌, ℕ, suc, ◌+◌, ◌-◌, ◌%◌, ◌<◌, ◌≤◌, ◌⊎◌, List, [], ◌∷◌, length, slice_index_or, cond, IsTrue, nat_lt}
-use Rattle.tl_syntax.specs.Lists.{Each, One}
+use Rattle.tl_syntax.specs.Lists.{Each, AtLeastOne}
 use Rattle.tl_syntax.specs.Trees.{FormulaTree, FormulaTrees, verum, falsum, atom, defined, compare, goal_fact, goal_place, goal_not, negation, conjunction, disjunction, for_all, for_some, next, always, eventually, until, within, during, no_formula, more_formulas}
 use Rattle.tl_terms.specs.World.{World}
 use Rattle.tl_terms.specs.Problem.{PlainProblem}
@@ -30,7 +30,7 @@ unfoldable mutual
   Holds r e (conjunction fs) i = HoldAll r e fs i
   Holds r e (disjunction fs) i = HoldsOne r e fs i
   Holds r e (for_all ss b f) i = Each (λ t. Holds r (bind ss t e) f i) (tuples (r i) e ss b)
-  Holds r e (for_some ss b f) i = One (λ t. Holds r (bind ss t e) f i) (tuples (r i) e ss b)
+  Holds r e (for_some ss b f) i = AtLeastOne (λ t. Holds r (bind ss t e) f i) (tuples (r i) e ss b)
   Holds r e (next f) i = Holds r e f (suc i)
   Holds r e (always f) i = (j : ℕ) → i ≤ j → Holds r e f j
   Holds r e (eventually f) i = (j : ℕ) × (i ≤ j) × Holds r e f j

@@ -16,7 +16,7 @@ use Rattle.tl_line.proofs.ReadBack.{form-item, form-breaks, form-meant, clean-te
 use Rattle.tl_line.specs.ActionLists.{actions_breaks}
 use Rattle.tl_text.specs.MeaningOfPlans.{plan_meant}
 use Rattle.tl_line.specs.AnswerLines.{action_lines}
-use Rattle.tl_text.specs.LawsReadBack.{AreReadAs}
+use Rattle.tl_text.specs.LawsReadBack.{AreReadAsPlan}
 
 -- the forms of actions on lines of their own, from this offset on
 abbrev pub lines_forms : List (List ℕ) → List Operator → List Action → ℕ → FormTrees
@@ -73,7 +73,7 @@ lines-spelled names operators plan w =
     let I : ℕ → Type 0 = λ to. AreItems lines 0 0 to (lines_forms names operators plan 0) in
     subst I last (lines-items names operators lines 0 plan (clean-lines names operators plan w) w (has-all lines))
 
-pub lines-read-back : (names : List (List ℕ)) (operators : List Operator) (plan : List Action) → AreDistinct names → Differ (map (λ o. o.name) operators) → Each (IsWritable names operators) plan → length plan ≤ 100000 → AreReadAs names operators (action_lines names operators plan) plan
+pub lines-read-back : (names : List (List ℕ)) (operators : List Operator) (plan : List Action) → AreDistinct names → Differ (map (λ o. o.name) operators) → Each (IsWritable names operators) plan → length plan ≤ 100000 → AreReadAsPlan names operators (action_lines names operators plan) plan
 lines-read-back names operators plan distinct differ w few =
     record {
       forms = lines_forms names operators plan 0;

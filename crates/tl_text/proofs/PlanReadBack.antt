@@ -21,7 +21,7 @@ use Rattle.tl_line.specs.ActionTexts.{operator_text, value_text, action_text}
 use Rattle.tl_line.specs.WritableActions.{IsWritable}
 use Rattle.tl_line.proofs.Tokens.{IsTokenText, decimal-token}
 use Rattle.tl_line.proofs.WrittenForms.{value_form, values_forms, action_form}
-use Rattle.tl_text.specs.LawsReadBack.{AreReadAs}
+use Rattle.tl_text.specs.LawsReadBack.{AreReadAsPlan}
 use Rattle.tl_text.specs.Outcomes.{plan_line, plan_text}
 use Rattle.tl_line.specs.AnswerLines.{action_lines}
 use Rattle.tl_text.proofs.AfterLine.{moved, moved_all, after_line, line_length, items_on, gap_of_line}
@@ -117,7 +117,7 @@ plan-spelled names operators plan w few =
     let C : ℕ → Type 0 = λ to. AreItems all 0 n to (lines_forms names operators plan n) in
     items-later all 0 0 n (length all) (lines_forms names operators plan n) (line-gap (length plan) lines few) (subst C end (subst B begin (subst A forms there)))
 
-pub plan-read-back : (names : List (List ℕ)) (operators : List Operator) (plan : List Action) → AreDistinct names → Differ (map (λ o. o.name) operators) → Each (IsWritable names operators) plan → length plan ≤ 100000 → AreReadAs names operators (plan_text names operators plan) plan
+pub plan-read-back : (names : List (List ℕ)) (operators : List Operator) (plan : List Action) → AreDistinct names → Differ (map (λ o. o.name) operators) → Each (IsWritable names operators) plan → length plan ≤ 100000 → AreReadAsPlan names operators (plan_text names operators plan) plan
 plan-read-back names operators plan distinct differ w few =
     let line = line_of (length plan) in
     let lines = action_lines names operators plan in

@@ -14,7 +14,7 @@ use Rattle.tl_text.specs.Outcomes.{plan_text}
 use Rattle.tl_line.specs.AnswerLines.{action_lines}
 
 -- the bytes spell forms that break no rule of plan files and stand for this plan
-pub record AreReadAs (names : List (List ℕ)) (operators : List Operator) (bytes : List ℕ) (plan : List Action) : Type 0 where
+pub record AreReadAsPlan (names : List (List ℕ)) (operators : List Operator) (bytes : List ℕ) (plan : List Action) : Type 0 where
   pub forms : FormTrees
   pub spelled : Spells bytes forms
   pub unbroken : plan_breaks names operators forms ≡ []
@@ -26,11 +26,11 @@ abbrev pub LinesAreReadBack : Type 0
 LinesAreReadBack =
     (names : List (List ℕ)) (operators : List Operator) (plan : List Action) →
     AreDistinct names → Differ (map (λ o. o.name) operators) → Each (IsWritable names operators) plan → length plan ≤ 100000 →
-    AreReadAs names operators (action_lines names operators plan) plan
+    AreReadAsPlan names operators (action_lines names operators plan) plan
 
 -- so are the lines of a printed plan, of which the first is a comment
 abbrev pub PlansAreReadBack : Type 0
 PlansAreReadBack =
     (names : List (List ℕ)) (operators : List Operator) (plan : List Action) →
     AreDistinct names → Differ (map (λ o. o.name) operators) → Each (IsWritable names operators) plan → length plan ≤ 100000 →
-    AreReadAs names operators (plan_text names operators plan) plan
+    AreReadAsPlan names operators (plan_text names operators plan) plan

@@ -2,7 +2,7 @@
 ghost use Rattle.std.specs.Prelude.{◌≤◌, ℕ, List, length, IfOk};
 ghost use Rattle.tl_syntax.specs.Lists.{Each};
 ghost use Rattle.tl_line.specs.NamedActions.{ActionIsNamed};
-ghost use Rattle.tl_explain.specs.Causes.{IsCause};
+ghost use Rattle.tl_explain.specs.Causes.{IsExplainCause};
 ghost use Rattle.tl_terms.specs.ProblemMeaning.{plain_problem};
 ghost use Rattle.tl_run.specs.Commands.{explain};
 ghost use Rattle.tl_run.specs.Inputs.{a_plan};
@@ -23,7 +23,7 @@ fn fault_reply(
     plan: &[Action],
     fault: ExplainFault,
 ) -> Result<Reply, NoMemory>
-    requires { IsCause (plain_problem problem.now) plan.now fault }
+    requires { IsExplainCause (plain_problem problem.now) plan.now fault }
     ensures { (d p q : List ℕ) → IfOk result (Replies (explain d p q) (a_plan problem.now plan.now)) }
 {
     match fault {

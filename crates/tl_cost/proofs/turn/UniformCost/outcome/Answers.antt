@@ -2,7 +2,7 @@ use Rattle.std.proofs.Common.{subst, IfOk}
 use Rattle.tl_search.specs.Kept.{AreKept}
 use Rattle.tl_search.specs.PairGraph.{pair_graph}
 use Rattle.tl_cost.specs.Outcomes.{IsCheapestOutcome}
-use Rattle.tl_cost.specs.Ticks.{IsTicked}
+use Rattle.tl_cost.specs.Ticks.{IsTickedByTurns}
 use Rattle.tl_cost.proofs.Expanding.{between-same}
 use Rattle.tl_cost.proofs.Searching.{counted-none, root-between, root-not-seen, root-pruned, root-range, ticked-none}
 use Rattle.tl_cost.proofs.turn.UniformCost.outcome.Goals as goal
@@ -36,7 +36,7 @@ pub returns-in_ok-add-in-Ok-Fresh-clause-outcome : goal.returns-in_ok-add-in-Ok-
 returns-in_ok-add-in-Ok-Fresh-clause-outcome g c = subst (λ p. IfOk c.all_turns.result (IsCheapestOutcome p c.args.self.now.costs.now c.args.self.now.nodes (g.S.Pairs.kept c.all_turns.new.space))) c.root.ensures.problem c.all_turns.ensures.outcome
 
 pub returns-in_ok-add-in-Ok-Fresh-clause-steps : goal.returns-in_ok-add-in-Ok-Fresh-clause-steps
-returns-in_ok-add-in-Ok-Fresh-clause-steps g c = subst (λ p. IsTicked p c.args.steps.now (g.S.Pairs.kept c.all_turns.new.space) c.all_turns.new.steps) c.root.ensures.problem (c.all_turns.ensures.steps c.args.steps.now (counted-none (g.S.Pairs.problem c.root.new.self) c.args.steps.now (g.S.Pairs.kept c.root.new.self) c.add.new.self))
+returns-in_ok-add-in-Ok-Fresh-clause-steps g c = subst (λ p. IsTickedByTurns p c.args.steps.now (g.S.Pairs.kept c.all_turns.new.space) c.all_turns.new.steps) c.root.ensures.problem (c.all_turns.ensures.steps c.args.steps.now (counted-none (g.S.Pairs.problem c.root.new.self) c.args.steps.now (g.S.Pairs.kept c.root.new.self) c.add.new.self))
 
 pub returns-in-Err-RangeHere-clause-fault : goal.returns-in-Err-RangeHere-clause-fault
 returns-in-Err-RangeHere-clause-fault g c = root-range _ c.args.self.now.costs.now c.args.self.now.nodes c.new-path.result c.in-Err-RangeHere.note c.new-path.ensures (rw c.in-Err-RangeHere.field-0-is at c.in-Err-RangeHere.ensures.cause)
