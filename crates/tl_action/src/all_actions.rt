@@ -84,15 +84,9 @@ impl Lister {
     }
 }
 
-/// All actions that are executable in the world, each once, in action order: by operator in the
-/// domain's order, and then by the arguments from left to right in value order.
-///
-/// Each operator's bounds are joined in their order, or with one of few rows before the others: see
-/// `join` and `first_bound` for what that costs. Its rows come out in action order where the
-/// parameters first stand in the joined bounds in their own order, and are sorted once.
-/// A range fault tells an operation that one of the actions looks at. The frame is left with values
-/// of its own, as by `apply`.
-/// Whoever lists the actions of many worlds takes a `Lister`.
+/// All actions that are executable in the world, each once, in action order: by operator, and then
+/// by the arguments in value order. A range fault tells an operation that one of them looks at; the
+/// frame is left with values of its own. For many worlds one takes a `Lister`.
 pub fn actions(alloc: Global, task: &Task, w: &World, env: &mut Env) -> Result<Actions, ActFault>
     ensures actions { IfOk result (AreActions (plain_problem task.now.problem) w.now) }
     ensures order { IfOk result (Rises action_cmp) }

@@ -51,12 +51,9 @@ fn each_agrees(sets: &[PlaceValue]) -> bool
     sets.iter().all(|a| agrees_with_each(a, sets))
 }
 
-/// Whether no two of them give one place different values. It fails for want of memory alone, and
-/// takes none for a few places.
-///
-/// A few are compared with each other. Many are put into a world, which gives each of them one
-/// value, so that they agree where that is always the one that is set; it costs one look-up by
-/// halves for each.
+/// Whether no two of them give one place different values. A few are compared with each other and
+/// take no memory; of many a world is made, which gives each place one value, so that they agree
+/// where that is always the one that is set. It fails for want of memory alone.
 pub(crate) fn agree(alloc: Global, sets: &[PlaceValue]) -> Result<bool, NoMemory>
     ensures { IfOk result (λ b. b ≡ no_clash (map place_entry sets.now)) }
 {

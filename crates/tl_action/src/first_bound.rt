@@ -66,11 +66,8 @@ fn smallest_bound(task: &Task, w: &World, operator: &Operator) -> usize
 }
 
 /// The place of the bound that is joined first: that of `smallest_bound` where the table of the
-/// first bound has more than 128 rows in the world, and else 0. It takes no memory.
-///
-/// The first bound is then read once for each of a few rows, with their values known (the smallest
-/// relation first, Selinger et al. 1979).
-/// Any place would do: the rows that are found in the end are the same.
+/// first bound has more than 128 rows, and else 0 (the smallest relation first, Selinger et al.
+/// 1979). Any place would do: the rows that are found are the same. It takes no memory.
 pub(crate) fn first_bound(task: &Task, w: &World, operator: &Operator) -> usize
     ensures { 0 < length operator.now.bounds → result < length operator.now.bounds }
 {

@@ -40,9 +40,8 @@ fn find_row(
 }
 
 /// The first bound from the `j`-th on that gives a parameter its value, or how many bounds there
-/// are: None where a bound before it is false. The bounds before it are true, and have no parameter
-/// but those that have their values already.
-/// It takes no memory.
+/// are; None where a bound before it is false. The bounds before it are true, and their parameters
+/// have their values already. It takes no memory.
 fn next_bound(here: &Here, env: &Env, order: &JoinOrder, j: usize) -> Option<usize>
     requires keeps { OperatorIsKept here.now order.now.bounds.operator.now }
     requires within { j ≤ bound_count order.now.bounds }
@@ -62,8 +61,7 @@ fn next_bound(here: &Here, env: &Env, order: &JoinOrder, j: usize) -> Option<usi
 
 /// Adds the rows that complete the frame with a tuple of the `j`-th bound for its new parameters:
 /// those that agree with it on the parameters of the bounds before it, make it and the bounds after
-/// it true, and with which the operator can be applied.
-/// The parameters of the first `j` bounds keep their values in the frame.
+/// it true, and with which the operator can be applied. The frame keeps those parameters' values.
 #[cycle(joined)]
 fn join_bound(
     here: &Here,
@@ -95,15 +93,8 @@ fn join_bound(
 }
 
 /// Adds the rows that complete the frame: those that agree with it on the parameters of the first
-/// `j` bounds, make the other bounds true, and with which the operator can be applied.
-/// The parameters of the first `j` bounds keep their values in the frame.
-///
-/// Each bound gives its new parameters their values, by its tuples in order under the values of the
-/// earlier ones, and a bound without new parameters is tested.
-/// So a row of values is given up at the first bound that it makes false, and what is looked up is
-/// one tuple more than there are for each row of the bounds before.
-/// It goes one level deeper for each bound with new parameters, so never deeper than an operator
-/// has parameters.
+/// `j` bounds, which keep their values, make the other bounds true, and with which the operator can
+/// be applied. A row of values is given up at the first bound that it makes false.
 #[cycle(joined)]
 pub(crate) fn join(
     here: &Here,

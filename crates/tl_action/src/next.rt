@@ -12,16 +12,9 @@ use tl_syntax::Action;
 use tl_terms::Steps;
 
 impl Changes {
-    /// Makes these what an action changes that is executable in the world, as each of `actions` is,
-    /// in the room of those before: bounds and precondition are not tested again, and the places
-    /// that are set are not compared.
-    /// `world_after` then makes the next world, which is that of `apply`; whoever sees from the
-    /// changes that it is not needed makes none.
-    ///
-    /// All conditions and terms of the effects are read in the world, from left to right. It fails
-    /// for want of memory, or at an operation past 64 bits that the action looks at, and there may
-    /// be any changes then. Each call counts one step, and leaves the frame with values of its own,
-    /// as `apply` does.
+    /// Makes these what an executable action changes in the world: its effects are read there from
+    /// left to right, its bounds and its precondition are not tested again. Each call counts one
+    /// step and leaves the frame with values of its own; where it fails there may be any changes.
     pub fn put_those_of<L: Ledger>(
         &mut self,
         here: &Here,

@@ -15,10 +15,9 @@ use crate::here::Here;
 use tl_eval::{Env, state};
 use tl_syntax::Operator;
 
-/// What the operator changes, with its parameters' values in the frame: None where its precondition
-/// is false, an instance of its effects has an undefined part, or two set one place to different
-/// values.
-/// The bounds are not looked at. The parameters keep their values in the frame.
+/// What the operator changes, with its parameters' values in the frame, which keeps them: None
+/// where its precondition is false, an instance of its effects has an undefined part, or two set
+/// one place to different values. The bounds are not looked at.
 pub(crate) fn prepared(
     here: &Here,
     env: &mut Env,

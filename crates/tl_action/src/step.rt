@@ -14,14 +14,9 @@ use tl_syntax::Action;
 use tl_terms::Steps;
 use tl_world::World;
 
-/// What the action changes: None exactly where the action is not executable in the world.
-/// `Changes::world_after` then makes the next world, which is that of `apply`.
-///
-/// All bounds, conditions and terms are read in the world: the bounds first, then the precondition,
-/// then the effects from left to right, up to the first that decides (Pednault 1989).
-/// A range fault tells an operation that the action looks at. Each call counts one step.
-/// The frame is left with values of its own: whoever reads a formula under it afterwards gives the
-/// formula's free variables their values first.
+/// What the action changes: None exactly where it is not executable in the world. Bounds,
+/// precondition and effects are read there in this order, up to the first that decides (Pednault
+/// 1989). Each call counts one step, and leaves the frame with values of its own.
 pub fn changes_if_executable<L: Ledger>(
     here: &Here,
     env: &mut Env,

@@ -14,13 +14,8 @@ use tl_search::{Events, Pairs, Report, SearchFault};
 use tl_terms::Steps;
 
 /// Breadth-first search for a plan of at most `within` actions, among at most `nodes` pairs
-/// (Bacchus and Kabanza 2000).
-/// Pairs are tried in the order in which they were kept, and the actions of a pair in action order,
-/// so paths are met by their lengths and then by their actions (shortlex). The answer is the first
-/// accepted plan in this order, or that there is none, or none within the bound; `Spent` comes with
-/// the pair that is one too many. Where `watch` is true the report has an event for each arrival.
-/// It fails for want of memory, and at an operation past the 64 bits of an integer, with the path
-/// to it. Each action of a pair is tried once.
+/// (Bacchus and Kabanza 2000): the first accepted plan by length and then by actions (shortlex).
+/// `Spent` comes with one pair too many; where `watch` is true each arrival has an event.
 pub fn search<S: Pairs, L: Ledger>(
     alloc: Global,
     space: &mut S,

@@ -1,9 +1,8 @@
 -- Proof files: the rules that their forms break.
 --
--- A proof file is a head `(none)` or `(none-within N)`, and then links `(pair J ACTION)`. N is an
--- integer from 0 to 100000, and J is the number of a pair: 0, or that of a link before. A link asks
--- for an action of the shape of a call, so that the rules on actions that it can break are those
--- after the shape.
+-- A proof file is a head `(none)` or `(none-within N)`, N from 0 to 100000, and then links `(pair J
+-- ACTION)`, where J is the number of a pair: 0, or that of a link before. A link asks for an action
+-- of the shape of a call, so the other rules on actions are those after the shape.
 use Rattle.std.specs.Prelude.{ℕ, ℤ, ◌+◌, List, [], ◌∷◌, ◌++◌, ◌&&◌, not, if◌then◌else◌, codes, Option, Some, None}
 use Rattle.tl_sexpr.specs.Tree.{FormTree, FormTrees, integer, list, no_form, more_forms}
 use Rattle.tl_syntax.specs.declared.operator.Operator.{Operator}

@@ -56,10 +56,9 @@ HasSmallStart (event.Kept j a k) = j < 2 ^ 32
 HasSmallStart (event.Seen j a k) = Unit {0}
 HasSmallStart (event.Pruned j a) = Unit {0}
 
--- the report of a breadth-first search within n actions that says that there is no plan: its events
--- are true and tell of all kept pairs, they begin at the root and go on from pairs of fewer than n
--- actions, each such pair has an event for each of its executable actions, and the path of each
--- kept pair is as long as its distance
+-- the report of a search within n actions that says that there is no plan: its events are true and
+-- tell of all kept pairs, each kept pair of fewer than n actions has an event for each of its
+-- executable actions, and the path of each kept pair is as long as its distance
 pub record IsNoneReport (p : PlainProblem) (n : ℕ) (kept : List KeptPair) (report : Report) : Type 0 where
   pub none : IsRightNone p n report.outcome
   pub told : AreTrueEvents p [] report.events kept

@@ -13,14 +13,9 @@ use std::sync::ledger::Ledger;
 use tl_search::{Pairs, SearchFault};
 use tl_terms::Steps;
 
-/// The verdict on a proof that there is no plan, over a space in which nothing is kept. There is no
-/// search behind it.
-/// First the links are listed in their order, and then the listed nodes are judged by their
-/// numbers: each is tested for acceptance, and where it has to be closed, each of its actions is
-/// tried once. So the time grows with the links and with the successors of the listed nodes; the
-/// actions of a node are listed once more where links that start from it do not stand together.
-/// It fails for want of memory, and at an operation past the 64 bits of an integer, with the path
-/// to it.
+/// The verdict on a proof that there is no plan, over a space in which nothing is kept; no search
+/// stands behind it. The links are listed in their order, and then the listed nodes are judged:
+/// each action of a node that has to be closed is tried once.
 pub fn check_none<S: Pairs, L: Ledger>(
     alloc: Global,
     space: &mut S,

@@ -195,14 +195,9 @@ fn proof(alloc: Global, forms: &[Form], problem: &Problem) -> Result<Proof, Form
     Ok(Proof { bound, links })
 }
 
-/// The proof that the forms of a proof file stand for, or the first rule that one of them breaks.
-///
-/// The first form is `(none)` or `(none-within N)` with N from 0 to 100,000, and each other form is
-/// a link `(pair J ACTION)`, of which there are at most 100,000. J is at least 0 and at most the
-/// number of links before it. The fault is the one with the least offset, and there the least rule;
-/// a file without any form breaks `Rule::Shape` at 0.
-/// The action of each link is of an operator of the problem, has as many arguments as that has
-/// parameters, and names only names of the problem.
+/// The proof that the forms of a proof file stand for: `(none)` or `(none-within N)`, N at most
+/// 100,000, and then at most 100,000 links `(pair J ACTION)`, J at most the number of links before.
+/// Or the fault with the least offset, and there the least rule.
 #[tactic(auto, using(crate::proofs::Rulesets::form_trees, crate::proofs::ProofOrder::least_fault))]
 pub fn proof_of(alloc: Global, forms: &Forms, problem: &Problem) -> Result<Proof, FormFault>
     ensures read { Reads (λ (x : Proof). x) result

@@ -50,11 +50,8 @@ fn bound_of(within: u32, outcome: &Outcome) -> Option<u32>
 }
 
 /// The proof that a breadth-first search within so many actions leaves which found that there is no
-/// plan: its links are the events that keep a pair, and it has a bound where the search found none
-/// within its bound. It covers the search space; each link starts from the root or from a node of a
-/// link before it, and there are no more links than kept pairs.
-/// The report has to have its events, and the space to be the one that was searched. It fails for
-/// want of memory alone.
+/// plan: its links are the events that keep a pair, and it has a bound where the search was cut off
+/// by its own. The space is the one that was searched. It fails for want of memory alone.
 pub fn certificate<S: Pairs>(
     alloc: Global,
     space: &S,

@@ -116,9 +116,8 @@ fn open_line(alloc: Global, problem: &Problem, number: u32, a: &Action) -> Resul
 }
 
 /// The line of the verdict on a proof: whether there is no plan, or else the number of the link
-/// that is not good, counted from 1, or that of the node that is accepted or open. It fails for
-/// want of memory alone.
-/// The action of the verdict has to be one of the problem, with its names.
+/// that is not good, counted from 1, or that of the node that is accepted or open. The action of
+/// the verdict is one of the problem. It fails for want of memory alone.
 pub fn none_text(
     alloc: Global,
     problem: &Problem,

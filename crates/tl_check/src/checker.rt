@@ -113,27 +113,9 @@ fn verdict_by_states(follow: &Follow, plan: &[Action]) -> Result<Verdict, CheckF
     }
 }
 
-/// The verdict on a plan: `Valid` exactly where it is accepted, and each other verdict exactly
-/// where it is right.
-///
-/// The plan is executed first, and on the way the changes of the facts of the control formula's
-/// predicates are noted. Then each subformula of the control formula is labelled with its truth at
-/// the states where it is asked for, as runs of states with the same truth, and no formula is
-/// progressed.
-/// It fails for want of memory, or where an operation is past range that an action looks at in its
-/// turn, or the control formula along the states.
-///
-/// Of the states one is held at a time, and they are kept only where functions, definitions, bounds
-/// over places or facts with arithmetic in them stand in the control formula, which are read in
-/// them. A comparison with arithmetic on variables and values is read once; where an operation in
-/// it is past range, the plan is followed again with its states kept, to find the state in which it
-/// is looked at. When the facts of its predicates hold is found by looking up in each state those
-/// that the action before it deletes or adds, and which tuples make a bound over places true by one
-/// over its places. After that an instance of a quantifier over facts takes the time of the changes
-/// of its labels and of those of the instances so far; functions, arithmetic and definitions in it
-/// are read in each state from the first to the last at which its tuple makes the bound true, and
-/// below temporal words up to the last one. The labels of one instance are kept at a time. Worlds
-/// share the tables that stay as they were.
+/// The verdict on a plan, each exactly where it is right. The plan is executed with one state at a
+/// time, and the changes of the facts of which the control formula speaks are noted; then its parts
+/// are labelled with their truth along the states. Nothing is progressed.
 pub fn check(alloc: Global, task: &Task, plan: &[Action]) -> Result<Verdict, CheckFault>
     requires operators { Each (HasOperator (plain_problem task.now.problem)) plan.now }
     requires short { length plan.now < 2 ^ 32 }

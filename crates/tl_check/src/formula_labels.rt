@@ -36,8 +36,7 @@ use tl_syntax::{Formula, Formulas, Junction};
 
 /// Whether the formula is read as a whole in each state, so that a decided part of it ends the
 /// reading: it has parts and no temporal word, and functions, definitions or operations stand in
-/// it. Where no states are kept, none is read for an operation on variables and values. It takes no
-/// memory.
+/// it, those on variables and values only where states are kept. It takes no memory.
 fn is_read_whole(f: &Formula, along: &Along) -> bool
     ensures { result ≡ true → IsState (tree_of_formula f.now) }
 {
@@ -50,11 +49,8 @@ fn is_read_whole(f: &Formula, along: &Along) -> bool
 }
 
 /// The truth of a formula at each position of the span, under the frame's values, where the states
-/// from one of them on are repeated for ever.
-///
-/// Atoms and bounds are labelled by when their facts hold, and what else has no formula below it is
-/// read in each state. The labels of other formulas come from those of their parts, which are asked
-/// for where they count.
+/// from one of them on are repeated for ever. It comes from the labels of its parts where they
+/// count, from when facts hold, or from each state.
 #[cycle(labels_of)]
 pub(crate) fn labels_of(
     f: &Formula,
@@ -268,11 +264,9 @@ fn join_part(
     }
 }
 
-/// The labels of a universal or an existential formula.
-///
-/// Where the formula below it speaks of facts alone, so that none of its operations can be past
-/// range, the tuples are read in the order in which the variables stand in the bound: in which
-/// order the instances are labelled bears on nothing.
+/// The labels of a universal or an existential formula. Where the formula below it speaks of facts
+/// alone, so that no operation is past range, the tuples are read in the order in which the
+/// variables stand in the bound: the order of instances bears on nothing.
 #[cycle(labels_of)]
 fn quantified_labels<'a>(
     part: &'a Formula,

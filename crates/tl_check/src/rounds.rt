@@ -66,12 +66,9 @@ fn obeys_kept(along: &Along) -> Result<bool, CheckFault>
     }
 }
 
-/// Whether the control formula holds along the states of a plan whose repeated part ends in the
-/// state in which it began: at the first position of the run that goes through that part again and
-/// again.
-///
-/// It fails for want of memory, or where an operation is past range that the control formula looks
-/// at.
+/// Whether the control formula holds at the first position of the run that goes through the plan's
+/// repeated part again and again, which ends in the state in which it began. It fails for want of
+/// memory, or where an operation that it looks at is past range.
 pub fn obeys_round(
     alloc: Global,
     task: &Task,

@@ -66,10 +66,8 @@ IsTested at None k = k ≡ at → ⊥
 IsTested at (Some rest) k = Unit {0}
 
 -- uniform-cost search (Dijkstra 1959): the pairs that are not in the open list are settled, each at
--- its least cost and there with the fewest actions; the last of them has this cost and length, and
--- no pair of the open list comes before it; what was tried at a settled pair leads to kept pairs
--- whose ways come no later; no tested settled pair is accepted, so no accepted plan comes before
--- the last settled pair
+-- its least cost and there with the fewest actions, the last at this cost and length; no pair of
+-- the open list comes before it, and what was tried leads to ways that come no later
 pub record IsOngoing (p : PlainProblem) (task : Task) (costs : List ℕ) (b : ℕ) (kept : List KeptPair) (ways : List Way) (open_ : Entry → Bool) (opened cost length_ at : ℕ) (rest : Option (List Action)) : Type 0 where
   pub are_kept : AreKept (pair_graph p) kept
   pub as_many : length ways ≡ length kept

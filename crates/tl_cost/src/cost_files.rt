@@ -168,15 +168,9 @@ fn costs_in(
     }
 }
 
-/// The costs of the operators of a problem that the forms of a costs file stand for, or the first
-/// rule that one of them breaks.
-///
-/// Every form is a list `(NAME C)`: the operator of this name costs C, from 0 to 1,000,000. An
-/// operator that is not named costs 1.
-/// A form breaks `Rule::Shape` where it is no such list, `Rule::Twice` where a form before it names
-/// the same operator, `Rule::Limit` where C is outside that range, and `Rule::NoOperator` where the
-/// name is that of no operator. The fault is the one with the least offset, and there the least
-/// rule.
+/// The costs of the operators that the forms of a costs file stand for, each `(NAME C)`, C from 0
+/// to 1,000,000; an operator that is not named costs 1. Or the fault with the least offset, and
+/// there the least rule: `Shape`, `Twice`, `Limit` for C, or `NoOperator`.
 #[tactic(auto, using(crate::proofs::Rulesets::form_trees, crate::proofs::FileOrder::of_files))]
 pub fn costs_of(alloc: Global, forms: &Forms, problem: &Problem) -> Result<Costs, FormFault>
     ensures read { Reads (λ (costs : List ℕ). costs) result

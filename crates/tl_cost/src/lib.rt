@@ -1,14 +1,4 @@
 //! Plans of the least cost.
-//!
-//! - `uniform_cost`: the search as its callers see it.
-//! - `turn`: what it does with the pair whose turn it is.
-//! - `ways`: the cheapest ways that were found so far.
-//! - `open_list`: the open list.
-//! - `costs`: the costs of operators; `cost_files`: the reader of costs files.
-//! - `outcome`: what the search answers; `texts`: its lines.
-//!
-//! The definitions stand in `specs/`: the cost of a plan, plans and pairs of least cost, what a
-//! search has found, and costs files with their rules.
 #![tactic(auto)]
 
 mod cost_files;

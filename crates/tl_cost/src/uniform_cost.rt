@@ -84,14 +84,9 @@ impl UniformCost<'_> {
     }
 }
 
-/// Searches for a plan of the least cost among at most `nodes` pairs, by uniform-cost search
-/// (Dijkstra 1959): of the kept pairs that are not settled, the one with the least cost, then the
-/// least length and then the least number is settled next.
-/// The cost of a plan is the sum of the costs of its actions' operators, which may be 0; of the
-/// accepted plans of the least cost the answer has one of the fewest actions. `Spent` comes with
-/// the pair that is one too many.
-/// It fails for want of memory, and at an operation past the 64 bits of an integer, with a path to
-/// it. Each action of a kept pair is tried at most once.
+/// A plan of the least cost, and there of the fewest actions, among at most `nodes` pairs, by
+/// uniform-cost search (Dijkstra 1959). A plan costs the sum of the costs of its actions'
+/// operators. `Spent` comes with one pair too many. Each action of a pair is tried at most once.
 pub fn cheapest<S: Pairs, L: Ledger>(
     alloc: Global,
     space: &mut S,

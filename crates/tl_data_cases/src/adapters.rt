@@ -58,10 +58,9 @@ fn make_files<R: Files>(rt: &R, long: &[u8]) -> Result<(), Stop> {
     Ok(())
 }
 
-// Rows of the name of a file, a limit, and how many bytes are read, or why none are. A file of
-// several pieces comes whole; a folder, of which nothing can be read, and a name that is not there
-// are faults.
-// A good file is read after each fault, by the same store.
+// Rows of the name of a file, a limit, and how many bytes are read, or why none are: a file of
+// several pieces comes whole, a folder and a name that is not there are faults. A good file is read
+// after each fault, by the same store.
 const READS: &str = "
 long | 9000 | 9000
 long | 8999 | too long

@@ -9,13 +9,9 @@ use tl_syntax::{Names, NoMemory};
 use tl_tables::{column, is_row};
 use tl_world::{World, Worlds};
 
-/// Rows of a world, facts that are deleted, facts that are added and places that are set, another
-/// world, whether that is the world after the changes, the number of that world, 1, or of the first
-/// one, 0, where it is found by the changes, and the number that it has then, 2 or 1 for one that
-/// had none. It has that number again once the last world was let go, but where this was the only
-/// one.
-///
-/// Some deleted facts are not there, and some added ones are: the world is found then too.
+/// Rows of a world, facts that are deleted, facts that are added, places that are set, another
+/// world, whether that is the world after the changes, its number, 1, or the first one's, 0, where
+/// the changes find it, and the number that it has then: 2, or 1 for one that had none.
 const AFTER: &str = "
 (p a) (edge a b) | (p a) | (p b) | (p b) (edge a b) | true | 1 | 1
 (p a) (edge a b) | (p a) | (p b) | (p b) (edge a b) (edge b a) | false | none | 2

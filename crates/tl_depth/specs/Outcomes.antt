@@ -55,10 +55,9 @@ AllAreReported p n watch kept events =
 abbrev pub TellsInDepth : PlainProblem → ℕ → Bool → List Pair → Bool → List Event → Type 0
 TellsInDepth p n watch kept cut events = watch ≡ true → AreInDepth p n kept cut events
 
--- what was reported, by the answer: with a plan, of the pair of each of its proper prefixes each
--- executable action up to the plan's next one; where all is done, of each pair of a distance below
--- n each executable action; and all in the order of a depth-first search, which a plan or too many
--- pairs cut short
+-- what was reported, by the answer: with a plan, each executable action of the pairs of its proper
+-- prefixes up to the plan's next one; where all is done, each of every pair of a distance below n;
+-- in depth-first order, which a plan or too many pairs cut short
 abbrev pub IsToldOutcome : PlainProblem → ℕ → Bool → List Pair → List Event → Outcome → Type 0
 IsToldOutcome p n watch kept events (outcome.Plan plan) = IsToldAlong p (Reported watch kept events) plan × TellsInDepth p n watch kept true events
 IsToldOutcome p n watch kept events outcome.NoPlan = AllAreReported p n watch kept events × TellsInDepth p n watch kept false events

@@ -13,15 +13,8 @@ use tl_search::{Events, Pairs, Report, SearchFault};
 use tl_terms::Steps;
 
 /// Depth-first search for a plan of at most `within` actions, among at most `nodes` pairs (Bacchus
-/// and Kabanza 2000).
-/// A fresh pair is entered at once; a pair that is kept is entered again only where it is met with
-/// more remaining actions than ever before, and where events are not watched only after some pair
-/// was met with none. The answer is the first of the accepted plans in action order that repeat no
-/// pair, or that there is none, or none within the bound; `Spent` comes with the pair that is one
-/// too many. Where `watch` is true the report has an event for each arrival.
-/// It fails for want of memory, and at an operation past the 64 bits of an integer, with the path
-/// to it. It goes through each pair at most once for each number of remaining actions, and takes a
-/// level of memory for each action of a plan.
+/// and Kabanza 2000): the first accepted plan in action order that repeats no pair. `Spent` comes
+/// with the pair that is one too many; where `watch` is true each arrival has an event.
 pub fn search<S: Pairs, L: Ledger>(
     alloc: Global,
     space: &mut S,

@@ -26,11 +26,9 @@ pub struct Head {
     pub count: u32,
 }
 
-/// A list of actions, which contracts see as such. An action takes 12 bytes, and 4 for each
-/// argument, where there are more than a few.
-///
-/// An argument then has a code of 32 bits: a symbol's number, or where the value stands among
-/// others, which are integers and the symbols of large numbers.
+/// A list of actions, which contracts see as such. Where there are more than a few, an action takes
+/// 12 bytes and 4 for each argument: a code of 32 bits, which is a symbol's number, or the place
+/// among others of an integer or a symbol of a large number.
 #[derive(Drop)]
 pub struct PackedActions {
     count: usize,

@@ -47,13 +47,9 @@ fn names_and_domain(
     }
 }
 
-/// The problem that the forms of a domain file and those of a problem file stand for, where the
-/// first break no rule.
-///
-/// The names are the texts of all symbols of both files, numbered by the order of their bytes, and
-/// all trees are made with these numbers. Where a form of the second file breaks a rule, the fault
-/// is the one with the least offset and there the least rule. The forms of the domain file are
-/// dropped as soon as they are read.
+/// The problem that the forms of a domain file, which break no rule and are dropped, and those of a
+/// problem file stand for. Its names are the texts of all symbols of both, in the order of their
+/// bytes. Or the second file's fault with the least offset, and there the least rule.
 pub fn problem_of(alloc: Global, first: Forms, second: &Forms) -> Result<Problem, FormFault>
     requires lawful { domain_file_breaks (trees_of first) ≡ [] }
     requires room { HaveRoomTogether (trees_of first) (trees_of second.now) }

@@ -15,13 +15,9 @@ use tl_rules::FormFault;
 use tl_sexpr::Forms;
 use tl_syntax::{Domain, Names};
 
-/// The domain that the forms of a file stand for under these names, where none of them breaks a
-/// rule.
-///
-/// The fault is the first broken rule in reading order; for forms as they are read from a file it
-/// is the rule with the least number at the broken form with the least offset. What the domain
-/// keeps is copied; no form is. Where the names have all symbols of the file, the domain keeps what
-/// the domain of every problem keeps.
+/// The domain that the forms of a file stand for under these names, or the first broken rule in
+/// reading order, which is the least rule at the broken form with the least offset. What the domain
+/// keeps is copied; no form is.
 #[tactic(auto, using(crate::proofs::Rulesets::files))]
 pub fn domain_of(alloc: Global, names: &Names, forms: &Forms) -> Result<Domain, FormFault>
     ensures read { Reads domain_tree result (domain_file_breaks (trees_of forms.now))

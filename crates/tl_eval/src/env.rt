@@ -16,11 +16,9 @@ use tl_world::Task;
 /// How many slots the frame has.
 pub(crate) const SLOTS: usize = 32;
 
-/// A frame of variable values. It holds the variables of one scope, by their slots; while the body
-/// of a definition is read, its own stand there, and then the caller's again.
-/// Contracts see the frame: for each of its 32 slots the value, where it has one. Beside it stands
-/// what one call of `state` remembers of definitions, or calls of `state_in` in one world, to which
-/// it is lent.
+/// A frame of variable values, which contracts see: for each of its 32 slots the value, where it
+/// has one. It holds the variables of one scope, and while the body of a definition is read, its
+/// own. Beside it stands what `state` remembers of definitions.
 #[derive(Drop)]
 pub struct Env {
     pub(crate) values: Vec<Option<Value>>,
@@ -137,10 +135,8 @@ impl Env {
     }
 
     /// Gives the slots of the variables these values in the caller's frame, in the variables'
-    /// order. It takes no memory.
-    ///
-    /// Where they are what was kept of a frame, and only these variables were given other values
-    /// since, the frame is as it was.
+    /// order; where they were kept of a frame in which only these variables got others since, the
+    /// frame is as it was. It takes no memory.
     pub fn give_back(&mut self, vars: &[Var], values: &[Option<Value>; 9])
         requires slots { Each (λ s. s.slot < 32) vars.now }
         requires few { length vars.now ≤ 9 }

@@ -149,10 +149,9 @@ fn place_from(entries: &[Entry], generation: u32, home: usize) -> usize
     home
 }
 
-/// Truths of definitions, each with its definition, level and values. They stand in a table of
-/// fixed size: a new one may take the place of an old one.
-/// Contracts see the list of those that are remembered. `Env::lend_memory` gives one in which
-/// nothing is remembered, and which so is right in any world.
+/// Truths of definitions, each with its definition, level and values, which contracts see as a
+/// list. They stand in a table of fixed size, where a new one may take the place of an old one.
+/// `Env::lend_memory` gives one in which nothing is remembered.
 #[derive(Drop)]
 pub struct Memory {
     generation: u32,

@@ -9,9 +9,8 @@ use tl_syntax::Formula;
 use tl_world::World;
 
 /// Whether an atom of one or two arguments, or a comparison, is true in a world, under the frame's
-/// values, where its terms are variables or values: nothing is then looked at that can be past
-/// range. None: it is another formula.
-/// It takes no memory.
+/// values, where its terms are variables or values, so that nothing can be past range. None: it is
+/// another formula. It takes no memory.
 #[inline(always)]
 pub fn plain_state(w: &World, env: &Env, f: &Formula) -> Option<bool>
     ensures { IfSome result (IsPlainTruth w.now env.now (tree_of_formula f.now)) }

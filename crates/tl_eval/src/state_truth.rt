@@ -325,10 +325,8 @@ fn whole_true(
 }
 
 /// Whether a state formula is true in a world, under the frame's values; or a note of an operation
-/// that is looked at and past range.
-/// Parts are evaluated from left to right until the truth is decided, and a definition once for its
-/// values and level, where that is still remembered.
-/// It takes no memory, and leaves the caller's frame as it was.
+/// that is looked at and past range. Parts are evaluated from left to right until the truth is
+/// decided. It takes no memory, and leaves the caller's frame as it was.
 pub fn state(task: &Task, w: &World, env: &mut Env, f: &Formula) -> Result<bool, RangeNote>
     requires fits { Fits (signature_of task.now.problem.domain) [] (tree_of_formula f.now) }
     requires state { IsState (tree_of_formula f.now) }
@@ -348,9 +346,8 @@ pub fn state(task: &Task, w: &World, env: &mut Env, f: &Formula) -> Result<bool,
 }
 
 /// `state` for whoever reads many formulas in one world: what it remembers of definitions is kept
-/// for the next one. Each truth that is remembered is the one in this world, before and after the
-/// call.
-/// It takes no memory, and leaves the caller's frame as it was.
+/// for the next one, and is right in this world before and after the call. It takes no memory, and
+/// leaves the caller's frame as it was.
 #[inline(always)]
 pub fn state_in(
     task: &Task,

@@ -51,11 +51,8 @@ fn next_tuple_in(
 }
 
 /// The least tuple for the variables, in lexicographic value order, that makes the bound true in
-/// the world and comes after `after`, where that is given: None exactly where there is none.
-/// All other variables have their values in the caller's frame; a bound with one that has no value
-/// there is true of no tuple. It takes no memory.
-///
-/// With no variable and no `after` it tests the bound: the answer is the empty tuple or None.
+/// the world and comes after `after`, where given; None where there is none. Other variables have
+/// their values in the frame; with no variable it tests the bound. It takes no memory.
 pub fn next_tuple(
     task: &Task,
     w: &World,

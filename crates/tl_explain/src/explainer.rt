@@ -64,15 +64,8 @@ fn explained<L: Ledger>(
 }
 
 /// The lines that explain a plan of at most 100,000 actions: the residual of the control formula in
-/// each state, up to the first action that has no step, and the actions between the states (Bacchus
-/// and Kabanza 2000).
-/// The actions have to be those of the task's problem, with its names. Where a residual is FALSE,
-/// the plan is followed on.
-/// It fails for want of memory, or where an operation is past range that an action looks at in its
-/// turn, or progression in a state.
-///
-/// Each action is applied once and each residual progressed once; a label takes at most 10,000
-/// bytes. One world is kept, and all residuals, which share their parts.
+/// each state, up to the first action that has no step, and the actions between (Bacchus and
+/// Kabanza 2000). Each action is applied once and each residual progressed once.
 pub fn explain(alloc: Global, task: &Task, plan: &[Action]) -> Result<Bytes, ExplainFault>
     requires named { Each (ActionIsNamed task.now.problem.names task.now.problem.domain.operators) plan.now }
     requires few { length plan.now ≤ 100000 }

@@ -1,16 +1,5 @@
 //! Readers of the formulas of domain files: terms, bounds, formulas and effects, or the first rule
 //! that a form breaks.
-//!
-//! The definitions stand in `specs/`: for each kind of form the rules that it breaks, and what it
-//! stands for.
-//!
-//! - `signature`, `scope`: what is declared so far, and the variables in scope.
-//! - `words`: the words of formulas and effects; `roles`: where a formula stands.
-//! - `terms`, `arguments`, `atoms`, `goals`, `bounds`, `variables`: the parts of formulas.
-//! - `shapes`: the parts of formulas' and effects' lists; `bindings`: variables and their bound.
-//! - `formulas`, `formula_parts`, `formula_checks`, `formula_leaves`, `quantifiers`, `steps`:
-//! formulas.
-//! - `effects`, `effect_parts`: effects.
 #![tactic(auto)]
 
 mod arguments;

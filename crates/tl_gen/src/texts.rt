@@ -17,10 +17,8 @@ pub struct Texts {
 }
 
 /// The sample of `n` balls, from 1 to 100, which a robot with two grippers has to move from one
-/// room to another.
-/// The domain is the one called gripper of the planning competition of 1998, with control for a
-/// search that goes forward.
-/// It fails for want of memory alone.
+/// room to another: the domain gripper of the planning competition of 1998, with control for a
+/// search that goes forward. It fails for want of memory alone.
 pub fn sample(alloc: Global, n: u32) -> Result<Texts, NoMemory>
     requires some { 1 ≤ n }
     requires few { n ≤ 100 }

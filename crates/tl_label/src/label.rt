@@ -11,12 +11,9 @@ use std::alloc::Global;
 use tl_nodes::Nodes;
 use tl_syntax::{Bytes, NoMemory, Problem};
 
-/// The text of the formula of a number, as a domain file writes it: words and parts are separated
-/// by one space, and a variable has its own name.
-/// Where that text has more than 10,000 bytes, it is the word `long`. The values and the names of
-/// variables in the formula have to be names of the problem.
-/// It writes at most 10,000 bytes of the text, whatever the formula's size, and fails for want of
-/// memory alone.
+/// The text of the formula of a number, as a domain file writes it, or the word `long` where it has
+/// more than 10,000 bytes; no more are ever written. The values and variables in it have to be
+/// named by the problem. It fails for want of memory alone.
 pub fn label_text(
     alloc: Global,
     problem: &Problem,

@@ -73,16 +73,9 @@ fn judged(
     }
 }
 
-/// The verdict on a plan with a first part and a part that is repeated for ever: `Valid` exactly
-/// where it is accepted for ever, and each other verdict exactly where it is right.
-///
-/// Both parts are executed once. Then the control formula is labelled along their states as by
-/// `tl_check::check`, and no formula is progressed: behind the labels of the last state stand those
-/// of the repeated part once more.
-/// It fails for want of memory, or where an operation is past range that an action looks at in its
-/// turn, or the control formula along the states.
-///
-/// The states are kept, and share the tables that stay as they were.
+/// The verdict on a plan with a part that is repeated for ever, each exactly where it is right.
+/// Both parts are executed once, with their states kept, and then the control formula is labelled
+/// along them as by `tl_check::check`. Nothing is progressed.
 pub fn check_loop(
     alloc: Global,
     task: &Task,

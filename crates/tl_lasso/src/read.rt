@@ -90,15 +90,9 @@ fn loop_plan(alloc: Global, forms: &[Form], problem: &Problem) -> Result<LoopPla
     Ok(LoopPlan { stem, cycle })
 }
 
-/// The plan with a repeated part that the forms of a plan file stand for, or the first rule that
-/// one of them breaks.
-///
-/// The last form is `(repeat ACTION ..)` with one action at least, so an operator of the name
-/// `repeat` cannot be the last form; every form before it is an action. The 100,001st action of
-/// both parts together breaks `Rule::Limit`. The fault is the one with the least offset, and there
-/// the least rule; a file without any form breaks `Rule::Shape` at 0.
-/// Each action is of an operator of the problem, has as many arguments as that has parameters, and
-/// names only names of the problem.
+/// The plan with a repeated part that the forms of a plan file stand for: actions, and last of all
+/// `(repeat ACTION ..)` with one action at least; of both parts together at most 100,000. Or the
+/// fault with the least offset, and there the least rule.
 #[tactic(auto, using(crate::proofs::Rulesets::form_trees, crate::proofs::LoopOrder::least_fault))]
 pub fn loop_of(alloc: Global, forms: &Forms, problem: &Problem) -> Result<LoopPlan, FormFault>
     ensures read { ReadsLoop problem.now (trees_of forms.now) result }

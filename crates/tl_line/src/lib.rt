@@ -1,16 +1,5 @@
 //! The actions of a plan: read from their forms, and each written as its text; and the lines that
 //! several answers have.
-//!
-//! The definitions stand in `specs/`: the rules that a form breaks in the role of an action, the
-//! action that it stands for, the text of an action, and lines of answers.
-//!
-//! - `read`: the action of a form, or the first rule that the form breaks.
-//! - `lists`: the actions of forms, one after the other, as plan files have them.
-//! - `values`: the arguments of an action.
-//! - `operators`: operators by their names.
-//! - `write`: the text of an action.
-//! - `lines`: lines that several answers have.
-//! - `laws`: the order of the breaks of an action.
 #![tactic(auto)]
 
 pub mod laws;

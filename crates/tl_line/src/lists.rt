@@ -38,13 +38,9 @@ fn placed_action(
     Err(breaks(Rule::Shape, offset(form)))
 }
 
-/// The actions of forms, with so many actions before them, or the first rule that one of the forms
-/// breaks.
-///
-/// Every form is an action, and the 100,001st of the plan breaks `Rule::Limit`. Each action is of
-/// an operator of the problem, has as many arguments as that has parameters, and names only names
-/// of the problem. It takes the time of the forms, times that of finding an operator among at most
-/// 256.
+/// The actions that forms stand for, with so many actions before them, or the first rule that one
+/// of the forms breaks; the 100,001st of the plan breaks `Rule::Limit`. It takes the time of the
+/// forms, times that of finding an operator among at most 256.
 #[tactic(auto, using(crate::proofs::Rulesets::composed, crate::proofs::Rulesets::each_more))]
 pub fn actions_of(
     alloc: Global,

@@ -75,14 +75,9 @@ fn action(
     }
 }
 
-/// The action that a form of a plan file stands for, or the first rule that the form breaks.
-///
-/// An operator is found by its text and then by its position among the domain's operators, of which
-/// there are at most 256.
-/// It breaks `Rule::Shape` where it is no list that begins with a symbol, `Rule::NoOperator` where
-/// that names no operator, `Rule::ArgumentCount` where the number of its arguments is not that of
-/// the operator's parameters, and `Rule::NotAValue` at an argument that is a list, a variable or a
-/// symbol of neither file. The fault is the one with the least offset, and there the least rule.
+/// The action that a form of a plan file stands for, or the fault with the least offset, and there
+/// the least rule: `Shape`, `NoOperator`, `ArgumentCount`, or `NotAValue` at an argument. An
+/// operator is found among at most 256 by its text.
 pub fn action_of(alloc: Global, form: &Form, problem: &Problem) -> Result<Action, FormFault>
     ensures read { ReadsAction problem.now (tree_of form.now) result }
     ensures least { (low next : ℕ) → RisesFrom low (tree_of form.now) next

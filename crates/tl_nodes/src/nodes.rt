@@ -31,9 +31,8 @@ use std::alloc::Global;
 use tl_syntax::NoMemory;
 
 /// Formulas that share their parts. Each number below `len` denotes one tree, and equal trees have
-/// one number.
-/// The parts of a node have smaller numbers than the node. Numbers keep their trees after every
-/// call, a refused one included.
+/// one number; the parts of a node have smaller numbers than the node. Numbers keep their trees
+/// after every call, a refused one included.
 #[derive(Drop)]
 pub struct Nodes {
     pub(crate) alloc: Global,

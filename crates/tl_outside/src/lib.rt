@@ -1,19 +1,5 @@
 //! What lies outside the planner: files that are read as a whole, and answers that are written as a
 //! whole.
-//!
-//! - `failed`: a call that failed.
-//! - `store`, `sink`: the traits of what files are read from and answers are written to.
-//! - `reading`, `writing`: a whole file from any store, a whole answer to any sink.
-//! - `script`: calls that are numbered, some of which fail.
-//! - `file_list`, `memory_store`, `memory_sink`: files, a store and a sink in memory, which tell
-//! all that they hold.
-//! - `file_store`, `out_sink`: the files and the standard output of the machine, which tell
-//! nothing; `machine`: what its calls come to.
-//!
-//! A store and a sink count their faults. A count of 64 bits that has reached its last value stays
-//! there.
-//! So a count rose in a call where it is greater after the call than before, or stands at that
-//! value.
 #![tactic(auto)]
 
 mod failed;

@@ -70,11 +70,8 @@ fn problem_with(
 }
 
 /// The problem that the forms of a problem file stand for, with the domain of the domain file and
-/// the names of both files.
-///
-/// The names are in the order of their bytes, and have all symbols of the file. Where a form breaks
-/// a rule, the fault is the one with the least offset and there the least rule. A refused call
-/// drops the names and the domain.
+/// the names of both files, in the order of their bytes. Or the fault with the least offset, and
+/// there the least rule; a refused call drops the names and the domain.
 pub fn problem_of(
     alloc: Global,
     names: Names,

@@ -181,12 +181,9 @@ fn is_one_broken(
     is_seen_broken(conjunction, &changed, dels, adds)
 }
 
-/// Whether the changes of facts decide by themselves that the number's tree leaves FALSE in the
-/// world after them: it is a fact that they delete, or the negation of one that they add, or a
-/// conjunction with such a part.
-/// Most residuals that prune a search are decided so, and the world need not be made. Of a
-/// conjunction with many parts those that the changes name are looked up, and where they stand is
-/// noted once for many actions; that takes memory, and where there is none each part is looked at.
+/// Whether the changes of facts decide that the number's tree leaves FALSE in the world after them:
+/// it is a fact that they delete, or the negation of one that they add, or a conjunction with such
+/// a part. Most residuals that prune a search are decided so, with no world made.
 pub fn is_broken_by(
     nodes: &Nodes,
     id: usize,

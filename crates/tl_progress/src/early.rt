@@ -51,9 +51,8 @@ fn early_join(
 }
 
 /// The number of what has to hold next for a number's tree, where it is a conjunction or a
-/// disjunction that a plain part decides: most residuals that prune a search are decided so, and
-/// nothing else is then worked out.
-/// It takes no memory.
+/// disjunction that a plain part decides, as most residuals that prune a search are: nothing else
+/// is then worked out. It takes no memory.
 pub(crate) fn early_residual(
     here: &Here,
     nodes: &Nodes,

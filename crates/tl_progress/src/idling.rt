@@ -61,12 +61,8 @@ pub(crate) fn sentence_truth(
 }
 
 /// Whether the number's tree holds where the world is repeated for ever (the idling check, Bacchus
-/// and Kabanza 2000).
-/// `Range` notes an operation that is looked at and past the 64 bits of an integer. The caller's
-/// frame stays as it was, and no node is added.
-///
-/// The time grows with the parts of the tree, outside of quantifiers each counted once, and with
-/// the tuples of its quantifiers.
+/// and Kabanza 2000). The frame stays, and no node is added. The time grows with the parts of the
+/// tree, outside of quantifiers each counted once, and with the tuples of its quantifiers.
 pub fn idle(
     alloc: Global,
     nodes: &Nodes,

@@ -276,18 +276,8 @@ fn lone_residual(
 }
 
 /// The number of what has to hold from the next position on, for the number's tree to hold in this
-/// world and on (progression, Bacchus and Kabanza 2000).
-/// `Range` notes an operation that is looked at and past the 64 bits of an integer. The caller's
-/// frame stays as it was.
-/// Where the tree has no temporal word, the answer is 0 or 1, and no node is added. A refused call
-/// may have added nodes.
-///
-/// What is kept for this world is right of it, before and after the call, a refused one included;
-/// what is kept for other worlds stays. Of a conjunction or a disjunction the parts without
-/// temporal words are read first, and what has to hold next for another part is worked out once for
-/// the world.
-/// The time grows with the parts of the tree, outside of quantifiers each counted once, with the
-/// tuples of its quantifiers, and with what the answer adds.
+/// world and on (progression, Bacchus and Kabanza 2000). The time grows with the parts of the tree,
+/// outside of quantifiers each counted once, the tuples of its quantifiers, and the answer.
 pub fn progress_kept(
     nodes: &mut Nodes,
     task: &Task,

@@ -1,9 +1,8 @@
 -- Rules, breaks of rules by forms, and the break that is answered.
 --
--- A break says that the form at an offset breaks a rule. The other files list the breaks of each
--- role: for each form first those of the form itself, by the numbers of their rules, and then those
--- of its parts from left to right. What is answered for a file is the break with the least offset,
--- and there the least rule.
+-- A break: the form at an offset breaks a rule. The other files list the breaks of each role: first
+-- those of the form itself, by the numbers of their rules, and then those of its parts. What is
+-- answered for a file is the break with the least offset, and there the least rule.
 use Rattle.std.specs.Prelude.{◌≡◌, ℕ, ◌<◌, ◌≤◌, ◌⊎◌, List, [], ◌∷◌, Bool, Option, Some, None, if◌then◌else◌}
 use Rattle.tl_syntax.specs.Lists.{Each, Among}
 use Rattle.tl_rules.specs.declared.rule.Rule.{Rule}

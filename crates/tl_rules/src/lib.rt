@@ -1,12 +1,5 @@
 //! What the readers of domain, problem and plan files share: rules and the forms that break them,
 //! parts of forms, and the symbols of a file.
-//!
-//! - `calls`: lists that begin with a symbol.
-//! - `one_form`: files of one form.
-//! - `parts`: the parts of a form.
-//! - `rule`: the rules of files, and the fault of a file that breaks one.
-//! - `symbols`: the symbols of a file, which become names.
-//! - `vocabulary`: what forms are read by.
 #![tactic(auto)]
 
 mod calls;

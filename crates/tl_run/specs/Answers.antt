@@ -44,25 +44,31 @@ use Rattle.tl_run.specs.Refusals.{refusal_text}
 use Rattle.tl_run.specs.Trace.{IsTrace}
 use Rattle.tl_run.specs.Sample.{IsSummary, SampleEndsPastRange, sample_text}
 
--- the file of this number is refused by this rule; an operation is past range after so many
--- actions, which are those of the path where one is shown; the verdict on a plan; the outcome of a
--- search, or this with the search nodes that it kept and its events; the residuals along a plan,
--- which its files determine; the proof that a search leaves, or the outcome of one that leaves
--- none; the verdict on a proof; of the sample of so many balls, how many search nodes were kept,
--- the outcome of its search and the verdict on its plan; the outcome of a search for a cheapest
--- plan that keeps at most so many search nodes; or the verdict on a plan with a repeated part
+-- an answer of a command
 pub data Answer : Type 0 where
+  -- the file of this number is refused by this rule
   refusal : ℕ → Broken → Answer
+  -- an operation is past range after so many actions: those of the path, where one is shown
   past_range : ℕ → RangeNote → List Action → Answer
+  -- the verdict on a plan
   judged : Verdict → Answer
+  -- the outcome of a search
   searched : Search → Outcome → Answer
+  -- the same, with the search nodes that it kept and its events
   traced : Search → List KeptPair → List Event → Outcome → Answer
+  -- the residuals along a plan, which its files determine
   explained : Answer
+  -- the proof that a search leaves, or the outcome of one that leaves none
   certified : Search → Proof → Answer
   unproved : Search → Outcome → Answer
+  -- the verdict on a proof
   judged_proof : NoneVerdict → Answer
+  -- of the sample of so many balls: how many search nodes were kept, the outcome of its search and
+  -- the verdict on its plan
   sampled : ℕ → ℕ → Outcome → Option Verdict → Answer
+  -- the outcome of a search for a cheapest plan that keeps at most so many search nodes
   costed : ℕ → CostOutcome → Answer
+  -- the verdict on a plan with a repeated part
   judged_loop : LoopVerdict → Answer
 
 -- over what its files stand for, the answer is right for the command: one line for each command and

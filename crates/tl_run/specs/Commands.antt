@@ -8,10 +8,9 @@ use Rattle.tl_run.specs.declared.words.Role.TheVariants as role
 use Rattle.tl_run.specs.declared.search.Mode.TheVariants.{Breadth}
 use Rattle.tl_run.specs.Searches.{breadth_in, number_between, search_in, IsWithinLimits}
 
--- a command, with the names of its files: `check`, `plan` and `trace` with their search, `explain`,
--- `prove-none` with its search, and `check-none`; `sample` with its number of balls; `cheapest`,
--- again with files, and with the most search nodes that it keeps; and `check-loop`, whose plan has
--- a repeated part
+-- a command, with the names of its files: with a search in a mode, with the number of a sample's
+-- balls, or with the most search nodes that a search for a cheapest plan keeps; the plan of
+-- `check-loop` has a repeated part
 pub data Command : Type 0 where
   check : List ℕ → List ℕ → List ℕ → Command
   search : Search → List ℕ → List ℕ → Command

@@ -10,10 +10,9 @@ use Rattle.tl_search.specs.LawsRange.{CalmHasNoCause}
 use Rattle.tl_terms.specs.LawsCalm.{NoArithmeticLooksAtNothing}
 use Rattle.tl_terms.specs.LawsOrders.{PlanOrderIsTotal}
 
--- one verdict is right of a plan, of one with a repeated part, and of a proof, which leaves no plan
--- where it covers the search space; two files stand for one problem, plans are totally ordered,
--- what a search answers excludes what else it could answer, the events of a search are one list, in
--- either mode, and where no arithmetic term stands nothing is looked at
+-- one verdict is right of a plan, of one with a repeated part and of a proof; two files stand for
+-- one problem; plans are totally ordered; what a search answers excludes other answers, and its
+-- events are one list; and where no arithmetic term stands nothing is looked at
 pub record Laws : Type 0 where
   pub verdicts : OneVerdict
   pub problems : FilesStandForOneProblem

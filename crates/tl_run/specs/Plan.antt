@@ -33,10 +33,9 @@ IsRightOutcome GivesPlan SpendsPairs n b p outcome.NoPlan = HasNoPlan p × HasNo
 IsRightOutcome GivesPlan SpendsPairs n b p outcome.NoneWithin = HasNoPlanWithin p n × HasPairAt p n
 IsRightOutcome GivesPlan SpendsPairs n b p outcome.Spent = (xs : List Pair) × IsSpent p n b xs × SpendsPairs xs
 
--- the outcome that is right in a mode, one line for each: breadth-first, the first in action order
--- of the shortest accepted plans, and where it is spent all nearer search nodes are among those;
--- depth-first, the first in action order of the accepted plans that repeat no search node, and
--- where it is spent each of those ends a path that no such plan comes before
+-- the outcome that is right in a mode: breadth-first, the first in action order of the shortest
+-- accepted plans; depth-first, the first in action order of those that repeat no search node; and
+-- where it is spent, what was met comes before all that was not
 abbrev pub IsOutcomeIn : Mode → ℕ → ℕ → PlainProblem → Outcome → Type 0
 IsOutcomeIn Breadth n b p o = IsRightOutcome (IsFirstShortestPlan p n) (IsSpentBreadthFirst p b) n b p o
 IsOutcomeIn Depth n b p o = IsRightOutcome (IsFirstSimplePlan p n) (IsSpentDepthFirst p n) n b p o

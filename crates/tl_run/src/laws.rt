@@ -10,10 +10,9 @@ use tl_lasso::laws::one_loop_verdict;
 use tl_search::laws::{answers_exclude_each_other, calm_has_no_cause, few_pairs_are_not_spent};
 use tl_terms::laws::{no_arithmetic_looks_at_nothing, plan_order_is_total};
 
-/// One verdict is right of a plan, of one with a repeated part, and of a proof, which leaves no
-/// plan where it covers the search space; two files stand for one problem, plans are totally
-/// ordered, what a search answers excludes what else it could answer, the events of a search are
-/// one list, in either mode, and where no arithmetic term stands nothing is looked at.
+/// One verdict is right of a plan, of one with a repeated part and of a proof; two files stand for
+/// one problem; plans are totally ordered; what a search answers excludes other answers, and its
+/// events are one list; and where no arithmetic term stands nothing is looked at.
 pub(crate) fn laws()
     ensures { Laws }
 {

@@ -1,12 +1,5 @@
 // One run: its words, the files by name, the status, the lines of the output, and which calls of
-// the outside fail.
-//
-// - Words and files: `check l p q | l = TEXT & p = TEXT & q = TEXT`.
-// - The status is the number of the exit status.
-// - Lines of the output are separated by ` / `. A line that ends with `..` is cut there, where the
-// sink takes over no more.
-// - `store 64 fails 2 5` gives 64 bytes at once, and its calls 2 and 5 fail; `sink 4 fails 1` takes
-// over four bytes at once, and its call 1 fails.
+// the outside fail, as the README says.
 
 use crate::checks::{are_bytes, is_true};
 use crate::stop::Stop;

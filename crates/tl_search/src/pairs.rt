@@ -14,9 +14,8 @@ use std::sync::ledger::Ledger;
 use tl_terms::{Action, Actions, NoMemory, Steps};
 
 /// A search space as a search sees it: pairs of a world and a residual (Bacchus and Kabanza 2000),
-/// each kept once under a number, with the path by which it was met first.
-/// No call changes the task, nor the number or the path of a kept pair. Where a call gives no
-/// answer, the kept pairs are as before, and the same call can be made again.
+/// each kept once under a number, with the path by which it was met first. No call changes the task
+/// or a kept pair, and one that gives no answer can be made again.
 pub trait Pairs {
     /// The task whose problem the space is of.
     ghost task: { Self → Task };

@@ -4,11 +4,9 @@ ghost use Rattle.tl_sexpr.specs.declared.fault.TextFault.TheVariants as fault;
 
 use std::alloc::AllocError;
 
-/// Why bytes were not read as forms. A `u32` is the offset of the byte that the fault is about.
-///
-/// Of `BadByte`, `StrayClose`, `TooDeep` and `BigInteger` the one with the least offset is told,
-/// and `Unclosed` only where none of these stands. A list is open between its `(` and its `)`, and
-/// what is in a comment does not count.
+/// Why bytes were not read as forms. A `u32` is the offset of the byte that the fault is about: the
+/// least one, and `Unclosed` only where no other fault stands. A list is open between its `(` and
+/// its `)`, and what is in a comment does not count.
 #[derive(Clone, Copy, PartialEq, Eq)]
 pub enum TextFault {
     /// Outside comments a byte that is no blank, no byte of a token and no parenthesis.

@@ -1,14 +1,4 @@
 //! Bytes and the parenthesised forms that they spell.
-//!
-//! - `text`: the text of a symbol.
-//! - `form`: a form and a list of forms.
-//! - `fault`: why bytes were not read.
-//! - `laws`: that bytes spell at most one list of forms, whose offsets rise and whose symbols are
-//! tokens.
-//! - `read`: the forms that bytes spell.
-//! - `reader`: the lists that are open while bytes are read.
-//! - `scan`: bytes, tokens and comments.
-//! - `token`: the form of a token.
 #![tactic(auto)]
 
 mod fault;

@@ -18,11 +18,9 @@ pub(crate) struct FirstArrival {
     pub(crate) arrival: Arrival,
 }
 
-/// What came of arrivals. Contracts see the list of them, each by the numbers of its world and of
-/// the formula that came in.
-///
-/// Most worlds are met with one formula alone. So what came of the first arrival in each world
-/// stands in a list, by the number of the world, and what came of others in a map.
+/// What came of arrivals, which contracts see as a list, by the numbers of the world and of the
+/// formula that came in. What came of the first in each world stands in a list by the number of the
+/// world, since most are met with one formula alone, and what came of others in a map.
 #[derive(Drop)]
 pub(crate) struct Arrivals {
     first: Vec<FirstArrival>,

@@ -35,21 +35,8 @@ use tl_terms::NoMemory;
 use tl_world::{Task, Unmet, Worlds};
 
 /// Pairs of a world and a residual, each kept once under a number, with the path by which it was
-/// met first.
-///
-/// No call changes the task, the tree of a number, or the number, label, world or path of a kept
-/// pair. A pair is kept as the last growth of a call: after a refused call the kept pairs are as
-/// before, and the same call can be made again.
-/// A pair is two numbers, that of its world and that of its residual. What came of an arrival in a
-/// world that was met before is remembered by its world and the formula that came in, where there
-/// is memory for it, so progression is asked once for each; and what formulas that come in to one
-/// world have in common is progressed once for the world.
-/// Where an action leads to a new world and its arrival is pruned there, that world is let go, with
-/// all that was found of it.
-/// What an action changes is put into one list, again for each, so that a child that is seen or
-/// pruned takes no memory for it.
-/// Actions are looked at under a frame of their own. That of formulas has no values between calls,
-/// so progression need not put any away.
+/// met first. A pair is two numbers, kept as the last growth of a call: after a refused call the
+/// kept pairs are as before, and the same call can be made again.
 #[derive(Drop)]
 pub struct Space {
     pub(crate) alloc: Global,

@@ -15,11 +15,8 @@ use crate::{Arg, Args, Bound, Cmp, Junction, NoMemory, Term, Terms, Vars};
 use std::alloc::{AllocError, Global};
 
 /// A formula of first-order linear temporal logic with bounded quantifiers and a goal modality
-/// (Bacchus and Kabanza 2000).
-///
-/// Predicates, functions and definitions are named by their position in the domain's list.
-/// `(implies F G)` has no variant: it is the disjunction of the negated F and G.
-/// The derived equality is that of the plain trees, slots and offsets included.
+/// (Bacchus and Kabanza 2000). Predicates, functions and definitions are named by their position in
+/// the domain's list. `(implies F G)` is the disjunction of the negated F and G.
 #[cycle(formula)]
 #[derive(PartialEq, Eq, Hash, Drop)]
 pub enum Formula {

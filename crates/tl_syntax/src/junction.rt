@@ -3,10 +3,8 @@ ghost use Rattle.std.specs.Prelude.{◌≡◌};
 ghost use Rattle.tl_syntax.specs.Junctions.{deciding_truth};
 
 /// How the truth of a whole goes by that of its parts: `and` and `forall` need all of them, `or`
-/// and `exists` any one.
-///
-/// The parts are those of a conjunction or a disjunction, or the instances of a bounded quantifier
-/// (Bacchus and Kabanza 2000).
+/// and `exists` any one. The parts are those of a conjunction or a disjunction, or the instances of
+/// a bounded quantifier (Bacchus and Kabanza 2000).
 #[derive(Clone, Copy, PartialEq, Eq)]
 pub enum Junction {
     /// All parts: a conjunction, or a universal quantifier.

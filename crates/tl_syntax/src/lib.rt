@@ -1,21 +1,5 @@
-//! What planning problems are written in: names, lists, and trees.
-//!
-//! - `memory`: want of memory.
-//! - `names`: the table of names.
-//! - `items`, `short_list`: the two list types, of which every list here is a name.
-//! - `value`, `variable`, `bound`: what stands in facts and formulas.
-//! - `junction`: all parts, or any part.
-//! - `declared`: what a domain declares.
-//! - `term`, `formula`, `effect`: the trees, which hold themselves; `specs/` has their plain trees.
-//! - `compound`: formulas made of formulas.
-//! - `substitution`: formulas and bounds with values put in.
-//! - `definition`, `operator`, `domain`: what a domain file gives.
-//! - `fact`, `place_value`, `action`: ground facts, places with their values, and the steps of a
-//! plan.
-//! - `problem`: a domain with the initial world and the goal, and what their type keeps.
-//! - `laws`: what the derived tests of equality and the derived orders say.
-//!
-//! What all of it means stands in the crate above, `tl_terms`, which gives these types again.
+//! What planning problems are written in: names, lists, and trees. What all of it means stands in
+//! the crate above, `tl_terms`, which gives these types again.
 #![tactic(auto)]
 
 mod action;

@@ -10,12 +10,9 @@ ghost use Rattle.tl_syntax.specs.Signature.{signature_of};
 
 use crate::{Domain, Facts, Names, PlaceValues};
 
-/// A planning problem: a domain, the initial world and the goal (Bacchus and Kabanza 2000).
-///
-/// Whoever has one knows what its ghost fields say, and need not test it again: names are in the
-/// order of their bytes, so number order is text order; the domain's trees fit it, speak of what is
-/// in scope and name only names of the table; facts and places take their arguments; no place has
-/// two values; and no fact is both wanted and unwanted.
+/// A planning problem: a domain, the initial world and the goal (Bacchus and Kabanza 2000). Whoever
+/// has one knows what its ghost fields say: names are in the order of their bytes, trees and facts
+/// fit, no place has two values, and no fact is both wanted and unwanted.
 #[derive(Drop)]
 pub struct Problem {
     /// What may be said and done.

@@ -1,11 +1,4 @@
 //! What planning problems mean.
-//!
-//! - `steps`: a count of steps that takes no bytes.
-//! - `laws`: what is proved of the definitions.
-//!
-//! The definitions of worlds, truth, steps, runs, accepted plans, progression, search nodes and
-//! what an evaluation looks at stand in `specs/`, one topic a file.
-//! The types that problems are written in stand in `tl_syntax` and are given again here.
 #![tactic(auto)]
 
 pub mod laws;

@@ -1,15 +1,4 @@
 //! Plan files, and the texts of answers.
-//!
-//! The definitions stand in `specs/`: the rules that the forms of a plan file break, the plan that
-//! they stand for, and the bytes of each answer.
-//!
-//! - `plans`: the reader of plan files.
-//! - `refusals`: the text for a file that is refused.
-//! - `ranges`: the text for an operation that is past range.
-//! - `verdicts`: the text of the verdict on a plan.
-//! - `outcomes`: the text of what a search answers.
-//! - `traces`: the lines of what a search reports.
-//! - `laws`: the order of the breaks of a plan file.
 #![tactic(auto)]
 
 pub mod laws;

@@ -39,10 +39,9 @@ fn none_within_text(alloc: Global, within: u32) -> Result<Bytes, NoMemory>
     bytes_of(alloc, line.as_str())
 }
 
-/// The lines of what a search answers that looks for plans of at most `within` actions among at
-/// most `nodes` search nodes: a plan has a line for each of its actions, and every other answer is
-/// one line.
-/// The actions of a plan have to be those of the problem, with its names.
+/// The lines of what a search answers for plans of at most `within` actions among at most `nodes`
+/// search nodes: a plan has a line for each of its actions, every other answer is one line. The
+/// actions of a plan have to be those of the problem, with its names.
 pub fn outcome_text(
     alloc: Global,
     problem: &Problem,

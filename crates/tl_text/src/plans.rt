@@ -15,12 +15,9 @@ use tl_rules::FormFault;
 use tl_sexpr::Forms;
 use tl_syntax::{Actions, Problem};
 
-/// The plan that the forms of a plan file stand for, or the first rule that one of them breaks.
-///
-/// Every form is an action, and the 100,001st breaks `Rule::Limit`. A plan without actions is
-/// lawful. The fault is the one with the least offset, and there the least rule.
-/// Each action is of an operator of the problem, has as many arguments as that has parameters, and
-/// names only names of the problem.
+/// The plan that the forms of a plan file stand for, or the fault with the least offset, and there
+/// the least rule. Every form is an action, there may be none, and the 100,001st breaks
+/// `Rule::Limit`.
 #[tactic(auto, using(crate::proofs::Rulesets::form_trees, crate::proofs::PlanOrder::least_fault))]
 pub fn plan_of(alloc: Global, forms: &Forms, problem: &Problem) -> Result<Actions, FormFault>
     ensures read { Reads (λ (xs : List Action). xs) result

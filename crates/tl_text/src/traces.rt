@@ -109,10 +109,9 @@ fn put_event(alloc: Global, space: &Space, event: &Event, out: &mut Bytes) -> Re
     }
 }
 
-/// The lines of the events of a search, in their order, before the lines of what it answers: a pair
-/// that is kept is followed by a line with the label of its residual.
-/// The actions of the events have to be those of the problem of the space, with its names, and the
-/// numbers of pairs those of pairs that are kept. It fails for want of memory alone.
+/// The lines of the events of a search, in their order, before those of what it answers: a kept
+/// pair is followed by a line with the label of its residual. Actions and pairs have to be those of
+/// the space. It fails for want of memory alone.
 pub fn trace_text(alloc: Global, space: &Space, events: &[Event]) -> Result<Bytes, NoMemory>
     requires { AreWritableIn space.now events.now }
     ensures { IfOk result (λ text. text ≡ trace_text_in space.now events.now) }

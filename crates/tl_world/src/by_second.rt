@@ -44,12 +44,9 @@ fn exchanged_parts(parts: &[Part]) -> [Part; 9]
     out
 }
 
-/// Puts the least tuple after that in place that makes the parts one of the rows in place. False
-/// where there is none.
-///
-/// Where the first part is free and the second fixed, and the table keeps its second order, the
-/// rows with that second value stand together there. Where the variables of the first two parts
-/// stand in the other order, so do the tuples.
+/// Puts the least tuple after that in place that makes the parts one of the rows in place; false
+/// where there is none. Where the table keeps its second order, and the first part is free and the
+/// second fixed or their variables stand in the other order, it is found there.
 pub(crate) fn put_next_in_table(
     rows: &Rows,
     parts: &[Part],

@@ -73,11 +73,8 @@ pub(crate) fn put_values(
 }
 
 /// The place after the first row, from a place on, that some tuple makes the parts, where there is
-/// one. The values of the least tuple that makes the parts one of those rows are then put into the
-/// first places of `values`: they are those of that row. The rows from the place after it on have
-/// the later tuples.
-///
-/// Rows are looked at up to the first whose leading values exceed the fixed leading parts.
+/// one before the leading values exceed the fixed ones. The values of the least such tuple are put
+/// into the first places of `values`; the rows after it have the later tuples.
 #[inline(always)]
 pub(crate) fn put_first(
     rows: &Runs,

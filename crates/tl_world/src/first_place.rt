@@ -108,10 +108,8 @@ pub(crate) fn places_up_to(
 }
 
 /// The place after the first one, from a place of the list on, that some tuple makes the parts,
-/// where there is one. The values of the least tuple that makes the parts one of those are then put
-/// into the first places of `values`: they are those of that one.
-///
-/// Places are looked at up to the first whose leading arguments exceed the fixed leading parts.
+/// where there is one before the leading arguments exceed the fixed ones. The values of the least
+/// such tuple are put into the first places of `values`.
 pub(crate) fn put_first_place(
     rows: &PlaceRows,
     parts: &[Part],

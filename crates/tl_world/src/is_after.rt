@@ -40,10 +40,8 @@ impl World {
     }
 
     /// Whether this world is found to be the one that the changes make of the world `from`, without
-    /// making it. It may be so where the answer is no, as where one place is set to two values. It
-    /// takes no memory.
-    ///
-    /// The facts and the places of both worlds are gone over once, side by side.
+    /// making it: both are gone over once, side by side. It may be so where the answer is no, as
+    /// where one place is set to two values. It takes no memory.
     pub fn is_after(&self, from: &World, dels: &[Fact], adds: &[Fact], sets: &[PlaceValue]) -> bool
         ensures facts { result ≡ true
             → self.now.facts ≡ changed_facts from.now.facts dels.now adds.now }

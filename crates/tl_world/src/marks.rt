@@ -19,11 +19,9 @@ const UPPER: u64 = 0xffff_ffff_0000_0000;
 /// The part of a place in which the number stands, counted from 1.
 const LOWER: u64 = 0xffff_ffff;
 
-/// Numbers by marks, as guesses: whoever takes one looks whether it is right, and so nothing is
-/// promised of them. A number takes 16 bytes or fewer than twice that.
-///
-/// In a place stand the upper half of a mark and the number. The latest number counts, and one may
-/// be forgotten where many have places side by side.
+/// Numbers by marks, as guesses: whoever takes one looks whether it is right, and nothing is
+/// promised of them. A number takes 16 bytes or fewer than twice that, half a mark with it. The
+/// latest number counts, and one may be forgotten where many have places side by side.
 #[derive(Drop)]
 pub(crate) struct Marks {
     alloc: Global,

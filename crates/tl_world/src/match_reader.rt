@@ -16,12 +16,8 @@ use std::marker::Model;
 use tl_syntax::Value;
 
 /// A reader of the matches of a pattern in a world, in lexicographic value order. Contracts see the
-/// world, the pattern, where there is one, and the tuple that the reader has come to, where there
-/// is one.
-///
-/// Where the variables of a pattern of facts first stand in the order of their numbers, it keeps
-/// the table and the place of the next row there, so that each row is looked at once. Else it asks
-/// the world for each match.
+/// world, the pattern and the tuple that it has come to. It keeps the table and the place of the
+/// next row where the pattern's variables stand in order, and else asks the world each time.
 #[derive(Drop)]
 pub struct MatchReader<'a> {
     world: &'a World,
@@ -187,9 +183,8 @@ impl<'a> MatchReader<'a> {
     }
 
     /// Goes on to the next match: the least tuple, in lexicographic value order, that makes the
-    /// pattern true and comes after the one that the reader has come to, where it has come to one.
-    /// False exactly where there is none; the reader is before the first match then. It takes no
-    /// memory.
+    /// pattern true and comes after the one that the reader has come to. False exactly where there
+    /// is none; the reader is before the first match then. It takes no memory.
     #[inline(never)]
     pub fn next(&mut self) -> bool
         ensures next { ReadsOn self.old self.new }

@@ -11,10 +11,8 @@ use tl_syntax::Value;
 
 impl World {
     /// The least tuple of values, in lexicographic value order, that makes the pattern true and
-    /// comes after `after`, where that is given: None exactly where there is none.
-    /// It takes no memory. The place of `after` is guessed from the values of the table's first and
-    /// last row, and found by halves where it is another. `put_next_match` gives the same tuples,
-    /// and finds each at once where the caller keeps its place.
+    /// comes after `after`, where that is given: None exactly where there is none. `put_next_match`
+    /// finds it at once where the caller keeps its place. It takes no memory.
     pub fn next_match(&self, pattern: &Pattern, after: Option<Match>) -> Option<Match>
         requires pattern { IsLawful pattern.now }
         requires after { IfSome after (λ m. m.len ≡ pattern.now.free) }
@@ -34,24 +32,9 @@ impl World {
         }
     }
 
-    /// Puts the next tuple of values that makes the pattern true in place: the least one, in
-    /// lexicographic value order, or, where one is in place (`begun`), the least after that one.
-    /// False exactly where there is none.
-    /// It takes no memory. Where the answer is false, the values that are left in place mean
-    /// nothing.
-    ///
-    /// `near` is a guess for the place in the table at which the search begins, and the call leaves
-    /// the place after the row that it found. It is only a help: any number gives the same answer.
-    ///
-    /// It looks at one table. Where the variables first stand in the order of their numbers, the
-    /// rows are looked at from the guess on, or, where this is wrong, from a place that is guessed
-    /// from the values of the first and the last row, or else found by halves, up to the first that
-    /// the pattern fits.
-    /// Where they do not, all rows with the same fixed leading values are looked at, up to the
-    /// first whose leading values exceed those of the best tuple so far.
-    /// Where the table has more than 128 rows, and the first part is free and the second fixed, or
-    /// the variables of the first two stand in the other order, the rows are found in the same way
-    /// among those by their second value.
+    /// Puts the least tuple of values that makes the pattern true, or, where one is in place
+    /// (`begun`), the least after it, in place. False: there is none, and what is there means
+    /// nothing. `near` is a guess for its place, left after the row. It takes no memory.
     #[inline(never)]
     pub fn put_next_match(
         &self,

@@ -100,11 +100,9 @@ fn put_match(found: &Option<Match>, tuple: &mut Match) -> bool
     }
 }
 
-/// Puts the least tuple after that in place that makes the parts one of the rows in place. False
-/// where there is none.
-///
-/// Where the variables first stand in the order of their numbers, it is that of the first row after
-/// those up to the tuple in place that the parts fit.
+/// Puts the least tuple after that in place that makes the parts one of the rows in place; false
+/// where there is none. Where the variables first stand in the order of their numbers, it is that
+/// of the first row after those up to the tuple in place that the parts fit.
 pub(crate) fn put_next(
     rows: &Runs,
     parts: &[Part],
@@ -150,12 +148,8 @@ fn put_least(rows: &Runs, parts: &[Part], free: u32, begun: bool, tuple: &mut Ma
 }
 
 /// The least tuple above `after` that makes the parts one of the rows, whatever the order of the
-/// variables.
-///
-/// The first row is found by halves, by the leading parts that are fixed or have their values from
-/// `after`.
-/// Rows are looked at up to the first whose leading parts exceed the fixed ones, or those of the
-/// best match so far.
+/// variables. The first row is found by halves, and rows are looked at up to the first whose
+/// leading parts exceed the fixed ones, or those of the best match so far.
 fn least_in_rows(rows: &Runs, parts: &[Part], free: u32, after: &Option<Match>) -> Option<Match>
     requires few { free ≤ 9 }
     requires each { (n : ℕ) → n < free → occurs n parts.now ≡ true }
@@ -177,10 +171,8 @@ fn least_in_rows(rows: &Runs, parts: &[Part], free: u32, after: &Option<Match>) 
 }
 
 /// Puts the least tuple after that in place that makes the parts, of which the last is for the
-/// value, one of the places with its value in place. False where there is none.
-///
-/// Where the variables first stand in the order of their numbers, it is that of the first place
-/// after that of the tuple in place that the parts fit.
+/// value, one of the places with its value; false where there is none. Where the variables stand in
+/// order, it is that of the first place after that of the tuple in place.
 pub(crate) fn put_next_in_places(
     rows: &PlaceRows,
     parts: &[Part],

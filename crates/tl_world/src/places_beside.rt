@@ -106,11 +106,9 @@ fn are_tables_set_from(tables: &[Named<PlaceRows>], from: usize, sets: &[PlaceVa
     true
 }
 
-/// Whether the places of the two lists of tables are found to have the same values, but for those
-/// that are set. It takes no memory.
-///
-/// Both lists are gone over once, side by side. Tables with one number are passed without a look at
-/// their places.
+/// Whether the places of the two lists of tables, which are gone over once, side by side, are found
+/// to have the same values, but for those that are set. Tables with one number are passed without a
+/// look at their places. It takes no memory.
 pub(crate) fn are_place_tables_beside(
     these: &NumberedPlaces<'_>,
     those: &NumberedPlaces<'_>,

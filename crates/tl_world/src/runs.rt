@@ -19,10 +19,8 @@ use std::mem;
 use std::rc::Rc;
 use tl_syntax::{NoMemory, Value};
 
-/// Rows in runs that other tables may share, but for the last ones, which are the table's own. A
-/// table of few rows has no others. Contracts see the list of all rows.
-///
-/// A change copies the run in which it stands and the last rows, and shares the other runs
+/// Rows in runs that other tables may share, but for the last ones, the table's own; contracts see
+/// the list of all rows. A change copies its run and the last rows, and shares the other runs
 /// (unrolled linked lists, Shao, Reppy and Appel 1994; leaves of a B+-tree, Comer 1979).
 #[derive(Drop)]
 pub(crate) struct Runs {

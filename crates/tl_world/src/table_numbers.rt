@@ -12,11 +12,9 @@ use indexmap::IndexSet;
 use std::alloc::Global;
 use tl_syntax::{Fact, NoMemory, PlaceValue};
 
-/// The numbers of the tables of worlds. That of a table is the number of the first world that was
-/// found to have the same facts of its predicate, or the same values at the places of its function.
-///
-/// Those of the first worlds are known, each from its own place of one list on: of all worlds,
-/// where there was memory for them.
+/// The numbers of the tables of worlds, those of the first worlds, as far as there was memory: each
+/// is the number of the first world that was found to have the same facts of the predicate, or the
+/// same values at the places of the function.
 #[derive(Drop)]
 pub(crate) struct TableNumbers {
     pub(crate) alloc: Global,

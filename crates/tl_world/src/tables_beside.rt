@@ -45,11 +45,9 @@ fn are_tables_named_from(tables: &[Named<Rows>], from: usize, dels: &[Fact], add
     true
 }
 
-/// Whether the two lists of tables are found to have the same facts, but for those that the changes
-/// name. It takes no memory.
-///
-/// Both lists are gone over once, side by side. Tables with one number are passed without a look at
-/// their rows.
+/// Whether the two lists of tables, which are gone over once, side by side, are found to have the
+/// same facts, but for those that the changes name. Tables with one number are passed without a
+/// look at their rows. It takes no memory.
 pub(crate) fn are_tables_beside(
     these: &NumberedTables<'_>,
     those: &NumberedTables<'_>,

@@ -90,10 +90,9 @@ impl Task {
     {
         w.has_all_facts(&self.goal) && (w.has_all_values(&self.goal) && w.has_no_fact(&self.avoid))
     }
-    /// The goal test, as `met`, for many worlds one after another. A fact of the goal that the
-    /// world lacks is looked for first from the place on at which one was found last, which the
-    /// call leaves there for the next: in a search most worlds lack what the world before lacked.
-    /// It takes no memory.
+    /// The goal test, as `met`, for many worlds one after another: a fact that the world lacks is
+    /// looked for first from the place on at which one was found last, which the call leaves there
+    /// for the next. It takes no memory.
     pub fn met_from(&self, w: &World, unmet: &mut Unmet) -> bool
         ensures { result ≡ meets_goal w.now (plain_problem self.now.problem).goal (plain_problem self.now.problem).avoid }
     {

@@ -130,10 +130,8 @@ impl World {
     }
 
     /// The world with these facts and these places; of two values for one place the earlier counts.
-    /// It fails for want of memory alone.
-    ///
-    /// More than a few facts are sorted first, so that each is found by halves and stands at the
-    /// end of its table.
+    /// More than a few facts are sorted first, so that each stands at the end of its table. It
+    /// fails for want of memory alone.
     pub fn of(alloc: Global, facts: &[Fact], places: &[PlaceValue]) -> Result<World, NoMemory>
         ensures same { IfOk result (λ w. w ≡ world_of facts.now places.now) }
         ensures named { IfOk result (λ w. IsNamedByParts facts.now places.now w) }
@@ -210,24 +208,8 @@ impl World {
     }
 
     /// This world without the facts of `dels`, with those of `adds`, and with the values of `sets`;
-    /// of two values for one place the earlier counts.
-    /// This world stays as it is, and tables that do not change are shared. It fails for want of
-    /// memory alone.
-    ///
-    /// A table is copied once: by the first fact that is deleted from it, where one that is added
-    /// to it comes in with the same copy, or else by the first that is added to it. Later facts are
-    /// taken out of the copy and put into it where they stand, one that goes and one that comes in
-    /// one step where that can be. In a table of more than 48 rows the run in which such a fact
-    /// stands is copied once, where other tables share it. A run that would be left with fewer than
-    /// 12 rows, or grow past 48, makes its table be copied once more.
-    /// A copy of a table of facts takes its rows where they are at most 48. Of a larger one it
-    /// takes the runs in which rows change and the last rows, some 150 rows at most, and a step for
-    /// each of the other runs, which the worlds share: a table of n rows has some n / 48 to n / 12
-    /// of them. A copy of a table of places takes the values, and the arguments too where a place
-    /// comes in that had no value.
-    /// A table of facts that grows past 128 rows is sorted by the second value once, and its rows
-    /// by the second value are copied with it from then on, so that a copy takes about twice the
-    /// steps.
+    /// of two values for one place the earlier counts. A table that changes is copied once, of a
+    /// large one a few runs alone; the rest is shared. It fails for want of memory.
     pub fn changed(
         &self,
         alloc: Global,

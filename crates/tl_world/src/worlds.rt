@@ -14,12 +14,8 @@ use std::alloc::Global;
 use tl_syntax::{Fact, NoMemory, PlaceValue};
 
 /// Worlds by numbers: each number below `len` is of one world, and equal worlds have one number.
-/// Numbers keep their worlds after every call but that which lets one go, a refused one included.
-///
-/// A world is found by its code, and then compared with the kept worlds of that code. One that
-/// changes make of a kept world is guessed by its mark before it is made. Tables of facts and of
-/// places have numbers too, so that those which the changes leave alone are compared by their
-/// numbers.
+/// Numbers keep their worlds after every call but that which lets one go, a refused one included. A
+/// world is found by its code, or by the mark that changes give before it is made.
 #[derive(Drop)]
 pub struct Worlds {
     alloc: Global,
@@ -137,12 +133,8 @@ impl Worlds {
     }
 
     /// The number of the world that the changes make of the world of the number `from`, where it is
-    /// found without making that world. It may have a number where none is found. It takes no
-    /// memory.
-    ///
-    /// It is found where none of the changes is given twice, and no later world has the same mark.
-    /// At first each deleted fact is taken to be in the world of `from`, and no added one; where
-    /// nothing is found so, those are looked up of which that is not true.
+    /// found without making it: where none of the changes is given twice and no later world has the
+    /// same mark. It may have a number where none is found. It takes no memory.
     pub fn find_after(
         &self,
         from: usize,
@@ -173,11 +165,8 @@ impl Worlds {
     }
 
     /// The number of the world that the changes make of the world of the number `from`: the one
-    /// that it has, or else the next one. It fails for want of memory alone.
-    ///
-    /// A world that has a number is seldom made, but is found as by `find_after`. The tables of a
-    /// new world that the changes leave alone keep the numbers that they have in the world of
-    /// `from`.
+    /// that it has, which is mostly found as by `find_after`, or else the next one. Its tables that
+    /// the changes leave alone keep their numbers. It fails for want of memory alone.
     pub fn number_after(
         &mut self,
         from: usize,

@@ -31,10 +31,9 @@ impl Nodes {
         }
     }
 
-    // The numbers that the parts open to, from the first part on, with each join of the same kind
-    // replaced by its parts, at any depth.
-    // Each join is opened once: what it opens to is there when it comes again, and of equal parts
-    // the first stays.
+    // The numbers that the parts open to, from the first part on: each join of the same kind is
+    // replaced by its parts, at any depth, and opened once, since what it opens to is there when it
+    // comes again. Of equal parts the first stays.
     pub(crate) fn flatten(
         &self,
         parts: &[usize],

@@ -16,11 +16,9 @@ use tl_search::{Arrival, SpaceFault};
 use tl_terms::{Action, NoMemory, Steps};
 
 impl Space {
-    /// The pair after an executable action of the pair `at` arrives. It is pruned exactly where its
-    /// residual is FALSE, is seen exactly where it is kept already, and else is kept under the next
-    /// number, with the path of `at` and the action.
-    /// Each call applies the action once and counts one step. A refused call leaves all kept pairs
-    /// as they were, and can be made again.
+    /// The pair after an executable action of the pair `at` arrives: pruned exactly where its
+    /// residual is FALSE, seen exactly where it is kept already, and else kept under the next
+    /// number, with the path of `at` and the action. Each call counts one step.
     pub fn child<L: Ledger>(
         &mut self,
         at: usize,
