@@ -27,7 +27,7 @@ fn plan_text(
     requires { Each (ActionIsNamed problem.now.names problem.now.domain.operators) plan.now }
     ensures { IfOk result
         (λ text. text ≡ cheapest_plan_text problem.now.names problem.now.domain.operators
-            plan.now cost) }
+        plan.now cost) }
 {
     let first = cheapest_line(alloc, plan.len(), cost)?;
     let mut text = bytes_of(alloc, first.as_str())?;

@@ -34,8 +34,11 @@ pub told-reports : (watch : Bool) (before after : List Event) (top : Level) (old
     → ((j : ℕ) (x : Pair) → slice_get old j ≡ Some x → slice_get kept j ≡ Some x) → ReportsOneMore from a (Reported watch old before) (Reported watch kept after)
 told-reports false before after top old kept from a t e f more = record { this = λ w. absurd (let q : false ≡ true = w in cc); others = λ y b h w. absurd (let q : false ≡ true = w in cc) }
 told-reports true before after top old kept from a t e f more = record {
-  this = λ w. (top.at, more top.at from f,
-    subst (AtLeastOne (IsEventOf top.at a)) (sym t.1) (one-end (IsEventOf top.at a) before t.0 (t.2 a e)));
+  this = λ w. (
+    top.at,
+    more top.at from f,
+    subst (AtLeastOne (IsEventOf top.at a)) (sym t.1) (one-end (IsEventOf top.at a) before t.0 (t.2 a e)),
+  );
   others = λ y b h w. (let k = h w in (k.0, more k.0 y k.1, subst (AtLeastOne (IsEventOf k.0 b)) (sym t.1) (one-first (IsEventOf k.0 b) before t.0 k.2)));
 }
 

@@ -203,7 +203,7 @@ both-name s u (arg.Var y) h k = sym (eqb-true y.slot u.slot k) ∙ eqb-true y.sl
 pub record Without (s : Var) (xs ys : List Arg) : Type 0 where
   pub one_less : length xs ≡ suc (length ys)
   pub others : (u : Var) → (u.slot ≡ s.slot → ⊥) → AtLeastOne (λ a. is_that_variable u a ≡ true) xs
-    → AtLeastOne (λ a. is_that_variable u a ≡ true) ys
+      → AtLeastOne (λ a. is_that_variable u a ≡ true) ys
 
 without-one : (s : Var) (xs : List Arg) → AtLeastOne (λ a. is_that_variable s a ≡ true) xs → (ys : List Arg) × Without s xs ys
 without-one s [] h = absurd h

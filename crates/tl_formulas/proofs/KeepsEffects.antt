@@ -115,7 +115,7 @@ pub record ListBreaksNothing (scope : Scope) (w : EffectWord) (rest : FormTrees)
 own-parts : (scope : Scope) (w : EffectWord) (rest : FormTrees) (at : ℕ) → effect_list_breaks scope w rest at ≡ [] → ListBreaksNothing scope w rest
 own-parts scope w rest at none =
     let parts = none-parts (breaks_if (not (has_effect_shape w rest)) Shape at)
-      (breaks_if (is_crowded_by_effect scope w rest) Limit at) none in
+    (breaks_if (is_crowded_by_effect scope w rest) Limit at) none in
     record { shape = test-passes (has_effect_shape w rest) Shape at parts.0; few = test-fails (is_crowded_by_effect scope w rest) Limit at parts.1 }
 
 fact-call : (f : FormTree) (fs : FormTrees) → has_effect_shape effect.Add (more_forms f fs) ≡ true → is_call f ≡ true

@@ -56,7 +56,7 @@ module _ {A : Type 0} (P : A → Type 0) where
 
   -- what passes the test may be dropped where it fails
   pub One-drop : (p : A → Bool) → ((x : A) → p x ≡ true → P x → ⊥) → (xs : List A)
-    → AtLeastOne P (filter (λ x. not (p x)) xs) ↔ AtLeastOne P xs
+      → AtLeastOne P (filter (λ x. not (p x)) xs) ↔ AtLeastOne P xs
   One-drop p never [] = (λ h. h, λ h. h)
   One-drop p never (x ∷ xs) = (elim (p x) as (λ b. p x ≡ b → AtLeastOne P (cond (not b) (x ∷ filter (λ y. not (p y)) xs) (filter (λ y. not (p y)) xs)) ↔ (P x ⊎ AtLeastOne P xs)) [
     | true ↦ λ e. (λ h. inr ((One-drop p never xs).0 h), elim [ inl h ↦ absurd (never x e h) | inr k ↦ (One-drop p never xs).1 k ])
@@ -91,7 +91,7 @@ module _ {A : Type 0} (P : A → Type 0) where
 
   -- one that holds passes the test, or stays when what passes is dropped
   pub One-split : (p : A → Bool) (xs : List A) → AtLeastOne P xs
-    → ((x : A) × ((p x ≡ true) × P x)) ⊎ AtLeastOne P (filter (λ x. not (p x)) xs)
+      → ((x : A) × ((p x ≡ true) × P x)) ⊎ AtLeastOne P (filter (λ x. not (p x)) xs)
   One-split p [] h = absurd h
   One-split p (x ∷ xs) h = (elim (p x) as (λ b. p x ≡ b → ((y : A) × ((p y ≡ true) × P y)) ⊎ AtLeastOne P (cond (not b) (x ∷ filter (λ y. not (p y)) xs) (filter (λ y. not (p y)) xs))) [
     | true ↦ λ q. elim h [ inl k ↦ inl (x, (q, k)) | inr k ↦ One-split p xs k ]
