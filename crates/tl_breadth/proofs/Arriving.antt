@@ -25,7 +25,13 @@ use Rattle.tl_breadth.proofs.BreadthSteps.{breadth-pruned, breadth-seen, breadth
 use Rattle.tl_breadth.proofs.BreadthAnswers.{kept-open, kept-pair-of, turn-no-shorter}
 use Rattle.tl_search.specs.declared.arrival.Arrival.TheVariants as arrival
 use Rattle.tl_search.specs.Arrivals.{Arrives}
-use Rattle.tl_breadth.specs.Outcomes.{IsSearching, AwaitsJudgement, HasTurn, IsTriedThen, Leaves}
+use Rattle.tl_search.specs.Causes.{IsCausedByChild}
+use Rattle.tl_search.specs.Faults.{TellsChild}
+use Rattle.tl_search.specs.declared.fault.SearchFault.{SearchFault}
+use Rattle.tl_search.specs.declared.fault.SearchFault.TheVariants as fault
+use Rattle.tl_search.specs.declared.fault.SpaceFault.{SpaceFault}
+use Rattle.tl_search.specs.declared.fault.SpaceFault.TheVariants as space
+use Rattle.tl_breadth.specs.Outcomes.{IsSearching, AwaitsJudgement, HasTurn, IsTriedThen, Leaves, IsBreadthFirstFault}
 use Rattle.tl_search.specs.declared.outcome.Outcome.{Outcome}
 
 -- what one part leaves is what the next part leaves
@@ -122,3 +128,13 @@ module _ (p : PlainProblem) (n b : ℕ) (old : List KeptPair) (at : ℕ) (a : Ac
           range-after p n (operation_of note) m.2.1 t.pair.path t.pair.node (kept-pair-of p n old at (take t.k t.listed) t.searching.breadth at t.pair t.is_pair) (kept-open p n old at (take t.k t.listed) t.searching.breadth at t.pair t.is_pair) t.short a m.0 m.1 m.2.0,
           λ plan k. (let q : length t.pair.path + 1 ≤ length plan = longer plan k in omega (arith, length-snoc t.pair.path a)),
         )
+
+  -- the search's fault has its cause where the space's fault has
+  pub child-fault : (t : HasTurn p n b old at a) (s : SpaceFault) (f : SearchFault) → ((x : KeptPair) → slice_get old at ≡ Some x → TellsChild x.path a s f)
+    → ((x : KeptPair) → slice_get old at ≡ Some x → IsCausedByChild p x.node a s) → IsBreadthFirstFault p n f
+  child-fault t s fault.NoMemory is h = tt
+  child-fault t (space.RangeHere note) (fault.Range path o) is h =
+      subst (λ (m : RangeNote). IsBreadthFirstFault p n (fault.Range path m)) (sym (is t.pair t.is_pair).1) (range-here t path note (λ x e. (is x e).0) h)
+  child-fault t (space.RangeAfter note) (fault.Range path o) is h =
+      subst (λ (m : RangeNote). IsBreadthFirstFault p n (fault.Range path m)) (sym (is t.pair t.is_pair).1) (range-behind t path note (λ x e. (is x e).0) h)
+  child-fault t space.NoMemory (fault.Range path o) is h = absurd (is t.pair t.is_pair)

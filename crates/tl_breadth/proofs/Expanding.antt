@@ -22,7 +22,13 @@ use Rattle.tl_breadth.proofs.BreadthAnswers.{kept-distance, kept-open, kept-pair
 use Rattle.tl_breadth.proofs.Growing.{levels-grow}
 use Rattle.tl_search.specs.declared.arrival.Arrival.TheVariants as arrival
 use Rattle.tl_search.specs.Arrivals.{Arrives}
-use Rattle.tl_breadth.specs.Outcomes.{PathsAreShortest, AwaitsJudgement, IsSearching, HasTurn, IsTriedThen, GrowsBy, IsReady, IsAtLevel}
+use Rattle.tl_search.specs.Causes.{IsCausedByActions}
+use Rattle.tl_search.specs.Faults.{TellsPair}
+use Rattle.tl_search.specs.declared.fault.SearchFault.{SearchFault}
+use Rattle.tl_search.specs.declared.fault.SearchFault.TheVariants as fault
+use Rattle.tl_search.specs.declared.fault.SpaceFault.{SpaceFault}
+use Rattle.tl_search.specs.declared.fault.SpaceFault.TheVariants as space
+use Rattle.tl_breadth.specs.Outcomes.{PathsAreShortest, AwaitsJudgement, IsSearching, HasTurn, IsTriedThen, GrowsBy, IsReady, IsAtLevel, IsBreadthFirstFault}
 
 module _ (p : PlainProblem) (n b : ℕ) (old : List KeptPair) (at : ℕ) (r : IsReady p n b old at) where
   module _ (items : List Action) (lists : (x : KeptPair) → slice_get old at ≡ Some x → ListsActions p x.node.world items) (new : List KeptPair) (grows : (x : KeptPair) → slice_get old at ≡ Some x → GrowsBy (length x.path + 1) old new) where
@@ -54,6 +60,15 @@ module _ (p : PlainProblem) (n b : ℕ) (old : List KeptPair) (at : ℕ) (r : Is
         range-by-action p n (operation_of note) m.1.1 r.pair.path r.pair.node (kept-pair-of p n old at [] r.searching.breadth at r.pair r.is_pair) (kept-open p n old at [] r.searching.breadth at r.pair r.is_pair) r.short m.0 m.1.0,
         λ plan k. (let q : length r.pair.path + 1 ≤ length plan = longer plan k in omega arith),
       )
+
+  -- the search's fault has its cause where the space's fault has
+  pub expand-fault : (s : SpaceFault) (f : SearchFault) → ((x : KeptPair) → slice_get old at ≡ Some x → TellsPair x.path s f)
+    → ((x : KeptPair) → slice_get old at ≡ Some x → IsCausedByActions p x.node s) → IsBreadthFirstFault p n f
+  expand-fault s fault.NoMemory is h = tt
+  expand-fault (space.RangeHere note) (fault.Range path o) is h =
+      subst (λ (m : RangeNote). IsBreadthFirstFault p n (fault.Range path m)) (sym (is r.pair r.is_pair).1) (expand-range path note (λ x e. (is x e).0) h)
+  expand-fault (space.RangeAfter note) (fault.Range path o) is h = absurd (is r.pair r.is_pair)
+  expand-fault space.NoMemory (fault.Range path o) is h = absurd (is r.pair r.is_pair)
 
 -- ---- levels
 

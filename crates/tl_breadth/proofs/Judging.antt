@@ -12,18 +12,21 @@ use Rattle.tl_search.specs.RangeCauses.{IsRangeCause}
 use Rattle.tl_search.specs.KeptPairs.{KeptPair, pairs_of}
 use Rattle.tl_search.proofs.ListLaws.{get-inside}
 use Rattle.tl_search.proofs.RangeLaws.{range-by-idling}
+use Rattle.tl_search.proofs.FaultLaws.{acceptance-of-pair}
 use Rattle.tl_breadth.proofs.BreadthAnswers.{kept-distance, kept-open, kept-pair-of, last-no-shorter, last-is-plan, last-is-spent, last-is-spent-breadth-first}
 use Rattle.tl_breadth.specs.BreadthFirst.{NoneAccepted}
 use Rattle.tl_breadth.specs.Events.{IsLastPath}
-use Rattle.tl_breadth.specs.Outcomes.{AwaitsJudgement, PathsAreShortest}
+use Rattle.tl_search.specs.Causes.{IsCausedByAcceptance}
+use Rattle.tl_search.specs.Faults.{TellsPair, IsOfPair}
+use Rattle.tl_search.specs.declared.fault.SearchFault.{SearchFault}
+use Rattle.tl_search.specs.declared.fault.SearchFault.TheVariants as fault
+use Rattle.tl_search.specs.declared.fault.SpaceFault.{SpaceFault}
+use Rattle.tl_search.specs.declared.fault.SpaceFault.TheVariants as space
+use Rattle.tl_breadth.specs.Outcomes.{AwaitsJudgement, PathsAreShortest, IsBreadthFirstFault}
 
 module _ (p : PlainProblem) (n b : ℕ) (kept : List KeptPair) (k : ℕ) (w : AwaitsJudgement p n b kept k) where
   the_last : (x : KeptPair) × (slice_get kept k ≡ Some x)
   the_last = get-inside kept k (omega (arith, w.last))
-
-  -- the pair is kept, so what would hold of none does not come
-  pub judged-never : ((x : KeptPair) → slice_get kept k ≡ Some x → ⊥) → ⊥
-  judged-never h = h the_last.0 the_last.1
 
   shortest : PathsAreShortest p kept
   shortest = kept-distance p n kept w.done w.tried w.breadth
@@ -58,3 +61,16 @@ module _ (p : PlainProblem) (n b : ℕ) (kept : List KeptPair) (k : ℕ) (w : Aw
           range-by-idling p n (operation_of note) t.1 x.path x.node (kept-pair-of p n kept w.done w.tried w.breadth k x e) (kept-open p n kept w.done w.tried w.breadth k x e) (w.breadth.near k x e) t.0,
           last-no-shorter p n kept w.done w.tried w.breadth k x e w.last w.none,
         )
+
+  -- the search's fault has its cause where the space's fault has
+  pub judged-fault : (s : SpaceFault) (f : SearchFault) → ((x : KeptPair) → slice_get kept k ≡ Some x → TellsPair x.path s f)
+    → ((x : KeptPair) → slice_get kept k ≡ Some x → IsCausedByAcceptance p x.node s) → IsBreadthFirstFault p n f
+  judged-fault s fault.NoMemory is h = tt
+  judged-fault (space.RangeHere note) (fault.Range path o) is h =
+      subst (λ (m : RangeNote). IsBreadthFirstFault p n (fault.Range path m)) (sym (is the_last.0 the_last.1).1) (judged-range path (λ x e. (is x e).0) note h)
+  judged-fault (space.RangeAfter note) (fault.Range path o) is h = absurd (is the_last.0 the_last.1)
+  judged-fault space.NoMemory (fault.Range path o) is h = absurd (is the_last.0 the_last.1)
+
+  -- the fault is one at the pair
+  pub judged-of-pair : (s : SpaceFault) → ((x : KeptPair) → slice_get kept k ≡ Some x → IsCausedByAcceptance p x.node s) → IsOfPair s
+  judged-of-pair s h = acceptance-of-pair p the_last.0.node s (h the_last.0 the_last.1)

@@ -9,7 +9,9 @@ ghost use Rattle.tl_breadth.specs.Outcomes.{LeavesNext, LeavesTried, LeavesUnacc
 
 use crate::levels::BreadthFirst;
 use std::sync::ledger::Ledger;
-use tl_search::{Arrival, Events, Outcome, Pairs, SearchFault, SpaceFault, report_arrival};
+use tl_search::{
+    Arrival, Events, Outcome, Pairs, SearchFault, child_fault, pair_fault, report_arrival,
+};
 use tl_terms::{Action, Steps};
 
 impl BreadthFirst {
@@ -42,12 +44,7 @@ impl BreadthFirst {
     {
         let actions = match space.actions(at) {
             Ok(actions) => actions,
-            Err(SpaceFault::RangeHere(note)) => {
-                let path = space.path(self.alloc, at)?;
-                return Err(SearchFault::Range { path, note });
-            }
-            Err(SpaceFault::RangeAfter(_)) => unreachable!(),
-            Err(SpaceFault::NoMemory) => return Err(SearchFault::NoMemory),
+            Err(fault) => return Err(pair_fault(self.alloc, space, at, fault)),
         };
         for a in actions.as_slice() {
             match self.arrive(space, at, a, events, steps)? {
@@ -100,17 +97,7 @@ impl BreadthFirst {
                 report_arrival(self.alloc, events, self.watch, at, a, Arrival::Pruned)?;
                 Ok(None)
             }
-            Err(SpaceFault::RangeHere(note)) => {
-                let path = space.path(self.alloc, at)?;
-                Err(SearchFault::Range { path, note })
-            }
-            Err(SpaceFault::RangeAfter(note)) => {
-                let mut path = space.path(self.alloc, at)?;
-                let action = a.copy(self.alloc)?;
-                path.push(action)?;
-                Err(SearchFault::Range { path, note })
-            }
-            Err(SpaceFault::NoMemory) => Err(SearchFault::NoMemory),
+            Err(fault) => Err(child_fault(self.alloc, space, at, a, fault)),
         }
     }
 
@@ -138,12 +125,7 @@ impl BreadthFirst {
                 Ok(Some(Outcome::Plan(plan)))
             }
             Ok(false) => Ok(None),
-            Err(SpaceFault::RangeHere(note)) => {
-                let path = space.path(self.alloc, k)?;
-                Err(SearchFault::Range { path, note })
-            }
-            Err(SpaceFault::RangeAfter(_)) => unreachable!(),
-            Err(SpaceFault::NoMemory) => Err(SearchFault::NoMemory),
+            Err(fault) => Err(pair_fault(self.alloc, space, k, fault)),
         }
     }
 }

@@ -17,7 +17,8 @@ use Rattle.tl_search.specs.declared.fault.SearchFault.TheVariants as fault
 use Rattle.tl_search.proofs.PathLaws.{pair-onward}
 use Rattle.tl_search.proofs.RangeLaws.{has-states}
 use Rattle.tl_cert.specs.Causes.{IsListedBySome, IsNoneCause, IsNoneFaultOf, IsVisited}
-use Rattle.tl_cert.specs.Checking.{IsActingCause, IsFaultAfter, IsIdlingCause, IsJudgingCause, IsProgressingCause, IsRootCause, IsTurnCause, IsVisitCause}
+use Rattle.tl_search.specs.Faults.{IsFaultAfter}
+use Rattle.tl_cert.specs.Checking.{IsActingCause, IsIdlingCause, IsJudgingCause, IsProgressingCause, IsRootCause, IsTurnCause, IsVisitCause}
 use Rattle.tl_cert.specs.Links.{Lists}
 use Rattle.tl_cert.specs.declared.proof.Link.{Link}
 use Rattle.tl_cert.proofs.GoodLinks.{lists-end}

@@ -25,12 +25,6 @@ use Rattle.tl_cert.specs.declared.verdict.NoneVerdict.TheVariants.{Proved, BadLi
 
 -- ---- faults
 
--- the fault is that of an operation that this note tells of, at the end of this path; or want of
--- memory
-abbrev pub IsFaultAfter : List Action → RangeNote → SearchFault → Type 0
-IsFaultAfter path note (fault.Range other o) = (other ≡ path) × (o ≡ note)
-IsFaultAfter path note fault.NoMemory = Unit {0}
-
 -- the root: progressing the control formula in the first world looks at it
 abbrev pub IsRootCause : PlainProblem → SearchFault → Type 0
 IsRootCause p (fault.Range path note) = (path ≡ []) × Tells (looked_by_progressing p p.first p.control) note

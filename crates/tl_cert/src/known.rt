@@ -5,9 +5,8 @@ ghost use Rattle.tl_search.specs.NamedAnswers.{FaultIsNamed, IsNamedIn};
 ghost use Rattle.tl_search.specs.Calls.{IsExecutableAt};
 ghost use Rattle.tl_cert.specs.Checking.{AreActionsAt, AreKnownActions, IsListingFault};
 
-use crate::faults::fault_at;
 use std::alloc::Global;
-use tl_search::{Pairs, SearchFault, SpaceFault};
+use tl_search::{Pairs, SearchFault, SpaceFault, fault_at};
 use tl_terms::{Action, Actions};
 
 /// The executable actions of a node, which stay known while links that start from it come one after

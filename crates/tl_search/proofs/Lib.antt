@@ -7,4 +7,5 @@ pub mod EventLaws
 pub mod HistoryLaws
 pub mod OutcomeLaws
 pub mod NamedLaws
+pub mod FaultLaws
 pub mod SameEvents

@@ -9,6 +9,7 @@ pub mod RangeCauses
 pub mod Arrivals
 pub mod Causes
 pub mod Calls
+pub mod Faults
 pub mod Events
 pub mod NamedAnswers
 pub mod TrueEvents

@@ -5,6 +5,7 @@
 mod arrival;
 mod event;
 mod fault;
+mod faults;
 pub mod laws;
 mod outcome;
 mod pairs;
@@ -13,6 +14,7 @@ mod reporting;
 pub use arrival::Arrival;
 pub use event::{Event, Events};
 pub use fault::{SearchFault, SpaceFault};
+pub use faults::{child_fault, fault_after, fault_at, pair_fault};
 pub use outcome::{Outcome, Report};
 pub use pairs::Pairs;
 pub use reporting::{report_arrival, report_root};

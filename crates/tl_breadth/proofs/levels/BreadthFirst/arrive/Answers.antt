@@ -1,8 +1,7 @@
 use Rattle.tl_search.proofs.HistoryLaws.{ends-by-keeping}
-use Rattle.std.proofs.Common.{◌≡◌, ◌<◌, ◌+◌, ◌++◌, ◌∷◌, [], ◌≤◌, length, take, slice_get, Some, IfOk, IfErr, refl, sym, ap, ◌∙◌, subst, add-one}
-use Rattle.tl_search.specs.Calls.{AreNamedIn}
+use Rattle.std.proofs.Common.{◌≡◌, ◌<◌, ◌+◌, ◌++◌, ◌∷◌, [], ◌≤◌, length, take, slice_get, Some, IfOk, IfErr, refl, sym, ◌∙◌, subst, add-one}
 use Rattle.tl_search.specs.NamedAnswers.{IsNamedIn, EndIsNamed, FaultIsNamed}
-use Rattle.tl_search.proofs.NamedLaws.{event-named, events-named, path-named}
+use Rattle.tl_search.proofs.NamedLaws.{event-named, events-named}
 use Rattle.std.proofs.lemmas.Option.{slice_get_within}
 use Rattle.tl_search.specs.Kept.{AreKept}
 use Rattle.tl_search.specs.PairGraph.{pair_graph}
@@ -13,7 +12,7 @@ use Rattle.tl_breadth.specs.Outcomes.{AwaitsJudgement, IsTriedThen, Leaves}
 use Rattle.tl_search.proofs.WalkLaws.{length-snoc}
 use Rattle.tl_breadth.proofs.Growing.{err-anyway, ok-anyway, grows-one, grows-same}
 use Rattle.tl_breadth.proofs.Reporting.{ticked-child, report-step, ends-at-last}
-use Rattle.tl_breadth.proofs.Arriving.{leaves-map, turn-executable, fresh-awaits, fresh-tried, seen-tried, pruned-tried, range-here, range-behind}
+use Rattle.tl_breadth.proofs.Arriving.{leaves-map, turn-executable, fresh-awaits, fresh-tried, seen-tried, pruned-tried, child-fault}
 use Rattle.tl_breadth.proofs.levels.BreadthFirst.arrive.Goals as goal
 
 pub child-requires-clause-executable : goal.child-requires-clause-executable
@@ -25,12 +24,6 @@ judged-requires g c =
     let new = g.S.Pairs.kept c.child.new.self in
     subst (λ p. AwaitsJudgement p c.args.self.now.within c.args.self.now.nodes new c.in-Ok-Fresh.k) (sym c.child.ensures.problem)
     (fresh-awaits _ _ _ _ _ _ new t.pair t.is_pair c.in-Ok-Fresh.k t ((rw c.in-Ok-Fresh.field-0-is at c.in-Ok-Fresh.ensures.arrival) t.pair t.is_pair) (subst (λ p. AreKept (pair_graph p) new) c.child.ensures.problem c.child.ensures.kept))
-
-pub path-requires : goal.path-requires
-path-requires g c = record { at = subst (λ xs. c.args.at < length xs) (sym c.in-Err-RangeHere.ensures.refused) (slice_get_within _ _ c.requires.turn.pair c.requires.turn.is_pair) }
-
-pub path-requires-in-Err-RangeAfter : goal.path-requires-in-Err-RangeAfter
-path-requires-in-Err-RangeAfter g c = record { at = subst (λ xs. c.args.at < length xs) (sym c.in-Err-RangeAfter.ensures.refused) (slice_get_within _ _ c.requires.turn.pair c.requires.turn.is_pair) }
 
 pub returns-in_ok-report_arrival-in-Ok-Fresh-clause-outcome : goal.returns-in_ok-report_arrival-in-Ok-Fresh-clause-outcome
 returns-in_ok-report_arrival-in-Ok-Fresh-clause-outcome g c =
@@ -51,18 +44,6 @@ returns-in_ok-report_arrival-in-Ok-Seen-clause-outcome g c = seen-tried _ _ _ _ 
 
 pub returns-in_ok-report_arrival-in-Ok-Pruned-clause-outcome : goal.returns-in_ok-report_arrival-in-Ok-Pruned-clause-outcome
 returns-in_ok-report_arrival-in-Ok-Pruned-clause-outcome g c = pruned-tried _ _ _ _ _ _ (g.S.Pairs.kept c.child.new.self) c.requires.turn.pair c.requires.turn.is_pair ((rw c.in-Ok-Pruned.field-0-is at c.in-Ok-Pruned.ensures.arrival) c.requires.turn.pair c.requires.turn.is_pair)
-
-pub returns-in_ok-path-in-Err-RangeHere-clause-fault :
-    goal.returns-in_ok-path-in-Err-RangeHere-clause-fault
-returns-in_ok-path-in-Err-RangeHere-clause-fault g c =
-    range-here _ _ _ _ _ c.args.a.now c.requires.turn c.in_ok-path-in-Err-RangeHere.path c.in-Err-RangeHere.note (λ x e. c.in_ok-path-in-Err-RangeHere.ensures.path x (subst (λ xs. slice_get xs c.args.at ≡ Some x) (sym c.in-Err-RangeHere.ensures.refused) e))
-    (rw c.in-Err-RangeHere.field-0-is at c.in-Err-RangeHere.ensures.cause)
-
-pub returns-in_ok-push-in-Err-RangeAfter-clause-fault :
-    goal.returns-in_ok-push-in-Err-RangeAfter-clause-fault
-returns-in_ok-push-in-Err-RangeAfter-clause-fault g c =
-    range-behind _ _ _ _ _ c.args.a.now c.requires.turn c.push.new.self c.in-Err-RangeAfter.note (λ x e. c.in_ok-push-in-Err-RangeAfter.ensures ∙ (ap (λ us. us ++ c.in_ok-action-in-Err-RangeAfter.action ∷ []) (c.in_ok-path-in-Err-RangeAfter.ensures.path x (subst (λ xs. slice_get xs c.args.at ≡ Some x) (sym c.in-Err-RangeAfter.ensures.refused) e)) ∙ ap (λ u. x.path ++ u ∷ []) c.in_ok-action-in-Err-RangeAfter.ensures.same))
-    (rw c.in-Err-RangeAfter.field-0-is at c.in-Err-RangeAfter.ensures.cause)
 
 pub returns-in_ok-report_arrival-in-Ok-Fresh-clause-grows : goal.returns-in_ok-report_arrival-in-Ok-Fresh-clause-grows
 returns-in_ok-report_arrival-in-Ok-Fresh-clause-grows g c = ok-anyway _ c.judged.result (λ pair e.
@@ -121,27 +102,6 @@ returns-in_err-report_arrival-in-Ok-Seen-clause-ticked g c = err-anyway _ _ (tic
 pub returns-in_err-report_arrival-in-Ok-Pruned-clause-ticked : goal.returns-in_err-report_arrival-in-Ok-Pruned-clause-ticked
 returns-in_err-report_arrival-in-Ok-Pruned-clause-ticked g c = err-anyway _ _ (ticked-child _ c.args.self.now.within c.args.self.now.watch (g.S.Pairs.kept c.args.space.now) (g.S.Pairs.kept c.child.new.self) (g.S.Pairs.kept c.child.new.self) c.args.at c.args.a.now c.child.result c.args.events.now c.args.steps.now c.child.new.steps refl c.child.ensures.ticks c.child.ensures.arrival c.child.ensures.refused)
 
-pub returns-in_err-path-in-Err-RangeHere-clause-ticked : goal.returns-in_err-path-in-Err-RangeHere-clause-ticked
-returns-in_err-path-in-Err-RangeHere-clause-ticked g c = err-anyway _ _ (ticked-child _ c.args.self.now.within c.args.self.now.watch (g.S.Pairs.kept c.args.space.now) (g.S.Pairs.kept c.child.new.self) (g.S.Pairs.kept c.child.new.self) c.args.at c.args.a.now c.child.result c.args.events.now c.args.steps.now c.child.new.steps refl c.child.ensures.ticks c.child.ensures.arrival c.child.ensures.refused)
-
-pub returns-in_err-path-in-Err-RangeAfter-clause-ticked : goal.returns-in_err-path-in-Err-RangeAfter-clause-ticked
-returns-in_err-path-in-Err-RangeAfter-clause-ticked g c = err-anyway _ _ (ticked-child _ c.args.self.now.within c.args.self.now.watch (g.S.Pairs.kept c.args.space.now) (g.S.Pairs.kept c.child.new.self) (g.S.Pairs.kept c.child.new.self) c.args.at c.args.a.now c.child.result c.args.events.now c.args.steps.now c.child.new.steps refl c.child.ensures.ticks c.child.ensures.arrival c.child.ensures.refused)
-
-pub returns-in_err-action-in-Err-RangeAfter-clause-ticked : goal.returns-in_err-action-in-Err-RangeAfter-clause-ticked
-returns-in_err-action-in-Err-RangeAfter-clause-ticked g c = err-anyway _ _ (ticked-child _ c.args.self.now.within c.args.self.now.watch (g.S.Pairs.kept c.args.space.now) (g.S.Pairs.kept c.child.new.self) (g.S.Pairs.kept c.child.new.self) c.args.at c.args.a.now c.child.result c.args.events.now c.args.steps.now c.child.new.steps refl c.child.ensures.ticks c.child.ensures.arrival c.child.ensures.refused)
-
-pub returns-in_err-push-in-Err-RangeAfter-clause-ticked : goal.returns-in_err-push-in-Err-RangeAfter-clause-ticked
-returns-in_err-push-in-Err-RangeAfter-clause-ticked g c = err-anyway _ _ (ticked-child _ c.args.self.now.within c.args.self.now.watch (g.S.Pairs.kept c.args.space.now) (g.S.Pairs.kept c.child.new.self) (g.S.Pairs.kept c.child.new.self) c.args.at c.args.a.now c.child.result c.args.events.now c.args.steps.now c.child.new.steps refl c.child.ensures.ticks c.child.ensures.arrival c.child.ensures.refused)
-
-pub returns-in_ok-path-in-Err-RangeHere-clause-ticked : goal.returns-in_ok-path-in-Err-RangeHere-clause-ticked
-returns-in_ok-path-in-Err-RangeHere-clause-ticked g c = ticked-child _ c.args.self.now.within c.args.self.now.watch (g.S.Pairs.kept c.args.space.now) (g.S.Pairs.kept c.child.new.self) (g.S.Pairs.kept c.child.new.self) c.args.at c.args.a.now c.child.result c.args.events.now c.args.steps.now c.child.new.steps refl c.child.ensures.ticks c.child.ensures.arrival c.child.ensures.refused
-
-pub returns-in_ok-push-in-Err-RangeAfter-clause-ticked : goal.returns-in_ok-push-in-Err-RangeAfter-clause-ticked
-returns-in_ok-push-in-Err-RangeAfter-clause-ticked g c = ticked-child _ c.args.self.now.within c.args.self.now.watch (g.S.Pairs.kept c.args.space.now) (g.S.Pairs.kept c.child.new.self) (g.S.Pairs.kept c.child.new.self) c.args.at c.args.a.now c.child.result c.args.events.now c.args.steps.now c.child.new.steps refl c.child.ensures.ticks c.child.ensures.arrival c.child.ensures.refused
-
-pub returns-in-Err-NoMemory-clause-ticked : goal.returns-in-Err-NoMemory-clause-ticked
-returns-in-Err-NoMemory-clause-ticked g c = ticked-child _ c.args.self.now.within c.args.self.now.watch (g.S.Pairs.kept c.args.space.now) (g.S.Pairs.kept c.child.new.self) (g.S.Pairs.kept c.child.new.self) c.args.at c.args.a.now c.child.result c.args.events.now c.args.steps.now c.child.new.steps refl c.child.ensures.ticks c.child.ensures.arrival c.child.ensures.refused
-
 pub returns-in_ok-report_arrival-in-Ok-Fresh-clause-ticked : goal.returns-in_ok-report_arrival-in-Ok-Fresh-clause-ticked
 returns-in_ok-report_arrival-in-Ok-Fresh-clause-ticked g c = err-anyway _ c.judged.result (ticked-child _ c.args.self.now.within c.args.self.now.watch (g.S.Pairs.kept c.args.space.now) (g.S.Pairs.kept c.child.new.self) (g.S.Pairs.kept c.judged.new.space) c.args.at c.args.a.now c.child.result c.args.events.now c.args.steps.now c.child.new.steps c.judged.ensures.kept c.child.ensures.ticks c.child.ensures.arrival c.child.ensures.refused)
 
@@ -160,10 +120,19 @@ returns-in_ok-report_arrival-in-Ok-Seen-clause-events_named g c = events-named (
 pub returns-in_ok-report_arrival-in-Ok-Pruned-clause-events_named : goal.returns-in_ok-report_arrival-in-Ok-Pruned-clause-events_named
 returns-in_ok-report_arrival-in-Ok-Pruned-clause-events_named g c = events-named (g.S.Pairs.task c.args.space.now) c.args.self.now.watch c.args.events.now c.report_arrival-in-Ok-Pruned.new.events _ c.requires.events (event-named (g.S.Pairs.task c.args.space.now) c.args.at c.args.a.now arrival.Pruned c.requires.named) c.in_ok-report_arrival-in-Ok-Pruned.ensures
 
-pub returns-in_ok-path-in-Err-RangeHere-clause-path_named : goal.returns-in_ok-path-in-Err-RangeHere-clause-path_named
-returns-in_ok-path-in-Err-RangeHere-clause-path_named g c = subst (λ t. AreNamedIn t c.in_ok-path-in-Err-RangeHere.path) c.child.ensures.task c.in_ok-path-in-Err-RangeHere.ensures.named
+pub child_fault-requires : goal.child_fault-requires
+child_fault-requires g c = record {
+  at = subst (λ xs. c.args.at < length xs) (sym c.in-Err.ensures.refused) (slice_get_within _ _ c.requires.turn.pair c.requires.turn.is_pair);
+  named = subst (λ t. IsNamedIn t c.args.a.now) (sym c.child.ensures.task) c.requires.named;
+}
 
-pub returns-in_ok-push-in-Err-RangeAfter-clause-path_named : goal.returns-in_ok-push-in-Err-RangeAfter-clause-path_named
-returns-in_ok-push-in-Err-RangeAfter-clause-path_named g c =
-    subst (AreNamedIn (g.S.Pairs.task c.args.space.now)) (sym c.in_ok-push-in-Err-RangeAfter.ensures)
-    (path-named (g.S.Pairs.task c.args.space.now) c.in_ok-path-in-Err-RangeAfter.path c.in_ok-action-in-Err-RangeAfter.action (subst (λ t. AreNamedIn t c.in_ok-path-in-Err-RangeAfter.path) c.child.ensures.task c.in_ok-path-in-Err-RangeAfter.ensures.named) (subst (IsNamedIn (g.S.Pairs.task c.args.space.now)) (sym c.in_ok-action-in-Err-RangeAfter.ensures.same) c.requires.named))
+pub returns-in-Err-clause-fault : goal.returns-in-Err-clause-fault
+returns-in-Err-clause-fault g c =
+    child-fault _ _ _ _ _ c.args.a.now c.requires.turn c.in-Err.fault c.child_fault.result (λ x e. c.child_fault.ensures.fault x (subst (λ xs. slice_get xs c.args.at ≡ Some x) (sym c.in-Err.ensures.refused) e))
+    c.in-Err.ensures.cause
+
+pub returns-in-Err-clause-ticked : goal.returns-in-Err-clause-ticked
+returns-in-Err-clause-ticked g c = ticked-child _ c.args.self.now.within c.args.self.now.watch (g.S.Pairs.kept c.args.space.now) (g.S.Pairs.kept c.child.new.self) (g.S.Pairs.kept c.child.new.self) c.args.at c.args.a.now c.child.result c.args.events.now c.args.steps.now c.child.new.steps refl c.child.ensures.ticks c.child.ensures.arrival c.child.ensures.refused
+
+pub returns-in-Err-clause-path_named : goal.returns-in-Err-clause-path_named
+returns-in-Err-clause-path_named g c = subst (λ t. FaultIsNamed t c.child_fault.result) c.child.ensures.task c.child_fault.ensures.named

@@ -4,20 +4,16 @@ use Rattle.std.proofs.Common.{◌≡◌, ◌+◌, [], take, slice_get, Some, ref
 use Rattle.std.proofs.lemmas.Option.{slice_get_read}
 use Rattle.tl_syntax.proofs.ListLaws.{Each-Among}
 use Rattle.tl_search.specs.Calls.{AreNamedIn}
-use Rattle.tl_search.specs.NamedAnswers.{IsNamedIn, OutcomeIsNamed, EventsAreNamed}
+use Rattle.tl_search.specs.NamedAnswers.{IsNamedIn, OutcomeIsNamed, EventsAreNamed, FaultIsNamed}
 use Rattle.tl_search.proofs.ListLaws.{among-at}
 use Rattle.tl_search.specs.ListedActions.{ListsActions}
 use Rattle.tl_breadth.specs.Outcomes.{HasTurn, IsTriedThen, IsSearching, IsBreadthFirstOutcome}
 use Rattle.tl_breadth.proofs.Growing.{grows-trans, grows-same}
 use Rattle.tl_breadth.specs.Events.{IsReported, ReportsArrival}
 use Rattle.tl_breadth.proofs.Reporting.{report-done}
-use Rattle.tl_breadth.proofs.Expanding.{expand-turn, expand-on, expand-done, expand-range}
+use Rattle.tl_breadth.proofs.Expanding.{expand-turn, expand-on, expand-done, expand-fault}
+use Rattle.tl_search.proofs.FaultLaws.{actions-of-pair}
 use Rattle.tl_breadth.proofs.levels.BreadthFirst.expand.Goals as goal
-
-pub returns-in-Err-RangeHere-clause-fault : goal.returns-in-Err-RangeHere-clause-fault
-returns-in-Err-RangeHere-clause-fault g c =
-    expand-range _ _ _ _ _ c.requires.ready c.in_ok-path-in-Err-RangeHere.path c.in-Err-RangeHere.note (λ x e. c.in_ok-path-in-Err-RangeHere.ensures.path x (subst (λ xs. slice_get xs c.args.at ≡ Some x) (sym c.actions.ensures.kept) e))
-    (rw c.in-Err-RangeHere.field-0-is at c.in-Err-RangeHere.ensures.cause)
 
 pub arrive-requires : goal.arrive-requires
 arrive-requires g c =
@@ -108,14 +104,21 @@ returns-in_err-outcome-clause-ticked g c = err-anyway (Ticks (g.S.Pairs.problem 
     (subst (λ p. TicksArrival p c.args.self.now.within c.args.self.now.watch old new c.args.at c.a-item.result c.loop-a.events c.loop-a.steps c.arrive.new.steps) i.problem c.in_err-outcome.ensures.ticked)
     from c.loop-a.a-index r.pair c.as_slice-a-items.result.now (q.stay c.args.at r.pair r.is_pair) r.short (i.lists r.pair r.is_pair) (slice_get_read _ _ c.loop-a.a-index c.a-item.result refl c.loop-a-test.true c.a-item.is) (i.reported from h))
 
-pub unreachable-requires : goal.unreachable-requires
-unreachable-requires g c = (rw c.in-Err-RangeAfter.field-0-is at c.in-Err-RangeAfter.ensures.cause) c.requires.ready.pair c.requires.ready.is_pair
-
 pub returns-in-Some-clause-plan_named : goal.returns-in-Some-clause-plan_named
 returns-in-Some-clause-plan_named g c = subst (λ t. OutcomeIsNamed t c.in-Some.outcome) c.loop-a.invariant.task (rw c.in-Some.is at c.in_ok-outcome.ensures.plan_named)
 
 pub returns-in-Some-clause-events_named : goal.returns-in-Some-clause-events_named
 returns-in-Some-clause-events_named g c = subst (λ t. EventsAreNamed t c.arrive.new.events) c.loop-a.invariant.task c.in_ok-outcome.ensures.events_named
 
-pub returns-in-Err-RangeHere-clause-path_named : goal.returns-in-Err-RangeHere-clause-path_named
-returns-in-Err-RangeHere-clause-path_named g c = subst (λ t. AreNamedIn t c.in_ok-path-in-Err-RangeHere.path) c.actions.ensures.task c.in_ok-path-in-Err-RangeHere.ensures.named
+pub pair_fault-requires-clause-here : goal.pair_fault-requires-clause-here
+pair_fault-requires-clause-here g c =
+    let r = c.requires.ready in
+    actions-of-pair _ r.pair.node c.in-Err.fault (c.in-Err.ensures.cause r.pair r.is_pair)
+
+pub returns-in-Err-clause-fault : goal.returns-in-Err-clause-fault
+returns-in-Err-clause-fault g c =
+    expand-fault _ _ _ _ _ c.requires.ready c.in-Err.fault c.pair_fault.result (λ x e. c.pair_fault.ensures.fault x (subst (λ xs. slice_get xs c.args.at ≡ Some x) (sym c.actions.ensures.kept) e))
+    c.in-Err.ensures.cause
+
+pub returns-in-Err-clause-path_named : goal.returns-in-Err-clause-path_named
+returns-in-Err-clause-path_named g c = subst (λ t. FaultIsNamed t c.pair_fault.result) c.actions.ensures.task c.pair_fault.ensures.named

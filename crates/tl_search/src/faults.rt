@@ -1,0 +1,106 @@
+// A search's faults, as they come of those of its space, with the paths of its pairs.
+ghost use Rattle.std.specs.Prelude.{◌≡◌, ◌<◌, [], ◌∷◌, ◌++◌, length, IfOk};
+ghost use Rattle.tl_search.specs.Calls.{ForPair, AreNamedIn};
+ghost use Rattle.tl_search.specs.Faults.{IsFaultAfter, IsOfPair, TellsChild, TellsPair};
+ghost use Rattle.tl_search.specs.NamedAnswers.{FaultIsNamed, IsNamedIn};
+
+use crate::fault::{SearchFault, SpaceFault};
+use crate::pairs::Pairs;
+use std::alloc::Global;
+use tl_eval::RangeNote;
+use tl_terms::{Action, Actions, NoMemory};
+
+/// The fault of an operation past range in the world of a pair.
+pub fn fault_at<S: Pairs>(
+    alloc: Global,
+    space: &S,
+    at: usize,
+    note: RangeNote,
+) -> SearchFault
+    requires { at < length (S.kept space.now) }
+    ensures fault { ForPair (S.kept space.now) at (λ x. IsFaultAfter x.path note result) }
+    ensures named { FaultIsNamed (S.task space.now) result }
+{
+    match space.path(alloc, at) {
+        Ok(path) => SearchFault::Range { path, note },
+        Err(_) => SearchFault::NoMemory,
+    }
+}
+
+/// The path of a pair with one action more.
+fn path_after<S: Pairs>(
+    alloc: Global,
+    space: &S,
+    at: usize,
+    a: &Action,
+) -> Result<Actions, NoMemory>
+    requires at { at < length (S.kept space.now) }
+    requires named { IsNamedIn (S.task space.now) a.now }
+    ensures path { IfOk result
+        (λ path. ForPair (S.kept space.now) at (λ x. path ≡ x.path ++ a.now ∷ [])) }
+    ensures named { IfOk result (AreNamedIn (S.task space.now)) }
+{
+    let mut path = space.path(alloc, at)?;
+    let action = a.copy(alloc)?;
+    path.push(action)?;
+    Ok(path)
+}
+
+/// The fault of an operation past range in the world after an action of a pair.
+pub fn fault_after<S: Pairs>(
+    alloc: Global,
+    space: &S,
+    at: usize,
+    a: &Action,
+    note: RangeNote,
+) -> SearchFault
+    requires at { at < length (S.kept space.now) }
+    requires named { IsNamedIn (S.task space.now) a.now }
+    ensures fault { ForPair (S.kept space.now) at
+        (λ x. IsFaultAfter (x.path ++ a.now ∷ []) note result) }
+    ensures named { FaultIsNamed (S.task space.now) result }
+{
+    match path_after(alloc, space, at, a) {
+        Ok(path) => SearchFault::Range { path, note },
+        Err(_) => SearchFault::NoMemory,
+    }
+}
+
+/// The fault of a call of the space that looks at a pair.
+pub fn pair_fault<S: Pairs>(
+    alloc: Global,
+    space: &S,
+    at: usize,
+    fault: SpaceFault,
+) -> SearchFault
+    requires at { at < length (S.kept space.now) }
+    requires here { IsOfPair fault }
+    ensures fault { ForPair (S.kept space.now) at (λ x. TellsPair x.path fault result) }
+    ensures named { FaultIsNamed (S.task space.now) result }
+{
+    match fault {
+        SpaceFault::RangeHere(note) => fault_at(alloc, space, at, note),
+        SpaceFault::RangeAfter(_) => unreachable!(),
+        SpaceFault::NoMemory => SearchFault::NoMemory,
+    }
+}
+
+/// The fault at which an action of a pair ends.
+pub fn child_fault<S: Pairs>(
+    alloc: Global,
+    space: &S,
+    at: usize,
+    a: &Action,
+    fault: SpaceFault,
+) -> SearchFault
+    requires at { at < length (S.kept space.now) }
+    requires named { IsNamedIn (S.task space.now) a.now }
+    ensures fault { ForPair (S.kept space.now) at (λ x. TellsChild x.path a.now fault result) }
+    ensures named { FaultIsNamed (S.task space.now) result }
+{
+    match fault {
+        SpaceFault::RangeHere(note) => fault_at(alloc, space, at, note),
+        SpaceFault::RangeAfter(note) => fault_after(alloc, space, at, a, note),
+        SpaceFault::NoMemory => SearchFault::NoMemory,
+    }
+}
