@@ -3,7 +3,7 @@ use Rattle.std.proofs.Common.{◌≡◌, ◌∷◌, ◌++◌, ℕ, List, [], Opt
 use Rattle.std.specs.Option.{option_map}
 use Rattle.tl_syntax.specs.declared.action.Action.{Action}
 use Rattle.tl_terms.specs.Acceptance.{states_from, states}
-use Rattle.tl_terms.specs.Looked.{looked_by_progressing}
+use Rattle.tl_terms.specs.Looked.{looked_by_action, looked_by_idling, looked_by_progressing}
 use Rattle.tl_terms.specs.Pairs.{Pair, pair_of}
 use Rattle.tl_terms.specs.Problem.{PlainProblem}
 use Rattle.tl_terms.specs.Step.{step}
@@ -17,8 +17,11 @@ use Rattle.tl_search.specs.declared.fault.SearchFault.TheVariants as fault
 use Rattle.tl_search.proofs.PathLaws.{pair-onward}
 use Rattle.tl_search.proofs.RangeLaws.{has-states}
 use Rattle.tl_cert.specs.Causes.{IsListedBySome, IsNoneCause, IsNoneFaultOf, IsVisited}
-use Rattle.tl_search.specs.Faults.{IsFaultAfter}
-use Rattle.tl_cert.specs.Checking.{IsActingCause, IsIdlingCause, IsJudgingCause, IsProgressingCause, IsRootCause, IsTurnCause, IsVisitCause}
+use Rattle.tl_search.specs.Causes.{IsCausedByAcceptance, IsCausedByActions}
+use Rattle.tl_search.specs.Faults.{IsFaultAfter, TellsPair}
+use Rattle.tl_search.specs.declared.fault.SpaceFault.{SpaceFault}
+use Rattle.tl_search.specs.declared.fault.SpaceFault.TheVariants as space
+use Rattle.tl_cert.specs.Checking.{IsActingCause, IsIdlingCause, IsJudgingCause, IsListingCause, IsProgressingCause, IsRootCause, IsTurnCause, IsVisitCause}
 use Rattle.tl_cert.specs.Links.{Lists}
 use Rattle.tl_cert.specs.declared.proof.Link.{Link}
 use Rattle.tl_cert.proofs.GoodLinks.{lists-end}
@@ -81,6 +84,20 @@ module _ (p : PlainProblem) (bound : Option ℕ) (links : List Link) where
   fault-at-node listed k x lists l e f (inr h) = turning x (lists-end p bound links listed lists k x e).0 (λ a. inr (record { listed = listed; lists = lists; number = k; node = e; asked = h.0 })) f h.1
 
 -- ---- the path to a fault
+
+-- where the actions of the node are listed
+pub listing-told : (p : PlainProblem) (x : KeptPair) (s : SpaceFault) (f : SearchFault) → TellsPair x.path s f → IsCausedByActions p x.node s → IsListingCause p x f
+listing-told p x s fault.NoMemory t h = tt
+listing-told p x (space.RangeHere note) (fault.Range path o) t h = (t.0, (h.0, subst (Tells (looked_by_action p x.node.world h.0)) (sym t.1) h.1))
+listing-told p x (space.RangeAfter note) (fault.Range path o) t h = absurd t
+listing-told p x space.NoMemory (fault.Range path o) t h = absurd t
+
+-- where it is tested whether the node is accepted
+pub idling-told : (p : PlainProblem) (x : KeptPair) (s : SpaceFault) (f : SearchFault) → TellsPair x.path s f → IsCausedByAcceptance p x.node s → IsIdlingCause p x f
+idling-told p x s fault.NoMemory t h = tt
+idling-told p x (space.RangeHere note) (fault.Range path o) t h = (t.0, subst (Tells (looked_by_idling p x.node.world x.node.formula)) (sym t.1) h)
+idling-told p x (space.RangeAfter note) (fault.Range path o) t h = absurd t
+idling-told p x space.NoMemory (fault.Range path o) t h = absurd t
 
 -- after an action of the node
 pub after-cause : (p : PlainProblem) (x : KeptPair) (a : Action) (note : RangeNote) (f : SearchFault) → IsFaultAfter (x.path ++ a ∷ []) note f → (w : World) × (step p x.node.world a ≡ Some w) × Tells (looked_by_progressing p w x.node.formula) note → IsVisitCause p a x f

@@ -9,7 +9,7 @@ use crate::faults::child_fault;
 use crate::known::listed;
 use crate::verdict::NoneVerdict;
 use std::sync::ledger::Ledger;
-use tl_search::{Arrival, Pairs, SearchFault, SpaceFault, fault_at};
+use tl_search::{Arrival, Pairs, SearchFault, pair_fault};
 use tl_terms::{Action, Steps};
 
 impl Checking {
@@ -100,9 +100,7 @@ impl Checking {
     {
         match space.accepted(at) {
             Ok(accepted) => Ok(accepted),
-            Err(SpaceFault::RangeHere(note)) => Err(fault_at(self.alloc, space, at, note)),
-            Err(SpaceFault::RangeAfter(_)) => unreachable!(),
-            Err(SpaceFault::NoMemory) => Err(SearchFault::NoMemory),
+            Err(fault) => Err(pair_fault(self.alloc, space, at, fault)),
         }
     }
 

@@ -6,7 +6,7 @@ ghost use Rattle.tl_search.specs.Calls.{IsExecutableAt};
 ghost use Rattle.tl_cert.specs.Checking.{AreActionsAt, AreKnownActions, IsListingFault};
 
 use std::alloc::Global;
-use tl_search::{Pairs, SearchFault, SpaceFault, fault_at};
+use tl_search::{Pairs, SearchFault, pair_fault};
 use tl_terms::{Action, Actions};
 
 /// The executable actions of a node, which stay known while links that start from it come one after
@@ -49,9 +49,7 @@ pub(crate) fn listed<S: Pairs>(
 {
     match space.actions(at) {
         Ok(actions) => Ok(NodeActions { at, actions }),
-        Err(SpaceFault::RangeHere(note)) => Err(fault_at(alloc, space, at, note)),
-        Err(SpaceFault::RangeAfter(_)) => unreachable!(),
-        Err(SpaceFault::NoMemory) => Err(SearchFault::NoMemory),
+        Err(fault) => Err(pair_fault(alloc, space, at, fault)),
     }
 }
 

@@ -1,5 +1,19 @@
+use Rattle.std.proofs.Common.{◌≡◌, slice_get, Some, sym, subst}
+use Rattle.tl_search.specs.NamedAnswers.{FaultIsNamed}
+use Rattle.tl_search.proofs.FaultLaws.{acceptance-of-pair}
 use Rattle.tl_search.proofs.ListLaws.{get-inside}
+use Rattle.tl_cert.proofs.FaultLaws.{idling-told}
 use Rattle.tl_cert.proofs.checking.Checking.accepted.Goals as goal
 
-pub unreachable-requires : goal.unreachable-requires
-unreachable-requires g c = let x = get-inside (g.S.Pairs.kept c.args.space.now) c.args.at c.requires.at in (rw c.in-Err-RangeAfter.field-0-is at c.in-Err-RangeAfter.ensures.cause) x.0 x.1
+pub pair_fault-requires-clause-here : goal.pair_fault-requires-clause-here
+pair_fault-requires-clause-here g c =
+    let x = get-inside (g.S.Pairs.kept c.args.space.now) c.args.at c.requires.at in
+    acceptance-of-pair _ x.0.node c.in-Err.fault (c.in-Err.ensures.cause x.0 x.1)
+
+pub returns-in-Err-clause-fault : goal.returns-in-Err-clause-fault
+returns-in-Err-clause-fault g c = λ x e.
+    idling-told _ x c.in-Err.fault c.pair_fault.result
+    (c.pair_fault.ensures.fault x (subst (λ xs. slice_get xs c.args.at ≡ Some x) (sym c.accepted.ensures.kept) e)) (c.in-Err.ensures.cause x e)
+
+pub returns-in-Err-clause-path_named : goal.returns-in-Err-clause-path_named
+returns-in-Err-clause-path_named g c = subst (λ t. FaultIsNamed t c.pair_fault.result) c.accepted.ensures.task c.pair_fault.ensures.named
