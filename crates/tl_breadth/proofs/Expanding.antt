@@ -22,7 +22,7 @@ use Rattle.tl_breadth.proofs.BreadthAnswers.{kept-distance, kept-open, kept-pair
 use Rattle.tl_breadth.proofs.Growing.{levels-grow}
 use Rattle.tl_search.specs.declared.arrival.Arrival.TheVariants as arrival
 use Rattle.tl_search.specs.Arrivals.{Arrives}
-use Rattle.tl_search.specs.Causes.{IsCausedByActions}
+use Rattle.tl_search.specs.Causes.{IsCausedByActions, IsRootFault}
 use Rattle.tl_search.specs.Faults.{TellsPair}
 use Rattle.tl_search.specs.declared.fault.SearchFault.{SearchFault}
 use Rattle.tl_search.specs.declared.fault.SearchFault.TheVariants as fault
@@ -157,3 +157,12 @@ root-not-seen old new o m e h = let q : slice_get [] m ≡ Some h.1.0 = subst (�
 
 pub root-range : (p : PlainProblem) (n : ℕ) (note : RangeNote) → Tells (looked_by_progressing p p.first p.control) note → IsRangeCause p n [] (operation_of note) × HasNoPlanBelow p 0
 root-range p n note t = (range-at-root p n (operation_of note) t.1 t.0, λ plan h. omega arith)
+
+-- the search's fault at the root has its cause where the space's fault has
+pub root-fault : (p : PlainProblem) (n : ℕ) (s : SpaceFault) (f : SearchFault) → TellsPair [] s f → IsRootFault p s → IsBreadthFirstFault p n f
+root-fault p n s fault.NoMemory t h = tt
+root-fault p n (space.RangeHere note) (fault.Range path o) t h =
+    subst (λ (us : List Action). IsBreadthFirstFault p n (fault.Range us o)) (sym t.0)
+    (subst (λ (m : RangeNote). IsBreadthFirstFault p n (fault.Range [] m)) (sym t.1) (root-range p n note h))
+root-fault p n (space.RangeAfter note) (fault.Range path o) t h = absurd h
+root-fault p n space.NoMemory (fault.Range path o) t h = absurd t

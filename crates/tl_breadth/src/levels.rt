@@ -9,8 +9,8 @@ ghost use Rattle.tl_breadth.specs.Outcomes.{IsAtRootIn, IsAtLevelIn, LeavesLevel
 
 use std::alloc::Global;
 use std::sync::ledger::Ledger;
-use tl_search::{Arrival, Event, Events, Outcome, Pairs, SearchFault, SpaceFault, report_root};
-use tl_terms::{Actions, Steps};
+use tl_search::{Arrival, Event, Events, Outcome, Pairs, SearchFault, report_root, root_fault};
+use tl_terms::Steps;
 
 /// What a search is given, and does not change.
 #[derive(Drop)]
@@ -74,12 +74,7 @@ impl BreadthFirst {
                 report_root(events, self.watch, Event::RootPruned)?;
                 return Ok(Outcome::NoPlan);
             }
-            Err(SpaceFault::RangeHere(note)) => {
-                let path = Actions::new(self.alloc);
-                return Err(SearchFault::Range { path, note });
-            }
-            Err(SpaceFault::RangeAfter(_)) => unreachable!(),
-            Err(SpaceFault::NoMemory) => return Err(SearchFault::NoMemory),
+            Err(fault) => return Err(root_fault(self.alloc, fault)),
         }
         self.all_levels(space, events, steps)
     }

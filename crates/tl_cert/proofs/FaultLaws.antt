@@ -17,7 +17,7 @@ use Rattle.tl_search.specs.declared.fault.SearchFault.TheVariants as fault
 use Rattle.tl_search.proofs.PathLaws.{pair-onward}
 use Rattle.tl_search.proofs.RangeLaws.{has-states}
 use Rattle.tl_cert.specs.Causes.{IsListedBySome, IsNoneCause, IsNoneFaultOf, IsVisited}
-use Rattle.tl_search.specs.Causes.{IsCausedByAcceptance, IsCausedByActions}
+use Rattle.tl_search.specs.Causes.{IsCausedByAcceptance, IsCausedByActions, IsRootFault}
 use Rattle.tl_search.specs.Faults.{IsFaultAfter, TellsPair}
 use Rattle.tl_search.specs.declared.fault.SpaceFault.{SpaceFault}
 use Rattle.tl_search.specs.declared.fault.SpaceFault.TheVariants as space
@@ -84,6 +84,13 @@ module _ (p : PlainProblem) (bound : Option ℕ) (links : List Link) where
   fault-at-node listed k x lists l e f (inr h) = turning x (lists-end p bound links listed lists k x e).0 (λ a. inr (record { listed = listed; lists = lists; number = k; node = e; asked = h.0 })) f h.1
 
 -- ---- the path to a fault
+
+-- at the root
+pub root-told : (p : PlainProblem) (s : SpaceFault) (f : SearchFault) → TellsPair [] s f → IsRootFault p s → IsRootCause p f
+root-told p s fault.NoMemory t h = tt
+root-told p (space.RangeHere note) (fault.Range path o) t h = (t.0, subst (Tells (looked_by_progressing p p.first p.control)) (sym t.1) h)
+root-told p (space.RangeAfter note) (fault.Range path o) t h = absurd h
+root-told p space.NoMemory (fault.Range path o) t h = absurd t
 
 -- where the actions of the node are listed
 pub listing-told : (p : PlainProblem) (x : KeptPair) (s : SpaceFault) (f : SearchFault) → TellsPair x.path s f → IsCausedByActions p x.node s → IsListingCause p x f

@@ -6,8 +6,8 @@ ghost use Rattle.tl_cert.specs.Links.{ListsRoot};
 
 use crate::known::NodeActions;
 use std::alloc::{AllocError, Global};
-use tl_search::{Arrival, Pairs, SearchFault, SpaceFault};
-use tl_terms::{Actions, Numbers32};
+use tl_search::{Arrival, Pairs, SearchFault, root_fault};
+use tl_terms::Numbers32;
 
 /// What is known while a proof is checked, beside the nodes that the space keeps. Until all links
 /// are listed these are the listed ones, under the same numbers.
@@ -47,12 +47,7 @@ fn list_root<S: Pairs>(alloc: Global, space: &mut S) -> Result<Numbers32, Search
         Ok(Arrival::Fresh(_)) => Ok(root_depth(alloc)?),
         Ok(Arrival::Pruned) => Ok(Numbers32::new(alloc)),
         Ok(Arrival::Seen(_)) => unreachable!(),
-        Err(SpaceFault::RangeHere(note)) => {
-            let path = Actions::new(alloc);
-            Err(SearchFault::Range { path, note })
-        }
-        Err(SpaceFault::RangeAfter(_)) => unreachable!(),
-        Err(SpaceFault::NoMemory) => Err(SearchFault::NoMemory),
+        Err(fault) => Err(root_fault(alloc, fault)),
     }
 }
 

@@ -16,6 +16,10 @@ use Rattle.tl_search.specs.KeptPairs.{KeptPair, pairs_of}
 use Rattle.tl_search.specs.PairGraph.{unless_pruned, pair_graph}
 use Rattle.tl_search.specs.Plans.{HasNoPlan}
 use Rattle.tl_search.specs.declared.arrival.Arrival.TheVariants as arrival
+use Rattle.tl_search.specs.Causes.{IsRootFault}
+use Rattle.tl_search.specs.Faults.{TellsPair}
+use Rattle.tl_search.specs.declared.fault.SpaceFault.{SpaceFault}
+use Rattle.tl_search.specs.declared.fault.SpaceFault.TheVariants as space
 use Rattle.tl_search.specs.declared.fault.SearchFault.{SearchFault}
 use Rattle.tl_search.specs.declared.fault.SearchFault.TheVariants as fault
 use Rattle.tl_search.proofs.KeptLaws.{length-pairs}
@@ -193,6 +197,14 @@ root-not-seen old new o m e h = let q : slice_get [] m ≡ Some h.1.0 = subst (�
 
 pub root-range : (p : PlainProblem) (costs : List ℕ) (b : ℕ) (path : List Action) (note : RangeNote) → path ≡ [] → Tells (looked_by_progressing p p.first p.control) note → IsCheapestCause p costs b path (operation_of note)
 root-range p costs b path note e t = subst (λ us. IsCheapestCause p costs b us (operation_of note)) (sym e) (record { cause = range-at-root p b (operation_of note) t.1 t.0; begins = inl refl })
+
+-- the search's fault at the root has its cause where the space's fault has
+pub root-fault : (p : PlainProblem) (costs : List ℕ) (b : ℕ) (s : SpaceFault) (f : SearchFault) → TellsPair [] s f → IsRootFault p s → IsCheapestFault p costs b f
+root-fault p costs b s fault.NoMemory t h = tt
+root-fault p costs b (space.RangeHere note) (fault.Range path o) t h =
+    subst (λ (m : RangeNote). IsCheapestFault p costs b (fault.Range path m)) (sym t.1) (root-range p costs b path note t.0 h)
+root-fault p costs b (space.RangeAfter note) (fault.Range path o) t h = absurd h
+root-fault p costs b space.NoMemory (fault.Range path o) t h = absurd t
 
 -- ---- calm searches
 

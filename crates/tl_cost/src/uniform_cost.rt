@@ -11,8 +11,8 @@ use crate::turn::UniformCost;
 use crate::ways::{Found, Way};
 use std::alloc::Global;
 use std::sync::ledger::Ledger;
-use tl_search::{Arrival, Pairs, SearchFault, SpaceFault};
-use tl_terms::{Actions, Steps};
+use tl_search::{Arrival, Pairs, SearchFault, root_fault};
+use tl_terms::Steps;
 
 impl UniformCost<'_> {
     /// The root, and then the pairs in their turns.
@@ -43,12 +43,7 @@ impl UniformCost<'_> {
             }
             Ok(Arrival::Seen(_)) => unreachable!(),
             Ok(Arrival::Pruned) => Ok(CostOutcome::NoPlan),
-            Err(SpaceFault::RangeHere(note)) => {
-                let path = Actions::new(self.alloc);
-                Err(SearchFault::Range { path, note })
-            }
-            Err(SpaceFault::RangeAfter(_)) => unreachable!(),
-            Err(SpaceFault::NoMemory) => Err(SearchFault::NoMemory),
+            Err(fault) => Err(root_fault(self.alloc, fault)),
         }
     }
 

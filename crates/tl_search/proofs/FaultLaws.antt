@@ -1,10 +1,16 @@
 -- Which of a space's faults come of which of its calls.
 use Rattle.tl_terms.specs.Pairs.{Pair}
 use Rattle.tl_terms.specs.Problem.{PlainProblem}
-use Rattle.tl_search.specs.Causes.{IsCausedByActions, IsCausedByAcceptance}
+use Rattle.tl_search.specs.Causes.{IsRootFault, IsCausedByActions, IsCausedByAcceptance}
 use Rattle.tl_search.specs.Faults.{IsOfPair}
 use Rattle.tl_search.specs.declared.fault.SpaceFault.{SpaceFault}
 use Rattle.tl_search.specs.declared.fault.SpaceFault.TheVariants as space
+
+-- the pair of the empty path is looked at in the first world
+pub root-of-pair : (p : PlainProblem) (s : SpaceFault) → IsRootFault p s → IsOfPair s
+root-of-pair p (space.RangeHere note) h = tt
+root-of-pair p (space.RangeAfter note) h = h
+root-of-pair p space.NoMemory h = tt
 
 -- to list the actions of a pair looks at no world after an action
 pub actions-of-pair : (p : PlainProblem) (x : Pair) (s : SpaceFault) → IsCausedByActions p x s → IsOfPair s

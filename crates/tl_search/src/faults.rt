@@ -3,6 +3,7 @@ ghost use Rattle.std.specs.Prelude.{◌≡◌, ◌<◌, [], ◌∷◌, ◌++◌,
 ghost use Rattle.tl_search.specs.Calls.{ForPair, AreNamedIn};
 ghost use Rattle.tl_search.specs.Faults.{IsFaultAfter, IsOfPair, TellsChild, TellsPair};
 ghost use Rattle.tl_search.specs.NamedAnswers.{FaultIsNamed, IsNamedIn};
+ghost use Rattle.tl_world.specs.declared.task.Task.{Task};
 
 use crate::fault::{SearchFault, SpaceFault};
 use crate::pairs::Pairs;
@@ -63,6 +64,22 @@ pub fn fault_after<S: Pairs>(
     match path_after(alloc, space, at, a) {
         Ok(path) => SearchFault::Range { path, note },
         Err(_) => SearchFault::NoMemory,
+    }
+}
+
+/// The fault of the space at the pair of the empty path.
+pub fn root_fault(alloc: Global, fault: SpaceFault) -> SearchFault
+    requires { IsOfPair fault }
+    ensures fault { TellsPair [] fault result }
+    ensures named { (task : Task) → FaultIsNamed task result }
+{
+    match fault {
+        SpaceFault::RangeHere(note) => {
+            let path = Actions::new(alloc);
+            SearchFault::Range { path, note }
+        }
+        SpaceFault::RangeAfter(_) => unreachable!(),
+        SpaceFault::NoMemory => SearchFault::NoMemory,
     }
 }
 

@@ -1,18 +1,17 @@
+use Rattle.tl_search.proofs.FaultLaws.{root-of-pair}
 use Rattle.tl_breadth.specs.Events.{Ticks}
 use Rattle.tl_breadth.proofs.Growing.{err-map}
-use Rattle.tl_search.specs.Calls.{AreNamedIn}
 use Rattle.tl_search.specs.NamedAnswers.{OutcomeIsNamed, FaultIsNamed, EventsAreNamed}
 use Rattle.tl_search.proofs.NamedLaws.{events-named}
 use Rattle.tl_search.proofs.HistoryLaws.{ends-at-root}
 use Rattle.std.proofs.Common.{ℕ, [], Some, Ok, IfOk, IfErr, OnOk, sym, ap, ◌∙◌, subst}
-use Rattle.tl_breadth.specs.Outcomes.{IsBreadthFirstOutcome, IsBreadthFirstFault, AwaitsJudgement}
-use Rattle.tl_search.specs.declared.fault.SearchFault.TheVariants as fault
+use Rattle.tl_breadth.specs.Outcomes.{IsBreadthFirstOutcome, AwaitsJudgement}
 use Rattle.tl_search.specs.declared.event.Event.TheVariants as event
 use Rattle.tl_search.specs.Events.{events_after}
 use Rattle.tl_breadth.specs.Events.{IsReported, HasReported, EndsWithPath}
 use Rattle.tl_breadth.proofs.Growing.{ok-at}
 use Rattle.tl_breadth.proofs.Reporting.{ended, ends-at-last, report-root, report-no-root}
-use Rattle.tl_breadth.proofs.Expanding.{root-awaits, root-not-seen, root-pruned, root-range}
+use Rattle.tl_breadth.proofs.Expanding.{root-awaits, root-not-seen, root-pruned, root-fault}
 use Rattle.tl_breadth.proofs.levels.BreadthFirst.outcome.Goals as goal
 
 pub judged-requires : goal.judged-requires
@@ -25,10 +24,6 @@ returns-in-Some-clause-outcome g c =
 
 pub returns-in-Ok-Pruned-clause-outcome : goal.returns-in-Ok-Pruned-clause-outcome
 returns-in-Ok-Pruned-clause-outcome g c = root-pruned _ c.args.self.now.within _ _ _ c.requires.empty (rw c.in-Ok-Pruned.field-0-is at c.in-Ok-Pruned.ensures.arrival)
-
-pub returns-in-Err-RangeHere-clause-fault : goal.returns-in-Err-RangeHere-clause-fault
-returns-in-Err-RangeHere-clause-fault g c =
-    subst (λ us. IsBreadthFirstFault (g.S.Pairs.problem c.args.space.now) c.args.self.now.within (fault.Range us c.in-Err-RangeHere.note)) (sym c.new-path.ensures) (root-range _ c.args.self.now.within c.in-Err-RangeHere.note (rw c.in-Err-RangeHere.field-0-is at c.in-Err-RangeHere.ensures.cause))
 
 pub returns-clause-outcome : goal.returns-clause-outcome
 returns-clause-outcome g c =
@@ -86,9 +81,6 @@ returns-clause-ticked g c =
 pub unreachable-requires : goal.unreachable-requires
 unreachable-requires g c = root-not-seen _ _ _ _ c.requires.empty (rw c.in-Ok-Seen.field-0-is at c.in-Ok-Seen.ensures.arrival)
 
-pub unreachable-requires-in-Err-RangeAfter : goal.unreachable-requires-in-Err-RangeAfter
-unreachable-requires-in-Err-RangeAfter g c = rw c.in-Err-RangeAfter.field-0-is at c.in-Err-RangeAfter.ensures.cause
-
 pub all_levels-requires-clause-events : goal.all_levels-requires-clause-events
 all_levels-requires-clause-events g c = events-named (g.S.Pairs.task c.judged.new.space) c.args.self.now.watch [] c.report_root.new.events event.RootKept tt tt (c.in_ok-report_root-in-Ok-Fresh.ensures ∙ ap (λ es. events_after c.args.self.now.watch es event.RootKept) c.requires.events)
 
@@ -101,9 +93,6 @@ returns-in-Some-clause-events_named g c = events-named (g.S.Pairs.task c.args.sp
 pub returns-in-Ok-Pruned-clause-events_named : goal.returns-in-Ok-Pruned-clause-events_named
 returns-in-Ok-Pruned-clause-events_named g c = events-named (g.S.Pairs.task c.args.space.now) c.args.self.now.watch [] c.report_root-in-Ok-Pruned.new.events event.RootPruned tt tt (c.in_ok-report_root-in-Ok-Pruned.ensures ∙ ap (λ es. events_after c.args.self.now.watch es event.RootPruned) c.requires.events)
 
-pub returns-in-Err-RangeHere-clause-path_named : goal.returns-in-Err-RangeHere-clause-path_named
-returns-in-Err-RangeHere-clause-path_named g c = subst (AreNamedIn (g.S.Pairs.task c.args.space.now)) (sym c.new-path.ensures) tt
-
 pub returns-clause-plan_named : goal.returns-clause-plan_named
 returns-clause-plan_named g c = subst (λ t. IfOk c.all_levels.result (OutcomeIsNamed t)) (c.judged.ensures.task ∙ c.root.ensures.task) c.all_levels.ensures.plan_named
 
@@ -112,3 +101,12 @@ returns-clause-path_named g c = subst (λ t. IfErr c.all_levels.result (FaultIsN
 
 pub returns-clause-events_named : goal.returns-clause-events_named
 returns-clause-events_named g c = subst (λ t. OnOk c.all_levels.result (EventsAreNamed t c.all_levels.new.events)) (c.judged.ensures.task ∙ c.root.ensures.task) c.all_levels.ensures.events_named
+
+pub root_fault-requires : goal.root_fault-requires
+root_fault-requires g c = root-of-pair _ c.in-Err.fault c.in-Err.ensures.cause
+
+pub returns-in-Err-clause-fault : goal.returns-in-Err-clause-fault
+returns-in-Err-clause-fault g c = root-fault _ c.args.self.now.within c.in-Err.fault c.root_fault.result c.root_fault.ensures.fault c.in-Err.ensures.cause
+
+pub returns-in-Err-clause-path_named : goal.returns-in-Err-clause-path_named
+returns-in-Err-clause-path_named g c = c.root_fault.ensures.named (g.S.Pairs.task c.args.space.now)

@@ -1,10 +1,11 @@
+use Rattle.tl_search.proofs.FaultLaws.{root-of-pair}
 use Rattle.std.proofs.Common.{subst, IfOk}
 use Rattle.tl_search.specs.Kept.{AreKept}
 use Rattle.tl_search.specs.PairGraph.{pair_graph}
 use Rattle.tl_cost.specs.Outcomes.{IsCheapestOutcome}
 use Rattle.tl_cost.specs.Ticks.{IsTickedByTurns}
 use Rattle.tl_cost.proofs.Expanding.{between-same}
-use Rattle.tl_cost.proofs.Searching.{counted-none, root-between, root-not-seen, root-pruned, root-range, ticked-none}
+use Rattle.tl_cost.proofs.Searching.{counted-none, root-between, root-not-seen, root-pruned, ticked-none, root-fault}
 use Rattle.tl_cost.proofs.turn.UniformCost.outcome.Goals as goal
 
 pub all_turns-requires : goal.all_turns-requires
@@ -38,5 +39,12 @@ returns-in_ok-add-in-Ok-Fresh-clause-outcome g c = subst (λ p. IfOk c.all_turns
 pub returns-in_ok-add-in-Ok-Fresh-clause-steps : goal.returns-in_ok-add-in-Ok-Fresh-clause-steps
 returns-in_ok-add-in-Ok-Fresh-clause-steps g c = subst (λ p. IsTickedByTurns p c.args.steps.now (g.S.Pairs.kept c.all_turns.new.space) c.all_turns.new.steps) c.root.ensures.problem (c.all_turns.ensures.steps c.args.steps.now (counted-none (g.S.Pairs.problem c.root.new.self) c.args.steps.now (g.S.Pairs.kept c.root.new.self) c.add.new.self))
 
-pub returns-in-Err-RangeHere-clause-fault : goal.returns-in-Err-RangeHere-clause-fault
-returns-in-Err-RangeHere-clause-fault g c = root-range _ c.args.self.now.costs.now c.args.self.now.nodes c.new-path.result c.in-Err-RangeHere.note c.new-path.ensures (rw c.in-Err-RangeHere.field-0-is at c.in-Err-RangeHere.ensures.cause)
+pub root_fault-requires : goal.root_fault-requires
+root_fault-requires g c = root-of-pair _ c.in-Err.fault c.in-Err.ensures.cause
+
+pub returns-in-Err-clause-fault : goal.returns-in-Err-clause-fault
+returns-in-Err-clause-fault g c =
+    root-fault _ c.args.self.now.costs.now c.args.self.now.nodes c.in-Err.fault c.root_fault.result c.root_fault.ensures.fault c.in-Err.ensures.cause
+
+pub returns-in-Err-clause-path_named : goal.returns-in-Err-clause-path_named
+returns-in-Err-clause-path_named g c = c.root_fault.ensures.named (g.S.Pairs.task c.args.space.now)
