@@ -6,8 +6,6 @@ use Rattle.tl_terms.specs.Acceptance.{states_from, states}
 use Rattle.tl_terms.specs.Looked.{looked_by_action, looked_by_idling, looked_by_progressing}
 use Rattle.tl_terms.specs.Pairs.{Pair, pair_of}
 use Rattle.tl_terms.specs.Problem.{PlainProblem}
-use Rattle.tl_terms.specs.Step.{step}
-use Rattle.tl_terms.specs.World.{World}
 use Rattle.tl_eval.specs.Notes.{Tells, operation_of}
 use Rattle.tl_eval.specs.declared.range.RangeNote.{RangeNote}
 use Rattle.tl_search.specs.KeptPairs.{KeptPair}
@@ -17,8 +15,8 @@ use Rattle.tl_search.specs.declared.fault.SearchFault.TheVariants as fault
 use Rattle.tl_search.proofs.PathLaws.{pair-onward}
 use Rattle.tl_search.proofs.RangeLaws.{has-states}
 use Rattle.tl_cert.specs.Causes.{IsListedBySome, IsNoneCause, IsNoneFaultOf, IsVisited}
-use Rattle.tl_search.specs.Causes.{IsCausedByAcceptance, IsCausedByActions, IsRootFault}
-use Rattle.tl_search.specs.Faults.{IsFaultAfter, TellsPair}
+use Rattle.tl_search.specs.Causes.{IsCausedByAcceptance, IsCausedByActions, IsCausedByChild, IsRootFault}
+use Rattle.tl_search.specs.Faults.{TellsChild, TellsPair}
 use Rattle.tl_search.specs.declared.fault.SpaceFault.{SpaceFault}
 use Rattle.tl_search.specs.declared.fault.SpaceFault.TheVariants as space
 use Rattle.tl_cert.specs.Checking.{IsActingCause, IsIdlingCause, IsJudgingCause, IsListingCause, IsProgressingCause, IsRootCause, IsTurnCause, IsVisitCause}
@@ -106,10 +104,12 @@ idling-told p x (space.RangeHere note) (fault.Range path o) t h = (t.0, subst (T
 idling-told p x (space.RangeAfter note) (fault.Range path o) t h = absurd t
 idling-told p x space.NoMemory (fault.Range path o) t h = absurd t
 
--- after an action of the node
-pub after-cause : (p : PlainProblem) (x : KeptPair) (a : Action) (note : RangeNote) (f : SearchFault) → IsFaultAfter (x.path ++ a ∷ []) note f → (w : World) × (step p x.node.world a ≡ Some w) × Tells (looked_by_progressing p w x.node.formula) note → IsVisitCause p a x f
-after-cause p x a note (fault.Range path o) h c = inr (h.0, (c.0, c.1, subst (Tells (looked_by_progressing p c.0 x.node.formula)) (sym h.1) c.2))
-after-cause p x a note fault.NoMemory h c = tt
+-- where an action of the node is visited
+pub visit-told : (p : PlainProblem) (a : Action) (x : KeptPair) (s : SpaceFault) (f : SearchFault) → TellsChild x.path a s f → IsCausedByChild p x.node a s → IsVisitCause p a x f
+visit-told p a x s fault.NoMemory t h = tt
+visit-told p a x (space.RangeHere note) (fault.Range path o) t h = inl (t.0, (a, subst (Tells (looked_by_action p x.node.world a)) (sym t.1) h))
+visit-told p a x (space.RangeAfter note) (fault.Range path o) t h = inr (t.0, (h.0, h.1, subst (Tells (looked_by_progressing p h.0 x.node.formula)) (sym t.1) h.2))
+visit-told p a x space.NoMemory (fault.Range path o) t h = absurd t
 
 -- a visited action is one of all actions
 pub visit-turn : (p : PlainProblem) (x : KeptPair) (a : Action) (f : SearchFault) → IsVisitCause p a x f → IsTurnCause p x f

@@ -5,11 +5,10 @@ ghost use Rattle.tl_search.specs.NamedAnswers.{FaultIsNamed, IsNamedIn};
 ghost use Rattle.tl_cert.specs.Checking.{depths_of, is_no_farther, IsIdlingFault, IsJudgingFault, IsNodesFault, IsTurnFault, IsVisitFault, JudgesNode, JudgesNodes, TellsClosed, TellsInside, VerdictIsNamed};
 
 use crate::checking::Checking;
-use crate::faults::child_fault;
 use crate::known::listed;
 use crate::verdict::NoneVerdict;
 use std::sync::ledger::Ledger;
-use tl_search::{Arrival, Pairs, SearchFault, pair_fault};
+use tl_search::{Arrival, Pairs, SearchFault, child_fault, pair_fault};
 use tl_terms::{Action, Steps};
 
 impl Checking {

@@ -3,7 +3,6 @@
 
 mod check;
 mod checking;
-mod faults;
 mod judging;
 mod known;
 pub mod laws;

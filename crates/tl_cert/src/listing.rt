@@ -6,11 +6,10 @@ ghost use Rattle.tl_cert.specs.Checking.{goes_on, IsRightSoFar, IsVisitFault, Li
 ghost use Rattle.tl_cert.specs.Links.{ListsRoot};
 
 use crate::checking::Checking;
-use crate::faults::child_fault;
 use crate::known::has_step;
 use crate::proof::Link;
 use std::sync::ledger::Ledger;
-use tl_search::{Arrival, Pairs, SearchFault};
+use tl_search::{Arrival, Pairs, SearchFault, child_fault};
 use tl_terms::Steps;
 
 impl Checking {

@@ -12,7 +12,7 @@ use tl_eval::RangeNote;
 use tl_terms::{Action, Actions, NoMemory};
 
 /// The fault of an operation past range in the world of a pair.
-pub fn fault_at<S: Pairs>(
+fn fault_at<S: Pairs>(
     alloc: Global,
     space: &S,
     at: usize,
@@ -48,7 +48,7 @@ fn path_after<S: Pairs>(
 }
 
 /// The fault of an operation past range in the world after an action of a pair.
-pub fn fault_after<S: Pairs>(
+fn fault_after<S: Pairs>(
     alloc: Global,
     space: &S,
     at: usize,

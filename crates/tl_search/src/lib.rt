@@ -14,7 +14,7 @@ mod reporting;
 pub use arrival::Arrival;
 pub use event::{Event, Events};
 pub use fault::{SearchFault, SpaceFault};
-pub use faults::{child_fault, fault_after, fault_at, pair_fault, root_fault};
+pub use faults::{child_fault, pair_fault, root_fault};
 pub use outcome::{Outcome, Report};
 pub use pairs::Pairs;
 pub use reporting::{report_arrival, report_root};

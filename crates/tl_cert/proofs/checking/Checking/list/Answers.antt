@@ -1,10 +1,12 @@
-use Rattle.std.proofs.Common.{◌<◌, ◌++◌, ◌∷◌, ◌+◌, ◌^◌, [], length, true, sym, ap, ◌∙◌, subst, arith}
+use Rattle.std.proofs.Common.{◌≡◌, ◌<◌, ◌++◌, ◌∷◌, ◌+◌, ◌^◌, [], length, slice_get, Some, true, sym, ap, ◌∙◌, subst, arith}
+use Rattle.tl_search.specs.Causes.{IsCausedByChild}
 use Rattle.tl_search.specs.Kept.{AreKept}
+use Rattle.tl_search.specs.NamedAnswers.{FaultIsNamed}
 use Rattle.tl_search.specs.PairGraph.{pair_graph}
 use Rattle.tl_search.specs.declared.arrival.Arrival.TheVariants as arrival
 use Rattle.tl_cert.specs.Checking.{ListsLink}
 use Rattle.tl_cert.proofs.Depths.{depth-at, there}
-use Rattle.tl_cert.proofs.FaultLaws.{err-anyway}
+use Rattle.tl_cert.proofs.FaultLaws.{err-anyway, visit-told}
 use Rattle.tl_cert.proofs.Judged.{from, link-fresh, arrives-over, ready-more, depth-small}
 use Rattle.tl_cert.proofs.checking.Checking.list.Goals as goal
 
@@ -50,3 +52,13 @@ returns-in_err-push-in-Ok-Fresh-clause-there g c = err-anyway (c.args.link.now.f
 
 pub returns-in-Err-clause-there : goal.returns-in-Err-clause-there
 returns-in-Err-clause-there g c = there c.args.self.now.depths (g.S.Pairs.kept c.args.space.now) c.args.link.now.from c.in-Some.depth c.requires.ready.depths c.in-Some.ensures
+
+pub returns-in-Err-clause-fault : goal.returns-in-Err-clause-fault
+returns-in-Err-clause-fault g c = λ x e.
+    let link = c.args.link.now in
+    let k : slice_get (g.S.Pairs.kept c.has_step.new.space) link.from ≡ Some x = subst (λ xs. slice_get xs link.from ≡ Some x) (sym c.has_step.ensures.kept) e in
+    visit-told _ link.action x c.in-Err.fault c.child_fault.result (c.child_fault.ensures.fault x (subst (λ xs. slice_get xs link.from ≡ Some x) (sym c.in-Err.ensures.refused) k))
+    (subst (λ p. IsCausedByChild p x.node link.action c.in-Err.fault) c.has_step.ensures.problem (c.in-Err.ensures.cause x k))
+
+pub returns-in-Err-clause-named : goal.returns-in-Err-clause-named
+returns-in-Err-clause-named g c = subst (λ t. FaultIsNamed t c.child_fault.result) (c.child.ensures.task ∙ c.has_step.ensures.task) c.child_fault.ensures.named

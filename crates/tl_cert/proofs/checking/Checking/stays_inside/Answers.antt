@@ -1,11 +1,12 @@
-use Rattle.std.proofs.Common.{◌<◌, length, slice_index, sym, ap, ◌∙◌, subst, arith}
+use Rattle.std.proofs.Common.{◌≡◌, ◌<◌, length, slice_get, slice_index, Some, sym, ap, ◌∙◌, subst, arith}
 use Rattle.std.proofs.lemmas.Option.{slice_get_within}
 use Rattle.tl_search.specs.Kept.{AreKept}
-use Rattle.tl_search.specs.NamedAnswers.{IsNamedIn}
+use Rattle.tl_search.specs.NamedAnswers.{FaultIsNamed, IsNamedIn}
 use Rattle.tl_search.specs.PairGraph.{pair_graph}
 use Rattle.tl_search.proofs.ListLaws.{get-inside}
 use Rattle.tl_cert.specs.Checking.{is_no_farther, TellsInside}
 use Rattle.tl_cert.proofs.Depths.{length-depths}
+use Rattle.tl_cert.proofs.FaultLaws.{visit-told}
 use Rattle.tl_cert.proofs.Judged.{inside-fresh, inside-seen}
 use Rattle.tl_cert.proofs.checking.Checking.stays_inside.Goals as goal
 
@@ -46,3 +47,11 @@ pub returns-in-Ok-Pruned-clause-kept : goal.returns-in-Ok-Pruned-clause-kept
 returns-in-Ok-Pruned-clause-kept g c t =
     let x = get-inside (g.S.Pairs.kept c.args.space.now) c.args.at c.requires.at in
     ((rw c.in-Ok-Pruned.field-0-is at c.in-Ok-Pruned.ensures.arrival) x.0 x.1).0
+
+pub returns-in-Err-clause-fault : goal.returns-in-Err-clause-fault
+returns-in-Err-clause-fault g c = λ x e.
+    visit-told _ c.args.a.now x c.in-Err.fault c.child_fault.result (c.child_fault.ensures.fault x (subst (λ xs. slice_get xs c.args.at ≡ Some x) (sym c.in-Err.ensures.refused) e))
+    (c.in-Err.ensures.cause x e)
+
+pub returns-in-Err-clause-path_named : goal.returns-in-Err-clause-path_named
+returns-in-Err-clause-path_named g c = subst (λ t. FaultIsNamed t c.child_fault.result) c.child.ensures.task c.child_fault.ensures.named
