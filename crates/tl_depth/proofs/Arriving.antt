@@ -38,6 +38,10 @@ use Rattle.tl_search.specs.declared.event.Event.{Event}
 use Rattle.tl_depth.specs.declared.stack.DepthFirst.{DepthFirst}
 use Rattle.tl_search.specs.declared.fault.SearchFault.{SearchFault}
 use Rattle.tl_search.specs.declared.fault.SearchFault.TheVariants as fault
+use Rattle.tl_search.specs.declared.fault.SpaceFault.{SpaceFault}
+use Rattle.tl_search.specs.declared.fault.SpaceFault.TheVariants as space
+use Rattle.tl_search.specs.Causes.{IsCausedByAcceptance}
+use Rattle.tl_search.specs.Faults.{TellsPair}
 use Rattle.tl_search.specs.declared.outcome.Outcome.{Outcome}
 use Rattle.tl_search.specs.declared.outcome.Outcome.TheVariants as outcome
 use Rattle.tl_depth.proofs.Spending.{led-near, led-spent}
@@ -135,9 +139,17 @@ module _ (p : PlainProblem) (b : ℕ) (kept : List Pair) (w : DepthFirst) (arriv
     leads-to = subst (λ us. IsOpen p us × (pair_of p us ≡ Some q)) (sym path-is) (answers.leads-any p w.within s.unpruned (Reported w.watch s.old s.before) s.old w.most.items s.front s.top calls s.action s.from s.running s.at_action s.at_node q leads)
 
     -- past range in the idling check of the pair that was kept
-    pub fault-idling : (path : List Action) → path ≡ path_of w.stack.items → (note : RangeNote) → Tells (looked_by_idling p q.world q.formula) note → IsDepthFirstFault p w.within (fault.Range path note)
+    fault-idling : (path : List Action) → path ≡ path_of w.stack.items → (note : RangeNote) → Tells (looked_by_idling p q.world q.formula) note → IsDepthFirstFault p w.within (fault.Range path note)
     fault-idling path e note t = subst (λ us. IsRangeCause p w.within us (operation_of note) × HasNoSimplePlanBefore p w.within us) (sym e)
         (range-by-idling p w.within (operation_of note) t.1 (path_of w.stack.items) q leads-to.1 leads-to.0 (omega (arith, path-left)) t.0, none-before)
+
+    -- the search's fault has its cause where the space's fault has
+    pub judged-fault : (r : SpaceFault) (f : SearchFault) → TellsPair (path_of w.stack.items) r f → IsCausedByAcceptance p q r → IsDepthFirstFault p w.within f
+    judged-fault r fault.NoMemory t h = tt
+    judged-fault (space.RangeHere note) (fault.Range path o) t h =
+        subst (λ (m : RangeNote). IsDepthFirstFault p w.within (fault.Range path m)) (sym t.1) (fault-idling path t.0 note h)
+    judged-fault (space.RangeAfter note) (fault.Range path o) t h = absurd t
+    judged-fault space.NoMemory (fault.Range path o) t h = absurd t
 
     -- past range in an action of the pair that is entered
     pub fault-entering : (k : ℕ) → slice_get kept k ≡ Some q → 0 < left → (f : SearchFault) → IsEntryFault p kept k (path_of w.stack.items) f → IsDepthFirstFault p w.within f

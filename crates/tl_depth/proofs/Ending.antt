@@ -38,6 +38,10 @@ use Rattle.tl_depth.specs.Search.{Reports}
 use Rattle.tl_search.specs.declared.outcome.Outcome.{Outcome}
 use Rattle.tl_search.specs.declared.fault.SearchFault.{SearchFault}
 use Rattle.tl_search.specs.declared.fault.SearchFault.TheVariants as fault
+use Rattle.tl_search.specs.declared.fault.SpaceFault.{SpaceFault}
+use Rattle.tl_search.specs.declared.fault.SpaceFault.TheVariants as space
+use Rattle.tl_search.specs.Causes.{IsCausedByAcceptance, IsRootFault}
+use Rattle.tl_search.specs.Faults.{TellsPair}
 use Rattle.tl_depth.specs.declared.stack.DepthFirst.{DepthFirst}
 use Rattle.tl_search.specs.declared.outcome.Outcome.TheVariants as outcome
 use Rattle.tl_depth.proofs.Following.{follow-ended, follow-root-last, follow-root-entered, pruned-in-depth}
@@ -102,7 +106,7 @@ none-before-empty : (p : PlainProblem) (n : ℕ) → HasNoSimplePlanBefore p n [
 none-before-empty p n other l t v = none-before other
 
 -- past range in the first world
-pub fault-root : (p : PlainProblem) (n : ℕ) (path : List Action) → path ≡ [] → (note : RangeNote) → Tells (looked_by_progressing p p.first p.control) note → IsDepthFirstFault p n (fault.Range path note)
+fault-root : (p : PlainProblem) (n : ℕ) (path : List Action) → path ≡ [] → (note : RangeNote) → Tells (looked_by_progressing p p.first p.control) note → IsDepthFirstFault p n (fault.Range path note)
 fault-root p n path e note t = subst (λ us. IsRangeCause p n us (operation_of note) × HasNoSimplePlanBefore p n us) (sym e) (range-at-root p n (operation_of note) t.1 t.0, none-before-empty p n)
 
 first-leads : (p : PlainProblem) (x : Pair) → unless_pruned (Some (first_pair p)) ≡ Some x → IsOpen p [] × (pair_of p [] ≡ Some x)
@@ -111,11 +115,26 @@ first-leads p x u =
     ((open-by-residual p []).1 (first_pair p, pair-first p, h.0), pair-first p ∙ ap Some h.1)
 
 -- past range in the idling check of the first pair
-pub fault-first-idling : (p q : PlainProblem) (n : ℕ) (x : Pair) → unless_pruned (Some (first_pair p)) ≡ Some x → q ≡ p → (path : List Action) → path ≡ [] → (note : RangeNote) → Tells (looked_by_idling q x.world x.formula) note → IsDepthFirstFault p n (fault.Range path note)
+fault-first-idling : (p q : PlainProblem) (n : ℕ) (x : Pair) → unless_pruned (Some (first_pair p)) ≡ Some x → q ≡ p → (path : List Action) → path ≡ [] → (note : RangeNote) → Tells (looked_by_idling q x.world x.formula) note → IsDepthFirstFault p n (fault.Range path note)
 fault-first-idling p q n x u same path e note h =
     let t = subst (λ z. Tells (looked_by_idling z x.world x.formula) note) same h in
     let l = first-leads p x u in
     subst (λ us. IsRangeCause p n us (operation_of note) × HasNoSimplePlanBefore p n us) (sym e) (range-by-idling p n (operation_of note) t.1 [] x l.1 l.0 (omega arith) t.0, none-before-empty p n)
+
+-- the search's fault at the root has its cause where the space's fault has
+pub root-fault : (p : PlainProblem) (n : ℕ) (s : SpaceFault) (f : SearchFault) → TellsPair [] s f → IsRootFault p s → IsDepthFirstFault p n f
+root-fault p n s fault.NoMemory t h = tt
+root-fault p n (space.RangeHere note) (fault.Range path o) t h = subst (λ (m : RangeNote). IsDepthFirstFault p n (fault.Range path m)) (sym t.1) (fault-root p n path t.0 note h)
+root-fault p n (space.RangeAfter note) (fault.Range path o) t h = absurd h
+root-fault p n space.NoMemory (fault.Range path o) t h = absurd t
+
+-- so it has where the first pair's acceptance is asked
+pub root-judged-fault : (p q : PlainProblem) (n : ℕ) (x : Pair) → unless_pruned (Some (first_pair p)) ≡ Some x → q ≡ p → (s : SpaceFault) (f : SearchFault) → TellsPair [] s f → IsCausedByAcceptance q x s → IsDepthFirstFault p n f
+root-judged-fault p q n x u same s fault.NoMemory t h = tt
+root-judged-fault p q n x u same (space.RangeHere note) (fault.Range path o) t h =
+    subst (λ (m : RangeNote). IsDepthFirstFault p n (fault.Range path m)) (sym t.1) (fault-first-idling p q n x u same path t.0 note h)
+root-judged-fault p q n x u same (space.RangeAfter note) (fault.Range path o) t h = absurd h
+root-judged-fault p q n x u same space.NoMemory (fault.Range path o) t h = absurd t
 
 -- past range in an action of the first pair
 pub fault-first : (p : PlainProblem) (n : ℕ) (kept : List Pair) (x : Pair) → unless_pruned (Some (first_pair p)) ≡ Some x → kept ≡ [] ++ x ∷ [] → 0 < n → {at : List Action} → at ≡ [] → (f : SearchFault) → IsEntryFault p kept 0 at f → IsDepthFirstFault p n f

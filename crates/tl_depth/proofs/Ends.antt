@@ -10,7 +10,8 @@ use Rattle.tl_search.specs.declared.event.Event.{Event}
 use Rattle.tl_eval.specs.declared.range.RangeNote.{RangeNote}
 use Rattle.tl_search.specs.declared.fault.SearchFault.{SearchFault}
 use Rattle.tl_search.specs.declared.fault.SearchFault.TheVariants as fault
-use Rattle.tl_depth.specs.Stacks.{IsEventOf, IsToldOf, IsRangeAfter}
+use Rattle.tl_search.specs.Faults.{IsFaultAfter}
+use Rattle.tl_depth.specs.Stacks.{IsEventOf, IsToldOf}
 use Rattle.tl_depth.specs.Levels.{stepped}
 use Rattle.tl_depth.specs.declared.level.Level.{Level}
 
@@ -110,7 +111,7 @@ pub pushed : {A : Type 0} (ok err : Bool) (old new : List A) (x : A) → new ≡
 pushed ok err old new x e h f = e ∙ ap (λ b. cond b (old ++ x ∷ []) old) (h ∙ ap not f)
 
 -- what holds of want of memory, and of past range after the path, holds of the fault
-pub range-holds : (P : SearchFault → Type 0) (at : List Action) (note : RangeNote) (f : SearchFault) → IsRangeAfter at note f → P fault.NoMemory → ((path : List Action) → path ≡ at → P (fault.Range path note)) → P f
+pub range-holds : (P : SearchFault → Type 0) (at : List Action) (note : RangeNote) (f : SearchFault) → IsFaultAfter at note f → P fault.NoMemory → ((path : List Action) → path ≡ at → P (fault.Range path note)) → P f
 range-holds P at note (fault.Range path told) h none k = subst (λ z. P (fault.Range path z)) (sym h.1) (k path h.0)
 range-holds P at note fault.NoMemory h none k = none
 

@@ -4,7 +4,12 @@ use Rattle.tl_syntax.specs.declared.action.Action.{Action}
 use Rattle.tl_syntax.proofs.ListLaws.{Each-append}
 use Rattle.tl_world.specs.declared.task.Task.{Task}
 use Rattle.tl_search.specs.Calls.{AreNamedIn}
-use Rattle.tl_search.specs.NamedAnswers.{IsNamedIn, EventsAreNamed}
+use Rattle.tl_search.specs.Faults.{TellsPair}
+use Rattle.tl_search.specs.NamedAnswers.{IsNamedIn, EventsAreNamed, FaultIsNamed}
+use Rattle.tl_search.specs.declared.fault.SearchFault.{SearchFault}
+use Rattle.tl_search.specs.declared.fault.SearchFault.TheVariants as fault
+use Rattle.tl_search.specs.declared.fault.SpaceFault.{SpaceFault}
+use Rattle.tl_search.specs.declared.fault.SpaceFault.TheVariants as space
 use Rattle.tl_depth.specs.Levels.{path_of, stepped}
 use Rattle.tl_depth.specs.NamedStacks.{StackIsNamed, SearchIsNamed}
 use Rattle.tl_depth.specs.Search.{at_hand}
@@ -26,6 +31,13 @@ module _ (task : Task) where
   pub path-of-named : (levels : List Level) → StackIsNamed task levels → AreNamedIn task (path_of levels)
   path-of-named [] h = tt
   path-of-named (c ∷ levels) h = (Each-append (IsNamedIn task) (at_hand (drop c.tried c.actions)) (path_of levels)).1 (of-hand (drop c.tried c.actions) (of-drop c.tried c.actions h.0), path-of-named levels h.1)
+
+  -- so is the fault that tells them
+  pub levels-named : (levels : List Level) (s : SpaceFault) (f : SearchFault) → TellsPair (path_of levels) s f → StackIsNamed task levels → FaultIsNamed task f
+  levels-named levels s fault.NoMemory t h = tt
+  levels-named levels (space.RangeHere note) (fault.Range path o) t h = subst (AreNamedIn task) (sym t.0) (path-of-named levels h)
+  levels-named levels (space.RangeAfter note) (fault.Range path o) t h = absurd t
+  levels-named levels space.NoMemory (fault.Range path o) t h = absurd t
 
   -- one more level
   pub stack-more : (front : List Level) (c : Level) → StackIsNamed task front → AreNamedIn task c.actions → StackIsNamed task (front ++ c ∷ [])

@@ -7,12 +7,14 @@ use Rattle.tl_syntax.specs.Trees.{falsum}
 use Rattle.tl_terms.specs.Pairs.{Pair, pair_of, IsPairAccepted}
 use Rattle.tl_eval.specs.declared.range.RangeNote.{RangeNote}
 use Rattle.tl_eval.specs.Notes.{Tells}
-use Rattle.tl_terms.specs.Looked.{looked_by_progressing, looked_by_idling, looked_by_action}
+use Rattle.tl_terms.specs.Looked.{looked_by_progressing, looked_by_action}
 use Rattle.tl_terms.specs.World.{World}
 use Rattle.tl_terms.specs.Step.{step}
 use Rattle.tl_terms.specs.Problem.{PlainProblem}
 use Rattle.tl_terms.specs.Simplification.{is_falsum}
 use Rattle.tl_search.proofs.PathLaws.{pair-first}
+use Rattle.tl_search.specs.Causes.{IsCausedByAcceptance, IsCausedByActions}
+use Rattle.tl_search.specs.Faults.{TellsPair}
 use Rattle.tl_search.specs.Kept.{AreKept}
 use Rattle.tl_search.specs.KeptPairs.{KeptPair, pairs_of}
 use Rattle.tl_search.specs.PairGraph.{next_pair, unless_pruned, pair_graph}
@@ -24,7 +26,12 @@ use Rattle.tl_search.specs.declared.arrival.Arrival.TheVariants as arrival
 use Rattle.tl_search.proofs.KeptLaws.{pair-kept, kept-pair, length-pairs}
 use Rattle.tl_search.proofs.PathLaws.{unless-pruned, walk-pair}
 use Rattle.tl_search.proofs.EventLaws.{last-differs}
+use Rattle.tl_search.specs.declared.fault.SearchFault.{SearchFault}
+use Rattle.tl_search.specs.declared.fault.SearchFault.TheVariants as fault
+use Rattle.tl_search.specs.declared.fault.SpaceFault.{SpaceFault}
+use Rattle.tl_search.specs.declared.fault.SpaceFault.TheVariants as space
 use Rattle.tl_depth.specs.Arrivals.{ArrivesAs}
+use Rattle.tl_depth.specs.Ongoing.{IsEntryFault}
 
 each-pair : (P : Pair → Type 0) (kept : List KeptPair) → ((i : ℕ) (z : KeptPair) → slice_get kept i ≡ Some z → P z.node) → Each P (pairs_of kept)
 each-pair P [] h = tt
@@ -71,11 +78,19 @@ accepted-pair p kept at answer h x e = let y = pair-kept kept at x e in subst (�
 pub lists_pair : (p : PlainProblem) (kept : List KeptPair) (at : ℕ) (listed : List Action) → ((x : KeptPair) → slice_get kept at ≡ Some x → ListsActions p x.node.world listed) → (x : Pair) → slice_get (pairs_of kept) at ≡ Some x → ListsActions p x.world listed
 lists_pair p kept at listed h x e = let y = pair-kept kept at x e in subst (λ (z : Pair). ListsActions p z.world listed) y.2 (h y.0 y.1)
 
-pub acts-pair : (p : PlainProblem) (kept : List KeptPair) (at : ℕ) (note : RangeNote) → ((x : KeptPair) → slice_get kept at ≡ Some x → (a : Action) × Tells (looked_by_action p x.node.world a) note) → (x : Pair) → slice_get (pairs_of kept) at ≡ Some x → (a : Action) × Tells (looked_by_action p x.world a) note
+acts-pair : (p : PlainProblem) (kept : List KeptPair) (at : ℕ) (note : RangeNote) → ((x : KeptPair) → slice_get kept at ≡ Some x → (a : Action) × Tells (looked_by_action p x.node.world a) note) → (x : Pair) → slice_get (pairs_of kept) at ≡ Some x → (a : Action) × Tells (looked_by_action p x.world a) note
 acts-pair p kept at note h x e = let y = pair-kept kept at x e in subst (λ (z : Pair). (a : Action) × Tells (looked_by_action p z.world a) note) y.2 (h y.0 y.1)
 
-pub idles-pair : (p : PlainProblem) (kept : List KeptPair) (at : ℕ) (note : RangeNote) → ((x : KeptPair) → slice_get kept at ≡ Some x → Tells (looked_by_idling p x.node.world x.node.formula) note) → (x : Pair) → slice_get (pairs_of kept) at ≡ Some x → Tells (looked_by_idling p x.world x.formula) note
-idles-pair p kept at note h x e = let y = pair-kept kept at x e in subst (λ (z : Pair). Tells (looked_by_idling p z.world z.formula) note) y.2 (h y.0 y.1)
+-- the fault of listing the actions is one of entering the pair
+pub entry-fault : (p : PlainProblem) (kept : List KeptPair) (k : ℕ) (at : List Action) (s : SpaceFault) (f : SearchFault) → TellsPair at s f → ((x : KeptPair) → slice_get kept k ≡ Some x → IsCausedByActions p x.node s) → IsEntryFault p (pairs_of kept) k at f
+entry-fault p kept k at s fault.NoMemory t h = tt
+entry-fault p kept k at (space.RangeHere note) (fault.Range path o) t h =
+    (t.0, subst (λ (m : RangeNote). (x : Pair) → slice_get (pairs_of kept) k ≡ Some x → (a : Action) × Tells (looked_by_action p x.world a) m) (sym t.1) (acts-pair p kept k note h))
+entry-fault p kept k at (space.RangeAfter note) (fault.Range path o) t h = absurd t
+entry-fault p kept k at space.NoMemory (fault.Range path o) t h = absurd t
+
+pub acceptance-pair : (p : PlainProblem) (kept : List KeptPair) (at : ℕ) (s : SpaceFault) → ((x : KeptPair) → slice_get kept at ≡ Some x → IsCausedByAcceptance p x.node s) → (x : Pair) → slice_get (pairs_of kept) at ≡ Some x → IsCausedByAcceptance p x s
+acceptance-pair p kept at s h x e = let y = pair-kept kept at x e in subst (λ (z : Pair). IsCausedByAcceptance p z s) y.2 (h y.0 y.1)
 
 pub action-pair : (p : PlainProblem) (kept : List KeptPair) (at : ℕ) (a : Action) (note : RangeNote) → ((x : KeptPair) → slice_get kept at ≡ Some x → Tells (looked_by_action p x.node.world a) note) → (x : Pair) → slice_get (pairs_of kept) at ≡ Some x → Tells (looked_by_action p x.world a) note
 action-pair p kept at a note h x e = let y = pair-kept kept at x e in subst (λ (z : Pair). Tells (looked_by_action p z.world a) note) y.2 (h y.0 y.1)
@@ -83,7 +98,3 @@ action-pair p kept at a note h x e = let y = pair-kept kept at x e in subst (λ 
 pub after-pair : (p : PlainProblem) (kept : List KeptPair) (at : ℕ) (a : Action) (note : RangeNote) → ((x : KeptPair) → slice_get kept at ≡ Some x → (v : World) × (step p x.node.world a ≡ Some v) × Tells (looked_by_progressing p v x.node.formula) note)
     → (x : Pair) → slice_get (pairs_of kept) at ≡ Some x → (v : World) × (step p x.world a ≡ Some v) × Tells (looked_by_progressing p v x.formula) note
 after-pair p kept at a note h x e = let y = pair-kept kept at x e in subst (λ (z : Pair). (v : World) × (step p z.world a ≡ Some v) × Tells (looked_by_progressing p v z.formula) note) y.2 (h y.0 y.1)
-
--- what would hold of no kept pair does not come where there is one
-pub never-pair : (kept : List KeptPair) (at : ℕ) → ((x : KeptPair) → slice_get kept at ≡ Some x → ⊥) → (x : Pair) → slice_get (pairs_of kept) at ≡ Some x → ⊥
-never-pair kept at h x e = let y = pair-kept kept at x e in h y.0 y.1

@@ -2,14 +2,11 @@
 use Rattle.std.specs.Prelude.{◌≡◌, ◌<◌, ◌^◌, ℕ, List, [], ◌∷◌, ◌++◌, length, slice_get, Bool, true, false, Some}
 use Rattle.tl_syntax.specs.declared.action.Action.{Action}
 use Rattle.tl_syntax.specs.Lists.{Each}
-use Rattle.tl_eval.specs.declared.range.RangeNote.{RangeNote}
 use Rattle.tl_depth.specs.Levels.{stepped}
 use Rattle.tl_depth.specs.declared.level.Level.{Level}
 use Rattle.tl_depth.specs.declared.stack.DepthFirst.{DepthFirst}
 use Rattle.tl_search.specs.Events.{event_of, events_after}
 use Rattle.tl_search.specs.declared.arrival.Arrival.{Arrival}
-use Rattle.tl_search.specs.declared.fault.SearchFault.{SearchFault}
-use Rattle.tl_search.specs.declared.fault.SearchFault.TheVariants as fault
 use Rattle.tl_search.specs.declared.event.Event.{Event}
 use Rattle.tl_search.specs.declared.event.Event.TheVariants as event
 
@@ -36,11 +33,6 @@ LeavesTop old new = (front : List Level) (h c : Level) → old ≡ (front ++ h �
 -- where events are wanted, what came of the last level's next action is told
 abbrev pub TellsTop : DepthFirst → DepthFirst → Arrival → Type 0
 TellsTop old new r = (front : List Level) (c : Level) (a : Action) → old.stack.items ≡ front ++ c ∷ [] → slice_get c.actions c.tried ≡ Some a → new.events ≡ events_after old.watch old.events (event_of c.at a r)
-
--- past range at that operation, after that path; or want of memory
-abbrev pub IsRangeAfter : List Action → RangeNote → SearchFault → Type 0
-IsRangeAfter at note (fault.Range path told) = (path ≡ at) × (told ≡ note)
-IsRangeAfter at note fault.NoMemory = Unit {0}
 
 -- the event is of the action at the pair of the number
 abbrev pub IsEventOf : ℕ → Action → Event → Type 0

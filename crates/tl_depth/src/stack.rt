@@ -1,8 +1,9 @@
 // What a search has beside its space: the stack, and with how many remaining actions each pair was
 // met.
 ghost use Rattle.std.specs.Prelude.{◌≡◌, [], ◌∷◌, IfOk, OnOk};
+ghost use Rattle.tl_search.specs.Faults.{IsFaultAfter, IsOfPair, TellsPair};
 ghost use Rattle.tl_depth.specs.Levels.{path_of};
-ghost use Rattle.tl_depth.specs.Stacks.{IsStepped, IsUnfinished, IsRangeAfter, PassesTop, LosesTop, LeavesTop, TellsTop};
+ghost use Rattle.tl_depth.specs.Stacks.{IsStepped, IsUnfinished, PassesTop, LosesTop, LeavesTop, TellsTop};
 ghost use Rattle.tl_depth.specs.Expansions.{GainsTop, LearnsTop};
 
 mod arrivals;
@@ -13,7 +14,7 @@ use crate::expansions::Expansions;
 use crate::level::Level;
 use std::alloc::Global;
 use tl_eval::RangeNote;
-use tl_search::{Arrival, Events, SearchFault, report_arrival};
+use tl_search::{Arrival, Events, SearchFault, SpaceFault, report_arrival};
 use tl_terms::{Actions, NoMemory};
 
 /// What the search has beside its space.
@@ -54,11 +55,23 @@ pub fn path(alloc: Global, levels: &[Level]) -> Result<Actions, NoMemory>
 /// The fault at an operation past range after the actions that the levels are at, or want of memory
 /// where there is no room for them.
 pub fn past_range(alloc: Global, levels: &[Level], note: RangeNote) -> SearchFault
-    ensures { IsRangeAfter (path_of levels.now) note result }
+    ensures { IsFaultAfter (path_of levels.now) note result }
 {
     match path(alloc, levels) {
         Ok(path) => SearchFault::Range { path, note },
         Err(_) => SearchFault::NoMemory,
+    }
+}
+
+/// The fault of a call of the space that looks at the pair that the levels lead to.
+pub fn levels_fault(alloc: Global, levels: &[Level], fault: SpaceFault) -> SearchFault
+    requires { IsOfPair fault }
+    ensures { TellsPair (path_of levels.now) fault result }
+{
+    match fault {
+        SpaceFault::RangeHere(note) => past_range(alloc, levels, note),
+        SpaceFault::RangeAfter(_) => unreachable!(),
+        SpaceFault::NoMemory => SearchFault::NoMemory,
     }
 }
 

@@ -13,9 +13,9 @@ ghost use Rattle.tl_search.specs.declared.arrival.Arrival.TheVariants as arrival
 
 use crate::level::Level;
 use crate::packed::PackedActions;
-use crate::stack::{DepthFirst, past_range, path};
+use crate::stack::{DepthFirst, levels_fault, path};
 use std::alloc::Global;
-use tl_search::{Arrival, Outcome, Pairs, SearchFault, SpaceFault};
+use tl_search::{Arrival, Outcome, Pairs, SearchFault};
 use tl_terms::NoMemory;
 
 impl DepthFirst {
@@ -177,11 +177,7 @@ impl DepthFirst {
                 Ok(Some(Outcome::Plan(plan)))
             }
             Ok(false) => Ok(None),
-            Err(SpaceFault::RangeHere(note)) => {
-                Err(past_range(alloc, self.stack.as_slice(), note))
-            }
-            Err(SpaceFault::RangeAfter(_)) => unreachable!(),
-            Err(SpaceFault::NoMemory) => Err(SearchFault::NoMemory),
+            Err(fault) => Err(levels_fault(alloc, self.stack.as_slice(), fault)),
         }
     }
 
@@ -250,11 +246,7 @@ impl DepthFirst {
         }
         match space.actions(at) {
             Ok(actions) => Ok(PackedActions::of(alloc, actions)?),
-            Err(SpaceFault::RangeHere(note)) => {
-                Err(past_range(alloc, self.stack.as_slice(), note))
-            }
-            Err(SpaceFault::RangeAfter(_)) => unreachable!(),
-            Err(SpaceFault::NoMemory) => Err(SearchFault::NoMemory),
+            Err(fault) => Err(levels_fault(alloc, self.stack.as_slice(), fault)),
         }
     }
 

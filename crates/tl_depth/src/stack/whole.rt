@@ -16,7 +16,7 @@ ghost use Rattle.tl_depth.specs.Ongoing.{HasDoneNothing, HasRootAlone, BeginsSea
 use crate::stack::DepthFirst;
 use std::alloc::Global;
 use std::sync::ledger::Ledger;
-use tl_search::{Arrival, Event, Outcome, Pairs, SearchFault, SpaceFault, report_root};
+use tl_search::{Arrival, Event, Outcome, Pairs, SearchFault, report_root, root_fault};
 use tl_terms::{Actions, Steps};
 
 /// Whether some pair was met with no remaining action, and never with any.
@@ -102,27 +102,13 @@ impl DepthFirst {
                 report_root(&mut self.events, self.watch, Event::RootPruned)?;
                 return Ok(Some(Outcome::NoPlan));
             }
-            Err(SpaceFault::RangeHere(note)) => {
-                return Err(SearchFault::Range {
-                    path: Actions::new(alloc),
-                    note,
-                });
-            }
-            Err(SpaceFault::RangeAfter(_)) => unreachable!(),
-            Err(SpaceFault::NoMemory) => return Err(SearchFault::NoMemory),
+            Err(fault) => return Err(root_fault(alloc, fault)),
         }
         report_root(&mut self.events, self.watch, Event::RootKept)?;
         match space.accepted(0) {
             Ok(true) => return Ok(Some(Outcome::Plan(Actions::new(alloc)))),
             Ok(false) => {}
-            Err(SpaceFault::RangeHere(note)) => {
-                return Err(SearchFault::Range {
-                    path: Actions::new(alloc),
-                    note,
-                });
-            }
-            Err(SpaceFault::RangeAfter(_)) => unreachable!(),
-            Err(SpaceFault::NoMemory) => return Err(SearchFault::NoMemory),
+            Err(fault) => return Err(root_fault(alloc, fault)),
         }
         self.begun(alloc, space, nodes)?;
         Ok(None)

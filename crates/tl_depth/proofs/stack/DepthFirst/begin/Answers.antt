@@ -7,6 +7,7 @@ use Rattle.tl_search.specs.KeptPairs.{pairs_of}
 use Rattle.tl_search.specs.declared.arrival.Arrival.TheVariants as arrival
 use Rattle.tl_search.specs.declared.event.Event.TheVariants as event
 use Rattle.tl_search.specs.declared.outcome.Outcome.TheVariants as outcome
+use Rattle.tl_search.proofs.FaultLaws.{acceptance-of-pair, root-of-pair}
 use Rattle.tl_search.proofs.HistoryLaws.{history-pruned}
 use Rattle.tl_search.proofs.NamedLaws.{events-named}
 use Rattle.tl_depth.specs.Answers.{IsToldAlong}
@@ -15,17 +16,23 @@ use Rattle.tl_depth.specs.NamedStacks.{StackIsNamed, SearchIsNamed}
 use Rattle.tl_depth.specs.Ongoing.{BeginsSearch}
 use Rattle.tl_depth.specs.Outcomes.{AreFewCalls, IsDepthFirstOutcome, Reported, TellsInDepth}
 use Rattle.tl_depth.proofs.Beginning.{RootIsKept, root-kept}
-use Rattle.tl_depth.proofs.Ending.{begins-pruned, fault-root, fault-first-idling, first-plan, first-kept}
+use Rattle.tl_depth.proofs.Ending.{begins-pruned, root-fault, root-judged-fault, first-plan, first-kept}
 use Rattle.tl_depth.proofs.Following.{root-in-depth}
 use Rattle.tl_depth.proofs.Histories.{root-not-seen, as-history}
 use Rattle.tl_depth.proofs.Remembering.{nothing-remembered, as-remembered}
 use Rattle.tl_search.specs.Kept.{AreKept}
 use Rattle.tl_search.specs.PairGraph.{pair_graph}
-use Rattle.tl_depth.proofs.SeenPairs.{root-as-pairs, accepted-pair, idles-pair, never-pair}
+use Rattle.tl_depth.proofs.SeenPairs.{root-as-pairs, accepted-pair, acceptance-pair}
 use Rattle.tl_depth.proofs.stack.DepthFirst.begin.Goals as goal
 
-pub returns-in-Err-RangeHere-clause-fault : goal.returns-in-Err-RangeHere-clause-fault
-returns-in-Err-RangeHere-clause-fault g c = fault-root _ _ c.new.result c.new.ensures c.in-Err-RangeHere.note (rw c.in-Err-RangeHere.field-0-is at c.in-Err-RangeHere.ensures.cause)
+pub root_fault-requires : goal.root_fault-requires
+root_fault-requires g c = root-of-pair _ c.in-Err.fault c.in-Err.ensures.cause
+
+pub returns-in-Err-clause-fault : goal.returns-in-Err-clause-fault
+returns-in-Err-clause-fault g c = root-fault _ c.args.self.now.within c.in-Err.fault c.root_fault.result c.root_fault.ensures.fault c.in-Err.ensures.cause
+
+pub returns-in-Err-clause-path_named : goal.returns-in-Err-clause-path_named
+returns-in-Err-clause-path_named g c = c.root_fault.ensures.named (g.S.Pairs.task c.args.space.now)
 
 pub returns-in-Ok-Pruned-clause-begun : goal.returns-in-Ok-Pruned-clause-begun
 returns-in-Ok-Pruned-clause-begun g c =
@@ -42,19 +49,24 @@ returns-in-Ok-true g c = record {
   fault = tt;
   named = record { stack = subst (StackIsNamed (g.S.Pairs.task c.args.space.now)) (sym c.requires.new.stack) tt; events = events-named (g.S.Pairs.task c.args.space.now) c.args.self.now.watch [] c.report_root-2.new.events event.RootKept tt tt (c.in_ok-report_root.ensures ∙ ap (λ es. events_after c.args.self.now.watch es event.RootKept) c.requires.events) };
   remembered = nothing-remembered c.root.ensures.problem (subst (λ ks. AreKept (pair_graph (g.S.Pairs.problem c.root.new.self)) ks) (sym c.accepted.ensures.kept) c.root.ensures.kept) c.requires.new.expansions;
-  plan_named = subst (AreNamedIn (g.S.Pairs.task c.args.space.now)) (sym c.new-in-Ok-true.ensures) tt;
+  plan_named = subst (AreNamedIn (g.S.Pairs.task c.args.space.now)) (sym c.new.ensures) tt;
   path_named = tt;
 }
   where
     r : RootIsKept (g.S.Pairs.problem c.args.space.now) c.args.self.now.watch (g.S.Pairs.kept c.root.new.self) c.report_root-2.new.events
     r = root-kept _ _ c.args.self.now.watch (g.S.Pairs.kept c.args.space.now) (g.S.Pairs.kept c.root.new.self) c.in-Ok-Fresh.field-0-0 _ c.report_root-2.new.events c.requires.empty c.requires.events c.root.ensures.kept (rw c.in-Ok-Fresh.field-0-is at c.in-Ok-Fresh.ensures.arrival) c.in_ok-report_root.ensures
 
-    begun : IsDepthFirstOutcome (g.S.Pairs.problem c.args.space.now) c.args.self.now.within c.args.nodes (pairs_of (g.S.Pairs.kept c.accepted.new.self)) (outcome.Plan c.new-in-Ok-true.result) × AreFewCalls (g.S.Pairs.problem c.args.space.now) c.args.self.now.within (pairs_of (g.S.Pairs.kept c.accepted.new.self)) 0 × (IsToldAlong (g.S.Pairs.problem c.args.space.now) (Reported c.args.self.now.watch (pairs_of (g.S.Pairs.kept c.accepted.new.self)) c.report_root-2.new.events) c.new-in-Ok-true.result × TellsInDepth (g.S.Pairs.problem c.args.space.now) c.args.self.now.within c.args.self.now.watch (pairs_of (g.S.Pairs.kept c.accepted.new.self)) true c.report_root-2.new.events)
-    begun = let t = first-plan _ _ _ _ _ _ r.pair c.requires.nodes r.unpruned r.alone c.root.ensures.problem (ap pairs_of c.accepted.ensures.kept) ((accepted-pair _ _ 0 _ c.in-Ok-true.ensures.accepted r.pair r.numbered).0 c.in-Ok-true.field-0-test) c.new-in-Ok-true.result c.new-in-Ok-true.ensures (Reported c.args.self.now.watch (pairs_of (g.S.Pairs.kept c.accepted.new.self)) c.report_root-2.new.events) in
+    begun : IsDepthFirstOutcome (g.S.Pairs.problem c.args.space.now) c.args.self.now.within c.args.nodes (pairs_of (g.S.Pairs.kept c.accepted.new.self)) (outcome.Plan c.new.result) × AreFewCalls (g.S.Pairs.problem c.args.space.now) c.args.self.now.within (pairs_of (g.S.Pairs.kept c.accepted.new.self)) 0 × (IsToldAlong (g.S.Pairs.problem c.args.space.now) (Reported c.args.self.now.watch (pairs_of (g.S.Pairs.kept c.accepted.new.self)) c.report_root-2.new.events) c.new.result × TellsInDepth (g.S.Pairs.problem c.args.space.now) c.args.self.now.within c.args.self.now.watch (pairs_of (g.S.Pairs.kept c.accepted.new.self)) true c.report_root-2.new.events)
+    begun = let t = first-plan _ _ _ _ _ _ r.pair c.requires.nodes r.unpruned r.alone c.root.ensures.problem (ap pairs_of c.accepted.ensures.kept) ((accepted-pair _ _ 0 _ c.in-Ok-true.ensures.accepted r.pair r.numbered).0 c.in-Ok-true.field-0-test) c.new.result c.new.ensures (Reported c.args.self.now.watch (pairs_of (g.S.Pairs.kept c.accepted.new.self)) c.report_root-2.new.events) in
         (t.0, t.1, (t.2, λ w. subst (AreInDepth (g.S.Pairs.problem c.args.space.now) c.args.self.now.within (pairs_of (g.S.Pairs.kept c.accepted.new.self)) true) (sym (c.in_ok-report_root.ensures ∙ (ap (λ es. events_after c.args.self.now.watch es event.RootKept) c.requires.events ∙ ap (λ x. events_after x [] event.RootKept) w))) (root-in-depth (g.S.Pairs.problem c.args.space.now) c.args.self.now.within (pairs_of (g.S.Pairs.kept c.accepted.new.self)))))
 
-pub returns-in-Err-RangeHere-accepted : goal.returns-in-Err-RangeHere-accepted
-returns-in-Err-RangeHere-accepted g c =
+pub root_fault-requires-in-Err-accepted : goal.root_fault-requires-in-Err-accepted
+root_fault-requires-in-Err-accepted g c =
+    let r = root-kept _ _ c.args.self.now.watch (g.S.Pairs.kept c.args.space.now) (g.S.Pairs.kept c.root.new.self) c.in-Ok-Fresh.field-0-0 _ c.report_root-2.new.events c.requires.empty c.requires.events c.root.ensures.kept (rw c.in-Ok-Fresh.field-0-is at c.in-Ok-Fresh.ensures.arrival) c.in_ok-report_root.ensures in
+    acceptance-of-pair _ r.pair c.in-Err-accepted.fault (acceptance-pair _ _ 0 _ c.in-Err-accepted.ensures.cause r.pair r.numbered)
+
+pub returns-in-Err-accepted : goal.returns-in-Err-accepted
+returns-in-Err-accepted g c =
     let r = root-kept _ _ c.args.self.now.watch (g.S.Pairs.kept c.args.space.now) (g.S.Pairs.kept c.root.new.self) c.in-Ok-Fresh.field-0-0 _ c.report_root-2.new.events c.requires.empty c.requires.events c.root.ensures.kept (rw c.in-Ok-Fresh.field-0-is at c.in-Ok-Fresh.ensures.arrival) c.in_ok-report_root.ensures in
     record {
       task = c.accepted.ensures.task ∙ c.root.ensures.task;
@@ -62,11 +74,11 @@ returns-in-Err-RangeHere-accepted g c =
       begun = tt;
       history = tt;
       ends = tt;
-      fault = fault-first-idling _ _ _ r.pair r.unpruned c.root.ensures.problem c.new-in-Err-RangeHere-accepted.result c.new-in-Err-RangeHere-accepted.ensures c.in-Err-RangeHere-accepted.note (idles-pair _ _ 0 _ (rw c.in-Err-RangeHere-accepted.field-0-is at c.in-Err-RangeHere-accepted.ensures.cause) r.pair r.numbered);
+      fault = root-judged-fault _ _ c.args.self.now.within r.pair r.unpruned c.root.ensures.problem c.in-Err-accepted.fault c.root_fault-in-Err-accepted.result c.root_fault-in-Err-accepted.ensures.fault (acceptance-pair _ _ 0 _ c.in-Err-accepted.ensures.cause r.pair r.numbered);
       named = tt;
       remembered = tt;
       plan_named = tt;
-      path_named = subst (AreNamedIn (g.S.Pairs.task c.args.space.now)) (sym c.new-in-Err-RangeHere-accepted.ensures) tt;
+      path_named = c.root_fault-in-Err-accepted.ensures.named (g.S.Pairs.task c.args.space.now);
     }
 
 pub begun-requires-clause-first : goal.begun-requires-clause-first
@@ -99,19 +111,8 @@ returns g c =
 pub unreachable-requires : goal.unreachable-requires
 unreachable-requires g c = root-not-seen _ _ _ _ c.requires.empty (rw c.in-Ok-Seen.field-0-is at c.in-Ok-Seen.ensures.arrival)
 
-pub unreachable-requires-in-Err-RangeAfter : goal.unreachable-requires-in-Err-RangeAfter
-unreachable-requires-in-Err-RangeAfter g c = rw c.in-Err-RangeAfter.field-0-is at c.in-Err-RangeAfter.ensures.cause
-
-pub unreachable-requires-in-Err-RangeAfter-accepted : goal.unreachable-requires-in-Err-RangeAfter-accepted
-unreachable-requires-in-Err-RangeAfter-accepted g c =
-    let r = root-kept _ _ c.args.self.now.watch (g.S.Pairs.kept c.args.space.now) (g.S.Pairs.kept c.root.new.self) c.in-Ok-Fresh.field-0-0 _ c.report_root-2.new.events c.requires.empty c.requires.events c.root.ensures.kept (rw c.in-Ok-Fresh.field-0-is at c.in-Ok-Fresh.ensures.arrival) c.in_ok-report_root.ensures in
-    never-pair _ 0 (rw c.in-Err-RangeAfter-accepted.field-0-is at c.in-Err-RangeAfter-accepted.ensures.cause) r.pair r.numbered
-
 pub begun-requires-clause-named : goal.begun-requires-clause-named
 begun-requires-clause-named g c = record { stack = subst (StackIsNamed (g.S.Pairs.task c.accepted.new.self)) (sym c.requires.new.stack) tt; events = events-named (g.S.Pairs.task c.accepted.new.self) c.args.self.now.watch [] c.report_root-2.new.events event.RootKept tt tt (c.in_ok-report_root.ensures ∙ ap (λ es. events_after c.args.self.now.watch es event.RootKept) c.requires.events) }
 
 pub returns-in-Ok-Pruned-clause-named : goal.returns-in-Ok-Pruned-clause-named
 returns-in-Ok-Pruned-clause-named g c = record { stack = subst (StackIsNamed (g.S.Pairs.task c.args.space.now)) (sym c.requires.new.stack) tt; events = events-named (g.S.Pairs.task c.args.space.now) c.args.self.now.watch [] c.report_root.new.events event.RootPruned tt tt (c.in_ok-report_root-in-Ok-Pruned.ensures ∙ ap (λ es. events_after c.args.self.now.watch es event.RootPruned) c.requires.events) }
-
-pub returns-in-Err-RangeHere-clause-path_named : goal.returns-in-Err-RangeHere-clause-path_named
-returns-in-Err-RangeHere-clause-path_named g c = subst (AreNamedIn (g.S.Pairs.task c.args.space.now)) (sym c.new.ensures) tt
