@@ -11,6 +11,9 @@ pub(crate) const FEW: usize = 32;
 /// How many places there are for what was seen.
 const PLACES: usize = 4096;
 
+/// Past so many numbers a place that was seen is not looked into: a table of them is faster.
+const MOST: usize = 512;
+
 /// Numbers in the order in which they came first, each once. The room for them is used again and
 /// again.
 #[derive(Drop)]
@@ -69,13 +72,19 @@ impl Few {
         self.ids.as_slice()
     }
 
-    /// Adds a number at the end, unless it is there. False: there is no memory for it.
+    /// Adds a number at the end, unless it is there. False: there is no memory for it, or a table
+    /// tells faster whether it is there.
     pub fn insert(&mut self, id: usize) -> bool
         ensures { IsTrue result → self.new ≡ insert_key nat_eq self.old id }
     {
         let place = id % PLACES;
-        if is_seen(self.seen.as_slice(), place) && self.as_slice().contains(&id) {
-            return true;
+        if is_seen(self.seen.as_slice(), place) {
+            if self.ids.len() > MOST {
+                return false;
+            }
+            if self.as_slice().contains(&id) {
+                return true;
+            }
         }
         match self.ids.push(id) {
             Ok(()) => {}
