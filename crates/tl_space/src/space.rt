@@ -41,8 +41,8 @@ use tl_world::{Task, Unmet, Worlds};
 pub struct Space {
     pub(crate) alloc: Global,
     pub(crate) task: Task,
-    pub(crate) env: Env,
-    pub(crate) frame: Env,
+    pub(crate) action_frame: Env,
+    pub(crate) formula_frame: Env,
     pub(crate) lister: Lister,
     pub(crate) worlds: Worlds,
     pub(crate) nodes: Nodes,
@@ -63,17 +63,17 @@ pub struct Space {
 /// What a space has beside its task before anything is kept.
 #[derive(Drop)]
 struct Beginning {
-    env: Env,
-    frame: Env,
+    action_frame: Env,
+    formula_frame: Env,
     lister: Lister,
     nodes: Nodes,
 }
 
 /// Two times frames without values.
 fn frames(alloc: Global, task: &Task) -> Result<(Env, Env), NoMemory> {
-    let frame = Env::for_task(alloc, task)?;
-    let env = frame.copy(alloc)?;
-    Ok((env, frame))
+    let formula_frame = Env::for_task(alloc, task)?;
+    let action_frame = formula_frame.copy(alloc)?;
+    Ok((action_frame, formula_frame))
 }
 
 /// What is worked out of the operators, and the two constants.
@@ -89,11 +89,11 @@ fn tables(alloc: Global, task: &Task) -> Result<(Lister, Nodes), NoMemory>
 fn begun(alloc: Global, task: &Task) -> Result<Beginning, NoMemory>
     ensures { IfOk result (λ b. ListsFor task.now b.lister) }
 {
-    let (env, frame) = frames(alloc, task)?;
+    let (action_frame, formula_frame) = frames(alloc, task)?;
     let (lister, nodes) = tables(alloc, task)?;
     Ok(Beginning {
-        env,
-        frame,
+        action_frame,
+        formula_frame,
         lister,
         nodes,
     })
@@ -127,8 +127,8 @@ impl Space {
         Space {
             alloc,
             task,
-            env: beginning.env,
-            frame: beginning.frame,
+            action_frame: beginning.action_frame,
+            formula_frame: beginning.formula_frame,
             lister: beginning.lister,
             worlds: Worlds::new(alloc),
             nodes: beginning.nodes,

@@ -27,7 +27,7 @@ impl Space {
             &self.nodes,
             &self.task,
             world,
-            &mut self.frame,
+            &mut self.formula_frame,
             numbers.label,
         ) {
             Ok(holds) => Ok(holds),

@@ -21,7 +21,10 @@ impl Space {
     {
         let numbers = self.numbers(at);
         let world = self.worlds.get(numbers.world);
-        match self.lister.actions(&self.task, world, &mut self.env) {
+        match self
+            .lister
+            .actions(&self.task, world, &mut self.action_frame)
+        {
             Ok(listed) => Ok(listed),
             Err(ActFault::Range(note)) => Err(SpaceFault::RangeHere(note)),
             Err(ActFault::NoMemory) => Err(SpaceFault::NoMemory),

@@ -155,7 +155,10 @@ impl Space {
             task: &self.task,
             world,
         };
-        match self.changes.put_those_of(&here, &mut self.env, a, steps) {
+        match self
+            .changes
+            .put_those_of(&here, &mut self.action_frame, a, steps)
+        {
             Ok(()) => {}
             Err(ActFault::Range(note)) => return Err(SpaceFault::RangeHere(note)),
             Err(ActFault::NoMemory) => return Err(SpaceFault::NoMemory),

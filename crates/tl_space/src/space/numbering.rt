@@ -123,7 +123,7 @@ impl Space {
             &mut self.nodes,
             &self.task,
             self.worlds.get(key.world),
-            &mut self.frame,
+            &mut self.formula_frame,
             &mut self.residuals,
             incoming,
         )
