@@ -1,5 +1,5 @@
 // The table of nodes.
-ghost use Rattle.std.specs.Prelude.{◌≡◌, ◌↔◌, ◌<◌, [], ◌∷◌, map, true, false, length, IfOk};
+ghost use Rattle.std.specs.Prelude.{◌≡◌, ◌↔◌, ◌<◌, [], ◌∷◌, map, false, length, IfOk, IsTrue};
 ghost use Rattle.tl_syntax.specs.StateFormulas.{IsState};
 ghost use Rattle.tl_syntax.specs.Trees.{verum, falsum};
 ghost use Rattle.tl_nodes.specs.Filled.{AreFilled};
@@ -44,7 +44,7 @@ pub struct Nodes {
     pub(crate) filled: Vec<Filled>,
     ghost below: { EachFits table.keys },
     ghost one_to_one: { OneToOne (trees_of_nodes table.keys) },
-    ghost constants: { begins_with_constants table.keys ≡ true },
+    ghost constants: { IsTrue (begins_with_constants table.keys) },
     ghost flags: { temporal.items ≡ map has_temporal (trees_of_nodes table.keys) },
     ghost places: { length filled.items ≡ 1024 },
     ghost filled_is: { AreFilled (trees_of_nodes table.keys) filled.items } by { filled-prop (trees_of_nodes table.keys) filled.items },
@@ -92,7 +92,7 @@ impl Nodes {
     pub fn get(&self, id: usize) -> &Node
         requires { id < length (trees self.now) }
         ensures tree { Denotes self.now id (tree_of_node (trees self.now) result.now) }
-        ensures parts { fits id result.now ≡ true }
+        ensures parts { IsTrue (fits id result.now) }
     {
         self.table.get_index(id).unwrap()
     }

@@ -23,14 +23,14 @@ pub(crate) struct Few {
 }
 
 impl Model for Few {
-    ghost use Rattle.std.specs.Prelude.{◌≡◌, ℕ, List, true};
+    ghost use Rattle.std.specs.Prelude.{ℕ, List, IsTrue};
     ghost use Rattle.tl_nodes.specs.Seen.{all_seen};
 
     ghost Value = { List ℕ };
 
     ghost view = { λ few. few.ids.items };
 
-    ghost invariant = { λ few. all_seen few.seen.items few.ids.items ≡ true };
+    ghost invariant = { λ few. IsTrue (all_seen few.seen.items few.ids.items) };
 }
 
 impl Few {

@@ -1,5 +1,5 @@
 // The parts of joins, opened at any depth.
-ghost use Rattle.std.specs.Prelude.{◌≡◌, ◌<◌, ◌++◌, true, length, reverse, IfOk, IfSome, OnOk};
+ghost use Rattle.std.specs.Prelude.{◌≡◌, ◌<◌, ◌++◌, length, reverse, IfOk, IfSome, OnOk, IsTrue};
 ghost use Rattle.tl_nodes.specs.Fits.{all_below};
 ghost use Rattle.tl_nodes.specs.Numbers.{trees};
 ghost use Rattle.tl_nodes.specs.Opened.{AreNested, AreOpened, AreSmaller};
@@ -15,7 +15,7 @@ impl Nodes {
     pub(crate) fn nested(&self, id: usize, junction: Junction) -> Option<&Ids>
         requires { id < length (trees self.now) }
         ensures parts { AreNested self.now junction id result }
-        ensures below { IfSome result (λ ids. all_below id ids.now ≡ true) }
+        ensures below { IfSome result (λ ids. IsTrue (all_below id ids.now)) }
         ensures smaller { IfSome result (λ ids. AreSmaller self.now id ids.now) }
     {
         match self.get(id) {
@@ -39,8 +39,8 @@ impl Nodes {
         parts: &[usize],
         junction: Junction,
     ) -> Result<Vec<usize>, NoMemory>
-        requires { all_below (length (trees self.now)) parts.now ≡ true }
-        ensures below { IfOk result (λ v. all_below (length (trees self.now)) v.items ≡ true) }
+        requires { IsTrue (all_below (length (trees self.now)) parts.now) }
+        ensures below { IfOk result (λ v. IsTrue (all_below (length (trees self.now)) v.items)) }
         ensures flat { IfOk result (λ v. AreOpened self.now junction parts.now v.items) }
     {
         let mut todo = Vec::new(self.alloc);

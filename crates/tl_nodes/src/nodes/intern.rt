@@ -1,5 +1,5 @@
 // One number for one layer.
-ghost use Rattle.std.specs.Prelude.{◌≡◌, true, length, OnErr};
+ghost use Rattle.std.specs.Prelude.{◌≡◌, length, OnErr, IsTrue};
 ghost use Rattle.tl_nodes.specs.Fits.{fits};
 ghost use Rattle.tl_nodes.specs.Given.{node_over, GivesNumber};
 ghost use Rattle.tl_nodes.specs.Numbering.{Keeps};
@@ -16,7 +16,7 @@ impl Nodes {
     /// next one.
     /// A refused call drops the node and leaves all trees as they were.
     pub fn intern(&mut self, node: Node) -> Result<usize, NoMemory>
-        requires { fits (length (trees self.old)) node ≡ true }
+        requires { IsTrue (fits (length (trees self.old)) node) }
         ensures number { GivesNumber self.new (node_over self.old node) result }
         ensures known { StaysIfKnown self.old self.new (node_over self.old node) }
         ensures kept { Keeps (trees self.old) (trees self.new) }

@@ -1,5 +1,5 @@
 // Conjunction and disjunction that simplify.
-ghost use Rattle.std.specs.Prelude.{◌≡◌, [], true, length, IfOk, IfSome, IsTrue, OnErr};
+ghost use Rattle.std.specs.Prelude.{◌≡◌, [], length, IfOk, IfSome, IsTrue, OnErr};
 ghost use Rattle.tl_nodes.specs.Fits.{all_below};
 ghost use Rattle.tl_nodes.specs.Given.{conjunction_of, disjunction_of, join_of, join_over, GivesNumber};
 ghost use Rattle.tl_nodes.specs.Joins.{dropped, decides, join_node};
@@ -20,7 +20,7 @@ impl Nodes {
     /// false, each true is dropped, of equal parts the first stays, no part gives true, and one
     /// part stands alone.
     pub fn and(&mut self, parts: &[usize]) -> Result<usize, NoMemory>
-        requires { all_below (length (trees self.old)) parts.now ≡ true }
+        requires { IsTrue (all_below (length (trees self.old)) parts.now) }
         ensures number { GivesNumber self.new (conjunction_of self.old parts.now) result }
         ensures known { StaysIfKnown self.old self.new (conjunction_of self.old parts.now) }
         ensures kept { Keeps (trees self.old) (trees self.new) }
@@ -31,7 +31,7 @@ impl Nodes {
 
     /// The number of the parts' disjunction: as `and` with the constants exchanged.
     pub fn or(&mut self, parts: &[usize]) -> Result<usize, NoMemory>
-        requires { all_below (length (trees self.old)) parts.now ≡ true }
+        requires { IsTrue (all_below (length (trees self.old)) parts.now) }
         ensures number { GivesNumber self.new (disjunction_of self.old parts.now) result }
         ensures known { StaysIfKnown self.old self.new (disjunction_of self.old parts.now) }
         ensures kept { Keeps (trees self.old) (trees self.new) }
@@ -41,7 +41,7 @@ impl Nodes {
     }
 
     fn join(&mut self, parts: &[usize], junction: Junction) -> Result<usize, NoMemory>
-        requires { all_below (length (trees self.old)) parts.now ≡ true }
+        requires { IsTrue (all_below (length (trees self.old)) parts.now) }
         ensures number { GivesNumber self.new (join_of self.old junction parts.now) result }
         ensures known { StaysIfKnown self.old self.new (join_of self.old junction parts.now) }
         ensures kept { Keeps (trees self.old) (trees self.new) }
@@ -55,7 +55,7 @@ impl Nodes {
 
     // The same, where what is left of the parts is put elsewhere.
     fn join_opened(&mut self, parts: &[usize], junction: Junction) -> Result<usize, NoMemory>
-        requires { all_below (length (trees self.old)) parts.now ≡ true }
+        requires { IsTrue (all_below (length (trees self.old)) parts.now) }
         ensures number { GivesNumber self.new (join_of self.old junction parts.now) result }
         ensures known { StaysIfKnown self.old self.new (join_of self.old junction parts.now) }
         ensures kept { Keeps (trees self.old) (trees self.new) }
@@ -75,7 +75,7 @@ impl Nodes {
         parts: &[usize],
         junction: Junction,
     ) -> Result<usize, NoMemory>
-        requires below { all_below (length (trees self.old)) parts.now ≡ true }
+        requires below { IsTrue (all_below (length (trees self.old)) parts.now) }
         requires none { few.old ≡ [] }
         ensures number { GivesNumber self.new (join_of self.old junction parts.now) result }
         ensures known { StaysIfKnown self.old self.new (join_of self.old junction parts.now) }
@@ -91,7 +91,7 @@ impl Nodes {
 
     // The number of the join of the parts of which these numbers are left.
     fn join_left(&mut self, left: &[usize], junction: Junction) -> Result<usize, NoMemory>
-        requires { all_below (length (trees self.old)) left.now ≡ true }
+        requires { IsTrue (all_below (length (trees self.old)) left.now) }
         ensures number { JoinsLeft self.old self.new junction left.now result }
         ensures known { StaysIfJoined self.old self.new junction left.now }
         ensures kept { Keeps (trees self.old) (trees self.new) }
@@ -137,7 +137,7 @@ impl Nodes {
         left: &[usize],
         junction: Junction,
     ) -> Result<usize, NoMemory>
-        requires { all_below (length (trees self.old)) left.now ≡ true }
+        requires { IsTrue (all_below (length (trees self.old)) left.now) }
         ensures number { GivesNumber self.new (join_over self.old junction left.now) result }
         ensures known { StaysIfKnown self.old self.new (join_over self.old junction left.now) }
         ensures kept { Keeps (trees self.old) (trees self.new) }

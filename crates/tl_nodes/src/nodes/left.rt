@@ -15,7 +15,7 @@ impl Nodes {
     // What is left of the parts, where they are few, none is a join of the same kind, and what is
     // left stands in a row. It takes no memory.
     pub(crate) fn row_left<'a>(&self, parts: &'a [usize], junction: Junction) -> Option<&'a [usize]>
-        requires { all_below (length (trees self.now)) parts.now ≡ true }
+        requires { IsTrue (all_below (length (trees self.now)) parts.now) }
         ensures { IfSome result (λ row. IsOpened (trees self.now) junction parts.now row.now) }
     {
         let mut from = 0;
@@ -45,7 +45,7 @@ impl Nodes {
     // Puts what is left of the parts to no numbers, where none is nested in a join of a part.
     // False: one is, or there is no memory.
     pub(crate) fn put_few_left(&self, few: &mut Few, parts: &[usize], junction: Junction) -> bool
-        requires below { all_below (length (trees self.now)) parts.now ≡ true }
+        requires below { IsTrue (all_below (length (trees self.now)) parts.now) }
         requires none { few.old ≡ [] }
         ensures { IsTrue result → IsOpened (trees self.now) junction parts.now few.new }
     {
@@ -64,7 +64,7 @@ impl Nodes {
     // Keeps the parts of a join. False: one of them is a join of the same kind, or there is no
     // memory.
     fn keep_all(&self, few: &mut Few, ids: &[usize], junction: Junction) -> bool
-        requires { all_below (length (trees self.now)) ids.now ≡ true }
+        requires { IsTrue (all_below (length (trees self.now)) ids.now) }
         ensures { IsTrue result → GoesOnWith self.now junction ids.now few.old few.new }
     {
         for id in ids.iter() {
@@ -92,7 +92,7 @@ impl Nodes {
         parts: &[usize],
         junction: Junction,
     ) -> Result<IndexSet<usize>, NoMemory>
-        requires { all_below (length (trees self.now)) parts.now ≡ true }
+        requires { IsTrue (all_below (length (trees self.now)) parts.now) }
         ensures { IfOk result (λ left. IsLeft (trees self.now) junction parts.now left.keys) }
     {
         let flat = self.flatten(parts, junction)?;

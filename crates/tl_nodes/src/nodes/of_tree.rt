@@ -1,5 +1,5 @@
 // The numbers of whole formulas.
-ghost use Rattle.std.specs.Prelude.{◌≡◌, true, length, IfOk};
+ghost use Rattle.std.specs.Prelude.{◌≡◌, length, IfOk, IsTrue};
 ghost use Rattle.tl_nodes.specs.Fits.{all_below, fits};
 ghost use Rattle.tl_nodes.specs.Given.{DenoteFormulas};
 ghost use Rattle.tl_nodes.specs.NodeTrees.{tree_of_node};
@@ -29,7 +29,7 @@ impl Nodes {
     #[tactic(auto, using(crate::proofs::FormulaLayers::layers))]
     fn layer_of(&mut self, f: &Formula) -> Result<Node, NoMemory>
         ensures kept { Keeps (trees self.old) (trees self.new) }
-        ensures fits { IfOk result (λ n. fits (length (trees self.new)) n ≡ true) }
+        ensures fits { IfOk result (λ n. IsTrue (fits (length (trees self.new)) n)) }
         ensures tree { IfOk result (λ n. tree_of_node (trees self.new) n ≡ tree_of_formula f.now) }
     {
         match f {
@@ -114,7 +114,7 @@ impl Nodes {
     #[cycle(of_tree)]
     fn of_trees(&mut self, fs: &Formulas) -> Result<Ids, NoMemory>
         ensures kept { Keeps (trees self.old) (trees self.new) }
-        ensures below { IfOk result (λ ids. all_below (length (trees self.new)) ids ≡ true) }
+        ensures below { IfOk result (λ ids. IsTrue (all_below (length (trees self.new)) ids)) }
         ensures numbers { IfOk result (DenoteFormulas self.new fs.now) }
     {
         let mut ids = Ids::new(self.alloc);
