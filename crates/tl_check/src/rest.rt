@@ -1,6 +1,6 @@
 // What is left of some runs, as they are read.
 ghost use Rattle.std.specs.Prelude.{◌≡◌, ◌≤◌, drop};
-ghost use Rattle.tl_check.specs.Rests.{rest_labels, first_count, first_truth};
+ghost use Rattle.tl_check.specs.Rests.{rest_labels, first_count};
 ghost use Rattle.tl_check.specs.Runs.{spread};
 
 use crate::run::Run;
@@ -51,15 +51,5 @@ pub(crate) fn rest_after<'a>(rest: &Rest<'a>, count: usize) -> Rest<'a>
             }
         }
         None => *rest,
-    }
-}
-
-/// The label of the first position that is left, or false where there is none. It takes no memory.
-pub(crate) fn first_label(rest: &Rest) -> bool
-    ensures { result ≡ first_truth rest.now }
-{
-    match rest.first {
-        Some(run) => run.truth,
-        None => false,
     }
 }

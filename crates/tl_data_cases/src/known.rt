@@ -1,6 +1,6 @@
 // Known worlds that changes make of others, found without making them.
 
-use crate::checks::{is_text, is_true};
+use crate::checks::is_text;
 use crate::stop::Stop;
 use crate::worlds::{Said, all_names, said_in, world_in};
 use std::alloc::Global;
@@ -10,61 +10,38 @@ use tl_tables::{column, is_row};
 use tl_world::{World, Worlds};
 
 /// Rows of a world, facts that are deleted, facts that are added, places that are set, another
-/// world, whether that is the world after the changes, its number, 1, or the first one's, 0, where
-/// the changes find it, and the number that it has then: 2, or 1 for one that had none.
+/// world, and the number that the world after the changes has: 0, 1, or 2 for one that is neither
+/// (1 where both are one).
 const AFTER: &str = "
-(p a) (edge a b) | (p a) | (p b) | (p b) (edge a b) | true | 1 | 1
-(p a) (edge a b) | (p a) | (p b) | (p b) (edge a b) (edge b a) | false | none | 2
-(p a) (edge a b) | (p a) | (p b) | (p b) | false | none | 2
-(p a) (edge a b) | (p a) | (p b) | (p a) (p b) (edge a b) | false | none | 2
-(p a) (edge a b) | (p a) | (p b) | (edge a b) | false | none | 2
-(edge a a) (edge a c) (edge b b) | (edge a c) | (edge b a) | (edge a a) (edge b a) (edge b b) | true | 1 | 1
-(edge a a) (edge a c) (edge b b) | (edge a c) | (edge b a) | (edge a a) (edge b a) (edge b c) | false | none | 2
-(p a) | (p a) (p b) | (p b) | (p b) | true | 1 | 1
-(p a) | (p a) | (q a) | (q a) | true | 1 | 1
-(p a) (r c) | (p a) | (q b) | (q b) (r c) | true | 1 | 1
-(p a) | - | (q b) | (p a) (q b) (r c) | false | none | 2
-(p a) | (p a) | (p a) | (p a) | true | 0 | 0
-(p a) | - | (p a) | (p a) | true | 0 | 0
-(p a) | (p b) | - | (p a) | true | 0 | 0
-(p a) (q b) | (p b) | (p a) (q c) | (p a) (q b) (q c) | true | 1 | 1
-(p a) (q b) | (q b) (q c) | (p a) (p b) | (p a) (p b) | true | 1 | 1
-(p a) | - | - | (p a) | true | 0 | 0
-(p a) (= (n) 10) | - | (= (n) -1) | (p a) (= (n) -1) | true | 1 | 1
-(p a) (= (n) 10) | - | (= (n) -1) | (p a) (= (n) 10) | false | none | 1
-(p a) (= (n) 10) | - | (= (f a) b) | (p a) (= (n) 10) (= (f a) b) | true | 1 | 1
-(p a) (= (n) 10) | - | (= (f a) b) | (p a) (= (f a) b) | false | none | 2
-(= (f a) a) (= (f c) c) | - | (= (f b) b) | (= (f a) a) (= (f b) b) (= (f c) c) | true | 1 | 1
-(= (f a) a) (= (f c) c) | - | (= (f b) b) | (= (f a) a) (= (f b) b) (= (f c) b) | false | none | 2
-(= (f a) a) (= (f b) b) (= (n) 1) | - | (= (n) 2) | (= (f a) a) (= (f b) b) (= (n) 2) | true | 1 | 1
-(= (f a) a) (= (f b) b) (= (n) 1) | - | (= (n) 2) | (= (f a) a) (= (f b) c) (= (n) 2) | false | none | 2
-(p a) (= (f a) a) (= (n) 1) | (p a) | (q b) (= (f a) b) | (q b) (= (f a) b) (= (n) 1) | true | 1 | 1
-(p a) (= (f a) a) (= (n) 1) | (p a) | (= (n) 2) | (= (f a) a) (= (n) 2) | true | 1 | 1
-(p a) (= (f a) a) (= (n) 1) | (p a) | (= (n) 2) | (= (f a) b) (= (n) 2) | false | none | 2
+(p a) (edge a b) | (p a) | (p b) | (p b) (edge a b) | 1
+(p a) (edge a b) | (p a) | (p b) | (p b) (edge a b) (edge b a) | 2
+(p a) (edge a b) | (p a) | (p b) | (p b) | 2
+(p a) (edge a b) | (p a) | (p b) | (p a) (p b) (edge a b) | 2
+(p a) (edge a b) | (p a) | (p b) | (edge a b) | 2
+(edge a a) (edge a c) (edge b b) | (edge a c) | (edge b a) | (edge a a) (edge b a) (edge b b) | 1
+(edge a a) (edge a c) (edge b b) | (edge a c) | (edge b a) | (edge a a) (edge b a) (edge b c) | 2
+(p a) | (p a) (p b) | (p b) | (p b) | 1
+(p a) | (p a) | (q a) | (q a) | 1
+(p a) (r c) | (p a) | (q b) | (q b) (r c) | 1
+(p a) | - | (q b) | (p a) (q b) (r c) | 2
+(p a) | (p a) | (p a) | (p a) | 0
+(p a) | - | (p a) | (p a) | 0
+(p a) | (p b) | - | (p a) | 0
+(p a) (q b) | (p b) | (p a) (q c) | (p a) (q b) (q c) | 1
+(p a) (q b) | (q b) (q c) | (p a) (p b) | (p a) (p b) | 1
+(p a) | - | - | (p a) | 0
+(p a) (= (n) 10) | - | (= (n) -1) | (p a) (= (n) -1) | 1
+(p a) (= (n) 10) | - | (= (n) -1) | (p a) (= (n) 10) | 1
+(p a) (= (n) 10) | - | (= (f a) b) | (p a) (= (n) 10) (= (f a) b) | 1
+(p a) (= (n) 10) | - | (= (f a) b) | (p a) (= (f a) b) | 2
+(= (f a) a) (= (f c) c) | - | (= (f b) b) | (= (f a) a) (= (f b) b) (= (f c) c) | 1
+(= (f a) a) (= (f c) c) | - | (= (f b) b) | (= (f a) a) (= (f b) b) (= (f c) b) | 2
+(= (f a) a) (= (f b) b) (= (n) 1) | - | (= (n) 2) | (= (f a) a) (= (f b) b) (= (n) 2) | 1
+(= (f a) a) (= (f b) b) (= (n) 1) | - | (= (n) 2) | (= (f a) a) (= (f b) c) (= (n) 2) | 2
+(p a) (= (f a) a) (= (n) 1) | (p a) | (q b) (= (f a) b) | (q b) (= (f a) b) (= (n) 1) | 1
+(p a) (= (f a) a) (= (n) 1) | (p a) | (= (n) 2) | (= (f a) a) (= (n) 2) | 1
+(p a) (= (f a) a) (= (n) 1) | (p a) | (= (n) 2) | (= (f a) b) (= (n) 2) | 2
 ";
-
-/// Whether a world is found to be the one after the changes.
-fn is_after(w: &World, old: &World, less: &Said, more: &Said) -> bool {
-    w.is_after(
-        old,
-        less.facts.as_slice(),
-        more.facts.as_slice(),
-        more.places.as_slice(),
-    )
-}
-
-/// The number by which the world after the changes is found.
-fn found_in(worlds: &Worlds, first: usize, less: &Said, more: &Said) -> Option<usize> {
-    if first >= worlds.len() {
-        return None;
-    }
-    worlds.find_after(
-        first,
-        less.facts.as_slice(),
-        more.facts.as_slice(),
-        more.places.as_slice(),
-    )
-}
 
 /// The number as a text.
 fn text_of(alloc: Global, number: Option<usize>) -> Result<String, Stop> {
@@ -127,15 +104,11 @@ fn is_found<R: Abort>(rt: &R, alloc: Global, names: &Names, row: &str) -> Result
     let more = said_in(alloc, names, column(row, 2))?;
     let old = world_in(alloc, names, column(row, 0))?;
     let other = world_in(alloc, names, column(row, 3))?;
-    let wanted = column(row, 4) == "true";
-    is_true(rt, is_after(&other, &old, &less, &more) == wanted, row);
     let mut worlds = both_worlds(alloc, old, other)?;
-    let found = text_of(alloc, found_in(&worlds, 0, &less, &more))?;
-    is_text(rt, found.as_str(), column(row, 5), row);
     let kept = text_of(alloc, kept_in(&mut worlds, 0, &less, &more)?)?;
-    is_text(rt, kept.as_str(), column(row, 6), row);
+    is_text(rt, kept.as_str(), column(row, 4), row);
     let again = text_of(alloc, kept_again(&mut worlds, 0, &less, &more)?)?;
-    is_text(rt, again.as_str(), wanted_again(column(row, 6)), row);
+    is_text(rt, again.as_str(), wanted_again(column(row, 4)), row);
     Ok(())
 }
 

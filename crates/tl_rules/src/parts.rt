@@ -1,7 +1,7 @@
 // The parts of forms.
-ghost use Rattle.std.specs.Prelude.{◌≡◌, ◌<◌, ◌^◌, ◌+◌, ◌==◌, false, option_map, IfSome, MatchOption};
+ghost use Rattle.std.specs.Prelude.{◌≡◌, ◌<◌, ◌==◌, false, option_map, IfSome, MatchOption};
 ghost use Rattle.tl_sexpr.specs.Tree.{tree_of, no_form, more_forms};
-ghost use Rattle.tl_rules.specs.Parts.{is_variable, elements_of, is_integer, is_name, offset_of, is_list, any_list, count, is_word, size, sizes, symbol_text, call_of, is_call, rest_of, begins_with};
+ghost use Rattle.tl_rules.specs.Parts.{is_variable, elements_of, is_integer, is_name, offset_of, is_list, any_list, count, is_word, sizes, symbol_text, call_of, is_call, rest_of, begins_with};
 ghost use Rattle.tl_rules.specs.Reads.{trees_in};
 
 use tl_sexpr::Form;
@@ -137,19 +137,6 @@ pub fn is_integer(form: &Form) -> bool
         Form::Sym(_, _) => false,
         Form::Int(_, _) => true,
         Form::List(_, _) => false,
-    }
-}
-
-/// How many elements a list has.
-#[tactic(auto, using(crate::proofs::FormTrees::form_trees, crate::proofs::Composed::composed))]
-pub fn list_len(form: &Form) -> usize
-    ensures count { result ≡ count (elements_of (tree_of form.now)) }
-    ensures small { result < 2 ^ 63 }
-{
-    match form {
-        Form::Sym(_, _) => 0,
-        Form::Int(_, _) => 0,
-        Form::List(forms, _) => forms.as_slice().len(),
     }
 }
 

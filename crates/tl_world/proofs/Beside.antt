@@ -42,9 +42,6 @@ module _ (fs : List Fact) where
   pub same-beside : (s t : set.FinSet key_cmp) → s ≡ t → AreSameBeside fs s t
   same-beside s t e q h = ap (λ u. set.contains u q) e
 
-  pub beside-then : (r s t : set.FinSet key_cmp) → AreSameBeside fs r s → AreSameBeside fs s t → AreSameBeside fs r t
-  beside-then r s t a b q h = a q h ∙ b q h
-
   pub removed-beside : (s t : set.FinSet key_cmp) (k : Key) → AreSameBeside fs s t → AreSameBeside fs (set.remove s k) (set.remove t k)
   removed-beside s t k r q h = set.contains-remove key_total s k q ∙ (ap (λ b. not (eq_by_cmp key_cmp q k) && b) (r q h) ∙ sym (set.contains-remove key_total t k q))
 

@@ -39,10 +39,6 @@ goes-on w has p begun m place rows after next h puts bound later =
     subst (λ b. CanReadOn w (pattern_if b p) true after next (Some rows)) (sym h.counts)
     (h.lawful, λ _. size-of-next p.free _ true after puts refl, record { turn = h.through.turn; order = h.through.order; table = h.through.table; bound = bound; later = later })
 
--- a reader without rows can always go on
-pub asks-on : (w : World) (has : Bool) (p : Pattern) (begun : Bool) (m after : Match) (place next : ℕ) (rows : List (List Value)) → HasRows w has p begun m place rows → CanReadOn w (pattern_if has p) false after next None
-asks-on w has p begun m after place next rows h = subst (λ b. CanReadOn w (pattern_if b p) false after next None) (sym h.counts) (h.lawful, (λ e. let d : false ≡ true = e in cc), tt)
-
 -- where no match has come, it can go on from the first place of the table
 pub begins-table : (w : World) (has : Bool) (p : Pattern) (begun : Bool) (m : Match) (before place : ℕ) (o : Option (List (List Value))) (rows : List (List Value)) → has ≡ true → begun ≡ false → CanReadOn w (pattern_if has p) begun m before o
     → GoesThrough w p false m place rows → CanReadOn w (pattern_if has p) begun m place (Some rows)

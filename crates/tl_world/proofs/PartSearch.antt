@@ -1,7 +1,7 @@
 -- A search by halves among some rows that follow one another, as one among all of them.
-use Rattle.std.proofs.Common.{◌≡◌, ℕ, zero, suc, ◌+◌, ◌<◌, ◌≤◌, List, [], ◌++◌, length, length-append, get_or, refl, sym, ap, ◌∙◌, subst, arith, Ordering, Less, Equal, Greater, Err, inl, inr}
+use Rattle.std.proofs.Common.{◌≡◌, ℕ, zero, suc, ◌+◌, ◌<◌, ◌≤◌, List, [], length, get_or, refl, sym, ap, ◌∙◌, subst, arith, Ordering, Less, Equal, Greater, Err, inl, inr}
 use Rattle.std.proofs.lemmas.Bool.{cases_lt}
-use Rattle.std.proofs.lemmas.List.{get_or_append_left, get_or_default, get_or-append-add}
+use Rattle.std.proofs.lemmas.List.{get_or_default}
 use Rattle.std.specs.List.{HoldsAt, AllWithin}
 use Rattle.std.specs.List.Sorted.{IsBinarySearchResult, IsNonDecreasingBy, IsPartitionPoint}
 use Rattle.std.specs.Ordering.{ordering_index, is_gt}
@@ -10,7 +10,7 @@ use Rattle.tl_syntax.specs.declared.value.Value.{Value}
 use Rattle.tl_world.specs.Plain.{row_cmp}
 use Rattle.tl_world.specs.Runs.{IsPartFor}
 use Rattle.tl_world.proofs.Narrowing.{all-less, all-greater}
-use Rattle.tl_world.proofs.Parts.{row-of-part, last-part, first-part}
+use Rattle.tl_world.proofs.Parts.{row-of-part}
 
 module _ (args : List Value) (all rows : List (List Value)) (from : ℕ) (h : IsPartFor args all from rows) where
   abbrev found : List Value → Ordering
@@ -22,9 +22,6 @@ module _ (args : List Value) (all rows : List (List Value)) (from : ℕ) (h : Is
   -- a row that is among them is among all
   pub found-in-part : (k i : ℕ) → i ≡ from + k → k < length rows → HoldsAt (λ r. row_cmp r args ≡ Equal) rows k → HoldsAt (λ r. row_cmp r args ≡ Equal) all i
   found-in-part k i e p at d = subst (λ n. row_cmp (get_or all n d) args ≡ Equal) (sym e) (subst (λ r. row_cmp r args ≡ Equal) (here k d p) (at d))
-
-  pub within-part : (k i : ℕ) → i ≡ from + k → k < length rows → i < length all
-  within-part k i e p = let w = h.part.within in omega (arith, e, p, w)
 
   rises-too : IsNonDecreasingBy (λ r. ordering_index (row_cmp r args)) all → IsNonDecreasingBy (λ r. ordering_index (row_cmp r args)) rows
   rises-too rise i j d p q =
@@ -84,43 +81,3 @@ pub is-after : (o : Ordering) → is_gt o ≡ true → o ≡ Greater
 is-after Less h = absurd (true≢false (sym h))
 is-after Equal h = absurd (true≢false (sym h))
 is-after Greater h = refl
-
--- the last rows, where there are no others
-pub last-alone : (args : List Value) (s t : List (List Value)) (n : ℕ) → n ≡ length s → n ≡ 0 → IsPartFor args (s ++ t) n t
-last-alone args s t n e z = record {
-  part = last-part s t n e;
-  filled = λ p. absurd (omega (arith, p, z));
-  before = λ p. absurd (omega (arith, p, z));
-  after = λ p. let l : length (s ++ t) ≡ length s + length t = length-append s t in absurd (omega (arith, p, l, e));
-}
-
--- the last rows, where they do not begin after the arguments
-pub last-for : (args : List Value) (s t : List (List Value)) (n : ℕ) → n ≡ length s → 0 < length t → is_gt (row_cmp (get_or t 0 []) args) ≡ false → IsPartFor args (s ++ t) n t
-last-for args s t n e some low = record {
-  part = last-part s t n e;
-  filled = λ _. some;
-  before = λ p f.
-      let at : get_or (s ++ t) n [] ≡ get_or t 0 [] = ap (λ k. get_or (s ++ t) k []) (let m : n ≡ length s + 0 = omega (arith, e) in m) ∙ get_or-append-add s t 0 [] in
-      not-after _ low (subst (λ r. row_cmp r args ≡ Greater) at f);
-  after = λ p. let l : length (s ++ t) ≡ length s + length t = length-append s t in absurd (omega (arith, p, l, e));
-}
-
--- some of the first rows, where the last rows begin after the arguments
-pub first-for : (args : List Value) (s t rows : List (List Value)) (from : ℕ) → IsPartFor args s from rows → 0 < length rows → (0 < length t → is_gt (row_cmp (get_or t 0 []) args) ≡ true) → IsPartFor args (s ++ t) from rows
-first-for args s t rows from h some high = record {
-  part = first-part s t rows from h.part;
-  filled = h.filled;
-  before = λ p f.
-      let w = h.part.within in
-      let at : get_or (s ++ t) from [] ≡ get_or s from [] = get_or_append_left s t [] from (omega (arith, w, some)) in
-      h.before p (subst (λ r. row_cmp r args ≡ Greater) at f);
-  after = λ p. elim (cases_lt (from + length rows) (length s)) [
-    | inl low ↦ subst (λ r. row_cmp r args ≡ Greater) (sym (get_or_append_left s t [] (from + length rows) low)) (h.after low)
-    | inr past ↦
-        let w = h.part.within in
-        let l : length (s ++ t) ≡ length s + length t = length-append s t in
-        let filled : 0 < length t = omega (arith, p, l, past) in
-        let at : get_or (s ++ t) (from + length rows) [] ≡ get_or t 0 [] = ap (λ k. get_or (s ++ t) k []) (let m : from + length rows ≡ length s + 0 = omega (arith, w, past) in m) ∙ get_or-append-add s t 0 [] in
-        subst (λ r. row_cmp r args ≡ Greater) (sym at) (is-after _ (high filled))
-  ];
-}

@@ -1,6 +1,6 @@
 -- Items of a list from a place on up to another one.
 use Rattle.std.proofs.Common.{◌≡◌, ℕ, zero, suc, ◌+◌, ◌-◌, ◌<◌, ◌≤◌, List, [], ◌∷◌, ◌++◌, length, length-append, get_or, take, drop, append_assoc, refl, sym, ap, ◌∙◌, subst, arith}
-use Rattle.std.proofs.lemmas.List.{take_all, drop_all, take-take, drop-drop, drop-take, take-append-le, drop-append-le, get_or-take, get_or-drop, length-drop, length-take-le}
+use Rattle.std.proofs.lemmas.List.{take_all, drop_all, take-take, drop-drop, drop-take, take-append-le, drop-append-le, get_or-take, get_or-drop, length-drop}
 use Rattle.std.proofs.Math.Seq.{drop-append_seam}
 use Rattle.std.specs.List.{insert, remove}
 use Rattle.tl_syntax.specs.declared.value.Value.{Value}
@@ -59,9 +59,6 @@ module _ {X : Type 0} where
   -- one more part after others
   pub grown-between : (first old new xs : List X) (a b c : ℕ) → a ≤ b → b ≤ c → old ≡ first ++ between xs a b → new ≡ old ++ between xs b c → new ≡ first ++ between xs a c
   grown-between first old new xs a b c p q e f = f ∙ (ap (λ ys. ys ++ between xs b c) e ∙ (append_assoc first (between xs a b) (between xs b c) ∙ ap (λ ys. first ++ ys) (between-joined xs a b c p q)))
-
-  pub length-between-of : (xs : List X) (a b : ℕ) → a ≤ b → b ≤ length xs → length (between xs a b) ≡ b - a
-  length-between-of xs a b p q = let l : length (drop a xs) ≡ length xs - a = length-drop a xs in length-take-le (b - a) (drop a xs) (let m : b - a ≤ length (drop a xs) = omega (arith, l, q) in m)
 
   -- an item of a part
   pub get-between-of : (xs : List X) (a b j : ℕ) (d : X) → j < b - a → get_or (between xs a b) j d ≡ get_or xs (a + j) d

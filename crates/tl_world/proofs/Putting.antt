@@ -1,9 +1,8 @@
 -- Values put in place part by part make the parts the row.
 use Rattle.std.proofs.Common.{◌≡◌, ℕ, zero, suc, ◌<◌, ◌≤◌, ◌+◌, Bool, true, false, ◌||◌, true≢false, List, [], ◌∷◌, length, get_or, take, drop, drop-cons, leb, eqb, eqb-true, eq-eqb, Some, refl, sym, ap, ◌∙◌, subst, arith, ◌≢◌}
-use Rattle.std.proofs.lemmas.Bool.{eqb-false}
 use Rattle.std.proofs.lemmas.List.{take_all}
 use Rattle.std.proofs.lemmas.Option.{slice_get-get_or}
-use Rattle.std.specs.Prelude.{slice_get, slice_set}
+use Rattle.std.specs.Prelude.{slice_get}
 use Rattle.tl_syntax.specs.declared.value.Value.{Value}
 use Rattle.tl_syntax.specs.DerivedTests.{value_eq}
 use Rattle.tl_syntax.proofs.Plain.{both, with_both, value-tells}
@@ -11,7 +10,7 @@ use Rattle.tl_world.specs.declared.pattern.Part.{Part}
 use Rattle.tl_world.specs.declared.pattern.Part.TheVariants.{Fixed, Free}
 use Rattle.tl_world.specs.Fits.{is_value, fits_at, fits_all, occurs, BeginsAs}
 use Rattle.tl_world.specs.Front.{seen_after, seen_in, is_in_turn, are_in_turn}
-use Rattle.tl_world.proofs.Matching.{set-at, set-other, is_value-some}
+use Rattle.tl_world.proofs.Matching.{is_value-some}
 
 -- one part
 pub fits-here : (ps : List Part) (vs t : List Value) (k : ℕ) (p d : Part) (v e : Value) → k < length ps → length ps ≡ length vs → get_or ps k d ≡ p → get_or vs k e ≡ v → fits_all ps vs t ≡ true → fits_at p v t ≡ true
@@ -75,16 +74,6 @@ begins-taken values seen free p m q = taken values free m (omega (arith, p, q))
 -- all parts
 pub fits-whole : (ps : List Part) (vs t : List Value) (k : ℕ) → length ps ≡ length vs → length ps ≤ k → fits_all (take k ps) (take k vs) t ≡ true → fits_all ps vs t ≡ true
 fits-whole ps vs t k same p h = (λ i. fits_all (sym (take_all k ps p) i) (sym (take_all k vs (subst (λ n. n ≤ k) same p)) i) t) ∙ h
-
--- a value that a new variable gets
-pub put-begins : (values t : List Value) (n : ℕ) (v : Value) → n < length values → BeginsAs n values t → fits_at (Free n) v t ≡ true → BeginsAs (n + 1) (slice_set values n v) t
-put-begins values t n v p begins f m q = (elim (eqb n m) as (λ b. eqb n m ≡ b → slice_get (slice_set values n v) m ≡ slice_get t m) [
-  | true ↦ λ e. let is : n ≡ m = eqb-true n m e in subst (λ i. slice_get (slice_set values n v) i ≡ slice_get t i) is (set-at values n v p ∙ sym (is_value-some (slice_get t n) v f))
-  | false ↦ λ e. let d : n ≢ m = eqb-false n m e in set-other values n m v d ∙ begins m (omega arith)
-]) refl
-
-pub put-kept : (values : List Value) (n : ℕ) (v : Value) → BeginsAs n (slice_set values n v) values
-put-kept values n v m q = set-other values n m v (λ e. let d : ⊥ = omega (arith, e, q) in d)
 
 pub has-value : (t : List Value) (n : ℕ) (v : Value) → Some v ≡ slice_get t n → fits_at (Free n) v t ≡ true
 has-value t n v e = ap (λ o. is_value o v) (sym e) ∙ (value-tells v v).1 refl

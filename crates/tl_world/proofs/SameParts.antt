@@ -1,5 +1,5 @@
 -- When rows in runs are the same.
-use Rattle.std.proofs.Common.{◌≡◌, ℕ, suc, ◌+◌, ◌-◌, ◌<◌, ◌≤◌, Bool, ◌&&◌, true, false, true≢false, List, [], ◌∷◌, ◌++◌, length, get_or, take, drop, drop-cons, drop-drop, refl, sym, ap, ◌∙◌, arith}
+use Rattle.std.proofs.Common.{◌≡◌, ℕ, ◌+◌, ◌-◌, ◌<◌, ◌≤◌, Bool, true, false, true≢false, List, [], ◌∷◌, ◌++◌, length, get_or, take, drop, drop-drop, refl, sym, ap, ◌∙◌, arith}
 use Rattle.std.proofs.lemmas.List.{take_all, take-take, take_more, length-drop, length-take, drop-take}
 use Rattle.std.proofs.Math.Seq.{take-append_seam}
 use Rattle.tl_syntax.specs.declared.value.Value.{Value}
@@ -110,10 +110,3 @@ pub parts-same : (xs ys rows others : List (List Value)) (from start k l n : ℕ
     → take n (drop (k - from) rows) ≡ take n (drop (l - start) others) → length (take n (drop (k - from) rows)) ≡ n → take n (drop k xs) ≡ take n (drop l ys)
 parts-same xs ys rows others from start k l n h g p q v w e many =
     sym (part-rows xs rows from k n h p v many) ∙ (e ∙ part-rows ys others start l n g q w (sym (ap length e) ∙ many))
-
--- lists of values are compared value by value
-pub rest-told : (xs ys : List Value) (i j : ℕ) (x y : Value) → j ≡ i + 1 → i < length xs → i < length ys → x ≡ get_or xs i x → y ≡ get_or ys i y → values_eq (drop i xs) (drop i ys) ≡ (value_eq x y && values_eq (drop j xs) (drop j ys))
-rest-told xs ys i j x y e p q f g =
-    let s : suc i ≡ j = omega (arith, e) in
-    (λ k. values_eq (drop-cons xs i x p k) (drop-cons ys i y q k))
-    ∙ (λ k. value_eq (sym f k) (sym g k) && values_eq (drop (s k) xs) (drop (s k) ys))

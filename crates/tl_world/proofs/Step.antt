@@ -46,10 +46,6 @@ module _ {X : Type 0} where
   pub row-where-order : (a : List Value) (rs : PlainRows X) → T (dict.is_sorted row_cmp rs) → T (dict.is_sorted row_cmp (where_key row_cmp (other_than row_cmp a) rs))
   row-where-order a rs s = is_sorted-where_key row_cmp (λ x. not (eq_by_cmp row_cmp a x)) rs s
 
-  -- the rows of the number n
-  abbrev pub rows_at : ℕ → PlainTables X → PlainRows X
-  rows_at n ts = Rattle.std.specs.Option.unwrap_or (dict.find nat_cmp n ts) []
-
   -- a look-up after the rows of n became rs
   find-after : (n m : ℕ) (b : List Value) (rs : PlainRows X) (ts : PlainTables X) → InOrder ts → T (dict.is_sorted nat_cmp (dict.put nat_cmp n rs ts))
       → dict.find key_cmp (m, b) (entries_of (dict.put nat_cmp n rs ts)) ≡ cond (is_eq (nat_cmp m n)) (dict.find row_cmp b rs) (dict.find key_cmp (m, b) (entries_of ts))

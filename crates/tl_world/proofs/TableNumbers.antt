@@ -73,11 +73,6 @@ module _ (ws : List World) where
       by None _ = λ i t k _ f. let d : ⊥ = cc in absurd d
       by (Some s) f = λ i t k g m. number-of-all (suc n) ws t w k ((h.1 n s w e f).0.1 i t k g m)
 
-  -- a table that the changes leave alone keeps its number
-  pub passed-on : (from : ℕ) (dels adds : List Fact) (sets : List PlaceValue) (v w : World) (t : TableName) (k : ℕ) → IsTableNumber ws t v k → slice_get ws from ≡ Some v → changes_table dels adds sets t ≡ false → ComesFrom ws from dels adds sets w
-      → IsTableNumber ws t w k
-  passed-on from dels adds sets v w t k n e free c = (n.0, λ u f. alike-then t u v w (n.1 u f) (c v t e free))
-
 -- what stands at a place of a list with one item more
 at-end : {A : Type 0} (xs : List A) (x y : A) (i : ℕ) → slice_get (xs ++ x ∷ []) i ≡ Some y → (slice_get xs i ≡ Some y) ⊎ ((i ≡ length xs) × (x ≡ y))
 at-end [] x y zero e = inr (refl, let d : x ≡ y = cc in d)

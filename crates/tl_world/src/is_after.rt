@@ -1,6 +1,6 @@
 // Whether a world is the one that changes make of another.
 ghost use Rattle.std.specs.List.{list_all};
-ghost use Rattle.std.specs.Prelude.{◌≡◌, [], true};
+ghost use Rattle.std.specs.Prelude.{◌≡◌, true};
 ghost use Rattle.tl_syntax.specs.Keys.{fact_key};
 ghost use Rattle.tl_terms.specs.World.{has_fact};
 ghost use Rattle.tl_world.specs.Edits.{changed_places};
@@ -37,25 +37,6 @@ impl World {
     {
         sets.iter()
             .all(|p| self.value(p.fun, p.args.as_slice()) == Some(p.value))
-    }
-
-    /// Whether this world is found to be the one that the changes make of the world `from`, without
-    /// making it: both are gone over once, side by side. It may be so where the answer is no, as
-    /// where one place is set to two values. It takes no memory.
-    pub fn is_after(&self, from: &World, dels: &[Fact], adds: &[Fact], sets: &[PlaceValue]) -> bool
-        ensures facts { result ≡ true
-            → self.now.facts ≡ changed_facts from.now.facts dels.now adds.now }
-        ensures places { result ≡ true → self.now.places ≡ changed_places from.now.places sets.now }
-    {
-        let this = Numbered {
-            world: self,
-            numbers: &[],
-        };
-        let before = Numbered {
-            world: from,
-            numbers: &[],
-        };
-        this.is_after(&before, dels, adds, sets)
     }
 }
 
@@ -96,9 +77,9 @@ impl<'a> Numbered<'a> {
         self.world.has_values_beside(self.numbers, from, sets)
     }
 
-    /// Whether this world is found to be the one that the changes make of the world `from`, as
-    /// `World::is_after` finds it. Tables with one number are passed without a look at what they
-    /// hold. It takes no memory.
+    /// Whether this world is found to be the one that the changes make of the world `from`, without
+    /// making it: both are gone over once, side by side, but for tables with one number. It may be
+    /// so where the answer is no, as where one place is set to two values. It takes no memory.
     pub(crate) fn is_after(
         &self,
         from: &Numbered<'a>,

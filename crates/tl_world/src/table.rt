@@ -133,13 +133,6 @@ impl PlaceRows {
         self.values.len()
     }
 
-    /// Whether there is no row.
-    pub fn is_empty(&self) -> bool
-        ensures { result ≡ (length self.now == 0) }
-    {
-        self.len() == 0
-    }
-
     /// The arguments of the function's place at place `k` of the list, counted from 0.
     pub fn args(&self, k: usize) -> &[Value]
         requires { k < length self.now }

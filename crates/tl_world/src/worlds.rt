@@ -132,41 +132,29 @@ impl Worlds {
         }
     }
 
-    /// The number of the world that the changes make of the world of the number `from`, where it is
-    /// found without making it: where none of the changes is given twice and no later world has the
-    /// same mark. It may have a number where none is found. It takes no memory.
-    pub fn find_after(
-        &self,
-        from: usize,
-        dels: &[Fact],
-        adds: &[Fact],
-        sets: &[PlaceValue],
-    ) -> Option<usize>
-        requires { from < length (worlds_in self.now) }
-        ensures { IfSome result
-            (IsNumberAfter (worlds_in self.now) from dels.now adds.now sets.now) }
+    /// The number of the world that comes from the source, where it is found without making it:
+    /// where none of the changes is given twice and no later world has the same mark. It may have a
+    /// number where none is found. It takes no memory.
+    fn find_after(&self, source: &Source<'_>) -> Option<usize>
+        requires { source.now.from < length (worlds_in self.now) }
+        ensures { IfSome result (IsNumberAfter (worlds_in self.now) source.now.from
+            source.now.dels.now source.now.adds.now source.now.sets.now) }
     {
-        let source = Source {
-            from,
-            dels,
-            adds,
-            sets,
-        };
-        let before = self.get(from);
-        let mark = before.mark_after(dels, adds, sets);
-        if let Some(number) = self.find_by_mark(mark, &source) {
+        let before = self.get(source.from);
+        let mark = before.mark_after(source.dels, source.adds, source.sets);
+        if let Some(number) = self.find_by_mark(mark, source) {
             return Some(number);
         }
-        let exact = before.corrected_mark(mark, dels, adds);
+        let exact = before.corrected_mark(mark, source.dels, source.adds);
         if exact == mark {
             return None;
         }
-        self.find_by_mark(exact, &source)
+        self.find_by_mark(exact, source)
     }
 
     /// The number of the world that the changes make of the world of the number `from`: the one
-    /// that it has, which is mostly found as by `find_after`, or else the next one. Its tables that
-    /// the changes leave alone keep their numbers. It fails for want of memory alone.
+    /// that it has, which is mostly found without making the world, or else the next one. Its tables
+    /// that the changes leave alone keep their numbers. It fails for want of memory alone.
     pub fn number_after(
         &mut self,
         from: usize,
@@ -184,16 +172,16 @@ impl Worlds {
         ensures stay { Stay (worlds_in self.old) (worlds_in self.new) }
         ensures refused { OnErr result (worlds_in self.new ≡ worlds_in self.old) }
     {
-        if let Some(known) = self.find_after(from, dels, adds, sets) {
-            return Ok(known);
-        }
-        let next = self.get(from).changed(self.alloc, dels, adds, sets)?;
         let source = Source {
             from,
             dels,
             adds,
             sets,
         };
+        if let Some(known) = self.find_after(&source) {
+            return Ok(known);
+        }
+        let next = self.get(from).changed(self.alloc, dels, adds, sets)?;
         self.keep(next, &source)
     }
 
