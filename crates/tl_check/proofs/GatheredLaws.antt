@@ -1,37 +1,20 @@
 -- The tuples of a bound along some states, and the labels of a quantifier by them.
-use Rattle.std.proofs.Common.{◌≡◌, ◌≤◌, ◌<◌, ◌+◌, ◌-◌, ◌↔◌, ◌⊎◌, ℕ, zero, suc, List, [], ◌∷◌, ◌++◌, drop, take, length, get_or, replicate, Bool, true, false, true≢false, not, Option, Some, None, IsSome, Ok, Err, Equal, refl, sym, ap, ◌∙◌, subst, inl, inr, arith}
+use Rattle.std.proofs.Common.{◌≡◌, ◌≤◌, ◌<◌, ◌+◌, ◌-◌, ◌↔◌, ◌⊎◌, ℕ, zero, suc, List, [], ◌∷◌, ◌++◌, take, length, Bool, true, false, true≢false, Option, Some, None, Equal, refl, sym, ap, ◌∙◌, subst, inl, inr, arith}
 use Rattle.std.specs.Cmp.{tied_itself}
-use Rattle.std.specs.Global.{Vec}
-use Rattle.std.specs.HashMap.{get}
 use Rattle.std.specs.Ordering.{is_lt}
 use Rattle.std.specs.Prelude.{slice_get}
-use Rattle.std.proofs.lemmas.List.{length-replicate, get_or-replicate}
 use native.Mathlib.Decide.{dec_lt}
-use Rattle.tl_check.proofs.AtomLaws.{opened, opened-at}
-use Rattle.tl_check.proofs.GuidedLaws.{same-by, some-decides, decided-by_some, one-out, open-is_not, instance-in, bound-world}
-use Rattle.tl_check.proofs.HistoryLaws.{there-is, each-among, each-added}
-use Rattle.tl_check.proofs.JoinLaws.{joins-idle, joins-idle_right, joins-assoc, quantified-joined}
+use Rattle.tl_check.proofs.HistoryLaws.{each-added}
 use Rattle.tl_check.proofs.LineLaws.{truth-before_change, truth-past_change, before-added}
-use Rattle.tl_check.proofs.LookedLaws.{comes-later, instance-looked}
-use Rattle.tl_check.proofs.SpanLaws.{marks_in-by, test_from-marks_in}
-use Rattle.tl_check.specs.Ahead.{Course, true_ahead}
-use Rattle.tl_check.specs.Facts.{bound_ahead}
 use Rattle.tl_check.specs.Gathered.{GoesOn, BeginsAt, HoldsIn, IsNoted, IsTuple, TellTuples}
-use Rattle.tl_check.specs.Instances.{instance_ahead, JoinsInstance}
-use Rattle.tl_check.specs.Labelled.{AreLabels}
-use Rattle.tl_check.specs.Lines.{truth_from, test_from, AreBefore}
-use Rattle.tl_check.specs.Passes.{joins}
-use Rattle.tl_check.specs.Quantifiers.{Quantifier, joined_truths}
-use Rattle.tl_check.specs.Spans.{IsWithin, marks_in}
-use Rattle.tl_check.specs.Tracks.{Lines, changes_in, line_in, fact_with, HaveSeenAll, SeesOne}
-use Rattle.tl_action.specs.declared.check_fault.CheckFault.{CheckFault}
+use Rattle.tl_check.specs.Lines.{truth_from, AreBefore}
+use Rattle.tl_check.specs.Tracks.{Lines, line_in, fact_with, HaveSeenAll, SeesOne}
 use Rattle.tl_action.specs.declared.check_fault.CheckFault.TheVariants as fault
 use Rattle.tl_check.specs.declared.line.Change.{Change}
 use Rattle.tl_check.specs.declared.span.Span.{Span}
 use Rattle.tl_check.specs.declared.tracks.Tracks.{Tracks}
 use Rattle.tl_eval.proofs.TupleRest.{later, rest_after, all-after-none, rest-none, rest-some}
-use Rattle.tl_eval.specs.Notes.{operation_of}
-use Rattle.tl_syntax.proofs.ListLaws.{one_in, Among-filter}
+use Rattle.tl_syntax.proofs.ListLaws.{Among-filter}
 use Rattle.tl_syntax.proofs.Plain.{fact-tells}
 use Rattle.tl_syntax.specs.declared.bound.Bound.{Bound}
 use Rattle.tl_syntax.specs.declared.fact.Fact.{Fact}
@@ -40,7 +23,6 @@ use Rattle.tl_syntax.specs.declared.variable.Var.{Var}
 use Rattle.tl_syntax.specs.Assignment.{Assignment, bind}
 use Rattle.tl_syntax.specs.BoundVariables.{DifferInSlot, OccurIn}
 use Rattle.tl_syntax.specs.DerivedTests.{fact_eq}
-use Rattle.tl_syntax.specs.Junctions.{deciding_truth, quantified}
 use Rattle.tl_syntax.specs.Lists.{Each, Among}
 use Rattle.tl_terms.proofs.Tuples.{all-tuples}
 use Rattle.tl_terms.specs.Bounds.{bound_true, tuples}
@@ -251,119 +233,3 @@ module _ (p : PlainProblem) (ws : List World) (e : Assignment) (ss : List Var) (
     covered = so.covered;
     counts = so.counts;
   }
-
-some-changes : (o : Option (Vec Change)) (i : ℕ) → truth_from false (changes_in o) i ≡ true → IsSome o
-some-changes None i h = absurd (true≢false (sym h))
-some-changes (Some v) i h = refl
-
--- ---- the labels of a quantifier by its tuples
-
--- the labels so far and the instances that are left are together those of the formula
-pub record Stepped (p : Course) (ws : List World) (e : Assignment) (q : Quantifier) (span : Span) (bs : List Bool) (left : List Fact) : Type 0 where
-  pub size : length bs ≡ span.to - span.from
-  pub so_far : (k : ℕ) → k < span.to - span.from → true_ahead p e (quantified q.junction q.vars q.bound q.part) (drop (span.from + k) ws)
-      ≡ joins q.junction (get_or bs k false) (joined_truths q.junction (λ f. instance_ahead p q (bind q.vars f.args e) (drop (span.from + k) ws)) left)
-
-module _ (p : Course) (ws : List World) (e : Assignment) (q : Quantifier) (d : DifferInSlot q.vars) (o : OccurIn q.vars q.bound) (span : Span) (within : IsWithin span (length ws)) (tracks : Tracks) (tell : TellTuples p.problem ws e q.vars q.bound span tracks) where
-  abbrev seen : List Fact
-  seen = tracks.seen.items
-
-  -- where the tuple of a fact makes the bound true
-  pub tuple-labels : (f : Fact) → IsTuple (length q.vars) f → test_from (truth_from false (line_in tracks.lines f)) span.from (span.to - span.from) ≡ marks_in (bound_ahead p.problem (bind q.vars f.args e) q.bound) ws span
-  tuple-labels f is = test_from-marks_in (truth_from false (line_in tracks.lines f)) (bound_ahead p.problem (bind q.vars f.args e) q.bound) ws span within (λ i h l. (
-      let room = within.within in
-      let v = there-is ws i (omega arith) in
-      let told = tell.tell f.args i v.0 h l v.1 in
-      let are = all-tuples (situation_of p.problem v.0) e q.vars q.bound d o f.args in
-      ap (λ (g : Fact). truth_from false (line_in tracks.lines g) i) is.0
-      ∙ (same-by true (truth_from false (line_in tracks.lines (fact_with 0 f.args)) i) (bound_true (situation_of p.problem v.0) (bind q.vars f.args e) q.bound) (λ t. (are.0 (told.0 t)).1) (λ t. told.1 (are.1 (is.1, t)))
-      ∙ sym (ap (bound_ahead p.problem (bind q.vars f.args e) q.bound) (opened-at ws i v.0 v.1)))
-      ))
-
-  abbrev truth : List World → Fact → Bool
-  truth s f = instance_ahead p q (bind q.vars f.args e) s
-
-  -- the instances in a world are among those of the tuples that were seen
-  whole-seen : (k : ℕ) (w : World) (vs : List World) → span.from ≤ k → k < span.to → slice_get ws k ≡ Some w → true_ahead p e (quantified q.junction q.vars q.bound q.part) (w ∷ vs) ≡ joined_truths q.junction (truth (w ∷ vs)) seen
-  whole-seen k w vs low high at =
-      let here = tuples (situation_of p.problem w) e q.vars q.bound in
-      let plain : List Value → Bool = λ t. true_ahead p (bind q.vars t e) q.part (w ∷ vs) in
-      quantified-joined p e q.junction q.vars q.bound q.part w vs
-      ∙ same-by (deciding_truth q.junction) (joined_truths q.junction plain here) (joined_truths q.junction (truth (w ∷ vs)) seen)
-      (λ h. (
-      let found = one-out (λ t. plain t ≡ deciding_truth q.junction) here (some-decides q.junction plain here h) in
-      let t = found.0 in
-      let known = (all-tuples (situation_of p.problem w) e q.vars q.bound d o t).0 found.1 in
-      let there = tell.covered (fact_with 0 t) (some-changes (get fact_eq tracks.lines (fact_with 0 t)) k ((tell.tell t k w low high at).1 found.1)) in
-      decided-by_some q.junction (truth (w ∷ vs)) seen (one_in (λ f. truth (w ∷ vs) f ≡ deciding_truth q.junction) (fact_with 0 t) seen there (instance-in p q (bind q.vars t e) w vs true known.1 ∙ found.2))
-      ))
-      (λ h. (
-      let found = one-out (λ f. truth (w ∷ vs) f ≡ deciding_truth q.junction) seen (some-decides q.junction (truth (w ∷ vs)) seen h) in
-      let f = found.0 in
-      let known = each-among (IsTuple (length q.vars)) seen f tell.counts found.1 in
-      let is = by f.args (bound_true (situation_of p.problem w) (bind q.vars f.args e) q.bound) refl found.2 in
-      let there = (all-tuples (situation_of p.problem w) e q.vars q.bound d o f.args).1 (known.1, is.0) in
-      decided-by_some q.junction plain here (one_in (λ u. plain u ≡ deciding_truth q.junction) f.args here there is.1)
-      ))
-    where
-      by : (t : List Value) (b : Bool) → bound_true (situation_of p.problem w) (bind q.vars t e) q.bound ≡ b → instance_ahead p q (bind q.vars t e) (w ∷ vs) ≡ deciding_truth q.junction → (bound_true (situation_of p.problem w) (bind q.vars t e) q.bound ≡ true) × (true_ahead p (bind q.vars t e) q.part (w ∷ vs) ≡ deciding_truth q.junction)
-      by t true h k = (h, sym (instance-in p q (bind q.vars t e) w vs true h) ∙ k)
-      by t false h k = absurd (open-is_not q.junction (sym (instance-in p q (bind q.vars t e) w vs false h) ∙ k))
-
-  abbrev So : List Bool → List Fact → Type 0
-  So bs left = Stepped p ws e q span bs left
-
-  begun : (bs : List Bool) → bs ≡ replicate (span.to - span.from) (not (deciding_truth q.junction)) → So bs seen
-  begun bs is = record {
-    size = ap length is ∙ length-replicate (span.to - span.from) (not (deciding_truth q.junction));
-    so_far = λ k h. (
-        let order = within.order in
-        let room = within.within in
-        let i : span.from + k < length ws = omega arith in
-        let v = there-is ws (span.from + k) i in
-        let s : drop (span.from + k) ws ≡ v.0 ∷ drop (suc (span.from + k)) ws = opened-at ws (span.from + k) v.0 v.1 in
-        ap (true_ahead p e (quantified q.junction q.vars q.bound q.part)) s
-        ∙ (whole-seen (span.from + k) v.0 (drop (suc (span.from + k)) ws) (omega arith) (omega arith) v.1
-        ∙ (ap (λ (x : List World). joined_truths q.junction (truth x) seen) (sym s)
-        ∙ (sym (joins-idle q.junction (joined_truths q.junction (truth (drop (span.from + k) ws)) seen))
-        ∙ ap (λ (b : Bool). joins q.junction b (joined_truths q.junction (truth (drop (span.from + k) ws)) seen))
-        (sym (ap (λ (cs : List Bool). get_or cs k false) is ∙ get_or-replicate (span.to - span.from) k (not (deciding_truth q.junction)) false h)))))
-        );
-  }
-
-  pub stepped-begun : (bs : List Bool) (items : List Fact) → items ≡ seen → bs ≡ replicate (span.to - span.from) (not (deciding_truth q.junction)) → So bs (drop 0 items)
-  stepped-begun bs items same is = subst (So bs) (sym same) (begun bs is)
-
-  -- the instance of the next tuple
-  module _ (bs : List Bool) (items : List Fact) (i : ℕ) (f : Fact) (so : So bs (drop i items)) (room : i < length items) (here : f ≡ get_or items i f) where
-    pub stepped-on : (new : List Bool) (u : Unit {0}) → JoinsInstance p ws span (bind q.vars f.args e) q bs new (Ok u) → So new (drop (i + 1) items)
-    stepped-on new u h = record {
-      size = h.0 ∙ so.size;
-      so_far = λ k l. (
-          let s = drop (span.from + k) ws in
-          let rest = joined_truths q.junction (truth s) (drop (i + 1) items) in
-          so.so_far k l
-          ∙ (ap (λ (fs : List Fact). joins q.junction (get_or bs k false) (joined_truths q.junction (truth s) fs)) (opened items i f room here)
-          ∙ (joins-assoc q.junction (get_or bs k false) (truth s f) rest ∙ ap (λ (b : Bool). joins q.junction b rest) (sym (h.1 k (let size = so.size in omega arith)))))
-          );
-    }
-
-  -- a note of an instance
-  pub stepped-noted : (f : Fact) → length f.args ≡ length q.vars → (bs new : List Bool) (x : CheckFault) → JoinsInstance p ws span (bind q.vars f.args e) q bs new (Err x) → AreLabels p ws span e (quantified q.junction q.vars q.bound q.part) (Err x)
-  stepped-noted f size bs new fault.NoMemory h = tt
-  stepped-noted f size bs new (fault.Range k n) h =
-      let there = bound-world p.problem (bind q.vars f.args e) q.bound ws h.0 h.3 in
-      let among = (all-tuples (situation_of p.problem there.0) e q.vars q.bound d o f.args).1 (size, there.2) in
-      (comes-later p ws span.from h.0 k h.1 h.2, (instance-looked p ws (operation_of n) e q.junction q.vars q.bound q.part f.args h.0 k there.0 there.1 h.2 among h.4.0, h.4.1))
-
-  pub stepped-end : (bs : List Bool) (items : List Fact) (i : ℕ) → length items ≤ i → So bs (drop i items) → bs ≡ marks_in (true_ahead p e (quantified q.junction q.vars q.bound q.part)) ws span
-  stepped-end bs items i h so = marks_in-by (true_ahead p e (quantified q.junction q.vars q.bound q.part)) ws span within bs so.size (λ k l. (
-      let s = drop (span.from + k) ws in
-      sym (so.so_far k l ∙ (ap (λ (fs : List Fact). joins q.junction (get_or bs k false) (joined_truths q.junction (truth s) fs)) (past items i h) ∙ joins-idle_right q.junction (get_or bs k false)))
-      ))
-    where
-      past : (xs : List Fact) (n : ℕ) → length xs ≤ n → drop n xs ≡ []
-      past [] zero h = refl
-      past [] (suc n) h = refl
-      past (x ∷ xs) zero h = absurd (omega arith)
-      past (x ∷ xs) (suc n) h = past xs n (omega arith)

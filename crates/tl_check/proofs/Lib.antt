@@ -32,7 +32,8 @@ pub mod HistoryLaws
 pub mod TrailLaws
 pub mod KeptLaws
 pub mod AtomLaws
-pub mod GuidedLaws
+pub mod InstanceLaws
+pub mod TupleLaws
 pub mod SteadyLaws
 pub mod GatheredLaws
 pub mod OrderedLaws

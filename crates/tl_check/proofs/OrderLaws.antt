@@ -8,7 +8,7 @@ use Rattle.tl_action.specs.declared.check_fault.CheckFault.{CheckFault}
 use Rattle.tl_action.specs.declared.check_fault.CheckFault.TheVariants as fault
 use Rattle.tl_check.proofs.AtomLaws.{marks_in-agree}
 use Rattle.tl_check.proofs.FitLaws.{fits-less}
-use Rattle.tl_check.proofs.GuidedLaws.{same-by, some-decides, decided-by_some, one-out}
+use Rattle.tl_check.proofs.InstanceLaws.{same-by, some-decides, decided-by_some, one-out}
 use Rattle.tl_check.proofs.JoinLaws.{quantified-joined}
 use Rattle.tl_check.proofs.LookedLaws.{one-within-each, within-there}
 use Rattle.tl_check.specs.Ahead.{Course, true_ahead}

@@ -6,12 +6,12 @@ use Rattle.tl_check.specs.Facts.{Guides, fact_ahead, bound_ahead}
 use Rattle.tl_check.specs.Instances.{JoinsInstance}
 use Rattle.tl_check.specs.Labelled.{AreLabels, JoinsPart}
 use Rattle.tl_check.specs.Later.{later_tree}
-use Rattle.tl_check.specs.PartTrees.{guided_tree, quantified_tree, quantifier_of, until_tree}
+use Rattle.tl_check.specs.PartTrees.{quantified_tree, until_tree}
+use Rattle.tl_check.specs.Quantifiers.{quantifier_of}
 use Rattle.tl_check.specs.Spans.{marks_in}
 use Rattle.tl_check.specs.StatesAlong.{states_along, course_along, UnlessFew}
 use Rattle.tl_check.specs.declared.along.Along.{Along}
 use Rattle.tl_check.specs.declared.binder.Binder.{Binder}
-use Rattle.tl_check.specs.declared.instance.GuidedBinder.{GuidedBinder}
 use Rattle.tl_check.specs.declared.instance.Instance.{Instance}
 use Rattle.tl_check.specs.declared.later.Later.{Later}
 use Rattle.tl_check.specs.declared.part.Part.{Part}
@@ -72,18 +72,14 @@ AreUntilLabels along span frame f g r = AreLabelsAlong along span frame (until_t
 abbrev pub AreJoinedLabels : Along → Span → List (Option Value) → Junction → Formulas → Result (List Bool) Unlabelled → Type 0
 AreJoinedLabels along span frame j fs r = AreLabelsAlong along span frame (joined j (tree_of_formulas fs)) r
 
--- of a quantifier with the formula below it
-abbrev pub AreQuantifiedLabels : Along → Span → List (Option Value) → Binder → Formula → Result (List Bool) Unlabelled → Type 0
-AreQuantifiedLabels along span frame b f r = AreLabelsAlong along span frame (quantified_tree b f) r
-
--- and of one with a world that has its tuples
-abbrev pub AreGuidedLabels : Along → Span → List (Option Value) → GuidedBinder → Formula → Result (List Bool) Unlabelled → Type 0
-AreGuidedLabels along span frame g f r = AreLabelsAlong along span frame (guided_tree g f) r
+-- and of a quantifier with the formula below it
+abbrev pub AreQuantifiedLabels : Along → Span → List (Option Value) → Binder → Result (List Bool) Unlabelled → Type 0
+AreQuantifiedLabels along span frame b r = AreLabelsAlong along span frame (quantified_tree b) r
 
 -- the instance under the frame's values is joined with the labels, or an operation that it looks at
 -- is noted, or the states are not all kept
 abbrev pub JoinsAlong : Along → Span → List (Option Value) → Instance → List Bool → List Bool → Result (Unit {0}) Unlabelled → Type 0
-JoinsAlong along span frame i old new r = UnlessFew along (JoinsInstance (course_along along) (states_along along) span (assignment_in frame) (quantifier_of i) old new) r
+JoinsAlong along span frame i old new r = UnlessFew along (JoinsInstance (course_along along) (states_along along) span (assignment_in frame) (quantifier_of i.binder) old new) r
 
 -- the labels of the part are joined with these, or an operation that it looks at is noted, or the
 -- states are not all kept

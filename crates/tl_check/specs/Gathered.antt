@@ -80,10 +80,14 @@ HaveCounts b fs = Each (IsTuple (length b.vars.now)) fs
 abbrev pub KeepCounts : Binder → Tracks → Tracks → Type 0
 KeepCounts b old new = HaveCounts b old.seen.items → HaveCounts b new.seen.items
 
--- at each position of the span the tuples that are told to hold are those of the bound, and each
--- that holds at some position was seen
+-- at each position of the span the tuples that are told to hold are those of the bound
+abbrev pub TellWhere : PlainProblem → List World → Assignment → List Var → Bound → Span → Lines → Type 0
+TellWhere p ws e ss b span lines = (a : List Value) (k : ℕ) (w : World) → span.from ≤ k → k < span.to → slice_get ws k ≡ Some w
+    → (truth_from false (line_in lines (fact_with 0 a)) k ≡ true) ↔ Among a (tuples (situation_of p w) e ss b)
+
+-- so they are told, and each that holds at some position was seen
 pub record TellTuples (p : PlainProblem) (ws : List World) (e : Assignment) (ss : List Var) (b : Bound) (span : Span) (t : Tracks) : Type 0 where
-  pub tell : (a : List Value) (k : ℕ) (w : World) → span.from ≤ k → k < span.to → slice_get ws k ≡ Some w → (truth_from false (line_in t.lines (fact_with 0 a)) k ≡ true) ↔ Among a (tuples (situation_of p w) e ss b)
+  pub tell : TellWhere p ws e ss b span t.lines
   pub covered : HaveSeenAll t
   pub counts : Each (IsTuple (length ss)) t.seen.items
 

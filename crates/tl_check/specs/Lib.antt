@@ -26,6 +26,7 @@ pub mod FixedTerms
 pub mod Steady
 pub mod AlongStates
 pub mod Gathered
+pub mod Tuples
 pub mod Verdicts
 pub mod Trails
 pub mod Judged

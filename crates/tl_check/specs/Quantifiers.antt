@@ -6,6 +6,7 @@ use Rattle.tl_syntax.specs.declared.bound.Bound.{Bound}
 use Rattle.tl_syntax.specs.declared.junction.Junction.{Junction}
 use Rattle.tl_syntax.specs.declared.variable.Var.{Var}
 use Rattle.tl_syntax.specs.Junctions.{deciding_truth}
+use Rattle.tl_syntax.specs.TreeOfFormula.{tree_of_formula}
 use Rattle.tl_syntax.specs.Trees.{FormulaTree}
 
 -- a quantified formula: universal or existential
@@ -15,9 +16,9 @@ pub record Quantifier : Type 0 where
   pub bound : Bound
   pub part : FormulaTree
 
--- a quantifier with the formula below it
-abbrev pub with_part : Binder → FormulaTree → Quantifier
-with_part b f = record { junction = b.junction; vars = b.vars.now; bound = b.bound.now; part = f }
+-- the formula of a quantifier with the one below it
+abbrev pub quantifier_of : Binder → Quantifier
+quantifier_of b = record { junction = b.junction; vars = b.vars.now; bound = b.bound.now; part = tree_of_formula b.part.now }
 
 -- the truths of all together
 abbrev pub joined_truths : {A : Type 0} → Junction → (A → Bool) → List A → Bool

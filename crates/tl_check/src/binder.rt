@@ -1,8 +1,8 @@
-// Quantifiers before their formulas.
+// Quantified formulas.
 
-use tl_syntax::{Bound, Junction, Vars};
+use tl_syntax::{Bound, Formula, Junction, Vars};
 
-/// A quantifier, without the formula below it.
+/// A quantifier with the formula below it.
 #[derive(Clone, Copy)]
 pub(crate) struct Binder<'a> {
     /// All instances, or one.
@@ -11,4 +11,6 @@ pub(crate) struct Binder<'a> {
     pub(crate) vars: &'a Vars,
     /// The bound that gives them their values.
     pub(crate) bound: &'a Bound,
+    /// The formula below it.
+    pub(crate) part: &'a Formula,
 }

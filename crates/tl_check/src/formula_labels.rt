@@ -1,13 +1,13 @@
 // The labels of formulas.
 ghost use Rattle.std.specs.Prelude.{◌≡◌, ◌+◌, length, true, OnOk};
-ghost use Rattle.tl_check.specs.AlongStates.{FitsAlong, GuidesAlong, IsInstanceAlong};
+ghost use Rattle.tl_check.specs.AlongStates.{FitsAlong, IsInstanceAlong};
 ghost use Rattle.tl_check.specs.AlongStates.{AreLabelsAlong, JoinsPartAlong, JoinsAlong};
 ghost use Rattle.tl_check.specs.AlongStates.{AreNegatedLabels, AreNextLabels, AreLaterLabels};
 ghost use Rattle.tl_check.specs.AlongStates.{AreUntilLabels, AreJoinedLabels};
-ghost use Rattle.tl_check.specs.AlongStates.{AreQuantifiedLabels, AreGuidedLabels};
+ghost use Rattle.tl_check.specs.AlongStates.{AreQuantifiedLabels};
 ghost use Rattle.tl_check.specs.Facts.{IsAlong};
 ghost use Rattle.tl_check.specs.Later.{later_tree};
-ghost use Rattle.tl_check.specs.PartTrees.{until_tree, instance_tree, guided_tree, quantified_tree};
+ghost use Rattle.tl_check.specs.PartTrees.{until_tree, quantified_tree};
 ghost use Rattle.tl_check.specs.Spans.{IsWithin};
 ghost use Rattle.tl_check.specs.StatesAlong.{states_along};
 ghost use Rattle.tl_syntax.specs.Junctions.{joined};
@@ -16,22 +16,20 @@ ghost use Rattle.tl_syntax.specs.TreeOfFormula.{tree_of_formula, tree_of_formula
 ghost use Rattle.tl_syntax.specs.Trees.{negation, next};
 
 use crate::along::Along;
-use crate::atoms::{atom_labels, bound_labels, guide_of};
+use crate::atoms::atom_labels;
 use crate::binder::Binder;
-use crate::gathered::gathered;
-use crate::instance::{GuidedBinder, Instance};
+use crate::instance::Instance;
 use crate::labels::Labels;
 use crate::later::Later;
-use crate::line::line_labels;
 use crate::part::Part;
 use crate::plain::{Compared, has_parts, is_plain};
 use crate::span::Span;
 use crate::state_labels::state_labels;
 use crate::table_order::table_order;
 use crate::temporal::is_state;
-use crate::tracks::line_of;
+use crate::tuples::tuples_of;
 use crate::unlabelled::Unlabelled;
-use tl_eval::{Env, TupleReader};
+use tl_eval::Env;
 use tl_syntax::{Formula, Formulas, Junction};
 
 /// Whether the formula is read as a whole in each state, so that a decided part of it ends the
@@ -88,16 +86,18 @@ pub(crate) fn labels_of(
                 junction: Junction::All,
                 vars,
                 bound,
+                part,
             };
-            quantified_labels(part, &binder, along, span, env)
+            quantified_labels(&binder, along, span, env)
         }
         Formula::Exists(vars, bound, part) => {
             let binder = Binder {
                 junction: Junction::Any,
                 vars,
                 bound,
+                part,
             };
-            quantified_labels(part, &binder, along, span, env)
+            quantified_labels(&binder, along, span, env)
         }
         Formula::Next(part) => next_labels(part, along, span, env),
         Formula::Always(part) => later_labels(part, Later::Always, along, span, env),
@@ -269,7 +269,6 @@ fn join_part(
 /// variables stand in the bound: the order of instances bears on nothing.
 #[cycle(labels_of)]
 fn quantified_labels<'a>(
-    part: &'a Formula,
     binder: &Binder<'a>,
     along: &Along,
     span: Span,
@@ -278,12 +277,12 @@ fn quantified_labels<'a>(
     requires along { IsAlong along.now }
     requires span { IsWithin span (length (states_along along.now)) }
     requires frame { length env.old ≡ 32 }
-    requires fits { FitsAlong along.now (quantified_tree binder.now part.now) }
-    ensures labels { AreQuantifiedLabels along.now span env.old binder.now part.now result }
+    requires fits { FitsAlong along.now (quantified_tree binder.now) }
+    ensures labels { AreQuantifiedLabels along.now span env.old binder.now result }
     ensures frame { OnOk result (env.new ≡ env.old) }
 {
-    if !is_plain(part, Compared::Plain) {
-        return ordered_labels(part, binder, along, span, env);
+    if !is_plain(binder.part, Compared::Plain) {
+        return instances_labels(binder, along, span, env);
     }
     match table_order(along.alloc, binder.vars, binder.bound)? {
         Some(vars) => {
@@ -291,18 +290,19 @@ fn quantified_labels<'a>(
                 junction: binder.junction,
                 vars: &vars,
                 bound: binder.bound,
+                part: binder.part,
             };
-            ordered_labels(&*part, &ordered, along, span, env)
+            instances_labels(&ordered, along, span, env)
         }
-        None => ordered_labels(part, binder, along, span, env),
+        None => instances_labels(binder, along, span, env),
     }
 }
 
-/// The labels of a quantified formula whose tuples are read in the order of its variables.
+/// The labels of a quantified formula whose tuples are read in the order of its variables: each
+/// instance is labelled once, where its tuple makes the bound true.
 #[cycle(labels_of)]
-fn ordered_labels<'a>(
-    part: &'a Formula,
-    binder: &Binder<'a>,
+fn instances_labels(
+    binder: &Binder,
     along: &Along,
     span: Span,
     env: &mut Env,
@@ -310,56 +310,27 @@ fn ordered_labels<'a>(
     requires along { IsAlong along.now }
     requires span { IsWithin span (length (states_along along.now)) }
     requires frame { length env.old ≡ 32 }
-    requires fits { FitsAlong along.now (quantified_tree binder.now part.now) }
-    ensures labels { AreQuantifiedLabels along.now span env.old binder.now part.now result }
+    requires fits { FitsAlong along.now (quantified_tree binder.now) }
+    ensures labels { AreQuantifiedLabels along.now span env.old binder.now result }
     ensures frame { OnOk result (env.new ≡ env.old) }
 {
-    match guide_of(binder.bound, along) {
-        Some(guide) => {
-            let guided = GuidedBinder {
-                binder: *binder,
-                guide,
-            };
-            guided_labels(part, &guided, along, span, env)
-        }
-        None => stepped_labels(part, binder, along, span, env),
-    }
-}
-
-/// The labels of a quantified formula whose tuples are all among those of one world: each instance
-/// is labelled once, where its tuple makes the bound true.
-#[cycle(labels_of)]
-fn guided_labels<'a>(
-    part: &'a Formula,
-    guided: &GuidedBinder<'a, '_>,
-    along: &Along,
-    span: Span,
-    env: &mut Env,
-) -> Result<Labels, Unlabelled>
-    requires along { IsAlong along.now }
-    requires span { IsWithin span (length (states_along along.now)) }
-    requires frame { length env.old ≡ 32 }
-    requires fits { FitsAlong along.now (guided_tree guided.now part.now) }
-    requires guide { GuidesAlong along.now guided.now.binder.bound.now guided.now.guide.now }
-    ensures labels { AreGuidedLabels along.now span env.old guided.now part.now result }
-    ensures frame { OnOk result (env.new ≡ env.old) }
-{
-    let binder = guided.binder;
-    let outer = env.kept(binder.vars.as_slice());
+    let vars = binder.vars.as_slice();
+    let tuples = match tuples_of(binder, along, span, env)? {
+        Some(tuples) => tuples,
+        None => return Err(Unlabelled::NotKept),
+    };
+    let outer = env.kept(vars);
     let mut all = Labels::all(
         along.alloc,
         span.to - span.from,
         !binder.junction.deciding_truth(),
     )?;
-    let mut tuples = TupleReader::unopened();
-    tuples.open_in_place(along.task, env, binder.vars, binder.bound);
-    'instances: while tuples.next(along.task, guided.guide, binder.bound) {
-        env.put_values(binder.vars.as_slice(), tuples.values());
-        match bound_labels(binder.bound, along, span, env)? {
+    for tuple in tuples.facts.iter() {
+        env.put_values(vars, tuple.args.as_slice());
+        match tuples.there(tuple, along, span, env)? {
             Some(there) => {
                 let instance = Instance {
-                    binder,
-                    part,
+                    binder: *binder,
                     there,
                 };
                 join_instance(&instance, along, span, env, &mut all)?
@@ -367,7 +338,7 @@ fn guided_labels<'a>(
             None => return Err(Unlabelled::NotKept),
         }
     }
-    env.give_back(binder.vars.as_slice(), &outer);
+    env.give_back(vars, &outer);
     Ok(all)
 }
 
@@ -383,7 +354,7 @@ fn join_instance(
     requires along { IsAlong along.now }
     requires span { IsWithin span (length (states_along along.now)) }
     requires frame { length env.old ≡ 32 }
-    requires fits { FitsAlong along.now (instance_tree instance.now) }
+    requires fits { FitsAlong along.now (quantified_tree instance.now.binder) }
     requires there { IsInstanceAlong along.now span env.old instance.now }
     requires size { span.from + length all.old ≡ span.to }
     ensures joined { JoinsAlong along.now span env.old instance.now all.old all.new result }
@@ -393,7 +364,7 @@ fn join_instance(
     match there.hull(span) {
         None => Ok(()),
         Some(hull) => {
-            let found = labels_of(instance.part, along, hull, env)?;
+            let found = labels_of(instance.binder.part, along, hull, env)?;
             all.join_where(
                 there,
                 &found,
@@ -403,46 +374,4 @@ fn join_instance(
             Ok(())
         }
     }
-}
-
-/// The labels of a quantified formula whose tuples are found state by state.
-///
-/// Each instance is labelled once, as where the tuples are among those of one world.
-#[cycle(labels_of)]
-fn stepped_labels<'a>(
-    part: &'a Formula,
-    binder: &Binder<'a>,
-    along: &Along,
-    span: Span,
-    env: &mut Env,
-) -> Result<Labels, Unlabelled>
-    requires along { IsAlong along.now }
-    requires span { IsWithin span (length (states_along along.now)) }
-    requires frame { length env.old ≡ 32 }
-    requires fits { FitsAlong along.now (quantified_tree binder.now part.now) }
-    ensures labels { AreQuantifiedLabels along.now span env.old binder.now part.now result }
-    ensures frame { OnOk result (env.new ≡ env.old) }
-{
-    let tracks = match gathered(binder, along, span, env)? {
-        Some(tracks) => tracks,
-        None => return Err(Unlabelled::NotKept),
-    };
-    let outer = env.kept(binder.vars.as_slice());
-    let mut all = Labels::all(
-        along.alloc,
-        span.to - span.from,
-        !binder.junction.deciding_truth(),
-    )?;
-    for tuple in tracks.seen.iter() {
-        env.put_values(binder.vars.as_slice(), tuple.args.as_slice());
-        let there = line_labels(along.alloc, line_of(&tracks.lines, tuple), span)?;
-        let instance = Instance {
-            binder: *binder,
-            part,
-            there,
-        };
-        join_instance(&instance, along, span, env, &mut all)?;
-    }
-    env.give_back(binder.vars.as_slice(), &outer);
-    Ok(all)
 }

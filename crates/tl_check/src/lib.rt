@@ -35,6 +35,7 @@ mod table_order;
 mod temporal;
 mod tracks;
 mod trail;
+mod tuples;
 mod unlabelled;
 mod verdict;
 mod waiting;

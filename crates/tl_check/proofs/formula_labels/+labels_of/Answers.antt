@@ -1,10 +1,8 @@
-use Rattle.std.proofs.Common.{◌≡◌, ◌<◌, ◌-◌, ◌++◌, ℕ, [], List, drop, length, length-append, length-drop, replicate, Bool, false, not, Ok, Err, Option, Some, IfSome, refl, sym, ap, ◌∙◌, subst, arith}
-use Rattle.tl_check.proofs.FitLaws.{quantified-parts, item-fits}
+use Rattle.std.proofs.Common.{◌≡◌, ◌<◌, ◌-◌, ◌++◌, get_or, ℕ, [], List, drop, length, length-append, length-drop, replicate, Bool, false, not, Ok, Err, Option, Some, IfSome, refl, sym, ap, ◌∙◌, subst, arith}
+use Rattle.tl_check.proofs.FitLaws.{Parts, quantified-parts, item-fits}
 use Rattle.tl_check.proofs.FormulaLabels.{state-True, state-False, state-Atom, state-Defined, state-Compare, state-GoalFact, state-GoalPlace, state-GoalNot, one-Not, one-Next, one-Always, one-Eventually, one-Within, one-During, not-made, not-noted, shifted, shifted-within, next-handed, later-made, later-noted, until-parts, until-made, until-first-noted, until-second-noted, same-length, fits-not, fits-next, fits-word, two-Until, all-And, all-Or, item-noted, body-ForAll, body-Exists}
-use Rattle.tl_check.proofs.GatheredLaws.{stepped-begun, stepped-on, stepped-noted, stepped-end, tuple-labels}
-use Rattle.tl_check.proofs.GuidedLaws.{Guided, guided-begun, guided-on, guided-fewer, guided-noted, guided-end, hull-within, instance-nowhere, instance-joined}
-use Rattle.tl_check.proofs.GuidedLaws as guided
 use Rattle.tl_check.proofs.HistoryLaws.{each-among, among-item}
+use Rattle.tl_check.proofs.InstanceLaws.{joining-begun, joining-on, joining-noted, joining-end, hull-within, instance-nowhere, instance-joined, instance-noted}
 use Rattle.tl_check.proofs.OrderLaws.{fits-ordered, ordered-labels}
 use Rattle.tl_check.proofs.OpenLaws.{part-noted, inner-within, inner-room, open-joined, decided-part}
 use Rattle.tl_check.proofs.PartLabels.{parts-begun, parts-on, parts-end}
@@ -12,14 +10,14 @@ use Rattle.tl_check.proofs.Sizes.{size-at}
 use Rattle.tl_check.proofs.SpanLaws.{marks_in-length}
 use Rattle.tl_check.proofs.StatesLaws.{by-cases, passed-on}
 use Rattle.tl_check.specs.Ahead.{true_ahead}
-use Rattle.tl_check.specs.AlongStates.{AreLabelsAlong, bound_along}
-use Rattle.tl_check.specs.Quantifiers.{Quantifier, with_part}
+use Rattle.tl_check.specs.AlongStates.{AreLabelsAlong, BoundFitsAlong, FitsAlong, bound_along}
+use Rattle.tl_check.specs.PartTrees.{quantified_tree}
+use Rattle.tl_check.specs.Quantifiers.{Quantifier, quantifier_of}
 use Rattle.tl_check.specs.Facts.{IsAlong, IsAheadOf, bound_ahead}
-use Rattle.tl_check.specs.Gathered.{AreGathered, IsTuple}
+use Rattle.tl_check.specs.Gathered.{IsTuple}
 use Rattle.tl_check.specs.Instances.{JoinsInstance}
 use Rattle.tl_check.specs.Labelled.{AreLabels, JoinsPart}
 use Rattle.tl_check.specs.Later.{later_tree}
-use Rattle.tl_check.specs.Lines.{truth_from, test_from}
 use Rattle.tl_check.specs.Passes.{joined_labels}
 use Rattle.tl_check.specs.Picked.{placed_labels}
 use Rattle.tl_check.specs.Spans.{IsWithin, marks_in}
@@ -27,11 +25,11 @@ use Rattle.tl_check.specs.TableOrder.{AreOrdered}
 use Rattle.tl_check.specs.StatesAlong.{states_along, course_along, UnlessFew}
 use Rattle.tl_check.specs.declared.along.Along.{Along}
 use Rattle.tl_check.specs.declared.binder.Binder.{Binder}
-use Rattle.tl_check.specs.declared.line.Change.{Change}
 use Rattle.tl_check.specs.declared.span.Span.{Span}
-use Rattle.tl_check.specs.declared.tracks.Tracks.{Tracks}
+use Rattle.tl_check.specs.Tuples.{AreTuples}
+use Rattle.tl_check.specs.declared.tuples.Tuples.{Tuples}
+use Rattle.tl_syntax.specs.declared.fact.Fact.{Fact}
 use Rattle.tl_eval.proofs.BindLaws.{bind-through}
-use Rattle.tl_eval.proofs.TupleRest.{rest_after}
 use Rattle.tl_eval.specs.Frames.{assignment_in}
 use Rattle.tl_syntax.proofs.FormulaTrees.{tree-Atom}
 use Rattle.tl_syntax.specs.declared.value.Value.{Value}
@@ -44,10 +42,8 @@ use Rattle.tl_syntax.specs.Signature.{signature_of}
 use Rattle.tl_syntax.specs.TreeOfFormula.{tree_of_formula, tree_of_formulas}
 use Rattle.tl_syntax.specs.TreeOfTerm.{tree_of_terms}
 use Rattle.tl_syntax.specs.Trees.{FormulaTree, atom, negation, next, until}
-use Rattle.tl_terms.specs.Bounds.{bound_true, tuples}
-use Rattle.tl_terms.specs.Definitions.{situation_of}
+use Rattle.tl_terms.specs.Bounds.{tuples}
 use Rattle.tl_terms.specs.ProblemMeaning.{plain_problem}
-use Rattle.tl_world.specs.Next.{IsNext}
 use Rattle.tl_check.proofs.formula_labels.+labels_of.Goals as goal
 
 -- the positions that come again are some of them
@@ -61,11 +57,26 @@ ahead-in a span is within ahead k = record { order = omega (arith, is.again, k.a
 same-round : (k : ℕ) (bs cs bs2 cs2 : List Bool) → length bs ≡ length cs → bs2 ≡ bs ++ drop k bs → cs2 ≡ cs ++ drop k cs → length bs2 ≡ length cs2
 same-round k bs cs bs2 cs2 same q r = omega (arith, same, ap length q, ap length r, length-append bs (drop k bs), length-append cs (drop k cs), length-drop k bs, length-drop k cs)
 
-gathers-known : (a : Along) (frame : List (Option Value)) (b : Binder) (span : Span) (o : Option Tracks) (t : Tracks) → o ≡ Some t → IfSome o (AreGathered a frame b span) → AreGathered a frame b span t
-gathers-known a frame b span o t q h = subst (λ (x : Option Tracks). IfSome x (AreGathered a frame b span)) q h
+tuples-known : (a : Along) (e : Assignment) (b : Binder) (span : Span) (o : Option Tuples) (t : Tuples) → o ≡ Some t → IfSome o (AreTuples a e b span) → AreTuples a e b span t
+tuples-known a e b span o t q h = subst (λ (x : Option Tuples). IfSome x (AreTuples a e b span)) q h
+
+labels-known : (a : Along) (span : Span) (frame : List (Option Value)) (b : Binder) (o : Option (List Bool)) (bs : List Bool) → o ≡ Some bs → IfSome o (λ labels. labels ≡ bound_along a span frame b.bound.now) → bs ≡ bound_along a span frame b.bound.now
+labels-known a span frame b o bs q h = subst (λ (x : Option (List Bool)). IfSome x (λ labels. labels ≡ bound_along a span frame b.bound.now)) q h
 
 order-known : (ss : List Var) (o : Option (List Var)) (us : List Var) → o ≡ Some us → IfSome o (AreOrdered ss) → AreOrdered ss us
 order-known ss o us q h = subst (λ (x : Option (List Var)). IfSome x (AreOrdered ss)) q h
+
+-- what a quantified formula gives
+parts-of : (a : Along) (b : Binder) → FitsAlong a (quantified_tree b) → Parts (signature_of a.task.now.problem.domain) b.vars.now b.bound.now (tree_of_formula b.part.now)
+parts-of a b fits = quantified-parts a.task.now.problem b.junction b.vars.now b.bound.now (tree_of_formula b.part.now) fits
+
+-- a fact of the list
+tuple-at : (n : ℕ) (items : List Fact) → Each (IsTuple n) items → (i : ℕ) (f : Fact) → i < length items → f ≡ get_or items i f → IsTuple n f
+tuple-at n items counts i f h is = each-among (IsTuple n) items f counts (among-item items i f h is)
+
+-- the values of a tuple in a frame in which only those of the variables are others
+put-here : (vars : List Var) (args : List Value) (old e : Assignment) → ((u : List Value) → bind vars u old ≡ bind vars u e) → (ss : List Var) → ss ≡ vars → (u : List Value) → u ≡ args → (new : Assignment) → new ≡ bind ss u old → new ≡ bind vars args e
+put-here vars args old e scope ss q u r new is = is ∙ (ap (λ (xs : List Var). bind xs u old) q ∙ (ap (λ (x : List Value). bind vars x old) r ∙ scope args))
 
 pub labels_of-state_labels-requires-in-True-clause-state : goal.labels_of-state_labels-requires-in-True-clause-state
 labels_of-state_labels-requires-in-True-clause-state t c =
@@ -409,15 +420,15 @@ join_part-returns-in-None-clause-joined t c =
     let test = true_ahead (course_along c.args.along.now) (assignment_in c.args.env.now) (tree_of_formula c.args.part.now.formula.now) in
     c.in-None.ensures.same ∙ decided-part c.args.part.now.junction c.args.all.now test (states_along c.args.along.now) c.args.span c.args.span c.requires.span c.requires.size c.in-None.ensures.none
 
-pub quantified_labels-ordered_labels-requires : goal.quantified_labels-ordered_labels-requires
-quantified_labels-ordered_labels-requires t c =
+pub quantified_labels-instances_labels-requires : goal.quantified_labels-instances_labels-requires
+quantified_labels-instances_labels-requires t c =
     (omega (arith, c.decreases), (c.requires.along, (c.requires.span, (c.requires.frame, c.requires.fits))))
 
-pub quantified_labels-ordered_labels-requires-in-Some : goal.quantified_labels-ordered_labels-requires-in-Some
-quantified_labels-ordered_labels-requires-in-Some t c =
+pub quantified_labels-instances_labels-requires-in-Some : goal.quantified_labels-instances_labels-requires-in-Some
+quantified_labels-instances_labels-requires-in-Some t c =
     let a = c.args.along.now in
     let b = c.args.binder.now in
-    let fits = fits-ordered (signature_of a.task.now.problem.domain) b.junction b.bound.now (tree_of_formula c.args.part.now) b.vars.now c.in-Some.vars (order-known b.vars.now c.in_ok-vars.field-0 c.in-Some.vars c.in-Some.is c.in_ok-vars.ensures) c.requires.fits in
+    let fits = fits-ordered (signature_of a.task.now.problem.domain) b.junction b.bound.now (tree_of_formula b.part.now) b.vars.now c.in-Some.vars (order-known b.vars.now c.in_ok-vars.field-0 c.in-Some.vars c.in-Some.is c.in_ok-vars.ensures) c.requires.fits in
     (omega (arith, c.decreases), (c.requires.along, (c.requires.span, (c.requires.frame, fits))))
 
 pub quantified_labels-returns-in-Some-clause-labels : goal.quantified_labels-returns-in-Some-clause-labels
@@ -427,134 +438,128 @@ quantified_labels-returns-in-Some-clause-labels t c =
     let p = course_along a in
     let ws = states_along a in
     let e = assignment_in c.args.env.now in
-    let f = tree_of_formula c.args.part.now in
-    let parts = quantified-parts a.task.now.problem b.junction b.vars.now b.bound.now f c.requires.fits in
+    let f = tree_of_formula b.part.now in
+    let parts = parts-of a b c.requires.fits in
     let is = order-known b.vars.now c.in_ok-vars.field-0 c.in-Some.vars c.in-Some.is c.in_ok-vars.ensures in
     by-cases a (AreLabels p ws c.args.span e (quantified b.junction c.in-Some.vars b.bound.now f)) (AreLabels p ws c.args.span e (quantified b.junction b.vars.now b.bound.now f))
-    (λ r h. ordered-labels p e b.junction b.bound.now f b.vars.now c.in-Some.vars parts.differ parts.occur is ws c.args.span r h) c.ordered_labels-in-Some.result c.ordered_labels-in-Some.ensures.labels
+    (λ r h. ordered-labels p e b.junction b.bound.now f b.vars.now c.in-Some.vars parts.differ parts.occur is ws c.args.span r h) c.instances_labels-in-Some.result c.instances_labels-in-Some.ensures.labels
 
-pub quantified_labels-ordered_labels-requires-in-None : goal.quantified_labels-ordered_labels-requires-in-None
-quantified_labels-ordered_labels-requires-in-None t c =
+pub quantified_labels-instances_labels-requires-in-None : goal.quantified_labels-instances_labels-requires-in-None
+quantified_labels-instances_labels-requires-in-None t c =
     (omega (arith, c.decreases), (c.requires.along, (c.requires.span, (c.requires.frame, c.requires.fits))))
 
-pub ordered_labels-guided_labels-requires : goal.ordered_labels-guided_labels-requires
-ordered_labels-guided_labels-requires t c =
-    (omega (arith, c.decreases), (c.requires.along, (c.requires.span, (c.requires.frame, (c.requires.fits, c.in-Some.ensures)))))
+pub instances_labels-tuples_of-requires-clause-differ : goal.instances_labels-tuples_of-requires-clause-differ
+instances_labels-tuples_of-requires-clause-differ t c =
+    (parts-of c.args.along.now c.args.binder.now c.requires.fits).differ
 
-pub ordered_labels-stepped_labels-requires : goal.ordered_labels-stepped_labels-requires
-ordered_labels-stepped_labels-requires t c =
-    (omega (arith, c.decreases), (c.requires.along, (c.requires.span, (c.requires.frame, c.requires.fits))))
+pub instances_labels-tuples_of-requires-clause-occur : goal.instances_labels-tuples_of-requires-clause-occur
+instances_labels-tuples_of-requires-clause-occur t c =
+    (parts-of c.args.along.now c.args.binder.now c.requires.fits).occur
 
-pub ordered_labels-returns-in-Some-clause-labels : goal.ordered_labels-returns-in-Some-clause-labels
-ordered_labels-returns-in-Some-clause-labels t c =
-    c.guided_labels.ensures.labels
+pub instances_labels-tuples_of-requires-clause-fits : goal.instances_labels-tuples_of-requires-clause-fits
+instances_labels-tuples_of-requires-clause-fits t c =
+    (parts-of c.args.along.now c.args.binder.now c.requires.fits).bound
 
-pub ordered_labels-returns-in-None-clause-labels : goal.ordered_labels-returns-in-None-clause-labels
-ordered_labels-returns-in-None-clause-labels t c =
-    c.stepped_labels.ensures.labels
+pub instances_labels-kept-outer-requires : goal.instances_labels-kept-outer-requires
+instances_labels-kept-outer-requires t c =
+    let parts = parts-of c.args.along.now c.args.binder.now c.requires.fits in
+    record { few = omega (arith, ap length c.as_slice-vars.ensures, parts.few) }
 
-pub guided_labels-kept-outer-requires : goal.guided_labels-kept-outer-requires
-guided_labels-kept-outer-requires t c =
-    let parts = quantified-parts c.args.along.now.task.now.problem c.args.guided.now.binder.junction c.args.guided.now.binder.vars.now c.args.guided.now.binder.bound.now (tree_of_formula c.args.part.now) c.requires.fits in
-    record { few = omega (arith, ap length c.as_slice.ensures, parts.few) }
-
-pub guided_labels-open_in_place-requires-clause-differ : goal.guided_labels-open_in_place-requires-clause-differ
-guided_labels-open_in_place-requires-clause-differ t c =
-    let parts = quantified-parts c.args.along.now.task.now.problem c.args.guided.now.binder.junction c.args.guided.now.binder.vars.now c.args.guided.now.binder.bound.now (tree_of_formula c.args.part.now) c.requires.fits in
-    parts.differ
-
-pub guided_labels-open_in_place-requires-clause-occur : goal.guided_labels-open_in_place-requires-clause-occur
-guided_labels-open_in_place-requires-clause-occur t c =
-    let parts = quantified-parts c.args.along.now.task.now.problem c.args.guided.now.binder.junction c.args.guided.now.binder.vars.now c.args.guided.now.binder.bound.now (tree_of_formula c.args.part.now) c.requires.fits in
-    parts.occur
-
-pub guided_labels-open_in_place-requires-clause-fits : goal.guided_labels-open_in_place-requires-clause-fits
-guided_labels-open_in_place-requires-clause-fits t c =
-    let parts = quantified-parts c.args.along.now.task.now.problem c.args.guided.now.binder.junction c.args.guided.now.binder.vars.now c.args.guided.now.binder.bound.now (tree_of_formula c.args.part.now) c.requires.fits in
-    parts.bound
-
-pub guided_labels-instances-init : goal.guided_labels-instances-init
-guided_labels-instances-init t c =
-    let parts = quantified-parts c.args.along.now.task.now.problem c.args.guided.now.binder.junction c.args.guided.now.binder.vars.now c.args.guided.now.binder.bound.now (tree_of_formula c.args.part.now) c.requires.fits in
+pub instances_labels-loop-tuple-init : goal.instances_labels-loop-tuple-init
+instances_labels-loop-tuple-init t c =
+    let a = c.args.along.now in
+    let b = c.args.binder.now in
+    let e = assignment_in c.args.env.now in
+    let parts = parts-of a b c.requires.fits in
+    let such = tuples-known a e b c.args.span c.in_ok-tuples.field-0 c.in-Some.tuples c.in-Some.is c.in_ok-tuples.ensures.tuples in
     record {
-      reads = c.open_in_place.ensures.reads;
+      counts = subst (Each (IsTuple (length b.vars.now))) (sym c.deref-tuple-items.ensures.value) such.have.counts;
       scope = λ u. refl;
       slots = c.requires.frame;
-      so_far = guided-begun (course_along c.args.along.now) (states_along c.args.along.now) (assignment_in c.args.env.now) (with_part c.args.guided.now.binder (tree_of_formula c.args.part.now)) parts.differ parts.occur c.args.guided.now.guide.now c.requires.guide c.args.span c.requires.span c.in_ok-all.all c.open_in_place.new.self.tuple c.open_in_place.ensures.before (c.in_ok-all.ensures.same ∙ ap (λ (b : Bool). replicate (c.args.span.to - c.args.span.from) (not b)) c.deciding_truth.ensures);
+      so_far = joining-begun (course_along a) (states_along a) e (quantifier_of b) parts.differ parts.occur c.args.span c.requires.span c.in-Some.tuples.facts.items such.have c.in_ok-all.all c.deref-tuple-items.result.now c.deref-tuple-items.ensures.value
+          (c.in_ok-all.ensures.same ∙ ap (λ (x : Bool). replicate (c.args.span.to - c.args.span.from) (not x)) c.deciding_truth.ensures);
     }
 
-pub guided_labels-values-requires : goal.guided_labels-values-requires
-guided_labels-values-requires t c =
-    c.next.ensures.found c.instances-test.true
+pub instances_labels-put_values-requires-clause-slots : goal.instances_labels-put_values-requires-clause-slots
+instances_labels-put_values-requires-clause-slots t c =
+    let parts = parts-of c.args.along.now c.args.binder.now c.requires.fits in
+    subst (Each (λ (s : Var). s.slot < 32)) (sym c.as_slice-vars.ensures) parts.in_frame
 
-pub guided_labels-put_values-requires-clause-slots : goal.guided_labels-put_values-requires-clause-slots
-guided_labels-put_values-requires-clause-slots t c =
-    let parts = quantified-parts c.args.along.now.task.now.problem c.args.guided.now.binder.junction c.args.guided.now.binder.vars.now c.args.guided.now.binder.bound.now (tree_of_formula c.args.part.now) c.requires.fits in
-    subst (Each (λ (s : Var). s.slot < 32)) (sym c.as_slice-in-instances.ensures) parts.in_frame
+pub instances_labels-put_values-requires-clause-same : goal.instances_labels-put_values-requires-clause-same
+instances_labels-put_values-requires-clause-same t c =
+    let known = tuple-at (length c.args.binder.now.vars.now) c.deref-tuple-items.result.now c.loop-tuple.invariant.counts c.loop-tuple.tuple-index c.tuple-item.result c.loop-tuple-test.true c.tuple-item.is in
+    ap length c.as_slice-vars.ensures ∙ sym (ap length c.as_slice.ensures ∙ known.1)
 
-pub guided_labels-put_values-requires-clause-same : goal.guided_labels-put_values-requires-clause-same
-guided_labels-put_values-requires-clause-same t c =
-    ap length c.as_slice-in-instances.ensures ∙ sym (c.values.ensures.count c.args.guided.now.binder.vars.now (assignment_in c.args.env.now) c.args.guided.now.binder.bound.now (c.next.ensures.reads c.args.guided.now.binder.vars.now (assignment_in c.args.env.now) c.instances.invariant.reads))
+pub instances_labels-there-requires-clause-fits : goal.instances_labels-there-requires-clause-fits
+instances_labels-there-requires-clause-fits t c =
+    let such = tuples-known c.args.along.now (assignment_in c.args.env.now) c.args.binder.now c.args.span c.in_ok-tuples.field-0 c.in-Some.tuples c.in-Some.is c.in_ok-tuples.ensures.tuples in
+    subst (BoundFitsAlong c.args.along.now) (sym such.bound) (parts-of c.args.along.now c.args.binder.now c.requires.fits).bound
 
-pub guided_labels-join_instance-requires : goal.guided_labels-join_instance-requires
-guided_labels-join_instance-requires t c =
-    let there = subst (λ (o : Option (List Bool)). IfSome o (λ labels. labels ≡ bound_along c.args.along.now c.args.span c.put_values.new.self c.args.guided.now.binder.bound.now)) c.in-Some.is c.in_ok-there.ensures.labels in
-    (omega (arith, c.decreases), (c.requires.along, (c.requires.span, (c.put_values.ensures.slots ∙ c.instances.invariant.slots, (c.requires.fits, (there, omega (arith, c.instances.invariant.so_far.size, c.requires.span.order)))))))
-
-pub guided_labels-instances-smaller : goal.guided_labels-instances-smaller
-guided_labels-instances-smaller t c =
-    let parts = quantified-parts c.args.along.now.task.now.problem c.args.guided.now.binder.junction c.args.guided.now.binder.vars.now c.args.guided.now.binder.bound.now (tree_of_formula c.args.part.now) c.requires.fits in
-    let next = subst (IsNext (length c.args.guided.now.binder.vars.now) (λ t. bound_true (situation_of (plain_problem c.args.along.now.task.now.problem) c.args.guided.now.guide.now) (bind c.args.guided.now.binder.vars.now t (assignment_in c.args.env.now)) c.args.guided.now.binder.bound.now) c.instances.tuples.tuple) c.values.ensures.values (c.next.ensures.next c.args.guided.now.binder.vars.now (assignment_in c.args.env.now) c.instances.invariant.reads) in
-    subst (λ (o : Option (List Value)). length (rest_after o (tuples (situation_of (plain_problem c.args.along.now.task.now.problem) c.args.guided.now.guide.now) (assignment_in c.args.env.now) c.args.guided.now.binder.vars.now c.args.guided.now.binder.bound.now)) < length (rest_after c.instances.tuples.tuple (tuples (situation_of (plain_problem c.args.along.now.task.now.problem) c.args.guided.now.guide.now) (assignment_in c.args.env.now) c.args.guided.now.binder.vars.now c.args.guided.now.binder.bound.now))) (sym c.values.ensures.values) (guided-fewer (course_along c.args.along.now) (states_along c.args.along.now) (assignment_in c.args.env.now) (with_part c.args.guided.now.binder (tree_of_formula c.args.part.now)) parts.differ parts.occur c.args.guided.now.guide.now c.requires.guide c.args.span c.requires.span c.instances.all c.instances.tuples.tuple c.instances.invariant.so_far c.values.result.now next)
-
-pub guided_labels-instances-preserved : goal.guided_labels-instances-preserved
-guided_labels-instances-preserved t c =
-    let parts = quantified-parts c.args.along.now.task.now.problem c.args.guided.now.binder.junction c.args.guided.now.binder.vars.now c.args.guided.now.binder.bound.now (tree_of_formula c.args.part.now) c.requires.fits in
-    let next = subst (IsNext (length c.args.guided.now.binder.vars.now) (λ t. bound_true (situation_of (plain_problem c.args.along.now.task.now.problem) c.args.guided.now.guide.now) (bind c.args.guided.now.binder.vars.now t (assignment_in c.args.env.now)) c.args.guided.now.binder.bound.now) c.instances.tuples.tuple) c.values.ensures.values (c.next.ensures.next c.args.guided.now.binder.vars.now (assignment_in c.args.env.now) c.instances.invariant.reads) in
-    let here = c.put_values.ensures.values ∙ (ap (λ (ss : List Var). bind ss c.values.result.now (assignment_in c.instances.env)) c.as_slice-in-instances.ensures ∙ c.instances.invariant.scope c.values.result.now) in
-    record {
-      reads = c.next.ensures.reads c.args.guided.now.binder.vars.now (assignment_in c.args.env.now) c.instances.invariant.reads;
-      scope = λ u. bind-through c.args.guided.now.binder.vars.now u c.values.result.now (assignment_in c.join_instance.new.env) (assignment_in c.args.env.now) (ap assignment_in c.in_ok-join_instance-in-Some.ensures.frame ∙ here);
-      slots = ap length c.in_ok-join_instance-in-Some.ensures.frame ∙ (c.put_values.ensures.slots ∙ c.instances.invariant.slots);
-      so_far = subst (Guided (course_along c.args.along.now) (states_along c.args.along.now) (assignment_in c.args.env.now) (with_part c.args.guided.now.binder (tree_of_formula c.args.part.now)) c.args.guided.now.guide.now c.args.span c.join_instance.new.all) (sym c.values.ensures.values)
-          (guided-on (course_along c.args.along.now) (states_along c.args.along.now) (assignment_in c.args.env.now) (with_part c.args.guided.now.binder (tree_of_formula c.args.part.now)) parts.differ parts.occur c.args.guided.now.guide.now c.requires.guide c.args.span c.requires.span c.instances.all c.instances.tuples.tuple c.instances.invariant.so_far c.values.result.now next c.join_instance.new.all c.in_ok-join_instance-in-Some.field-0
-          (subst (λ (x : Assignment). JoinsInstance (course_along c.args.along.now) (states_along c.args.along.now) c.args.span x (with_part c.args.guided.now.binder (tree_of_formula c.args.part.now)) c.instances.all c.join_instance.new.all (Ok c.in_ok-join_instance-in-Some.field-0)) here c.in_ok-join_instance-in-Some.ensures.joined));
-    }
-
-pub guided_labels-give_back-requires-clause-slots : goal.guided_labels-give_back-requires-clause-slots
-guided_labels-give_back-requires-clause-slots t c =
-    let parts = quantified-parts c.args.along.now.task.now.problem c.args.guided.now.binder.junction c.args.guided.now.binder.vars.now c.args.guided.now.binder.bound.now (tree_of_formula c.args.part.now) c.requires.fits in
-    subst (Each (λ (s : Var). s.slot < 32)) (sym c.as_slice-2.ensures) parts.in_frame
-
-pub guided_labels-returns-clause-labels : goal.guided_labels-returns-clause-labels
-guided_labels-returns-clause-labels t c =
-    let parts = quantified-parts c.args.along.now.task.now.problem c.args.guided.now.binder.junction c.args.guided.now.binder.vars.now c.args.guided.now.binder.bound.now (tree_of_formula c.args.part.now) c.requires.fits in
-    guided-end (course_along c.args.along.now) (states_along c.args.along.now) (assignment_in c.args.env.now) (with_part c.args.guided.now.binder (tree_of_formula c.args.part.now)) parts.differ parts.occur c.args.guided.now.guide.now c.requires.guide c.args.span c.requires.span c.instances.all c.instances.tuples.tuple c.next.new.self.tuple (c.next.ensures.next c.args.guided.now.binder.vars.now (assignment_in c.args.env.now) c.instances.invariant.reads) (c.next.ensures.end c.instances-test.false) c.instances.invariant.so_far
-
-pub guided_labels-returns-in_err-join_instance-in-Some-clause-labels : goal.guided_labels-returns-in_err-join_instance-in-Some-clause-labels
-guided_labels-returns-in_err-join_instance-in-Some-clause-labels t c =
+pub instances_labels-join_instance-requires : goal.instances_labels-join_instance-requires
+instances_labels-join_instance-requires t c =
     let a = c.args.along.now in
+    let b = c.args.binder.now in
+    let e = assignment_in c.args.env.now in
+    let f = c.tuple-item.result in
+    let parts = parts-of a b c.requires.fits in
+    let such = tuples-known a e b c.args.span c.in_ok-tuples.field-0 c.in-Some.tuples c.in-Some.is c.in_ok-tuples.ensures.tuples in
+    let known = tuple-at (length b.vars.now) c.deref-tuple-items.result.now c.loop-tuple.invariant.counts c.loop-tuple.tuple-index f c.loop-tuple-test.true c.tuple-item.is in
+    let here = put-here b.vars.now f.args (assignment_in c.loop-tuple.env) e c.loop-tuple.invariant.scope c.as_slice-vars.result.now c.as_slice-vars.ensures c.as_slice.result.now c.as_slice.ensures (assignment_in c.put_values.new.self) c.put_values.ensures.values in
+    let there = labels-known a c.args.span c.put_values.new.self b c.in_ok-there.field-0 c.in-Some-2.there c.in-Some-2.is (c.in_ok-there.ensures.there e b such parts.differ parts.occur known here) in
+    (omega (arith, c.decreases), (c.requires.along, (c.requires.span, (c.put_values.ensures.slots ∙ c.loop-tuple.invariant.slots, (c.requires.fits, (there, omega (arith, c.loop-tuple.invariant.so_far.size, c.requires.span.order)))))))
+
+pub instances_labels-loop-tuple-preserved : goal.instances_labels-loop-tuple-preserved
+instances_labels-loop-tuple-preserved t c =
+    let a = c.args.along.now in
+    let b = c.args.binder.now in
+    let q : Quantifier = quantifier_of b in
+    let e = assignment_in c.args.env.now in
+    let f = c.tuple-item.result in
+    let parts = parts-of a b c.requires.fits in
+    let such = tuples-known a e b c.args.span c.in_ok-tuples.field-0 c.in-Some.tuples c.in-Some.is c.in_ok-tuples.ensures.tuples in
+    let here = put-here b.vars.now f.args (assignment_in c.loop-tuple.env) e c.loop-tuple.invariant.scope c.as_slice-vars.result.now c.as_slice-vars.ensures c.as_slice.result.now c.as_slice.ensures (assignment_in c.put_values.new.self) c.put_values.ensures.values in
+    record {
+      counts = c.loop-tuple.invariant.counts;
+      scope = λ u. bind-through q.vars u f.args (assignment_in c.join_instance.new.env) e (ap assignment_in c.in_ok-join_instance-in-Some-2.ensures.frame ∙ here);
+      slots = ap length c.in_ok-join_instance-in-Some-2.ensures.frame ∙ (c.put_values.ensures.slots ∙ c.loop-tuple.invariant.slots);
+      so_far = joining-on (course_along a) (states_along a) e q parts.differ parts.occur c.args.span c.requires.span c.in-Some.tuples.facts.items such.have c.loop-tuple.all c.deref-tuple-items.result.now c.loop-tuple.tuple-index f c.loop-tuple.invariant.so_far c.loop-tuple-test.true c.tuple-item.is c.join_instance.new.all c.in_ok-join_instance-in-Some-2.field-0
+          (subst (λ (x : Assignment). JoinsInstance (course_along a) (states_along a) c.args.span x q c.loop-tuple.all c.join_instance.new.all (Ok c.in_ok-join_instance-in-Some-2.field-0)) here c.in_ok-join_instance-in-Some-2.ensures.joined);
+    }
+
+pub instances_labels-give_back-requires-clause-slots : goal.instances_labels-give_back-requires-clause-slots
+instances_labels-give_back-requires-clause-slots t c =
+    let parts = parts-of c.args.along.now c.args.binder.now c.requires.fits in
+    subst (Each (λ (s : Var). s.slot < 32)) (sym c.as_slice-vars.ensures) parts.in_frame
+
+pub instances_labels-returns-clause-labels : goal.instances_labels-returns-clause-labels
+instances_labels-returns-clause-labels t c =
+    let a = c.args.along.now in
+    let b = c.args.binder.now in
+    let e = assignment_in c.args.env.now in
+    let parts = parts-of a b c.requires.fits in
+    let such = tuples-known a e b c.args.span c.in_ok-tuples.field-0 c.in-Some.tuples c.in-Some.is c.in_ok-tuples.ensures.tuples in
+    joining-end (course_along a) (states_along a) e (quantifier_of b) parts.differ parts.occur c.args.span c.requires.span c.in-Some.tuples.facts.items such.have c.loop-tuple.all c.deref-tuple-items.result.now c.loop-tuple.tuple-index c.loop-tuple-test.false c.loop-tuple.invariant.so_far
+
+pub instances_labels-returns-in_err-join_instance-in-Some-2-clause-labels : goal.instances_labels-returns-in_err-join_instance-in-Some-2-clause-labels
+instances_labels-returns-in_err-join_instance-in-Some-2-clause-labels t c =
+    let a = c.args.along.now in
+    let b = c.args.binder.now in
     let p = course_along a in
     let ws = states_along a in
+    let q : Quantifier = quantifier_of b in
     let e = assignment_in c.args.env.now in
-    let f = tree_of_formula c.args.part.now in
-    let q : Quantifier = with_part c.args.guided.now.binder f in
-    let parts = quantified-parts a.task.now.problem q.junction q.vars q.bound f c.requires.fits in
-    let next = subst (IsNext (length q.vars) (λ t. bound_true (situation_of p.problem c.args.guided.now.guide.now) (bind q.vars t e) q.bound) c.instances.tuples.tuple) c.values.ensures.values (c.next.ensures.next q.vars e c.instances.invariant.reads) in
-    let here = c.put_values.ensures.values ∙ (ap (λ (ss : List Var). bind ss c.values.result.now (assignment_in c.instances.env)) c.as_slice-in-instances.ensures ∙ c.instances.invariant.scope c.values.result.now) in
-    let x = c.in_err-join_instance-in-Some.field-0.0 in
-    let old = c.instances.all in
+    let f = c.tuple-item.result in
+    let parts = parts-of a b c.requires.fits in
+    let such = tuples-known a e b c.args.span c.in_ok-tuples.field-0 c.in-Some.tuples c.in-Some.is c.in_ok-tuples.ensures.tuples in
+    let known = tuple-at (length b.vars.now) c.deref-tuple-items.result.now c.loop-tuple.invariant.counts c.loop-tuple.tuple-index f c.loop-tuple-test.true c.tuple-item.is in
+    let here = put-here b.vars.now f.args (assignment_in c.loop-tuple.env) e c.loop-tuple.invariant.scope c.as_slice-vars.result.now c.as_slice-vars.ensures c.as_slice.result.now c.as_slice.ensures (assignment_in c.put_values.new.self) c.put_values.ensures.values in
+    let x = c.in_err-join_instance-in-Some-2.field-0.0 in
+    let old = c.loop-tuple.all in
     let new = c.join_instance.new.all in
-    let inner = bind q.vars c.values.result.now e in
-    passed-on a (JoinsInstance p ws c.args.span inner q old new) (AreLabels p ws c.args.span e (quantified q.junction q.vars q.bound q.part))
-    (λ y h. guided-noted p ws e q parts.differ parts.occur c.args.guided.now.guide.now c.requires.guide c.args.span c.requires.span old c.instances.tuples.tuple c.instances.invariant.so_far c.values.result.now next new y h)
-    c.from_residual-in_err-join_instance-in-Some.result x c.from_residual-in_err-join_instance-in-Some.ensures.1
-    (subst (λ (d : Assignment). UnlessFew a (JoinsInstance p ws c.args.span d q old new) (Err x)) here c.in_err-join_instance-in-Some.ensures.joined)
-
-pub guided_labels-bound_labels-requires-clause-fits : goal.guided_labels-bound_labels-requires-clause-fits
-guided_labels-bound_labels-requires-clause-fits t c =
-    let parts = quantified-parts c.args.along.now.task.now.problem c.args.guided.now.binder.junction c.args.guided.now.binder.vars.now c.args.guided.now.binder.bound.now (tree_of_formula c.args.part.now) c.requires.fits in
-    parts.bound
+    passed-on a (JoinsInstance p ws c.args.span (bind q.vars f.args e) q old new) (AreLabels p ws c.args.span e (quantified q.junction q.vars q.bound q.part))
+    (λ y h. joining-noted p ws e q parts.differ parts.occur c.args.span c.requires.span c.in-Some.tuples.facts.items such.have f known.1 old new y h)
+    c.from_residual-in_err-join_instance-in-Some-2.result x c.from_residual-in_err-join_instance-in-Some-2.ensures.1
+    (subst (λ (d : Assignment). UnlessFew a (JoinsInstance p ws c.args.span d q old new) (Err x)) here c.in_err-join_instance-in-Some-2.ensures.joined)
 
 pub join_instance-hull-requires : goal.join_instance-hull-requires
 join_instance-hull-requires t c =
@@ -562,8 +567,8 @@ join_instance-hull-requires t c =
 
 pub join_instance-labels_of-requires : goal.join_instance-labels_of-requires
 join_instance-labels_of-requires t c =
-    let parts = quantified-parts c.args.along.now.task.now.problem c.args.instance.now.binder.junction c.args.instance.now.binder.vars.now c.args.instance.now.binder.bound.now (tree_of_formula c.args.instance.now.part.now) c.requires.fits in
-    (omega (arith, c.decreases), (c.requires.along, (hull-within (course_along c.args.along.now) (states_along c.args.along.now) c.args.span (assignment_in c.args.env.now) (with_part c.args.instance.now.binder (tree_of_formula c.args.instance.now.part.now)) c.requires.span c.args.instance.now.there c.requires.there c.in-Some.hull c.in-Some.ensures.hull, (c.requires.frame, parts.body))))
+    let parts = parts-of c.args.along.now c.args.instance.now.binder c.requires.fits in
+    (omega (arith, c.decreases), (c.requires.along, (hull-within (course_along c.args.along.now) (states_along c.args.along.now) c.args.span (assignment_in c.args.env.now) (quantifier_of c.args.instance.now.binder) c.requires.span c.args.instance.now.there c.requires.there c.in-Some.hull c.in-Some.ensures.hull, (c.requires.frame, parts.body))))
 
 pub join_instance-overflow_sub-hull : goal.join_instance-overflow_sub-hull
 join_instance-overflow_sub-hull t c =
@@ -576,15 +581,15 @@ join_instance-join_where-requires-clause-size t c =
 pub join_instance-join_where-requires-clause-within : goal.join_instance-join_where-requires-clause-within
 join_instance-join_where-requires-clause-within t c =
     let hull = c.in-Some.ensures.hull in
-    omega (arith, ap length c.requires.there, marks_in-length (bound_ahead (plain_problem c.args.along.now.task.now.problem) (assignment_in c.args.env.now) c.args.instance.now.binder.bound.now) (states_along c.args.along.now) c.args.span c.requires.span, c.requires.span.order, ap length c.in_ok-found-in-Some.ensures.labels, marks_in-length (true_ahead (course_along c.args.along.now) (assignment_in c.args.env.now) (tree_of_formula c.args.instance.now.part.now)) (states_along c.args.along.now) c.in-Some.hull (hull-within (course_along c.args.along.now) (states_along c.args.along.now) c.args.span (assignment_in c.args.env.now) (with_part c.args.instance.now.binder (tree_of_formula c.args.instance.now.part.now)) c.requires.span c.args.instance.now.there c.requires.there c.in-Some.hull hull), hull.from, hull.order, hull.to)
+    omega (arith, ap length c.requires.there, marks_in-length (bound_ahead (plain_problem c.args.along.now.task.now.problem) (assignment_in c.args.env.now) c.args.instance.now.binder.bound.now) (states_along c.args.along.now) c.args.span c.requires.span, c.requires.span.order, ap length c.in_ok-found-in-Some.ensures.labels, marks_in-length (true_ahead (course_along c.args.along.now) (assignment_in c.args.env.now) (tree_of_formula c.args.instance.now.binder.part.now)) (states_along c.args.along.now) c.in-Some.hull (hull-within (course_along c.args.along.now) (states_along c.args.along.now) c.args.span (assignment_in c.args.env.now) (quantifier_of c.args.instance.now.binder) c.requires.span c.args.instance.now.there c.requires.there c.in-Some.hull hull), hull.from, hull.order, hull.to)
 
 pub join_instance-returns-in-None-clause-joined : goal.join_instance-returns-in-None-clause-joined
 join_instance-returns-in-None-clause-joined t c =
-    instance-nowhere (course_along c.args.along.now) (states_along c.args.along.now) c.args.span (assignment_in c.args.env.now) (with_part c.args.instance.now.binder (tree_of_formula c.args.instance.now.part.now)) c.requires.span c.args.instance.now.there c.requires.there c.args.all.now tt (omega (arith, c.requires.size)) c.in-None.ensures.none
+    instance-nowhere (course_along c.args.along.now) (states_along c.args.along.now) c.args.span (assignment_in c.args.env.now) (quantifier_of c.args.instance.now.binder) c.requires.span c.args.instance.now.there c.requires.there c.args.all.now tt (omega (arith, c.requires.size)) c.in-None.ensures.none
 
 pub join_instance-returns-in_ok-join_where-in-Some-clause-joined : goal.join_instance-returns-in_ok-join_where-in-Some-clause-joined
 join_instance-returns-in_ok-join_where-in-Some-clause-joined t c =
-    instance-joined (course_along c.args.along.now) (states_along c.args.along.now) c.args.span (assignment_in c.args.env.now) (with_part c.args.instance.now.binder (tree_of_formula c.args.instance.now.part.now)) c.requires.span c.args.instance.now.there c.requires.there c.in-Some.hull c.in-Some.ensures.hull c.args.all.now c.join_where.new.self c.in_ok-found-in-Some.found tt (omega (arith, c.requires.size)) c.in_ok-found-in-Some.ensures.labels c.in_ok-join_where-in-Some.ensures.size c.in_ok-join_where-in-Some.ensures.joined
+    instance-joined (course_along c.args.along.now) (states_along c.args.along.now) c.args.span (assignment_in c.args.env.now) (quantifier_of c.args.instance.now.binder) c.requires.span c.args.instance.now.there c.requires.there c.in-Some.hull c.in-Some.ensures.hull c.args.all.now c.join_where.new.self c.in_ok-found-in-Some.found tt (omega (arith, c.requires.size)) c.in_ok-found-in-Some.ensures.labels c.in_ok-join_where-in-Some.ensures.size c.in_ok-join_where-in-Some.ensures.joined
 
 pub join_instance-returns-in_err-found-in-Some-clause-joined : goal.join_instance-returns-in_err-found-in-Some-clause-joined
 join_instance-returns-in_err-found-in-Some-clause-joined t c =
@@ -592,138 +597,9 @@ join_instance-returns-in_err-found-in-Some-clause-joined t c =
     let p = course_along a in
     let ws = states_along a in
     let e = assignment_in c.args.env.now in
-    let f = tree_of_formula c.args.instance.now.part.now in
-    let q : Quantifier = with_part c.args.instance.now.binder f in
+    let f = tree_of_formula c.args.instance.now.binder.part.now in
+    let q : Quantifier = quantifier_of c.args.instance.now.binder in
     let all = c.args.all.now in
     passed-on a (AreLabels p ws c.in-Some.hull e f) (JoinsInstance p ws c.args.span e q all all)
-    (λ y h. guided.instance-noted p ws c.args.span e q c.requires.span c.args.instance.now.there c.requires.there c.in-Some.hull c.in-Some.ensures.hull all all y h)
+    (λ y h. instance-noted p ws c.args.span e q c.requires.span c.args.instance.now.there c.requires.there c.in-Some.hull c.in-Some.ensures.hull all all y h)
     c.from_residual.result c.in_err-found-in-Some.field-0.0 c.from_residual.ensures.1 c.in_err-found-in-Some.ensures.labels
-
-pub stepped_labels-gathered-requires-clause-differ : goal.stepped_labels-gathered-requires-clause-differ
-stepped_labels-gathered-requires-clause-differ t c =
-    let parts = quantified-parts c.args.along.now.task.now.problem c.args.binder.now.junction c.args.binder.now.vars.now c.args.binder.now.bound.now (tree_of_formula c.args.part.now) c.requires.fits in
-    parts.differ
-
-pub stepped_labels-gathered-requires-clause-occur : goal.stepped_labels-gathered-requires-clause-occur
-stepped_labels-gathered-requires-clause-occur t c =
-    let parts = quantified-parts c.args.along.now.task.now.problem c.args.binder.now.junction c.args.binder.now.vars.now c.args.binder.now.bound.now (tree_of_formula c.args.part.now) c.requires.fits in
-    parts.occur
-
-pub stepped_labels-gathered-requires-clause-fits : goal.stepped_labels-gathered-requires-clause-fits
-stepped_labels-gathered-requires-clause-fits t c =
-    let parts = quantified-parts c.args.along.now.task.now.problem c.args.binder.now.junction c.args.binder.now.vars.now c.args.binder.now.bound.now (tree_of_formula c.args.part.now) c.requires.fits in
-    parts.bound
-
-pub stepped_labels-kept-outer-requires : goal.stepped_labels-kept-outer-requires
-stepped_labels-kept-outer-requires t c =
-    let parts = quantified-parts c.args.along.now.task.now.problem c.args.binder.now.junction c.args.binder.now.vars.now c.args.binder.now.bound.now (tree_of_formula c.args.part.now) c.requires.fits in
-    record { few = omega (arith, ap length c.as_slice.ensures, parts.few) }
-
-pub stepped_labels-loop-tuple-init : goal.stepped_labels-loop-tuple-init
-stepped_labels-loop-tuple-init t c =
-    let parts = quantified-parts c.args.along.now.task.now.problem c.args.binder.now.junction c.args.binder.now.vars.now c.args.binder.now.bound.now (tree_of_formula c.args.part.now) c.requires.fits in
-    let p = course_along c.args.along.now in
-    let e = assignment_in c.args.env.now in
-    let ws = (states_along c.args.along.now) in
-    let q : Quantifier = with_part c.args.binder.now (tree_of_formula c.args.part.now) in
-    let tracks = c.in-Some.tracks in
-    let gathers = gathers-known c.args.along.now c.args.env.now c.args.binder.now c.args.span c.in_ok-tracks.field-0 tracks c.in-Some.is c.in_ok-tracks.ensures.gathered in
-    record {
-      scope = λ u. refl;
-      slots = c.requires.frame;
-      so_far = stepped-begun p ws e q parts.differ parts.occur c.args.span c.requires.span tracks gathers c.in_ok-all.all c.deref-tuple-items.result.now c.deref-tuple-items.ensures.value (c.in_ok-all.ensures.same ∙ ap (λ (b : Bool). replicate (c.args.span.to - c.args.span.from) (not b)) c.deciding_truth.ensures);
-    }
-
-pub stepped_labels-put_values-requires-clause-slots : goal.stepped_labels-put_values-requires-clause-slots
-stepped_labels-put_values-requires-clause-slots t c =
-    let parts = quantified-parts c.args.along.now.task.now.problem c.args.binder.now.junction c.args.binder.now.vars.now c.args.binder.now.bound.now (tree_of_formula c.args.part.now) c.requires.fits in
-    subst (Each (λ (s : Var). s.slot < 32)) (sym c.as_slice-in-loop-tuple.ensures) parts.in_frame
-
-pub stepped_labels-put_values-requires-clause-same : goal.stepped_labels-put_values-requires-clause-same
-stepped_labels-put_values-requires-clause-same t c =
-    let parts = quantified-parts c.args.along.now.task.now.problem c.args.binder.now.junction c.args.binder.now.vars.now c.args.binder.now.bound.now (tree_of_formula c.args.part.now) c.requires.fits in
-    let p = course_along c.args.along.now in
-    let e = assignment_in c.args.env.now in
-    let ws = (states_along c.args.along.now) in
-    let q : Quantifier = with_part c.args.binder.now (tree_of_formula c.args.part.now) in
-    let tracks = c.in-Some.tracks in
-    let gathers = gathers-known c.args.along.now c.args.env.now c.args.binder.now c.args.span c.in_ok-tracks.field-0 tracks c.in-Some.is c.in_ok-tracks.ensures.gathered in
-    let f = c.tuple-item.result in
-    let items = c.deref-tuple-items.result.now in
-    let known = each-among (IsTuple (length q.vars)) items f (subst (Each (IsTuple (length q.vars))) (sym c.deref-tuple-items.ensures.value) gathers.counts) (among-item items c.loop-tuple.tuple-index f c.loop-tuple-test.true c.tuple-item.is) in
-    ap length c.as_slice-in-loop-tuple.ensures ∙ sym (ap length c.as_slice-in-loop-tuple-2.ensures ∙ known.1)
-
-pub stepped_labels-join_instance-requires : goal.stepped_labels-join_instance-requires
-stepped_labels-join_instance-requires t c =
-    let parts = quantified-parts c.args.along.now.task.now.problem c.args.binder.now.junction c.args.binder.now.vars.now c.args.binder.now.bound.now (tree_of_formula c.args.part.now) c.requires.fits in
-    let p = course_along c.args.along.now in
-    let e = assignment_in c.args.env.now in
-    let ws = (states_along c.args.along.now) in
-    let q : Quantifier = with_part c.args.binder.now (tree_of_formula c.args.part.now) in
-    let tracks = c.in-Some.tracks in
-    let gathers = gathers-known c.args.along.now c.args.env.now c.args.binder.now c.args.span c.in_ok-tracks.field-0 tracks c.in-Some.is c.in_ok-tracks.ensures.gathered in
-    let f = c.tuple-item.result in
-    let items = c.deref-tuple-items.result.now in
-    let known = each-among (IsTuple (length q.vars)) items f (subst (Each (IsTuple (length q.vars))) (sym c.deref-tuple-items.ensures.value) gathers.counts) (among-item items c.loop-tuple.tuple-index f c.loop-tuple-test.true c.tuple-item.is) in
-    let here = c.put_values.ensures.values ∙ (ap (λ (ss : List Var). bind ss c.as_slice-in-loop-tuple-2.result.now (assignment_in c.loop-tuple.env)) c.as_slice-in-loop-tuple.ensures ∙ (ap (λ (u : List Value). bind q.vars u (assignment_in c.loop-tuple.env)) c.as_slice-in-loop-tuple-2.ensures ∙ c.loop-tuple.invariant.scope f.args)) in
-    let there = c.in_ok-there.ensures
-    ∙ (ap (λ (cs : List Change). test_from (truth_from false cs) c.args.span.from (c.args.span.to - c.args.span.from)) c.line_of.ensures
-    ∙ (tuple-labels p ws e q parts.differ parts.occur c.args.span c.requires.span tracks gathers f known ∙ ap (λ (x : Assignment). marks_in (bound_ahead p.problem x q.bound) ws c.args.span) (sym here))) in
-    (omega (arith, c.decreases), (c.requires.along, (c.requires.span, (c.put_values.ensures.slots ∙ c.loop-tuple.invariant.slots, (c.requires.fits, (there, omega (arith, c.loop-tuple.invariant.so_far.size, c.requires.span.order)))))))
-
-pub stepped_labels-loop-tuple-preserved : goal.stepped_labels-loop-tuple-preserved
-stepped_labels-loop-tuple-preserved t c =
-    let parts = quantified-parts c.args.along.now.task.now.problem c.args.binder.now.junction c.args.binder.now.vars.now c.args.binder.now.bound.now (tree_of_formula c.args.part.now) c.requires.fits in
-    let p = course_along c.args.along.now in
-    let e = assignment_in c.args.env.now in
-    let ws = (states_along c.args.along.now) in
-    let q : Quantifier = with_part c.args.binder.now (tree_of_formula c.args.part.now) in
-    let tracks = c.in-Some.tracks in
-    let gathers = gathers-known c.args.along.now c.args.env.now c.args.binder.now c.args.span c.in_ok-tracks.field-0 tracks c.in-Some.is c.in_ok-tracks.ensures.gathered in
-    let f = c.tuple-item.result in
-    let items = c.deref-tuple-items.result.now in
-    let known = each-among (IsTuple (length q.vars)) items f (subst (Each (IsTuple (length q.vars))) (sym c.deref-tuple-items.ensures.value) gathers.counts) (among-item items c.loop-tuple.tuple-index f c.loop-tuple-test.true c.tuple-item.is) in
-    let here = c.put_values.ensures.values ∙ (ap (λ (ss : List Var). bind ss c.as_slice-in-loop-tuple-2.result.now (assignment_in c.loop-tuple.env)) c.as_slice-in-loop-tuple.ensures ∙ (ap (λ (u : List Value). bind q.vars u (assignment_in c.loop-tuple.env)) c.as_slice-in-loop-tuple-2.ensures ∙ c.loop-tuple.invariant.scope f.args)) in
-    record {
-      scope = λ u. bind-through q.vars u f.args (assignment_in c.join_instance.new.env) e (ap assignment_in c.in_ok-join_instance.ensures.frame ∙ here);
-      slots = ap length c.in_ok-join_instance.ensures.frame ∙ (c.put_values.ensures.slots ∙ c.loop-tuple.invariant.slots);
-      so_far = stepped-on p ws e q parts.differ parts.occur c.args.span c.requires.span tracks gathers c.loop-tuple.all items c.loop-tuple.tuple-index f c.loop-tuple.invariant.so_far c.loop-tuple-test.true c.tuple-item.is c.join_instance.new.all c.in_ok-join_instance.field-0
-          (subst (λ (x : Assignment). JoinsInstance p ws c.args.span x q c.loop-tuple.all c.join_instance.new.all (Ok c.in_ok-join_instance.field-0)) here c.in_ok-join_instance.ensures.joined);
-    }
-
-pub stepped_labels-give_back-requires-clause-slots : goal.stepped_labels-give_back-requires-clause-slots
-stepped_labels-give_back-requires-clause-slots t c =
-    let parts = quantified-parts c.args.along.now.task.now.problem c.args.binder.now.junction c.args.binder.now.vars.now c.args.binder.now.bound.now (tree_of_formula c.args.part.now) c.requires.fits in
-    subst (Each (λ (s : Var). s.slot < 32)) (sym c.as_slice-2.ensures) parts.in_frame
-
-pub stepped_labels-returns-clause-labels : goal.stepped_labels-returns-clause-labels
-stepped_labels-returns-clause-labels t c =
-    let parts = quantified-parts c.args.along.now.task.now.problem c.args.binder.now.junction c.args.binder.now.vars.now c.args.binder.now.bound.now (tree_of_formula c.args.part.now) c.requires.fits in
-    let p = course_along c.args.along.now in
-    let e = assignment_in c.args.env.now in
-    let ws = (states_along c.args.along.now) in
-    let q : Quantifier = with_part c.args.binder.now (tree_of_formula c.args.part.now) in
-    let tracks = c.in-Some.tracks in
-    let gathers = gathers-known c.args.along.now c.args.env.now c.args.binder.now c.args.span c.in_ok-tracks.field-0 tracks c.in-Some.is c.in_ok-tracks.ensures.gathered in
-    stepped-end p ws e q parts.differ parts.occur c.args.span c.requires.span tracks gathers c.loop-tuple.all c.deref-tuple-items.result.now c.loop-tuple.tuple-index c.loop-tuple-test.false c.loop-tuple.invariant.so_far
-
-pub stepped_labels-returns-in_err-join_instance-clause-labels : goal.stepped_labels-returns-in_err-join_instance-clause-labels
-stepped_labels-returns-in_err-join_instance-clause-labels t c =
-    let parts = quantified-parts c.args.along.now.task.now.problem c.args.binder.now.junction c.args.binder.now.vars.now c.args.binder.now.bound.now (tree_of_formula c.args.part.now) c.requires.fits in
-    let p = course_along c.args.along.now in
-    let e = assignment_in c.args.env.now in
-    let ws = (states_along c.args.along.now) in
-    let q : Quantifier = with_part c.args.binder.now (tree_of_formula c.args.part.now) in
-    let tracks = c.in-Some.tracks in
-    let gathers = gathers-known c.args.along.now c.args.env.now c.args.binder.now c.args.span c.in_ok-tracks.field-0 tracks c.in-Some.is c.in_ok-tracks.ensures.gathered in
-    let f = c.tuple-item.result in
-    let items = c.deref-tuple-items.result.now in
-    let known = each-among (IsTuple (length q.vars)) items f (subst (Each (IsTuple (length q.vars))) (sym c.deref-tuple-items.ensures.value) gathers.counts) (among-item items c.loop-tuple.tuple-index f c.loop-tuple-test.true c.tuple-item.is) in
-    let here = c.put_values.ensures.values ∙ (ap (λ (ss : List Var). bind ss c.as_slice-in-loop-tuple-2.result.now (assignment_in c.loop-tuple.env)) c.as_slice-in-loop-tuple.ensures ∙ (ap (λ (u : List Value). bind q.vars u (assignment_in c.loop-tuple.env)) c.as_slice-in-loop-tuple-2.ensures ∙ c.loop-tuple.invariant.scope f.args)) in
-    let x = c.in_err-join_instance.field-0.0 in
-    let old = c.loop-tuple.all in
-    let new = c.join_instance.new.all in
-    passed-on c.args.along.now (JoinsInstance p ws c.args.span (bind q.vars f.args e) q old new) (AreLabels p ws c.args.span e (quantified q.junction q.vars q.bound q.part))
-    (λ y h. stepped-noted p ws e q parts.differ parts.occur c.args.span c.requires.span tracks gathers f known.1 old new y h)
-    c.from_residual-in_err-join_instance.result x c.from_residual-in_err-join_instance.ensures.1
-    (subst (λ (d : Assignment). UnlessFew c.args.along.now (JoinsInstance p ws c.args.span d q old new) (Err x)) here c.in_err-join_instance.ensures.joined)

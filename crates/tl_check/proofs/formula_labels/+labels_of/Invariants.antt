@@ -1,17 +1,13 @@
 use Rattle.std.proofs.Common.{◌≡◌, ◌+◌, ◌*◌, drop, length}
-use Rattle.tl_check.proofs.GatheredLaws.{Stepped}
-use Rattle.tl_check.proofs.GuidedLaws.{Guided}
+use Rattle.tl_check.proofs.InstanceLaws.{Joining}
 use Rattle.tl_check.proofs.PartLabels.{PartsSoFar}
 use Rattle.tl_check.proofs.Sizes.{size, sizes}
-use Rattle.tl_check.specs.Quantifiers.{with_part}
+use Rattle.tl_check.specs.Gathered.{IsTuple}
+use Rattle.tl_check.specs.Quantifiers.{quantifier_of}
 use Rattle.tl_check.specs.StatesAlong.{states_along, course_along}
-use Rattle.tl_eval.proofs.TupleRest.{rest_after}
 use Rattle.tl_eval.specs.Frames.{assignment_in, AgreeElsewhere}
-use Rattle.tl_eval.specs.Reader.{ReadsTuples}
+use Rattle.tl_syntax.specs.Lists.{Each}
 use Rattle.tl_syntax.specs.TreeOfFormula.{tree_of_formula, tree_of_formulas}
-use Rattle.tl_terms.specs.Bounds.{tuples}
-use Rattle.tl_terms.specs.Definitions.{situation_of}
-use Rattle.tl_terms.specs.ProblemMeaning.{plain_problem}
 use Rattle.tl_check.proofs.formula_labels.+labels_of.Given as goal
 
 abbrev pub decreases-labels_of : goal.decreases-labels_of
@@ -36,19 +32,13 @@ abbrev pub decreases-join_part : goal.decreases-join_part
 decreases-join_part l = 1 + 4 * size (tree_of_formula l.part.now.formula.now)
 
 abbrev pub decreases-quantified_labels : goal.decreases-quantified_labels
-decreases-quantified_labels l = 4 + 4 * size (tree_of_formula l.part.now)
+decreases-quantified_labels l = 3 + 4 * size (tree_of_formula l.binder.now.part.now)
 
-abbrev pub decreases-ordered_labels : goal.decreases-ordered_labels
-decreases-ordered_labels l = 3 + 4 * size (tree_of_formula l.part.now)
-
-abbrev pub decreases-guided_labels : goal.decreases-guided_labels
-decreases-guided_labels l = 2 + 4 * size (tree_of_formula l.part.now)
+abbrev pub decreases-instances_labels : goal.decreases-instances_labels
+decreases-instances_labels l = 2 + 4 * size (tree_of_formula l.binder.now.part.now)
 
 abbrev pub decreases-join_instance : goal.decreases-join_instance
-decreases-join_instance l = 1 + 4 * size (tree_of_formula l.instance.now.part.now)
-
-abbrev pub decreases-stepped_labels : goal.decreases-stepped_labels
-decreases-stepped_labels l = 2 + 4 * size (tree_of_formula l.part.now)
+decreases-join_instance l = 1 + 4 * size (tree_of_formula l.instance.now.binder.part.now)
 
 abbrev pub invariant-parts_labels-loop-part : goal.invariant-parts_labels-loop-part
 invariant-parts_labels-loop-part l = record {
@@ -56,20 +46,10 @@ invariant-parts_labels-loop-part l = record {
   so_far : PartsSoFar (course_along l.along) (assignment_in l.fn.env) (states_along l.along) l.span l.junction l.part-items (drop l.part-index l.part-items) l.all;
 }
 
-abbrev pub decreases-guided_labels-instances : goal.decreases-guided_labels-instances
-decreases-guided_labels-instances l = length (rest_after l.tuples.tuple (tuples (situation_of (plain_problem l.along.task.now.problem) l.guided.guide.now) (assignment_in l.fn.env) l.guided.binder.vars.now l.guided.binder.bound.now))
-
-abbrev pub invariant-guided_labels-instances : goal.invariant-guided_labels-instances
-invariant-guided_labels-instances l = record {
-  reads : ReadsTuples l.guided.binder.vars.now (assignment_in l.fn.env) l.guided.binder.bound.now l.tuples;
-  scope : AgreeElsewhere l.guided.binder.vars.now (assignment_in l.env) (assignment_in l.fn.env);
-  slots : length l.env ≡ 32;
-  so_far : Guided (course_along l.along) (states_along l.along) (assignment_in l.fn.env) (with_part l.guided.binder (tree_of_formula l.part)) l.guided.guide.now l.span l.all l.tuples.tuple;
-}
-
-abbrev pub invariant-stepped_labels-loop-tuple : goal.invariant-stepped_labels-loop-tuple
-invariant-stepped_labels-loop-tuple l = record {
+abbrev pub invariant-instances_labels-loop-tuple : goal.invariant-instances_labels-loop-tuple
+invariant-instances_labels-loop-tuple l = record {
+  counts : Each (IsTuple (length l.binder.vars.now)) l.tuple-items;
   scope : AgreeElsewhere l.binder.vars.now (assignment_in l.env) (assignment_in l.fn.env);
   slots : length l.env ≡ 32;
-  so_far : Stepped (course_along l.along) (states_along l.along) (assignment_in l.fn.env) (with_part l.binder (tree_of_formula l.part)) l.span l.all (drop l.tuple-index l.tuple-items);
+  so_far : Joining (course_along l.along) (states_along l.along) (assignment_in l.fn.env) (quantifier_of l.binder) l.span l.all (drop l.tuple-index l.tuple-items);
 }

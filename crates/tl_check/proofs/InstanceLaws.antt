@@ -1,26 +1,29 @@
--- The labels of a quantifier whose tuples are all among those of one world.
-use Rattle.std.proofs.Common.{◌≡◌, ◌<◌, ◌+◌, ◌-◌, ◌&&◌, ◌||◌, ℕ, zero, suc, List, [], ◌∷◌, drop, length, replicate, get_or, cond, Bool, true, false, true≢false, not, Option, Some, None, Ok, Err, refl, sym, ap, ◌∙◌, subst, inl, inr, arith}
+-- The labels of a quantifier by its instances.
+use Rattle.std.proofs.Common.{◌≡◌, ◌<◌, ◌≤◌, ◌+◌, ◌-◌, ◌&&◌, ◌||◌, ℕ, zero, suc, List, [], ◌∷◌, drop, length, replicate, get_or, cond, Bool, true, false, true≢false, not, Some, Ok, Err, refl, sym, ap, ◌∙◌, subst, inl, inr, arith}
 use Rattle.std.specs.Prelude.{slice_get}
 use Rattle.std.proofs.lemmas.List.{length-replicate, get_or-replicate}
-use Rattle.tl_check.proofs.AtomLaws.{opened-at}
+use Rattle.tl_check.proofs.AtomLaws.{opened, opened-at}
 use Rattle.tl_check.proofs.JoinLaws.{joins-idle, joins-idle_right, joins-assoc, quantified-joined}
-use Rattle.tl_check.proofs.HistoryLaws.{there-is}
+use Rattle.tl_check.proofs.HistoryLaws.{there-is, each-among}
 use Rattle.tl_check.proofs.LookedLaws.{comes-later, instance-looked}
 use Rattle.tl_check.proofs.SpanLaws.{marks_in-at, marks_in-by, marks_in-length, where-not, where-there}
 use Rattle.tl_check.specs.Ahead.{Course, true_ahead}
 use Rattle.tl_check.specs.Quantifiers.{Quantifier, joined_truths}
-use Rattle.tl_check.specs.Facts.{Guides, bound_ahead}
+use Rattle.tl_check.specs.Facts.{bound_ahead}
+use Rattle.tl_check.specs.Gathered.{IsTuple}
 use Rattle.tl_check.specs.Instances.{instance_ahead, JoinsInstance}
 use Rattle.tl_check.specs.Labelled.{AreLabels}
 use Rattle.tl_check.specs.Passes.{joins}
+use Rattle.tl_check.specs.Tracks.{fact_with}
+use Rattle.tl_check.specs.Tuples.{HaveTuples}
 use Rattle.tl_check.specs.Spans.{IsWithin, IsHull, marks_in, joined_where}
 use Rattle.tl_action.specs.declared.check_fault.CheckFault.{CheckFault}
 use Rattle.tl_action.specs.declared.check_fault.CheckFault.TheVariants as fault
 use Rattle.tl_check.specs.declared.span.Span.{Span}
-use Rattle.tl_eval.proofs.TupleRest.{rest_after, all-after-none, rest-none, rest-some}
 use Rattle.tl_eval.specs.Notes.{operation_of}
 use Rattle.tl_syntax.proofs.ListLaws.{one_in}
 use Rattle.tl_syntax.specs.declared.bound.Bound.{Bound}
+use Rattle.tl_syntax.specs.declared.fact.Fact.{Fact}
 use Rattle.tl_syntax.specs.declared.junction.Junction.{Junction}
 use Rattle.tl_syntax.specs.declared.junction.Junction.TheVariants.{All, Any}
 use Rattle.tl_syntax.specs.declared.value.Value.{Value}
@@ -33,7 +36,6 @@ use Rattle.tl_terms.specs.Bounds.{bound_true, tuples}
 use Rattle.tl_terms.specs.Definitions.{situation_of}
 use Rattle.tl_terms.specs.Problem.{PlainProblem}
 use Rattle.tl_terms.specs.World.{World}
-use Rattle.tl_world.specs.Next.{IsNext}
 
 -- ---- truths together
 
@@ -100,113 +102,102 @@ bound-world p e b [] (suc j) h = absurd (true≢false (sym h))
 bound-world p e b (w ∷ ws) zero h = (w, refl, h)
 bound-world p e b (w ∷ ws) (suc j) h = bound-world p e b ws j h
 
+-- ---- the labels of a quantifier by its tuples
+
 -- the labels so far and the instances that are left are together those of the formula
-module _ (p : Course) (ws : List World) (e : Assignment) (q : Quantifier) (guide : World) (span : Span) where
-  pub record Guided (bs : List Bool) (after : Option (List Value)) : Type 0 where
-    pub size : length bs ≡ span.to - span.from
-    pub so_far : (k : ℕ) → k < span.to - span.from → true_ahead p e (quantified q.junction q.vars q.bound q.part) (drop (span.from + k) ws)
-        ≡ joins q.junction (get_or bs k false) (joined_truths q.junction (λ t. instance_ahead p q (bind q.vars t e) (drop (span.from + k) ws)) (rest_after after (tuples (situation_of p.problem guide) e q.vars q.bound)))
+pub record Joining (p : Course) (ws : List World) (e : Assignment) (q : Quantifier) (span : Span) (bs : List Bool) (left : List Fact) : Type 0 where
+  pub size : length bs ≡ span.to - span.from
+  pub so_far : (k : ℕ) → k < span.to - span.from → true_ahead p e (quantified q.junction q.vars q.bound q.part) (drop (span.from + k) ws)
+      ≡ joins q.junction (get_or bs k false) (joined_truths q.junction (λ f. instance_ahead p q (bind q.vars f.args e) (drop (span.from + k) ws)) left)
 
--- the instances in a world are among those of the guide
-module _ (p : Course) (ws : List World) (e : Assignment) (q : Quantifier) (d : DifferInSlot q.vars) (o : OccurIn q.vars q.bound) (guide : World) (guides : Guides p.problem ws q.bound guide) where
-  abbrev all : List (List Value)
-  all = tuples (situation_of p.problem guide) e q.vars q.bound
+module _ (p : Course) (ws : List World) (e : Assignment) (q : Quantifier) (d : DifferInSlot q.vars) (o : OccurIn q.vars q.bound) (span : Span) (within : IsWithin span (length ws)) (fs : List Fact) (have : HaveTuples p.problem ws e q.vars q.bound span fs) where
+  abbrev truth : List World → Fact → Bool
+  truth s f = instance_ahead p q (bind q.vars f.args e) s
 
-  abbrev truth : List World → List Value → Bool
-  truth s t = instance_ahead p q (bind q.vars t e) s
-
-  whole-guided : (w : World) (vs : List World) → Among w ws → true_ahead p e (quantified q.junction q.vars q.bound q.part) (w ∷ vs) ≡ joined_truths q.junction (truth (w ∷ vs)) all
-  whole-guided w vs m =
+  -- the instances in a world are among those of the tuples that are there
+  whole : (k : ℕ) (w : World) (vs : List World) → span.from ≤ k → k < span.to → slice_get ws k ≡ Some w → true_ahead p e (quantified q.junction q.vars q.bound q.part) (w ∷ vs) ≡ joined_truths q.junction (truth (w ∷ vs)) fs
+  whole k w vs low high at =
       let here = tuples (situation_of p.problem w) e q.vars q.bound in
       let plain : List Value → Bool = λ t. true_ahead p (bind q.vars t e) q.part (w ∷ vs) in
       quantified-joined p e q.junction q.vars q.bound q.part w vs
-      ∙ same-by (deciding_truth q.junction) (joined_truths q.junction plain here) (joined_truths q.junction (truth (w ∷ vs)) all)
+      ∙ same-by (deciding_truth q.junction) (joined_truths q.junction plain here) (joined_truths q.junction (truth (w ∷ vs)) fs)
       (λ h. (
       let found = one-out (λ t. plain t ≡ deciding_truth q.junction) here (some-decides q.junction plain here h) in
       let t = found.0 in
       let known = (all-tuples (situation_of p.problem w) e q.vars q.bound d o t).0 found.1 in
-      let there = (all-tuples (situation_of p.problem guide) e q.vars q.bound d o t).1 (known.0, guides (bind q.vars t e) w m known.1) in
-      decided-by_some q.junction (truth (w ∷ vs)) all (one_in (λ u. truth (w ∷ vs) u ≡ deciding_truth q.junction) t all there (instance-in p q (bind q.vars t e) w vs true known.1 ∙ found.2))
+      let there = have.covered t k w low high at found.1 in
+      decided-by_some q.junction (truth (w ∷ vs)) fs (one_in (λ f. truth (w ∷ vs) f ≡ deciding_truth q.junction) (fact_with 0 t) fs there (instance-in p q (bind q.vars t e) w vs true known.1 ∙ found.2))
       ))
       (λ h. (
-      let found = one-out (λ t. truth (w ∷ vs) t ≡ deciding_truth q.junction) all (some-decides q.junction (truth (w ∷ vs)) all h) in
-      let t = found.0 in
-      let known = (all-tuples (situation_of p.problem guide) e q.vars q.bound d o t).0 found.1 in
-      let is = by t (bound_true (situation_of p.problem w) (bind q.vars t e) q.bound) refl found.2 in
-      let there = (all-tuples (situation_of p.problem w) e q.vars q.bound d o t).1 (known.0, is.0) in
-      decided-by_some q.junction plain here (one_in (λ u. plain u ≡ deciding_truth q.junction) t here there is.1)
+      let found = one-out (λ f. truth (w ∷ vs) f ≡ deciding_truth q.junction) fs (some-decides q.junction (truth (w ∷ vs)) fs h) in
+      let f = found.0 in
+      let known = each-among (IsTuple (length q.vars)) fs f have.counts found.1 in
+      let is = by f.args (bound_true (situation_of p.problem w) (bind q.vars f.args e) q.bound) refl found.2 in
+      let there = (all-tuples (situation_of p.problem w) e q.vars q.bound d o f.args).1 (known.1, is.0) in
+      decided-by_some q.junction plain here (one_in (λ u. plain u ≡ deciding_truth q.junction) f.args here there is.1)
       ))
     where
-      by : (t : List Value) (b : Bool) → bound_true (situation_of p.problem w) (bind q.vars t e) q.bound ≡ b → truth (w ∷ vs) t ≡ deciding_truth q.junction → (bound_true (situation_of p.problem w) (bind q.vars t e) q.bound ≡ true) × (true_ahead p (bind q.vars t e) q.part (w ∷ vs) ≡ deciding_truth q.junction)
+      by : (t : List Value) (b : Bool) → bound_true (situation_of p.problem w) (bind q.vars t e) q.bound ≡ b → instance_ahead p q (bind q.vars t e) (w ∷ vs) ≡ deciding_truth q.junction → (bound_true (situation_of p.problem w) (bind q.vars t e) q.bound ≡ true) × (true_ahead p (bind q.vars t e) q.part (w ∷ vs) ≡ deciding_truth q.junction)
       by t true h k = (h, sym (instance-in p q (bind q.vars t e) w vs true h) ∙ k)
       by t false h k = absurd (open-is_not q.junction (sym (instance-in p q (bind q.vars t e) w vs false h) ∙ k))
 
-  module _ (span : Span) (within : IsWithin span (length ws)) where
-    abbrev So : List Bool → Option (List Value) → Type 0
-    So bs after = Guided p ws e q guide span bs after
+  abbrev So : List Bool → List Fact → Type 0
+  So bs left = Joining p ws e q span bs left
 
-    pub guided-begun : (bs : List Bool) (after : Option (List Value)) → after ≡ None → bs ≡ replicate (span.to - span.from) (not (deciding_truth q.junction)) → So bs after
-    guided-begun bs after none is = record {
-      size = ap length is ∙ length-replicate (span.to - span.from) (not (deciding_truth q.junction));
-      so_far = λ k h. (
-          let order = within.order in
-          let room = within.within in
-          let i : span.from + k < length ws = omega arith in
-          let v = there-is ws (span.from + k) i in
-          let s : drop (span.from + k) ws ≡ v.0 ∷ drop (suc (span.from + k)) ws = opened-at ws (span.from + k) v.0 v.1 in
-          let m : Among v.0 ws = found (span.from + k) v.0 v.1 in
-          ap (true_ahead p e (quantified q.junction q.vars q.bound q.part)) s
-          ∙ (whole-guided v.0 (drop (suc (span.from + k)) ws) m
-          ∙ (ap (λ (x : List World). joined_truths q.junction (truth x) all) (sym s)
-          ∙ (ap (joined_truths q.junction (truth (drop (span.from + k) ws))) (all-after-none all ∙ ap (λ (x : Option (List Value)). rest_after x all) (sym none))
-          ∙ (sym (joins-idle q.junction (joined_truths q.junction (truth (drop (span.from + k) ws)) (rest_after after all)))
-          ∙ ap (λ (b : Bool). joins q.junction b (joined_truths q.junction (truth (drop (span.from + k) ws)) (rest_after after all)))
-          (sym (ap (λ (cs : List Bool). get_or cs k false) is ∙ get_or-replicate (span.to - span.from) k (not (deciding_truth q.junction)) false h))))))
+  begun : (bs : List Bool) → bs ≡ replicate (span.to - span.from) (not (deciding_truth q.junction)) → So bs fs
+  begun bs is = record {
+    size = ap length is ∙ length-replicate (span.to - span.from) (not (deciding_truth q.junction));
+    so_far = λ k h. (
+        let order = within.order in
+        let room = within.within in
+        let i : span.from + k < length ws = omega arith in
+        let v = there-is ws (span.from + k) i in
+        let s : drop (span.from + k) ws ≡ v.0 ∷ drop (suc (span.from + k)) ws = opened-at ws (span.from + k) v.0 v.1 in
+        ap (true_ahead p e (quantified q.junction q.vars q.bound q.part)) s
+        ∙ (whole (span.from + k) v.0 (drop (suc (span.from + k)) ws) (omega arith) (omega arith) v.1
+        ∙ (ap (λ (x : List World). joined_truths q.junction (truth x) fs) (sym s)
+        ∙ (sym (joins-idle q.junction (joined_truths q.junction (truth (drop (span.from + k) ws)) fs))
+        ∙ ap (λ (b : Bool). joins q.junction b (joined_truths q.junction (truth (drop (span.from + k) ws)) fs))
+        (sym (ap (λ (cs : List Bool). get_or cs k false) is ∙ get_or-replicate (span.to - span.from) k (not (deciding_truth q.junction)) false h)))))
+        );
+  }
+
+  pub joining-begun : (bs : List Bool) (items : List Fact) → items ≡ fs → bs ≡ replicate (span.to - span.from) (not (deciding_truth q.junction)) → So bs (drop 0 items)
+  joining-begun bs items same is = subst (So bs) (sym same) (begun bs is)
+
+  -- the instance of the next tuple
+  module _ (bs : List Bool) (items : List Fact) (i : ℕ) (f : Fact) (so : So bs (drop i items)) (room : i < length items) (here : f ≡ get_or items i f) where
+    pub joining-on : (new : List Bool) (u : Unit {0}) → JoinsInstance p ws span (bind q.vars f.args e) q bs new (Ok u) → So new (drop (i + 1) items)
+    joining-on new u h = record {
+      size = h.0 ∙ so.size;
+      so_far = λ k l. (
+          let s = drop (span.from + k) ws in
+          let rest = joined_truths q.junction (truth s) (drop (i + 1) items) in
+          so.so_far k l
+          ∙ (ap (λ (fs : List Fact). joins q.junction (get_or bs k false) (joined_truths q.junction (truth s) fs)) (opened items i f room here)
+          ∙ (joins-assoc q.junction (get_or bs k false) (truth s f) rest ∙ ap (λ (b : Bool). joins q.junction b rest) (sym (h.1 k (let size = so.size in omega arith)))))
           );
     }
-      where
-        found : (i : ℕ) (v : World) → slice_get ws i ≡ Some v → Among v ws
-        found i v h = by ws i h
-          where
-            by : (us : List World) (j : ℕ) → slice_get us j ≡ Some v → Among v us
-            by [] j h = absurd (let z : ⊥ = cc in z)
-            by (u ∷ us) zero h = inl (let z : u ≡ v = cc in z)
-            by (u ∷ us) (suc j) h = inr (by us j h)
 
-    -- the next tuple
-    module _ (bs : List Bool) (after : Option (List Value)) (so : So bs after) (t : List Value) (next : IsNext (length q.vars) (λ t. bound_true (situation_of p.problem guide) (bind q.vars t e) q.bound) after (Some t)) where
-      rest-is : rest_after after all ≡ t ∷ rest_after (Some t) all
-      rest-is = rest-some (situation_of p.problem guide) e q.vars q.bound d o after t next
+  -- a note of an instance
+  pub joining-noted : (f : Fact) → length f.args ≡ length q.vars → (bs new : List Bool) (x : CheckFault) → JoinsInstance p ws span (bind q.vars f.args e) q bs new (Err x) → AreLabels p ws span e (quantified q.junction q.vars q.bound q.part) (Err x)
+  joining-noted f size bs new fault.NoMemory h = tt
+  joining-noted f size bs new (fault.Range k n) h =
+      let there = bound-world p.problem (bind q.vars f.args e) q.bound ws h.0 h.3 in
+      let among = (all-tuples (situation_of p.problem there.0) e q.vars q.bound d o f.args).1 (size, there.2) in
+      (comes-later p ws span.from h.0 k h.1 h.2, (instance-looked p ws (operation_of n) e q.junction q.vars q.bound q.part f.args h.0 k there.0 there.1 h.2 among h.4.0, h.4.1))
 
-      pub guided-fewer : length (rest_after (Some t) all) < length (rest_after after all)
-      guided-fewer = let size : length (rest_after after all) ≡ suc (length (rest_after (Some t) all)) = ap length rest-is in omega arith
-
-      pub guided-on : (new : List Bool) (u : Unit {0}) → JoinsInstance p ws span (bind q.vars t e) q bs new (Ok u) → So new (Some t)
-      guided-on new u h = record {
-        size = h.0 ∙ so.size;
-        so_far = λ k l. (
-            let s = drop (span.from + k) ws in
-            let rest = joined_truths q.junction (truth s) (rest_after (Some t) all) in
-            so.so_far k l
-            ∙ (ap (λ (ts : List (List Value)). joins q.junction (get_or bs k false) (joined_truths q.junction (truth s) ts)) rest-is
-            ∙ (joins-assoc q.junction (get_or bs k false) (truth s t) rest ∙ ap (λ (b : Bool). joins q.junction b rest) (sym (h.1 k (let size = so.size in omega arith)))))
-            );
-      }
-
-      -- a note of the instance
-      pub guided-noted : (new : List Bool) (x : CheckFault) → JoinsInstance p ws span (bind q.vars t e) q bs new (Err x) → AreLabels p ws span e (quantified q.junction q.vars q.bound q.part) (Err x)
-      guided-noted new fault.NoMemory h = tt
-      guided-noted new (fault.Range k n) h =
-          let there = bound-world p.problem (bind q.vars t e) q.bound ws h.0 h.3 in
-          let among = (all-tuples (situation_of p.problem there.0) e q.vars q.bound d o t).1 (next.0.0, there.2) in
-          (comes-later p ws span.from h.0 k h.1 h.2, (instance-looked p ws (operation_of n) e q.junction q.vars q.bound q.part t h.0 k there.0 there.1 h.2 among h.4.0, h.4.1))
-
-    pub guided-end : (bs : List Bool) (after next : Option (List Value)) → IsNext (length q.vars) (λ t. bound_true (situation_of p.problem guide) (bind q.vars t e) q.bound) after next → next ≡ None → So bs after → bs ≡ marks_in (true_ahead p e (quantified q.junction q.vars q.bound q.part)) ws span
-    guided-end bs after next h none so = marks_in-by (true_ahead p e (quantified q.junction q.vars q.bound q.part)) ws span within bs so.size (λ k l. (
-        let s = drop (span.from + k) ws in
-        let empty : rest_after after all ≡ [] = rest-none (situation_of p.problem guide) e q.vars q.bound d o after (subst (IsNext (length q.vars) (λ t. bound_true (situation_of p.problem guide) (bind q.vars t e) q.bound) after) none h) in
-        sym (so.so_far k l ∙ (ap (λ (ts : List (List Value)). joins q.junction (get_or bs k false) (joined_truths q.junction (truth s) ts)) empty ∙ joins-idle_right q.junction (get_or bs k false)))
-        ))
+  pub joining-end : (bs : List Bool) (items : List Fact) (i : ℕ) → length items ≤ i → So bs (drop i items) → bs ≡ marks_in (true_ahead p e (quantified q.junction q.vars q.bound q.part)) ws span
+  joining-end bs items i h so = marks_in-by (true_ahead p e (quantified q.junction q.vars q.bound q.part)) ws span within bs so.size (λ k l. (
+      let s = drop (span.from + k) ws in
+      sym (so.so_far k l ∙ (ap (λ (fs : List Fact). joins q.junction (get_or bs k false) (joined_truths q.junction (truth s) fs)) (past items i h) ∙ joins-idle_right q.junction (get_or bs k false)))
+      ))
+    where
+      past : (xs : List Fact) (n : ℕ) → length xs ≤ n → drop n xs ≡ []
+      past [] zero h = refl
+      past [] (suc n) h = refl
+      past (x ∷ xs) zero h = absurd (omega arith)
+      past (x ∷ xs) (suc n) h = past xs n (omega arith)
 
 -- ---- the labels of one instance
 
