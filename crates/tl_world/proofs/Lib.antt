@@ -29,7 +29,9 @@ pub mod Snoc
 pub mod Skipping
 pub mod WholeRows
 pub mod Chains
+pub mod Gathering
 pub mod MatchReading
+pub mod TupleReading
 pub mod Truths
 pub mod Orders
 pub mod Contents

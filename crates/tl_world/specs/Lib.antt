@@ -9,6 +9,7 @@ pub mod Tables
 pub mod WorldCode
 pub mod Patterns
 pub mod Next
+pub mod Gathered
 pub mod MatchReading
 pub mod Fits
 pub mod Least

@@ -8,6 +8,7 @@ mod first;
 mod first_place;
 mod flat;
 mod front;
+mod gathered;
 mod guess;
 mod is_after;
 mod kept;

@@ -10,19 +10,23 @@ use crate::after::rows_before_near;
 use crate::by_second::is_in_second_order;
 use crate::first::put_first;
 use crate::front::are_in_turn;
+use crate::gathered::{gathered, put_tuple};
 use crate::runs::Runs;
+use crate::second::Second;
 use crate::{Match, Part, Pattern, World};
 use std::marker::Model;
 use tl_syntax::Value;
 
 /// A reader of the matches of a pattern in a world, in lexicographic value order. Contracts see the
 /// world, the pattern and the tuple that it has come to. It keeps the table and the place of the
-/// next row where the pattern's variables stand in order, and else asks the world each time.
+/// next row where the pattern's variables stand in order, or all tuples where they stand against
+/// the order of many rows, and else asks the world each time.
 #[derive(Drop)]
 pub struct MatchReader<'a> {
     world: &'a World,
     pattern: &'a Pattern,
     rows: Option<&'a Runs>,
+    gathered: Second,
     place: usize,
     tuple: Match,
     has_pattern: bool,
@@ -30,7 +34,8 @@ pub struct MatchReader<'a> {
 }
 
 impl<'a> Model for MatchReader<'a> {
-    ghost use Rattle.std.specs.Option.{option_map};
+    ghost use Rattle.std.specs.Option.{option_map, IfSome};
+    ghost use Rattle.tl_world.specs.Gathered.{HasRest};
     ghost use Rattle.tl_world.specs.MatchReading.{Reading, CanReadOn, pattern_if};
     ghost use Rattle.tl_world.specs.Patterns.{tuple_in_place};
     ghost use Rattle.std.specs.Coded.{codes};
@@ -42,7 +47,9 @@ impl<'a> Model for MatchReader<'a> {
 
     ghost view = { λ r. record { world = r.world.now; pattern = pattern_if r.has_pattern r.pattern.now; tuple = tuple_in_place r.begun r.tuple } };
 
-    ghost invariant = { λ r. CanReadOn r.world.now (pattern_if r.has_pattern r.pattern.now) r.begun r.tuple r.place (option_map (λ rows. rows.now) r.rows) };
+    ghost invariant = { λ r.
+        CanReadOn r.world.now (pattern_if r.has_pattern r.pattern.now) r.begun r.tuple r.place (option_map (λ rows. rows.now) r.rows)
+        × IfSome r.gathered (HasRest r.world.now (pattern_if r.has_pattern r.pattern.now) r.begun r.tuple r.place (option_map (λ rows. rows.now) r.rows)) };
 }
 
 /// Puts the least tuple after that in place that makes the pattern's parts one of the rows in
@@ -149,6 +156,7 @@ impl<'a> MatchReader<'a> {
             world,
             pattern,
             rows: None,
+            gathered: Second::none(),
             place: 0,
             tuple: Match {
                 values: [Value::Int(0); 9],
@@ -159,7 +167,8 @@ impl<'a> MatchReader<'a> {
         }
     }
 
-    /// Looks for the table and for the place of the first row in it, where no match has come yet.
+    /// Looks for the table and for the place of the first row in it, or gathers the tuples, where
+    /// no match has come yet. Without memory for them none are gathered.
     #[inline(never)]
     fn find_first_place(&mut self)
         ensures { self.new ≡ self.old }
@@ -167,7 +176,12 @@ impl<'a> MatchReader<'a> {
         if self.has_pattern && !self.begun {
             if let Some(table) = table_of(self.world, self.pattern, &self.tuple) {
                 self.rows = Some(table.rows);
+                self.gathered = Second::none();
                 self.place = table.place;
+            } else if let Ok(tuples) = gathered(self.world, self.pattern) {
+                self.rows = None;
+                self.gathered = tuples;
+                self.place = 0;
             }
         }
     }
@@ -184,7 +198,8 @@ impl<'a> MatchReader<'a> {
 
     /// Goes on to the next match: the least tuple, in lexicographic value order, that makes the
     /// pattern true and comes after the one that the reader has come to. False exactly where there
-    /// is none; the reader is before the first match then. It takes no memory.
+    /// is none; the reader is before the first match then. It takes memory to gather tuples, and
+    /// where there is none it goes on without it.
     #[inline(never)]
     pub fn next(&mut self) -> bool
         ensures next { ReadsOn self.old self.new }
@@ -209,16 +224,34 @@ impl<'a> MatchReader<'a> {
                     false
                 }
             }
-            None => {
-                let found = if self.has_pattern {
-                    self.world
-                        .put_next_match(self.pattern, self.begun, &mut self.tuple, &mut self.place)
-                } else {
-                    false
-                };
-                self.begun = found;
-                found
-            }
+            None => match self.gathered.rows() {
+                Some(tuples) => {
+                    let free = self.pattern.free;
+                    if put_tuple(tuples, free, &mut self.place, &mut self.tuple) {
+                        self.begun = true;
+                        true
+                    } else {
+                        self.gathered = Second::none();
+                        self.begun = false;
+                        false
+                    }
+                }
+                None => {
+                    let found = if self.has_pattern {
+                        self.world
+                            .put_next_match(
+                                self.pattern,
+                                self.begun,
+                                &mut self.tuple,
+                                &mut self.place,
+                            )
+                    } else {
+                        false
+                    };
+                    self.begun = found;
+                    found
+                }
+            },
         }
     }
 

@@ -129,6 +129,11 @@ impl World {
         whole(Vec::new(alloc), Vec::new(alloc))
     }
 
+    /// Where the memory of its tables comes from.
+    pub(crate) fn allocator(&self) -> Global {
+        *self.facts.allocator()
+    }
+
     /// The world with these facts and these places; of two values for one place the earlier counts.
     /// More than a few facts are sorted first, so that each stands at the end of its table. It
     /// fails for want of memory alone.
