@@ -110,7 +110,7 @@ impl<'a> Model for BoundTuples<'a> {
 
 impl<'a> BoundTuples<'a> {
     /// Goes on to the next tuple, and says whether there is one. After the last tuple the first one
-    /// is next again. It takes no memory.
+    /// is next again. It takes memory to gather tuples, and where there is none it goes on without.
     #[tactic(auto, using(crate::proofs::BoundReading::comes_on, crate::proofs::BoundReading::stays_with))]
     #[inline(always)]
     pub fn next(&mut self) -> bool

@@ -21,7 +21,7 @@ use crate::{BoundPattern, Env, RangeNote};
 use tl_syntax::{Formula, Formulas, Junction, Terms, Value};
 use tl_world::{Task, World};
 
-/// The truth of a formula under the frame, where it is read. The frame stays as it was. It takes no
+/// The truth of a formula under the frame, where it is read. The frame stays as it was. It needs no
 /// memory.
 #[cycle(truth_of)]
 fn truth_of(
@@ -98,7 +98,7 @@ fn truth_of(
 }
 
 /// The truth of a conjunction or a disjunction: the first part that has the truth which decides it.
-/// It takes no memory.
+/// It needs no memory.
 #[cycle(truth_of)]
 #[inline(never)]
 fn parts_true(
@@ -129,7 +129,7 @@ fn parts_true(
     Ok(!stop)
 }
 
-/// The truth of an atom of a definition. It takes no memory.
+/// The truth of an atom of a definition. It needs no memory.
 #[cycle(truth_of)]
 #[inline(never)]
 fn defined_true(
@@ -160,7 +160,7 @@ fn defined_true(
 }
 
 /// Whether a definition holds of the values: as it is remembered, or else as its body says, which
-/// is remembered then. It takes no memory.
+/// is remembered then. It needs no memory.
 #[cycle(truth_of)]
 #[inline(never)]
 fn body_true(
@@ -202,7 +202,7 @@ fn body_true(
 
 /// Whether the body of a definition, which is read at a level above 0, is true of the values: it is
 /// read one level lower, in the frame, of which it looks at its own variables alone. The slots of
-/// its parameters get back what they had. It takes no memory.
+/// its parameters get back what they had. It needs no memory.
 #[cycle(truth_of)]
 fn opened_true(
     here: &Here,
@@ -238,7 +238,7 @@ fn opened_true(
 }
 
 /// The truth of a universal or an existential formula. Its tuples stand in the frame one after
-/// another, which gets the values of their slots back. It takes no memory.
+/// another, which gets the values of their slots back. It needs no memory.
 #[cycle(truth_of)]
 #[inline(never)]
 fn quantified_true(
@@ -262,7 +262,7 @@ fn quantified_true(
 }
 
 /// The truth of a quantified formula: the first tuple whose instance has the truth that decides it.
-/// The last tuple is left in the frame. It takes no memory.
+/// The last tuple is left in the frame. It needs no memory.
 #[cycle(truth_of)]
 fn tuples_true(
     here: &Here,
@@ -300,7 +300,7 @@ fn tuples_true(
     Ok(!stop)
 }
 
-/// The truth of a formula outside of definitions. It takes no memory.
+/// The truth of a formula outside of definitions. It needs no memory.
 #[inline(never)]
 fn whole_true(
     task: &Task,
@@ -326,7 +326,7 @@ fn whole_true(
 
 /// Whether a state formula is true in a world, under the frame's values; or a note of an operation
 /// that is looked at and past range. Parts are evaluated from left to right until the truth is
-/// decided. It takes no memory, and leaves the caller's frame as it was.
+/// decided. It needs no memory, and leaves the caller's frame as it was.
 pub fn state(task: &Task, w: &World, env: &mut Env, f: &Formula) -> Result<bool, RangeNote>
     requires fits { Fits (signature_of task.now.problem.domain) [] (tree_of_formula f.now) }
     requires state { IsState (tree_of_formula f.now) }
@@ -346,7 +346,7 @@ pub fn state(task: &Task, w: &World, env: &mut Env, f: &Formula) -> Result<bool,
 }
 
 /// `state` for whoever reads many formulas in one world: what it remembers of definitions is kept
-/// for the next one, and is right in this world before and after the call. It takes no memory, and
+/// for the next one, and is right in this world before and after the call. It needs no memory, and
 /// leaves the caller's frame as it was.
 #[inline(always)]
 pub fn state_in(

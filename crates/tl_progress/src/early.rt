@@ -52,7 +52,7 @@ fn early_join(
 
 /// The number of what has to hold next for a number's tree, where it is a conjunction or a
 /// disjunction that a plain part decides, as most residuals that prune a search are: nothing else
-/// is then worked out. It takes no memory.
+/// is then worked out. It needs no memory.
 pub(crate) fn early_residual(
     here: &Here,
     nodes: &Nodes,

@@ -25,7 +25,7 @@ use tl_nodes::{Node, Nodes};
 use tl_syntax::Junction;
 
 /// The number of what has to hold next, where the number's tree has no temporal word: a constant.
-/// No node is added, and it takes no memory.
+/// No node is added, and it needs no memory.
 #[inline(always)]
 pub(crate) fn state_residual(
     here: &Here,

@@ -16,7 +16,7 @@ use tl_eval::{BoundPattern, BoundTuples, Env, Memory, state_in};
 use tl_nodes::{Node, Nodes};
 use tl_syntax::{Formula, Junction};
 
-/// The truth of a basic formula. It takes no memory.
+/// The truth of a basic formula. It needs no memory.
 #[inline(always)]
 pub(crate) fn basic_truth(
     here: &Here,
@@ -39,7 +39,7 @@ pub(crate) fn basic_truth(
 }
 
 /// The truth of a number's tree: the one that is known, or else the one that is worked out from its
-/// parts. It takes no memory.
+/// parts. It needs no memory.
 #[cycle(truth_of)]
 pub(crate) fn truth_of(
     here: &Here,
@@ -134,7 +134,7 @@ fn layer_truth(
 }
 
 /// The truth of a number's tree, as `truth_of` has it, without a call of it for what is plain to
-/// read. It takes no memory.
+/// read. It needs no memory.
 #[cycle(truth_of)]
 #[inline(always)]
 pub(crate) fn part_truth(
