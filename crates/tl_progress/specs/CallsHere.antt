@@ -20,7 +20,7 @@ use Rattle.tl_progress.specs.declared.layers.Quantified.{Quantified}
 use Rattle.tl_progress.specs.declared.quantifier.Quantifier.{Quantifier}
 use Rattle.tl_progress.specs.declared.residuals.Residuals.{Residuals}
 use Rattle.tl_progress.specs.Answers.{IsCausedBy}
-use Rattle.tl_progress.specs.Calls.{IsDecided, AreOpenIn, KeepsRightly, IsProgressed, IsProgressFault, join_of_residuals, FitsTask, IsSentenceIn, AreTruthsIn, AreResidualsIn, IsRightIn, state_true_in, looked_in_world, idly_true_at, looked_idly_at, join_at, idly_true_join, looked_idly_join, quantified_at, idly_true_over, looked_idly_over, residual_at, looked_for_residual_at}
+use Rattle.tl_progress.specs.Calls.{IsDecided, AreOpenIn, KeepsRightly, join_of_residuals, FitsTask, IsSentenceIn, AreTruthsIn, AreResidualsIn, IsRightIn, state_true_in, looked_in_world, idly_true_at, looked_idly_at, join_at, idly_true_join, looked_idly_join, quantified_at, idly_true_over, looked_idly_over, residual_at, looked_for_residual_at}
 use Rattle.tl_progress.specs.Quantifiers.{ReadsAt}
 use Rattle.tl_syntax.specs.declared.value.Value.{Value}
 use Rattle.tl_syntax.specs.Trees.{FormulaTree}
@@ -141,11 +141,3 @@ AreOpenParts here frame nodes joined result = IfOk result (λ o. IfSome o (λ id
 -- it is the number of the join of what has to hold next for the parts
 abbrev pub IsOpenResidual : Here → List (Option Value) → Nodes → OpenParts → Nodes → Result ℕ ProgressFault → Type 0
 IsOpenResidual here frame old o new result = IfOk result (λ n. Denotes new n (join_of_residuals here.task.now here.world.now frame old o.joined o.parts.now))
-
--- it is the number of a number's sentence progressed through the world
-abbrev pub IsProgressedHere : Here → Nodes → ℕ → Nodes → Result ℕ ProgressFault → Type 0
-IsProgressedHere here old i new result = IsProgressed here.task.now here.world.now old i new result
-
--- or a fault of what is looked at for it
-abbrev pub IsProgressFaultHere : Here → Nodes → ℕ → Result ℕ ProgressFault → Type 0
-IsProgressFaultHere here nodes i result = IsProgressFault here.task.now here.world.now nodes i result

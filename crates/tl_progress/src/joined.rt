@@ -140,34 +140,6 @@ fn open_parts(
     answer
 }
 
-// The number of what has to hold next for a number's tree, which has a temporal word and no free
-// variable, where it is not kept. It is kept then.
-fn residual_anew(
-    here: &Here,
-    nodes: &mut Nodes,
-    env: &mut Env,
-    residuals: &mut Residuals,
-    incoming: Incoming,
-) -> Result<usize, ProgressFault>
-    requires at { incoming.formula < length (trees nodes.old) }
-    requires sentence { IsSentenceHere here.now (tree_in nodes.old incoming.formula) }
-    requires found { KeepsRightlyHere here.now nodes.old residuals.old incoming.world }
-    ensures kept { Keeps (trees nodes.old) (trees nodes.new) }
-    ensures number { IsResidual here.now env.old nodes.old incoming.formula nodes.new result }
-    ensures found { KeepsRightlyHere here.now nodes.new residuals.new incoming.world }
-    ensures elsewhere { StaysElsewhere incoming.world residuals.old residuals.new }
-    ensures cause { IsResidualFault here.now env.old nodes.old incoming.formula result }
-    ensures frame { env.new ≡ env.old }
-{
-    match temporal_residual(here, nodes, env, incoming.formula) {
-        Ok(number) => match residuals.keep(incoming, number) {
-            Ok(()) => Ok(number),
-            Err(_) => Err(ProgressFault::NoMemory),
-        },
-        Err(fault) => Err(fault),
-    }
-}
-
 /// The number of what has to hold next for a number's tree, which has a temporal word and no free
 /// variable: the one that is kept, or else the one that is worked out and then kept.
 pub(crate) fn kept_residual(
@@ -189,7 +161,13 @@ pub(crate) fn kept_residual(
 {
     match residuals.find(incoming) {
         Some(number) => Ok(number),
-        None => residual_anew(here, nodes, env, residuals, incoming),
+        None => match temporal_residual(here, nodes, env, incoming.formula) {
+            Ok(number) => match residuals.keep(incoming, number) {
+                Ok(()) => Ok(number),
+                Err(_) => Err(ProgressFault::NoMemory),
+            },
+            Err(fault) => Err(fault),
+        },
     }
 }
 

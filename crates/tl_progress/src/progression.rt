@@ -3,7 +3,7 @@ ghost use Rattle.std.specs.Prelude.{◌≡◌, ◌<◌, length, IfOk, OnOk};
 ghost use Rattle.tl_nodes.specs.Numbering.{Keeps};
 ghost use Rattle.tl_nodes.specs.Numbers.{trees, tree_in};
 ghost use Rattle.tl_progress.specs.Calls.{IsSentenceIn, KeepsRightly, IsProgressed, IsProgressFault, GivesProgression, StaysNamed, AddsNoTree};
-ghost use Rattle.tl_progress.specs.CallsHere.{IsSentenceHere, AreRightHere, KnowsRightly, KeepsRightlyHere, RemembersHere, IsResidual, IsResidualFault, IsProgressedHere, IsProgressFaultHere};
+ghost use Rattle.tl_progress.specs.CallsHere.{IsSentenceHere, AreRightHere, KnowsRightly, KeepsRightlyHere, RemembersHere, IsResidual, IsResidualFault};
 ghost use Rattle.tl_progress.specs.KeptResiduals.{StaysElsewhere};
 ghost use Rattle.tl_syntax.specs.StateFormulas.{IsState};
 
@@ -165,48 +165,39 @@ pub(crate) fn temporal_residual(
     answer
 }
 
-// The number of what has to hold next for a number's tree, which has a temporal word and no free
-// variable, by what is kept of the world.
-fn found_residual(
+// The number of what has to hold next for a number's tree, which has neither a temporal word nor a
+// free variable: a constant. No node is added.
+fn constant_residual(
     here: &Here,
-    nodes: &mut Nodes,
+    nodes: &Nodes,
     env: &mut Env,
-    residuals: &mut Residuals,
-    incoming: Incoming,
+    id: usize,
 ) -> Result<usize, ProgressFault>
-    requires at { incoming.formula < length (trees nodes.old) }
-    requires sentence { IsSentenceHere here.now (tree_in nodes.old incoming.formula) }
-    requires found { KeepsRightlyHere here.now nodes.old residuals.old incoming.world }
-    ensures kept { Keeps (trees nodes.old) (trees nodes.new) }
-    ensures number { IsResidual here.now env.old nodes.old incoming.formula nodes.new result }
-    ensures found { KeepsRightlyHere here.now nodes.new residuals.new incoming.world }
-    ensures elsewhere { StaysElsewhere incoming.world residuals.old residuals.new }
-    ensures cause { IsResidualFault here.now env.old nodes.old incoming.formula result }
+    requires id { id < length (trees nodes.now) }
+    requires sentence { IsSentenceHere here.now (tree_in nodes.now id) }
+    requires state { IsState (tree_in nodes.now id) }
+    ensures number { IsResidual here.now env.old nodes.now id nodes.now result }
+    ensures constant { IfOk result (λ i. i < 2) }
+    ensures cause { IsResidualFault here.now env.old nodes.now id result }
     ensures frame { env.new ≡ env.old }
 {
-    match nodes.get(incoming.formula) {
-        Node::And(_) => {
-            let joined = Joined {
-                junction: Junction::All,
-                world: incoming.world,
-                at: incoming.formula,
-            };
-            joined_residual(here, nodes, env, residuals, joined)
-        }
-        Node::Or(_) => {
-            let joined = Joined {
-                junction: Junction::Any,
-                world: incoming.world,
-                at: incoming.formula,
-            };
-            joined_residual(here, nodes, env, residuals, joined)
-        }
-        _ => kept_residual(here, nodes, env, residuals, incoming),
+    let anew = Here {
+        alloc: here.alloc,
+        task: here.task,
+        world: here.world,
+        known: None,
+    };
+    let mut memory = env.lend_memory(here.alloc);
+    let answer = sentence_truth(&anew, nodes, env, &mut memory, id);
+    env.take_back(memory);
+    match answer {
+        Ok(truth) => Ok(constant_number(nodes, truth)),
+        Err(fault) => Err(fault),
     }
 }
 
-// The number of what has to hold next for a number's tree, which has no free variable. Where it has
-// no temporal word, it is a constant.
+// The number of what has to hold next for a number's tree, which has no free variable, by its form.
+// Where it has no temporal word, it is a constant.
 fn sentence_residual(
     here: &Here,
     nodes: &mut Nodes,
@@ -226,53 +217,28 @@ fn sentence_residual(
     ensures cause { IsResidualFault here.now env.old nodes.old incoming.formula result }
     ensures frame { env.new ≡ env.old }
 {
-    if nodes.temporal(incoming.formula) {
-        return found_residual(here, nodes, env, residuals, incoming);
+    if !nodes.temporal(incoming.formula) {
+        return constant_residual(here, nodes, env, incoming.formula);
     }
-    let anew = Here {
-        alloc: here.alloc,
-        task: here.task,
-        world: here.world,
-        known: None,
-    };
-    let mut memory = env.lend_memory(here.alloc);
-    let answer = sentence_truth(&anew, nodes, env, &mut memory, incoming.formula);
-    env.take_back(memory);
-    match answer {
-        Ok(truth) => Ok(constant_number(nodes, truth)),
-        Err(fault) => Err(fault),
+    match nodes.get(incoming.formula) {
+        Node::And(_) => {
+            let joined = Joined {
+                junction: Junction::All,
+                world: incoming.world,
+                at: incoming.formula,
+            };
+            joined_residual(here, nodes, env, residuals, joined)
+        }
+        Node::Or(_) => {
+            let joined = Joined {
+                junction: Junction::Any,
+                world: incoming.world,
+                at: incoming.formula,
+            };
+            joined_residual(here, nodes, env, residuals, joined)
+        }
+        _ => kept_residual(here, nodes, env, residuals, incoming),
     }
-}
-
-// The number of what has to hold next for a number's tree, whatever values the caller's frame has.
-fn lone_residual(
-    here: &Here,
-    nodes: &mut Nodes,
-    env: &mut Env,
-    residuals: &mut Residuals,
-    incoming: Incoming,
-) -> Result<usize, ProgressFault>
-    requires at { incoming.formula < length (trees nodes.old) }
-    requires sentence { IsSentenceHere here.now (tree_in nodes.old incoming.formula) }
-    requires found { KeepsRightlyHere here.now nodes.old residuals.old incoming.world }
-    ensures number { IsProgressedHere here.now nodes.old incoming.formula nodes.new result }
-    ensures kept { Keeps (trees nodes.old) (trees nodes.new) }
-    ensures found { KeepsRightlyHere here.now nodes.new residuals.new incoming.world }
-    ensures elsewhere { StaysElsewhere incoming.world residuals.old residuals.new }
-    ensures same { IsState (tree_in nodes.old incoming.formula) → AddsNoTree nodes.old nodes.new }
-    ensures constant { IsState (tree_in nodes.old incoming.formula) → IfOk result (λ n. n < 2) }
-    ensures cause { IsProgressFaultHere here.now nodes.old incoming.formula result }
-    ensures frame { env.new ≡ env.old }
-{
-    if is_empty_frame(env.slots()) {
-        return sentence_residual(here, nodes, env, residuals, incoming);
-    }
-    let frame = env.saved();
-    let empty = empty_frame();
-    env.restore(&empty);
-    let answer = sentence_residual(here, nodes, env, residuals, incoming);
-    env.restore(&frame);
-    answer
 }
 
 /// The number of what has to hold from the next position on, for the number's tree to hold in this
@@ -307,7 +273,15 @@ pub fn progress_kept(
         world: w,
         known: None,
     };
-    lone_residual(&here, nodes, env, residuals, incoming)
+    if is_empty_frame(env.slots()) {
+        return sentence_residual(&here, nodes, env, residuals, incoming);
+    }
+    let frame = env.saved();
+    let empty = empty_frame();
+    env.restore(&empty);
+    let answer = sentence_residual(&here, nodes, env, residuals, incoming);
+    env.restore(&frame);
+    answer
 }
 
 /// `progress_kept` where nothing is kept.

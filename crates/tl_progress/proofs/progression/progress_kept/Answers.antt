@@ -1,9 +1,9 @@
-use Rattle.std.proofs.Common.{◌≡◌, ◌↔◌, length, ℕ, suc, IfOk, Result, Ok, Err, slice_get, Some, List, sym, ap, ◌∙◌, subst}
+use Rattle.std.proofs.Common.{◌≡◌, ◌↔◌, length, ℕ, suc, IfOk, Result, Ok, Err, slice_get, Some, List, sym, ap, ◌∙◌, subst, IfErr}
 use Rattle.tl_nodes.specs.declared.nodes.Nodes.{Nodes}
 use Rattle.tl_nodes.specs.NodeTrees.{tree_at}
 use Rattle.tl_nodes.specs.Numbers.{trees}
 use Rattle.tl_nodes.proofs.TreesOfNodes.{at-is}
-use Rattle.tl_syntax.specs.Assignment.{no_values}
+use Rattle.tl_syntax.specs.Assignment.{no_values, Assignment}
 use Rattle.tl_syntax.specs.declared.problem.Problem.{Problem}
 use Rattle.tl_syntax.specs.Named.{IsNamed}
 use Rattle.tl_syntax.specs.Signature.{Signature, signature_of}
@@ -18,12 +18,21 @@ use Rattle.tl_terms.specs.World.{World}
 use Rattle.tl_terms.proofs.RunLaws.{progression-Satisfies, progression-along}
 use Rattle.tl_world.specs.declared.task.Task.{Task}
 use Rattle.tl_progress.specs.declared.fault.ProgressFault.{ProgressFault}
-use Rattle.tl_progress.specs.Answers.{residual}
+use Rattle.tl_progress.specs.Answers.{IsCausedBy, residual, looked_for_residual}
 use Rattle.tl_progress.specs.Calls.{IsProgression}
 use Rattle.tl_progress.specs.Sentences.{IsSentence}
 use Rattle.tl_progress.proofs.NamedResiduals.{residual-named}
 use Rattle.tl_progress.proofs.Sentences.{sentence-next}
+use Rattle.tl_eval.specs.Frames.{assignment_in}
+use Rattle.tl_terms.specs.Looked.{looked_by_progressing}
 use Rattle.tl_progress.proofs.progression.progress_kept.Goals as goal
+
+by_number : (p : PlainProblem) (w : World) (f : FormulaTree) (us : List FormulaTree) (e : Assignment) (r : Result ℕ ProgressFault) → e ≡ no_values → IfOk r (λ i. slice_get us i ≡ Some (residual p w e f)) → IfOk r (λ i. slice_get us i ≡ Some (residual p w no_values f))
+by_number p w f us e r n h = subst (λ (d : Assignment). IfOk r (λ i. slice_get us i ≡ Some (residual p w d f))) n h
+
+by_cause : (p : PlainProblem) (w : World) (f : FormulaTree) (e : Assignment) (r : Result ℕ ProgressFault) → e ≡ no_values → IfErr r (IsCausedBy (looked_for_residual p w e f)) → IfErr r (IsCausedBy (looked_by_progressing p w f))
+unfolding looked_by_progressing
+by_cause p w f e r n h = subst (λ (d : Assignment). IfErr r (IsCausedBy (looked_for_residual p w d f))) n h
 
 -- where the world stands at a position, the tree of the number is what the lemma speaks of there
 next-is : (p : PlainProblem) (v w : World) (f : FormulaTree) (us : List FormulaTree) (i : ℕ) → v ≡ w
@@ -53,13 +62,60 @@ stays-named : (p : Problem) (w : World) (f : FormulaTree) (us : List FormulaTree
 stays-named p w f us (Ok i) h = λ world formula. subst (IsNamed (length p.names)) (sym (at-is us i _ h)) (residual-named p w f world formula)
 stays-named p w f us (Err x) h = tt
 
+pub returns-then-is_empty_frame-clause-number : goal.returns-then-is_empty_frame-clause-number
+returns-then-is_empty_frame-clause-number c =
+    by_number (plain_problem c.args.task.now.problem) c.args.w.now (tree_at (trees c.args.nodes.now) c.args.incoming.formula) (trees c.sentence_residual.new.nodes) (assignment_in c.args.env.now) c.sentence_residual.result
+    (sym (ap assignment_in c.slots.ensures.values) ∙ c.is_empty_frame.ensures c.if-is_empty_frame.true) c.sentence_residual.ensures.number
+
+pub returns-then-is_empty_frame-clause-lemma : goal.returns-then-is_empty_frame-clause-lemma
+returns-then-is_empty_frame-clause-lemma c =
+    is-progression c.args.task.now c.args.w.now c.args.nodes.now c.args.incoming.formula c.sentence_residual.new.nodes c.sentence_residual.result
+    (by_number (plain_problem c.args.task.now.problem) c.args.w.now (tree_at (trees c.args.nodes.now) c.args.incoming.formula) (trees c.sentence_residual.new.nodes) (assignment_in c.args.env.now) c.sentence_residual.result
+    (sym (ap assignment_in c.slots.ensures.values) ∙ c.is_empty_frame.ensures c.if-is_empty_frame.true) c.sentence_residual.ensures.number)
+
+pub returns-then-is_empty_frame-clause-sentence : goal.returns-then-is_empty_frame-clause-sentence
+returns-then-is_empty_frame-clause-sentence c =
+    stands-alone (signature_of c.args.task.now.problem.domain) (plain_problem c.args.task.now.problem) c.args.w.now (tree_at (trees c.args.nodes.now) c.args.incoming.formula)
+    (trees c.sentence_residual.new.nodes) c.sentence_residual.result c.requires.sentence
+    (by_number (plain_problem c.args.task.now.problem) c.args.w.now (tree_at (trees c.args.nodes.now) c.args.incoming.formula) (trees c.sentence_residual.new.nodes) (assignment_in c.args.env.now) c.sentence_residual.result
+    (sym (ap assignment_in c.slots.ensures.values) ∙ c.is_empty_frame.ensures c.if-is_empty_frame.true) c.sentence_residual.ensures.number)
+
+pub returns-then-is_empty_frame-clause-named : goal.returns-then-is_empty_frame-clause-named
+returns-then-is_empty_frame-clause-named c =
+    stays-named c.args.task.now.problem c.args.w.now (tree_at (trees c.args.nodes.now) c.args.incoming.formula) (trees c.sentence_residual.new.nodes) c.sentence_residual.result
+    (by_number (plain_problem c.args.task.now.problem) c.args.w.now (tree_at (trees c.args.nodes.now) c.args.incoming.formula) (trees c.sentence_residual.new.nodes) (assignment_in c.args.env.now) c.sentence_residual.result
+    (sym (ap assignment_in c.slots.ensures.values) ∙ c.is_empty_frame.ensures c.if-is_empty_frame.true) c.sentence_residual.ensures.number)
+
+pub returns-then-is_empty_frame-clause-cause : goal.returns-then-is_empty_frame-clause-cause
+returns-then-is_empty_frame-clause-cause c =
+    by_cause (plain_problem c.args.task.now.problem) c.args.w.now (tree_at (trees c.args.nodes.now) c.args.incoming.formula) (assignment_in c.args.env.now) c.sentence_residual.result
+    (sym (ap assignment_in c.slots.ensures.values) ∙ c.is_empty_frame.ensures c.if-is_empty_frame.true) c.sentence_residual.ensures.cause
+
+pub returns-clause-number : goal.returns-clause-number
+returns-clause-number c =
+    by_number (plain_problem c.args.task.now.problem) c.args.w.now (tree_at (trees c.args.nodes.now) c.args.incoming.formula) (trees c.sentence_residual-answer.new.nodes) (assignment_in c.restore.new.self) c.sentence_residual-answer.result
+    (ap assignment_in c.restore.ensures ∙ c.empty_frame-empty.ensures) c.sentence_residual-answer.ensures.number
+
 pub returns-clause-lemma : goal.returns-clause-lemma
 returns-clause-lemma c =
-    is-progression c.args.task.now c.args.w.now c.args.nodes.now c.args.incoming.formula c.lone_residual.new.nodes c.lone_residual.result c.lone_residual.ensures.number
+    is-progression c.args.task.now c.args.w.now c.args.nodes.now c.args.incoming.formula c.sentence_residual-answer.new.nodes c.sentence_residual-answer.result
+    (by_number (plain_problem c.args.task.now.problem) c.args.w.now (tree_at (trees c.args.nodes.now) c.args.incoming.formula) (trees c.sentence_residual-answer.new.nodes) (assignment_in c.restore.new.self) c.sentence_residual-answer.result
+    (ap assignment_in c.restore.ensures ∙ c.empty_frame-empty.ensures) c.sentence_residual-answer.ensures.number)
 
 pub returns-clause-sentence : goal.returns-clause-sentence
 returns-clause-sentence c =
-    stands-alone (signature_of c.args.task.now.problem.domain) (plain_problem c.args.task.now.problem) c.args.w.now (tree_at (trees c.args.nodes.now) c.args.incoming.formula) (trees c.lone_residual.new.nodes) c.lone_residual.result c.requires.sentence c.lone_residual.ensures.number
+    stands-alone (signature_of c.args.task.now.problem.domain) (plain_problem c.args.task.now.problem) c.args.w.now (tree_at (trees c.args.nodes.now) c.args.incoming.formula)
+    (trees c.sentence_residual-answer.new.nodes) c.sentence_residual-answer.result c.requires.sentence
+    (by_number (plain_problem c.args.task.now.problem) c.args.w.now (tree_at (trees c.args.nodes.now) c.args.incoming.formula) (trees c.sentence_residual-answer.new.nodes) (assignment_in c.restore.new.self) c.sentence_residual-answer.result
+    (ap assignment_in c.restore.ensures ∙ c.empty_frame-empty.ensures) c.sentence_residual-answer.ensures.number)
 
 pub returns-clause-named : goal.returns-clause-named
-returns-clause-named c = stays-named c.args.task.now.problem c.args.w.now (tree_at (trees c.args.nodes.now) c.args.incoming.formula) (trees c.lone_residual.new.nodes) c.lone_residual.result c.lone_residual.ensures.number
+returns-clause-named c =
+    stays-named c.args.task.now.problem c.args.w.now (tree_at (trees c.args.nodes.now) c.args.incoming.formula) (trees c.sentence_residual-answer.new.nodes) c.sentence_residual-answer.result
+    (by_number (plain_problem c.args.task.now.problem) c.args.w.now (tree_at (trees c.args.nodes.now) c.args.incoming.formula) (trees c.sentence_residual-answer.new.nodes) (assignment_in c.restore.new.self) c.sentence_residual-answer.result
+    (ap assignment_in c.restore.ensures ∙ c.empty_frame-empty.ensures) c.sentence_residual-answer.ensures.number)
+
+pub returns-clause-cause : goal.returns-clause-cause
+returns-clause-cause c =
+    by_cause (plain_problem c.args.task.now.problem) c.args.w.now (tree_at (trees c.args.nodes.now) c.args.incoming.formula) (assignment_in c.restore.new.self) c.sentence_residual-answer.result
+    (ap assignment_in c.restore.ensures ∙ c.empty_frame-empty.ensures) c.sentence_residual-answer.ensures.cause

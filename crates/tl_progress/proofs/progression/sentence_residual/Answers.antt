@@ -1,40 +1,34 @@
-use Rattle.std.proofs.Common.{◌≡◌, true≢false, Some, List, Option, sym, ap, ◌∙◌, subst}
-use Rattle.tl_eval.specs.Frames.{assignment_in}
-use Rattle.tl_eval.specs.Remembered.{AreTruths}
-use Rattle.tl_nodes.specs.NodeTrees.{tree_at}
+use Rattle.std.proofs.Common.{true≢false, sym, ◌∙◌}
 use Rattle.tl_nodes.specs.Numbers.{trees}
-use Rattle.tl_syntax.specs.declared.value.Value.{Value}
-use Rattle.tl_syntax.specs.Trees.{FormulaTree}
-use Rattle.tl_terms.specs.Operations.{Operation}
-use Rattle.tl_terms.specs.ProblemMeaning.{plain_problem}
-use Rattle.tl_progress.specs.Answers.{IsCausedBy, idly_true, looked_idly}
-use Rattle.tl_progress.proofs.StateFormulas.{constant-next, looked-same}
+use Rattle.tl_progress.proofs.ResidualLayers.{is-and, is-or}
 use Rattle.tl_progress.proofs.progression.sentence_residual.Goals as goal
 
-pub returns-then-temporal-clause-same : goal.returns-then-temporal-clause-same
-returns-then-temporal-clause-same c = λ h. absurd (true≢false (sym c.if-temporal.true ∙ c.temporal.ensures.state.1 h))
+pub joined_residual-requires-clause-join : goal.joined_residual-requires-clause-join
+joined_residual-requires-clause-join c = is-and (trees c.args.nodes.now) c.args.incoming.formula c.get.result.now c.get.ensures.tree c.in-And.field-0 c.in-And.is
 
-pub returns-then-temporal-clause-constant : goal.returns-then-temporal-clause-constant
-returns-then-temporal-clause-constant c = λ h. absurd (true≢false (sym c.if-temporal.true ∙ c.temporal.ensures.state.1 h))
+pub joined_residual-requires-in-Or-clause-join : goal.joined_residual-requires-in-Or-clause-join
+joined_residual-requires-in-Or-clause-join c = is-or (trees c.args.nodes.now) c.args.incoming.formula c.get.result.now c.get.ensures.tree c.in-Or.field-0 c.in-Or.is
 
-pub returns-in-Ok-clause-number : goal.returns-in-Ok-clause-number
-returns-in-Ok-clause-number c =
-    c.constant_number.ensures.number ∙ ap (λ (f : FormulaTree). Some f) (constant-next (plain_problem c.args.here.now.task.now.problem) c.args.here.now.world.now (assignment_in c.args.env.now) (tree_at (trees c.args.nodes.now) c.args.incoming.formula) c.in-Ok.truth (c.temporal.ensures.state.0 c.if-temporal.false)
-    (subst (λ (v : List (Option Value)). c.in-Ok.truth ≡ idly_true (plain_problem c.args.here.now.task.now.problem) c.args.here.now.world.now (assignment_in v) (tree_at (trees c.args.nodes.now) c.args.incoming.formula)) c.lend_memory-memory.ensures.frame c.in-Ok.ensures.truth))
+pub constant_residual-requires-clause-state : goal.constant_residual-requires-clause-state
+constant_residual-requires-clause-state c = c.temporal.ensures.state.0 c.if-not-temporal.true
 
-pub returns-in-Ok-clause-constant : goal.returns-in-Ok-clause-constant
-returns-in-Ok-clause-constant c = λ h. c.constant_number.ensures.small
+pub returns-then-not-temporal-clause-constant : goal.returns-then-not-temporal-clause-constant
+returns-then-not-temporal-clause-constant c = λ h. c.constant_residual.ensures.constant
 
-pub returns-in-Err-clause-cause : goal.returns-in-Err-clause-cause
-returns-in-Err-clause-cause c =
-    subst (λ (x : List Operation). IsCausedBy x c.in-Err.fault) (looked-same (plain_problem c.args.here.now.task.now.problem) c.args.here.now.world.now (assignment_in c.args.env.now) (tree_at (trees c.args.nodes.now) c.args.incoming.formula) (c.temporal.ensures.state.0 c.if-temporal.false))
-    (subst (λ (v : List (Option Value)). IsCausedBy (looked_idly (plain_problem c.args.here.now.task.now.problem) c.args.here.now.world.now (assignment_in v) (tree_at (trees c.args.nodes.now) c.args.incoming.formula)) c.in-Err.fault) c.lend_memory-memory.ensures.frame c.in-Err.ensures.cause)
+pub returns-in-And-clause-same : goal.returns-in-And-clause-same
+returns-in-And-clause-same c = λ h. absurd (true≢false (sym c.if-not-temporal.false ∙ c.temporal.ensures.state.1 h))
 
-pub sentence_truth-answer-requires-clause-remembers : goal.sentence_truth-answer-requires-clause-remembers
-sentence_truth-answer-requires-clause-remembers c = subst (AreTruths (plain_problem c.args.here.now.task.now.problem) c.args.here.now.world.now) (sym c.lend_memory-memory.ensures.nothing) tt
+pub returns-in-And-clause-constant : goal.returns-in-And-clause-constant
+returns-in-And-clause-constant c = λ h. absurd (true≢false (sym c.if-not-temporal.false ∙ c.temporal.ensures.state.1 h))
 
-pub returns-in-Ok-clause-frame : goal.returns-in-Ok-clause-frame
-returns-in-Ok-clause-frame c = c.take_back.ensures.frame ∙ (c.sentence_truth-answer.ensures.frame ∙ c.lend_memory-memory.ensures.frame)
+pub returns-in-Or-clause-same : goal.returns-in-Or-clause-same
+returns-in-Or-clause-same c = λ h. absurd (true≢false (sym c.if-not-temporal.false ∙ c.temporal.ensures.state.1 h))
 
-pub returns-in-Err-clause-frame : goal.returns-in-Err-clause-frame
-returns-in-Err-clause-frame c = c.take_back.ensures.frame ∙ (c.sentence_truth-answer.ensures.frame ∙ c.lend_memory-memory.ensures.frame)
+pub returns-in-Or-clause-constant : goal.returns-in-Or-clause-constant
+returns-in-Or-clause-constant c = λ h. absurd (true≢false (sym c.if-not-temporal.false ∙ c.temporal.ensures.state.1 h))
+
+pub returns-in_default-clause-same : goal.returns-in_default-clause-same
+returns-in_default-clause-same c = λ h. absurd (true≢false (sym c.if-not-temporal.false ∙ c.temporal.ensures.state.1 h))
+
+pub returns-in_default-clause-constant : goal.returns-in_default-clause-constant
+returns-in_default-clause-constant c = λ h. absurd (true≢false (sym c.if-not-temporal.false ∙ c.temporal.ensures.state.1 h))
