@@ -26,7 +26,7 @@ use Rattle.tl_terms.specs.Orders.{action_cmp}
 use Rattle.tl_terms.specs.Problem.{PlainOperator, PlainProblem}
 use Rattle.tl_terms.specs.Step.{changed, applied, applied_if, step}
 use Rattle.tl_terms.specs.World.{World}
-use Rattle.tl_world.specs.Plain.{row_cmp}
+use Rattle.tl_rows.specs.Plain.{row_cmp}
 
 both : (a b : Bool) → (a && b) ≡ true → (a ≡ true) × (b ≡ true)
 both true b h = (refl, h)

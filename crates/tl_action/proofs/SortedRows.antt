@@ -12,13 +12,13 @@ use Rattle.std.proofs.lemmas.List.Sorted.{Contains-permutation, IsPermutation-sy
 use Rattle.tl_action.specs.RowLists.{IsRows}
 use Rattle.tl_syntax.specs.declared.value.Value.{Value}
 use Rattle.tl_syntax.specs.Lists.{Each, Among, Rises}
-use Rattle.tl_world.specs.Plain.{row_cmp}
+use Rattle.tl_rows.specs.Plain.{row_cmp}
 use Rattle.tl_syntax.proofs.ListLaws.{same_test}
 use Rattle.tl_syntax.proofs.Telling.{tells-equivalence}
 use Rattle.tl_world.proofs.Alike.{values_eq, values-tell}
-use Rattle.tl_world.proofs.Lent.{row_ties}
-use Rattle.tl_world.proofs.Lookup.{row_total}
-use Rattle.tl_world.proofs.Order.{values_order}
+use Rattle.tl_rows.proofs.Lent.{row_ties}
+use Rattle.tl_rows.proofs.Lookup.{row_total}
+use Rattle.tl_rows.proofs.Order.{values_order}
 use Rattle.tl_syntax.specs.contracts.value.ValueOrd.TheImpl as value_impl
 
 contains-in : {A : Type 0} (xs : List A) (x : A) → Among x xs → Contains xs x

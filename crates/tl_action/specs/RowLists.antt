@@ -6,7 +6,7 @@ use Rattle.tl_syntax.specs.Assignment.{Assignment}
 use Rattle.tl_syntax.specs.Lists.{Among, Rises}
 use Rattle.tl_terms.specs.Problem.{PlainOperator, PlainProblem}
 use Rattle.tl_terms.specs.World.{World}
-use Rattle.tl_world.specs.Plain.{row_cmp}
+use Rattle.tl_rows.specs.Plain.{row_cmp}
 
 -- the same rows, in lexicographic value order, each once
 pub record IsRows (rows ordered : List (List Value)) : Type 0 where

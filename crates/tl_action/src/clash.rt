@@ -22,7 +22,7 @@ fn gives_each(given: &World, sets: &[PlaceValue]) -> bool
 }
 
 /// How the values stand to the others, in lexicographic value order.
-#[tactic(auto, using(tl_world::proofs::Order::orders))]
+#[tactic(auto, using(tl_rows::proofs::Order::orders))]
 fn order_of(values: &[Value], others: &[Value]) -> Ordering
     ensures { result ≡ slice_cmp value_cmp values.now others.now }
 {

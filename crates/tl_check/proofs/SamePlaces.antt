@@ -18,8 +18,8 @@ use Rattle.tl_terms.specs.Problem.{PlainProblem}
 use Rattle.tl_terms.specs.Terms.{place_value}
 use Rattle.tl_terms.specs.World.{World, value_at}
 use Rattle.tl_world.specs.Calls.{ArePlacesOf}
-use Rattle.tl_world.specs.Tables.{place_row}
-use Rattle.tl_world.specs.declared.table.PlaceRow.{PlaceRow}
+use Rattle.tl_rows.specs.Tables.{place_row}
+use Rattle.tl_rows.specs.declared.table.PlaceRow.{PlaceRow}
 
 -- ---- tables of places
 

@@ -3,8 +3,9 @@ ghost use Rattle.std.specs.Prelude.{◌≡◌, ◌↔◌, ◌<◌, ◌≤◌, le
 ghost use Rattle.tl_check.specs.Gathered.{ReadSame, ReadSameUpTo, HaveSamePlaces};
 
 use crate::span::Span;
+use tl_rows::PlaceRows;
 use tl_syntax::{Bound, Value};
-use tl_world::{PlaceRows, World};
+use tl_world::World;
 
 /// Whether the two are the same values. It takes no memory.
 fn are_same(left: &[Value], right: &[Value]) -> bool

@@ -12,8 +12,9 @@ use crate::line::{Change, add_span};
 use crate::span::Span;
 use std::alloc::Global;
 use std::collections::HashMap;
+use tl_rows::Rows;
 use tl_syntax::{Fact, NoMemory, Value, Values};
-use tl_world::{Rows, World};
+use tl_world::World;
 
 /// The changes of some facts, along the states so far.
 #[derive(Drop)]

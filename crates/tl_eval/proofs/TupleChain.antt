@@ -15,10 +15,10 @@ use Rattle.tl_terms.specs.Situation.{Situation}
 use Rattle.tl_terms.proofs.Tuples.{all-tuples}
 use Rattle.tl_terms.proofs.TuplesRise.{tuples-rise}
 use Rattle.tl_world.specs.Next.{IsLater, IsNext, IsChain}
-use Rattle.tl_world.specs.Plain.{row_cmp}
+use Rattle.tl_rows.specs.Plain.{row_cmp}
 use Rattle.tl_world.proofs.Chains.{further}
 use Rattle.tl_world.proofs.Finite.{rising-chain}
-use Rattle.tl_world.proofs.Lookup.{row_total}
+use Rattle.tl_rows.proofs.Lookup.{row_total}
 
 -- no tuple comes before itself
 not-itself : (t : List Value) → row_cmp t t ≡ Less → ⊥

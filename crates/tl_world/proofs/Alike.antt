@@ -10,17 +10,17 @@ use Rattle.tl_syntax.specs.declared.value.Value.{Value}
 use Rattle.tl_terms.specs.World.{World}
 use Rattle.tl_syntax.proofs.Plain.{value-tells, list-tells, both, with_both}
 use Rattle.tl_syntax.specs.contracts.value.ValuePartialEq.TheImpl as value_impl
-use Rattle.tl_world.specs.declared.named.Named.{Named}
-use Rattle.tl_world.specs.declared.table.PlaceRow.{PlaceRow}
-use Rattle.tl_world.specs.Tables.{PlainRows, InOrder, fact_row, place_row, fact_table, place_table, fact_tables, place_tables}
+use Rattle.tl_rows.specs.declared.named.Named.{Named}
+use Rattle.tl_rows.specs.declared.table.PlaceRow.{PlaceRow}
+use Rattle.tl_rows.specs.Tables.{PlainRows, InOrder, fact_row, place_row, fact_table, place_table, fact_tables, place_tables}
 use Rattle.std.specs.Hash.FoldHasher as folding
 use Rattle.std.specs.declared.hash.FoldHasher.{FoldHasher}
-use Rattle.tl_world.specs.Codes.{rows_code, places_code, row_of, fact_table_fed, place_table_fed, tables_code}
+use Rattle.tl_rows.specs.Codes.{rows_code, places_code, row_of, fact_table_fed, place_table_fed, tables_code}
 use Rattle.tl_syntax.proofs.Telling.{told_alike}
 use Rattle.tl_terms.proofs.SameWorlds.{world-tells}
 use Rattle.tl_terms.specs.SameWorlds.{world_eq}
 use Rattle.tl_world.specs.WorldCode.{world_fed}
-use Rattle.tl_world.proofs.Lent.{bare}
+use Rattle.tl_rows.proofs.Lent.{bare}
 use Rattle.tl_world.proofs.Group.{whole, same-facts, same-places, facts-back, places-back}
 
 abbrev pub values_eq : List Value → List Value → Bool

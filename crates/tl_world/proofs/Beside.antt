@@ -15,13 +15,14 @@ use Rattle.tl_syntax.specs.Keys.{Key, key_cmp, fact_key}
 use Rattle.tl_syntax.specs.Lists.{Among}
 use Rattle.tl_syntax.proofs.TotalOrders.{key_total, key_ties}
 use Rattle.tl_terms.specs.Step.{with_all}
-use Rattle.tl_world.specs.declared.named.Named.{Named}
-use Rattle.tl_world.specs.Moves.{place_after, IsComing, IsMoved, IsTakenOut, AreSameBeside}
-use Rattle.tl_world.specs.Plain.{HasItem}
-use Rattle.tl_world.specs.Tables.{row_cmp, InOrder, fact_row, fact_tables, entries_of, set_of}
+use Rattle.tl_rows.specs.declared.named.Named.{Named}
+use Rattle.tl_rows.specs.Moves.{place_after}
+use Rattle.tl_world.specs.Moves.{IsComing, IsMoved, IsTakenOut, AreSameBeside}
+use Rattle.tl_rows.specs.Plain.{HasItem}
+use Rattle.tl_rows.specs.Tables.{row_cmp, InOrder, fact_row, fact_tables, entries_of, set_of}
 use Rattle.tl_world.proofs.Change as change
 use Rattle.tl_world.proofs.Edits.{other_than}
-use Rattle.tl_world.proofs.Moving.{get-after}
+use Rattle.tl_rows.proofs.Moving.{get-after}
 use Rattle.tl_world.proofs.Orders.{contains-all}
 use Rattle.tl_world.proofs.Step.{set-put, set-taken}
 

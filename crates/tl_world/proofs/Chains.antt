@@ -7,12 +7,12 @@ use Rattle.tl_syntax.specs.Lists.{Among, Rises}
 use Rattle.tl_syntax.proofs.ListLaws.{Each-Among}
 use Rattle.tl_syntax.proofs.Plain.{both, with_both}
 use Rattle.tl_world.specs.declared.pattern.Match.{Match}
-use Rattle.tl_world.specs.Plain.{row_cmp}
+use Rattle.tl_rows.specs.Plain.{row_cmp}
 use Rattle.tl_world.specs.Patterns.{makes_true, tuple_of, tuple_in_place}
 use Rattle.tl_world.specs.Least.{IsLeast, above, match_in_place}
 use Rattle.tl_world.specs.Next.{IsAfter, IsLater, IsNext, IsChain, ChainHasAllMatches}
-use Rattle.tl_world.proofs.Lookup.{row_total}
-use Rattle.tl_world.proofs.Lent.{row_ties}
+use Rattle.tl_rows.proofs.Lookup.{row_total}
+use Rattle.tl_rows.proofs.Lent.{row_ties}
 
 module _ (k : ℕ) (test : List Value → Bool) where
   pub further : (after : Option (List Value)) (m t : List Value) → IsAfter after m → row_cmp m t ≡ Less → IsAfter after t

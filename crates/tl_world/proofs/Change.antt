@@ -10,10 +10,10 @@ use Rattle.std.specs.FinMap as dict
 use Rattle.std.specs.FinMap.Entries.{where_key}
 use Rattle.tl_syntax.specs.declared.value.Value.{Value}
 use Rattle.tl_syntax.specs.Keys.{Key, key_cmp}
-use Rattle.tl_world.specs.declared.named.Named.{Named}
-use Rattle.tl_world.specs.Plain.{row_cmp, PlainRows, entries_of, InOrder, HasItem}
-use Rattle.tl_world.proofs.Search.{find-at, search-ok, search-err, searchable}
-use Rattle.tl_world.proofs.Lookup.{each-at, in_rows, row_total}
+use Rattle.tl_rows.specs.declared.named.Named.{Named}
+use Rattle.tl_rows.specs.Plain.{row_cmp, PlainRows, entries_of, InOrder, HasItem}
+use Rattle.tl_rows.proofs.Search.{find-at, search-ok, search-err, searchable}
+use Rattle.tl_rows.proofs.Lookup.{each-at, in_rows, row_total}
 use Rattle.tl_world.proofs.Edits.{other_than, insert-put, replace-put, remove-where}
 use Rattle.tl_world.proofs.Step.{filled-put, put-order, where-order, row-put-order, row-where-order, find-put-in, find-taken, find-emptied}
 

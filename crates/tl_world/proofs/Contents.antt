@@ -16,11 +16,11 @@ use Rattle.tl_syntax.proofs.ListLaws.{iff-trans, iff-sym, iff-path, all-iff, Eac
 use Rattle.tl_terms.specs.ProblemMeaning.{world_of}
 use Rattle.tl_terms.specs.Step.{with_all, overwritten}
 use Rattle.tl_terms.specs.World.{World}
-use Rattle.tl_world.specs.declared.named.Named.{Named}
-use Rattle.tl_world.specs.declared.table.PlaceRow.{PlaceRow}
-use Rattle.tl_world.specs.Tables.{keyed, entries_of, InOrder, set_of, map_of, fact_row, place_row, fact_tables, place_tables}
-use Rattle.tl_world.proofs.Lookup.{entries-rise}
-use Rattle.tl_world.proofs.Lent.{any-among}
+use Rattle.tl_rows.specs.declared.named.Named.{Named}
+use Rattle.tl_rows.specs.declared.table.PlaceRow.{PlaceRow}
+use Rattle.tl_rows.specs.Tables.{keyed, entries_of, InOrder, set_of, map_of, fact_row, place_row, fact_tables, place_tables}
+use Rattle.tl_rows.proofs.Lookup.{entries-rise}
+use Rattle.tl_rows.proofs.Lent.{any-among}
 
 -- a test passes on all of two lists alike where they have the same members
 same-members : {A : Type 0} (p : A → Bool) (xs ys : List A) → ((x : A) → Among x xs ↔ Among x ys) → list_all p xs ≡ list_all p ys

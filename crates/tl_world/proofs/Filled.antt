@@ -11,7 +11,7 @@ use Rattle.tl_syntax.specs.contracts.value.ValuePartialEq.TheImpl as value_impl
 use Rattle.tl_syntax.proofs.Plain.{value-tells}
 use Rattle.tl_world.specs.declared.pattern.Part.{Part}
 use Rattle.tl_world.specs.declared.pattern.Part.TheVariants.{Fixed, Free}
-use Rattle.tl_world.specs.Plain.{row_cmp}
+use Rattle.tl_rows.specs.Plain.{row_cmp}
 use Rattle.tl_syntax.proofs.Telling.{told_alike, order-tells}
 use Rattle.tl_world.specs.Fits.{is_value, fits_at, fits_all, is_free, occurs}
 use Rattle.tl_world.specs.Least.{fits_some}

@@ -28,9 +28,9 @@ use Rattle.tl_world.specs.declared.pattern.Part.TheVariants.{Fixed, Free}
 use Rattle.tl_world.specs.Fits.{is_free, occurs}
 use Rattle.tl_world.specs.Next.{IsLater, IsChain, MatchesHaveAnEnd}
 use Rattle.tl_world.specs.Patterns.{fill, filled, parts_of, is_true_of}
-use Rattle.tl_world.specs.Plain.{row_cmp}
+use Rattle.tl_rows.specs.Plain.{row_cmp}
 use Rattle.tl_world.proofs.Chains.{further}
-use Rattle.tl_world.proofs.Lookup.{row_total}
+use Rattle.tl_rows.proofs.Lookup.{row_total}
 use Rattle.tl_world.proofs.Truths.{occurs-among}
 
 -- ---- rising tuples that are all that pass are a chain

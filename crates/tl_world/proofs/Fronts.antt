@@ -10,10 +10,10 @@ use Rattle.tl_syntax.proofs.TotalOrders.{value_total, value_ties}
 use Rattle.tl_syntax.proofs.Plain.{value-tells, both}
 use Rattle.tl_world.specs.declared.pattern.Part.{Part}
 use Rattle.tl_world.specs.declared.pattern.Part.TheVariants.{Fixed, Free}
-use Rattle.tl_world.specs.Plain.{row_cmp}
+use Rattle.tl_rows.specs.Plain.{row_cmp}
 use Rattle.tl_world.specs.Fits.{fits_at, fits_all}
 use Rattle.tl_world.specs.Front.{seen_after, led_by, front, front_cmp}
-use Rattle.tl_world.proofs.Lookup.{row_total}
+use Rattle.tl_rows.proofs.Lookup.{row_total}
 use Rattle.tl_world.proofs.Matching.{is_value-some}
 
 -- leading values of lists in order are in order

@@ -11,10 +11,10 @@ use Rattle.tl_syntax.specs.declared.value.Value.{Value}
 use Rattle.tl_syntax.specs.Keys.{Key, key_cmp}
 use Rattle.tl_syntax.proofs.TotalOrders.{key_total, key_ties}
 use Rattle.tl_terms.specs.World.{World}
-use Rattle.tl_world.specs.Plain.{PlainRows, PlainTables, keyed, entries_of, InOrder, HasItem, set_of, map_of}
+use Rattle.tl_rows.specs.Plain.{PlainRows, PlainTables, keyed, entries_of, InOrder, HasItem, set_of, map_of}
 use Rattle.tl_world.specs.WorldCode.{push_row, group, marked, ordered}
-use Rattle.tl_world.proofs.Search.{first_true, second_true, is_less}
-use Rattle.tl_world.proofs.Lookup.{contains-set_of, entries-rise}
+use Rattle.tl_rows.proofs.Search.{first_true, second_true, is_less}
+use Rattle.tl_rows.proofs.Lookup.{contains-set_of, entries-rise}
 
 same_number : (n : ℕ) → nat_eq n n ≡ true
 same_number n = eq-eqb n n refl

@@ -8,14 +8,14 @@ use Rattle.tl_syntax.proofs.Plain.{value-tells, both}
 use Rattle.tl_world.specs.declared.pattern.Match.{Match}
 use Rattle.tl_world.specs.declared.pattern.Part.{Part}
 use Rattle.tl_world.specs.declared.pattern.Part.TheVariants.{Fixed, Free}
-use Rattle.tl_world.specs.Plain.{row_cmp}
+use Rattle.tl_rows.specs.Plain.{row_cmp}
 use Rattle.tl_world.specs.Fits.{fits_at, fits_all, occurs}
 use Rattle.tl_world.specs.Front.{front, front_cmp, are_in_turn}
 use Rattle.tl_world.specs.Least.{IsLeast, fits_some, above, is_later, HasLater, match_in_place}
 use Rattle.tl_world.proofs.Fronts.{earlier-too, later-too}
 use Rattle.tl_world.proofs.Least.{least-same}
-use Rattle.tl_world.proofs.Lookup.{row_total}
-use Rattle.tl_world.proofs.Lent.{row_ties}
+use Rattle.tl_rows.proofs.Lookup.{row_total}
+use Rattle.tl_rows.proofs.Lent.{row_ties}
 use Rattle.tl_world.proofs.Matching.{is_value-some, fits-lengths}
 use Rattle.tl_world.proofs.RowsAlike.{IsAbove, RisesAlike, alike-before, alike-after}
 use Rattle.tl_world.proofs.Turns.{ordered, only-so}

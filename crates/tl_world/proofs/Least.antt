@@ -8,10 +8,10 @@ use Rattle.tl_syntax.specs.declared.value.Value.{Value}
 use Rattle.tl_syntax.proofs.Plain.{both, with_both}
 use Rattle.tl_world.specs.declared.pattern.Part.{Part}
 use Rattle.tl_world.specs.declared.pattern.Match.{Match}
-use Rattle.tl_world.specs.Plain.{row_cmp}
+use Rattle.tl_rows.specs.Plain.{row_cmp}
 use Rattle.tl_world.specs.Fits.{fits_all, IsMatch}
 use Rattle.tl_world.specs.Least.{fits_some, above, lower, lesser, IsLeast}
-use Rattle.tl_world.proofs.Lookup.{row_total}
+use Rattle.tl_rows.proofs.Lookup.{row_total}
 
 abbrev pub NotBelow : ℕ → Option Match → List Value → Type 0
 NotBelow k None t = ⊥

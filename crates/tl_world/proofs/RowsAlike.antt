@@ -4,9 +4,9 @@ use Rattle.std.specs.Ordering.{ordering_then}
 use Rattle.tl_syntax.specs.declared.value.Value.{Value}
 use Rattle.tl_syntax.specs.Keys.{value_cmp}
 use Rattle.tl_syntax.specs.Lists.{Each, Rises}
-use Rattle.tl_world.specs.declared.table.PlaceRow.{PlaceRow}
-use Rattle.tl_world.specs.Plain.{row_cmp}
-use Rattle.tl_world.specs.Tables.{whole_row}
+use Rattle.tl_rows.specs.declared.table.PlaceRow.{PlaceRow}
+use Rattle.tl_rows.specs.Plain.{row_cmp}
+use Rattle.tl_rows.specs.Tables.{whole_row}
 
 -- y comes after x, where both are as long
 abbrev pub IsAbove : List Value → List Value → Type 0

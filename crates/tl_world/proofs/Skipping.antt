@@ -11,7 +11,7 @@ use Rattle.tl_syntax.specs.Lists.{Each, Rises}
 use Rattle.tl_syntax.proofs.Plain.{both, with_both}
 use Rattle.tl_world.specs.declared.pattern.Part.{Part}
 use Rattle.tl_world.specs.declared.pattern.Match.{Match}
-use Rattle.tl_world.specs.Plain.{row_cmp}
+use Rattle.tl_rows.specs.Plain.{row_cmp}
 use Rattle.tl_world.specs.Fits.{fits_all}
 use Rattle.tl_world.specs.Least.{fits_some, above, IsLeast}
 use Rattle.tl_world.specs.Front.{front, front_cmp, known_of}

@@ -1,6 +1,6 @@
 -- Parts of which the last is for the value of a place.
 use Rattle.std.proofs.Common.{◌≡◌, ℕ, suc, ◌<◌, ◌≤◌, ◌+◌, ◌-◌, Bool, true, false, ◌&&◌, ◌||◌, true≢false, List, [], ◌∷◌, ◌++◌, length, length-append, get_or, take, Option, Some, None, is_some, refl, sym, ap, ◌∙◌, arith}
-use Rattle.std.specs.Prelude.{IfSome, IfNone}
+use Rattle.std.specs.Prelude.{IfSome}
 use Rattle.tl_syntax.specs.declared.value.Value.{Value}
 use Rattle.tl_world.specs.declared.pattern.Part.{Part}
 use Rattle.tl_world.specs.Fits.{fits_at, fits_all, is_free, occurs}
@@ -55,7 +55,3 @@ lead-last (q ∷ r ∷ ps) d p =
 pub of-some : (o : Option ℕ) (P : Type 0) → is_some o ≡ true → IfSome o (λ _. P) → P
 of-some None P h s = absurd (true≢false (sym h))
 of-some (Some x) P h s = s
-
-pub of-none : {A : Type 0} (o : Option A) (P : Type 0) → is_some o ≡ false → IfNone o P → P
-of-none None P h s = s
-of-none (Some x) P h s = absurd (true≢false h)

@@ -8,8 +8,8 @@ use Rattle.std.specs.FinMap.Entries.{where_key, by_order, is_sorted-put, is_sort
 use Rattle.tl_syntax.specs.declared.value.Value.{Value}
 use Rattle.tl_syntax.specs.Keys.{Key, key_cmp}
 use Rattle.tl_syntax.proofs.TotalOrders.{key_total, key_ties}
-use Rattle.tl_world.specs.Plain.{row_cmp, PlainRows, PlainTables, entries_of, EachInOrder, InOrder, HasItem, set_of, map_of}
-use Rattle.tl_world.proofs.Lookup.{find-entries, in_rows, row_total, contains-set_of, get-map_of}
+use Rattle.tl_rows.specs.Plain.{row_cmp, PlainRows, PlainTables, entries_of, EachInOrder, InOrder, HasItem, set_of, map_of}
+use Rattle.tl_rows.proofs.Lookup.{find-entries, in_rows, row_total, contains-set_of, get-map_of}
 use Rattle.tl_world.proofs.Edits.{other_than}
 
 turned : {A : Type 0} (b : Bool) (x y : A) → cond (not b) x y ≡ cond b y x

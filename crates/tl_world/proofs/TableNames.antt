@@ -16,17 +16,17 @@ use Rattle.tl_syntax.specs.Lists.{Among}
 use Rattle.tl_syntax.proofs.TotalOrders.{value_total}
 use Rattle.tl_terms.specs.Acceptance.{is_value}
 use Rattle.tl_terms.specs.World.{World, has_fact, value_at}
-use Rattle.tl_world.specs.declared.named.Named.{Named}
-use Rattle.tl_world.specs.declared.table.PlaceRow.{PlaceRow}
+use Rattle.tl_rows.specs.declared.named.Named.{Named}
+use Rattle.tl_rows.specs.declared.table.PlaceRow.{PlaceRow}
 use Rattle.tl_world.specs.declared.table_name.TableName.{TableName}
 use Rattle.tl_world.specs.declared.table_name.TableName.TheVariants.{Pred, Fun}
 use Rattle.tl_world.specs.Calls.{ArePlacesOf}
 use Rattle.tl_world.specs.TableNumbers.{tables_in, AreAlikeOf, TellAlike}
-use Rattle.tl_world.specs.Tables.{keyed, row_cmp, InOrder, fact_row, fact_table, fact_tables, place_row, place_table, place_tables}
+use Rattle.tl_rows.specs.Tables.{keyed, row_cmp, InOrder, fact_row, fact_table, fact_tables, place_row, place_table, place_tables}
 use Rattle.tl_world.specs.Unchanged.{row_keys, AreRowsBeside, TellRows}
 use Rattle.tl_world.specs.Unset.{ArePlacesBeside, TellPlaces}
 use Rattle.tl_world.proofs.Group.{facts-back, places-back, whole}
-use Rattle.tl_world.proofs.Lookup.{at-table, contains-set_of, find-keyed, get-map_of}
+use Rattle.tl_rows.proofs.Lookup.{at-table, contains-set_of, find-keyed, get-map_of}
 use Rattle.tl_world.proofs.Unchanged.{rows-keyed}
 use Rattle.tl_world.proofs.Unset.{there}
 

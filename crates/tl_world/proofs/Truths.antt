@@ -13,14 +13,14 @@ use Rattle.tl_terms.specs.World.{World, has_fact, value_at}
 use Rattle.tl_terms.specs.Bounds.{same_value}
 use Rattle.tl_world.specs.declared.pattern.Part.{Part}
 use Rattle.tl_world.specs.declared.pattern.Part.TheVariants.{Fixed, Free}
-use Rattle.tl_world.specs.declared.table.PlaceRow.{PlaceRow}
-use Rattle.tl_world.specs.Tables.{place_row, whole_row}
+use Rattle.tl_rows.specs.declared.table.PlaceRow.{PlaceRow}
+use Rattle.tl_rows.specs.Tables.{place_row, whole_row}
 use Rattle.tl_world.specs.Fits.{is_free, occurs}
 use Rattle.tl_world.specs.Least.{fits_some}
 use Rattle.tl_world.specs.Patterns.{fill, filled, is_true_of}
 use Rattle.tl_world.proofs.Filled.{some-filled}
-use Rattle.tl_world.proofs.Lookup.{row_total}
-use Rattle.tl_world.proofs.Lent.{row_ties, any-among}
+use Rattle.tl_rows.proofs.Lookup.{row_total}
+use Rattle.tl_rows.proofs.Lent.{row_ties, any-among}
 
 -- the variable is one of the parts
 pub occurs-among : (n : ℕ) (ps : List Part) → Among (Free n) ps ↔ (occurs n ps ≡ true)

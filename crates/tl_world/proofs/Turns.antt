@@ -15,13 +15,13 @@ use Rattle.tl_syntax.proofs.Plain.{value-tells, both}
 use Rattle.tl_world.specs.declared.pattern.Match.{Match}
 use Rattle.tl_world.specs.declared.pattern.Part.{Part}
 use Rattle.tl_world.specs.declared.pattern.Part.TheVariants.{Fixed, Free}
-use Rattle.tl_world.specs.Plain.{row_cmp}
+use Rattle.tl_rows.specs.Plain.{row_cmp}
 use Rattle.tl_world.specs.Fits.{fits_at, fits_all, occurs}
 use Rattle.tl_world.specs.Front.{seen_after, led_by, front, front_cmp, is_passed, are_in_turn, IsFirstKept}
 use Rattle.tl_world.specs.Least.{fits_some, is_later, HasLater, IsLeast}
 use Rattle.tl_world.proofs.Fronts.{earlier-too, follows, rest-of}
 use Rattle.tl_world.proofs.Halves.{kept-from}
-use Rattle.tl_world.proofs.Lookup.{row_total}
+use Rattle.tl_rows.proofs.Lookup.{row_total}
 use Rattle.tl_world.proofs.Matching.{is_value-some, fits-lengths}
 use Rattle.tl_world.proofs.RowsAlike.{IsAbove, RisesAlike}
 

@@ -15,14 +15,14 @@ use Rattle.tl_syntax.proofs.Telling.{told_alike}
 use Rattle.tl_syntax.proofs.TotalOrders.{key_total, key_ties}
 use Rattle.tl_terms.specs.Step.{without_all}
 use Rattle.tl_terms.specs.World.{World}
-use Rattle.tl_world.specs.declared.named.Named.{Named}
-use Rattle.tl_world.specs.Codes.{values_eq}
+use Rattle.tl_rows.specs.declared.named.Named.{Named}
+use Rattle.tl_rows.specs.Codes.{values_eq}
 use Rattle.tl_world.specs.Edits.{changed_places}
 use Rattle.tl_world.specs.Moves.{AreSameBeside, changed_facts}
-use Rattle.tl_world.specs.Tables.{keyed, entries_of, fact_row, fact_tables, facts_of}
+use Rattle.tl_rows.specs.Tables.{keyed, entries_of, fact_row, fact_tables, facts_of}
 use Rattle.tl_world.specs.Unchanged.{lists_fact, row_keys, table_keys, AreAlikeBeside, IsNumberAfter}
 use Rattle.tl_world.proofs.Orders.{contains-all}
-use Rattle.tl_world.proofs.SameParts.{row-tells}
+use Rattle.tl_rows.proofs.SameParts.{row-tells}
 
 pub key-is : (q k : Key) → eq_by_cmp key_cmp q k ≡ true → q ≡ k
 key-is q k e = key_ties q k ((Equal-is (key_cmp q k)).0 e)

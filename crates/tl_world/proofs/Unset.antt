@@ -11,12 +11,12 @@ use Rattle.tl_syntax.proofs.Plain.{both}
 use Rattle.tl_syntax.proofs.TotalOrders.{key_total, key_ties, value_ties}
 use Rattle.tl_terms.specs.Acceptance.{is_value}
 use Rattle.tl_terms.specs.Step.{overwritten}
-use Rattle.tl_world.specs.declared.named.Named.{Named}
-use Rattle.tl_world.specs.declared.table.PlaceRow.{PlaceRow}
+use Rattle.tl_rows.specs.declared.named.Named.{Named}
+use Rattle.tl_rows.specs.declared.table.PlaceRow.{PlaceRow}
 use Rattle.tl_world.specs.Edits.{changed_places}
-use Rattle.tl_world.specs.Tables.{keyed, entries_of, InOrder, place_row, place_tables, places_of}
+use Rattle.tl_rows.specs.Tables.{keyed, entries_of, InOrder, place_row, place_tables, places_of}
 use Rattle.tl_world.specs.Unset.{is_set, AreValuesBeside}
-use Rattle.tl_world.proofs.Lookup.{find-append, or_else, get-map_of}
+use Rattle.tl_rows.proofs.Lookup.{find-append, or_else, get-map_of}
 use Rattle.tl_world.proofs.Unchanged.{key-is}
 
 -- the value is there

@@ -3,11 +3,11 @@ use Rattle.std.proofs.Common.{◌≡◌, ◌<◌, ◌≤◌, ◌-◌, ◌+◌, �
 use Rattle.tl_syntax.specs.declared.value.Value.{Value}
 use Rattle.tl_syntax.specs.Lists.{Each}
 use Rattle.tl_syntax.proofs.Plain.{both}
-use Rattle.tl_world.specs.declared.table.PlaceRow.{PlaceRow}
+use Rattle.tl_rows.specs.declared.table.PlaceRow.{PlaceRow}
 use Rattle.tl_world.specs.declared.pattern.Match.{Match}
 use Rattle.tl_world.specs.declared.pattern.Part.{Part}
 use Rattle.tl_world.specs.Fits.{fits_at, fits_all, IsMatch}
-use Rattle.tl_world.specs.Tables.{whole_row}
+use Rattle.tl_rows.specs.Tables.{whole_row}
 use Rattle.tl_world.proofs.Matching.{never-short, fits-lengths}
 
 abbrev nine : Value → List Value

@@ -11,9 +11,9 @@ use Rattle.tl_syntax.specs.Named.{FactIsNamed, PlaceIsNamed}
 use Rattle.tl_terms.specs.Acceptance.{is_value}
 use Rattle.tl_terms.specs.NamedWorlds.{WorldIsNamed}
 use Rattle.tl_terms.specs.World.{World, has_fact, value_at}
-use Rattle.tl_world.specs.declared.named.Named.{Named}
-use Rattle.tl_world.specs.declared.table.PlaceRow.{PlaceRow}
-use Rattle.tl_world.specs.Tables.{place_row}
+use Rattle.tl_rows.specs.declared.named.Named.{Named}
+use Rattle.tl_rows.specs.declared.table.PlaceRow.{PlaceRow}
+use Rattle.tl_rows.specs.Tables.{place_row}
 
 -- the rows are the places of the function with their values in the world
 abbrev pub ArePlacesOf : World → ℕ → List PlaceRow → Type 0

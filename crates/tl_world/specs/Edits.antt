@@ -9,10 +9,10 @@ use Rattle.tl_syntax.specs.declared.place_value.PlaceValue.{PlaceValue}
 use Rattle.tl_syntax.specs.declared.value.Value.{Value}
 use Rattle.tl_syntax.specs.Keys.{Key, key_cmp, fact_key, place_entry}
 use Rattle.tl_terms.specs.Step.{with_all, without_all, overwritten}
-use Rattle.tl_world.specs.declared.named.Named.{Named}
-use Rattle.tl_world.specs.declared.table.PlaceRow.{PlaceRow}
+use Rattle.tl_rows.specs.declared.named.Named.{Named}
+use Rattle.tl_rows.specs.declared.table.PlaceRow.{PlaceRow}
 use Rattle.tl_world.specs.Moves.{AreSameBeside, changed_facts}
-use Rattle.tl_world.specs.Tables.{facts_of, places_of}
+use Rattle.tl_rows.specs.Tables.{facts_of, places_of}
 
 -- the items with another one at place i
 abbrev pub put_at : {X : Type 0} → List X → ℕ → X → List X

@@ -9,7 +9,7 @@ use Rattle.tl_world.specs.declared.pattern.Match.{Match}
 use Rattle.tl_world.specs.declared.pattern.Part.{Part}
 use Rattle.tl_world.specs.declared.pattern.Part.TheVariants.{Fixed, Free}
 use Rattle.tl_world.specs.Fits.{fits_at, BeginsAs}
-use Rattle.tl_world.specs.Plain.{row_cmp}
+use Rattle.tl_rows.specs.Plain.{row_cmp}
 
 -- the value of a part: a fixed one, or that of one of the first variables, of which n came before
 abbrev pub known_value : ℕ → List Value → Part → Option Value

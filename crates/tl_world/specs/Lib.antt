@@ -1,11 +1,5 @@
 pub mod View
-pub mod Plain
 pub mod Places
-pub mod Codes
-pub mod RowTests
-pub mod Cuts
-pub mod Runs
-pub mod Tables
 pub mod WorldCode
 pub mod Patterns
 pub mod Next
@@ -17,7 +11,6 @@ pub mod Front
 pub mod NumberedLists
 pub mod WorldNumbers
 pub mod Moves
-pub mod Second
 pub mod Falling
 pub mod Edits
 pub mod Calls

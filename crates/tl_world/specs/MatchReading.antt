@@ -9,7 +9,7 @@ use Rattle.tl_world.specs.Front.{are_in_turn}
 use Rattle.tl_world.specs.Least.{HasLater, PutsNext, fits_some}
 use Rattle.tl_world.specs.Next.{IsNext}
 use Rattle.tl_world.specs.Patterns.{IsLawful, makes_true, parts_of}
-use Rattle.tl_world.specs.Plain.{row_cmp}
+use Rattle.tl_rows.specs.Plain.{row_cmp}
 
 -- the pattern, where it counts
 abbrev pub pattern_if : Bool → Pattern → Option Pattern

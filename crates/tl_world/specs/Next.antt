@@ -8,7 +8,7 @@ use Rattle.tl_terms.specs.World.{World}
 use Rattle.tl_world.specs.declared.pattern.Match.{Match}
 use Rattle.tl_world.specs.declared.pattern.Pattern.{Pattern}
 use Rattle.tl_world.specs.Least.{IsLeast, above, match_in_place}
-use Rattle.tl_world.specs.Plain.{row_cmp}
+use Rattle.tl_rows.specs.Plain.{row_cmp}
 use Rattle.tl_world.specs.Patterns.{makes_true, is_true_of, filled, parts_of, tuple_in_place, IsLawful}
 
 -- t comes after the tuple, where one is given, in lexicographic value order

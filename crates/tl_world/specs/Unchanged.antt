@@ -7,7 +7,7 @@ use Rattle.tl_syntax.specs.declared.place_value.PlaceValue.{PlaceValue}
 use Rattle.tl_syntax.specs.declared.value.Value.{Value}
 use Rattle.tl_syntax.specs.Keys.{Key, key_cmp, fact_key}
 use Rattle.tl_terms.specs.World.{World, has_fact}
-use Rattle.tl_world.specs.declared.named.Named.{Named}
+use Rattle.tl_rows.specs.declared.named.Named.{Named}
 use Rattle.tl_world.specs.declared.tables_beside.NumberedTables.{NumberedTables}
 use Rattle.tl_world.specs.Edits.{changed_places}
 use Rattle.tl_world.specs.Moves.{changed_facts}

@@ -8,9 +8,9 @@ use Rattle.tl_syntax.specs.declared.value.Value.{Value}
 use Rattle.tl_syntax.specs.Keys.{Key, key_cmp, place_entry}
 use Rattle.tl_terms.specs.Acceptance.{is_value}
 use Rattle.tl_terms.specs.World.{World, value_at}
-use Rattle.tl_world.specs.declared.named.Named.{Named}
-use Rattle.tl_world.specs.declared.table.PlaceRow.{PlaceRow}
-use Rattle.tl_world.specs.Tables.{keyed, entries_of, place_row, place_tables}
+use Rattle.tl_rows.specs.declared.named.Named.{Named}
+use Rattle.tl_rows.specs.declared.table.PlaceRow.{PlaceRow}
+use Rattle.tl_rows.specs.Tables.{keyed, entries_of, place_row, place_tables}
 
 -- whether this place is one of those that are set
 abbrev pub is_set : List PlaceValue → Key → Bool

@@ -7,8 +7,8 @@ use Rattle.std.specs.FinMap as dict
 use Rattle.tl_syntax.specs.declared.value.Value.{Value}
 use Rattle.tl_syntax.specs.Keys.{Key, key_cmp}
 use Rattle.tl_terms.specs.World.{World}
-use Rattle.tl_world.specs.Plain.{PlainTables}
-use Rattle.tl_world.specs.Codes.{tables_code}
+use Rattle.tl_rows.specs.Plain.{PlainTables}
+use Rattle.tl_rows.specs.Codes.{tables_code}
 
 -- the tables whose entries a list in order has
 abbrev pub push_row : {X : Type 0} → Key × X → PlainTables X → PlainTables X

@@ -4,13 +4,12 @@ ghost use Rattle.tl_syntax.specs.Lists.{Rises};
 ghost use Rattle.tl_world.specs.Fits.{fits_at, fits_all, fits_before, is_value, occurs};
 ghost use Rattle.tl_world.specs.Front.{front, is_passed, seen_after, seen_in, is_in_turn, are_in_turn, AreKept, ArePassed, IsFirstKept};
 ghost use Rattle.tl_world.specs.Least.{HasLater};
-ghost use Rattle.tl_world.specs.Tables.{row_cmp};
+ghost use Rattle.tl_rows.specs.Tables.{row_cmp};
 
 use crate::Part;
 use crate::front::{are_in_turn, order_of_front, value_of_part};
-use crate::guess::Difference;
-use crate::runs::Runs;
 use std::cmp::Ordering;
+use tl_rows::{Difference, Runs};
 use tl_syntax::Value;
 
 /// Whether a row to which the front stands so is passed over, with those that tie or without them.

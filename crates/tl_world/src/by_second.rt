@@ -4,11 +4,12 @@ ghost use Rattle.std.specs.Prelude.{◌≡◌, ◌<◌, ◌≤◌, ℕ, length, 
 ghost use Rattle.tl_syntax.specs.Lists.{Rises};
 ghost use Rattle.tl_world.specs.Fits.{occurs};
 ghost use Rattle.tl_world.specs.Least.{PutsNext};
-ghost use Rattle.tl_world.specs.Second.{exchanged};
-ghost use Rattle.tl_world.specs.Tables.{row_cmp};
+ghost use Rattle.tl_rows.specs.Second.{exchanged};
+ghost use Rattle.tl_rows.specs.Tables.{row_cmp};
 
 use crate::next::put_next;
-use crate::{Match, Part, Rows};
+use crate::{Match, Part};
+use tl_rows::Rows;
 
 /// Whether the first part is free and the second fixed, or the first is for a later variable and
 /// the second for the first one.

@@ -5,17 +5,14 @@ ghost use Rattle.std.specs.Prelude.{◌≡◌, ◌<◌, ◌≤◌, true, false, 
 ghost use Rattle.tl_syntax.specs.Keys.{fact_key};
 ghost use Rattle.tl_world.specs.Edits.{put_at, AreChangedBy, AreSomeOf, GainsFact, GainsFacts, IsReplaced, LosesFact, LosesFacts, OnTrue};
 ghost use Rattle.tl_world.specs.Moves.{IsComing, IsTakenOutOf};
-ghost use Rattle.tl_world.specs.Tables.{InOrder, fact_tables};
+ghost use Rattle.tl_rows.specs.Tables.{InOrder, fact_tables};
 
-use crate::Rows;
-use crate::kept::keep_second_orders;
-use crate::named::{Named, find_table};
-use crate::row_move::Move;
-use crate::row_search::{find_in, find_near};
-use crate::rows::{place_left, share_rows};
-use crate::runs::find_row;
 use std::alloc::Global;
 use std::rc::Rc;
+use tl_rows::{
+    Move, Named, Rows, find_in, find_near, find_row, find_table, keep_second_orders, place_left,
+    share_rows,
+};
 use tl_syntax::{Fact, NoMemory, Value, Values};
 
 /// That no guess is kept of an added fact's place.

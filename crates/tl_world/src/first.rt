@@ -5,11 +5,11 @@ ghost use Rattle.tl_syntax.specs.Lists.{Rises};
 ghost use Rattle.tl_world.specs.Fits.{fits_all, occurs, BeginsAs, EachBegins, EachFits, EachFitsAt, NoneFitsAt};
 ghost use Rattle.tl_world.specs.Front.{BeginsOn, seen_after, seen_in, is_in_turn, are_in_turn};
 ghost use Rattle.tl_world.specs.Least.{IsLeastOf, HasLater};
-ghost use Rattle.tl_world.specs.Tables.{row_cmp};
+ghost use Rattle.tl_rows.specs.Tables.{row_cmp};
 
 use crate::Part;
 use crate::front::order_of_front;
-use crate::runs::Runs;
+use tl_rows::Runs;
 use tl_syntax::Value;
 
 /// How many first variables have values after the part, where a tuple that begins with the first

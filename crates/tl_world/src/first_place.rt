@@ -6,13 +6,13 @@ ghost use Rattle.tl_world.specs.Fits.{occurs};
 ghost use Rattle.tl_world.specs.Front.{front, are_in_turn};
 ghost use Rattle.tl_world.specs.Least.{IsLeastOf, HasLater};
 ghost use Rattle.tl_world.specs.Places.{fits_place, whole_from, ArePlacesPassed, FitsPlaceBefore};
-ghost use Rattle.tl_world.specs.Tables.{row_cmp, whole_row};
+ghost use Rattle.tl_rows.specs.Tables.{row_cmp, whole_row};
 
+use crate::Part;
 use crate::after::{after_part, fits_in_turn};
 use crate::first::{put_value, put_values};
 use crate::front::{are_in_turn, order_of_front};
-use crate::table::Place;
-use crate::{Part, PlaceRows};
+use tl_rows::{Place, PlaceRows};
 use tl_syntax::Value;
 
 /// How many places come before the first whose leading arguments are at least the known ones of the

@@ -2,9 +2,9 @@
 ghost use Rattle.std.specs.Prelude.{◌≡◌, ◌<◌, ◌≤◌, ◌+◌, ◌^◌, length, IfSome};
 ghost use Rattle.tl_world.specs.Front.{known_value, seen_after, front, front_cmp, known_of, is_in_turn, are_in_turn};
 
-use crate::row_order::order_of_values;
 use crate::{Match, Part};
 use std::cmp::Ordering;
+use tl_rows::order_of_values;
 use tl_syntax::Value;
 
 /// The value of the part: a fixed one, or that of one of the first variables, of which `seen` came

@@ -1,9 +1,7 @@
 // Marks of worlds, by which a world that changes make is guessed. No clause speaks of them.
-use crate::named::Named;
 use crate::named_facts::is_one_of;
-use crate::rows::code_of_row;
-use crate::{PlaceRows, Rows};
 use std::hash::{FoldHasher, Hash, Hasher};
+use tl_rows::{Named, PlaceRows, Rows, code_of_row};
 use tl_syntax::{Fact, PlaceValue, Value};
 
 /// An odd number for the predicate, and another one for the function with this number.

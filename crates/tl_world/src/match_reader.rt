@@ -4,17 +4,17 @@ ghost use Rattle.tl_syntax.specs.Lists.{Rises};
 ghost use Rattle.tl_world.specs.Front.{front, are_in_turn, IsFirstKept};
 ghost use Rattle.tl_world.specs.MatchReading.{HasLaterOf, PutsNextOf, ReadsAll, ReadsOn, pattern_if};
 ghost use Rattle.tl_world.specs.Patterns.{IsLawful, parts_of};
-ghost use Rattle.tl_world.specs.Tables.{row_cmp};
+ghost use Rattle.tl_rows.specs.Tables.{row_cmp};
 
 use crate::after::rows_before_near;
 use crate::by_second::is_in_second_order;
 use crate::first::put_first;
 use crate::front::are_in_turn;
 use crate::gathered::{gathered, put_tuple};
-use crate::runs::Runs;
 use crate::second::Second;
 use crate::{Match, Part, Pattern, World};
 use std::marker::Model;
+use tl_rows::Runs;
 use tl_syntax::Value;
 
 /// A reader of the matches of a pattern in a world, in lexicographic value order. Contracts see the

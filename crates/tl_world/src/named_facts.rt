@@ -5,7 +5,7 @@ ghost use Rattle.tl_syntax.specs.Keys.{key_cmp, fact_key};
 ghost use Rattle.tl_world.specs.TableNumbers.{lists_pred};
 ghost use Rattle.tl_world.specs.Unchanged.{lists_fact};
 
-use crate::same_row::is_same_row;
+use tl_rows::is_same_row;
 use tl_syntax::{Fact, Value};
 
 /// Whether the fact is that of the predicate with these arguments.

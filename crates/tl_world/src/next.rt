@@ -5,18 +5,18 @@ ghost use Rattle.tl_syntax.specs.Lists.{Rises};
 ghost use Rattle.tl_world.specs.Fits.{occurs};
 ghost use Rattle.tl_world.specs.Front.{front, front_cmp, known_of};
 ghost use Rattle.tl_world.specs.Least.{IsLeast, IsLeastAfter, PutsNext, above, lower, lesser, fits_some, match_in_place};
-ghost use Rattle.tl_world.specs.Tables.{row_cmp, whole_row};
+ghost use Rattle.tl_rows.specs.Tables.{row_cmp, whole_row};
 
 use crate::after::{rows_before, rows_up_to};
 use crate::first::put_first;
 use crate::first_place::{places_before, places_up_to, put_first_place};
 use crate::front::{order_of_front, values_of};
 use crate::row_match::{match_place, match_row};
-use crate::runs::Runs;
-use crate::{Match, Part, PlaceRows};
+use crate::{Match, Part};
+use tl_rows::{PlaceRows, Runs};
 use tl_syntax::Value;
 
-#[tactic(auto, using(crate::proofs::Order::orders))]
+#[tactic(auto, using(tl_rows::proofs::Order::orders))]
 fn is_above(after: &Option<Match>, m: &Match, free: u32) -> bool
     requires { free ≤ 9 }
     ensures { result ≡ above after.now free (take free m.now.values) }
@@ -32,7 +32,7 @@ fn is_above(after: &Option<Match>, m: &Match, free: u32) -> bool
     }
 }
 
-#[tactic(auto, using(crate::proofs::Order::orders))]
+#[tactic(auto, using(tl_rows::proofs::Order::orders))]
 fn is_lower(best: &Option<Match>, m: &Match, free: u32) -> bool
     requires { free ≤ 9 }
     ensures { result ≡ lower best.now free (take free m.now.values) }

@@ -5,15 +5,13 @@ ghost use Rattle.std.specs.Prelude.{◌≡◌, ◌<◌, ◌≤◌, length, IfOk,
 ghost use Rattle.tl_syntax.specs.Keys.{key_cmp, place_entry};
 ghost use Rattle.tl_world.specs.Edits.{SetsPlace, SetsPlaces};
 ghost use Rattle.tl_world.specs.Falling.{is_above};
-ghost use Rattle.tl_world.specs.Places.{place_set, GainsPlaceAt};
-ghost use Rattle.tl_world.specs.Tables.{InOrder, place_tables, row_cmp};
+ghost use Rattle.tl_rows.specs.Places.{place_set, GainsPlaceAt};
+ghost use Rattle.tl_rows.specs.Tables.{InOrder, place_tables, row_cmp};
 
-use crate::PlaceRows;
-use crate::named::{Named, find_table};
-use crate::runs::find_row;
 use std::alloc::Global;
 use std::cmp::Ordering;
 use std::rc::Rc;
+use tl_rows::{Named, PlaceRows, find_row, find_table};
 use tl_syntax::{NoMemory, PlaceValue, Value, Values};
 
 /// The place of the row with these arguments, or the place at which it would stand.
@@ -126,7 +124,7 @@ fn with_places(
 }
 
 /// How the places of the two stand by function and then by arguments in value order.
-#[tactic(auto, using(crate::proofs::Order::orders))]
+#[tactic(auto, using(tl_rows::proofs::Order::orders))]
 fn order_of(a: &PlaceValue, b: &PlaceValue) -> Ordering
     ensures { result ≡ key_cmp (place_entry a.now).0 (place_entry b.now).0 }
 {

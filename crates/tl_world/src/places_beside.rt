@@ -2,15 +2,12 @@
 ghost use Rattle.std.specs.Ordering.{eq_by_cmp};
 ghost use Rattle.std.specs.Prelude.{◌≡◌, [], drop, true};
 ghost use Rattle.tl_syntax.specs.Keys.{key_cmp, place_entry};
-ghost use Rattle.tl_world.specs.RowTests.{place_row_eq};
+ghost use Rattle.tl_rows.specs.RowTests.{place_row_eq};
 ghost use Rattle.tl_world.specs.TableNumbers.{sets_fun};
 ghost use Rattle.tl_world.specs.Unset.{is_set, ArePlacesBeside, ArePlaceTablesBeside, TellPlaces};
 
-use crate::PlaceRows;
-use crate::named::Named;
 use crate::same_number::is_same_number;
-use crate::same_row::is_same_row;
-use crate::table::Place;
+use tl_rows::{Named, Place, PlaceRows, is_same_row};
 use tl_syntax::{PlaceValue, Value};
 
 /// Tables of places with their numbers, as far as these are known: where two tables of one function

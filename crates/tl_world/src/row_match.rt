@@ -1,10 +1,10 @@
 // The tuple that makes a pattern one row.
 ghost use Rattle.std.specs.Prelude.{◌≡◌, ◌<◌, ◌≤◌, ℕ, length, true};
 ghost use Rattle.tl_world.specs.Fits.{fits_at, fits_all, occurs, Known, IsMatch};
-ghost use Rattle.tl_world.specs.Tables.{whole_row};
+ghost use Rattle.tl_rows.specs.Tables.{whole_row};
 
-use crate::table::Place;
 use crate::{Match, Part};
+use tl_rows::Place;
 use tl_syntax::Value;
 
 fn fits_part(part: Part, v: Value, tuple: &[Value]) -> bool

@@ -2,8 +2,8 @@
 ghost use Rattle.std.specs.Prelude.{◌≡◌, [], drop, true};
 ghost use Rattle.tl_world.specs.Unchanged.{AreRowsBeside};
 
-use crate::Rows;
 use crate::named_facts::is_named;
+use tl_rows::Rows;
 use tl_syntax::Fact;
 
 /// Whether all rows from a place on are of facts that the changes name. It takes no memory.

@@ -2,11 +2,10 @@
 ghost use Rattle.std.specs.Prelude.{◌≡◌, [], drop, true};
 ghost use Rattle.tl_world.specs.Unchanged.{AreNumberedBeside, AreRowsBeside, AreTablesBeside, TellRowsOf};
 
-use crate::Rows;
-use crate::named::Named;
 use crate::named_facts::has_pred;
 use crate::rows_beside::{are_named_from, are_rows_beside};
 use crate::same_number::is_same_number;
+use tl_rows::{Named, Rows};
 use tl_syntax::Fact;
 
 /// Tables of facts with their numbers, as far as these are known: where two tables of one predicate

@@ -11,10 +11,10 @@ ghost use Rattle.tl_terms.specs.ProblemMeaning.{world_of};
 ghost use Rattle.tl_terms.specs.SameWorlds.{world_eq};
 ghost use Rattle.tl_terms.specs.World.{has_fact, value_at};
 ghost use Rattle.tl_world.specs.Calls.{gives_entry, gives_row, gives_table, has_row, has_table, lacks_table, ArePlacesOf, IsNamedByParts, LacksFacts, StaysNamedWith};
-ghost use Rattle.tl_world.specs.Codes.{tables_code};
+ghost use Rattle.tl_rows.specs.Codes.{tables_code};
 ghost use Rattle.tl_world.specs.TableNumbers.{tables_in, AreAlikeOf, TellAlike};
 ghost use Rattle.tl_world.specs.declared.table_name.TableName.TheVariants.{Pred, Fun};
-ghost use Rattle.tl_world.specs.Tables.{InOrder, fact_tables, place_tables, set_of, map_of, row_cmp};
+ghost use Rattle.tl_rows.specs.Tables.{InOrder, fact_tables, place_tables, set_of, map_of, row_cmp};
 ghost use Rattle.tl_world.specs.WorldCode.{world_fed};
 ghost use Rattle.tl_world.specs.Edits.{changed_places};
 ghost use Rattle.tl_world.specs.Unset.{AreSameUnset};
@@ -26,20 +26,17 @@ use crate::mark::{
     changed_mark, mark_of_fact, mark_of_facts, mark_of_place_rows, mark_of_places, mark_of_rows,
     set_mark,
 };
-use crate::named::{Named, find_table, share};
 use crate::named_facts::is_one_of;
 use crate::places::{change_places, find_place};
 use crate::places_beside::{NumberedPlaces, are_place_tables_beside};
-use crate::runs::find_row;
 use crate::same_number::numbers_from;
-use crate::table::Place;
 use crate::table_name::TableName;
 use crate::tables_beside::{NumberedTables, are_tables_beside};
 use crate::unmet::Unmet;
-use crate::{PlaceRows, Rows};
 use std::alloc::Global;
 use std::hash::{FoldHasher, Hash, Hasher};
 use std::marker::Model;
+use tl_rows::{Named, Place, PlaceRows, Rows, find_row, find_table, share};
 use tl_syntax::{Fact, NoMemory, PlaceValue, Value};
 
 /// A set of facts and a finite map of places.
@@ -59,8 +56,8 @@ impl Model for World {
     ghost coded = { coded_world };
 
     ghost use Rattle.std.specs.Prelude.{◌≡◌};
-    ghost use Rattle.tl_world.specs.Codes.{tables_code};
-    ghost use Rattle.tl_world.specs.Tables.{InOrder, fact_tables, place_tables, set_of, map_of};
+    ghost use Rattle.tl_rows.specs.Codes.{tables_code};
+    ghost use Rattle.tl_rows.specs.Tables.{InOrder, fact_tables, place_tables, set_of, map_of};
 
     ghost view = { λ w. record { facts = set_of (fact_tables w.facts.items); places = map_of (place_tables w.places.items) } };
 
@@ -95,7 +92,7 @@ impl Hash for World {
 }
 
 /// The code of the tables.
-#[tactic(auto, unfolding(crate::specs::Codes::tables_code))]
+#[tactic(auto, unfolding(tl_rows::specs::Codes::tables_code))]
 fn code_of_tables(facts: &[Named<Rows>], places: &[Named<PlaceRows>]) -> u64
     ensures { result ≡ tables_code (fact_tables facts.now) (place_tables places.now) }
 {

@@ -3,7 +3,7 @@ use Rattle.std.proofs.Math.Seq.{take-append_seam}
 use Rattle.tl_syntax.specs.declared.value.Value.TheVariants.{Int}
 use Rattle.tl_world.specs.declared.pattern.Part.{Part}
 use Rattle.tl_world.specs.declared.pattern.Part.TheVariants.{Fixed}
-use Rattle.tl_world.specs.Second.{exchanged}
+use Rattle.tl_rows.specs.Second.{exchanged}
 use Rattle.tl_world.proofs.by_second.exchanged_parts.Goals as goal
 
 exchanged-first : (ps rest : List Part) (d : Part) → 1 < length ps → take (length ps) (set (set (ps ++ rest) 0 (get_or ps 1 d)) 1 (get_or ps 0 d)) ≡ exchanged ps

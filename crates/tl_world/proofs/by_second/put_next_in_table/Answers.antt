@@ -6,8 +6,8 @@ use Rattle.tl_world.specs.declared.pattern.Part.{Part}
 use Rattle.tl_world.specs.declared.pattern.Part.TheVariants.{Fixed}
 use Rattle.tl_world.specs.Fits.{occurs}
 use Rattle.tl_world.specs.Least.{IsLeast, fits_some, above, match_in_place}
-use Rattle.tl_world.specs.Second.{exchanged, AreExchanged}
-use Rattle.tl_world.proofs.Exchanged.{occurs-exchanged, some-exchanged}
+use Rattle.tl_rows.specs.Second.{exchanged, AreExchanged}
+use Rattle.tl_world.proofs.ExchangedParts.{occurs-exchanged, some-exchanged}
 use Rattle.tl_world.proofs.Least.{least-same}
 use Rattle.tl_world.proofs.by_second.put_next_in_table.Goals as goal
 

@@ -3,9 +3,9 @@ use Rattle.std.specs.Ordering.{eq_by_cmp}
 use Rattle.tl_syntax.specs.Keys.{key_cmp, fact_key}
 use Rattle.tl_terms.specs.Step.{without_all}
 use Rattle.tl_world.specs.Moves.{AreSameBeside}
-use Rattle.tl_world.specs.Tables.{fact_tables, set_of}
+use Rattle.tl_rows.specs.Tables.{fact_tables, set_of}
 use Rattle.tl_world.proofs.Beside.{with-beside}
-use Rattle.tl_world.proofs.Going.{on-ok}
+use Rattle.tl_rows.proofs.Going.{on-ok}
 use Rattle.tl_world.proofs.facts.change_many.Goals as goal
 
 pub returns-clause-facts : goal.returns-clause-facts

@@ -1,8 +1,8 @@
 use Rattle.std.proofs.Common.{[], ◌∙◌, subst, refl}
-use Rattle.tl_world.specs.Moves.{HasRowAt}
-use Rattle.tl_world.specs.Tables.{fact_row, fact_table, fact_tables}
+use Rattle.tl_rows.specs.Moves.{HasRowAt}
+use Rattle.tl_rows.specs.Tables.{fact_row, fact_table, fact_tables}
 use Rattle.tl_world.proofs.Change as change
-use Rattle.tl_world.proofs.Lookup.{at-table}
+use Rattle.tl_rows.proofs.Lookup.{at-table}
 use Rattle.tl_world.proofs.Step.{set-present}
 use Rattle.tl_world.proofs.facts.is_at.Goals as goal
 

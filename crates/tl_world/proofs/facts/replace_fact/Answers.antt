@@ -5,12 +5,13 @@ use Rattle.std.specs.List.{insert, HoldsAt}
 use Rattle.std.specs.List.Sorted.{IsBinarySearchResult}
 use Rattle.tl_syntax.specs.declared.value.Value.{Value}
 use Rattle.tl_syntax.specs.Keys.{key_cmp, fact_key}
-use Rattle.tl_world.specs.declared.named.Named.{Named}
-use Rattle.tl_world.specs.Moves.{row_moved, IsMoved}
-use Rattle.tl_world.specs.Tables.{row_cmp, InOrder, fact_row, fact_table, fact_tables, entries_of, set_of}
+use Rattle.tl_rows.specs.declared.named.Named.{Named}
+use Rattle.tl_rows.specs.Moves.{row_moved}
+use Rattle.tl_world.specs.Moves.{IsMoved}
+use Rattle.tl_rows.specs.Tables.{row_cmp, InOrder, fact_row, fact_table, fact_tables, entries_of, set_of}
 use Rattle.tl_world.proofs.Beside.{differ, facts-in-place, filled-moved, order-moved, swapped}
 use Rattle.tl_world.proofs.Change as change
-use Rattle.tl_world.proofs.Lookup.{at-table}
+use Rattle.tl_rows.proofs.Lookup.{at-table}
 use Rattle.tl_world.proofs.Step.{set-absent, set-put}
 use Rattle.tl_world.proofs.facts.replace_fact.Goals as goal
 

@@ -1,8 +1,8 @@
 use Rattle.std.proofs.Common.{◌≡◌, inr, ◌∙◌}
 use Rattle.std.specs.List.{insert, remove}
-use Rattle.tl_world.specs.Moves.{place_after}
+use Rattle.tl_rows.specs.Moves.{place_after}
 use Rattle.tl_world.proofs.Beside.{comes-in}
-use Rattle.tl_world.proofs.Exchanged.{if-ok}
+use Rattle.tl_rows.proofs.Exchanged.{if-ok}
 use Rattle.tl_world.proofs.facts.rows_without.Goals as goal
 
 pub returns-in-Some : goal.returns-in-Some

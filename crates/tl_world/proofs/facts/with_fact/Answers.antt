@@ -5,12 +5,12 @@ use Rattle.std.specs.FinMap as dict
 use Rattle.std.specs.FinSet as set
 use Rattle.tl_syntax.specs.declared.value.Value.{Value}
 use Rattle.tl_syntax.specs.Keys.{key_cmp}
-use Rattle.tl_world.specs.declared.named.Named.{Named}
-use Rattle.tl_world.specs.Tables.{InOrder, fact_row, fact_table, fact_tables, entries_of, set_of}
+use Rattle.tl_rows.specs.declared.named.Named.{Named}
+use Rattle.tl_rows.specs.Tables.{InOrder, fact_row, fact_table, fact_tables, entries_of, set_of}
 use Rattle.tl_world.proofs.Beside.{set-edit}
 use Rattle.tl_world.proofs.Change as change
-use Rattle.tl_world.proofs.Going.{on-ok}
-use Rattle.tl_world.proofs.Lookup.{at-table}
+use Rattle.tl_rows.proofs.Going.{on-ok}
+use Rattle.tl_rows.proofs.Lookup.{at-table}
 use Rattle.tl_world.proofs.Step.{set-put, set-present}
 use Rattle.tl_world.proofs.facts.with_fact.Goals as goal
 

@@ -2,7 +2,7 @@ use Rattle.std.proofs.Common.{◌≡◌, map, ap, ◌∙◌, subst}
 use Rattle.std.specs.Prelude.{OnOk}
 use Rattle.tl_syntax.specs.Keys.{fact_key}
 use Rattle.tl_terms.specs.Step.{with_all}
-use Rattle.tl_world.specs.Tables.{fact_tables, set_of}
+use Rattle.tl_rows.specs.Tables.{fact_tables, set_of}
 use Rattle.tl_world.proofs.Orders.{with-permuted}
 use Rattle.tl_world.proofs.facts.with_facts.Goals as goal
 

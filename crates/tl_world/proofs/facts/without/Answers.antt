@@ -5,14 +5,14 @@ use Rattle.std.specs.FinMap as dict
 use Rattle.std.specs.FinSet as set
 use Rattle.tl_syntax.specs.declared.value.Value.{Value}
 use Rattle.tl_syntax.specs.Keys.{key_cmp}
-use Rattle.tl_world.specs.declared.named.Named.{Named}
-use Rattle.tl_world.specs.Tables.{row_cmp, InOrder, fact_row, fact_table, fact_tables, entries_of, set_of}
-use Rattle.tl_world.specs.Plain.{HasItem}
+use Rattle.tl_rows.specs.declared.named.Named.{Named}
+use Rattle.tl_rows.specs.Tables.{row_cmp, InOrder, fact_row, fact_table, fact_tables, entries_of, set_of}
+use Rattle.tl_rows.specs.Plain.{HasItem}
 use Rattle.tl_world.proofs.Change as change
-use Rattle.tl_world.proofs.Lookup.{at-table, no-table}
+use Rattle.tl_rows.proofs.Lookup.{at-table, no-table}
 use Rattle.tl_world.specs.Moves.{IsTakenOut, AreSameBeside}
 use Rattle.tl_world.proofs.Beside.{same-beside, not-emptied, order-out, facts-out, set-edit, still-filled}
-use Rattle.tl_world.proofs.Going.{on-ok}
+use Rattle.tl_rows.proofs.Going.{on-ok}
 use Rattle.tl_world.proofs.Step.{set-taken, set-absent}
 use Rattle.tl_world.proofs.facts.without.Goals as goal
 

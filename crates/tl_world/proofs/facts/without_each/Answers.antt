@@ -3,7 +3,7 @@ use Rattle.std.specs.FinSet as set
 use Rattle.tl_syntax.specs.Keys.{fact_key}
 use Rattle.tl_terms.specs.Step.{without_all}
 use Rattle.tl_world.specs.Moves.{AreSameBeside}
-use Rattle.tl_world.specs.Tables.{fact_tables, set_of}
+use Rattle.tl_rows.specs.Tables.{fact_tables, set_of}
 use Rattle.tl_world.proofs.Beside.{one-before, removed-beside}
 use Rattle.tl_world.proofs.facts.without_each.Goals as goal
 

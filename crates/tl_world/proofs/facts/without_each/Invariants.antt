@@ -1,7 +1,7 @@
 use Rattle.std.proofs.Common.{◌≤◌, length, drop, map}
 use Rattle.tl_terms.specs.Step.{without_all}
 use Rattle.tl_world.specs.Moves.{AreSameBeside}
-use Rattle.tl_world.specs.Tables.{InOrder, fact_tables, set_of}
+use Rattle.tl_rows.specs.Tables.{InOrder, fact_tables, set_of}
 use Rattle.tl_syntax.specs.Keys.{fact_key}
 use Rattle.tl_world.proofs.facts.without_each.Given as goal
 

@@ -1,7 +1,7 @@
 use Rattle.std.proofs.Common.{◌≡◌, ◌<◌, ◌+◌, ◌-◌, ◌/◌, List, length, get_or, true, sym, ap, ◌∙◌, arith}
 use Rattle.std.specs.Ordering.{is_gt}
 use Rattle.tl_syntax.specs.declared.value.Value.{Value}
-use Rattle.tl_world.specs.declared.table.PlaceRow.{PlaceRow}
+use Rattle.tl_rows.specs.declared.table.PlaceRow.{PlaceRow}
 use Rattle.tl_world.specs.Front.{front, front_cmp}
 use Rattle.tl_world.proofs.Skipping.{parted, each-before}
 use Rattle.tl_world.proofs.first_place.places_before.Goals as goal

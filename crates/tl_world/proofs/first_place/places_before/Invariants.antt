@@ -1,7 +1,7 @@
 use Rattle.std.proofs.Common.{◌≡◌, ◌≤◌, ◌-◌, length, true}
 use Rattle.std.specs.List.{AllWithin}
 use Rattle.std.specs.Ordering.{is_gt}
-use Rattle.tl_world.specs.declared.table.PlaceRow.{PlaceRow}
+use Rattle.tl_rows.specs.declared.table.PlaceRow.{PlaceRow}
 use Rattle.tl_world.specs.Front.{front, front_cmp}
 use Rattle.tl_world.proofs.first_place.places_before.Given as goal
 

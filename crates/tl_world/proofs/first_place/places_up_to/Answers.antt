@@ -2,9 +2,9 @@ use Rattle.std.proofs.Common.{◌≡◌, ◌<◌, ◌+◌, ◌-◌, List, [], le
 use Rattle.std.proofs.lemmas.List.{get_or-map, length-map}
 use Rattle.tl_syntax.specs.declared.value.Value.{Value}
 use Rattle.tl_syntax.specs.declared.value.Value.TheVariants.{Sym}
-use Rattle.tl_world.specs.declared.table.PlaceRow.{PlaceRow}
+use Rattle.tl_rows.specs.declared.table.PlaceRow.{PlaceRow}
 use Rattle.tl_world.specs.Least.{HasLater}
-use Rattle.tl_world.specs.Tables.{whole_row}
+use Rattle.tl_rows.specs.Tables.{whole_row}
 use Rattle.tl_world.proofs.Later.{after-row}
 use Rattle.tl_world.proofs.RowsAlike.{alike-whole}
 use Rattle.tl_world.proofs.Skipping.{all-kept}

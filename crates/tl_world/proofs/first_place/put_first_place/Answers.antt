@@ -3,11 +3,11 @@ use Rattle.std.proofs.lemmas.List.{drop_all, get_or-map, length-map}
 use Rattle.std.specs.Ordering.{is_lt}
 use Rattle.tl_syntax.specs.declared.value.Value.{Value}
 use Rattle.tl_world.specs.declared.pattern.Match.{Match}
-use Rattle.tl_world.specs.declared.table.PlaceRow.{PlaceRow}
+use Rattle.tl_rows.specs.declared.table.PlaceRow.{PlaceRow}
 use Rattle.tl_world.specs.Fits.{fits_all}
 use Rattle.tl_world.specs.Front.{front, front_cmp}
 use Rattle.tl_world.specs.Least.{IsLeast, fits_some}
-use Rattle.tl_world.specs.Tables.{whole_row}
+use Rattle.tl_rows.specs.Tables.{whole_row}
 use Rattle.tl_world.proofs.Least.{least-same}
 use Rattle.tl_world.proofs.RowsAlike.{alike-whole}
 use Rattle.tl_world.proofs.Skipping.{none-past}

@@ -3,7 +3,8 @@ use Rattle.tl_syntax.proofs.Plain.{both, with_both}
 use Rattle.tl_world.specs.Fits.{fits_at, fits_all}
 use Rattle.tl_world.specs.Front.{seen_after, seen_in, is_in_turn, are_in_turn}
 use Rattle.tl_world.proofs.Putting.{begins-taken, begins-before}
-use Rattle.tl_world.proofs.Snoc.{fits-snoc, turn-snoc, occurs-snoc, seen-last, of-some, of-none}
+use Rattle.tl_world.proofs.Snoc.{fits-snoc, turn-snoc, occurs-snoc, seen-last, of-some}
+use Rattle.tl_rows.proofs.Going.{of-none}
 use Rattle.tl_world.proofs.first_place.put_place.Goals as goal
 
 pub put_values-requires-clause-slots : goal.put_values-requires-clause-slots

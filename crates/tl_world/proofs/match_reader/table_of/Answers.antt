@@ -2,7 +2,7 @@ use Rattle.std.proofs.Common.{◌≡◌, ℕ, ◌<◌, true, false, length-take-
 use Rattle.tl_world.specs.Fits.{occurs}
 use Rattle.tl_world.specs.Front.{are_in_turn}
 use Rattle.tl_world.specs.Patterns.{parts_of, filled, is_true_of}
-use Rattle.tl_world.specs.Plain.{row_cmp}
+use Rattle.tl_rows.specs.Plain.{row_cmp}
 use Rattle.tl_world.proofs.Truths.{fact-truth, occurs-among}
 use Rattle.tl_world.proofs.Turns.{only-later}
 use Rattle.tl_world.proofs.match_reader.table_of.Goals as goal

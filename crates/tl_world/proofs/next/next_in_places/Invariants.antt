@@ -1,5 +1,5 @@
 use Rattle.std.proofs.Common.{◌≡◌, ◌≤◌, ◌-◌, length, map, take, ◌&&◌}
-use Rattle.tl_world.specs.Tables.{whole_row}
+use Rattle.tl_rows.specs.Tables.{whole_row}
 use Rattle.tl_world.specs.Least.{IsLeast, fits_some, above}
 use Rattle.tl_world.proofs.next.next_in_places.Given as goal
 

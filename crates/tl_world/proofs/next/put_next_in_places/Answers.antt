@@ -1,5 +1,5 @@
 use Rattle.std.proofs.Common.{length-take-le, map, Some, None, arith}
-use Rattle.tl_world.specs.Tables.{whole_row}
+use Rattle.tl_rows.specs.Tables.{whole_row}
 use Rattle.tl_world.proofs.Later.{least-later}
 use Rattle.tl_world.proofs.next.put_next_in_places.Goals as goal
 

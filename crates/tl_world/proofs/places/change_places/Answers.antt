@@ -2,7 +2,7 @@ use Rattle.std.proofs.Common.{◌≡◌, map, ap, ◌∙◌, subst}
 use Rattle.std.specs.Prelude.{OnOk}
 use Rattle.tl_syntax.specs.Keys.{place_entry}
 use Rattle.tl_terms.specs.Step.{overwritten}
-use Rattle.tl_world.specs.Tables.{place_tables, map_of}
+use Rattle.tl_rows.specs.Tables.{place_tables, map_of}
 use Rattle.tl_world.proofs.Falling.{overwritten-stable}
 use Rattle.tl_world.proofs.places.change_places.Goals as goal
 

@@ -1,8 +1,8 @@
 use Rattle.std.proofs.Common.{subst}
 use Rattle.std.specs.List.Sorted.{IsBinarySearchResult}
-use Rattle.tl_world.specs.declared.table.PlaceRow.{PlaceRow}
-use Rattle.tl_world.specs.Tables.{row_cmp}
-use Rattle.tl_world.proofs.PlaceLists.{search-mapped}
+use Rattle.tl_rows.specs.declared.table.PlaceRow.{PlaceRow}
+use Rattle.tl_rows.specs.Tables.{row_cmp}
+use Rattle.tl_rows.proofs.PlaceLists.{search-mapped}
 use Rattle.tl_world.proofs.places.find_place.Goals as goal
 
 pub returns-clause-place : goal.returns-clause-place

@@ -4,18 +4,18 @@ use Rattle.std.specs.List.{insert, remove, HoldsAt}
 use Rattle.std.specs.FinMap as dict
 use Rattle.tl_syntax.specs.declared.value.Value.{Value}
 use Rattle.tl_syntax.specs.Keys.{key_cmp}
-use Rattle.tl_world.specs.declared.named.Named.{Named}
-use Rattle.tl_world.specs.Tables.{row_cmp, InOrder, place_row, place_tables, entries_of}
+use Rattle.tl_rows.specs.declared.named.Named.{Named}
+use Rattle.tl_rows.specs.Tables.{row_cmp, InOrder, place_row, place_tables, entries_of}
 use Rattle.tl_world.specs.Edits.{SetsPlace}
-use Rattle.tl_world.specs.Places.{place_set}
+use Rattle.tl_rows.specs.Places.{place_set}
 use Rattle.tl_world.proofs.Beside.{set-edit}
 use Rattle.tl_world.proofs.Change as change
 use Rattle.tl_world.proofs.Edits.{replace-put}
-use Rattle.tl_world.proofs.Going.{on-ok}
-use Rattle.tl_world.proofs.Lookup.{row_total}
-use Rattle.tl_world.proofs.PlaceLists as lists
+use Rattle.tl_rows.proofs.Going.{on-ok}
+use Rattle.tl_rows.proofs.Lookup.{row_total}
+use Rattle.tl_rows.proofs.PlaceLists as lists
 use Rattle.tl_world.proofs.Step.{map-put}
-use Rattle.tl_world.specs.declared.table.PlaceRow.{PlaceRow}
+use Rattle.tl_rows.specs.declared.table.PlaceRow.{PlaceRow}
 use Rattle.tl_world.proofs.places.with_place.Goals as goal
 
 -- a table of one row

@@ -1,6 +1,6 @@
 use Rattle.std.proofs.Common.{◌≡◌, ◌≤◌, length, drop, map}
 use Rattle.tl_terms.specs.Step.{overwritten}
-use Rattle.tl_world.specs.Tables.{InOrder, place_tables, map_of}
+use Rattle.tl_rows.specs.Tables.{InOrder, place_tables, map_of}
 use Rattle.tl_syntax.specs.Keys.{place_entry}
 use Rattle.tl_world.proofs.places.with_places.Given as goal
 

@@ -1,5 +1,5 @@
 use Rattle.std.proofs.Common.{◌+◌, drop, refl, sym, ap, ◌∙◌, arith}
-use Rattle.tl_world.specs.RowTests.{place_row-tells}
+use Rattle.tl_rows.specs.RowTests.{place_row-tells}
 use Rattle.tl_world.specs.Unset.{is_set}
 use Rattle.tl_world.proofs.Unset.{same-passed, set-passed, set-passed-back}
 use Rattle.tl_world.proofs.places_beside.are_places_beside.Goals as goal

@@ -1,5 +1,5 @@
 use Rattle.std.proofs.Common.{◌++◌, sym, ap, ◌∙◌}
-use Rattle.tl_world.specs.RowTests.{rows-tell}
+use Rattle.tl_rows.specs.RowTests.{rows-tell}
 use Rattle.tl_world.specs.Unchanged.{row_keys}
 use Rattle.tl_world.proofs.Unchanged.{same-alike}
 use Rattle.tl_world.proofs.tables_beside.is_table_beside.Goals as goal

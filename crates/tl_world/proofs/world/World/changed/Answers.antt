@@ -2,10 +2,10 @@ use Rattle.std.proofs.Common.{◌≡◌, ℕ, List, [], ◌∷◌, map, sym, ap,
 use Rattle.tl_syntax.specs.declared.value.Value.{Value}
 use Rattle.tl_terms.specs.World.{World}
 use Rattle.tl_terms.specs.Step.{with_all, without_all, overwritten}
-use Rattle.tl_world.specs.declared.named.Named.{Named}
-use Rattle.tl_world.specs.declared.table.PlaceRow.{PlaceRow}
-use Rattle.tl_world.specs.Plain.{PlainRows}
-use Rattle.tl_world.specs.Tables.{InOrder, plain_of, fact_row, place_row, fact_tables, place_tables, set_of, map_of}
+use Rattle.tl_rows.specs.declared.named.Named.{Named}
+use Rattle.tl_rows.specs.declared.table.PlaceRow.{PlaceRow}
+use Rattle.tl_rows.specs.Plain.{PlainRows}
+use Rattle.tl_rows.specs.Tables.{InOrder, plain_of, fact_row, place_row, fact_tables, place_tables, set_of, map_of}
 use Rattle.tl_syntax.specs.Keys.{fact_key, place_entry}
 use Rattle.tl_terms.proofs.NamedWorlds.{keys-named, entries-named, world-changed}
 use Rattle.tl_world.proofs.world.World.changed.Goals as goal

@@ -1,6 +1,6 @@
 use Rattle.std.proofs.Common.{◌≡◌, ℕ, suc, ◌+◌, ◌<◌, Bool, ◌&&◌, List, ◌∷◌, length, get_or, drop, drop-cons, sym, ap, ◌∙◌, arith}
 use Rattle.std.specs.List.{list_all}
-use Rattle.tl_world.specs.declared.table.PlaceRow.{PlaceRow}
+use Rattle.tl_rows.specs.declared.table.PlaceRow.{PlaceRow}
 use Rattle.tl_world.specs.Calls.{gives_row}
 use Rattle.tl_world.proofs.world.World.gives_rows.Goals as goal
 

@@ -1,7 +1,7 @@
 use Rattle.std.proofs.Common.{◌≡◌, sym, subst, ◌∙◌}
 use Rattle.tl_syntax.proofs.Telling.{told_alike}
 use Rattle.tl_syntax.specs.Lists.{Among}
-use Rattle.tl_world.specs.RowTests.{rows-tell}
+use Rattle.tl_rows.specs.RowTests.{rows-tell}
 use Rattle.tl_world.proofs.world.World.has_same_facts.Goals as goal
 
 pub returns-in-Some-Some : goal.returns-in-Some-Some

@@ -1,5 +1,5 @@
 use Rattle.std.proofs.Common.{sym, ◌∙◌}
-use Rattle.tl_world.specs.RowTests.{place_rows-tell}
+use Rattle.tl_rows.specs.RowTests.{place_rows-tell}
 use Rattle.tl_world.proofs.TableNames.{same-values}
 use Rattle.tl_world.proofs.world.World.has_same_values.Goals as goal
 

@@ -6,10 +6,10 @@ use Rattle.std.specs.List.Sorted.{IsBinarySearchResult, IsSearchInRange}
 use Rattle.std.specs.Ordering.{nat_cmp}
 use Rattle.tl_syntax.specs.declared.value.Value.{Value}
 use Rattle.tl_terms.specs.World.{has_fact, World}
-use Rattle.tl_world.specs.Tables.{row_cmp, InOrder, fact_row, fact_table, fact_tables, set_of}
-use Rattle.tl_world.specs.declared.named.Named.{Named}
-use Rattle.tl_world.proofs.Search.{search-ok, search-err}
-use Rattle.tl_world.proofs.Lookup.{contains-set_of, at-table, no-table, each-at, row_total}
+use Rattle.tl_rows.specs.Tables.{row_cmp, InOrder, fact_row, fact_table, fact_tables, set_of}
+use Rattle.tl_rows.specs.declared.named.Named.{Named}
+use Rattle.tl_rows.proofs.Search.{search-ok, search-err}
+use Rattle.tl_rows.proofs.Lookup.{contains-set_of, at-table, no-table, each-at, row_total}
 use Rattle.tl_world.proofs.world.World.holds.Goals as goal
 
 in-row : (rows : List (List Value)) (a : List Value) (r : Result ℕ ℕ) → T (dict.is_sorted row_cmp (map fact_row rows)) → IsSearchInRange r (length rows) → IsBinarySearchResult (λ x. row_cmp x a) rows r → is_ok r ≡ is_some (dict.find row_cmp a (map fact_row rows))

@@ -1,7 +1,7 @@
 use Rattle.std.proofs.Common.{◌++◌, sym, ap, ◌∙◌, subst}
 use Rattle.std.specs.FinSet as set
 use Rattle.tl_terms.specs.World.{World}
-use Rattle.tl_world.specs.Tables.{facts_of}
+use Rattle.tl_rows.specs.Tables.{facts_of}
 use Rattle.tl_world.specs.Unchanged.{TellRows}
 use Rattle.tl_world.proofs.TableNames.{tell-rows}
 use Rattle.tl_world.proofs.Unchanged.{alike-facts}

@@ -2,7 +2,7 @@ use Rattle.std.proofs.Common.{Bool, List, length, get_or, sym, ap, ◌∙◌, ar
 use Rattle.std.specs.List.{list_all}
 use Rattle.tl_syntax.specs.declared.value.Value.{Value}
 use Rattle.tl_terms.specs.World.{World, has_fact}
-use Rattle.tl_world.specs.declared.named.Named.{Named}
+use Rattle.tl_rows.specs.declared.named.Named.{Named}
 use Rattle.tl_world.proofs.Contents.{facts-all}
 use Rattle.tl_world.proofs.Lacking.{one-fails}
 use Rattle.tl_world.proofs.world.World.lacking.Goals as goal

@@ -4,10 +4,10 @@ use Rattle.tl_syntax.specs.declared.value.Value.{Value}
 use Rattle.tl_syntax.specs.Keys.{key_cmp}
 use Rattle.tl_syntax.proofs.TotalOrders.{key_total, key_ties}
 use Rattle.tl_terms.specs.ProblemMeaning.{world_of}
-use Rattle.tl_world.specs.declared.named.Named.{Named}
-use Rattle.tl_world.specs.declared.table.PlaceRow.{PlaceRow}
-use Rattle.tl_world.specs.Tables.{fact_tables, place_tables, set_of, map_of}
-use Rattle.tl_world.proofs.Lookup.{get-map_of}
+use Rattle.tl_rows.specs.declared.named.Named.{Named}
+use Rattle.tl_rows.specs.declared.table.PlaceRow.{PlaceRow}
+use Rattle.tl_rows.specs.Tables.{fact_tables, place_tables, set_of, map_of}
+use Rattle.tl_rows.proofs.Lookup.{get-map_of}
 use Rattle.tl_world.proofs.world.World.new.Goals as goal
 
 pub returns : goal.returns

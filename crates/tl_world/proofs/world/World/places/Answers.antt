@@ -2,12 +2,13 @@ use Rattle.std.proofs.Common.{◌≡◌, List, Some, map, sym, ap, ◌∙◌, su
 use Rattle.std.specs.FinMap as dict
 use Rattle.tl_syntax.proofs.ListLaws.{iff-trans, iff-path}
 use Rattle.tl_terms.specs.World.{World, value_at}
-use Rattle.tl_world.specs.declared.named.Named.{Named}
-use Rattle.tl_world.specs.declared.table.PlaceRow.{PlaceRow}
-use Rattle.tl_world.specs.Tables.{row_cmp, AreRows, place_row, place_table, place_tables}
+use Rattle.tl_rows.specs.declared.named.Named.{Named}
+use Rattle.tl_rows.specs.declared.table.PlaceRow.{PlaceRow}
+use Rattle.tl_rows.specs.Tables.{row_cmp, AreRows, place_row, place_table, place_tables}
 use Rattle.tl_world.proofs.Change as change
-use Rattle.tl_world.proofs.Lookup.{at-table, no-table, rows-at, get-map_of, row_total}
-use Rattle.tl_world.proofs.Lent.{row_ties, entry-among, place-rows-rise, filled-length}
+use Rattle.tl_rows.proofs.Lookup.{at-table, no-table, rows-at, get-map_of, row_total}
+use Rattle.tl_rows.proofs.Lent.{row_ties, entry-among, filled-length}
+use Rattle.tl_world.proofs.Lent.{place-rows-rise}
 use Rattle.tl_terms.proofs.TuplesRise.{keys-rise}
 use Rattle.tl_world.proofs.world.World.places.Goals as goal
 

@@ -3,7 +3,7 @@ use Rattle.std.specs.Prelude.{slice_get}
 use Rattle.tl_terms.specs.Bounds.{same_value}
 use Rattle.tl_world.specs.Least.{IsLeast, fits_some, above, match_in_place}
 use Rattle.tl_world.specs.Patterns.{parts_of, filled, is_true_of}
-use Rattle.tl_world.specs.Tables.{whole_row}
+use Rattle.tl_rows.specs.Tables.{whole_row}
 use Rattle.tl_world.proofs.Least.{least-same}
 use Rattle.tl_world.proofs.Truths.{place-truth, occurs-among}
 use Rattle.tl_world.proofs.world.World.put_next_place.Goals as goal

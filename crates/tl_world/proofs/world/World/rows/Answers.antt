@@ -6,11 +6,12 @@ use Rattle.std.specs.FinMap.Entries.{is_some-find}
 use Rattle.tl_syntax.specs.declared.value.Value.{Value}
 use Rattle.tl_syntax.proofs.ListLaws.{iff-trans, iff-path}
 use Rattle.tl_terms.specs.World.{World, has_fact}
-use Rattle.tl_world.specs.declared.named.Named.{Named}
-use Rattle.tl_world.specs.Tables.{row_cmp, AreRows, fact_row, fact_table, fact_tables}
+use Rattle.tl_rows.specs.declared.named.Named.{Named}
+use Rattle.tl_rows.specs.Tables.{row_cmp, AreRows, fact_row, fact_table, fact_tables}
 use Rattle.tl_world.proofs.Change as change
-use Rattle.tl_world.proofs.Lookup.{at-table, no-table, rows-at, contains-set_of, row_total}
-use Rattle.tl_world.proofs.Lent.{row_ties, any-among, bare, fact-rows-rise, filled-length}
+use Rattle.tl_rows.proofs.Lookup.{at-table, no-table, rows-at, contains-set_of, row_total}
+use Rattle.tl_rows.proofs.Lent.{row_ties, any-among, bare, filled-length}
+use Rattle.tl_world.proofs.Lent.{fact-rows-rise}
 use Rattle.tl_world.proofs.world.World.rows.Goals as goal
 
 pub returns-in-Ok-clause-facts : goal.returns-in-Ok-clause-facts

@@ -1,7 +1,7 @@
 use Rattle.std.proofs.Common.{◌≡◌, List, ◌<◌, ◌+◌, ◌-◌, length, get_or, slice_get, Some, ap, ◌∙◌, subst, arith}
 use Rattle.tl_world.specs.declared.table_name.TableName.TheVariants.{Pred, Fun}
 use Rattle.tl_syntax.specs.declared.value.Value.{Value}
-use Rattle.tl_world.specs.declared.named.Named.{Named}
+use Rattle.tl_rows.specs.declared.named.Named.{Named}
 use Rattle.tl_world.specs.TableNumbers.{tables_in}
 use Rattle.tl_world.proofs.TableNames.{table-count, pred-at, fun-at}
 use Rattle.tl_world.proofs.world.World.table.Goals as goal

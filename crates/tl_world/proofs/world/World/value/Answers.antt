@@ -7,11 +7,11 @@ use Rattle.std.specs.Prelude.{pos}
 use Rattle.tl_syntax.specs.declared.value.Value.{Value}
 use Rattle.tl_syntax.specs.declared.value.Value.TheVariants.{Int}
 use Rattle.tl_terms.specs.World.{value_at, World}
-use Rattle.tl_world.specs.Tables.{row_cmp, InOrder, place_row, place_table, place_tables, map_of}
-use Rattle.tl_world.specs.declared.named.Named.{Named}
-use Rattle.tl_world.specs.declared.table.PlaceRow.{PlaceRow}
-use Rattle.tl_world.proofs.Search.{search-ok, search-err}
-use Rattle.tl_world.proofs.Lookup.{get-map_of, at-table, no-table, each-at, row_total}
+use Rattle.tl_rows.specs.Tables.{row_cmp, InOrder, place_row, place_table, place_tables, map_of}
+use Rattle.tl_rows.specs.declared.named.Named.{Named}
+use Rattle.tl_rows.specs.declared.table.PlaceRow.{PlaceRow}
+use Rattle.tl_rows.proofs.Search.{search-ok, search-err}
+use Rattle.tl_rows.proofs.Lookup.{get-map_of, at-table, no-table, each-at, row_total}
 use Rattle.tl_world.proofs.world.World.value.Goals as goal
 
 -- in the table that the search found

@@ -1,0 +1,16 @@
+pub mod PlaceLists
+pub mod Shifts
+pub mod EvenRows
+pub mod Parts
+pub mod Joined
+pub mod PartSearch
+pub mod SameParts
+pub mod Narrowing
+pub mod Search
+pub mod Lookup
+pub mod Order
+pub mod Lent
+pub mod Going
+pub mod Moving
+pub mod RunEdits
+pub mod Exchanged
