@@ -10,7 +10,7 @@ use Rattle.tl_syntax.specs.Lists.{Among}
 use Rattle.tl_syntax.proofs.ListLaws.{One-append}
 use Rattle.tl_terms.specs.Bounds.{bound_true, tuples}
 use Rattle.tl_terms.specs.Situation.{Situation}
-use Rattle.tl_world.specs.Next.{IsNext}
+use Rattle.tl_match.specs.Next.{IsNext}
 
 -- ---- the tuples of a bound, of which some are done, and what comes after one is left
 

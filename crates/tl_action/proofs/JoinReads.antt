@@ -17,7 +17,7 @@ use Rattle.tl_terms.specs.Definitions.{situation_of}
 use Rattle.tl_terms.specs.Problem.{PlainOperator, PlainProblem}
 use Rattle.tl_terms.specs.ProblemMeaning.{plain_operator}
 use Rattle.tl_terms.specs.World.{World}
-use Rattle.tl_world.specs.Next.{IsNext}
+use Rattle.tl_match.specs.Next.{IsNext}
 
 -- the rows so far are those of the tuples that are done, and the others come after the one that the reader has come to
 pub record RowsRead (p : PlainProblem) (w : World) (o : PlainOperator) (seen rest : List Bound) (e : Assignment) (vars : List Var) (b : Bound) (after : Option (List Value)) (before now : List (List Value)) : Type 0 where

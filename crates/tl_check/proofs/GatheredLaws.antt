@@ -31,7 +31,7 @@ use Rattle.tl_terms.specs.Problem.{PlainProblem}
 use Rattle.tl_terms.specs.Situation.{Situation}
 use Rattle.tl_terms.specs.World.{World}
 use Rattle.tl_rows.proofs.Lookup.{row_total}
-use Rattle.tl_world.specs.Next.{IsNext}
+use Rattle.tl_match.specs.Next.{IsNext}
 use Rattle.tl_rows.specs.Plain.{row_cmp}
 
 -- ---- the changes of one tuple

@@ -7,7 +7,7 @@ use Rattle.tl_syntax.specs.Trees.{falsum}
 use Rattle.tl_terms.specs.Pairs.{Pair}
 use Rattle.tl_terms.specs.Problem.{PlainProblem}
 use Rattle.tl_world.specs.declared.task.Task.{Task}
-use Rattle.tl_world.proofs.Matching.{set-at, set-other}
+use Rattle.tl_match.proofs.Matching.{set-at, set-other}
 use Rattle.tl_search.specs.Arrivals.{Arrives}
 use Rattle.tl_search.specs.Graphs.{walk}
 use Rattle.tl_search.specs.Kept.{AreKept}

@@ -1,16 +1,17 @@
 // The matches of patterns, from the first on or after a tuple, which need not be a match.
 ghost use Rattle.std.specs.Prelude.{◌≡◌, IfOk, IfSome};
-ghost use Rattle.tl_world.specs.Patterns.{IsLawful};
+ghost use Rattle.tl_match.specs.Patterns.{IsLawful};
 
 use crate::checks::is_true;
 use crate::stop::Stop;
 use crate::worlds::{all_names, forms_of, parts_of, values_of, world_in};
 use std::alloc::Global;
 use std::process::Abort;
+use tl_match::{Match, Part, Pattern};
 use tl_sexpr::Form;
 use tl_syntax::{Names, Value};
 use tl_tables::{column, filled, is_row};
-use tl_world::{Match, Part, Pattern, World};
+use tl_world::World;
 
 /// The symbols `a` and `b`, by the numbers that `worlds` gives them.
 const A: Value = Value::Sym(0);

@@ -12,10 +12,10 @@ use Rattle.tl_syntax.specs.declared.variable.Var.{Var}
 use Rattle.tl_syntax.specs.Assignment.{Assignment}
 use Rattle.tl_terms.specs.Situation.{Situation}
 use Rattle.tl_terms.specs.World.{World}
-use Rattle.tl_world.specs.declared.pattern.Pattern.{Pattern}
+use Rattle.tl_match.specs.declared.pattern.Pattern.{Pattern}
 use Rattle.tl_world.specs.MatchReading.{Reading, ReadsOn, IsNextBy, pattern_if}
-use Rattle.tl_world.specs.Next.{IsNext}
-use Rattle.tl_world.specs.Patterns.{IsLawful}
+use Rattle.tl_match.specs.Next.{IsNext}
+use Rattle.tl_match.specs.Patterns.{IsLawful}
 
 pub same-pattern : (b : Bool) (p : Pattern) → in_place b p ≡ pattern_if b p
 same-pattern true p = refl

@@ -1,7 +1,7 @@
 -- Frames within a longer list of values.
 use Rattle.std.proofs.Common.{◌≡◌, ◌<◌, ℕ, zero, suc, List, take, length, replicate, cond, ◌==◌, Option, None, refl, sym, ap, ◌∙◌, true, false, arith, eqb-true}
 use borrow.Author.Tests.{eqb-false}
-use Rattle.tl_world.proofs.Matching.{set-at, set-other}
+use Rattle.tl_match.proofs.Matching.{set-at, set-other}
 use Rattle.std.specs.Prelude.{slice_get, slice_set}
 use Rattle.std.proofs.lemmas.List.{length-take}
 use Rattle.std.proofs.Math.Seq.{take-set-lt}

@@ -17,9 +17,9 @@ use Rattle.tl_syntax.specs.Lists.{AtLeastOne, Among}
 use Rattle.tl_syntax.proofs.ListLaws.{Each-Among, One-over, one_out, one_in}
 use Rattle.tl_terms.specs.Bounds.{arg_value, arg_values}
 use Rattle.tl_terms.specs.Terms.{prepend}
-use Rattle.tl_world.specs.declared.pattern.Part.{Part}
-use Rattle.tl_world.specs.declared.pattern.Part.TheVariants.{Fixed, Free}
-use Rattle.tl_world.specs.Patterns.{fill, filled}
+use Rattle.tl_match.specs.declared.pattern.Part.{Part}
+use Rattle.tl_match.specs.declared.pattern.Part.TheVariants.{Fixed, Free}
+use Rattle.tl_match.specs.Patterns.{fill, filled}
 
 -- ---- the position of a variable
 

@@ -6,7 +6,7 @@ use Rattle.tl_syntax.specs.declared.variable.Arg.{Arg}
 use Rattle.tl_syntax.specs.declared.variable.Var.{Var}
 use Rattle.tl_syntax.specs.Assignment.{Assignment}
 use Rattle.tl_syntax.specs.Lists.{Among}
-use Rattle.tl_world.specs.declared.pattern.Part.{Part}
+use Rattle.tl_match.specs.declared.pattern.Part.{Part}
 
 -- the first n parts are those of the first n arguments
 pub record LeadingParts (ss : List Var) (e : Assignment) (xs : List Arg) (n : ℕ) (ps : List Part) : Type 0 where

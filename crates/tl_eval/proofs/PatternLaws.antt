@@ -18,9 +18,9 @@ use Rattle.tl_syntax.proofs.ListLaws.{Each-Among, One-over, One-append, any-iff}
 use Rattle.tl_terms.specs.Bounds.{arg_value, arg_values, fact_in, same_value, bound_true}
 use Rattle.tl_terms.specs.Terms.{prepend, place_value}
 use Rattle.tl_terms.specs.World.{World, value_at}
-use Rattle.tl_world.specs.declared.pattern.Part.{Part}
-use Rattle.tl_world.specs.declared.pattern.Pattern.{Pattern}
-use Rattle.tl_world.specs.Patterns.{filled, parts_of, is_true_of, makes_true, IsLawful}
+use Rattle.tl_match.specs.declared.pattern.Part.{Part}
+use Rattle.tl_match.specs.declared.pattern.Pattern.{Pattern}
+use Rattle.tl_match.specs.Patterns.{filled, parts_of, is_true_of, makes_true, IsLawful}
 
 -- ---- the variables stand among the arguments
 

@@ -38,7 +38,7 @@ use Rattle.tl_terms.specs.Problem.{PlainDefinition, PlainProblem}
 use Rattle.tl_terms.specs.Terms.{place_value, prepend, term_value, term_values}
 use Rattle.tl_terms.specs.Truth.{compared, defined_true, state_true}
 use Rattle.tl_terms.specs.World.{World}
-use Rattle.tl_world.specs.Next.{IsNext}
+use Rattle.tl_match.specs.Next.{IsNext}
 
 module _ (p : PlainProblem) (w : World) (n k : ℕ) (e : Assignment) where
   by_formula : (f : Formula) (t : FormulaTree) (r : Result Bool RangeNote) → tree_of_formula f ≡ t → IsTruth p w n k e t r → IsTruth p w n k e (tree_of_formula f) r

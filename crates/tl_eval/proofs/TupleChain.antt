@@ -14,10 +14,10 @@ use Rattle.tl_terms.specs.Bounds.{bound_true, tuples}
 use Rattle.tl_terms.specs.Situation.{Situation}
 use Rattle.tl_terms.proofs.Tuples.{all-tuples}
 use Rattle.tl_terms.proofs.TuplesRise.{tuples-rise}
-use Rattle.tl_world.specs.Next.{IsLater, IsNext, IsChain}
+use Rattle.tl_match.specs.Next.{IsLater, IsNext, IsChain}
 use Rattle.tl_rows.specs.Plain.{row_cmp}
-use Rattle.tl_world.proofs.Chains.{further}
-use Rattle.tl_world.proofs.Finite.{rising-chain}
+use Rattle.tl_match.proofs.Chains.{further}
+use Rattle.tl_match.proofs.Finite.{rising-chain}
 use Rattle.tl_rows.proofs.Lookup.{row_total}
 
 -- no tuple comes before itself

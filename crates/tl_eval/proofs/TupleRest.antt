@@ -15,9 +15,9 @@ use Rattle.tl_terms.specs.Definitions.{situation_of}
 use Rattle.tl_terms.specs.Problem.{PlainProblem}
 use Rattle.tl_terms.specs.Situation.{Situation}
 use Rattle.tl_terms.specs.World.{World}
-use Rattle.tl_world.specs.Next.{IsAfter, IsNext}
+use Rattle.tl_match.specs.Next.{IsAfter, IsNext}
 use Rattle.tl_rows.specs.Plain.{row_cmp}
-use Rattle.tl_world.proofs.Finite.{rising-chain}
+use Rattle.tl_match.proofs.Finite.{rising-chain}
 use Rattle.tl_eval.specs.Reading.{situation_read}
 use Rattle.tl_eval.proofs.TupleChain.{Remains, remains-none, remains-some, chain-is, tuples-remain}
 

@@ -9,10 +9,10 @@ use Rattle.tl_syntax.specs.Assignment.{Assignment, bind}
 use Rattle.tl_terms.specs.Bounds.{bound_true}
 use Rattle.tl_terms.specs.Situation.{Situation}
 use Rattle.tl_terms.specs.World.{World}
-use Rattle.tl_world.specs.declared.pattern.Match.{Match}
-use Rattle.tl_world.specs.declared.pattern.Pattern.{Pattern}
-use Rattle.tl_world.specs.Next.{IsLater, IsNext}
-use Rattle.tl_world.specs.Patterns.{makes_true, IsLawful}
+use Rattle.tl_match.specs.declared.pattern.Match.{Match}
+use Rattle.tl_match.specs.declared.pattern.Pattern.{Pattern}
+use Rattle.tl_match.specs.Next.{IsLater, IsNext}
+use Rattle.tl_match.specs.Patterns.{makes_true, IsLawful}
 
 -- two tests that agree on tuples of k values have the same next ones
 module _ (k : ℕ) (f g : List Value → Bool) (same : (t : List Value) → length t ≡ k → f t ≡ g t) where

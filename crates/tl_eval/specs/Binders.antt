@@ -8,7 +8,7 @@ use Rattle.tl_syntax.specs.declared.bound.Bound.{Bound}
 use Rattle.tl_syntax.specs.declared.value.Value.{Value}
 use Rattle.tl_syntax.specs.declared.variable.Var.{Var}
 use Rattle.tl_terms.specs.World.{World}
-use Rattle.tl_world.specs.declared.pattern.Match.{Match}
+use Rattle.tl_match.specs.declared.pattern.Match.{Match}
 use Rattle.tl_world.specs.declared.task.Task.{Task}
 
 -- of the tuples for the variables that make the bound true, it is the least one that comes after

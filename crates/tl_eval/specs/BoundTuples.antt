@@ -7,7 +7,7 @@ use Rattle.tl_syntax.specs.Assignment.{Assignment}
 use Rattle.tl_eval.specs.PatternOf.{IsPatternOf, world_read}
 use Rattle.tl_eval.specs.Reader.{IsNextTuple}
 use Rattle.tl_terms.specs.Situation.{Situation}
-use Rattle.tl_world.specs.declared.pattern.Pattern.{Pattern}
+use Rattle.tl_match.specs.declared.pattern.Pattern.{Pattern}
 use Rattle.tl_world.specs.MatchReading.{Reading}
 
 -- they are the tuples that make the bound true in the situation, where all other variables have

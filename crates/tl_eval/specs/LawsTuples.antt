@@ -7,7 +7,7 @@ use Rattle.tl_syntax.specs.Assignment.{Assignment, bind}
 use Rattle.tl_syntax.specs.BoundVariables.{OccurIn, DifferInSlot}
 use Rattle.tl_terms.specs.Bounds.{bound_true, tuples}
 use Rattle.tl_terms.specs.Situation.{Situation}
-use Rattle.tl_world.specs.Next.{IsNext, IsChain}
+use Rattle.tl_match.specs.Next.{IsNext, IsChain}
 
 -- the last of the list, or none where the list is empty
 abbrev pub IsLast : List (List Value) → Option (List Value) → Type 0

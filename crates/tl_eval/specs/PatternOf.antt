@@ -14,10 +14,10 @@ use Rattle.tl_syntax.specs.Lists.{Among}
 use Rattle.tl_terms.specs.Bounds.{bound_true}
 use Rattle.tl_terms.specs.Situation.{Situation}
 use Rattle.tl_terms.specs.World.{World}
-use Rattle.tl_world.specs.declared.pattern.Part.{Part}
-use Rattle.tl_world.specs.declared.pattern.Part.TheVariants.{Fixed, Free}
-use Rattle.tl_world.specs.declared.pattern.Pattern.{Pattern}
-use Rattle.tl_world.specs.Patterns.{IsLawful, makes_true, parts_of}
+use Rattle.tl_match.specs.declared.pattern.Part.{Part}
+use Rattle.tl_match.specs.declared.pattern.Part.TheVariants.{Fixed, Free}
+use Rattle.tl_match.specs.declared.pattern.Pattern.{Pattern}
+use Rattle.tl_match.specs.Patterns.{IsLawful, makes_true, parts_of}
 
 -- the variable at the position, where there is one, and else the known value, where there is one
 abbrev pub free_or_fixed : Option ℕ → Option Value → Option Part

@@ -9,10 +9,10 @@ use Rattle.tl_eval.specs.InPlace.{in_place}
 use Rattle.tl_eval.specs.PatternOf.{IsPatternOf}
 use Rattle.tl_terms.specs.Bounds.{bound_true}
 use Rattle.tl_terms.specs.Situation.{Situation}
-use Rattle.tl_world.specs.Next.{IsNext}
-use Rattle.tl_world.specs.declared.pattern.Match.{Match}
-use Rattle.tl_world.specs.declared.pattern.Pattern.{Pattern}
-use Rattle.tl_world.specs.Patterns.{IsLawful, tuple_in_place, tuple_of}
+use Rattle.tl_match.specs.Next.{IsNext}
+use Rattle.tl_match.specs.declared.pattern.Match.{Match}
+use Rattle.tl_match.specs.declared.pattern.Pattern.{Pattern}
+use Rattle.tl_match.specs.Patterns.{IsLawful, tuple_in_place, tuple_of}
 
 -- of the tuples that make the bound true, it is the least one that comes after the first, where
 -- that is given

@@ -12,8 +12,9 @@ use crate::Env;
 use crate::pattern_of::{no_pattern, put_pattern_of};
 use crate::tuples::world_of_bound;
 use std::marker::Model;
+use tl_match::Pattern;
 use tl_syntax::{Bound, Value, Var, Vars};
-use tl_world::{MatchReader, Pattern, Task, World};
+use tl_world::{MatchReader, Task, World};
 
 /// The pattern of a bound under a frame, made once for all its tuples.
 /// Contracts see the pattern, where each other variable of the bound has a value in the frame.
@@ -25,9 +26,9 @@ pub struct BoundPattern {
 
 impl Model for BoundPattern {
     ghost use Rattle.std.specs.Prelude.{Option, IfSome};
-    ghost use Rattle.tl_world.specs.declared.pattern.Pattern.{Pattern as PlainPattern};
+    ghost use Rattle.tl_match.specs.declared.pattern.Pattern.{Pattern as PlainPattern};
     ghost use Rattle.tl_world.specs.MatchReading.{pattern_if};
-    ghost use Rattle.tl_world.specs.Patterns.{IsLawful};
+    ghost use Rattle.tl_match.specs.Patterns.{IsLawful};
 
     ghost Value = { Option PlainPattern };
 

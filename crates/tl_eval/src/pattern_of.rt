@@ -7,8 +7,8 @@ ghost use Rattle.tl_eval.specs.PatternOf.{part_for, AreParts, IsPatternOf, PutsF
 ghost use Rattle.tl_syntax.specs.BoundVariables.{args_of, DifferInSlot, OccurIn};
 
 use crate::term_value::value_in;
+use tl_match::{Part, Pattern};
 use tl_syntax::{Arg, Bound, Value, Var};
-use tl_world::{Part, Pattern};
 
 /// The position of the variable with the slot, where there is one. It takes no memory.
 fn position_in(vars: &[Var], slot: u32) -> Option<usize>

@@ -11,8 +11,9 @@ use crate::Env;
 use crate::pattern_of::{no_pattern, put_pattern_of};
 use crate::tuples::world_of_bound;
 use std::marker::Model;
+use tl_match::{Match, Pattern};
 use tl_syntax::{Bound, Value, Var, Vars};
-use tl_world::{Match, Pattern, Task, World};
+use tl_world::{Task, World};
 
 /// A reader of the tuples that make a bound true, in lexicographic value order: each found from the
 /// one before, by a pattern that is made once.

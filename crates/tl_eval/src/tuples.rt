@@ -9,8 +9,9 @@ ghost use Rattle.tl_syntax.specs.Signature.{signature_of};
 
 use crate::pattern_of::{no_pattern, put_pattern_of};
 use crate::{Binder, Env};
+use tl_match::Match;
 use tl_syntax::{Bound, Value, Vars};
-use tl_world::{Match, Task, World};
+use tl_world::{Task, World};
 
 /// The world that a bound speaks of: the current one, that of the goal list, or that of its negated
 /// facts. It takes no memory.

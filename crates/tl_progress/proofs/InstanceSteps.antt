@@ -14,7 +14,7 @@ use Rattle.tl_terms.specs.Definitions.{situation_of}
 use Rattle.tl_terms.specs.Problem.{PlainProblem}
 use Rattle.tl_terms.specs.World.{World}
 use Rattle.tl_world.specs.MatchReading.{Reading}
-use Rattle.tl_world.specs.Next.{IsNext}
+use Rattle.tl_match.specs.Next.{IsNext}
 use Rattle.tl_progress.specs.Quantifiers.{HasStepped}
 use Rattle.tl_progress.proofs.Instances.{all_tuples, left_after, no-more, one-more, fewer-left, is-tuple}
 

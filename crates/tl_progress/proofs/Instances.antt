@@ -23,7 +23,7 @@ use Rattle.tl_terms.specs.Looked.{LookedTable, looked_in_basics, looks_of}
 use Rattle.tl_terms.specs.Operations.{Operation}
 use Rattle.tl_terms.specs.Problem.{PlainProblem}
 use Rattle.tl_terms.specs.World.{World}
-use Rattle.tl_world.specs.Next.{IsNext}
+use Rattle.tl_match.specs.Next.{IsNext}
 use Rattle.tl_eval.proofs.ArityLaws.{declared-few}
 use Rattle.tl_eval.proofs.PatternLaws.{few-variables, bound-few}
 use Rattle.tl_eval.proofs.TupleRest.{rest_after, later, all-after-none, rest-none, rest-some}

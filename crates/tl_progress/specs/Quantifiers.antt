@@ -20,9 +20,9 @@ use Rattle.tl_terms.specs.ProblemMeaning.{plain_problem}
 use Rattle.tl_terms.specs.Situation.{Situation}
 use Rattle.tl_terms.specs.World.{World}
 use Rattle.tl_world.specs.declared.task.Task.{Task}
-use Rattle.tl_world.specs.declared.pattern.Pattern.{Pattern}
+use Rattle.tl_match.specs.declared.pattern.Pattern.{Pattern}
 use Rattle.tl_world.specs.MatchReading.{Reading}
-use Rattle.tl_world.specs.Next.{IsNext}
+use Rattle.tl_match.specs.Next.{IsNext}
 
 -- the variables of a quantified formula; another formula has none
 abbrev pub vars_in : FormulaTree → List Var

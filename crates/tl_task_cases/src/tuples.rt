@@ -11,9 +11,10 @@ use crate::tasks::task_of;
 use std::alloc::Global;
 use std::process::Abort;
 use tl_eval::{Env, next_tuple};
+use tl_match::Match;
 use tl_syntax::{Bound, Vars};
 use tl_tables::{column, filled, is_row};
-use tl_world::{Match, Task};
+use tl_world::Task;
 
 /// The domain text of a row.
 const DOMAIN: &str =

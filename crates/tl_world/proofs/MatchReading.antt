@@ -2,13 +2,13 @@
 use Rattle.std.proofs.Common.{◌≡◌, ◌≤◌, ℕ, List, length, take, Bool, true, false, true≢false, ◌&&◌, Option, Some, None, refl, sym, ap, ◌∙◌, subst}
 use Rattle.tl_syntax.specs.declared.value.Value.{Value}
 use Rattle.tl_terms.specs.World.{World}
-use Rattle.tl_world.specs.declared.pattern.Match.{Match}
-use Rattle.tl_world.specs.declared.pattern.Pattern.{Pattern}
-use Rattle.tl_world.specs.Least.{HasLater, PutsNext, fits_some, above, match_in_place}
+use Rattle.tl_match.specs.declared.pattern.Match.{Match}
+use Rattle.tl_match.specs.declared.pattern.Pattern.{Pattern}
+use Rattle.tl_match.specs.Least.{HasLater, PutsNext, fits_some, above, match_in_place}
 use Rattle.tl_world.specs.MatchReading.{pattern_if, IsNextBy, GoesThrough, CanReadOn}
-use Rattle.tl_world.specs.Patterns.{IsLawful, makes_true, parts_of, tuple_in_place}
-use Rattle.tl_world.proofs.Chains.{next-in-place, size-of-next}
-use Rattle.tl_world.proofs.Least.{least-same}
+use Rattle.tl_match.specs.Patterns.{IsLawful, makes_true, parts_of, tuple_in_place}
+use Rattle.tl_match.proofs.Chains.{next-in-place, size-of-next}
+use Rattle.tl_match.proofs.Least.{least-same}
 
 -- what a reader that has rows keeps
 pub record HasRows (w : World) (has : Bool) (p : Pattern) (begun : Bool) (m : Match) (place : ℕ) (rows : List (List Value)) : Type 0 where

@@ -1,13 +1,7 @@
 pub mod View
-pub mod Places
 pub mod WorldCode
-pub mod Patterns
-pub mod Next
 pub mod Gathered
 pub mod MatchReading
-pub mod Fits
-pub mod Least
-pub mod Front
 pub mod NumberedLists
 pub mod WorldNumbers
 pub mod Moves

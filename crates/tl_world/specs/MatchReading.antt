@@ -3,12 +3,12 @@ use Rattle.std.specs.Prelude.{◌≡◌, ◌≤◌, ℕ, List, Bool, true, false
 use Rattle.tl_syntax.specs.declared.value.Value.{Value}
 use Rattle.tl_syntax.specs.Lists.{Rises}
 use Rattle.tl_terms.specs.World.{World}
-use Rattle.tl_world.specs.declared.pattern.Match.{Match}
-use Rattle.tl_world.specs.declared.pattern.Pattern.{Pattern}
-use Rattle.tl_world.specs.Front.{are_in_turn}
-use Rattle.tl_world.specs.Least.{HasLater, PutsNext, fits_some}
-use Rattle.tl_world.specs.Next.{IsNext}
-use Rattle.tl_world.specs.Patterns.{IsLawful, makes_true, parts_of}
+use Rattle.tl_match.specs.declared.pattern.Match.{Match}
+use Rattle.tl_match.specs.declared.pattern.Pattern.{Pattern}
+use Rattle.tl_match.specs.Front.{are_in_turn}
+use Rattle.tl_match.specs.Least.{HasLater, PutsNext, fits_some}
+use Rattle.tl_match.specs.Next.{IsNext}
+use Rattle.tl_match.specs.Patterns.{IsLawful, makes_true, parts_of}
 use Rattle.tl_rows.specs.Plain.{row_cmp}
 
 -- the pattern, where it counts

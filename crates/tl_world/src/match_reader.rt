@@ -1,19 +1,17 @@
 // The matches of a pattern in a world, one after another.
 ghost use Rattle.std.specs.Prelude.{◌≡◌, ◌≤◌, [], length, true, false, None, Some, IsSome, IfSome};
 ghost use Rattle.tl_syntax.specs.Lists.{Rises};
-ghost use Rattle.tl_world.specs.Front.{front, are_in_turn, IsFirstKept};
+ghost use Rattle.tl_match.specs.Front.{front, are_in_turn, IsFirstKept};
 ghost use Rattle.tl_world.specs.MatchReading.{HasLaterOf, PutsNextOf, ReadsAll, ReadsOn, pattern_if};
-ghost use Rattle.tl_world.specs.Patterns.{IsLawful, parts_of};
+ghost use Rattle.tl_match.specs.Patterns.{IsLawful, parts_of};
 ghost use Rattle.tl_rows.specs.Tables.{row_cmp};
 
-use crate::after::rows_before_near;
-use crate::by_second::is_in_second_order;
-use crate::first::put_first;
-use crate::front::are_in_turn;
+use crate::World;
 use crate::gathered::{gathered, put_tuple};
-use crate::second::Second;
-use crate::{Match, Part, Pattern, World};
 use std::marker::Model;
+use tl_match::{
+    Match, Part, Pattern, are_in_turn, is_in_second_order, put_first, rows_before_near,
+};
 use tl_rows::Runs;
 use tl_syntax::Value;
 
@@ -37,7 +35,7 @@ impl<'a> Model for MatchReader<'a> {
     ghost use Rattle.std.specs.Option.{option_map, IfSome};
     ghost use Rattle.tl_world.specs.Gathered.{HasRest};
     ghost use Rattle.tl_world.specs.MatchReading.{Reading, CanReadOn, pattern_if};
-    ghost use Rattle.tl_world.specs.Patterns.{tuple_in_place};
+    ghost use Rattle.tl_match.specs.Patterns.{tuple_in_place};
     ghost use Rattle.std.specs.Coded.{codes};
     ghost use Rattle.tl_world.specs.View.{coded_world};
 
@@ -72,6 +70,7 @@ fn put_next_from(
     ensures bound { result ≡ true → place.new ≤ length rows.now }
     ensures later { result ≡ true → HasLaterOf pattern.now true tuple.new rows.now place.new }
 {
+    let _ = tuple.room();
     let parts = &pattern.parts[..pattern.len as usize];
     match put_first(rows, parts, pattern.free, *place, &mut tuple.values) {
         Some(next) => {
@@ -126,7 +125,7 @@ fn table_of<'a>(world: &'a World, pattern: &Pattern, tuple: &Match) -> Option<In
     requires { IsLawful pattern.now }
     ensures { IfSome result (λ t. ReadsAll world.now pattern.now tuple.now t.place t.rows.now) }
 {
-    let _ = &tuple.values;
+    let _ = tuple.room();
     if pattern.place {
         return None;
     }

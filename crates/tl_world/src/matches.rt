@@ -1,12 +1,11 @@
 // The tuples that make a pattern true in a world, one after another.
 ghost use Rattle.std.specs.Option.{option_map};
 ghost use Rattle.std.specs.Prelude.{◌≡◌, true, false, IfSome};
-ghost use Rattle.tl_world.specs.Next.{IsNext, PutsNextMatch, PutsNextOf};
-ghost use Rattle.tl_world.specs.Patterns.{IsLawful, makes_true, tuple_of};
+ghost use Rattle.tl_match.specs.Next.{IsNext, PutsNextMatch, PutsNextOf};
+ghost use Rattle.tl_match.specs.Patterns.{IsLawful, makes_true, tuple_of};
 
-use crate::by_second::put_next_in_table;
-use crate::next::put_next_in_places;
-use crate::{Match, Pattern, World};
+use crate::World;
+use tl_match::{Match, Pattern, put_next_in_places, put_next_in_table};
 use tl_syntax::Value;
 
 impl World {

@@ -8,7 +8,7 @@ use Rattle.tl_eval.proofs.TupleSearch.{pattern-lawful, asked-after, found-len, f
 use Rattle.tl_syntax.specs.Signature.{signature_of}
 use Rattle.tl_terms.specs.Definitions.{situation_of}
 use Rattle.tl_terms.specs.ProblemMeaning.{plain_problem}
-use Rattle.tl_world.specs.Patterns.{tuple_of}
+use Rattle.tl_match.specs.Patterns.{tuple_of}
 use Rattle.tl_eval.proofs.tuples.next_tuple_in.Goals as goal
 
 pub put_pattern_of-requires-clause-few : goal.put_pattern_of-requires-clause-few

@@ -1,7 +1,7 @@
 use Rattle.std.proofs.Common.{◌≡◌, List, [], ◌∷◌, false, refl, sym, subst, arith}
 use Rattle.tl_syntax.specs.declared.value.Value.{Value}
 use Rattle.tl_syntax.specs.Lists.{Each}
-use Rattle.tl_world.specs.Front.{front_cmp, is_passed, IsFirstKept}
+use Rattle.tl_match.specs.Front.{front_cmp, is_passed, IsFirstKept}
 use Rattle.tl_world.proofs.match_reader.first_place.Goals as goal
 
 all-kept : (rows : List (List Value)) → Each (λ r. is_passed false (front_cmp [] r) ≡ false) rows

@@ -1,10 +1,10 @@
 use Rattle.std.proofs.Common.{◌≡◌, ℕ, ◌<◌, true, false, length-take-le, take, arith, sym, ap, ◌∙◌, subst, rules}
-use Rattle.tl_world.specs.Fits.{occurs}
-use Rattle.tl_world.specs.Front.{are_in_turn}
-use Rattle.tl_world.specs.Patterns.{parts_of, filled, is_true_of}
+use Rattle.tl_match.specs.Fits.{occurs}
+use Rattle.tl_match.specs.Front.{are_in_turn}
+use Rattle.tl_match.specs.Patterns.{parts_of, filled, is_true_of}
 use Rattle.tl_rows.specs.Plain.{row_cmp}
-use Rattle.tl_world.proofs.Truths.{fact-truth, occurs-among}
-use Rattle.tl_world.proofs.Turns.{only-later}
+use Rattle.tl_match.proofs.Truths.{fact-truth, occurs-among}
+use Rattle.tl_match.proofs.Turns.{only-later}
 use Rattle.tl_world.proofs.match_reader.table_of.Goals as goal
 
 pub returns : goal.returns
@@ -21,9 +21,9 @@ returns c =
     record {
       turn = turn;
       order = subst (λ rs. Rattle.tl_syntax.specs.Lists.Rises row_cmp rs) (sym c.runs-runs.ensures) c.in-Some.ensures.order;
-      table = λ t size. ap (λ rs. Rattle.tl_world.specs.Least.fits_some parts rs t) c.runs-runs.ensures
+      table = λ t size. ap (λ rs. Rattle.tl_match.specs.Least.fits_some parts rs t) c.runs-runs.ensures
           ∙ (fact-truth w p.name rows c.in-Some.ensures.facts parts t p.free slots size
           ∙ ap (λ b. is_true_of w b p.name (filled parts t)) (sym c.if-pattern.false));
       bound = c.first_place-place.ensures.bound;
-      later = only-later parts p.free turn each slots false (take p.free c.args.tuple.now.values) (length-take-le p.free c.args.tuple.now.values (omega (arith, c.requires.variables))) runs place c.first_place-place.ensures;
+      later = only-later parts p.free turn each slots false (take p.free c.args.tuple.now.values) (length-take-le p.free c.args.tuple.now.values (omega (arith, c.requires.variables, c.room.ensures.nine, c.room.ensures.values))) runs place c.first_place-place.ensures;
     }

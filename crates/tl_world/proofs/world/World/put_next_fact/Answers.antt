@@ -1,8 +1,8 @@
 use Rattle.std.proofs.Common.{false, ap, ◌&&◌}
-use Rattle.tl_world.specs.Least.{IsLeast, fits_some, above, match_in_place}
-use Rattle.tl_world.specs.Patterns.{parts_of, filled, is_true_of}
-use Rattle.tl_world.proofs.Least.{least-same}
-use Rattle.tl_world.proofs.Truths.{fact-truth, occurs-among}
+use Rattle.tl_match.specs.Least.{IsLeast, fits_some, above, match_in_place}
+use Rattle.tl_match.specs.Patterns.{parts_of, filled, is_true_of}
+use Rattle.tl_match.proofs.Least.{least-same}
+use Rattle.tl_match.proofs.Truths.{fact-truth, occurs-among}
 use Rattle.tl_world.proofs.world.World.put_next_fact.Goals as goal
 
 pub put_next_in_table-requires-clause-each : goal.put_next_in_table-requires-clause-each

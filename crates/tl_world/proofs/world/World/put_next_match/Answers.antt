@@ -1,7 +1,7 @@
 use Rattle.std.proofs.Common.{sym, subst, ◌&&◌}
-use Rattle.tl_world.specs.Least.{IsLeast, above, match_in_place}
-use Rattle.tl_world.specs.Patterns.{makes_true, parts_of, filled, is_true_of}
-use Rattle.tl_world.proofs.Chains.{next-in-place, size-of-next}
+use Rattle.tl_match.specs.Least.{IsLeast, above, match_in_place}
+use Rattle.tl_match.specs.Patterns.{makes_true, parts_of, filled, is_true_of}
+use Rattle.tl_match.proofs.Chains.{next-in-place, size-of-next}
 use Rattle.tl_world.proofs.world.World.put_next_match.Goals as goal
 
 pub returns-then-pattern-clause-next : goal.returns-then-pattern-clause-next

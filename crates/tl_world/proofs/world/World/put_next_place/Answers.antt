@@ -1,11 +1,11 @@
 use Rattle.std.proofs.Common.{◌-◌, true, map, length, take, ap, ◌&&◌, rules}
 use Rattle.std.specs.Prelude.{slice_get}
 use Rattle.tl_terms.specs.Bounds.{same_value}
-use Rattle.tl_world.specs.Least.{IsLeast, fits_some, above, match_in_place}
-use Rattle.tl_world.specs.Patterns.{parts_of, filled, is_true_of}
+use Rattle.tl_match.specs.Least.{IsLeast, fits_some, above, match_in_place}
+use Rattle.tl_match.specs.Patterns.{parts_of, filled, is_true_of}
 use Rattle.tl_rows.specs.Tables.{whole_row}
-use Rattle.tl_world.proofs.Least.{least-same}
-use Rattle.tl_world.proofs.Truths.{place-truth, occurs-among}
+use Rattle.tl_match.proofs.Least.{least-same}
+use Rattle.tl_match.proofs.Truths.{place-truth, occurs-among}
 use Rattle.tl_world.proofs.world.World.put_next_place.Goals as goal
 
 pub put_next_in_places-requires-clause-each : goal.put_next_in_places-requires-clause-each

@@ -1,0 +1,17 @@
+pub mod Matching
+pub mod Least
+pub mod Filled
+pub mod Fronts
+pub mod Leading
+pub mod Halves
+pub mod RowsAlike
+pub mod Turns
+pub mod Later
+pub mod Putting
+pub mod Snoc
+pub mod Skipping
+pub mod WholeRows
+pub mod Chains
+pub mod Truths
+pub mod Finite
+pub mod ExchangedParts

@@ -1,0 +1,16 @@
+use Rattle.std.proofs.Common.{◌≡◌, ◌≤◌, ◌-◌, length, drop}
+use Rattle.tl_match.specs.Fits.{fits_all}
+use Rattle.tl_match.specs.Front.{seen_in, are_in_turn}
+use Rattle.tl_match.proofs.after.fits_in_turn.Given as goal
+
+abbrev pub invariant-loop-k : goal.invariant-loop-k
+invariant-loop-k l = record {
+  within : l.k ≤ length l.parts;
+  seen_within : l.seen ≤ l.k;
+  left : fits_all l.parts l.row l.tuple ≡ fits_all (drop l.k l.parts) (drop l.k l.row) l.tuple;
+  count : seen_in 0 l.parts ≡ seen_in l.seen (drop l.k l.parts);
+  turn : are_in_turn 0 l.parts ≡ are_in_turn l.seen (drop l.k l.parts);
+}
+
+abbrev pub decreases-loop-k : goal.decreases-loop-k
+decreases-loop-k l = length l.parts - l.k

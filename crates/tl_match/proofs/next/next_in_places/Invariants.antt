@@ -1,0 +1,14 @@
+use Rattle.std.proofs.Common.{◌≡◌, ◌≤◌, ◌-◌, length, map, take, ◌&&◌}
+use Rattle.tl_rows.specs.Tables.{whole_row}
+use Rattle.tl_match.specs.Least.{IsLeast, fits_some, above}
+use Rattle.tl_match.proofs.next.next_in_places.Given as goal
+
+abbrev pub invariant-loop-k : goal.invariant-loop-k
+invariant-loop-k l = record {
+  within : l.k ≤ length l.rows;
+  leading : l.lead ≡ take (length l.parts - 1) l.parts;
+  least : IsLeast l.free (λ t. fits_some l.parts (take l.k (map whole_row l.rows)) t && above l.after l.free t) l.best;
+}
+
+abbrev pub decreases-loop-k : goal.decreases-loop-k
+decreases-loop-k l = length l.rows - l.k

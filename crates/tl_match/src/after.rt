@@ -1,0 +1,231 @@
+// How many rows of a table come before those with the tuples after one.
+ghost use Rattle.std.specs.Prelude.{◌≡◌, ◌<◌, ◌≤◌, ◌+◌, ◌^◌, ℕ, [], length, slice_get, true, false, IfSome};
+ghost use Rattle.tl_syntax.specs.Lists.{Rises};
+ghost use Rattle.tl_match.specs.Fits.{fits_at, fits_all, fits_before, is_value, occurs};
+ghost use Rattle.tl_match.specs.Front.{front, is_passed, seen_after, seen_in, is_in_turn, are_in_turn, AreKept, ArePassed, IsFirstKept};
+ghost use Rattle.tl_match.specs.Least.{HasLater};
+ghost use Rattle.tl_rows.specs.Tables.{row_cmp};
+
+use crate::Part;
+use crate::front::{are_in_turn, order_of_front, value_of_part};
+use std::cmp::Ordering;
+use tl_rows::{Difference, Runs};
+use tl_syntax::Value;
+
+/// Whether a row to which the front stands so is passed over, with those that tie or without them.
+fn is_passed(ties: bool, order: Ordering) -> bool
+    ensures { result ≡ is_passed ties order }
+{
+    match order {
+        Ordering::Less => false,
+        Ordering::Equal => ties,
+        Ordering::Greater => true,
+    }
+}
+
+/// Whether the last row before the place is passed over, or there is none.
+fn passes_before(rows: &Runs, lead: &[Part], known: &[Value], ties: bool, at: usize) -> bool
+    requires order { Rises row_cmp rows.now }
+    requires bound { at ≤ length rows.now }
+    ensures { result ≡ true → ArePassed ties (front 0 lead.now known.now) rows.now at }
+{
+    at == 0 || is_passed(ties, order_of_front(lead, known, rows.row(at - 1)))
+}
+
+/// Whether the row at the place is not passed over, or there is none.
+fn keeps_from(rows: &Runs, lead: &[Part], known: &[Value], ties: bool, at: usize) -> bool
+    requires order { Rises row_cmp rows.now }
+    requires bound { at ≤ length rows.now }
+    ensures { result ≡ true → AreKept ties (front 0 lead.now known.now) rows.now at }
+{
+    at == rows.len() || !is_passed(ties, order_of_front(lead, known, rows.row(at)))
+}
+
+/// How many rows come before the first whose leading values are at least the known ones of the
+/// parts, or with `ties` exceed them, found by halves.
+pub(crate) fn rows_before(rows: &Runs, lead: &[Part], known: &[Value], ties: bool) -> usize
+    requires { Rises row_cmp rows.now }
+    ensures { IsFirstKept ties (front 0 lead.now known.now) rows.now result }
+{
+    let mut low = 0;
+    let mut high = rows.len();
+    while low < high {
+        let middle = low + (high - low) / 2;
+        if is_passed(ties, order_of_front(lead, known, rows.row(middle))) {
+            low = middle + 1;
+        } else {
+            high = middle;
+        }
+    }
+    low
+}
+
+/// How many rows come before the first whose leading values are at least the fixed ones of the
+/// parts. They are counted by halves where `near` is another number.
+pub fn rows_before_near(rows: &Runs, lead: &[Part], near: usize) -> usize
+    requires { Rises row_cmp rows.now }
+    ensures { IsFirstKept false (front 0 lead.now []) rows.now result }
+{
+    if near <= rows.len()
+        && keeps_from(rows, lead, &[], false, near)
+        && passes_before(rows, lead, &[], false, near)
+    {
+        near
+    } else {
+        rows_before(rows, lead, &[], false)
+    }
+}
+
+/// How many first variables came before what follows the part, where it is the value under the
+/// tuple's values, and is fixed, or one of the first variables, of which `seen` came before, or the
+/// next one.
+pub(crate) fn after_part(part: Part, v: Value, seen: usize, tuple: &[Value]) -> Option<usize>
+    requires { seen + 1 < 2 ^ 64 }
+    ensures fits { IfSome result (λ _. fits_at part v tuple.now ≡ true) }
+    ensures turn { IfSome result (λ _. is_in_turn seen part ≡ true) }
+    ensures seen { IfSome result (λ next. next ≡ seen_after seen part) }
+{
+    match part {
+        Part::Fixed(u) => if u == v { Some(seen) } else { None },
+        Part::Free(n) => {
+            let n = n as usize;
+            if n > seen || !is_at(tuple, n, v) {
+                None
+            } else if n == seen {
+                Some(seen + 1)
+            } else {
+                Some(seen)
+            }
+        }
+    }
+}
+
+/// Whether the tuple has the value at place `n`.
+fn is_at(tuple: &[Value], n: usize, v: Value) -> bool
+    ensures { result ≡ is_value (slice_get tuple.now n) v }
+{
+    match tuple.get(n) {
+        Some(x) => *x == v,
+        None => false,
+    }
+}
+
+/// How many first variables the parts have, where the row is the parts with the tuple's values put
+/// in, and the variables first stand in the order of their numbers.
+#[inline(always)]
+pub(crate) fn fits_in_turn(parts: &[Part], row: &[Value], tuple: &[Value]) -> Option<usize>
+    ensures fits { IfSome result (λ _. fits_all parts.now row.now tuple.now ≡ true) }
+    ensures turn { IfSome result (λ _. are_in_turn 0 parts.now ≡ true) }
+    ensures seen { IfSome result (λ seen. seen ≡ seen_in 0 parts.now) }
+    ensures few { IfSome result (λ seen. seen ≤ length parts.now) }
+{
+    if parts.len() != row.len() {
+        return None;
+    }
+    let mut seen = 0;
+    let mut k = 0;
+    while k < parts.len() {
+        match after_part(parts[k], row[k], seen, tuple) {
+            Some(next) => seen = next,
+            None => return None,
+        }
+        k += 1;
+    }
+    Some(seen)
+}
+
+/// Whether the row before the place is the parts with the tuple's values put in, and the variables
+/// first stand in the order of their numbers.
+#[inline(always)]
+fn is_after_row(rows: &Runs, parts: &[Part], tuple: &[Value], at: usize) -> bool
+    ensures bound { result ≡ true → at ≤ length rows.now }
+    ensures some { result ≡ true → 1 ≤ at }
+    ensures row { result ≡ true → fits_before parts.now rows.now at tuple.now ≡ true }
+    ensures turn { result ≡ true → are_in_turn 0 parts.now ≡ true }
+{
+    let Some(k) = at.checked_sub(1) else {
+        return false;
+    };
+    k < rows.len() && fits_in_turn(parts, rows.row(k), tuple).is_some()
+}
+
+/// How many rows come before those with the tuples after that in place, or with all tuples where
+/// none is. None where the variables do not first stand in the order of their numbers.
+///
+/// They are looked for where `near` is another number.
+pub(crate) fn rows_up_to(
+    rows: &Runs,
+    parts: &[Part],
+    begun: bool,
+    tuple: &[Value],
+    near: usize,
+) -> Option<usize>
+    requires each { (n : ℕ) → n < length tuple.now → occurs n parts.now ≡ true }
+    requires slots { (n : ℕ) → occurs n parts.now ≡ true → n < length tuple.now }
+    requires order { Rises row_cmp rows.now }
+    ensures turn { IfSome result (λ _. are_in_turn 0 parts.now ≡ true) }
+    ensures bound { IfSome result (λ i. i ≤ length rows.now) }
+    ensures later { IfSome result (λ i. HasLater parts.now begun tuple.now rows.now i) }
+{
+    if begun && is_after_row(rows, parts, tuple, near) {
+        return Some(near);
+    }
+    if are_in_turn(parts) {
+        Some(look_up_to(rows, parts, begun, tuple, near))
+    } else {
+        None
+    }
+}
+
+/// A guess for the place after the row with the tuple's values.
+#[inline(always)]
+fn guess_after(rows: &Runs, parts: &[Part], tuple: &[Value]) -> usize {
+    let count = rows.len();
+    if count == 0 {
+        return 0;
+    }
+    let Some(apart) = Difference::of(rows.row(0), rows.row(count - 1)) else {
+        return 1;
+    };
+    let part = parts.get(apart.column).copied();
+    match part.and_then(|p| value_of_part(p, tuple.len(), tuple)) {
+        Some(v) => apart.steps_to(v, count - 1).saturating_add(1),
+        None => 0,
+    }
+}
+
+/// How many rows come before those with the tuples after that in place. They are counted by halves
+/// where it is not the number that is guessed.
+fn rows_with(rows: &Runs, parts: &[Part], tuple: &[Value]) -> usize
+    requires each { (n : ℕ) → n < length tuple.now → occurs n parts.now ≡ true }
+    requires slots { (n : ℕ) → occurs n parts.now ≡ true → n < length tuple.now }
+    requires turn { are_in_turn 0 parts.now ≡ true }
+    requires order { Rises row_cmp rows.now }
+    ensures bound { result ≤ length rows.now }
+    ensures later { HasLater parts.now true tuple.now rows.now result }
+{
+    let guess = guess_after(rows, parts, tuple);
+    if is_after_row(rows, parts, tuple, guess) {
+        guess
+    } else {
+        rows_before(rows, parts, tuple, true)
+    }
+}
+
+/// How many rows come before those with the tuples after that in place, or before all tuples where
+/// none is. `near` is a guess for the latter.
+#[inline(never)]
+fn look_up_to(rows: &Runs, parts: &[Part], begun: bool, tuple: &[Value], near: usize) -> usize
+    requires each { (n : ℕ) → n < length tuple.now → occurs n parts.now ≡ true }
+    requires slots { (n : ℕ) → occurs n parts.now ≡ true → n < length tuple.now }
+    requires turn { are_in_turn 0 parts.now ≡ true }
+    requires order { Rises row_cmp rows.now }
+    ensures bound { result ≤ length rows.now }
+    ensures later { HasLater parts.now begun tuple.now rows.now result }
+{
+    if begun {
+        rows_with(rows, parts, tuple)
+    } else {
+        rows_before_near(rows, parts, near)
+    }
+}

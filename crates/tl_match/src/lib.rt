@@ -1,0 +1,19 @@
+//! Patterns of facts and of places, and the tuples that make them a row of a table.
+#![tactic(auto)]
+
+mod after;
+mod by_second;
+mod first;
+mod first_place;
+mod front;
+pub mod laws;
+mod next;
+mod pattern;
+mod row_match;
+
+pub use after::rows_before_near;
+pub use by_second::{is_in_second_order, put_next_in_table};
+pub use first::put_first;
+pub use front::are_in_turn;
+pub use next::put_next_in_places;
+pub use pattern::{Match, Part, Pattern};
