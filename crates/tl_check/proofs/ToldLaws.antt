@@ -16,9 +16,8 @@ use Rattle.tl_syntax.specs.Lists.{Among}
 use Rattle.tl_syntax.proofs.Plain.{fact-tells}
 use Rattle.tl_syntax.proofs.TotalOrders.{key_total}
 use Rattle.tl_terms.specs.World.{World, has_fact}
-use Rattle.tl_world.specs.Unchanged.{lists_fact}
-use Rattle.tl_world.proofs.Orders.{contains-all}
-use Rattle.tl_world.proofs.Unchanged.{contains-without, key-is}
+use Rattle.tl_world.specs.Edits.{lists_fact}
+use Rattle.tl_world.proofs.Orders.{contains-all, contains-without, key-is}
 
 -- ---- items of a list that are passed
 

@@ -31,7 +31,7 @@ use Rattle.tl_terms.specs.Definitions.{situation_of}
 use Rattle.tl_terms.specs.Problem.{PlainProblem}
 use Rattle.tl_terms.specs.Situation.{Situation}
 use Rattle.tl_terms.specs.World.{World}
-use Rattle.tl_world.specs.Next.{IsNext}
+use Rattle.tl_match.specs.Next.{IsNext}
 
 -- ---- the tuples in one world, as they are read
 

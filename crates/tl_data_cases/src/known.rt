@@ -5,9 +5,10 @@ use crate::stop::Stop;
 use crate::worlds::{Said, all_names, said_in, world_in};
 use std::alloc::Global;
 use std::process::Abort;
+use tl_known::Worlds;
 use tl_syntax::{Names, NoMemory};
 use tl_tables::{column, is_row};
-use tl_world::{World, Worlds};
+use tl_world::World;
 
 /// Rows of a world, facts that are deleted, facts that are added, places that are set, another
 /// world, and the number that the world after the changes has: 0, 1, or 2 for one that is neither

@@ -2,7 +2,6 @@ pub mod Matching
 pub mod Least
 pub mod Filled
 pub mod Fronts
-pub mod Leading
 pub mod Halves
 pub mod RowsAlike
 pub mod Turns

@@ -43,7 +43,7 @@ fn keeps_from(rows: &Runs, lead: &[Part], known: &[Value], ties: bool, at: usize
 
 /// How many rows come before the first whose leading values are at least the known ones of the
 /// parts, or with `ties` exceed them, found by halves.
-pub(crate) fn rows_before(rows: &Runs, lead: &[Part], known: &[Value], ties: bool) -> usize
+pub fn rows_before(rows: &Runs, lead: &[Part], known: &[Value], ties: bool) -> usize
     requires { Rises row_cmp rows.now }
     ensures { IsFirstKept ties (front 0 lead.now known.now) rows.now result }
 {

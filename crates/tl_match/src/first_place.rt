@@ -17,7 +17,7 @@ use tl_syntax::Value;
 
 /// How many places come before the first whose leading arguments are at least the known ones of the
 /// parts, found by halves.
-pub(crate) fn places_before(rows: &PlaceRows, lead: &[Part], known: &[Value]) -> usize
+pub fn places_before(rows: &PlaceRows, lead: &[Part], known: &[Value]) -> usize
     requires { Rises row_cmp (map (λ r. r.args) rows.now) }
     ensures bound { result ≤ length rows.now }
     ensures before { ArePlacesPassed (front 0 lead.now known.now) rows.now result }

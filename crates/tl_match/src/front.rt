@@ -65,7 +65,7 @@ pub fn are_in_turn(parts: &[Part]) -> bool
 
 /// How the values of the leading parts, as far as they are fixed or known in turn, stand to as many
 /// leading values of the row.
-pub(crate) fn order_of_front(lead: &[Part], known: &[Value], row: &[Value]) -> Ordering
+pub fn order_of_front(lead: &[Part], known: &[Value], row: &[Value]) -> Ordering
     ensures { result ≡ front_cmp (front 0 lead.now known.now) row.now }
 {
     let mut seen = 0;

@@ -11,9 +11,11 @@ mod next;
 mod pattern;
 mod row_match;
 
-pub use after::rows_before_near;
+pub use after::{rows_before, rows_before_near};
 pub use by_second::{is_in_second_order, put_next_in_table};
 pub use first::put_first;
-pub use front::are_in_turn;
+pub use first_place::places_before;
+pub use front::{are_in_turn, order_of_front};
 pub use next::put_next_in_places;
 pub use pattern::{Match, Part, Pattern};
+pub use row_match::{match_place, match_row};

@@ -56,7 +56,7 @@ fn gather(parts: &[Part], row: &[Value]) -> [Value; 9]
 }
 
 /// The tuple of `free` values that makes the parts the row, where there is one.
-pub(crate) fn match_row(parts: &[Part], free: u32, row: &[Value]) -> Option<Match>
+pub fn match_row(parts: &[Part], free: u32, row: &[Value]) -> Option<Match>
     requires few { free ≤ 9 }
     requires each { (n : ℕ) → n < free → occurs n parts.now ≡ true }
     ensures { IsMatch parts.now row.now free result }
@@ -75,7 +75,7 @@ pub(crate) fn match_row(parts: &[Part], free: u32, row: &[Value]) -> Option<Matc
 
 /// The tuple of `free` values that makes the parts the arguments and then the value of the place,
 /// where there is one.
-pub(crate) fn match_place(parts: &[Part], free: u32, row: &Place<'_>) -> Option<Match>
+pub fn match_place(parts: &[Part], free: u32, row: &Place<'_>) -> Option<Match>
     requires few { free ≤ 9 }
     requires each { (n : ℕ) → n < free → occurs n parts.now ≡ true }
     requires short { length parts.now ≤ 9 }

@@ -28,4 +28,6 @@ pub use row_search::{find_in, find_near};
 pub use rows::{Rows, code_of_row, place_left, share_rows};
 pub use runs::{Runs, find_row};
 pub use same_row::is_same_row;
+pub use second::Second;
+pub use second_made::in_order;
 pub use table::{Place, PlaceRow, PlaceRows};

@@ -71,7 +71,7 @@ fn moved_second(
 
 impl Second {
     /// No second order is kept. It takes no memory.
-    pub(crate) fn none() -> Second
+    pub fn none() -> Second
         ensures { result ≡ None }
     {
         Second { rows: None }
@@ -87,7 +87,7 @@ impl Second {
 
     /// The exchanged rows, where they are kept.
     #[inline]
-    pub(crate) fn rows(&self) -> Option<&Runs>
+    pub fn rows(&self) -> Option<&Runs>
         ensures some { IfSome result (λ rows. self.now ≡ Some rows.now) }
         ensures none { IfNone result (self.now ≡ None) }
     {

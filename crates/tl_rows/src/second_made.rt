@@ -59,7 +59,7 @@ fn is_in_turn(rows: &[Values], k: usize) -> bool
 
 /// The rows as runs, where each comes after the one before it, and else nothing. The last rows are
 /// a run too, which later copies share.
-pub(crate) fn in_order(alloc: Global, rows: &[Values]) -> Result<Second, NoMemory>
+pub fn in_order(alloc: Global, rows: &[Values]) -> Result<Second, NoMemory>
     ensures order { IfOk result (λ s. IfSome s (Rises row_cmp)) }
     ensures rows { IfOk result (λ s. IfSome s (λ all. all ≡ rows.now)) }
 {

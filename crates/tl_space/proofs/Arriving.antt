@@ -34,7 +34,7 @@ use Rattle.tl_space.specs.Inner.{node_in, nodes_in, arriving_in, IsLabelIn, AreN
 use Rattle.tl_space.specs.Kept.{world_at, node_at, path_at, paths_of}
 use Rattle.tl_space.specs.Remembered.{pair_in_at, IsKnown}
 use Rattle.tl_space.specs.Spaces.{problem_of, kept_of}
-use Rattle.tl_world.specs.WorldNumbers.{worlds_in}
+use Rattle.tl_known.specs.WorldNumbers.{worlds_in}
 use Rattle.tl_space.proofs.Growing.{kept-get, world-stays}
 use Rattle.tl_space.proofs.Keeping.{known-arrives}
 use Rattle.tl_space.proofs.SpaceLaws.{world-at, tree-is, keeps-problem, keeps-kept, keeps-trans, numbers-later, node-later, nodes-later, arriving-later}

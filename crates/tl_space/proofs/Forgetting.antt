@@ -9,9 +9,9 @@ use Rattle.tl_terms.specs.NamedWorlds.{WorldIsNamed}
 use Rattle.tl_terms.specs.Pairs.{Pair}
 use Rattle.tl_terms.specs.Problem.{PlainProblem}
 use Rattle.tl_terms.specs.World.{World}
-use Rattle.tl_world.specs.declared.worlds.Worlds.{Worlds}
-use Rattle.tl_world.specs.NumberedLists.{Stay, IsAdded}
-use Rattle.tl_world.specs.WorldNumbers.{worlds_in}
+use Rattle.tl_known.specs.declared.worlds.Worlds.{Worlds}
+use Rattle.tl_known.specs.NumberedLists.{Stay, IsAdded}
+use Rattle.tl_known.specs.WorldNumbers.{worlds_in}
 use Rattle.tl_nodes.specs.NodeTrees.{tree_at}
 use Rattle.tl_nodes.specs.Numbers.{trees}
 use Rattle.tl_progress.specs.declared.residuals.Residuals.{Residuals}

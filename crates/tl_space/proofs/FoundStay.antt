@@ -12,7 +12,7 @@ use Rattle.tl_progress.specs.KeptResiduals.{found_in, StaysElsewhere}
 use Rattle.tl_space.specs.Kept.{world_at}
 use Rattle.tl_space.specs.Remembered.{AreFound}
 use Rattle.tl_space.proofs.Growing.{stay-longer, world-stays, tree-stays}
-use Rattle.tl_world.specs.NumberedLists.{Stay}
+use Rattle.tl_known.specs.NumberedLists.{Stay}
 
 module _ (p : PlainProblem) where
   -- worlds and trees that stay

@@ -24,7 +24,7 @@ use Rattle.tl_space.specs.declared.numbers.Numbers.{Numbers}
 use Rattle.tl_space.specs.declared.numbers.Met.{Met}
 use Rattle.tl_space.specs.declared.numbers.Met.TheVariants as met
 use Rattle.tl_space.specs.Kept.{world_at, node_at, nodes_at, path_by, paths_of, kept_over, IsLabel, AreNumbers, ComeFromEarlier, BeginsEmpty, AreWalks, IsNamedMet, MayMeet, AreKeptBy}
-use Rattle.tl_world.specs.NumberedLists.{Stay, IsOnce, IsAdded}
+use Rattle.tl_known.specs.NumberedLists.{Stay, IsOnce, IsAdded}
 
 -- ---- the lists
 

@@ -6,7 +6,7 @@ use borrow.Author.Tests.{ltb-true}
 use Rattle.indexmap.specs.IndexSet.{insert_key}
 use Rattle.tl_syntax.proofs.Plain.{Tells}
 use Rattle.tl_search.proofs.ListLaws.{get-either}
-use Rattle.tl_world.proofs.Numbering.{stored}
+use Rattle.tl_known.proofs.Numbering.{stored}
 
 module _ {K : Type 0} (eq : K → K → Bool) (tells : Tells eq) where
   pub pushed : (ks ls : List K) (x : K) → ls ≡ insert_key eq ks x → list_any (eq x) ks ≡ false → ls ≡ ks ++ x ∷ []

@@ -25,7 +25,7 @@ use Rattle.tl_space.specs.Inner.{node_in, KeepsPairs}
 use Rattle.tl_space.specs.Kept.{world_at, node_at, paths_of}
 use Rattle.tl_space.proofs.Growing.{kept-get}
 use Rattle.tl_space.specs.Spaces.{problem_of, name_count, kept_of}
-use Rattle.tl_world.specs.WorldNumbers.{worlds_in}
+use Rattle.tl_known.specs.WorldNumbers.{worlds_in}
 use Rattle.tl_space.proofs.SpaceLaws.{world-at, world-of, keeps-names}
 
 -- the pair of numbers of which the world was read

@@ -27,10 +27,10 @@ use Rattle.tl_space.specs.declared.space.Space.{Space}
 use Rattle.tl_space.specs.Entries.{HasOneMore}
 use Rattle.tl_space.specs.Inner.{node_in, nodes_in, arriving_in, AreNumbersIn, IsKnownIn}
 use Rattle.tl_space.specs.Kept.{node_at, nodes_at, path_at, path_by, paths_of, kept_over, IsNamedMet, MayMeet, AreKeptBy}
-use Rattle.tl_world.specs.NumberedLists.{Stay}
+use Rattle.tl_known.specs.NumberedLists.{Stay}
 use Rattle.tl_space.specs.Remembered.{pair_in_at, IsKnown, IsRemembered, AreRemembered}
 use Rattle.tl_space.specs.Spaces.{problem_of, name_count, kept_of, labels_of}
-use Rattle.tl_world.specs.WorldNumbers.{worlds_in}
+use Rattle.tl_known.specs.WorldNumbers.{worlds_in}
 use Rattle.tl_space.proofs.Growing.{kept-at, kept-with, kept-by-more, empty-length}
 use Rattle.tl_space.proofs.Remembering.{nodes-more, all-remembered-more, each-more}
 use Rattle.tl_space.proofs.SpaceLaws.{lengths, count}

@@ -12,7 +12,7 @@ use Rattle.tl_space.specs.declared.numbers.Met.TheVariants as met
 use Rattle.tl_space.specs.declared.way.Way.{Way}
 use Rattle.tl_space.specs.declared.way.Way.TheVariants as way
 use Rattle.tl_space.specs.Ways.{action_at, met_by, mets_of, IsWay}
-use Rattle.tl_world.specs.NumberedLists.{Stay}
+use Rattle.tl_known.specs.NumberedLists.{Stay}
 
 module _ (us bs : List Action) (stay : Stay us bs) where
   -- a number keeps its action

@@ -13,7 +13,7 @@ use Rattle.tl_space.specs.declared.numbers.Met.TheVariants as met
 use Rattle.tl_space.specs.declared.space.Space.{Space}
 use Rattle.tl_space.specs.Kept.{path_at, path_by, paths_of, IsNamedMet}
 use Rattle.tl_space.specs.Spaces.{name_count, kept_of}
-use Rattle.tl_world.specs.WorldNumbers.{worlds_in}
+use Rattle.tl_known.specs.WorldNumbers.{worlds_in}
 use Rattle.tl_space.proofs.Growing.{kept-get, paths-snoc, each-more}
 
 each-at : {A : Type 0} (P : A → Type 0) (xs : List A) (i : ℕ) (d : A) → Each P xs → P d → P (slice_index_or xs i d)

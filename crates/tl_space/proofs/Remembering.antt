@@ -18,7 +18,7 @@ use Rattle.tl_search.proofs.ListLaws.{get-old}
 use Rattle.tl_space.specs.declared.numbers.Numbers.{Numbers}
 use Rattle.tl_space.specs.Entries.{HasOneMore}
 use Rattle.tl_space.specs.Kept.{node_at, nodes_at}
-use Rattle.tl_world.specs.NumberedLists.{Stay}
+use Rattle.tl_known.specs.NumberedLists.{Stay}
 use Rattle.tl_space.specs.Remembered.{pair_in_at, IsKnown, IsRemembered, AreRemembered}
 use Rattle.tl_space.proofs.Growing.{stay-longer, world-stays, tree-stays, nodes-stay, IsGiven, AreGiven}
 

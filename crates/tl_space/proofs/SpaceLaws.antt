@@ -21,10 +21,10 @@ use Rattle.tl_space.specs.declared.numbers.Numbers.{Numbers}
 use Rattle.tl_space.specs.declared.space.Space.{Space}
 use Rattle.tl_space.specs.Inner.{node_in, nodes_in, arriving_in, IsLabelIn, AreNumbersIn, KeepsPairs}
 use Rattle.tl_space.specs.Kept.{world_at, node_at, nodes_at, paths_of, kept_over, IsLabel, AreNumbers, AreKeptBy}
-use Rattle.tl_world.specs.NumberedLists.{Stay}
+use Rattle.tl_known.specs.NumberedLists.{Stay}
 use Rattle.tl_space.specs.Remembered.{pair_in_at, AreRemembered}
 use Rattle.tl_space.specs.Spaces.{problem_of, name_count, kept_of, labels_of, Grows}
-use Rattle.tl_world.specs.WorldNumbers.{worlds_in}
+use Rattle.tl_known.specs.WorldNumbers.{worlds_in}
 use Rattle.tl_space.proofs.Growing.{IsGiven, AreGiven, kept-length, kept-get, kept-stays, label-stays, numbers-stay, node-stays, nodes-stay, kept-by-stays, are-given, are-kept, paths-length}
 use Rattle.tl_space.proofs.Remembering.{arriving-stays, all-remembered-stay}
 

@@ -27,10 +27,10 @@ use Rattle.tl_space.specs.declared.numbers.Met.{Met}
 use Rattle.tl_space.specs.declared.numbers.Numbers.{Numbers}
 use Rattle.tl_space.specs.declared.space.Space.{Space}
 use Rattle.tl_space.specs.Kept.{world_at, node_at, nodes_at, path_at, path_by, paths_of, IsLabel, AreNumbers}
-use Rattle.tl_world.specs.NumberedLists.{Stay}
+use Rattle.tl_known.specs.NumberedLists.{Stay}
 use Rattle.tl_space.specs.Remembered.{pair_in_at, IsKnown}
 use Rattle.tl_space.specs.Spaces.{problem_of, name_count, kept_of}
-use Rattle.tl_world.specs.WorldNumbers.{worlds_in}
+use Rattle.tl_known.specs.WorldNumbers.{worlds_in}
 
 -- the pair of these numbers
 abbrev pub node_in : Space → Numbers → Pair

@@ -16,7 +16,7 @@ use Rattle.tl_search.specs.KeptPairs.{KeptPair}
 use Rattle.tl_search.specs.Graphs.{walk}
 use Rattle.tl_search.specs.PairGraph.{pair_graph}
 use Rattle.tl_action.specs.Actions.{ArgumentsAreNamed}
-use Rattle.tl_world.specs.NumberedLists.{IsOnce}
+use Rattle.tl_known.specs.NumberedLists.{IsOnce}
 use Rattle.tl_space.specs.declared.numbers.Numbers.{Numbers}
 use Rattle.tl_space.specs.declared.numbers.Met.{Met}
 use Rattle.tl_space.specs.declared.numbers.Met.TheVariants as met

@@ -7,8 +7,8 @@ use Rattle.tl_nodes.specs.Numbers.{trees}
 use Rattle.tl_search.specs.KeptPairs.{KeptPair}
 use Rattle.tl_space.specs.declared.space.Space.{Space}
 use Rattle.tl_space.specs.Kept.{kept_over, paths_of}
-use Rattle.tl_world.specs.NumberedLists.{Stay}
-use Rattle.tl_world.specs.WorldNumbers.{worlds_in}
+use Rattle.tl_known.specs.NumberedLists.{Stay}
+use Rattle.tl_known.specs.WorldNumbers.{worlds_in}
 
 -- the task
 abbrev pub task_of : Space → Task

@@ -5,7 +5,7 @@ ghost use Rattle.tl_nodes.specs.Numbers.{trees};
 ghost use Rattle.tl_space.specs.Kept.{AreKeptBy};
 ghost use Rattle.tl_space.specs.KeptOnce.{kept-prop, all-remembered-prop, found-prop};
 ghost use Rattle.tl_space.specs.Remembered.{AreFound, AreRemembered};
-ghost use Rattle.tl_world.specs.WorldNumbers.{worlds_in};
+ghost use Rattle.tl_known.specs.WorldNumbers.{worlds_in};
 ghost use Rattle.tl_syntax.specs.Lists.{Each};
 ghost use Rattle.tl_syntax.specs.Signature.{signature_of};
 ghost use Rattle.tl_terms.proofs.KeptOnce.{worlds_named-prop};
@@ -29,10 +29,11 @@ use indexmap::IndexSet;
 use std::alloc::Global;
 use tl_action::{Changes, Lister};
 use tl_eval::Env;
+use tl_known::Worlds;
 use tl_nodes::Nodes;
 use tl_progress::{PartPlaces, Residuals};
 use tl_terms::NoMemory;
-use tl_world::{Task, Unmet, Worlds};
+use tl_world::{Task, Unmet};
 
 /// Pairs of a world and a residual, each kept once under a number, with the path by which it was
 /// met first. A pair is two numbers, kept as the last growth of a call: after a refused call the

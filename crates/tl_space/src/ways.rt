@@ -2,7 +2,7 @@
 ghost use Rattle.std.specs.Prelude.{◌≡◌, ◌<◌, ◌≤◌, ◌++◌, ◌∷◌, [], length, slice_get, take, Some, IfOk, IfNone, IfSome, OnOk, OnErr};
 ghost use Rattle.tl_space.specs.declared.numbers.Met.TheVariants as met;
 ghost use Rattle.tl_space.specs.Ways.{met_by, IsWay};
-ghost use Rattle.tl_world.specs.NumberedLists.{Stay};
+ghost use Rattle.tl_known.specs.NumberedLists.{Stay};
 
 use crate::numbers::Met;
 use crate::way::Way;

@@ -17,18 +17,18 @@ use Rattle.tl_syntax.specs.Lists.{Among, Rises}
 use Rattle.tl_syntax.proofs.ListLaws.{Each-Among, One-append}
 use Rattle.tl_syntax.proofs.Plain.{with_both}
 use Rattle.tl_terms.specs.World.{World}
-use Rattle.tl_world.specs.declared.pattern.Match.{Match}
-use Rattle.tl_world.specs.declared.pattern.Part.{Part}
-use Rattle.tl_world.specs.declared.pattern.Pattern.{Pattern}
-use Rattle.tl_world.specs.Fits.{fits_all, IsMatch}
+use Rattle.tl_match.specs.declared.pattern.Match.{Match}
+use Rattle.tl_match.specs.declared.pattern.Part.{Part}
+use Rattle.tl_match.specs.declared.pattern.Pattern.{Pattern}
+use Rattle.tl_match.specs.Fits.{fits_all, IsMatch}
 use Rattle.tl_world.specs.Gathered.{with_match, AreTuplesOf, HasAllTuples}
-use Rattle.tl_world.specs.Least.{fits_some, IsLeast}
-use Rattle.tl_world.specs.Next.{IsLater, IsNext, IsChain}
-use Rattle.tl_world.specs.Patterns.{makes_true, parts_of, tuple_of}
-use Rattle.tl_world.specs.Plain.{row_cmp}
-use Rattle.tl_world.proofs.Chains.{further}
-use Rattle.tl_world.proofs.Lent.{row_ties, any-among}
-use Rattle.tl_world.proofs.Lookup.{row_total}
+use Rattle.tl_match.specs.Least.{fits_some, IsLeast}
+use Rattle.tl_match.specs.Next.{IsLater, IsNext, IsChain}
+use Rattle.tl_match.specs.Patterns.{makes_true, parts_of, tuple_of}
+use Rattle.tl_rows.specs.Plain.{row_cmp}
+use Rattle.tl_match.proofs.Chains.{further}
+use Rattle.tl_rows.proofs.Lent.{row_ties, any-among}
+use Rattle.tl_rows.proofs.Lookup.{row_total}
 
 -- tuples in order that are all of the later ones are the chain of them
 module _ (k : ℕ) (test : List Value → Bool) where

@@ -11,11 +11,5 @@ pub mod Orders
 pub mod Contents
 pub mod GoalTests
 pub mod Lacking
-pub mod Numbering
 pub mod Beside
 pub mod Falling
-pub mod Unchanged
-pub mod Unset
-pub mod TableNames
-pub mod TableNumbers
-pub mod KnownAfter

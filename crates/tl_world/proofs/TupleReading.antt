@@ -4,12 +4,12 @@ use Rattle.std.specs.Option.{IfSome}
 use Rattle.std.specs.Prelude.{slice_get}
 use Rattle.tl_syntax.specs.declared.value.Value.{Value}
 use Rattle.tl_terms.specs.World.{World}
-use Rattle.tl_world.specs.declared.pattern.Match.{Match}
-use Rattle.tl_world.specs.declared.pattern.Pattern.{Pattern}
+use Rattle.tl_match.specs.declared.pattern.Match.{Match}
+use Rattle.tl_match.specs.declared.pattern.Pattern.{Pattern}
 use Rattle.tl_world.specs.Gathered.{HasRest}
 use Rattle.tl_world.specs.MatchReading.{pattern_if, IsNextBy, GoesThrough, CanReadOn}
-use Rattle.tl_world.specs.Next.{IsNext, IsChain}
-use Rattle.tl_world.specs.Patterns.{IsLawful, makes_true, tuple_of, tuple_in_place}
+use Rattle.tl_match.specs.Next.{IsNext, IsChain}
+use Rattle.tl_match.specs.Patterns.{IsLawful, makes_true, tuple_of, tuple_in_place}
 use Rattle.tl_world.proofs.Gathering.{chain-at, chain-on}
 
 -- what a reader that has tuples keeps

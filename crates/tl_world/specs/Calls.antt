@@ -13,11 +13,15 @@ use Rattle.tl_terms.specs.NamedWorlds.{WorldIsNamed}
 use Rattle.tl_terms.specs.World.{World, has_fact, value_at}
 use Rattle.tl_rows.specs.declared.named.Named.{Named}
 use Rattle.tl_rows.specs.declared.table.PlaceRow.{PlaceRow}
-use Rattle.tl_rows.specs.Tables.{place_row}
+use Rattle.tl_rows.specs.Tables.{facts_of, place_row, places_of}
 
 -- the rows are the places of the function with their values in the world
 abbrev pub ArePlacesOf : World → ℕ → List PlaceRow → Type 0
 ArePlacesOf w f rows = (a : List Value) (v : Value) → Among (a, v) (map place_row rows) ↔ (value_at w (f, a) ≡ Some v)
+
+-- the world of the tables
+abbrev pub world_of_tables : List (Named (List (List Value))) → List (Named (List PlaceRow)) → World
+world_of_tables facts places = record { facts = facts_of facts; places = places_of places }
 
 -- whether the place of the row has the row's value in the world
 abbrev pub gives_row : World → ℕ → PlaceRow → Bool

@@ -4,6 +4,7 @@ use Rattle.std.specs.declared.result.Result.{Result}
 use Rattle.std.specs.FinMap as dict
 use Rattle.std.specs.FinSet as set
 use Rattle.std.specs.List.{insert, list_any, remove}
+use Rattle.std.specs.Ordering.{eq_by_cmp}
 use Rattle.tl_syntax.specs.declared.fact.Fact.{Fact}
 use Rattle.tl_syntax.specs.declared.place_value.PlaceValue.{PlaceValue}
 use Rattle.tl_syntax.specs.declared.value.Value.{Value}
@@ -61,3 +62,7 @@ IsReplaced gone fact old new = AreChangedBy (gone ∷ []) (fact ∷ []) old new
 -- this holds where the answer is yes
 abbrev pub OnTrue : {E : Type 0} → Result Bool E → Type 0 → Type 0
 OnTrue answer P = IfOk answer (λ b. b ≡ true → P)
+
+-- whether this fact is one of them
+abbrev pub lists_fact : List Fact → Key → Bool
+lists_fact facts q = list_any (λ f. eq_by_cmp key_cmp q (fact_key f)) facts

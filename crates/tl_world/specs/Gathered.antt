@@ -3,12 +3,12 @@ use Rattle.std.specs.Prelude.{◌≡◌, ◌↔◌, ℕ, List, [], ◌∷◌, �
 use Rattle.tl_syntax.specs.declared.value.Value.{Value}
 use Rattle.tl_syntax.specs.Lists.{Among}
 use Rattle.tl_terms.specs.World.{World}
-use Rattle.tl_world.specs.declared.pattern.Match.{Match}
-use Rattle.tl_world.specs.declared.pattern.Part.{Part}
-use Rattle.tl_world.specs.declared.pattern.Pattern.{Pattern}
-use Rattle.tl_world.specs.Least.{fits_some}
-use Rattle.tl_world.specs.Next.{IsChain}
-use Rattle.tl_world.specs.Patterns.{makes_true, tuple_of, tuple_in_place}
+use Rattle.tl_match.specs.declared.pattern.Match.{Match}
+use Rattle.tl_match.specs.declared.pattern.Part.{Part}
+use Rattle.tl_match.specs.declared.pattern.Pattern.{Pattern}
+use Rattle.tl_match.specs.Least.{fits_some}
+use Rattle.tl_match.specs.Next.{IsChain}
+use Rattle.tl_match.specs.Patterns.{makes_true, tuple_of, tuple_in_place}
 
 -- the tuples with that of the match, where there is one
 abbrev pub with_match : List (List Value) → Option Match → List (List Value)

@@ -2,12 +2,7 @@ pub mod View
 pub mod WorldCode
 pub mod Gathered
 pub mod MatchReading
-pub mod NumberedLists
-pub mod WorldNumbers
 pub mod Moves
 pub mod Falling
 pub mod Edits
 pub mod Calls
-pub mod Unchanged
-pub mod Unset
-pub mod TableNumbers

@@ -3,21 +3,19 @@
 ghost use Rattle.std.specs.List.Sorted.{IsPermutation};
 ghost use Rattle.std.specs.Prelude.{◌≡◌, ◌<◌, ◌≤◌, ◌+◌, ℕ, length, map, slice_get, true, false, IfOk, IfSome, OnOk};
 ghost use Rattle.tl_syntax.specs.Lists.{Rises};
-ghost use Rattle.tl_world.specs.Fits.{occurs};
+ghost use Rattle.tl_match.specs.Fits.{occurs};
 ghost use Rattle.tl_world.specs.Gathered.{with_match, AreMatches, AreTuplesOf, HasAllTuples};
-ghost use Rattle.tl_world.specs.Patterns.{IsLawful, tuple_in_place};
-ghost use Rattle.tl_world.specs.Tables.{row_cmp, whole_row};
+ghost use Rattle.tl_match.specs.Patterns.{IsLawful, tuple_in_place};
+ghost use Rattle.tl_rows.specs.Plain.{row_cmp};
+ghost use Rattle.tl_rows.specs.Tables.{whole_row};
 
-use crate::after::rows_before;
-use crate::by_second::is_in_second_order;
-use crate::first_place::places_before;
-use crate::front::order_of_front;
-use crate::row_match::{match_place, match_row};
-use crate::runs::Runs;
-use crate::second::Second;
-use crate::second_made::in_order;
-use crate::{Match, Part, Pattern, PlaceRows, World};
+use crate::World;
 use std::alloc::Global;
+use tl_match::{
+    Match, Part, Pattern, is_in_second_order, match_place, match_row, order_of_front,
+    places_before, rows_before,
+};
+use tl_rows::{PlaceRows, Runs, Second, in_order};
 use tl_syntax::{NoMemory, Values};
 
 /// How many rows are looked at for each next match, and not gathered.
@@ -206,6 +204,7 @@ pub(crate) fn put_tuple(tuples: &Runs, free: u32, place: &mut usize, tuple: &mut
     if *place >= tuples.len() {
         return false;
     }
+    let _ = tuple.room();
     tuple.values[..free as usize].copy_from_slice(tuples.row(*place));
     tuple.len = free;
     *place += 1;

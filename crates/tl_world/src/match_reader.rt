@@ -4,7 +4,7 @@ ghost use Rattle.tl_syntax.specs.Lists.{Rises};
 ghost use Rattle.tl_match.specs.Front.{front, are_in_turn, IsFirstKept};
 ghost use Rattle.tl_world.specs.MatchReading.{HasLaterOf, PutsNextOf, ReadsAll, ReadsOn, pattern_if};
 ghost use Rattle.tl_match.specs.Patterns.{IsLawful, parts_of};
-ghost use Rattle.tl_rows.specs.Tables.{row_cmp};
+ghost use Rattle.tl_rows.specs.Plain.{row_cmp};
 
 use crate::World;
 use crate::gathered::{gathered, put_tuple};
@@ -12,7 +12,7 @@ use std::marker::Model;
 use tl_match::{
     Match, Part, Pattern, are_in_turn, is_in_second_order, put_first, rows_before_near,
 };
-use tl_rows::Runs;
+use tl_rows::{Runs, Second};
 use tl_syntax::Value;
 
 /// A reader of the matches of a pattern in a world, in lexicographic value order. Contracts see the

@@ -115,7 +115,7 @@ impl Task {
         if found.is_some() {
             return found;
         }
-        for table in 0..self.goal.table_count() {
+        for table in 0..self.goal.tables().facts.len() {
             let found = w.lacking(&self.goal, Unmet { table, row: 0 });
             if found.is_some() {
                 return found;

@@ -10,28 +10,15 @@ ghost use Rattle.tl_terms.proofs.SameWorlds.{world-tells};
 ghost use Rattle.tl_terms.specs.ProblemMeaning.{world_of};
 ghost use Rattle.tl_terms.specs.SameWorlds.{world_eq};
 ghost use Rattle.tl_terms.specs.World.{has_fact, value_at};
-ghost use Rattle.tl_world.specs.Calls.{gives_entry, gives_row, gives_table, has_row, has_table, lacks_table, ArePlacesOf, IsNamedByParts, LacksFacts, StaysNamedWith};
+ghost use Rattle.tl_world.specs.Calls.{gives_entry, gives_row, gives_table, has_row, has_table, lacks_table, world_of_tables, ArePlacesOf, IsNamedByParts, LacksFacts, StaysNamedWith};
 ghost use Rattle.tl_rows.specs.Codes.{tables_code};
-ghost use Rattle.tl_world.specs.TableNumbers.{tables_in, AreAlikeOf, TellAlike};
-ghost use Rattle.tl_world.specs.declared.table_name.TableName.TheVariants.{Pred, Fun};
 ghost use Rattle.tl_rows.specs.Tables.{InOrder, fact_tables, place_tables, set_of, map_of, row_cmp};
 ghost use Rattle.tl_world.specs.WorldCode.{world_fed};
 ghost use Rattle.tl_world.specs.Edits.{changed_places};
-ghost use Rattle.tl_world.specs.Unset.{AreSameUnset};
-ghost use Rattle.tl_world.specs.Moves.{AreSameBeside, changed_facts};
+ghost use Rattle.tl_world.specs.Moves.{changed_facts};
 
 use crate::facts::change_facts;
-use crate::is_after::Numbered;
-use crate::mark::{
-    changed_mark, mark_of_fact, mark_of_facts, mark_of_place_rows, mark_of_places, mark_of_rows,
-    set_mark,
-};
-use crate::named_facts::is_one_of;
 use crate::places::{change_places, find_place};
-use crate::places_beside::{NumberedPlaces, are_place_tables_beside};
-use crate::same_number::numbers_from;
-use crate::table_name::TableName;
-use crate::tables_beside::{NumberedTables, are_tables_beside};
 use crate::unmet::Unmet;
 use std::alloc::Global;
 use std::hash::{FoldHasher, Hash, Hasher};
@@ -45,6 +32,15 @@ pub struct World {
     facts: Vec<Named<Rows>>,
     places: Vec<Named<PlaceRows>>,
     code: u64,
+}
+
+/// The tables of a world, which it lends.
+#[derive(Clone, Copy)]
+pub struct Tables<'a> {
+    /// The facts, by the numbers of their predicates.
+    pub facts: &'a [Named<Rows>],
+    /// The places with their values, by the numbers of their functions.
+    pub places: &'a [Named<PlaceRows>],
 }
 
 impl Model for World {
@@ -230,187 +226,16 @@ impl World {
         Ok(whole(facts, places))
     }
 
-    /// How many predicates have facts, and how many functions have places with a value, together.
-    pub(crate) fn table_count(&self) -> usize
-        ensures { result ≡ length (tables_in self.now) }
+    /// The tables of the world. It takes no memory.
+    pub fn tables(&self) -> Tables<'_>
+        ensures facts_order { InOrder (fact_tables result.facts.now) }
+        ensures places_order { InOrder (place_tables result.places.now) }
+        ensures world { world_of_tables result.facts.now result.places.now ≡ self.now }
     {
-        let facts = self.facts.as_slice();
-        let places = self.places.as_slice();
-        facts.len() + places.len()
-    }
-
-    /// The name of the table at place `i`: those of facts come first.
-    pub(crate) fn table(&self, i: usize) -> TableName
-        requires { i < length (tables_in self.now) }
-        ensures { slice_get (tables_in self.now) i ≡ Some result }
-    {
-        let facts = self.facts.as_slice();
-        if i < facts.len() {
-            TableName::Pred(facts[i].name)
-        } else {
-            TableName::Fun(self.places[i - facts.len()].name)
+        Tables {
+            facts: self.facts.as_slice(),
+            places: self.places.as_slice(),
         }
-    }
-
-    /// The place of the table of the predicate.
-    fn place_of_pred(&self, pred: u32) -> Option<usize>
-        ensures { IfSome result (λ i. slice_get (tables_in self.now) i ≡ Some (Pred pred)) }
-    {
-        match find_table(self.facts.as_slice(), pred) {
-            Ok(i) => Some(i),
-            Err(_) => None,
-        }
-    }
-
-    /// The place of the table of the function.
-    fn place_of_fun(&self, fun: u32) -> Option<usize>
-        ensures { IfSome result (λ i. slice_get (tables_in self.now) i ≡ Some (Fun fun)) }
-    {
-        let facts = self.facts.as_slice();
-        match find_table(self.places.as_slice(), fun) {
-            Ok(i) => Some(facts.len() + i),
-            Err(_) => None,
-        }
-    }
-
-    /// The place of the table of this name.
-    pub(crate) fn place_of_table(&self, table: TableName) -> Option<usize>
-        ensures { IfSome result (λ i. slice_get (tables_in self.now) i ≡ Some table) }
-    {
-        match table {
-            TableName::Pred(pred) => self.place_of_pred(pred),
-            TableName::Fun(fun) => self.place_of_fun(fun),
-        }
-    }
-
-    /// A number that is the same for worlds with the same table of this name, and seldom for
-    /// others. It takes no memory.
-    pub(crate) fn mark_of_table(&self, table: TableName) -> u64 {
-        match table {
-            TableName::Pred(pred) => match self.rows(pred) {
-                Some(rows) => mark_of_rows(rows, pred),
-                None => 0,
-            },
-            TableName::Fun(fun) => match self.places(fun) {
-                Some(rows) => mark_of_place_rows(rows, fun),
-                None => 0,
-            },
-        }
-    }
-
-    /// Whether the worlds are found to have the same facts of the predicate. It takes no memory.
-    fn has_same_facts(&self, other: &World, pred: u32) -> bool
-        ensures { result ≡ true → AreAlikeOf (Pred pred) self.now other.now }
-    {
-        match (self.rows(pred), other.rows(pred)) {
-            (Some(rows), Some(others)) => *rows == *others,
-            _ => false,
-        }
-    }
-
-    /// Whether the worlds are found to have the same values at the places of the function. It takes
-    /// no memory.
-    fn has_same_values(&self, other: &World, fun: u32) -> bool
-        ensures { result ≡ true → AreAlikeOf (Fun fun) self.now other.now }
-    {
-        match (self.places(fun), other.places(fun)) {
-            (Some(rows), Some(others)) => *rows == *others,
-            _ => false,
-        }
-    }
-
-    /// Whether the worlds are found to have the same table of this name. It takes no memory.
-    pub(crate) fn is_alike(&self, other: &World, table: TableName) -> bool
-        ensures { result ≡ true → AreAlikeOf table self.now other.now }
-    {
-        match table {
-            TableName::Pred(pred) => self.has_same_facts(other, pred),
-            TableName::Fun(fun) => self.has_same_values(other, fun),
-        }
-    }
-
-    /// Whether the worlds are found to have the same facts, but for those that the changes name. It
-    /// takes no memory.
-    pub(crate) fn is_beside<'a>(
-        &'a self,
-        numbers: &'a [u32],
-        other: &Numbered<'a>,
-        dels: &[Fact],
-        adds: &[Fact],
-    ) -> bool
-        requires { TellAlike self.now numbers.now other.now.world.now other.now.numbers.now }
-        ensures { result ≡ true
-            → AreSameBeside (dels.now ++ adds.now) self.now.facts other.now.world.now.facts }
-    {
-        let these = NumberedTables {
-            tables: self.facts.as_slice(),
-            numbers,
-        };
-        let world = other.world;
-        let those = NumberedTables {
-            tables: world.facts.as_slice(),
-            numbers: other.numbers,
-        };
-        are_tables_beside(&these, &those, dels, adds)
-    }
-
-    /// Whether the places of the worlds are found to have the same values, but for those that are
-    /// set. It takes no memory.
-    pub(crate) fn has_values_beside<'a>(
-        &'a self,
-        numbers: &'a [u32],
-        other: &Numbered<'a>,
-        sets: &[PlaceValue],
-    ) -> bool
-        requires { TellAlike self.now numbers.now other.now.world.now other.now.numbers.now }
-        ensures { result ≡ true
-            → AreSameUnset sets.now self.now.places other.now.world.now.places }
-    {
-        let these = NumberedPlaces {
-            tables: self.places.as_slice(),
-            numbers: numbers_from(numbers, self.facts.len()),
-        };
-        let world = other.world;
-        let those = NumberedPlaces {
-            tables: world.places.as_slice(),
-            numbers: numbers_from(other.numbers, world.facts.len()),
-        };
-        are_place_tables_beside(&these, &those, sets)
-    }
-
-    /// A number that is the same for equal worlds, and seldom for others. It takes no memory.
-    pub(crate) fn mark(&self) -> u64 {
-        mark_of_facts(self.facts.as_slice()).wrapping_add(mark_of_places(self.places.as_slice()))
-    }
-
-    /// The mark of the world that the changes make of this one, where each deleted fact is in it
-    /// and no added one is. It takes no memory.
-    pub(crate) fn mark_after(&self, dels: &[Fact], adds: &[Fact], sets: &[PlaceValue]) -> u64 {
-        let mut mark = changed_mark(self.mark(), dels, adds);
-        for p in sets {
-            let before = self.value(p.fun, p.args.as_slice());
-            mark = set_mark(mark, before, p);
-        }
-        mark
-    }
-
-    /// That mark, where a deleted fact may not be in this world and an added one may be. It takes
-    /// no memory.
-    #[inline(never)]
-    pub(crate) fn corrected_mark(&self, mark: u64, dels: &[Fact], adds: &[Fact]) -> u64 {
-        let mut exact = mark;
-        for d in dels {
-            let args = d.args.as_slice();
-            if !self.holds(d.pred, args) && !is_one_of(adds, d.pred, args) {
-                exact = exact.wrapping_add(mark_of_fact(d));
-            }
-        }
-        for a in adds {
-            if self.holds(a.pred, a.args.as_slice()) {
-                exact = exact.wrapping_sub(mark_of_fact(a));
-            }
-        }
-        exact
     }
 
     /// Whether all facts of the other world are in this one.

@@ -6,8 +6,8 @@ ghost use Rattle.tl_nodes.specs.Numbers.{trees, Denotes};
 ghost use Rattle.tl_space.specs.Inner.{arriving_in, IsLabelIn, AreNumbersIn, KeepsPairs, KeepsMet, MeetsOneMore, IsLastUnmet, IsProgressFault};
 ghost use Rattle.tl_space.specs.Kept.{world_at};
 ghost use Rattle.tl_space.specs.Spaces.{problem_of, name_count, kept_of, Grows};
-ghost use Rattle.tl_world.specs.NumberedLists.{IsAdded};
-ghost use Rattle.tl_world.specs.WorldNumbers.{worlds_in};
+ghost use Rattle.tl_known.specs.NumberedLists.{IsAdded};
+ghost use Rattle.tl_known.specs.WorldNumbers.{worlds_in};
 ghost use Rattle.tl_terms.specs.NamedWorlds.{WorldIsNamed};
 ghost use Rattle.tl_terms.specs.ProblemMeaning.{plain_problem};
 
@@ -15,10 +15,11 @@ use super::Space;
 use crate::numbers::Numbers;
 use std::alloc::Global;
 use tl_action::Changes;
+use tl_known::Worlds;
 use tl_nodes::Nodes;
 use tl_progress::{Incoming, ProgressFault, progress_kept};
 use tl_terms::NoMemory;
-use tl_world::{Task, World, Worlds};
+use tl_world::{Task, World};
 
 /// The first world again, which shares its tables.
 fn first_of(alloc: Global, task: &Task) -> Result<World, NoMemory>

@@ -7,7 +7,7 @@ use Rattle.tl_syntax.specs.Assignment.{bind}
 use Rattle.tl_terms.specs.Bounds.{bound_true, tuples}
 use Rattle.tl_terms.specs.Definitions.{situation_of}
 use Rattle.tl_terms.specs.ProblemMeaning.{plain_problem}
-use Rattle.tl_world.specs.Next.{IsNext}
+use Rattle.tl_match.specs.Next.{IsNext}
 use Rattle.tl_check.proofs.tuples.tuples_in.Goals as goal
 
 pub reading-init : goal.reading-init

@@ -1,6 +1,6 @@
 use Rattle.tl_syntax.proofs.PartsSame.{action-tells}
 use Rattle.tl_syntax.specs.contracts.action.ActionPartialEq.TheImpl as action_impl
-use Rattle.tl_world.proofs.Numbering.{stored, added, stay-added}
+use Rattle.tl_known.proofs.Numbering.{stored, added, stay-added}
 use Rattle.tl_space.proofs.ways.number_action.Goals as goal
 
 pub returns-clause-stay : goal.returns-clause-stay

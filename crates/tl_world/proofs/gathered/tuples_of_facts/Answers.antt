@@ -1,9 +1,9 @@
 use Rattle.std.proofs.Common.{◌≡◌, ℕ, ◌<◌, true, ap, sym, ◌∙◌}
-use Rattle.tl_world.specs.Fits.{occurs}
-use Rattle.tl_world.specs.Least.{fits_some}
-use Rattle.tl_world.specs.Patterns.{parts_of, filled, is_true_of}
+use Rattle.tl_match.specs.Fits.{occurs}
+use Rattle.tl_match.specs.Least.{fits_some}
+use Rattle.tl_match.specs.Patterns.{parts_of, filled, is_true_of}
 use Rattle.tl_world.proofs.Gathering.{all-of-rows}
-use Rattle.tl_world.proofs.Truths.{fact-truth, occurs-among}
+use Rattle.tl_match.proofs.Truths.{fact-truth, occurs-among}
 use Rattle.tl_world.proofs.gathered.tuples_of_facts.Goals as goal
 
 pub tuples_of_rows-requires-clause-each : goal.tuples_of_rows-requires-clause-each

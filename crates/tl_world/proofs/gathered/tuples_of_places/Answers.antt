@@ -2,14 +2,14 @@ use Rattle.std.proofs.Common.{◌≡◌, ◌+◌, ◌-◌, ◌<◌, List, [], le
 use Rattle.std.proofs.lemmas.List.{drop_all, get_or-map, length-map}
 use Rattle.std.specs.Ordering.{is_lt}
 use Rattle.tl_syntax.specs.declared.value.Value.{Value}
-use Rattle.tl_world.specs.declared.table.PlaceRow.{PlaceRow}
-use Rattle.tl_world.specs.Front.{front, front_cmp}
+use Rattle.tl_rows.specs.declared.table.PlaceRow.{PlaceRow}
+use Rattle.tl_match.specs.Front.{front, front_cmp}
 use Rattle.tl_world.specs.Gathered.{AreTuplesOf}
-use Rattle.tl_world.specs.Least.{fits_some}
-use Rattle.tl_world.specs.Tables.{whole_row}
+use Rattle.tl_match.specs.Least.{fits_some}
+use Rattle.tl_rows.specs.Tables.{whole_row}
 use Rattle.tl_world.proofs.Gathering.{none-yet, no-more, one-more, few-matched}
-use Rattle.tl_world.proofs.Skipping.{least-skipped, none-past}
-use Rattle.tl_world.proofs.WholeRows.{leading-fits}
+use Rattle.tl_match.proofs.Skipping.{least-skipped, none-past}
+use Rattle.tl_match.proofs.WholeRows.{leading-fits}
 use Rattle.tl_world.proofs.gathered.tuples_of_places.Goals as goal
 
 pub loop-k-init : goal.loop-k-init

@@ -1,6 +1,6 @@
 use Rattle.std.proofs.Common.{◌≡◌, ◌≤◌, ◌-◌, length, map, take}
 use Rattle.tl_world.specs.Gathered.{AreTuplesOf}
-use Rattle.tl_world.specs.Tables.{whole_row}
+use Rattle.tl_rows.specs.Tables.{whole_row}
 use Rattle.tl_world.proofs.gathered.tuples_of_places.Given as goal
 
 abbrev pub invariant-loop-k : goal.invariant-loop-k

@@ -3,13 +3,13 @@ use Rattle.std.proofs.lemmas.List.{map-id, drop_all}
 use Rattle.std.specs.Ordering.{is_lt}
 use Rattle.tl_syntax.specs.declared.value.Value.{Value}
 use Rattle.tl_syntax.specs.Lists.{Rises}
-use Rattle.tl_world.specs.Front.{front, front_cmp}
+use Rattle.tl_match.specs.Front.{front, front_cmp}
 use Rattle.tl_world.specs.Gathered.{AreTuplesOf}
-use Rattle.tl_world.specs.Least.{IsLeast, fits_some}
-use Rattle.tl_world.specs.Plain.{row_cmp}
+use Rattle.tl_match.specs.Least.{IsLeast, fits_some}
+use Rattle.tl_rows.specs.Plain.{row_cmp}
 use Rattle.tl_world.proofs.Gathering.{none-yet, no-more, one-more, few-matched}
-use Rattle.tl_world.proofs.Halves.{passed-greater}
-use Rattle.tl_world.proofs.Skipping.{least-skipped, none-past}
+use Rattle.tl_match.proofs.Halves.{passed-greater}
+use Rattle.tl_match.proofs.Skipping.{least-skipped, none-past}
 use Rattle.tl_world.proofs.gathered.tuples_of_rows.Goals as goal
 
 pub loop-k-init : goal.loop-k-init

@@ -1,9 +1,9 @@
 use Rattle.std.proofs.Common.{◌≡◌, ℕ, ◌<◌, true, map, ap, sym, ◌∙◌, rules}
-use Rattle.tl_world.specs.Fits.{occurs}
-use Rattle.tl_world.specs.Patterns.{parts_of, filled, is_true_of}
-use Rattle.tl_world.specs.Tables.{whole_row}
+use Rattle.tl_match.specs.Fits.{occurs}
+use Rattle.tl_match.specs.Patterns.{parts_of, filled, is_true_of}
+use Rattle.tl_rows.specs.Tables.{whole_row}
 use Rattle.tl_world.proofs.Gathering.{all-of-rows}
-use Rattle.tl_world.proofs.Truths.{place-truth, occurs-among}
+use Rattle.tl_match.proofs.Truths.{place-truth, occurs-among}
 use Rattle.tl_world.proofs.gathered.tuples_with_values.Goals as goal
 
 pub tuples_of_places-requires-clause-each : goal.tuples_of_places-requires-clause-each

@@ -10,7 +10,7 @@ use Rattle.tl_terms.specs.Step.{step}
 use Rattle.tl_terms.specs.World.{World}
 use Rattle.tl_space.specs.Kept.{world_at}
 use Rattle.tl_space.specs.Spaces.{problem_of, name_count}
-use Rattle.tl_world.specs.WorldNumbers.{worlds_in}
+use Rattle.tl_known.specs.WorldNumbers.{worlds_in}
 use Rattle.tl_space.proofs.Judging.{executable-here, executable-named, world-named}
 use Rattle.tl_space.proofs.PrunedChildren.{pruned-after}
 use Rattle.tl_space.proofs.SpaceLaws.{label-later, tree-is, tree-of, world-at, world-of}

@@ -1,5 +1,5 @@
 use Rattle.std.proofs.Common.{refl, arith}
-use Rattle.tl_world.specs.WorldNumbers.{worlds_in}
+use Rattle.tl_known.specs.WorldNumbers.{worlds_in}
 use Rattle.tl_space.proofs.Forgetting.{one-fewer, still-named, still-kept, still-remembered, still-found, kept-as-before, kept-stay}
 use Rattle.tl_space.proofs.space.Space.forget_world.Goals as goal
 

@@ -1,5 +1,5 @@
 use Rattle.std.proofs.Common.{take, refl, sym, ap₂, ◌∙◌}
-use Rattle.tl_world.proofs.Numbering.{stored}
+use Rattle.tl_known.proofs.Numbering.{stored}
 use Rattle.tl_space.proofs.Inserting.{pushed, not-found, new-place}
 use Rattle.tl_space.proofs.MetWays.{taken-before, still-inside, on-error}
 use Rattle.tl_space.proofs.SpaceLaws.{count}

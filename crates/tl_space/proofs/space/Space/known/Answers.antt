@@ -1,5 +1,5 @@
 use Rattle.std.proofs.Common.{sym}
-use Rattle.tl_world.proofs.Numbering.{absent}
+use Rattle.tl_known.proofs.Numbering.{absent}
 use Rattle.tl_space.proofs.Inserting.{found-at}
 use Rattle.tl_space.proofs.Keeping.{numbers_eq, numbers-tells, is-false, is-open, known-at}
 use Rattle.tl_space.proofs.space.Space.known.Goals as goal

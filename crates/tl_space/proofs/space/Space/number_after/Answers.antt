@@ -5,7 +5,7 @@ use Rattle.tl_terms.specs.NamedWorlds.{WorldIsNamed}
 use Rattle.tl_space.specs.Spaces.{name_count}
 use Rattle.tl_space.proofs.FoundStay.{found-stays}
 use Rattle.tl_nodes.specs.Numbers.{trees}
-use Rattle.tl_world.specs.WorldNumbers.{worlds_in}
+use Rattle.tl_known.specs.WorldNumbers.{worlds_in}
 use Rattle.tl_space.specs.Spaces.{problem_of}
 use Rattle.tl_space.proofs.Forgetting.{added-count}
 use Rattle.tl_space.proofs.Growing.{added-stay, each-added}

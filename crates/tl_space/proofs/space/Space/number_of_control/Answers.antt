@@ -1,6 +1,6 @@
 use Rattle.tl_space.proofs.FoundStay.{found-stays}
 use Rattle.tl_nodes.specs.Numbers.{trees}
-use Rattle.tl_world.specs.WorldNumbers.{worlds_in}
+use Rattle.tl_known.specs.WorldNumbers.{worlds_in}
 use Rattle.tl_space.specs.Spaces.{problem_of}
 use Rattle.tl_space.proofs.SpaceLaws.{kept-still, remembered-still, if-ok-then, control-label}
 use Rattle.tl_space.proofs.space.Space.number_of_control.Goals as goal

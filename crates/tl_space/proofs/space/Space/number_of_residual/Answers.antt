@@ -10,7 +10,7 @@ use Rattle.tl_space.specs.Remembered.{pair_in_at}
 use Rattle.tl_space.specs.Spaces.{problem_of}
 use Rattle.tl_space.proofs.FoundStay.{found-here, found-after}
 use Rattle.tl_space.proofs.Judging.{world-named}
-use Rattle.tl_world.specs.WorldNumbers.{worlds_in}
+use Rattle.tl_known.specs.WorldNumbers.{worlds_in}
 use Rattle.tl_space.proofs.SpaceLaws.{kept-still, remembered-still, world-at, label-of-answer}
 use Rattle.tl_space.proofs.space.Space.number_of_residual.Goals as goal
 

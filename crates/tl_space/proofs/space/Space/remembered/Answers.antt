@@ -1,7 +1,7 @@
 use Rattle.tl_nodes.specs.Numbers.{trees}
 use Rattle.tl_space.specs.Remembered.{IsRemembered}
 use Rattle.tl_space.specs.Spaces.{problem_of}
-use Rattle.tl_world.specs.WorldNumbers.{worlds_in}
+use Rattle.tl_known.specs.WorldNumbers.{worlds_in}
 use Rattle.std.proofs.Common.{Option, Some, None, IfSome}
 use Rattle.tl_search.specs.declared.arrival.Arrival.{Arrival}
 use Rattle.tl_syntax.specs.Lists.{Among}

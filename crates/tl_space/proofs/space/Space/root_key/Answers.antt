@@ -2,7 +2,7 @@ use Rattle.std.proofs.Common.{Some, sym, ap, ◌∙◌}
 use Rattle.std.proofs.lemmas.Option.{slice_get_within}
 use Rattle.tl_terms.specs.Problem.{PlainProblem}
 use Rattle.tl_space.specs.Spaces.{problem_of}
-use Rattle.tl_world.specs.WorldNumbers.{worlds_in}
+use Rattle.tl_known.specs.WorldNumbers.{worlds_in}
 use Rattle.tl_space.proofs.SpaceLaws.{keeps-trans, label-later, keeps-problem}
 use Rattle.tl_space.proofs.space.Space.root_key.Goals as goal
 

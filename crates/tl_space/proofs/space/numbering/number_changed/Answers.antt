@@ -9,9 +9,9 @@ use Rattle.tl_syntax.specs.declared.place_value.PlaceValue.{PlaceValue}
 use Rattle.tl_terms.specs.ProblemMeaning.{world_of}
 use Rattle.tl_terms.specs.World.{World}
 use Rattle.tl_space.specs.Kept.{world_at}
-use Rattle.tl_world.specs.NumberedLists.{IsAdded, Stay}
-use Rattle.tl_world.specs.Unchanged.{changed_world, IsNumberAfter}
-use Rattle.tl_world.specs.WorldNumbers.{worlds_in}
+use Rattle.tl_known.specs.NumberedLists.{IsAdded, Stay}
+use Rattle.tl_known.specs.Unchanged.{changed_world, IsNumberAfter}
+use Rattle.tl_known.specs.WorldNumbers.{worlds_in}
 use Rattle.tl_space.proofs.space.numbering.number_changed.Goals as goal
 
 module _ (ws vs : List World) (from : ℕ) (c : Changes) (dels adds : List Fact) (sets : List PlaceValue) (below : from < length ws) (d : dels ≡ c.dels) (a : adds ≡ c.adds) (s : sets ≡ c.sets) where

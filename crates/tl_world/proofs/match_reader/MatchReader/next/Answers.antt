@@ -3,8 +3,8 @@ use Rattle.std.specs.Option.{option_map, IfSome}
 use Rattle.std.specs.Prelude.{slice_get}
 use Rattle.tl_world.specs.Gathered.{HasRest}
 use Rattle.tl_world.specs.MatchReading.{Reading, ReadsOn, CanReadOn, pattern_if}
-use Rattle.tl_world.specs.Least.{PutsNext}
-use Rattle.tl_world.specs.Patterns.{parts_of, tuple_in_place}
+use Rattle.tl_match.specs.Least.{PutsNext}
+use Rattle.tl_match.specs.Patterns.{parts_of, tuple_in_place}
 use Rattle.tl_world.proofs.MatchReading.{with-rows, next-through, goes-on}
 use Rattle.tl_world.proofs.TupleReading.{with-tuples, size-there, next-there, goes-behind, no-tuples}
 use Rattle.tl_world.proofs.match_reader.MatchReader.next.Goals as goal

@@ -1,4 +1,0 @@
-use Rattle.tl_world.proofs.table_numbers.TableNumbers.number_of.Goals as goal
-
-pub returns-in-None-clause-number : goal.returns-in-None-clause-number
-returns-in-None-clause-number c = λ w e _. c.number_anew.ensures w e
