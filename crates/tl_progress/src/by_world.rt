@@ -9,6 +9,10 @@ use std::alloc::Global;
 use std::marker::Model;
 use tl_syntax::NoMemory;
 
+/// How many numbers of the newest world are kept at most. A formula with more parts than that is
+/// mostly met in one world only.
+const MOST: usize = 32;
+
 /// Numbers for worlds and formulas, in the order in which they came. The newest world has the
 /// greatest number of all that are kept.
 ///
@@ -52,6 +56,11 @@ impl ByWorld {
             Some(number) => Some(*number),
             None => None,
         }
+    }
+
+    /// Whether so many numbers of this world are kept that no more are, as long as it is the newest.
+    pub fn has_most_of(&self, world: usize) -> bool {
+        world == self.newest && MOST < self.table.len().saturating_sub(self.begins)
     }
 
     /// Keeps a number.

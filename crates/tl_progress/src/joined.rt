@@ -162,10 +162,15 @@ pub(crate) fn kept_residual(
     match residuals.find(incoming) {
         Some(number) => Ok(number),
         None => match temporal_residual(here, nodes, env, incoming.formula) {
-            Ok(number) => match residuals.keep(incoming, number) {
-                Ok(()) => Ok(number),
-                Err(_) => Err(ProgressFault::NoMemory),
-            },
+            Ok(number) => {
+                if residuals.has_most_of(incoming.world) {
+                    return Ok(number);
+                }
+                match residuals.keep(incoming, number) {
+                    Ok(()) => Ok(number),
+                    Err(_) => Err(ProgressFault::NoMemory),
+                }
+            }
             Err(fault) => Err(fault),
         },
     }

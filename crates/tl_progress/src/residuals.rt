@@ -43,6 +43,11 @@ impl Residuals {
         self.table.find(incoming)
     }
 
+    /// Whether so many numbers of this world are kept that no more are, as long as it is the newest.
+    pub(crate) fn has_most_of(&self, world: usize) -> bool {
+        self.table.has_most_of(world)
+    }
+
     /// Keeps a number.
     pub(crate) fn keep(&mut self, incoming: Incoming, number: usize) -> Result<(), NoMemory>
         ensures kept { OnOk result (KeepsNumber self.old self.new incoming number) }
