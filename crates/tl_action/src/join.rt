@@ -78,7 +78,7 @@ fn join_bound(
     let new_parameters = order.new_parameters.as_slice();
     let vars = &new_parameters[j];
     let bound = order.bounds.bound(j);
-    let mut pattern = BoundPattern::unopened();
+    let mut pattern = BoundPattern::unopened(true);
     pattern.open_in_place(here.task, env, vars, bound);
     let mut tuples = pattern.tuples(here.task, here.world, bound);
     while tuples.next() {

@@ -22,6 +22,7 @@ use tl_world::{MatchReader, Task, World};
 pub struct BoundPattern {
     pattern: Pattern,
     has_pattern: bool,
+    gathers: bool,
 }
 
 impl Model for BoundPattern {
@@ -38,12 +39,14 @@ impl Model for BoundPattern {
 }
 
 impl BoundPattern {
-    /// The pattern of no bound, for `open_in_place`. It takes no memory.
+    /// The pattern of no bound, for `open_in_place`. It takes no memory; `gathers`: whether the
+    /// readers of its tuples may take some, to gather them.
     #[inline(always)]
-    pub fn unopened() -> BoundPattern {
+    pub fn unopened(gathers: bool) -> BoundPattern {
         BoundPattern {
             pattern: no_pattern(),
             has_pattern: false,
+            gathers,
         }
     }
 
@@ -84,7 +87,7 @@ impl BoundPattern {
     {
         let world = world_of_bound(task, w, b);
         BoundTuples {
-            matches: MatchReader::of(world, &self.pattern, self.has_pattern),
+            matches: MatchReader::of(world, &self.pattern, self.has_pattern, self.gathers),
         }
     }
 }
@@ -111,7 +114,7 @@ impl<'a> Model for BoundTuples<'a> {
 
 impl<'a> BoundTuples<'a> {
     /// Goes on to the next tuple, and says whether there is one. After the last tuple the first one
-    /// is next again. It takes memory to gather tuples, and where there is none it goes on without.
+    /// is next again. It takes no memory, but where tuples are gathered.
     #[tactic(auto, using(crate::proofs::BoundReading::comes_on, crate::proofs::BoundReading::stays_with))]
     #[inline(always)]
     pub fn next(&mut self) -> bool

@@ -52,15 +52,18 @@ impl Env {
     }
 
     /// `new` for the evaluations of one task. Where nothing is defined there is nothing to
-    /// remember, and less than a KiB is reserved.
+    /// remember, and less than a KiB is reserved. An evaluation may take memory to gather tuples, and
+    /// goes on without it where there is none.
     pub fn for_task(alloc: Global, task: &Task) -> Result<Env, NoMemory>
         ensures slots { IfOk result (λ env. length env ≡ 32) }
         ensures empty { IfOk result (λ env. (q : ℕ) → assignment_in env q ≡ None) }
     {
         if task.problem.domain.definitions.is_empty() {
-            return Env::with_memory(alloc, Memory::without_places(alloc));
+            let memory = Memory::without_places(alloc);
+            return Env::with_memory(alloc, memory.with_gathering(true));
         }
-        Env::new(alloc)
+        let memory = Memory::new(alloc, PLACES)?;
+        Env::with_memory(alloc, memory.with_gathering(true))
     }
 
     /// No value in any slot, and a memory for truths of definitions.

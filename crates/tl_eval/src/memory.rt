@@ -156,6 +156,7 @@ fn place_from(entries: &[Entry], generation: u32, home: usize) -> usize
 pub struct Memory {
     generation: u32,
     entries: Vec<Entry>,
+    gathers: bool,
 }
 
 impl Model for Memory {
@@ -185,6 +186,7 @@ impl Memory {
         Ok(Memory {
             generation: 1,
             entries,
+            gathers: false,
         })
     }
 
@@ -195,7 +197,26 @@ impl Memory {
         Memory {
             generation: 1,
             entries: Vec::new(alloc),
+            gathers: false,
         }
+    }
+
+    /// The same, where `gathers` says whether evaluations may take memory to gather tuples. It takes
+    /// none.
+    pub(crate) fn with_gathering(self, gathers: bool) -> Memory
+        ensures { result ≡ self }
+    {
+        Memory {
+            generation: self.generation,
+            entries: self.entries,
+            gathers,
+        }
+    }
+
+    /// Whether evaluations may take memory to gather tuples. It takes none.
+    #[inline(always)]
+    pub fn gathers(&self) -> bool {
+        self.gathers
     }
 
     /// Nothing remembered, in a table with fewer places, or with none where this one has none.
@@ -203,9 +224,10 @@ impl Memory {
         ensures { IfOk result (λ m. m ≡ []) }
     {
         if self.entries.is_empty() {
-            return Ok(Memory::without_places(alloc));
+            return Ok(Memory::without_places(alloc).with_gathering(self.gathers));
         }
-        Memory::new(alloc, FEW_PLACES)
+        let memory = Memory::new(alloc, FEW_PLACES)?;
+        Ok(memory.with_gathering(self.gathers))
     }
 
     /// Forgets all: no entry is of the next generation. It takes no memory, and a time that does

@@ -278,7 +278,7 @@ fn tuples_true(
     ensures truths { AreTruthsHere here.now memory.new }
 {
     let stop = quantified.junction.deciding_truth();
-    let mut pattern = BoundPattern::unopened();
+    let mut pattern = BoundPattern::unopened(memory.gathers());
     pattern.open_at(
         here.task,
         current(frames),
@@ -325,8 +325,8 @@ fn whole_true(
 }
 
 /// Whether a state formula is true in a world, under the frame's values; or a note of an operation
-/// that is looked at and past range. Parts are evaluated from left to right until the truth is
-/// decided. It needs no memory, and leaves the caller's frame as it was.
+/// past range. Parts are evaluated from left to right until the truth is decided. The frame stays
+/// as it was; it needs no memory, and under a frame of `Env::new` it takes none.
 pub fn state(task: &Task, w: &World, env: &mut Env, f: &Formula) -> Result<bool, RangeNote>
     requires fits { Fits (signature_of task.now.problem.domain) [] (tree_of_formula f.now) }
     requires state { IsState (tree_of_formula f.now) }

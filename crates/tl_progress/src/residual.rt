@@ -270,7 +270,7 @@ fn quantifier_residual(
     ensures frame { env.new ≡ env.old }
     ensures remembers { RemembersHere here.now memory.new }
 {
-    let mut pattern = BoundPattern::unopened();
+    let mut pattern = BoundPattern::unopened(true);
     quantifier.open(nodes, here.task, env, &mut pattern);
     let mut tuples = quantifier.tuples(nodes, here.task, here.world, &pattern);
     let mut outer = [None; 9];

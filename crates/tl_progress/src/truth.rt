@@ -237,7 +237,7 @@ fn quantifier_truth(
     ensures frame { env.new ≡ env.old }
     ensures remembers { RemembersHere here.now memory.new }
 {
-    let mut pattern = BoundPattern::unopened();
+    let mut pattern = BoundPattern::unopened(true);
     pattern.open_in_place(here.task, env, quantified.vars, quantified.bound);
     let mut tuples = pattern.tuples(here.task, here.world, quantified.bound);
     let mut outer = [None; 9];

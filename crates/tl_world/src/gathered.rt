@@ -178,13 +178,16 @@ fn sorted(tuples: Vec<Values>) -> Vec<Values>
     out
 }
 
-/// All tuples of the pattern, each after the one before it, where each next one would be looked for
-/// among many rows.
+/// All tuples of the pattern, each after the one before it, where they may be gathered and each next
+/// one would be looked for among many rows.
 #[inline(never)]
-pub(crate) fn gathered(world: &World, pattern: &Pattern) -> Result<Second, NoMemory>
+pub(crate) fn gathered(world: &World, pattern: &Pattern, may: bool) -> Result<Second, NoMemory>
     requires { IsLawful pattern.now }
     ensures { IfOk result (λ s. IfSome s (AreMatches world.now pattern.now)) }
 {
+    if !may {
+        return Ok(Second::none());
+    }
     let found = all_tuples(world, pattern)?;
     let Some(tuples) = found else {
         return Ok(Second::none());

@@ -25,6 +25,7 @@ pub struct MatchReader<'a> {
     pattern: &'a Pattern,
     rows: Option<&'a Runs>,
     gathered: Second,
+    gathers: bool,
     place: usize,
     tuple: Match,
     has_pattern: bool,
@@ -143,9 +144,14 @@ fn table_of<'a>(world: &'a World, pattern: &Pattern, tuple: &Match) -> Option<In
 
 impl<'a> MatchReader<'a> {
     /// A reader before the first match of the pattern in the world, or of no match, where the
-    /// pattern does not count. It takes no memory.
+    /// pattern does not count. It takes no memory; `gathers`: whether its first step may take some.
     #[inline(always)]
-    pub fn of(world: &'a World, pattern: &'a Pattern, counts: bool) -> MatchReader<'a>
+    pub fn of(
+        world: &'a World,
+        pattern: &'a Pattern,
+        counts: bool,
+        gathers: bool,
+    ) -> MatchReader<'a>
         requires { counts ≡ true → IsLawful pattern.now }
         ensures world { result.world ≡ world.now }
         ensures pattern { result.pattern ≡ pattern_if counts pattern.now }
@@ -156,6 +162,7 @@ impl<'a> MatchReader<'a> {
             pattern,
             rows: None,
             gathered: Second::none(),
+            gathers,
             place: 0,
             tuple: Match {
                 values: [Value::Int(0); 9],
@@ -177,7 +184,7 @@ impl<'a> MatchReader<'a> {
                 self.rows = Some(table.rows);
                 self.gathered = Second::none();
                 self.place = table.place;
-            } else if let Ok(tuples) = gathered(self.world, self.pattern) {
+            } else if let Ok(tuples) = gathered(self.world, self.pattern, self.gathers) {
                 self.rows = None;
                 self.gathered = tuples;
                 self.place = 0;
@@ -197,8 +204,8 @@ impl<'a> MatchReader<'a> {
 
     /// Goes on to the next match: the least tuple, in lexicographic value order, that makes the
     /// pattern true and comes after the one that the reader has come to. False exactly where there
-    /// is none; the reader is before the first match then. It takes memory to gather tuples, and
-    /// where there is none it goes on without it.
+    /// is none; the reader is before the first match then. Where it gathers, its first step may
+    /// take memory, and where there is none it goes on without it.
     #[inline(never)]
     pub fn next(&mut self) -> bool
         ensures next { ReadsOn self.old self.new }
