@@ -1,5 +1,5 @@
 // The tuples of quantifiers along some states.
-ghost use Rattle.std.specs.Prelude.{◌≡◌, length, IfOk, IfNone};
+ghost use Rattle.std.specs.Prelude.{length, IfOk, IfNone};
 ghost use Rattle.tl_check.specs.AlongStates.{BoundFitsAlong};
 ghost use Rattle.tl_check.specs.Facts.{IsAlong};
 ghost use Rattle.tl_check.specs.Spans.{IsWithin};

@@ -1,6 +1,6 @@
 -- The places of a function, as the list of their arguments and the list of their values.
 use Rattle.std.specs.List.{insert}
-use Rattle.std.specs.Prelude.{◌≡◌, ◌-◌, ℕ, zero, suc, List, [], ◌∷◌}
+use Rattle.std.specs.Prelude.{◌≡◌, ℕ, zero, suc, List, [], ◌∷◌}
 use Rattle.tl_syntax.specs.declared.value.Value.{Value}
 use Rattle.tl_rows.specs.declared.named.Named.{Named}
 use Rattle.tl_rows.specs.declared.table.PlaceRow.{PlaceRow}

@@ -1,6 +1,6 @@
 -- Tables of which one row is taken out and that of a fact is put in, and sets of facts that differ in
 -- some facts alone.
-use Rattle.std.specs.Prelude.{◌≡◌, ◌-◌, ◌<◌, ◌≤◌, ◌⊎◌, ℕ, List, false, length, map, slice_index_or, Err}
+use Rattle.std.specs.Prelude.{◌≡◌, ◌<◌, ◌≤◌, ◌⊎◌, ℕ, List, false, length, map, slice_index_or, Err}
 use Rattle.std.specs.FinSet as set
 use Rattle.std.specs.List.{remove, list_any}
 use Rattle.std.specs.List.Sorted.{IsBinarySearchResult}

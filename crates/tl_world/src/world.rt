@@ -3,7 +3,7 @@ ghost use Rattle.std.specs.FinMap as dict;
 ghost use Rattle.std.specs.FinSet as set;
 ghost use Rattle.std.specs.Hash.{same_Alike};
 ghost use Rattle.std.specs.List.{list_all};
-ghost use Rattle.std.specs.Prelude.{◌≡◌, ◌↔◌, ◌<◌, ◌++◌, List, [], map, length, slice_get, not, true, false, Some, None, IfNone, IfSome, IfOk};
+ghost use Rattle.std.specs.Prelude.{◌≡◌, ◌↔◌, ◌<◌, List, [], map, length, not, true, false, Some, None, IfNone, IfSome, IfOk};
 ghost use Rattle.tl_syntax.proofs.Telling.{tells-partial, tells-equivalence};
 ghost use Rattle.tl_syntax.specs.Lists.{Among, Rises};
 ghost use Rattle.tl_terms.proofs.SameWorlds.{world-tells};

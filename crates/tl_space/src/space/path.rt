@@ -1,5 +1,5 @@
 // The path of a pair.
-ghost use Rattle.std.specs.Prelude.{◌≡◌, ◌<◌, length, IfOk};
+ghost use Rattle.std.specs.Prelude.{◌<◌, length, IfOk};
 ghost use Rattle.tl_search.specs.Calls.{IsPathOf, AreNamedIn};
 ghost use Rattle.tl_space.specs.Spaces.{task_of, kept_of};
 
