@@ -42,17 +42,21 @@ fn mark_of_places(tables: &[Named<PlaceRows>]) -> u64 {
     mark
 }
 
+/// How many added facts are gone through for each deleted one.
+const FEW: usize = 64;
+
 /// The mark of a fact.
 fn mark_of_fact(fact: &Fact) -> u64 {
     part(code_of_row(fact.args.as_slice()), fact.pred, FACTORS[0])
 }
 
 /// The mark after the facts of `dels` are deleted and those of `adds` added, as if each that is
-/// deleted were there and each that is added were not.
+/// deleted were there and each that is added were not; of many, as if one that is both were there.
 fn changed_mark(mark: u64, dels: &[Fact], adds: &[Fact]) -> u64 {
+    let are_many = adds.len() > FEW;
     let mut mark = mark;
     for d in dels {
-        if !is_one_of(adds, d.pred, d.args.as_slice()) {
+        if are_many || !is_one_of(adds, d.pred, d.args.as_slice()) {
             mark = mark.wrapping_sub(mark_of_fact(d));
         }
     }
