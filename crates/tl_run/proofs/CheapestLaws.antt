@@ -130,8 +130,8 @@ cheapest_agrees n d p q x y a b same h k = absurd h
 
 outcome_says : (files : Option Files) (b : ℕ) (d p k : List ℕ) (m : Problem) (costs : List ℕ) (n : ℕ) (o : CostOutcome) (text : List ℕ) → HoldInput files (cheapest b d p k) (some_costs m costs) → IsCostOutcome b (plain_problem m) costs o → text ≡ text_of (some_costs m costs) (costed n o) → Headline files (cheapest b d p k) (cost_status o) text
 outcome_says files b d p k m costs n (outcome.Plan plan cost) text stand right line =
-    record { problem = m; costs = costs; stand = stand; plan = plan; cost = cost; lines = line; cheapest = right }
-outcome_says files b d p k m costs n outcome.NoPlan text stand right line = record { problem = m; costs = costs; stand = stand; line = line; none = right }
+    (m, costs, stand, record { plan = plan; cost = cost; lines = line; cheapest = right })
+outcome_says files b d p k m costs n outcome.NoPlan text stand right line = (m, costs, stand, (right, line))
 outcome_says files b d p k m costs n outcome.Spent text stand right line = tt
 
 -- what the headline says of a right answer

@@ -52,7 +52,7 @@ check_agrees law d p q (a_plan m plan) y (past_range after note path) b same h k
 check_agrees law d p q x y a b same h k = absurd h
 
 verdict_says : (files : Option Files) (d p q : List ℕ) (problem : Problem) (plan : List Action) (v : Verdict) (text : List ℕ) → HoldInput files (check d p q) (a_plan problem plan) → IsVerdict (plain_problem problem) plan v → text ≡ verdict_text v → Headline files (check d p q) (verdict_status v) text
-verdict_says files d p q problem plan Valid text stand right line = record { problem = problem; plan = plan; stand = stand; accepted = right; line = line }
+verdict_says files d p q problem plan Valid text stand right line = (problem, plan, stand, (right, line))
 verdict_says files d p q problem plan (NotExecutable n) text stand right line = tt
 verdict_says files d p q problem plan GoalUnmet text stand right line = tt
 verdict_says files d p q problem plan Disobeys text stand right line = tt

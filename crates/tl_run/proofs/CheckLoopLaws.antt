@@ -55,7 +55,7 @@ check_loop_agrees law d p q (a_loop m plan) y (past_range after note path) b sam
 check_loop_agrees law d p q x y a b same h k = absurd h
 
 verdict_says : (files : Option Files) (d p q : List ℕ) (problem : Problem) (plan : LoopPlan) (v : LoopVerdict) (text : List ℕ) → HoldInput files (check_loop d p q) (a_loop problem plan) → IsLoopVerdict (plain_problem problem) plan.stem plan.cycle v → text ≡ loop_text v → Headline files (check_loop d p q) (loop_status v) text
-verdict_says files d p q problem plan Valid text stand right line = record { problem = problem; plan = plan; stand = stand; accepted = right; line = line }
+verdict_says files d p q problem plan Valid text stand right line = (problem, plan, stand, (right, line))
 verdict_says files d p q problem plan (NotExecutable n) text stand right line = tt
 verdict_says files d p q problem plan NotClosed text stand right line = tt
 verdict_says files d p q problem plan GoalUnmet text stand right line = tt

@@ -65,7 +65,7 @@ check_none_agrees law d p q x y a b same h k = absurd h
 
 verdict_says : Laws → (files : Option Files) (d p q : List ℕ) (problem : Problem) (proof : Proof) (v : NoneVerdict) (text : List ℕ) → HoldInput files (check_none d p q) (a_proof problem proof) → IsNoneVerdict (plain_problem problem) proof v → text ≡ proof_verdict_text problem.names problem.domain.operators proof.bound v → Headline files (check_none d p q) (none_status v) text
 verdict_says laws files d p q problem proof Proved text stand right line =
-    record { problem = problem; proof = proof; stand = stand; covers = right; none = laws.covered (plain_problem problem) proof right; line = line }
+    (problem, proof, stand, record { covers = right; none = laws.covered (plain_problem problem) proof right; line = line })
 verdict_says laws files d p q problem proof (BadLink k) text stand right line = tt
 verdict_says laws files d p q problem proof (Accepts k) text stand right line = tt
 verdict_says laws files d p q problem proof (Open k a) text stand right line = tt

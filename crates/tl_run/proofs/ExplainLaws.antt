@@ -40,7 +40,7 @@ explain_agrees d p q x y a b same h k = absurd h
 -- what the headline says of a right answer
 pub explain_says : (files : Option Files) (d p q : List ℕ) (x : Input) (a : Answer) (text : List ℕ) → HoldInput files (explain d p q) x → IsRightAnswer (explain d p q) x a → text ≡ text_of x a → Headline files (explain d p q) (status_of a) text
 explain_says files d p q (a_plan m plan) explained text stand right line =
-    record { problem = m; plan = plan; stand = stand; explains = subst (Explains m plan) (sym line) (text-explains m plan) }
+    (m, plan, stand, subst (Explains m plan) (sym line) (text-explains m plan))
 explain_says files d p q (a_plan m plan) (past_range after note path) text stand right line = tt
 explain_says files d p q x a text stand right line = absurd right
 

@@ -203,37 +203,41 @@ answer_agrees laws files c told x a status text are allowed h =
 
 -- files whose command is calm all pass: one line for each command
 calm_passes : (files : Files) (c : Command) → IsCalmCommand (Some files) c → (x : Input) × HoldInput (Some files) c x
-calm_passes files (check d p q) calm = (a_plan calm.problem calm.plan, calm.stand)
-calm_passes files (search s d p) calm = (a_problem calm.problem, calm.stand)
-calm_passes files (trace s d p) calm = (a_problem calm.problem, calm.stand)
-calm_passes files (explain d p q) calm = (a_plan calm.problem calm.plan, calm.stand)
-calm_passes files (prove_none s d p) calm = (a_problem calm.problem, calm.stand)
-calm_passes files (check_none d p q) calm = (a_proof calm.problem calm.proof, calm.stand)
-calm_passes files (sample m) calm = (a_problem calm.problem, calm.stand)
-calm_passes files (cheapest b d p k) calm = (some_costs calm.problem calm.costs, calm.stand)
-calm_passes files (check_loop d p q) calm = (a_loop calm.problem calm.plan, calm.stand)
+calm_passes files (check d p q) calm = (a_plan calm.0 calm.1, calm.2)
+calm_passes files (search s d p) calm = (a_problem calm.0, calm.1)
+calm_passes files (trace s d p) calm = (a_problem calm.0, calm.1)
+calm_passes files (explain d p q) calm = (a_plan calm.0 calm.1, calm.2)
+calm_passes files (prove_none s d p) calm = (a_problem calm.0, calm.1)
+calm_passes files (check_none d p q) calm = (a_proof calm.0 calm.1, calm.2)
+calm_passes files (sample m) calm = (a_problem calm.0, calm.1)
+calm_passes files (cheapest b d p k) calm = (some_costs calm.0 calm.1, calm.2)
+calm_passes files (check_loop d p q) calm = (a_loop calm.0 calm.1, calm.2)
 
 -- right answers where nothing past range is looked at: one line for each command
 right_calm : Laws → (files : Files) (c : Command) (x : Input) (a : Answer) → IsCalmCommand (Some files) c → Stands (Some files) c x a
     → IsCalmStatus (status_of a)
 right_calm laws files (check d p q) x a calm h =
-    check_calm d p q calm.problem calm.plan x a (one_input laws.problems files (check d p q) (a_plan calm.problem calm.plan) x calm.stand h.0) calm.calm h.1
+    check_calm d p q calm.0 calm.1 x a (one_input laws.problems files (check d p q) (a_plan calm.0 calm.1) x calm.2 h.0) calm.3 h.1
 right_calm laws files (search s d p) x a calm h =
-    search_calm laws s d p calm.problem x a (one_input laws.problems files (search s d p) (a_problem calm.problem) x calm.stand h.0) calm.calm calm.few h.1
+    let few = calm.2 in
+    search_calm laws s d p calm.0 x a (one_input laws.problems files (search s d p) (a_problem calm.0) x calm.1 h.0) few.calm few.few h.1
 right_calm laws files (trace s d p) x a calm h =
-    trace_calm laws s d p calm.problem x a (one_input laws.problems files (trace s d p) (a_problem calm.problem) x calm.stand h.0) calm.calm calm.few h.1
+    let few = calm.2 in
+    trace_calm laws s d p calm.0 x a (one_input laws.problems files (trace s d p) (a_problem calm.0) x calm.1 h.0) few.calm few.few h.1
 right_calm laws files (explain d p q) x a calm h =
-    explain_calm d p q calm.problem calm.plan x a (one_input laws.problems files (explain d p q) (a_plan calm.problem calm.plan) x calm.stand h.0) calm.calm h.1
+    explain_calm d p q calm.0 calm.1 x a (one_input laws.problems files (explain d p q) (a_plan calm.0 calm.1) x calm.2 h.0) calm.3 h.1
 right_calm laws files (prove_none s d p) x a calm h =
-    prove_none_calm laws s d p calm.problem x a (one_input laws.problems files (prove_none s d p) (a_problem calm.problem) x calm.stand h.0) calm.calm calm.few h.1
+    let few = calm.2 in
+    prove_none_calm laws s d p calm.0 x a (one_input laws.problems files (prove_none s d p) (a_problem calm.0) x calm.1 h.0) few.calm few.few h.1
 right_calm laws files (check_none d p q) x a calm h =
-    check_none_calm d p q calm.problem calm.proof x a (one_input laws.problems files (check_none d p q) (a_proof calm.problem calm.proof) x calm.stand h.0) calm.calm h.1
+    check_none_calm d p q calm.0 calm.1 x a (one_input laws.problems files (check_none d p q) (a_proof calm.0 calm.1) x calm.2 h.0) calm.3 h.1
 right_calm laws files (sample m) x a calm h =
-    sample_calm laws m calm.problem x a (one_input laws.problems files (sample m) (a_problem calm.problem) x calm.stand h.0) calm.plain h.1
+    sample_calm laws m calm.0 x a (one_input laws.problems files (sample m) (a_problem calm.0) x calm.1 h.0) calm.2 h.1
 right_calm laws files (cheapest b d p k) x a calm h =
-    cheapest_calm b d p k calm.problem calm.costs x a (one_input laws.problems files (cheapest b d p k) (some_costs calm.problem calm.costs) x calm.stand h.0) calm.calm calm.few h.1
+    let near = calm.3 in
+    cheapest_calm b d p k calm.0 calm.1 x a (one_input laws.problems files (cheapest b d p k) (some_costs calm.0 calm.1) x calm.2 h.0) near.0 near.1 h.1
 right_calm laws files (check_loop d p q) x a calm h =
-    check_loop_calm d p q calm.problem calm.plan x a (one_input laws.problems files (check_loop d p q) (a_loop calm.problem calm.plan) x calm.stand h.0) calm.calm h.1
+    check_loop_calm d p q calm.0 calm.1 x a (one_input laws.problems files (check_loop d p q) (a_loop calm.0 calm.1) x calm.2 h.0) calm.3 h.1
 
 split_calm : Laws → (files : Files) (c : Command) (x : Input) (a : Answer) → IsCalmCommand (Some files) c → Splits (Some files) c x a
     → IsCalmStatus (status_of a)

@@ -151,7 +151,7 @@ prove_none_agrees laws s d p (a_problem m) y (past_range after note path) b same
 prove_none_agrees laws s d p x y a b same h k = absurd h
 
 unproved_says : (files : Option Files) (s : Search) (d p : List ℕ) (m : Problem) (o : Outcome) (text : List ℕ) → HoldInput files (prove_none s d p) (a_problem m) → IsOutcome s (plain_problem m) o → LeavesNoProof o → text ≡ text_of (a_problem m) (unproved s o) → Headline files (prove_none s d p) (unproved_status o) text
-unproved_says files s d p m (outcome.Plan plan) text stand right leaves line = prints_plan files (prove_none s d p) s m plan text stand right line
+unproved_says files s d p m (outcome.Plan plan) text stand right leaves line = (m, stand, prints_plan s m plan text right line)
 unproved_says files s d p m outcome.NoPlan text stand right leaves line = absurd leaves
 unproved_says files s d p m outcome.NoneWithin text stand right leaves line = absurd leaves
 unproved_says files s d p m outcome.Spent text stand right leaves line = tt
@@ -160,7 +160,7 @@ unproved_says files s d p m outcome.Spent text stand right leaves line = tt
 pub prove_none_says : Laws → (files : Option Files) (s : Search) (d p : List ℕ) (x : Input) (a : Answer) (text : List ℕ) → HoldInput files (prove_none s d p) x → IsRightAnswer (prove_none s d p) x a → text ≡ text_of x a → Headline files (prove_none s d p) (status_of a) text
 prove_none_says laws files s d p (a_problem m) (certified t proof) text stand right line =
     let c = right.1 in
-    record { problem = m; stand = stand; proof = proof; lines = line; covers = c.covers; none = laws.covered (plain_problem m) proof c.covers }
+    (m, stand, record { proof = proof; lines = line; covers = c.covers; none = laws.covered (plain_problem m) proof c.covers })
 prove_none_says laws files s d p (a_problem m) (unproved t o) text stand right line =
     unproved_says files s d p m o text stand right.1 right.2 (line ∙ ap (λ (r : Search). text_of (a_problem m) (unproved r o)) right.0)
 prove_none_says laws files s d p (a_problem m) (past_range after note path) text stand right line = tt

@@ -52,7 +52,7 @@ use Rattle.tl_run.specs.declared.status.Status.TheVariants.{Yes, No, Refused}
 use Rattle.tl_run.specs.declared.words.Role.{Role}
 use Rattle.tl_run.specs.declared.words.Role.TheVariants as role
 use Rattle.tl_run.specs.Answers.{Answer, AnswerFits, IsRightAnswer, refusal, past_range, judged, searched, traced, explained, certified, unproved, judged_proof, sampled, costed, judged_loop, outcome_status, status_of, text_of}
-use Rattle.tl_run.specs.Commands.{Command, prove_none, search}
+use Rattle.tl_run.specs.Commands.{Command, prove_none, search, three_files, two_files}
 use Rattle.tl_run.specs.Inputs.{Input, nothing, a_domain, a_problem, a_plan, a_proof, StandsFor}
 use Rattle.tl_run.specs.Plan.{IsOutcome}
 use Rattle.tl_run.specs.Promises.{Allows}
@@ -191,21 +191,13 @@ executed-plans-read-back domain problem p actions ws are e fit few =
     let can = writable-names domain problem p are in
     plan-read-back p.names p.domain.operators actions (names-differ p.names p.settled) can.operators (plan-writable p can actions ws e fit) few
 
--- the two files of a command
-abbrev two : List ℕ → List ℕ → List (Role × List ℕ)
-two d p = (role.Domain, d) ∷ ((role.Problem, p) ∷ [])
-
--- the files that were read, with one more after them
-abbrev three : List ℕ → List ℕ → Role → List ℕ → List (Role × List ℕ)
-three d p r q = (role.Domain, d) ∷ ((role.Problem, p) ∷ ((r, q) ∷ []))
-
 -- what two files hold that stand for a problem
 record AreRead (m : Problem) : Type 0 where
   pub domain : List ℕ
   pub problem : List ℕ
   pub are : AreBytesOf domain problem m
 
-two-read : (files : Option Files) (d p : List ℕ) (m : Problem) → StandTogether files (two d p) nothing (a_problem m) → AreRead m
+two-read : (files : Option Files) (d p : List ℕ) (m : Problem) → StandTogether files (two_files d p) nothing (a_problem m) → AreRead m
 two-read files d p m h = by-domain h.1 h.3 (subst (λ (x : Input). StandsFor role.Problem h.1 h.4.0 x) h.4.4 h.4.3)
   where
     by-domain : (after : Input) → StandsFor role.Domain nothing h.0 after → StandsFor role.Problem after h.4.0 (a_problem m) → AreRead m
@@ -217,12 +209,12 @@ two-read files d p m h = by-domain h.1 h.3 (subst (λ (x : Input). StandsFor rol
     by-domain x a b = absurd a.meant
 
 -- a third file after them
-one-more : (files : Option Files) (d p q text : List ℕ) (r : Role) (m : Problem) (x : Input) → StandTogether files (two d p) nothing (a_problem m) → IsContent files q text → StandsFor r (a_problem m) text x → StandTogether files (three d p r q) nothing x
+one-more : (files : Option Files) (d p q text : List ℕ) (r : Role) (m : Problem) (x : Input) → StandTogether files (two_files d p) nothing (a_problem m) → IsContent files q text → StandsFor r (a_problem m) text x → StandTogether files (three_files d p r q) nothing x
 one-more files d p q text r m x h content stands =
     (h.0, h.1, h.2, h.3, (h.4.0, h.4.1, h.4.2, h.4.3, (text, x, content, subst (λ (before : Input). StandsFor r before text x) (sym h.4.4) stands, refl)))
 
 -- the files allow a plan of them that is accepted, from its lines
-plan-valid : (files : Option Files) (d p q text : List ℕ) (s : Search) (m : Problem) (actions : List Action) → StandTogether files (two d p) nothing (a_problem m) → IsOutcome s (plain_problem m) (outcome.Plan actions) → Each ArgumentsFit actions → text ≡ plan_text m.names m.domain.operators actions → s.within ≤ 100000 → length text ≤ 4194304 → IsContent files q text → IsValidFile files d p q text
+plan-valid : (files : Option Files) (d p q text : List ℕ) (s : Search) (m : Problem) (actions : List Action) → StandTogether files (two_files d p) nothing (a_problem m) → IsOutcome s (plain_problem m) (outcome.Plan actions) → Each ArgumentsFit actions → text ≡ plan_text m.names m.domain.operators actions → s.within ≤ 100000 → length text ≤ 4194304 → IsContent files q text → IsValidFile files d p q text
 plan-valid files d p q text s m actions stand right fit lines limit short content =
     let within = plan_within s.mode s.within s.nodes (plain_problem m) actions right in
     let few : length actions ≤ s.within = within.short in

@@ -80,14 +80,16 @@ summarizes laws m p kept outcome.Spent (Some v) text h line = absurd h.judged
 pub sample_says : Laws → (files : Option Files) (m : ℕ) (x : Input) (a : Answer) (text : List ℕ) → HoldInput files (sample m) x → IsRightAnswer (sample m) x a → text ≡ text_of x a → Headline files (sample m) (status_of a) text
 sample_says laws files m (a_problem p) (sampled n kept o v) text stand right line =
     let summary = right.1 in
-    record {
-      problem = p;
-      stand = stand;
-      kept = kept;
-      ended = o;
-      keeps = summary.keeps;
-      says = summarizes laws m (plain_problem p) kept o v text summary (line ∙ ap (λ (i : ℕ). sample_text i kept o v) right.0);
-    }
+    (
+      p,
+      stand,
+      record {
+        kept = kept;
+        ended = o;
+        keeps = summary.keeps;
+        says = summarizes laws m (plain_problem p) kept o v text summary (line ∙ ap (λ (i : ℕ). sample_text i kept o v) right.0);
+      },
+    )
 sample_says laws files m (a_problem p) (past_range after note path) text stand right line = tt
 sample_says laws files m x a text stand right line = absurd right
 

@@ -16,10 +16,10 @@ use Rattle.tl_terms.specs.ProblemMeaning.{plain_problem}
 use Rattle.tl_text.specs.Outcomes.{none_text, none_within_text, outcome_text, plan_text}
 use Rattle.tl_run.specs.declared.search.Search.{Search}
 use Rattle.tl_run.specs.Answers.{Answer, past_range, searched, IsRightAnswer, outcome_status, status_of, text_of}
-use Rattle.tl_run.specs.Commands.{Command, search}
+use Rattle.tl_run.specs.Commands.{search}
 use Rattle.tl_run.specs.Inputs.{Input, a_problem}
 use Rattle.tl_run.specs.Laws.{Laws}
-use Rattle.tl_run.specs.Plan.{IsOutcome, PrintsPlan, SaysNoPlan}
+use Rattle.tl_run.specs.Plan.{IsOutcome, PrintsPlan, SaysNone}
 use Rattle.tl_run.specs.Promises.{Headline, IsCalmStatus, OutcomeYields, Yields}
 use Rattle.tl_run.specs.Turns.{HoldInput}
 use Rattle.tl_run.proofs.Agreement.{Agrees}
@@ -67,12 +67,10 @@ search_agrees laws s d p x y a b same h k = absurd h
 
 -- what the lines of an outcome say, whatever the command
 
-pub prints_plan : (files : Option Files) (c : Command) (s : Search) (m : Problem) (plan : List Action) (text : List ℕ) → HoldInput files c (a_problem m) → IsOutcome s (plain_problem m) (outcome.Plan plan) → text ≡ plan_text m.names m.domain.operators plan → PrintsPlan files c s text
-prints_plan files c s m plan text stand right line =
+pub prints_plan : (s : Search) (m : Problem) (plan : List Action) (text : List ℕ) → IsOutcome s (plain_problem m) (outcome.Plan plan) → text ≡ plan_text m.names m.domain.operators plan → PrintsPlan s text m
+prints_plan s m plan text right line =
     let within = plan_within s.mode s.within s.nodes (plain_problem m) plan right in
     record {
-      problem = m;
-      stand = stand;
       plan = plan;
       lines = line;
       short = within.short;
@@ -80,16 +78,16 @@ prints_plan files c s m plan text stand right line =
       shortest = plan_shortest s.mode s.within s.nodes (plain_problem m) plan right;
     }
 
-pub says_none : (files : Option Files) (c : Command) (s : Search) (m : Problem) (text : List ℕ) → HoldInput files c (a_problem m) → IsOutcome s (plain_problem m) outcome.NoPlan → text ≡ none_text → SaysNoPlan files c s text
-says_none files c s m text stand right line = record { problem = m; stand = stand; none = inl (line, no_plan s.mode s.within s.nodes (plain_problem m) right) }
+pub says_none : (s : Search) (m : Problem) (text : List ℕ) → IsOutcome s (plain_problem m) outcome.NoPlan → text ≡ none_text → SaysNone s.within text m
+says_none s m text right line = inl (line, no_plan s.mode s.within s.nodes (plain_problem m) right)
 
-pub says_none_within : (files : Option Files) (c : Command) (s : Search) (m : Problem) (text : List ℕ) → HoldInput files c (a_problem m) → IsOutcome s (plain_problem m) outcome.NoneWithin → text ≡ none_within_text s.within → SaysNoPlan files c s text
-says_none_within files c s m text stand right line = record { problem = m; stand = stand; none = inr (line, no_plan_within s.mode s.within s.nodes (plain_problem m) right) }
+pub says_none_within : (s : Search) (m : Problem) (text : List ℕ) → IsOutcome s (plain_problem m) outcome.NoneWithin → text ≡ none_within_text s.within → SaysNone s.within text m
+says_none_within s m text right line = inr (line, no_plan_within s.mode s.within s.nodes (plain_problem m) right)
 
 outcome_says : (files : Option Files) (s : Search) (d p : List ℕ) (m : Problem) (o : Outcome) (text : List ℕ) → HoldInput files (search s d p) (a_problem m) → IsOutcome s (plain_problem m) o → text ≡ text_of (a_problem m) (searched s o) → Headline files (search s d p) (outcome_status o) text
-outcome_says files s d p m (outcome.Plan plan) text stand right line = prints_plan files (search s d p) s m plan text stand right line
-outcome_says files s d p m outcome.NoPlan text stand right line = says_none files (search s d p) s m text stand right line
-outcome_says files s d p m outcome.NoneWithin text stand right line = says_none_within files (search s d p) s m text stand right line
+outcome_says files s d p m (outcome.Plan plan) text stand right line = (m, stand, prints_plan s m plan text right line)
+outcome_says files s d p m outcome.NoPlan text stand right line = (m, stand, says_none s m text right line)
+outcome_says files s d p m outcome.NoneWithin text stand right line = (m, stand, says_none_within s m text right line)
 outcome_says files s d p m outcome.Spent text stand right line = tt
 
 -- what the headline says of a right answer

@@ -22,7 +22,7 @@ use Rattle.tl_terms.specs.Calm as calm
 use Rattle.tl_terms.specs.Pairs.{Pair}
 use Rattle.tl_terms.specs.Problem.{PlainProblem}
 use Rattle.tl_terms.specs.ProblemMeaning.{plain_problem}
-use Rattle.tl_text.specs.Outcomes.{outcome_text}
+use Rattle.tl_text.specs.Outcomes.{outcome_text, spent_text}
 use Rattle.tl_text.specs.Traces.{trace_text}
 use Rattle.tl_run.specs.declared.search.Mode.{Mode}
 use Rattle.tl_run.specs.declared.search.Mode.TheVariants.{Breadth, Depth}
@@ -31,7 +31,7 @@ use Rattle.tl_run.specs.Answers.{Answer, past_range, traced, IsRightAnswer, outc
 use Rattle.tl_run.specs.Commands.{trace}
 use Rattle.tl_run.specs.Inputs.{Input, a_problem}
 use Rattle.tl_run.specs.Laws.{Laws}
-use Rattle.tl_run.specs.Plan.{IsOutcome, IsOutcomeIn}
+use Rattle.tl_run.specs.Plan.{IsOutcome, IsOutcomeIn, PrintsPlan, SaysNone}
 use Rattle.tl_run.specs.Promises.{Headline, IsCalmStatus, OutcomeYields, Yields}
 use Rattle.tl_run.specs.Trace.{EndsWithLast, IsSearchIn, IsTrace, TellsActionsIn, TellsEvents, TellsInTurn}
 use Rattle.tl_run.specs.Turns.{HoldInput}
@@ -160,10 +160,8 @@ trace_agrees laws s d p (a_problem m) y (past_range after note path) b same h k 
 trace_agrees laws s d p x y a b same h k = absurd h
 
 -- what is told of the events, whatever is said of the lines after them
-tells_events : (files : Option Files) (s : Search) (d p : List ℕ) (m : Problem) (kept : List KeptPair) (events : List Event) (o : Outcome) (P : List ℕ → Type 0) (text : List ℕ) → HoldInput files (trace s d p) (a_problem m) → IsTrace s (plain_problem m) kept events o → text ≡ text_of (a_problem m) (traced s kept events o) → P (outcome_text m.names m.domain.operators s.within s.nodes o) → TellsEvents files (trace s d p) P text
-tells_events files s d p m kept events o P text stand right line says = record {
-  problem = m;
-  stand = stand;
+tells_events : (s : Search) (m : Problem) (kept : List KeptPair) (events : List Event) (o : Outcome) (P : List ℕ → Problem → Type 0) (text : List ℕ) → IsTrace s (plain_problem m) kept events o → text ≡ text_of (a_problem m) (traced s kept events o) → P (outcome_text m.names m.domain.operators s.within s.nodes o) m → TellsEvents P text m
+tells_events s m kept events o P text right line says = record {
   kept = kept;
   events = events;
   rest = outcome_text m.names m.domain.operators s.within s.nodes o;
@@ -175,13 +173,13 @@ tells_events files s d p m kept events o P text stand right line says = record {
 
 outcome_says : (files : Option Files) (s : Search) (d p : List ℕ) (m : Problem) (kept : List KeptPair) (events : List Event) (o : Outcome) (text : List ℕ) → HoldInput files (trace s d p) (a_problem m) → IsTrace s (plain_problem m) kept events o → text ≡ text_of (a_problem m) (traced s kept events o) → Headline files (trace s d p) (outcome_status o) text
 outcome_says files s d p m kept events (outcome.Plan plan) text stand right line =
-    tells_events files s d p m kept events (outcome.Plan plan) _ text stand right line (prints_plan files (trace s d p) s m plan _ stand (trace_outcome s (plain_problem m) kept events (outcome.Plan plan) right) refl)
+    (m, stand, tells_events s m kept events (outcome.Plan plan) (PrintsPlan s) text right line (prints_plan s m plan _ (trace_outcome s (plain_problem m) kept events (outcome.Plan plan) right) refl))
 outcome_says files s d p m kept events outcome.NoPlan text stand right line =
-    tells_events files s d p m kept events outcome.NoPlan _ text stand right line (says_none files (trace s d p) s m _ stand (trace_outcome s (plain_problem m) kept events outcome.NoPlan right) refl)
+    (m, stand, tells_events s m kept events outcome.NoPlan (SaysNone s.within) text right line (says_none s m _ (trace_outcome s (plain_problem m) kept events outcome.NoPlan right) refl))
 outcome_says files s d p m kept events outcome.NoneWithin text stand right line =
-    tells_events files s d p m kept events outcome.NoneWithin _ text stand right line (says_none_within files (trace s d p) s m _ stand (trace_outcome s (plain_problem m) kept events outcome.NoneWithin right) refl)
+    (m, stand, tells_events s m kept events outcome.NoneWithin (SaysNone s.within) text right line (says_none_within s m _ (trace_outcome s (plain_problem m) kept events outcome.NoneWithin right) refl))
 outcome_says files s d p m kept events outcome.Spent text stand right line =
-    tells_events files s d p m kept events outcome.Spent _ text stand right line refl
+    (m, stand, tells_events s m kept events outcome.Spent (λ rest problem. rest ≡ spent_text s.nodes) text right line refl)
 
 -- what the headline says of a right answer
 pub trace_says : (files : Option Files) (s : Search) (d p : List ℕ) (x : Input) (a : Answer) (text : List ℕ) → HoldInput files (trace s d p) x → IsRightAnswer (trace s d p) x a → text ≡ text_of x a → Headline files (trace s d p) (status_of a) text

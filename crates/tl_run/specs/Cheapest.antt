@@ -1,13 +1,12 @@
 -- What the command `cheapest` promises: the outcomes that are right of its search, the operations
 -- at which it ends, and what its lines say.
-use Rattle.std.specs.Prelude.{◌≡◌, ℕ, ◌+◌, List, length, Option, ⊤}
-use Rattle.tl_cost.specs.CostTexts.{none_text, cheapest_plan_text}
-use Rattle.tl_cost.specs.LeastCosts.{AreNearPairs, HasFewNearPairs, IsCalmAtLeastCost, IsCheapestCause, IsCheapestPlan}
+use Rattle.std.specs.Prelude.{◌≡◌, ℕ, ◌+◌, List, length, ⊤}
+use Rattle.tl_cost.specs.CostTexts.{cheapest_plan_text}
+use Rattle.tl_cost.specs.LeastCosts.{AreNearPairs, IsCheapestCause, IsCheapestPlan}
 use Rattle.tl_cost.specs.declared.outcome.CostOutcome.{CostOutcome}
 use Rattle.tl_cost.specs.declared.outcome.CostOutcome.TheVariants as outcome
 use Rattle.tl_eval.specs.Notes.{operation_of}
 use Rattle.tl_eval.specs.declared.range.RangeNote.{RangeNote}
-use Rattle.tl_outside.specs.Told.{Files}
 use Rattle.tl_search.specs.Plans.{HasNoPlan}
 use Rattle.tl_syntax.specs.declared.action.Action.{Action}
 use Rattle.tl_syntax.specs.declared.problem.Problem.{Problem}
@@ -16,9 +15,7 @@ use Rattle.tl_terms.specs.Problem.{PlainProblem}
 use Rattle.tl_terms.specs.ProblemMeaning.{plain_problem}
 use Rattle.tl_run.specs.declared.status.Status.{Status}
 use Rattle.tl_run.specs.declared.status.Status.TheVariants.{Yes, No, Spent}
-use Rattle.tl_run.specs.Commands.{Command}
 use Rattle.tl_run.specs.Inputs.{Input, some_costs}
-use Rattle.tl_run.specs.Turns.{HoldInput}
 
 -- so many different search nodes, each of them near: the first one, or one action after a search
 -- node that costs no more than any accepted plan
@@ -60,28 +57,8 @@ cost_status outcome.Spent = Spent
 
 -- the lines are those of a plan and its cost: the plan is accepted and costs this, no accepted plan
 -- costs less, and none of this cost has fewer actions
-pub record PrintsCheapestPlan (files : Option Files) (c : Command) (text : List ℕ) : Type 0 where
-  pub problem : Problem
-  pub costs : List ℕ
-  pub stand : HoldInput files c (some_costs problem costs)
+pub record PrintsCheapestPlan (text : List ℕ) (problem : Problem) (costs : List ℕ) : Type 0 where
   pub plan : List Action
   pub cost : ℕ
   pub lines : text ≡ cheapest_plan_text problem.names problem.domain.operators plan cost
   pub cheapest : IsCheapestPlan (plain_problem problem) costs plan cost
-
--- the line says that there is no plan, and no plan of any length is accepted
-pub record SaysNoPlanAtAll (files : Option Files) (c : Command) (text : List ℕ) : Type 0 where
-  pub problem : Problem
-  pub costs : List ℕ
-  pub stand : HoldInput files c (some_costs problem costs)
-  pub line : text ≡ none_text
-  pub none : HasNoPlan (plain_problem problem)
-
--- nothing past range is looked at after a path that costs no more without its last action than any
--- accepted plan, and at most b search nodes are near
-pub record HasCalmCosts (files : Option Files) (c : Command) (b : ℕ) : Type 0 where
-  pub problem : Problem
-  pub costs : List ℕ
-  pub stand : HoldInput files c (some_costs problem costs)
-  pub calm : IsCalmAtLeastCost (plain_problem problem) costs b
-  pub few : HasFewNearPairs (plain_problem problem) costs b

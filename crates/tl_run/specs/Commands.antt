@@ -22,18 +22,26 @@ pub data Command : Type 0 where
   cheapest : ℕ → List ℕ → List ℕ → List ℕ → Command
   check_loop : List ℕ → List ℕ → List ℕ → Command
 
+-- a domain file and a problem file, with the names by which they are begun; and a file of this role
+-- after them
+abbrev pub two_files : List ℕ → List ℕ → List (Role × List ℕ)
+two_files domain problem = (role.Domain, domain) ∷ ((role.Problem, problem) ∷ [])
+
+abbrev pub three_files : List ℕ → List ℕ → Role → List ℕ → List (Role × List ℕ)
+three_files domain problem r third = (role.Domain, domain) ∷ ((role.Problem, problem) ∷ ((r, third) ∷ []))
+
 -- the files of a command, in the order in which they are read, each with what it is read as; a
 -- sample has none
 abbrev pub files_of : Command → List (Role × List ℕ)
-files_of (check domain problem plan) = (role.Domain, domain) ∷ ((role.Problem, problem) ∷ ((role.Plan, plan) ∷ []))
-files_of (search s domain problem) = (role.Domain, domain) ∷ ((role.Problem, problem) ∷ [])
-files_of (trace s domain problem) = (role.Domain, domain) ∷ ((role.Problem, problem) ∷ [])
-files_of (explain domain problem plan) = (role.Domain, domain) ∷ ((role.Problem, problem) ∷ ((role.Plan, plan) ∷ []))
-files_of (prove_none s domain problem) = (role.Domain, domain) ∷ ((role.Problem, problem) ∷ [])
-files_of (check_none domain problem proof) = (role.Domain, domain) ∷ ((role.Problem, problem) ∷ ((role.Proof, proof) ∷ []))
+files_of (check domain problem plan) = three_files domain problem role.Plan plan
+files_of (search s domain problem) = two_files domain problem
+files_of (trace s domain problem) = two_files domain problem
+files_of (explain domain problem plan) = three_files domain problem role.Plan plan
+files_of (prove_none s domain problem) = two_files domain problem
+files_of (check_none domain problem proof) = three_files domain problem role.Proof proof
 files_of (sample balls) = []
-files_of (cheapest nodes domain problem costs) = (role.Domain, domain) ∷ ((role.Problem, problem) ∷ ((role.Costs, costs) ∷ []))
-files_of (check_loop domain problem plan) = (role.Domain, domain) ∷ ((role.Problem, problem) ∷ ((role.Loop, plan) ∷ []))
+files_of (cheapest nodes domain problem costs) = three_files domain problem role.Costs costs
+files_of (check_loop domain problem plan) = three_files domain problem role.Loop plan
 
 -- the command on a sample that a word names
 abbrev pub sample_command : List ℕ → List ℕ → Option Command

@@ -8,10 +8,8 @@ pub mod Turns
 pub mod Refusals
 pub mod Statuses
 pub mod Answers
-pub mod Check
 pub mod Plan
 pub mod Trace
-pub mod Explain
 pub mod ProveNone
 pub mod CheckNone
 pub mod Sample

@@ -1,7 +1,6 @@
 -- What the command `plan` promises: the outcomes that are right of a search, the operations at
 -- which it ends, and what its lines say.
-use Rattle.std.specs.Prelude.{◌≡◌, ◌⊎◌, ℕ, ◌≤◌, List, length, Option}
-use Rattle.tl_outside.specs.Told.{Files}
+use Rattle.std.specs.Prelude.{◌≡◌, ◌⊎◌, ℕ, ◌≤◌, List, length}
 use Rattle.tl_syntax.specs.declared.action.Action.{Action}
 use Rattle.tl_syntax.specs.declared.problem.Problem.{Problem}
 use Rattle.tl_terms.specs.Acceptance.{IsAccepted}
@@ -20,9 +19,6 @@ use Rattle.tl_text.specs.Outcomes.{plan_text, none_text, none_within_text}
 use Rattle.tl_run.specs.declared.search.Mode.{Mode}
 use Rattle.tl_run.specs.declared.search.Mode.TheVariants.{Breadth, Depth}
 use Rattle.tl_run.specs.declared.search.Search.{Search}
-use Rattle.tl_run.specs.Commands.{Command}
-use Rattle.tl_run.specs.Inputs.{a_problem}
-use Rattle.tl_run.specs.Turns.{HoldInput}
 
 -- the outcome is right of a search for plans of at most n actions among b search nodes, which gives
 -- plans of this kind and is spent in this way: that there is none, or none within n and some search
@@ -58,9 +54,7 @@ EndsPastRange s p path note = IsRangeCause p s.within path (operation_of note) �
 
 -- the lines are those of a plan that is accepted and has at most so many actions, and breadth-first
 -- no accepted plan is shorter
-pub record PrintsPlan (files : Option Files) (c : Command) (s : Search) (text : List ℕ) : Type 0 where
-  pub problem : Problem
-  pub stand : HoldInput files c (a_problem problem)
+pub record PrintsPlan (s : Search) (text : List ℕ) (problem : Problem) : Type 0 where
   pub plan : List Action
   pub lines : text ≡ plan_text problem.names problem.domain.operators plan
   pub short : length plan ≤ s.within
@@ -69,19 +63,12 @@ pub record PrintsPlan (files : Option Files) (c : Command) (s : Search) (text : 
 
 -- the line says that there is no plan, and no plan is accepted; or it says so of plans of at most n
 -- actions, and none of those is
-abbrev pub SaysNone : PlainProblem → ℕ → List ℕ → Type 0
-SaysNone p n text = ((text ≡ none_text) × HasNoPlan p) ⊎ ((text ≡ none_within_text n) × HasNoPlanWithin p n)
-
--- the line says that no plan is accepted, or none that is short enough, and so it is
-pub record SaysNoPlan (files : Option Files) (c : Command) (s : Search) (text : List ℕ) : Type 0 where
-  pub problem : Problem
-  pub stand : HoldInput files c (a_problem problem)
-  pub none : SaysNone (plain_problem problem) s.within text
+abbrev pub SaysNone : ℕ → List ℕ → Problem → Type 0
+SaysNone n text problem =
+    ((text ≡ none_text) × HasNoPlan (plain_problem problem)) ⊎ ((text ≡ none_within_text n) × HasNoPlanWithin (plain_problem problem) n)
 
 -- nothing past range is looked at by the search, and no more search nodes are near enough than it
 -- may keep
-pub record HasCalmSearch (files : Option Files) (c : Command) (s : Search) : Type 0 where
-  pub problem : Problem
-  pub stand : HoldInput files c (a_problem problem)
+pub record HasCalmSearch (s : Search) (problem : Problem) : Type 0 where
   pub calm : calm.IsCalm (plain_problem problem) s.within
   pub few : HasFewPairs (plain_problem problem) s.within s.nodes

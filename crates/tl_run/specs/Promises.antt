@@ -1,30 +1,42 @@
 -- What a run promises.
-use Rattle.std.specs.Prelude.{◌≡◌, ◌⊎◌, ℕ, false, List, Option, IsSome, ⊤}
+use Rattle.std.specs.Prelude.{◌≡◌, ◌⊎◌, ℕ, false, List, Option, IsSome, codes, ⊤}
 use Rattle.std.specs.Io.KnownBytes.{append_known}
+use Rattle.tl_action.specs.declared.check_fault.CheckFault.TheVariants as fault
+use Rattle.tl_cert.specs.Causes.{IsNoneCause}
 use Rattle.tl_cert.specs.declared.proof.Proof.{Proof}
+use Rattle.tl_check.specs.Verdicts.{IsCause}
 use Rattle.tl_check.specs.declared.verdict.Verdict.{Verdict}
+use Rattle.tl_cost.specs.LeastCosts.{HasFewNearPairs, IsCalmAtLeastCost}
 use Rattle.tl_cost.specs.declared.outcome.CostOutcome.{CostOutcome}
 use Rattle.tl_cost.specs.declared.outcome.CostOutcome.TheVariants as costs
+use Rattle.tl_eval.specs.Notes.{operation_of}
+use Rattle.tl_eval.specs.declared.range.RangeNote.{RangeNote}
+use Rattle.tl_explain.specs.Causes.{IsPastInExplanation}
+use Rattle.tl_explain.specs.LawsExplain.{Explains}
+use Rattle.tl_lasso.specs.Verdicts.{IsAcceptedForEver, IsLoopCause}
 use Rattle.tl_outside.specs.Told.{Files}
+use Rattle.tl_search.specs.Plans.{HasNoPlan}
 use Rattle.tl_search.specs.declared.outcome.Outcome.{Outcome}
 use Rattle.tl_search.specs.declared.outcome.Outcome.TheVariants as outcome
+use Rattle.tl_syntax.specs.declared.action.Action.{Action}
+use Rattle.tl_terms.specs.Acceptance.{IsAccepted}
+use Rattle.tl_terms.specs.Arithmetic.{ProblemHasNoArithmetic}
+use Rattle.tl_terms.specs.ProblemMeaning.{plain_problem}
 use Rattle.tl_run.specs.declared.status.Status.{Status}
 use Rattle.tl_run.specs.declared.status.Status.TheVariants.{Yes, No, Spent, Range, ReadFault, WriteFault, NoMemory, Usage}
-use Rattle.tl_text.specs.Outcomes.{spent_text}
+use Rattle.tl_text.specs.Outcomes.{none_text, spent_text}
 use Rattle.tl_run.specs.Answers.{Answer, refusal, past_range, judged, searched, traced, AnswerFits, IsRightAnswer, status_of, text_of, explained, certified, unproved, judged_proof, sampled, outcome_status, costed, judged_loop}
-use Rattle.tl_run.specs.Check.{SaysAccepted, HasCalmPlan}
-use Rattle.tl_run.specs.CheckLoop.{SaysAcceptedForEver, HasCalmLoop}
-use Rattle.tl_run.specs.CheckNone.{SaysProved, HasCalmProof}
+use Rattle.tl_run.specs.CheckNone.{SaysProved}
 use Rattle.tl_run.specs.Commands.{Command, check, search, trace, explain, prove_none, check_none, sample, cheapest, check_loop}
-use Rattle.tl_run.specs.Cheapest.{AreAlike, HasCalmCosts, IsCostOutcomeOver, PrintsCheapestPlan, SaysNoPlanAtAll}
-use Rattle.tl_run.specs.Explain.{ExplainsPlan, HasCalmStates}
+use Rattle.tl_run.specs.Cheapest.{AreAlike, IsCostOutcomeOver, PrintsCheapestPlan}
 use Rattle.tl_run.specs.Inputs.{Input}
-use Rattle.tl_run.specs.Plan.{PrintsPlan, SaysNoPlan, HasCalmSearch}
+use Rattle.tl_run.specs.Plan.{PrintsPlan, SaysNone, HasCalmSearch}
 use Rattle.tl_run.specs.ProveNone.{IsCertificateOver, PrintsProof}
 use Rattle.tl_run.specs.Trace.{TellsEvents}
 use Rattle.tl_run.specs.Turns.{BeginsFirst, CallsTold, HoldInput, IsRefused}
+use Rattle.tl_run.specs.Turns.{OverCosts, OverLoop, OverPlan, OverProblem, OverProof, OverSample}
 use Rattle.tl_run.specs.Sent.{SendsAll, SendsPart, SinkTold}
-use Rattle.tl_run.specs.Sample.{IsSummaryOver, SaysSummary, HasCalmSample, sample_text}
+use Rattle.tl_run.specs.Sample.{IsSummaryOver, SaysSummary, sample_text}
 
 -- the files allow this answer to the command: the refusal of a file in its turn, or what is right
 -- over all of them
@@ -118,25 +130,27 @@ IsTextOf input answer text = text ≡ text_of input answer
 abbrev pub Gives : Option (List ℕ) → Option (List ℕ) → Input → Answer → Status → Type 0
 Gives old new input answer status = ((status ≡ status_of answer) × ((text : List ℕ) × IsTextOf input answer text × (new ≡ append_known old text))) ⊎ Yields answer status
 
--- what a reader of the lines may rely on: a row for each command and each status that says
--- something of plans
+-- what a reader of the lines may rely on, over what the files stand for: a row for each command and
+-- each status that says something of plans
 abbrev pub Headline : Option Files → Command → Status → List ℕ → Type 0
-Headline files (check d p q) Yes text = SaysAccepted files (check d p q) text
-Headline files (search s d p) Yes text = PrintsPlan files (search s d p) s text
-Headline files (search s d p) No text = SaysNoPlan files (search s d p) s text
-Headline files (trace s d p) Yes text = TellsEvents files (trace s d p) (PrintsPlan files (trace s d p) s) text
-Headline files (trace s d p) No text = TellsEvents files (trace s d p) (SaysNoPlan files (trace s d p) s) text
-Headline files (trace s d p) Spent text = TellsEvents files (trace s d p) (λ rest. rest ≡ spent_text s.nodes) text
-Headline files (explain d p q) Yes text = ExplainsPlan files (explain d p q) text
-Headline files (prove_none s d p) Yes text = PrintsProof files (prove_none s d p) text
-Headline files (prove_none s d p) No text = PrintsPlan files (prove_none s d p) s text
-Headline files (check_none d p q) Yes text = SaysProved files (check_none d p q) text
-Headline files (sample balls) Yes text = SaysSummary balls text
+Headline files (check d p q) Yes text =
+    OverPlan files d p q (λ m plan. IsAccepted (plain_problem m) plan × (text ≡ codes "; valid\n"))
+Headline files (search s d p) Yes text = OverProblem files d p (PrintsPlan s text)
+Headline files (search s d p) No text = OverProblem files d p (SaysNone s.within text)
+Headline files (trace s d p) Yes text = OverProblem files d p (TellsEvents (PrintsPlan s) text)
+Headline files (trace s d p) No text = OverProblem files d p (TellsEvents (SaysNone s.within) text)
+Headline files (trace s d p) Spent text = OverProblem files d p (TellsEvents (λ rest m. rest ≡ spent_text s.nodes) text)
+Headline files (explain d p q) Yes text = OverPlan files d p q (λ m plan. Explains m plan text)
+Headline files (prove_none s d p) Yes text = OverProblem files d p (PrintsProof text)
+Headline files (prove_none s d p) No text = OverProblem files d p (PrintsPlan s text)
+Headline files (check_none d p q) Yes text = OverProof files d p q (SaysProved text)
+Headline files (sample balls) Yes text = OverSample balls (SaysSummary balls text)
 Headline files (sample balls) No text = ⊥
 Headline files (sample balls) Spent text = ⊥
-Headline files (cheapest b d p k) Yes text = PrintsCheapestPlan files (cheapest b d p k) text
-Headline files (cheapest b d p k) No text = SaysNoPlanAtAll files (cheapest b d p k) text
-Headline files (check_loop d p q) Yes text = SaysAcceptedForEver files (check_loop d p q) text
+Headline files (cheapest b d p k) Yes text = OverCosts files d p k (PrintsCheapestPlan text)
+Headline files (cheapest b d p k) No text = OverCosts files d p k (λ m prices. HasNoPlan (plain_problem m) × (text ≡ none_text))
+Headline files (check_loop d p q) Yes text =
+    OverLoop files d p q (λ m plan. IsAcceptedForEver (plain_problem m) plan.stem plan.cycle × (text ≡ codes "; valid for ever\n"))
 Headline files c status text = ⊤
 
 -- an answer that the files allow, and what a reader of its lines may rely on
@@ -148,17 +162,26 @@ abbrev pub AreTold : Option Files → Command → Type 0
 AreTold files (sample balls) = ⊤
 AreTold files c = IsSome files
 
--- nothing past range is looked at, and a search has room for the search nodes that it meets
+-- nothing past range is looked at, and a search has room for the search nodes that it meets: those
+-- of at most so many actions, or after paths that cost no more without their last action than any
+-- accepted plan; of a sample, no arithmetic term stands in its texts
 abbrev pub IsCalmCommand : Option Files → Command → Type 0
-IsCalmCommand files (check d p q) = HasCalmPlan files (check d p q)
-IsCalmCommand files (search s d p) = HasCalmSearch files (search s d p) s
-IsCalmCommand files (trace s d p) = HasCalmSearch files (trace s d p) s
-IsCalmCommand files (explain d p q) = HasCalmStates files (explain d p q)
-IsCalmCommand files (prove_none s d p) = HasCalmSearch files (prove_none s d p) s
-IsCalmCommand files (check_none d p q) = HasCalmProof files (check_none d p q)
-IsCalmCommand files (sample balls) = HasCalmSample balls
-IsCalmCommand files (cheapest b d p k) = HasCalmCosts files (cheapest b d p k) b
-IsCalmCommand files (check_loop d p q) = HasCalmLoop files (check_loop d p q)
+IsCalmCommand files (check d p q) =
+    OverPlan files d p q (λ m plan. (after : ℕ) (note : RangeNote) → ¬ IsCause (plain_problem m) plan (fault.Range after note))
+IsCalmCommand files (search s d p) = OverProblem files d p (HasCalmSearch s)
+IsCalmCommand files (trace s d p) = OverProblem files d p (HasCalmSearch s)
+IsCalmCommand files (explain d p q) =
+    OverPlan files d p q (λ m plan. (after : ℕ) (note : RangeNote) → ¬ IsPastInExplanation (plain_problem m) plan after note)
+IsCalmCommand files (prove_none s d p) = OverProblem files d p (HasCalmSearch s)
+IsCalmCommand files (check_none d p q) =
+    OverProof files d p q
+    (λ m proof. (path : List Action) (note : RangeNote) → ¬ IsNoneCause (plain_problem m) proof.bound proof.links path (operation_of note))
+IsCalmCommand files (sample balls) = OverSample balls (λ m. ProblemHasNoArithmetic (plain_problem m))
+IsCalmCommand files (cheapest b d p k) =
+    OverCosts files d p k (λ m prices. IsCalmAtLeastCost (plain_problem m) prices b × HasFewNearPairs (plain_problem m) prices b)
+IsCalmCommand files (check_loop d p q) =
+    OverLoop files d p q
+    (λ m plan. (after : ℕ) (note : RangeNote) → ¬ IsLoopCause (plain_problem m) plan.stem plan.cycle (fault.Range after note))
 
 -- an answer of the command itself, or one by a cause outside it
 abbrev pub IsCalmStatus : Status → Type 0

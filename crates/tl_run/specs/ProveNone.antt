@@ -5,7 +5,6 @@ use Rattle.tl_cert.specs.Covers.{Covers, HasNone}
 use Rattle.tl_cert.specs.LawsReadBack.{StartBefore}
 use Rattle.tl_cert.specs.ProofTexts.{proof_text}
 use Rattle.tl_cert.specs.declared.proof.Proof.{Proof}
-use Rattle.tl_outside.specs.Told.{Files}
 use Rattle.tl_search.specs.declared.outcome.Outcome.{Outcome}
 use Rattle.tl_search.specs.declared.outcome.Outcome.TheVariants as outcome
 use Rattle.tl_syntax.specs.declared.problem.Problem.{Problem}
@@ -14,10 +13,8 @@ use Rattle.tl_terms.specs.ProblemMeaning.{plain_problem}
 use Rattle.tl_run.specs.declared.search.Search.{Search}
 use Rattle.tl_run.specs.declared.status.Status.{Status}
 use Rattle.tl_run.specs.declared.status.Status.TheVariants.{No, Spent}
-use Rattle.tl_run.specs.Commands.{Command}
 use Rattle.tl_run.specs.Inputs.{Input, a_problem}
 use Rattle.tl_run.specs.Plan.{IsOutcome}
-use Rattle.tl_run.specs.Turns.{HoldInput}
 
 -- the bound of a proof after this outcome: none where there is no plan of any length, and the
 -- search's where there is none within it
@@ -59,9 +56,7 @@ unproved_status outcome.Spent = Spent
 
 -- the lines are those of a proof that covers the search space; so no plan is accepted, or where it
 -- has a bound none of at most so many actions
-pub record PrintsProof (files : Option Files) (c : Command) (text : List ℕ) : Type 0 where
-  pub problem : Problem
-  pub stand : HoldInput files c (a_problem problem)
+pub record PrintsProof (text : List ℕ) (problem : Problem) : Type 0 where
   pub proof : Proof
   pub lines : text ≡ proof_text problem.names problem.domain.operators proof
   pub covers : Covers (plain_problem problem) proof

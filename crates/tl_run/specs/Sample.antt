@@ -5,7 +5,6 @@ use Rattle.std.specs.Fmt.{decimal}
 use Rattle.tl_syntax.specs.Lists.{Among}
 use Rattle.tl_syntax.specs.declared.action.Action.{Action}
 use Rattle.tl_syntax.specs.declared.problem.Problem.{Problem}
-use Rattle.tl_terms.specs.Arithmetic.{ProblemHasNoArithmetic}
 use Rattle.tl_terms.specs.Pairs.{Pair, pair_of}
 use Rattle.tl_terms.specs.Problem.{PlainProblem}
 use Rattle.tl_terms.specs.ProblemMeaning.{plain_problem}
@@ -24,7 +23,6 @@ use Rattle.tl_run.specs.declared.search.Mode.TheVariants.{Depth}
 use Rattle.tl_run.specs.declared.search.Search.{Search}
 use Rattle.tl_run.specs.Inputs.{Input, a_problem}
 use Rattle.tl_run.specs.Plan.{IsOutcome, EndsPastRange}
-use Rattle.tl_run.specs.SampleTexts.{SampleStandsFor}
 
 -- the search of the sample of so many balls: depth-first, for plans of at most three actions for
 -- each ball, among at most 20,000 search nodes
@@ -108,16 +106,8 @@ Summarizes balls p kept outcome.NoneWithin text = (text ≡ sample_text balls ke
 Summarizes balls p kept outcome.Spent text = text ≡ sample_text balls kept outcome.Spent None
 
 -- the lines say what the search of the sample ended with, and of how many search nodes that it kept
-pub record SaysSummary (balls : ℕ) (text : List ℕ) : Type 0 where
-  pub problem : Problem
-  pub stand : SampleStandsFor balls (a_problem problem)
+pub record SaysSummary (balls : ℕ) (text : List ℕ) (problem : Problem) : Type 0 where
   pub kept : ℕ
   pub ended : Outcome
   pub keeps : KeepsNodes (plain_problem problem) (3 * balls) ended kept
   pub says : Summarizes balls (plain_problem problem) kept ended text
-
--- the texts break no rule, and no arithmetic term stands in them
-pub record HasCalmSample (balls : ℕ) : Type 0 where
-  pub problem : Problem
-  pub stand : SampleStandsFor balls (a_problem problem)
-  pub plain : ProblemHasNoArithmetic (plain_problem problem)

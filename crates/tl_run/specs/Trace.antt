@@ -1,7 +1,6 @@
 -- What the command `trace` promises: which search nodes, events and outcome are right of a search,
 -- and what its lines say.
-use Rattle.std.specs.Prelude.{◌≡◌, ℕ, ◌<◌, List, [], ◌++◌, length, Option, true, ⊤}
-use Rattle.tl_outside.specs.Told.{Files}
+use Rattle.std.specs.Prelude.{◌≡◌, ℕ, ◌<◌, List, [], ◌++◌, length, true, ⊤}
 use Rattle.tl_syntax.specs.Lists.{Among}
 use Rattle.tl_syntax.specs.declared.problem.Problem.{Problem}
 use Rattle.tl_terms.specs.Problem.{PlainProblem}
@@ -23,9 +22,6 @@ use Rattle.tl_text.specs.Traces.{trace_text}
 use Rattle.tl_run.specs.declared.search.Mode.{Mode}
 use Rattle.tl_run.specs.declared.search.Mode.TheVariants.{Breadth, Depth}
 use Rattle.tl_run.specs.declared.search.Search.{Search}
-use Rattle.tl_run.specs.Commands.{Command}
-use Rattle.tl_run.specs.Inputs.{a_problem}
-use Rattle.tl_run.specs.Turns.{HoldInput}
 
 -- the outcome and the kept search nodes that are right in a mode, one line for each: the outcomes
 -- of `plan`, with at most b kept search nodes, or, where it is spent, with those b + 1; and
@@ -77,13 +73,11 @@ pub record IsTrace (s : Search) (p : PlainProblem) (kept : List KeptPair) (event
 -- the lines are those of true events, of which each that tells of a pruned branch tells of one that
 -- begins no infinite sequence of worlds that satisfies the control formula; and P holds of the
 -- lines after them
-pub record TellsEvents (files : Option Files) (c : Command) (P : List ℕ → Type 0) (text : List ℕ) : Type 0 where
-  pub problem : Problem
-  pub stand : HoldInput files c (a_problem problem)
+pub record TellsEvents (P : List ℕ → Problem → Type 0) (text : List ℕ) (problem : Problem) : Type 0 where
   pub kept : List KeptPair
   pub events : List Event
   pub rest : List ℕ
   pub lines : text ≡ trace_text problem.names problem.domain kept events ++ rest
   pub told : AreTrueEvents (plain_problem problem) [] events kept
   pub pruned : PrunesSoundly (plain_problem problem) kept events
-  pub says : P rest
+  pub says : P rest problem
